@@ -1,0 +1,96 @@
+// Joins leaves by conditions over many points, for a measurement: the words are the numbers of points, of leaves and of
+// conditions. It prints what the join is, and nothing else.
+#![tactic(auto)]
+
+ghost use Rattle.std.specs.Prelude.{◌<◌};
+
+use std::alloc::Global;
+use std::env;
+use std::process::ExitCode;
+use sy_seq::{Seq, Want};
+use sy_unify::{Choice, Joined, unify};
+
+/// The next number of a sequence that looks random.
+fn next(state: u64) -> u64 {
+    state
+        .wrapping_mul(6364136223846793005)
+        .wrapping_add(1442695040888963407)
+}
+
+/// So many rows of so many truth values, one in `sparse` of which is true.
+fn rows(
+    alloc: Global,
+    count: u32,
+    points: u32,
+    sparse: u64,
+    seed: u64,
+) -> Result<Seq<Seq<bool>>, Want>
+    requires { 0 < sparse }
+{
+    let mut state = seed;
+    let mut all = Seq::new(alloc);
+    for _ in 0..count {
+        let mut row = Seq::new(alloc);
+        for _ in 0..points {
+            state = next(state);
+            row.push((state >> 33) % sparse == 0)?;
+        }
+        all.push(row)?;
+    }
+    Ok(all)
+}
+
+/// How many leaves a tree has.
+fn leaves(tree: &Choice) -> u64 {
+    match tree {
+        Choice::Leaf(_) => 1,
+        Choice::Test(_, there, here) => leaves(there).saturating_add(leaves(here)),
+    }
+}
+
+/// The number of leaves of the join, or nothing.
+fn joined(alloc: Global, points: u32, count: u32, tests: u32) -> Result<Option<u64>, Want> {
+    let goods = rows(alloc, count, points, 16, 1)?;
+    let conditions = rows(alloc, tests, points, 2, 2)?;
+    if points == 0 || goods.len() > 1_000_000 || conditions.len() > 1_000_000 {
+        return Ok(None);
+    }
+    match unify(alloc, points, &goods, &conditions)? {
+        Joined::Tree(tree) => Ok(Some(leaves(&tree))),
+        Joined::Uncovered(_) => Ok(None),
+    }
+}
+
+/// The number that a word is, or 0.
+fn number(words: &[String], place: usize) -> u32 {
+    match words.get(place) {
+        Some(word) => word.parse::<u32>().unwrap_or(0),
+        None => 0,
+    }
+}
+
+fn main(rt: HostRuntime) -> ExitCode {
+    let Ok(words) = env::args(&rt) else {
+        return ExitCode::from(3);
+    };
+    let Ok(words) = words.collect::<Vec<String>>(rt.alloc()) else {
+        return ExitCode::from(6);
+    };
+    let words = words.as_slice();
+    match joined(
+        rt.alloc(),
+        number(words, 1),
+        number(words, 2),
+        number(words, 3),
+    ) {
+        Ok(Some(count)) => {
+            let _ = println!(rt; "tree of {count} leaves");
+            ExitCode::from(0)
+        }
+        Ok(None) => {
+            let _ = println!(rt; "uncovered");
+            ExitCode::from(0)
+        }
+        Err(_) => ExitCode::from(6),
+    }
+}

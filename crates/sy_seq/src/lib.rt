@@ -1,0 +1,6 @@
+// The list type of the public surface.
+#![tactic(auto)]
+
+mod seq;
+
+pub use seq::{Seq, Want};

@@ -1,0 +1,12 @@
+// Conditional trees that serve a set of points.
+#![tactic(auto)]
+
+mod choice;
+mod guide;
+mod join_tree;
+mod rows;
+#[cfg(test)]
+mod tests;
+
+pub use choice::{Choice, Joined};
+pub use join_tree::unify;
