@@ -1,0 +1,4 @@
+mod Vectors
+mod Equal
+mod Same
+mod Apart

@@ -1,0 +1,12 @@
+pub mod BitVectors
+pub mod Denoted
+pub mod Expr
+pub mod Integers
+pub mod Operators
+pub mod Values
+pub mod Sorts
+pub mod Theories
+pub mod Meaning
+pub mod Fitting
+pub mod Definitions
+pub mod Spelling

@@ -1,0 +1,19 @@
+// Sorts, terms and the theory trait of the synthesiser.
+#![tactic(auto)]
+
+mod op;
+mod sort;
+mod sorts;
+mod term;
+#[cfg(test)]
+mod tests;
+mod theory;
+mod values;
+
+pub use op::{Op, spell};
+pub use sort::{Logic, Sort, Value};
+pub use sorts::{Sorted, operator_sort};
+pub use sy_seq::{Seq, Want};
+pub use term::{Bodies, Def, Defs, Fun, Term, Terms};
+pub use theory::{Applied, Theory};
+pub use values::{Values, copied_values, same_value, same_values};

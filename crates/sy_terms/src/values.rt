@@ -1,0 +1,36 @@
+// Values as what they stand for: comparisons and copies.
+ghost use Rattle.std.specs.Prelude.{◌≡◌, ◌↔◌, IsTrue, IfOk};
+ghost use Rattle.sy_terms.specs.Denoted.{val_of, vals_of};
+
+use crate::sort::Value;
+use crate::theory::Theory;
+use std::alloc::Global;
+use sy_seq::{Seq, Want};
+
+/// A list of values of a theory.
+pub type Values<T> = Seq<Value<<T as Theory>::Num>>;
+
+/// Whether two values are the same.
+pub fn same_value<T: Theory>(a: &Value<T::Num>, b: &Value<T::Num>) -> bool
+    ensures { IsTrue result ↔ val_of T.denotes a.now ≡ val_of T.denotes b.now }
+{
+    a == b
+}
+
+/// Whether two lists of values are the same.
+pub fn same_values<T: Theory>(a: &[Value<T::Num>], b: &[Value<T::Num>]) -> bool
+    ensures { IsTrue result ↔ vals_of T.denotes a.now ≡ vals_of T.denotes b.now }
+{
+    a == b
+}
+
+/// The same values, in memory of their own.
+pub fn copied_values<T: Theory>(alloc: Global, values: &[Value<T::Num>]) -> Result<Values<T>, Want>
+    ensures { IfOk result (λ copy. copy ≡ values.now) }
+{
+    let mut copy = Seq::new(alloc);
+    for value in values {
+        copy.push(*value)?;
+    }
+    Ok(copy)
+}
