@@ -1,0 +1,4 @@
+mod Folds
+mod Ordered
+mod Single
+mod Sorted

@@ -1,0 +1,11 @@
+// The theory of the logic LIA: whole numbers that a machine keeps in 128 bits.
+#![tactic(auto)]
+
+mod order;
+mod steps;
+#[cfg(test)]
+mod tests;
+mod theory;
+mod unary;
+
+pub use theory::IntTheory;

@@ -1,0 +1,12 @@
+// The lines that say why a file is refused, or why a problem has no answer.
+#![tactic(auto)]
+
+mod fail;
+mod refusal;
+mod text;
+
+pub use fail::fail_line;
+pub use refusal::refusal_text;
+
+#[cfg(test)]
+mod tests;
