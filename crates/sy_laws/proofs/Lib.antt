@@ -1,0 +1,11 @@
+pub mod Equations
+pub mod Cases
+pub mod Called
+pub mod OperatorSorts
+pub mod Lists
+pub mod Steps
+pub mod Reached
+pub mod Asked
+pub mod Agreement
+pub mod Traced
+pub mod Asks

@@ -1,0 +1,4 @@
+pub mod Evaluation
+pub mod Tracing
+pub mod Agreement
+pub mod Asking

@@ -1,0 +1,10 @@
+// The meaning of terms, computed, over integers and over bit vectors.
+#![tactic(auto)]
+
+mod evaluation;
+mod trace;
+
+pub use evaluation::{Eval, evaluate, evaluate_with};
+pub use sy_integers::IntTheory;
+pub use sy_words::{BvTheory, Word};
+pub use trace::Trace;

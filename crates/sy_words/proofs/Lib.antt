@@ -1,0 +1,6 @@
+mod Folds
+mod Lists
+mod Masks
+mod Numbers
+mod Ranges
+mod Shapes

@@ -1,0 +1,37 @@
+// Sums and products, modulo two to the width.
+ghost use Rattle.std.specs.Prelude.{◌≡◌};
+ghost use Rattle.sy_terms.specs.Values.{Bits};
+ghost use Rattle.sy_terms.specs.BitVectors as bv;
+
+use crate::word::Word;
+
+/// `-s`.
+pub(crate) fn negated(s: Word) -> Word
+    ensures { Bits result.width result.bits ≡ Bits s.width (bv.negated s.width s.bits) }
+{
+    Word::lowest(s.width(), 0u64.wrapping_sub(s.bits()))
+}
+
+/// `s + t`.
+pub(crate) fn sum(s: Word, t: Word) -> Word
+    requires { s.width ≡ t.width }
+    ensures { Bits result.width result.bits ≡ Bits s.width (bv.sum s.width s.bits t.bits) }
+{
+    Word::lowest(s.width(), s.bits().wrapping_add(t.bits()))
+}
+
+/// `s - t`.
+pub(crate) fn difference(s: Word, t: Word) -> Word
+    requires { s.width ≡ t.width }
+    ensures { Bits result.width result.bits ≡ Bits s.width (bv.difference s.width s.bits t.bits) }
+{
+    Word::lowest(s.width(), s.bits().wrapping_sub(t.bits()))
+}
+
+/// `s * t`.
+pub(crate) fn product(s: Word, t: Word) -> Word
+    requires { s.width ≡ t.width }
+    ensures { Bits result.width result.bits ≡ Bits s.width (bv.product s.width s.bits t.bits) }
+{
+    Word::lowest(s.width(), s.bits().wrapping_mul(t.bits()))
+}

@@ -1,0 +1,17 @@
+// Bit vectors: the words of a machine, and the theory of terms over them.
+#![tactic(auto)]
+
+mod arithmetic;
+mod bitwise;
+mod division;
+mod operators;
+mod orders;
+mod shifts;
+mod structure;
+#[cfg(test)]
+mod tests;
+mod theory;
+mod word;
+
+pub use theory::BvTheory;
+pub use word::Word;
