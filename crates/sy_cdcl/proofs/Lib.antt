@@ -1,0 +1,17 @@
+pub mod Back
+pub mod Ends
+pub mod Growth
+pub mod Learning
+pub mod Levels
+pub mod Places
+pub mod Push
+pub mod Values
+mod Bound
+mod Pigeons
+pub mod Inspect
+pub mod Listing
+pub mod Guards
+pub mod Visiting
+pub mod Attaching
+pub mod States
+pub mod Courses

@@ -1,0 +1,49 @@
+-- The pigeonhole principle.
+use Rattle.std.proofs.Common.{◌≡◌, ℕ, zero, suc, ◌<◌, ◌≤◌, cond, eqb, arith, sym, ◌∙◌, refl, inl, inr, ◌⊎◌, ◌≢◌}
+use Rattle.std.proofs.lemmas.Bool.Decides.{eqb_tells}
+
+-- the values of `f` without the value `m`, in whose place the last one comes
+abbrev avoiding : (ℕ → ℕ) → ℕ → ℕ → ℕ → ℕ
+avoiding f m last i = cond (eqb (f i) m) (f last) (f i)
+
+abbrev Avoids : ℕ → ℕ → ℕ → ℕ → Type 0
+Avoids x m y r = ((x ≡ m) × (r ≡ y)) ⊎ ((x ≢ m) × (r ≡ x))
+
+avoids : (x m y : ℕ) → Avoids x m y (cond (eqb x m) y x)
+avoids x m y = elim (eqb_tells x m) [
+  | inl q ↦ inl (q.1, rw (q.0) refl)
+  | inr q ↦ inr (q.1, rw (q.0) refl)
+]
+
+-- the first `n` values are below `m`
+abbrev pub IsInto : (ℕ → ℕ) → ℕ → ℕ → Type 0
+IsInto f n m = (i : ℕ) → i < n → f i < m
+
+-- the first `n` values differ
+abbrev pub IsOneToOne : (ℕ → ℕ) → ℕ → Type 0
+IsOneToOne f n = (i j : ℕ) → i < n → j < n → f i ≡ f j → i ≡ j
+
+into_less : (f : ℕ → ℕ) (n m : ℕ) → IsInto f (suc n) (suc m) → IsOneToOne f (suc n) → IsInto (avoiding f m n) n m
+into_less f n m into one i p =
+    let a = into i (omega arith) in
+    let b = into n (omega arith) in
+    let apart : f i ≢ f n = λ e. let z = one i n (omega arith) (omega arith) e in omega arith in
+    elim (avoids (f i) m (f n)) [ inl w ↦ omega (arith, w.0, w.1) | inr w ↦ omega (arith, w.0, w.1) ]
+
+one_less : (f : ℕ → ℕ) (n m : ℕ) → IsOneToOne f (suc n) → IsOneToOne (avoiding f m n) n
+one_less f n m one i j p q e =
+    elim (avoids (f i) m (f n)) [
+      | inl v ↦ elim (avoids (f j) m (f n)) [
+        | inl w ↦ one i j (omega arith) (omega arith) (v.0 ∙ sym w.0)
+        | inr w ↦ let z = one n j (omega arith) (omega arith) (sym v.1 ∙ e ∙ w.1) in absurd (omega arith)
+      ]
+      | inr v ↦ elim (avoids (f j) m (f n)) [
+        | inl w ↦ let z = one i n (omega arith) (omega arith) (sym v.1 ∙ e ∙ w.1) in absurd (omega arith)
+        | inr w ↦ one i j (omega arith) (omega arith) (sym v.1 ∙ e ∙ w.1)
+      ]
+    ]
+
+pub pigeonhole : (n m : ℕ) (f : ℕ → ℕ) → IsInto f n m → IsOneToOne f n → n ≤ m
+pigeonhole zero m f into one = omega arith
+pigeonhole (suc n) zero f into one = absurd (omega (arith, into n (omega arith)))
+pigeonhole (suc n) (suc m) f into one = omega (arith, pigeonhole n m (avoiding f m n) (into_less f n m into one) (one_less f n m one))

@@ -1,0 +1,55 @@
+use Rattle.std.proofs.Common.{◌∙◌, sym, subst, arith, ◌<◌, length, List}
+use Rattle.sy_clauses.specs.Clauses.{known_clauses}
+use Rattle.sy_clauses.specs.Marking.{clause_of}
+use Rattle.sy_clauses.specs.New.{IsUnit}
+use Rattle.sy_cdcl.specs.declared.trail.Entry.{Entry}
+use Rattle.sy_cdcl.specs.Trails.{value_in, level_start}
+use Rattle.sy_cdcl.specs.Conflicts.{SomeFalsified, NoneFalsified}
+use Rattle.sy_cdcl.proofs.Learning.{start_within}
+use Rattle.sy_cdcl.proofs.Back.{ready_left, levels_left, unit_left, open_below, back_first, back_more}
+use Rattle.sy_cdcl.proofs.analysis.go_back.Goals as goal
+
+pub loop-trail-init : goal.loop-trail-init
+loop-trail-init c =
+    let known = known_clauses c.args.cnf.now.clauses c.args.derived.now in
+    let e = c.leave_level.ensures in
+    record {
+      ready = ready_left known c.args.trail.now c.leave_level.new.self c.requires.deep c.requires.ready e.assignment e.entries e.starts;
+      levels = levels_left known c.args.trail.now c.leave_level.new.self c.requires.deep c.requires.ready c.requires.levels e.entries e.starts;
+      vars = e.vars;
+      unit = subst (λ (t : List Entry). IsUnit (value_in t) (clause_of c.args.marks.now) c.args.literal.var c.args.literal.positive) (sym e.entries)
+          c.requires.unit;
+      back = back_first c.args.trail.now c.leave_level.new.self c.requires.deep e.entries e.starts;
+    }
+
+pub loop-trail-preserved : goal.loop-trail-preserved
+loop-trail-preserved c =
+    let known = known_clauses c.args.cnf.now.clauses c.args.derived.now in
+    let e = c.leave_level-in-loop-trail.ensures in
+    let i = c.loop-trail.invariant in
+    let t = c.loop-trail.trail in
+    let deep : 0 < length t.starts.items = omega arith in
+    let none : NoneFalsified t.entries.items (level_start t.starts.items) (length t.entries.items) (clause_of c.args.marks.now) =
+    λ p g l k h. (let x = c.level_start-start.ensures in let y = c.len-in-loop-trail.ensures in let z = t.entries.ok.0 in
+    c.if-any_falsifies.ensures p g (omega arith) (omega arith) h) in
+    let unit = unit_left t (clause_of c.args.marks.now) c.args.literal.var c.args.literal.positive i.ready.assignment.once (start_within known t i.ready) i.unit none in
+    record {
+      ready = ready_left known t c.leave_level-in-loop-trail.new.self deep i.ready e.assignment e.entries e.starts;
+      levels = levels_left known t c.leave_level-in-loop-trail.new.self deep i.ready i.levels e.entries e.starts;
+      vars = e.vars ∙ i.vars;
+      unit = subst (λ (x : List Entry). IsUnit (value_in x) (clause_of c.args.marks.now) c.args.literal.var c.args.literal.positive) (sym e.entries) unit;
+      back = back_more c.args.trail.now t c.leave_level-in-loop-trail.new.self c.requires.ready.assignment i.back deep e.entries e.starts;
+    }
+
+pub returns-then-any_falsifies-clause-lowest : goal.returns-then-any_falsifies-clause-lowest
+returns-then-any_falsifies-clause-lowest c =
+    let known = known_clauses c.args.cnf.now.clauses c.args.derived.now in
+    let i = c.loop-trail.invariant in
+    let t = c.loop-trail.trail in
+    let deep : 0 < length t.starts.items = omega arith in
+    let some : SomeFalsified t.entries.items (level_start t.starts.items) (length t.entries.items) (clause_of c.args.marks.now) =
+    (let x = c.level_start-start.ensures in let y = c.len-in-loop-trail.ensures in let z = t.entries.ok.0 in
+    let w : SomeFalsified t.entries.items c.level_start-start.result c.len-in-loop-trail.result (clause_of c.args.marks.now) = c.if-any_falsifies.ensures in
+    let l = w.from in let m = w.to in
+    record { place = w.place; entry = w.entry; from = omega arith; to = omega arith; at = w.at; hit = w.hit }) in
+    open_below known t (clause_of c.args.marks.now) c.args.literal.var c.args.literal.positive deep i.ready i.unit some

@@ -1,0 +1,39 @@
+use Rattle.std.proofs.Common.{Bool, subst}
+use Rattle.std.specs.Prelude.{MatchBool}
+use Rattle.sy_clauses.specs.Clauses.{literals, known_clauses}
+use Rattle.sy_clauses.specs.New.{HasTrue, IsFalse}
+use Rattle.sy_cdcl.specs.Trails.{value_of}
+use Rattle.sy_cdcl.proofs.Listing.{list_of-lt}
+use Rattle.sy_cdcl.proofs.Attaching.{attached_paired, attached_skipped}
+use Rattle.sy_cdcl.proofs.propagation.attach_clause.Goals as goal
+
+pub watch-requires-clause-first : goal.watch-requires-clause-first
+watch-requires-clause-first c =
+    list_of-lt c.in-Some.first _ _
+    (c.requires.vars c.args.number (literals c.args.clause.now) c.in-Some.first.var c.in-Some.first.positive c.requires.at c.in-Some.ensures)
+    c.requires.attached.lists
+
+pub watch-requires-clause-second : goal.watch-requires-clause-second
+watch-requires-clause-second c =
+    let s = c.in-Some-another.second in
+    list_of-lt s _ _
+    (c.requires.vars c.args.number (literals c.args.clause.now) s.var s.positive c.requires.at c.in-Some-another.ensures.has)
+    c.requires.attached.lists
+
+pub returns-in-Some-another-clause-ends : goal.returns-in-Some-another-clause-ends
+returns-in-Some-another-clause-ends c =
+    let f = c.in-Some.first in
+    let s = c.in-Some-another.second in
+    attached_paired (known_clauses c.args.cnf.now.clauses c.args.derived.now) c.args.trail.now c.args.watches.now c.watch.new.self c.args.number
+    (literals c.args.clause.now) record { first = f; second = s } c.requires.attached c.requires.at c.in-Some.ensures c.in-Some-another.ensures
+    (list_of-lt f _ _ (c.requires.vars c.args.number (literals c.args.clause.now) f.var f.positive c.requires.at c.in-Some.ensures) c.requires.attached.lists)
+    (list_of-lt s _ _ (c.requires.vars c.args.number (literals c.args.clause.now) s.var s.positive c.requires.at c.in-Some-another.ensures.has) c.requires.attached.lists)
+    c.in_ok-watch.ensures.lists c.in_ok-watch.ensures.pairs c.watch.ensures.head
+
+pub returns-clause-ends : goal.returns-clause-ends
+returns-clause-ends c =
+    attached_skipped (known_clauses c.args.cnf.now.clauses c.args.derived.now) c.args.trail.now c.settle.new.trail c.args.watches.now c.skip.new.self
+    c.args.number (literals c.args.clause.now) c.in_ok-settle.ensures.ready c.in_ok-settle.ensures.extends c.requires.attached c.requires.at
+    (subst (λ (b : Bool). MatchBool b (HasTrue (value_of c.settle.new.trail.values.items) (literals c.args.clause.now))
+    (IsFalse (value_of c.settle.new.trail.values.items) (literals c.args.clause.now))) c.if-not-branch.false c.in_ok-settle.ensures.ends)
+    c.skip.ensures.lists c.in_ok-skip.ensures.pairs c.skip.ensures.head

@@ -1,0 +1,21 @@
+use Rattle.std.proofs.Common.{refl, Some}
+use Rattle.sy_clauses.specs.Clauses.{known_clauses}
+use Rattle.sy_cdcl.proofs.Push.{ready_forced, extends_push}
+use Rattle.sy_cdcl.proofs.propagation.force.Goals as goal
+
+pub assign-requires-clause-within : goal.assign-requires-clause-within
+assign-requires-clause-within c =
+    let u = c.requires.unit in
+    c.requires.vars c.args.number u.clause c.args.literal.var c.args.literal.positive u.at u.unit.has
+
+pub returns-clause-ready : goal.returns-clause-ready
+returns-clause-ready c =
+    let u = c.requires.unit in
+    ready_forced (known_clauses c.args.cnf.now.clauses c.args.derived.now) c.args.trail.now c.assign.new.self
+    record { literal = c.args.literal; reason = Some c.args.number } c.args.number u.clause
+    c.requires.ready c.in_ok-assign.ensures.entries c.assign.ensures.starts c.in_ok-assign.ensures.agrees refl u.at u.unit
+
+pub returns-clause-extends : goal.returns-clause-extends
+returns-clause-extends c =
+    extends_push c.args.trail.now c.assign.new.self record { literal = c.args.literal; reason = Some c.args.number }
+    c.in_ok-assign.ensures.entries c.assign.ensures.starts c.in_ok-assign.ensures.vars c.in_ok-assign.ensures.fewer

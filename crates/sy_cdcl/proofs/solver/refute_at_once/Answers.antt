@@ -1,0 +1,21 @@
+use Rattle.std.proofs.Common.{◌≡◌, subst, sym, List, Some}
+use Rattle.sy_clauses.specs.declared.Lit.{Lit}
+use Rattle.sy_clauses.specs.declared.Line.{Line}
+use Rattle.sy_clauses.specs.Clauses.{known_clauses, line_clause, Refutes}
+use Rattle.sy_clauses.specs.Marking.{clause_of}
+use Rattle.sy_cdcl.proofs.Ends.{refutes_more, numbered_first, learned_empty}
+use Rattle.sy_cdcl.proofs.solver.refute_at_once.Goals as goal
+
+pub returns-clause-refutes : goal.returns-clause-refutes
+returns-clause-refutes c =
+    let cnf = c.args.cnf.now in
+    let s = c.args.state.now in
+    let i = c.requires.stuck in
+    let known = known_clauses cnf.clauses s.derived.items in
+    let clause = clause_of c.analyze.new.marks in
+    let line : line_clause known c.in_ok-taught.taught.line ≡ Some clause =
+    subst (λ (ds : List (List Lit)). line_clause (known_clauses cnf.clauses ds) c.in_ok-taught.taught.line ≡ Some clause)
+    c.deref.ensures.value c.in_ok-taught.ensures.line in
+    subst (λ (ls : List Line). Refutes cnf record { lines = ls }) (sym c.in_ok-push.ensures.ok)
+    (refutes_more cnf s.lines c.in_ok-taught.taught.line known clause (numbered_first cnf s.lines s.derived.items c.requires.none i.derived) line
+    (learned_empty s.trail clause c.in_ok-taught.taught.last i.lowest c.in_ok-taught.ensures.learned))

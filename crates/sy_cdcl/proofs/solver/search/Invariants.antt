@@ -1,0 +1,18 @@
+use Rattle.std.proofs.Common.{◌≡◌, vec_len}
+use Rattle.sy_clauses.specs.Clauses.{known_clauses}
+use Rattle.sy_cdcl.specs.Trails.{IsReady, LevelsSettled, unvalued_count}
+use Rattle.sy_cdcl.specs.Watching.{IsWatching}
+use Rattle.sy_cdcl.proofs.solver.search.Given as goal
+
+abbrev pub invariant-loop-conflict : goal.invariant-loop-conflict
+invariant-loop-conflict l =
+    let known = known_clauses l.cnf.clauses l.derived in
+    record {
+      ready : IsReady known l.trail;
+      levels : LevelsSettled known l.trail;
+      all : vec_len l.trail.values ≡ l.cnf.vars;
+      watching : IsWatching known l.trail l.watches;
+    }
+
+abbrev pub decreases-loop-conflict : goal.decreases-loop-conflict
+decreases-loop-conflict l = unvalued_count l.trail

@@ -1,0 +1,45 @@
+-- What the solver's answers mean.
+use Rattle.std.specs.Prelude.{◌≡◌, ℕ, ◌≤◌, ◌<◌, ◌^◌, false, List, length, slice_index_or, slice_get, Some, Bool, Option, unwrap_or}
+use Rattle.sy_clauses.specs.declared.Lit.{Lit}
+use Rattle.sy_clauses.specs.declared.Cnf.{Cnf}
+use Rattle.sy_clauses.specs.declared.Log.{Log}
+use Rattle.sy_clauses.specs.Clauses.{Refutes, IsModel}
+use Rattle.sy_clauses.specs.New.{LearnsNew}
+use Rattle.sy_cdcl.specs.declared.solver.End.{End}
+use Rattle.sy_cdcl.specs.declared.solver.End.TheVariants as end
+use Rattle.sy_cdcl.specs.declared.solver.Solved.{Solved}
+use Rattle.sy_cdcl.specs.declared.solver.Solved.TheVariants.{Refuted, Model, Fuel}
+
+-- each variable of the formula is below `vars`
+abbrev pub VarsFit : Cnf → Type 0
+VarsFit cnf = (n : ℕ) (c : List Lit) (k : ℕ) (l : Lit) →
+    slice_get cnf.clauses n ≡ Some c → slice_get c k ≡ Some l → l.var < cnf.vars
+
+abbrev pub or_false : Option Bool → Bool
+or_false value = unwrap_or value false
+
+-- the values are one for each variable, and make every clause true
+pub record IsModelOf (cnf : Cnf) (values : List Bool) : Type 0 where
+  pub long : length values ≡ cnf.vars
+  pub model : IsModel (λ v. slice_index_or values v false) cnf.clauses
+
+-- A refutation of at most `fuel` lines, or a value for each variable that makes every clause true, or
+-- `fuel` learned clauses, each new to the clauses before it.
+abbrev pub IsAnswer : Cnf → ℕ → Solved → Type 0
+IsAnswer cnf fuel (Refuted log) = Refutes cnf log × (length log.lines ≤ fuel)
+IsAnswer cnf fuel (Model values) =
+    (length values ≡ cnf.vars) × IsModel (λ v. slice_index_or values v false) cnf.clauses
+IsAnswer cnf fuel (Fuel log) = LearnsNew cnf log × (length log.lines ≡ fuel)
+
+-- not stopped by the number of clauses
+abbrev pub IsDecided : Solved → Type 0
+IsDecided (Refuted log) = Unit {0}
+IsDecided (Model values) = Unit {0}
+IsDecided (Fuel log) = ⊥
+
+-- A refutation of at most `fuel` lines; fewer than `fuel` learned clauses, each new to the clauses
+-- before it, and a model; or `fuel` such clauses, which is fewer than there are sets of literals.
+abbrev pub IsEnd : Cnf → ℕ → Log → End → Type 0
+IsEnd cnf fuel log end.Empty = Refutes cnf log × (length log.lines ≤ fuel)
+IsEnd cnf fuel log (end.Model values) = IsModelOf cnf values × LearnsNew cnf log × (length log.lines < fuel)
+IsEnd cnf fuel log end.Spent = LearnsNew cnf log × (length log.lines ≡ fuel) × (fuel < 3 ^ cnf.vars)

@@ -1,0 +1,58 @@
+-- What is learned from a conflict.
+use Rattle.std.specs.Prelude.{◌≡◌, ℕ, ◌≤◌, ◌<◌, Bool, true, false, not, Option, Some, None, List, take, slice_get, length, ◌+◌}
+use Rattle.sy_clauses.specs.declared.Lit.{Lit}
+use Rattle.sy_clauses.specs.Clauses.{Clause, IsEmpty}
+use Rattle.sy_clauses.specs.New.{IsUnit, HasTwoOpen}
+use Rattle.sy_cdcl.specs.declared.trail.Entry.{Entry}
+use Rattle.sy_cdcl.specs.declared.trail.Trail.{Trail}
+use Rattle.sy_cdcl.specs.Trails.{value_in, level_start}
+
+-- an entry between the two places makes a literal of the clause false
+pub record SomeFalsified (entries : List Entry) (start end : ℕ) (c : Clause) : Type 0 where
+  pub place : ℕ
+  pub entry : Entry
+  pub from : start ≤ place
+  pub to : place < end
+  pub at : slice_get entries place ≡ Some entry
+  pub hit : c entry.literal.var (not entry.literal.positive) ≡ true
+
+-- no entry between the two places does
+abbrev pub NoneFalsified : List Entry → ℕ → ℕ → Clause → Type 0
+NoneFalsified entries start end c =
+    (p : ℕ) (e : Entry) → start ≤ p → p < end → slice_get entries p ≡ Some e →
+    c e.literal.var (not e.literal.positive) ≡ false
+
+-- the values at the end of the level below the present one
+abbrev pub value_below : Trail → ℕ → Option Bool
+value_below t = value_in (take (level_start t.starts.items) t.entries.items)
+
+-- nothing is left of the clause, or one literal of the present level, above the lowest
+abbrev pub IsLearned : Trail → Clause → Option Lit → Type 0
+IsLearned t c None = IsEmpty c
+IsLearned t c (Some l) = (0 < length t.starts.items) × IsUnit (value_below t) c l.var l.positive
+
+-- at the end of each level below the present one the clause has two literals without value
+abbrev pub OpenAtLevels : Trail → Clause → Type 0
+OpenAtLevels t c = (k n : ℕ) → slice_get t.starts.items k ≡ Some n → HasTwoOpen (value_in (take n t.entries.items)) c
+
+-- the trail was taken back to where one of its levels began
+pub record IsBack (old new : Trail) : Type 0 where
+  pub level : ℕ
+  pub start : ℕ
+  pub began : slice_get old.starts.items level ≡ Some start
+  pub entries : new.entries.items ≡ take start old.entries.items
+  pub starts : new.starts.items ≡ take level old.starts.items
+
+-- the literal of the clause that the last entry of all that do makes false
+pub record IsLastFalsified (entries : List Entry) (c : Clause) (l : Lit) : Type 0 where
+  pub place : ℕ
+  pub entry : Entry
+  pub at : slice_get entries place ≡ Some entry
+  pub var : l.var ≡ entry.literal.var
+  pub sign : l.positive ≡ not entry.literal.positive
+  pub has : c l.var l.positive ≡ true
+  pub later : NoneFalsified entries (place + 1) (length entries) c
+
+abbrev pub LastFits : List Entry → Clause → Option Lit → Type 0
+LastFits entries c None = NoneFalsified entries 0 (length entries) c
+LastFits entries c (Some l) = IsLastFalsified entries c l

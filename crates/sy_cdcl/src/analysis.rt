@@ -1,0 +1,165 @@
+// Learning from a conflict.
+ghost use Rattle.std.specs.Prelude.{◌≡◌, ◌<◌, ◌≤◌, ℕ, Bool, true, not, Some, None, OnOk, IfOk, MatchBool, length, vec_len};
+ghost use Rattle.sy_clauses.specs.Clauses.{known_clauses, line_clause, IsEmpty};
+ghost use Rattle.sy_clauses.specs.Marking.{clause_of, IsListed};
+ghost use Rattle.sy_cdcl.specs.Trails.{value_of, value_in, IsReady, LevelsSettled};
+ghost use Rattle.sy_clauses.specs.New.{IsUnit};
+ghost use Rattle.sy_cdcl.specs.Status.{IsConflict};
+ghost use Rattle.sy_cdcl.specs.Conflicts.{SomeFalsified, NoneFalsified, IsLearned, OpenAtLevels, value_below, IsBack, LastFits};
+
+use crate::order::Order;
+use crate::trail::{Entry, Trail};
+use std::alloc::{AllocError, Global};
+use sy_clauses::{Cnf, Line, Lit, Marks, Step, advance, clause_at};
+use sy_seq::{Seq, Want};
+
+/// Whether the entry's literal makes a marked one false.
+fn falsifies(entry: Entry, marks: &Marks) -> bool
+    ensures { result ≡ clause_of marks.now entry.literal.var (not entry.literal.positive) }
+{
+    marks.has(entry.literal.var, !entry.literal.positive)
+}
+
+/// Whether an entry between the two places makes a marked literal false.
+pub fn any_falsifies(trail: &Trail, start: usize, end: usize, marks: &Marks) -> bool
+    requires { end ≤ length trail.now.entries.items }
+    ensures { MatchBool result
+        (SomeFalsified trail.now.entries.items start end (clause_of marks.now))
+        (NoneFalsified trail.now.entries.items start end (clause_of marks.now)) }
+{
+    let mut place = end;
+    while place > start {
+        place -= 1;
+        if falsifies(trail.entries[place], marks) {
+            return true;
+        }
+    }
+    false
+}
+
+/// Whether, above the lowest level, no entry between the two places makes a marked literal false.
+fn is_last(trail: &Trail, start: usize, end: usize, marks: &Marks) -> bool
+    requires { end ≤ length trail.now.entries.items }
+    ensures { MatchBool result
+        ((0 < length trail.now.starts.items) × NoneFalsified trail.now.entries.items start end (clause_of marks.now))
+        (0 < length trail.now.starts.items → SomeFalsified trail.now.entries.items start end (clause_of marks.now)) }
+{
+    if trail.starts.len() == 0 {
+        return false;
+    }
+    !any_falsifies(trail, start, end, marks)
+}
+
+/// A line, and the literal of the present level in its clause.
+#[derive(Drop)]
+pub struct Learned {
+    pub line: Line,
+    pub last: Option<Lit>,
+}
+
+/// Marks a clause that the conflict teaches. At the lowest level it is empty. At another it has one
+/// literal of the present level, which is answered; all others are false at lower levels.
+pub fn analyze(
+    alloc: Global,
+    trail: &Trail,
+    cnf: &Cnf,
+    derived: &[Seq<Lit>],
+    marks: &mut Marks,
+    conflict: u32,
+) -> Result<Learned, Want>
+    requires ready { IsReady (known_clauses cnf.now.clauses derived.now) trail.now }
+    requires levels { LevelsSettled (known_clauses cnf.now.clauses derived.now) trail.now }
+    requires conflict { IsConflict (known_clauses cnf.now.clauses derived.now) (value_of trail.now.values.items) conflict }
+    requires empty { IsEmpty (clause_of marks.old) }
+    requires listed { IsListed marks.old }
+    ensures line { IfOk result (λ r. line_clause (known_clauses cnf.now.clauses derived.now) r.line ≡ Some (clause_of marks.new)) }
+    ensures learned { IfOk result (λ r. IsLearned trail.now (clause_of marks.new) r.last) }
+    ensures vars { OnOk result ((v : ℕ) (s : Bool) → clause_of marks.new v s ≡ true → v < vec_len trail.now.values) }
+    ensures listed { OnOk result (IsListed marks.new) }
+{
+    let mut line = Line {
+        first: conflict,
+        steps: Seq::new(alloc),
+    };
+    let Some(clause) = clause_at(cnf, derived, conflict) else {
+        return Ok(Learned { line, last: None });
+    };
+    marks.load(clause)?;
+    let start = trail.level_start();
+    let mut top = trail.entries.len();
+    while top > start {
+        top -= 1;
+        let entry = trail.entry_at(top);
+        if !falsifies(entry, marks) {
+            continue;
+        }
+        if is_last(trail, start, top, marks) {
+            let literal = Lit {
+                var: entry.literal.var,
+                positive: !entry.literal.positive,
+            };
+            return Ok(Learned {
+                line,
+                last: Some(literal),
+            });
+        }
+        let Some(number) = entry.reason else {
+            continue;
+        };
+        let step = Step {
+            var: entry.literal.var,
+            with: number,
+        };
+        advance(marks, cnf, derived, step)?;
+        line.steps.push(step)?;
+    }
+    Ok(Learned { line, last: None })
+}
+
+/// Goes back to the lowest level at which all marked literals but this one are false.
+pub fn go_back(
+    trail: &mut Trail,
+    order: &mut Order,
+    cnf: &Cnf,
+    derived: &[Seq<Lit>],
+    marks: &Marks,
+    literal: Lit,
+)
+    requires deep { 0 < length trail.old.starts.items }
+    requires ready { IsReady (known_clauses cnf.now.clauses derived.now) trail.old }
+    requires levels { LevelsSettled (known_clauses cnf.now.clauses derived.now) trail.old }
+    requires unit { IsUnit (value_below trail.old) (clause_of marks.now) literal.var literal.positive }
+    ensures ready { IsReady (known_clauses cnf.now.clauses derived.now) trail.new }
+    ensures levels { LevelsSettled (known_clauses cnf.now.clauses derived.now) trail.new }
+    ensures vars { vec_len trail.new.values ≡ vec_len trail.old.values }
+    ensures unit { IsUnit (value_in trail.new.entries.items) (clause_of marks.now) literal.var literal.positive }
+    ensures lowest { OpenAtLevels trail.new (clause_of marks.now) }
+    ensures back { IsBack trail.old trail.new }
+{
+    trail.leave_level(order);
+    while trail.starts.len() > 0 {
+        let start = trail.level_start();
+        if any_falsifies(trail, start, trail.entries.len(), marks) {
+            return;
+        }
+        trail.leave_level(order);
+    }
+}
+
+/// The literal of the marked ones that became false last, where one is false.
+pub fn last_falsified(trail: &Trail, marks: &Marks) -> Option<Lit>
+    ensures { LastFits trail.now.entries.items (clause_of marks.now) result }
+{
+    let mut place = trail.entries.len();
+    while place > 0 {
+        place -= 1;
+        let entry = trail.entry_at(place);
+        if falsifies(entry, marks) {
+            return Some(Lit {
+                var: entry.literal.var,
+                positive: !entry.literal.positive,
+            });
+        }
+    }
+    None
+}

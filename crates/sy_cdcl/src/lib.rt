@@ -1,0 +1,11 @@
+// A solver of clauses that learns by resolution.
+#![tactic(auto)]
+
+mod analysis;
+mod order;
+mod propagation;
+mod solver;
+mod trail;
+mod watches;
+
+pub use solver::{Solved, solve};

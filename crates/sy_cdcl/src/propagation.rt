@@ -1,0 +1,323 @@
+// Unit propagation.
+ghost use Rattle.std.specs.Prelude.{◌≡◌, ◌<◌, ◌≤◌, ◌+◌, ◌++◌, ◌∷◌, ℕ, [], not, true, false, length, vec_len, slice_get, Some, None, OnOk, IfOk, MatchOption, MatchBool};
+ghost use Rattle.sy_clauses.specs.New.{AllSettled, IsFalse, HasTrue};
+ghost use Rattle.sy_clauses.specs.Clauses.{literals, same_literal, known_clauses, IsEmpty};
+ghost use Rattle.sy_cdcl.specs.Trails.{value_of, IsReady, Extends, VarsBelow, LevelsSettled};
+ghost use Rattle.sy_cdcl.specs.Status.{IsConflict};
+ghost use Rattle.sy_cdcl.specs.Watching.{AllWatched, IsWatching, IsAttached};
+ghost use Rattle.sy_cdcl.specs.Visits.{IsFalseBut, IsOther, IsApart, IsBeside, Suits, Fits, MayForce, IsOnly, IsAnother};
+
+use crate::trail::{Entry, Trail, Truth};
+use crate::watches::{Pair, Watches, list_index};
+use std::alloc::{AllocError, Global};
+use sy_clauses::{Cnf, Lit, clause_at};
+use sy_seq::{Seq, Want};
+
+/// Whether the two are one literal.
+fn is_same(a: Lit, b: Lit) -> bool
+    ensures { result ≡ same_literal a.var a.positive b.var b.positive }
+{
+    b.var == a.var && b.positive == a.positive
+}
+
+/// The literal with the other sign.
+fn negated(literal: Lit) -> Lit
+    ensures var { result.var ≡ literal.var }
+    ensures sign { result.positive ≡ not literal.positive }
+{
+    Lit {
+        var: literal.var,
+        positive: !literal.positive,
+    }
+}
+
+/// The literal of the pair beside this one, where this is one of them.
+fn beside(pair: Pair, literal: Lit) -> Option<Lit>
+    ensures { MatchOption result (IsApart pair literal) (λ other. IsBeside pair literal other) }
+{
+    if is_same(pair.first, literal) {
+        return Some(pair.second);
+    }
+    if is_same(pair.second, literal) {
+        return Some(pair.first);
+    }
+    None
+}
+
+/// A literal of the clause that isn't false, other than this one.
+fn find_other(trail: &Trail, clause: &[Lit], other: Lit) -> Option<Lit>
+    ensures { MatchOption result
+        (IsFalseBut (value_of trail.now.values.items) (literals clause.now) other)
+        (λ l. IsOther (value_of trail.now.values.items) (literals clause.now) other l) }
+{
+    for literal in clause {
+        if trail.is_false(*literal) {
+            continue;
+        }
+        if !is_same(other, *literal) {
+            return Some(*literal);
+        }
+    }
+    None
+}
+
+/// What becomes of a clause where a literal that it watches has become false.
+#[derive(Clone, Copy, Drop)]
+pub enum Outcome {
+    Stay,
+    Move(Pair),
+    Force(Lit),
+    Conflict,
+}
+
+/// Looks for another literal to watch. This one is the other one that is watched.
+fn inspect(trail: &Trail, clause: &[Lit], other: Lit) -> Outcome
+    requires { literals clause.now other.var other.positive ≡ true }
+    ensures { Suits (value_of trail.now.values.items) (literals clause.now) other result }
+{
+    let truth = trail.truth(other);
+    if let Truth::True = truth {
+        return Outcome::Stay;
+    }
+    if let Some(next) = find_other(trail, clause, other) {
+        return Outcome::Move(Pair {
+            first: other,
+            second: next,
+        });
+    }
+    if let Truth::Open = truth {
+        return Outcome::Force(other);
+    }
+    Outcome::Conflict
+}
+
+/// What becomes of the clause of this number, where the literal has become false.
+fn judge(
+    watches: &Watches,
+    trail: &Trail,
+    cnf: &Cnf,
+    derived: &[Seq<Lit>],
+    number: u32,
+    falsified: Lit,
+) -> Outcome
+    requires agrees { IsReady (known_clauses cnf.now.clauses derived.now) trail.now }
+    requires watched { AllWatched (known_clauses cnf.now.clauses derived.now) trail.now watches.now.head watches.now.pairs.items }
+    ensures { Fits (known_clauses cnf.now.clauses derived.now) (value_of trail.now.values.items) watches.now.pairs.items falsified number result }
+{
+    let Some(pair) = watches.pair(number) else {
+        return Outcome::Stay;
+    };
+    let Some(other) = beside(pair, falsified) else {
+        return Outcome::Stay;
+    };
+    let Some(clause) = clause_at(cnf, derived, number) else {
+        return Outcome::Stay;
+    };
+    inspect(trail, clause, other)
+}
+
+/// Makes the last literal of a unit clause true, with the clause's number as the reason.
+fn force(
+    trail: &mut Trail,
+    cnf: &Cnf,
+    derived: &[Seq<Lit>],
+    number: u32,
+    literal: Lit,
+) -> Result<(), Want>
+    requires ready { IsReady (known_clauses cnf.now.clauses derived.now) trail.old }
+    requires vars { VarsBelow (vec_len trail.old.values) (known_clauses cnf.now.clauses derived.now) }
+    requires unit { MayForce (known_clauses cnf.now.clauses derived.now) (value_of trail.old.values.items) number literal }
+    ensures ready { OnOk result (IsReady (known_clauses cnf.now.clauses derived.now) trail.new) }
+    ensures entries { OnOk result (trail.new.entries.items ≡
+        trail.old.entries.items ++ record { literal = literal; reason = Some number } ∷ []) }
+    ensures extends { OnOk result (Extends trail.old trail.new) }
+{
+    trail.assign(literal, Some(number))?;
+    Ok(())
+}
+
+/// Visits the clauses that watch the literal that the entry has made false; one that is false.
+fn visit(
+    watches: &mut Watches,
+    trail: &mut Trail,
+    cnf: &Cnf,
+    derived: &[Seq<Lit>],
+    entry: Entry,
+) -> Result<Option<u32>, Want>
+    requires ready { IsReady (known_clauses cnf.now.clauses derived.now) trail.old }
+    requires vars { VarsBelow (vec_len trail.old.values) (known_clauses cnf.now.clauses derived.now) }
+    requires watching { IsWatching (known_clauses cnf.now.clauses derived.now) trail.old watches.old }
+    requires at { slice_get trail.old.entries.items watches.old.head ≡ Some entry }
+    ensures ready { OnOk result (IsReady (known_clauses cnf.now.clauses derived.now) trail.new) }
+    ensures extends { OnOk result (Extends trail.old trail.new) }
+    ensures watching { OnOk result (IsWatching (known_clauses cnf.now.clauses derived.now) trail.new watches.new) }
+    ensures head { OnOk result (watches.new.head ≡ watches.old.head) }
+    ensures ends { IfOk result (λ conflict. MatchOption conflict
+        (AllWatched (known_clauses cnf.now.clauses derived.now) trail.new (watches.new.head + 1) watches.new.pairs.items)
+        (λ number. IsConflict (known_clauses cnf.now.clauses derived.now) (value_of trail.new.values.items) number)) }
+{
+    let falsified = negated(entry.literal);
+    let list = list_index(falsified);
+    let mut place = 0;
+    while let Some(number) = watches.watcher(list, place) {
+        match judge(watches, trail, cnf, derived, number, falsified) {
+            Outcome::Stay => {
+                place += 1;
+                continue;
+            }
+            Outcome::Move(pair) => {
+                watches.change(list, place, number, pair)?;
+                continue;
+            }
+            Outcome::Force(literal) => {
+                force(trail, cnf, derived, number, literal)?;
+                place += 1;
+                continue;
+            }
+            Outcome::Conflict => return Ok(Some(number)),
+        }
+    }
+    Ok(None)
+}
+
+/// Assigns what the clauses force until all are settled, or one is false; its number.
+pub fn propagate(
+    watches: &mut Watches,
+    trail: &mut Trail,
+    cnf: &Cnf,
+    derived: &[Seq<Lit>],
+) -> Result<Option<u32>, Want>
+    requires ready { IsReady (known_clauses cnf.now.clauses derived.now) trail.old }
+    requires vars { VarsBelow (vec_len trail.old.values) (known_clauses cnf.now.clauses derived.now) }
+    requires watching { IsWatching (known_clauses cnf.now.clauses derived.now) trail.old watches.old }
+    ensures ready { OnOk result (IsReady (known_clauses cnf.now.clauses derived.now) trail.new) }
+    ensures extends { OnOk result (Extends trail.old trail.new) }
+    ensures watching { OnOk result (IsWatching (known_clauses cnf.now.clauses derived.now) trail.new watches.new) }
+    ensures ends { IfOk result (λ conflict. MatchOption conflict
+        ((watches.new.head ≡ length trail.new.entries.items)
+        × AllSettled (value_of trail.new.values.items) (known_clauses cnf.now.clauses derived.now))
+        (λ number. IsConflict (known_clauses cnf.now.clauses derived.now) (value_of trail.new.values.items) number)) }
+{
+    while watches.head < trail.entries.len() {
+        let entry = trail.entry_at(watches.head);
+        if let Some(number) = visit(watches, trail, cnf, derived, entry)? {
+            return Ok(Some(number));
+        }
+        watches.head += 1;
+    }
+    Ok(None)
+}
+
+/// The first literal of the clause.
+fn first_of(clause: &[Lit]) -> Option<Lit>
+    ensures { MatchOption result (IsEmpty (literals clause.now)) (λ l. literals clause.now l.var l.positive ≡ true) }
+{
+    match clause.get(0) {
+        Some(literal) => Some(*literal),
+        None => None,
+    }
+}
+
+/// The first literal of the clause other than this one.
+fn another(clause: &[Lit], literal: Lit) -> Option<Lit>
+    ensures { MatchOption result (IsOnly (literals clause.now) literal) (λ other. IsAnother (literals clause.now) literal other) }
+{
+    for other in clause {
+        if !is_same(literal, *other) {
+            return Some(*other);
+        }
+    }
+    None
+}
+
+/// Makes the only literal of a clause true; whether it can be.
+fn settle(
+    trail: &mut Trail,
+    cnf: &Cnf,
+    derived: &[Seq<Lit>],
+    number: u32,
+    clause: &[Lit],
+    literal: Lit,
+) -> Result<bool, Want>
+    requires ready { IsReady (known_clauses cnf.now.clauses derived.now) trail.old }
+    requires vars { VarsBelow (vec_len trail.old.values) (known_clauses cnf.now.clauses derived.now) }
+    requires at { slice_get (known_clauses cnf.now.clauses derived.now) number ≡ Some (literals clause.now) }
+    requires has { literals clause.now literal.var literal.positive ≡ true }
+    requires only { IsOnly (literals clause.now) literal }
+    ensures ready { OnOk result (IsReady (known_clauses cnf.now.clauses derived.now) trail.new) }
+    ensures extends { OnOk result (Extends trail.old trail.new) }
+    ensures ends { IfOk result (λ done. MatchBool done
+        (HasTrue (value_of trail.new.values.items) (literals clause.now))
+        (IsFalse (value_of trail.new.values.items) (literals clause.now))) }
+{
+    match trail.truth(literal) {
+        Truth::False => Ok(false),
+        Truth::True => Ok(true),
+        Truth::Open => {
+            force(trail, cnf, derived, number, literal)?;
+            Ok(true)
+        }
+    }
+}
+
+/// Watches the next clause, or makes its only literal true; whether it can be made true.
+fn attach_clause(
+    watches: &mut Watches,
+    trail: &mut Trail,
+    cnf: &Cnf,
+    derived: &[Seq<Lit>],
+    number: u32,
+    clause: &[Lit],
+) -> Result<bool, Want>
+    requires ready { IsReady (known_clauses cnf.now.clauses derived.now) trail.old }
+    requires vars { VarsBelow (vec_len trail.old.values) (known_clauses cnf.now.clauses derived.now) }
+    requires attached { IsAttached (known_clauses cnf.now.clauses derived.now) trail.old watches.old number }
+    requires at { slice_get (known_clauses cnf.now.clauses derived.now) number ≡ Some (literals clause.now) }
+    ensures ready { OnOk result (IsReady (known_clauses cnf.now.clauses derived.now) trail.new) }
+    ensures extends { OnOk result (Extends trail.old trail.new) }
+    ensures ends { IfOk result (λ done. MatchBool done
+        (IsAttached (known_clauses cnf.now.clauses derived.now) trail.new watches.new (number + 1))
+        (IsFalse (value_of trail.new.values.items) (literals clause.now))) }
+{
+    let Some(first) = first_of(clause) else {
+        return Ok(false);
+    };
+    if let Some(second) = another(clause, first) {
+        watches.watch(number, Pair { first, second })?;
+        return Ok(true);
+    }
+    if !settle(trail, cnf, derived, number, clause, first)? {
+        return Ok(false);
+    }
+    watches.skip()?;
+    Ok(true)
+}
+
+/// Watches each clause, and makes those of one literal true; one that is false.
+pub fn attach(
+    watches: &mut Watches,
+    trail: &mut Trail,
+    cnf: &Cnf,
+    derived: &[Seq<Lit>],
+    count: u32,
+) -> Result<Option<u32>, Want>
+    requires ready { IsReady (known_clauses cnf.now.clauses derived.now) trail.old }
+    requires vars { VarsBelow (vec_len trail.old.values) (known_clauses cnf.now.clauses derived.now) }
+    requires attached { IsAttached (known_clauses cnf.now.clauses derived.now) trail.old watches.old 0 }
+    requires count { length (known_clauses cnf.now.clauses derived.now) ≡ count }
+    ensures ready { OnOk result (IsReady (known_clauses cnf.now.clauses derived.now) trail.new) }
+    ensures extends { OnOk result (Extends trail.old trail.new) }
+    ensures ends { IfOk result (λ conflict. MatchOption conflict
+        (IsWatching (known_clauses cnf.now.clauses derived.now) trail.new watches.new)
+        (λ number. IsConflict (known_clauses cnf.now.clauses derived.now) (value_of trail.new.values.items) number)) }
+{
+    for number in 0..count {
+        let Some(clause) = clause_at(cnf, derived, number) else {
+            continue;
+        };
+        if !attach_clause(watches, trail, cnf, derived, number, clause)? {
+            return Ok(Some(number));
+        }
+    }
+    Ok(None)
+}

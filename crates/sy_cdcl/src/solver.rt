@@ -1,0 +1,592 @@
+// The solver.
+ghost use Rattle.std.specs.Prelude.{◌≡◌, ◌++◌, ◌∷◌, [], ◌<◌, ◌^◌, ◌≤◌, IfOk, OnOk, IfSome, MatchOption, MatchBool, IsTrue, ◌+◌, None, Some, ℕ, Bool, true, length, slice_get, vec_len, map};
+ghost use Rattle.sy_clauses.specs.declared.Lit.{Lit};
+ghost use Rattle.sy_clauses.specs.Clauses.{known_clauses, literals, Refutes};
+ghost use Rattle.sy_clauses.specs.Marking.{clause_of};
+ghost use Rattle.sy_clauses.specs.New.{AllSettled, IsUnit};
+ghost use Rattle.sy_cdcl.specs.Trails.{value_of, value_in, IsReady, LevelsSettled, VarsBelow, AllValued, unvalued_count};
+ghost use Rattle.sy_cdcl.specs.Status.{IsConflict};
+ghost use Rattle.sy_cdcl.specs.Conflicts.{OpenAtLevels, LastFits, value_below};
+ghost use Rattle.sy_cdcl.specs.Watching.{IsWatching, list_of, IsSkipped, IsPaired};
+ghost use Rattle.sy_cdcl.specs.Answer.{IsAnswer, IsEnd, IsDecided, IsModelOf, VarsFit, or_false};
+ghost use Rattle.sy_cdcl.specs.States.{IsSound, IsFresh, IsStuck, known_of};
+
+use crate::analysis::{analyze, go_back, last_falsified};
+use crate::order::Order;
+use crate::propagation::{attach, propagate};
+use crate::trail::Trail;
+use crate::watches::{Pair, Watches};
+use std::alloc::{AllocError, Global};
+use sy_clauses::{Cnf, Line, Lit, Log, Marks};
+use sy_seq::{Seq, Want};
+
+/// What the solver found: a log that refutes the formula, a value for each variable that makes every
+/// clause true, or the learned clauses where their number was used up.
+#[derive(Drop)]
+pub enum Solved {
+    Refuted(Log),
+    Model(Seq<bool>),
+    Fuel(Log),
+}
+
+/// Why the learning ended: the last clause is empty, each variable has a value, or no more clauses may
+/// be learned.
+#[derive(Drop)]
+pub enum End {
+    Empty,
+    Model(Seq<bool>),
+    Spent,
+}
+
+/// A learned clause, its literal that is to be made true, and the one of the others that became false
+/// last.
+#[derive(Drop)]
+pub struct Lesson {
+    pub clause: Seq<Lit>,
+    pub literal: Lit,
+    pub last: Option<Lit>,
+}
+
+/// Begins a level with this literal.
+fn decide(trail: &mut Trail, cnf: &Cnf, derived: &[Seq<Lit>], literal: Lit) -> Result<(), Want>
+    requires ready { IsReady (known_clauses cnf.now.clauses derived.now) trail.old }
+    requires levels { LevelsSettled (known_clauses cnf.now.clauses derived.now) trail.old }
+    requires settled { AllSettled (value_of trail.old.values.items) (known_clauses cnf.now.clauses derived.now) }
+    requires within { literal.var < vec_len trail.old.values }
+    requires unvalued { value_of trail.old.values.items literal.var ≡ None }
+    ensures ready { OnOk result (IsReady (known_clauses cnf.now.clauses derived.now) trail.new) }
+    ensures levels { OnOk result (LevelsSettled (known_clauses cnf.now.clauses derived.now) trail.new) }
+    ensures entries { OnOk result (trail.new.entries.items ≡
+        trail.old.entries.items ++ record { literal = literal; reason = None } ∷ []) }
+    ensures starts { OnOk result (trail.new.starts.items ≡ trail.old.starts.items ++ length trail.old.entries.items ∷ []) }
+    ensures vars { OnOk result (vec_len trail.new.values ≡ vec_len trail.old.values) }
+    ensures fewer { OnOk result (unvalued_count trail.new < unvalued_count trail.old) }
+{
+    let start = trail.entries.len();
+    trail.starts.push(start)?;
+    trail.assign(literal, None)?;
+    Ok(())
+}
+
+/// Assigns and decides until a clause is false, whose number is answered, or each variable has a value.
+fn search(
+    watches: &mut Watches,
+    trail: &mut Trail,
+    order: &mut Order,
+    cnf: &Cnf,
+    derived: &[Seq<Lit>],
+) -> Result<Option<u32>, Want>
+    requires ready { IsReady (known_clauses cnf.now.clauses derived.now) trail.old }
+    requires levels { LevelsSettled (known_clauses cnf.now.clauses derived.now) trail.old }
+    requires vars { VarsBelow cnf.now.vars (known_clauses cnf.now.clauses derived.now) }
+    requires all { vec_len trail.old.values ≡ cnf.now.vars }
+    requires watching { IsWatching (known_clauses cnf.now.clauses derived.now) trail.old watches.old }
+    ensures ready { OnOk result (IsReady (known_clauses cnf.now.clauses derived.now) trail.new) }
+    ensures levels { OnOk result (LevelsSettled (known_clauses cnf.now.clauses derived.now) trail.new) }
+    ensures all { OnOk result (vec_len trail.new.values ≡ cnf.now.vars) }
+    ensures watching { OnOk result (IsWatching (known_clauses cnf.now.clauses derived.now) trail.new watches.new) }
+    ensures ends { IfOk result (λ conflict. MatchOption conflict
+        (AllSettled (value_of trail.new.values.items) (known_clauses cnf.now.clauses derived.now)
+        × AllValued cnf.now.vars trail.new)
+        (λ number. IsConflict (known_clauses cnf.now.clauses derived.now) (value_of trail.new.values.items) number)) }
+{
+    loop {
+        if let Some(conflict) = propagate(watches, trail, cnf, derived)? {
+            return Ok(Some(conflict));
+        }
+        let Some(literal) = choose(order, trail, cnf.vars) else {
+            return Ok(None);
+        };
+        decide(trail, cnf, derived, literal)?;
+    }
+}
+
+/// A literal of the most active variable that has no value, with the value that it had last.
+fn most_active(order: &mut Order, trail: &Trail, vars: u32) -> Option<Lit>
+    ensures { IfSome result (λ l. (l.var < vars) × (value_of trail.now.values.items l.var ≡ None)) }
+{
+    for _ in 0..vars {
+        let Some(var) = order.pop() else {
+            return None;
+        };
+        if var < vars && trail.value(var).is_none() {
+            let positive = order.phase(var);
+            return Some(Lit { var, positive });
+        }
+    }
+    None
+}
+
+/// A literal of a variable that has no value, where there is one.
+fn choose(order: &mut Order, trail: &Trail, vars: u32) -> Option<Lit>
+    ensures { MatchOption result (AllValued vars trail.now)
+        (λ l. (l.var < vars) × (value_of trail.now.values.items l.var ≡ None)) }
+{
+    if let Some(literal) = most_active(order, trail, vars) {
+        return Some(literal);
+    }
+    for var in 0..vars {
+        if trail.value(var).is_none() {
+            return Some(Lit {
+                var,
+                positive: false,
+            });
+        }
+    }
+    None
+}
+
+/// The values of all variables, false where there is none.
+fn all_values(alloc: Global, trail: &Trail) -> Result<Seq<bool>, Want>
+    ensures { IfOk result (λ values. values ≡ map or_false trail.now.values.items) }
+{
+    let mut values = Seq::new(alloc);
+    for value in &trail.values {
+        values.push(value.unwrap_or(false))?;
+    }
+    Ok(values)
+}
+
+/// Goes back to the lowest level at which all marked literals but this one are false.
+fn jump_back(
+    watches: &mut Watches,
+    trail: &mut Trail,
+    order: &mut Order,
+    cnf: &Cnf,
+    derived: &[Seq<Lit>],
+    marks: &Marks,
+    literal: Lit,
+)
+    requires deep { 0 < length trail.old.starts.items }
+    requires ready { IsReady (known_clauses cnf.now.clauses derived.now) trail.old }
+    requires levels { LevelsSettled (known_clauses cnf.now.clauses derived.now) trail.old }
+    requires watching { IsWatching (known_clauses cnf.now.clauses derived.now) trail.old watches.old }
+    requires unit { IsUnit (value_below trail.old) (clause_of marks.now) literal.var literal.positive }
+    ensures ready { IsReady (known_clauses cnf.now.clauses derived.now) trail.new }
+    ensures levels { LevelsSettled (known_clauses cnf.now.clauses derived.now) trail.new }
+    ensures watching { IsWatching (known_clauses cnf.now.clauses derived.now) trail.new watches.new }
+    ensures head { watches.new.head ≡ length trail.new.entries.items }
+    ensures vars { vec_len trail.new.values ≡ vec_len trail.old.values }
+    ensures unit { IsUnit (value_in trail.new.entries.items) (clause_of marks.now) literal.var literal.positive }
+    ensures lowest { OpenAtLevels trail.new (clause_of marks.now) }
+{
+    go_back(trail, order, cnf, derived, marks, literal);
+    watches.head = trail.entries.len();
+}
+
+/// Watches the clause that was learned last.
+fn watch_lesson(
+    watches: &mut Watches,
+    number: u32,
+    literal: Lit,
+    last: Option<Lit>,
+) -> Result<(), Want>
+    requires literal { list_of literal < length watches.old.lists.items }
+    requires last { IfSome last (λ second. list_of second < length watches.old.lists.items) }
+    ensures watched { OnOk result (MatchOption last
+        (IsSkipped watches.old watches.new)
+        (λ second. IsPaired watches.old watches.new number record { first = literal; second = second })) }
+    ensures head { watches.new.head ≡ watches.old.head }
+{
+    let Some(second) = last else {
+        watches.skip()?;
+        return Ok(());
+    };
+    watches.watch(
+        number,
+        Pair {
+            first: literal,
+            second,
+        },
+    )?;
+    Ok(())
+}
+
+/// Adds a learned clause, watches it, and makes its last literal true.
+fn keep(
+    watches: &mut Watches,
+    trail: &mut Trail,
+    cnf: &Cnf,
+    derived: &mut Vec<Seq<Lit>>,
+    lesson: Lesson,
+    number: u32,
+) -> Result<(), Want>
+    requires ready { IsReady (known_clauses cnf.now.clauses derived.old.items) trail.old }
+    requires levels { LevelsSettled (known_clauses cnf.now.clauses derived.old.items) trail.old }
+    requires watching { IsWatching (known_clauses cnf.now.clauses derived.old.items) trail.old watches.old }
+    requires head { watches.old.head ≡ length trail.old.entries.items }
+    requires unit { IsUnit (value_in trail.old.entries.items) (literals lesson.clause) lesson.literal.var lesson.literal.positive }
+    requires lowest { OpenAtLevels trail.old (literals lesson.clause) }
+    requires last { LastFits trail.old.entries.items (literals lesson.clause) lesson.last }
+    requires vars { (v : ℕ) (s : Bool) → literals lesson.clause v s ≡ true → v < vec_len trail.old.values }
+    requires number { length (known_clauses cnf.now.clauses derived.old.items) ≡ number }
+    ensures derived { OnOk result (derived.new.items ≡ derived.old.items ++ lesson.clause ∷ []) }
+    ensures ready { OnOk result (IsReady (known_clauses cnf.now.clauses derived.new.items) trail.new) }
+    ensures levels { OnOk result (LevelsSettled (known_clauses cnf.now.clauses derived.new.items) trail.new) }
+    ensures watching { OnOk result (IsWatching (known_clauses cnf.now.clauses derived.new.items) trail.new watches.new) }
+    ensures all { OnOk result (vec_len trail.new.values ≡ vec_len trail.old.values) }
+{
+    derived.push(lesson.clause)?;
+    trail.assign(lesson.literal, Some(number))?;
+    watch_lesson(watches, number, lesson.literal, lesson.last)?;
+    Ok(())
+}
+
+/// Makes the variables that the analysis used more active.
+fn reward(order: &mut Order, line: &Line, clause: &[Lit]) {
+    for step in line.steps.as_slice() {
+        order.bump(step.var);
+    }
+    for literal in clause {
+        order.bump(literal.var);
+    }
+    order.age();
+}
+
+/// The solver's state between two conflicts: the assignment, the clauses that were learned, and the
+/// lines that derive them.
+#[derive(Drop)]
+pub struct State {
+    pub trail: Trail,
+    pub watches: Watches,
+    pub order: Order,
+    pub marks: Marks,
+    pub derived: Vec<Seq<Lit>>,
+    pub lines: Seq<Line>,
+}
+
+/// Learns a clause from a conflict and makes its last literal true; whether it has a literal.
+fn learn_from(
+    alloc: Global,
+    state: &mut State,
+    cnf: &Cnf,
+    conflict: u32,
+    number: u32,
+) -> Result<bool, Want>
+    requires sound { IsSound cnf.now state.old }
+    requires conflict { IsConflict (known_clauses cnf.now.clauses state.old.derived.items) (value_of state.old.trail.values.items) conflict }
+    requires number { length (known_clauses cnf.now.clauses state.old.derived.items) ≡ number }
+    ensures lines { OnOk result (length state.new.lines ≡ length state.old.lines + 1) }
+    ensures ends { IfOk result (λ more. MatchBool more
+        (IsSound cnf.now state.new)
+        (Refutes cnf.now record { lines = state.new.lines })) }
+{
+    let taught = analyze(
+        alloc,
+        &state.trail,
+        cnf,
+        &state.derived,
+        &mut state.marks,
+        conflict,
+    )?;
+    let Some(literal) = taught.last else {
+        state.lines.push(taught.line)?;
+        return Ok(false);
+    };
+    jump_back(
+        &mut state.watches,
+        &mut state.trail,
+        &mut state.order,
+        cnf,
+        &state.derived,
+        &state.marks,
+        literal,
+    );
+    let last = last_falsified(&state.trail, &state.marks);
+    let clause = state.marks.take(alloc)?;
+    reward(&mut state.order, &taught.line, clause.as_slice());
+    state.lines.push(taught.line)?;
+    let lesson = Lesson {
+        clause,
+        literal,
+        last,
+    };
+    keep(
+        &mut state.watches,
+        &mut state.trail,
+        cnf,
+        &mut state.derived,
+        lesson,
+        number,
+    )?;
+    Ok(true)
+}
+
+/// The state before any clause was looked at.
+fn fresh_state(alloc: Global, cnf: &Cnf) -> Result<State, Want>
+    ensures { IfOk result (λ s. IsFresh cnf.now s) }
+{
+    Ok(State {
+        trail: Trail::new(alloc, cnf.vars)?,
+        watches: Watches::new(alloc, cnf.vars)?,
+        order: Order::new(alloc, cnf.vars)?,
+        marks: Marks::new(alloc),
+        derived: Vec::new(alloc),
+        lines: Seq::new(alloc),
+    })
+}
+
+/// Watches all clauses; one that is false without any decision.
+fn attach_all(state: &mut State, cnf: &Cnf, count: u32) -> Result<Option<u32>, Want>
+    requires vars { VarsFit cnf.now }
+    requires fresh { IsFresh cnf.now state.old }
+    requires count { length cnf.now.clauses ≡ count }
+    ensures lines { state.new.lines ≡ state.old.lines }
+    ensures ends { IfOk result (λ conflict. MatchOption conflict
+        (IsSound cnf.now state.new)
+        (λ number. IsStuck cnf.now state.new number)) }
+{
+    let conflict = attach(
+        &mut state.watches,
+        &mut state.trail,
+        cnf,
+        &state.derived,
+        count,
+    )?;
+    Ok(conflict)
+}
+
+/// Derives the empty clause from a clause that is false without any decision.
+fn refute_at_once(alloc: Global, state: &mut State, cnf: &Cnf, conflict: u32) -> Result<(), Want>
+    requires stuck { IsStuck cnf.now state.old conflict }
+    requires none { state.old.lines ≡ [] }
+    ensures refutes { OnOk result (Refutes cnf.now record { lines = state.new.lines }) }
+    ensures one { OnOk result (length state.new.lines ≡ 1) }
+{
+    let taught = analyze(
+        alloc,
+        &state.trail,
+        cnf,
+        &state.derived,
+        &mut state.marks,
+        conflict,
+    )?;
+    state.lines.push(taught.line)?;
+    Ok(())
+}
+
+/// Assigns and decides until a clause is false, whose number is answered, or each variable has a value.
+fn find_conflict(state: &mut State, cnf: &Cnf) -> Result<Option<u32>, Want>
+    requires sound { IsSound cnf.now state.old }
+    ensures sound { OnOk result (IsSound cnf.now state.new) }
+    ensures lines { state.new.lines ≡ state.old.lines }
+    ensures ends { IfOk result (λ conflict. MatchOption conflict
+        (AllSettled (value_of state.new.trail.values.items) (known_of cnf.now state.new)
+        × AllValued cnf.now.vars state.new.trail)
+        (λ number. IsConflict (known_of cnf.now state.new) (value_of state.new.trail.values.items) number)) }
+{
+    let conflict = search(
+        &mut state.watches,
+        &mut state.trail,
+        &mut state.order,
+        cnf,
+        &state.derived,
+    )?;
+    Ok(conflict)
+}
+
+/// The model that the state has once each variable has a value.
+fn model_of(alloc: Global, state: &State, cnf: &Cnf) -> Result<Seq<bool>, Want>
+    requires sound { IsSound cnf.now state.now }
+    requires settled { AllSettled (value_of state.now.trail.values.items) (known_of cnf.now state.now) }
+    requires valued { AllValued cnf.now.vars state.now.trail }
+    ensures { IfOk result (λ values. IsModelOf cnf.now values) }
+{
+    let values = all_values(alloc, &state.trail)?;
+    Ok(values)
+}
+
+/// Learns clauses until one is empty, each variable has a value, or there are `fuel`.
+fn learn(alloc: Global, state: &mut State, cnf: &Cnf, fuel: u32) -> Result<End, Want>
+    requires vars { VarsFit cnf.now }
+    requires clauses_fit { length cnf.now.clauses < 2 ^ 31 }
+    requires fuel_fits { fuel < 2 ^ 31 }
+    requires fresh { IsFresh cnf.now state.old }
+    ensures { IfOk result (λ end. IsEnd cnf.now fuel record { lines = state.new.lines } end) }
+{
+    if fuel == 0 {
+        return Ok(End::Spent);
+    }
+    let first = cnf.clauses.len() as u32;
+    if let Some(conflict) = attach_all(state, cnf, first)? {
+        refute_at_once(alloc, state, cnf, conflict)?;
+        return Ok(End::Empty);
+    }
+    for learned in 0..fuel {
+        let number = first + learned;
+        let Some(found) = find_conflict(state, cnf)? else {
+            let values = model_of(alloc, state, cnf)?;
+            return Ok(End::Model(values));
+        };
+        let more = learn_from(alloc, state, cnf, found, number)?;
+        if !more {
+            return Ok(End::Empty);
+        }
+    }
+    Ok(End::Spent)
+}
+
+/// Decides the formula, with at most `fuel` learned clauses.
+///
+/// `Refuted` has a log of at most `fuel` lines that [`check`](sy_clauses::check) accepts, `Model` a
+/// value for each variable that makes every clause true. `Fuel` comes where `fuel` clauses were learned
+/// and none is empty; each is new to the clauses before it, so with a fuel of 3 to the number of
+/// variables it never comes. `Want` comes where memory runs out.
+pub fn solve(alloc: Global, cnf: &Cnf, fuel: u32) -> Result<Solved, Want>
+    requires vars { VarsFit cnf.now }
+    requires clauses_fit { length cnf.now.clauses < 2 ^ 31 }
+    requires fuel_fits { fuel < 2 ^ 31 }
+    ensures answer { IfOk result (λ solved. IsAnswer cnf.now fuel solved) }
+    ensures enough { IfOk result (λ solved. 3 ^ cnf.now.vars ≤ fuel → IsDecided solved) }
+{
+    let mut state = fresh_state(alloc, cnf)?;
+    let end = learn(alloc, &mut state, cnf, fuel)?;
+    let log = Log { lines: state.lines };
+    match end {
+        End::Empty => Ok(Solved::Refuted(log)),
+        End::Model(values) => Ok(Solved::Model(values)),
+        End::Spent => Ok(Solved::Fuel(log)),
+    }
+}
+
+#[cfg(test)]
+mod tests {
+    use super::{Solved, solve};
+    use std::alloc::{AllocError, Global};
+    use sy_clauses::{Cnf, Lit, check};
+    use sy_seq::Seq;
+
+    // whether each literal's variable is below `vars`
+    fn clause_fits(literals: &[Lit], vars: u32) -> bool
+        ensures { IsTrue result → (k : ℕ) (l : Lit) → slice_get literals.now k ≡ Some l → l.var < vars }
+    {
+        for literal in literals {
+            if literal.var >= vars {
+                return false;
+            }
+        }
+        true
+    }
+
+    // whether the formula is one that the solver takes
+    fn fits(cnf: &Cnf) -> bool
+        ensures vars { IsTrue result → VarsFit cnf.now }
+        ensures clauses_fit { IsTrue result → length cnf.now.clauses < 2 ^ 31 }
+    {
+        for clause in cnf.clauses.as_slice() {
+            if !clause_fits(clause.as_slice(), cnf.vars) {
+                return false;
+            }
+        }
+        cnf.clauses.len() < 2_147_483_648
+    }
+
+    fn clause(alloc: Global, literals: &[(u32, bool)]) -> Result<Seq<Lit>, AllocError> {
+        let mut out = Seq::new(alloc);
+        for literal in literals {
+            out.push(Lit {
+                var: literal.0,
+                positive: literal.1,
+            })?;
+        }
+        Ok(out)
+    }
+
+    // three pigeons in two holes; pigeon p sits in hole h where variable 2 * p + h is true
+    fn pigeons(alloc: Global) -> Result<Cnf, AllocError> {
+        let mut clauses = Seq::new(alloc);
+        clauses.push(clause(alloc, &[(0, true), (1, true)])?)?;
+        clauses.push(clause(alloc, &[(2, true), (3, true)])?)?;
+        clauses.push(clause(alloc, &[(4, true), (5, true)])?)?;
+        clauses.push(clause(alloc, &[(0, false), (2, false)])?)?;
+        clauses.push(clause(alloc, &[(0, false), (4, false)])?)?;
+        clauses.push(clause(alloc, &[(2, false), (4, false)])?)?;
+        clauses.push(clause(alloc, &[(1, false), (3, false)])?)?;
+        clauses.push(clause(alloc, &[(1, false), (5, false)])?)?;
+        clauses.push(clause(alloc, &[(3, false), (5, false)])?)?;
+        Ok(Cnf { vars: 6, clauses })
+    }
+
+    #[test]
+    fn refutes_three_pigeons_in_two_holes(rt: HostRuntime) -> Result<(), AllocError> {
+        let alloc = rt.alloc();
+        let cnf = pigeons(alloc)?;
+        assert!(rt; fits(&cnf));
+        match solve(alloc, &cnf, 1000)? {
+            Solved::Refuted(log) => assert!(rt; check(alloc, &cnf, &log)?),
+            _ => assert!(rt; false),
+        }
+        match solve(alloc, &cnf, 1)? {
+            Solved::Fuel(log) => assert!(rt; log.lines.len() == 1),
+            _ => assert!(rt; false),
+        }
+        Ok(())
+    }
+
+    #[test]
+    fn finds_a_model(rt: HostRuntime) -> Result<(), AllocError> {
+        let alloc = rt.alloc();
+        let mut clauses = Seq::new(alloc);
+        clauses.push(clause(alloc, &[(0, true), (1, true)])?)?;
+        clauses.push(clause(alloc, &[(0, false)])?)?;
+        let cnf = Cnf { vars: 2, clauses };
+        assert!(rt; fits(&cnf));
+        match solve(alloc, &cnf, 10)? {
+            Solved::Model(values) => {
+                let values = values.as_slice();
+                assert!(rt; values.len() == 2 && !values[0] && values[1]);
+            }
+            _ => assert!(rt; false),
+        }
+        Ok(())
+    }
+
+    #[test]
+    fn refutes_a_literal_and_its_negation(rt: HostRuntime) -> Result<(), AllocError> {
+        let alloc = rt.alloc();
+        let mut clauses = Seq::new(alloc);
+        clauses.push(clause(alloc, &[(0, true)])?)?;
+        clauses.push(clause(alloc, &[(0, false)])?)?;
+        let cnf = Cnf { vars: 1, clauses };
+        assert!(rt; fits(&cnf));
+        match solve(alloc, &cnf, 1)? {
+            Solved::Refuted(log) => assert!(rt; check(alloc, &cnf, &log)?),
+            _ => assert!(rt; false),
+        }
+        match solve(alloc, &cnf, 0)? {
+            Solved::Fuel(log) => assert!(rt; log.lines.len() == 0),
+            _ => assert!(rt; false),
+        }
+        Ok(())
+    }
+
+    // A chain of implications over 400,001 variables, its even links last to first and then its odd
+    // ones, from a true variable to a contradiction: a scan over all clauses, from either end, gains
+    // about two values a pass, so it would need about 200,000 passes.
+    #[test]
+    fn refutes_a_long_chain(rt: HostRuntime) -> Result<(), AllocError> {
+        let alloc = rt.alloc();
+        let last: u32 = 400_000;
+        let mut clauses = Seq::new(alloc);
+        for k in 0..200_000 {
+            let i = 399_998 - 2 * k;
+            clauses.push(clause(alloc, &[(i, false), (i + 1, true)])?)?;
+        }
+        for k in 0..200_000 {
+            let i = 399_999 - 2 * k;
+            clauses.push(clause(alloc, &[(i, false), (i + 1, true)])?)?;
+        }
+        clauses.push(clause(alloc, &[(last - 1, false), (last, false)])?)?;
+        clauses.push(clause(alloc, &[(0, true)])?)?;
+        let cnf = Cnf {
+            vars: last + 1,
+            clauses,
+        };
+        assert!(rt; fits(&cnf));
+        match solve(alloc, &cnf, 1)? {
+            Solved::Refuted(log) => assert!(rt; check(alloc, &cnf, &log)?),
+            _ => assert!(rt; false),
+        }
+        Ok(())
+    }
+}

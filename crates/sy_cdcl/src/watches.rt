@@ -1,0 +1,191 @@
+// Watched literals: each clause of two or more literals watches two of them, and is visited only where
+// one of these becomes false.
+ghost use Rattle.std.specs.Prelude.{◌≡◌, ◌≢◌, ℕ, [], ◌∷◌, ◌++◌, ◌<◌, ◌*◌, length, vec_len, OnOk, IfOk, Some, None, Option, slice_index_or, slice_set, slice_get, IfSome, ◌+◌, ◌^◌};
+ghost use Rattle.std.specs.List.{swap_remove};
+ghost use Rattle.sy_cdcl.specs.Watching.{list_of, list_at, pair_of, enlisted, delisted};
+
+use std::alloc::{AllocError, Global};
+use std::marker::Model;
+use sy_clauses::Lit;
+use sy_seq::Want;
+
+/// The clauses that watch one literal, by their numbers.
+#[derive(Drop)]
+pub struct Watchers {
+    numbers: Vec<u32>,
+}
+
+impl Model for Watchers {
+    ghost use Rattle.std.specs.Prelude.{List, ℕ};
+
+    ghost Value = { List ℕ };
+
+    ghost view = { λ w. w.numbers.items };
+}
+
+impl Watchers {
+    /// No clause.
+    pub fn new(alloc: Global) -> Self
+        ensures { result ≡ [] }
+    {
+        Watchers {
+            numbers: Vec::new(alloc),
+        }
+    }
+
+    /// The clause at a place.
+    pub fn at(&self, place: usize) -> Option<u32>
+        ensures found { result ≡ slice_get self.now place }
+        ensures next { IfSome result (λ _. place + 1 < 2 ^ 64) }
+    {
+        match self.numbers.get(place) {
+            Some(number) => Some(*number),
+            None => None,
+        }
+    }
+
+    /// Adds a clause.
+    pub fn push(&mut self, number: u32) -> Result<(), Want>
+        ensures { OnOk result (self.new ≡ self.old ++ number ∷ []) }
+    {
+        self.numbers.push(number)?;
+        Ok(())
+    }
+
+    /// Takes the clause at a place out; the last one takes its place.
+    pub fn remove(&mut self, place: usize)
+        requires { place < length self.old }
+        ensures { self.new ≡ swap_remove self.old place 0 }
+    {
+        self.numbers.swap_remove(place);
+    }
+}
+
+/// Two literals of a clause.
+#[derive(Clone, Copy, Drop)]
+pub struct Pair {
+    pub first: Lit,
+    pub second: Lit,
+}
+
+/// The pair that each clause watches, the clauses that watch each literal, and how many entries of the
+/// trail were visited. A clause without a pair has a literal that is true at the lowest level.
+#[derive(Drop)]
+pub struct Watches {
+    pub pairs: Vec<Option<Pair>>,
+    pub lists: Vec<Watchers>,
+    pub head: usize,
+}
+
+/// Where the clauses that watch the literal are listed.
+pub fn list_index(literal: Lit) -> usize
+    ensures { result ≡ list_of literal }
+{
+    let place = 2 * literal.var as usize;
+    if literal.positive { place + 1 } else { place }
+}
+
+impl Watches {
+    /// No clause is watched.
+    pub fn new(alloc: Global, vars: u32) -> Result<Watches, Want>
+        ensures pairs { IfOk result (λ w. w.pairs.items ≡ []) }
+        ensures lists { IfOk result (λ w. length w.lists.items ≡ 2 * vars) }
+        ensures head { IfOk result (λ w. w.head ≡ 0) }
+    {
+        let mut lists = Vec::new(alloc);
+        for _ in 0..vars {
+            lists.push(Watchers::new(alloc))?;
+            lists.push(Watchers::new(alloc))?;
+        }
+        Ok(Watches {
+            pairs: Vec::new(alloc),
+            lists,
+            head: 0,
+        })
+    }
+
+    /// The pair of a clause.
+    pub fn pair(&self, number: u32) -> Option<Pair>
+        ensures { result ≡ pair_of self.now.pairs.items number }
+    {
+        match self.pairs.get(number as usize) {
+            Some(pair) => *pair,
+            None => None,
+        }
+    }
+
+    /// The clause at a place of a list.
+    pub fn watcher(&self, list: usize, place: usize) -> Option<u32>
+        ensures found { result ≡ slice_get (list_at self.now.lists.items list) place }
+        ensures next { IfSome result (λ _. place + 1 < 2 ^ 64) }
+    {
+        match self.lists.get(list) {
+            Some(watchers) => watchers.at(place),
+            None => None,
+        }
+    }
+
+    /// Adds a clause to a list.
+    fn enlist(&mut self, list: usize, number: u32) -> Result<(), Want>
+        requires { list < length self.old.lists.items }
+        ensures lists { OnOk result (self.new.lists.items ≡ enlisted self.old.lists.items list number) }
+        ensures pairs { self.new.pairs.items ≡ self.old.pairs.items }
+        ensures head { self.new.head ≡ self.old.head }
+    {
+        self.lists[list].push(number)?;
+        Ok(())
+    }
+
+    /// Takes the clause at a place out of a list.
+    fn delist(&mut self, list: usize, place: usize)
+        requires list { list < length self.old.lists.items }
+        requires place { place < length (list_at self.old.lists.items list) }
+        ensures lists { self.new.lists.items ≡ delisted self.old.lists.items list place }
+        ensures pairs { self.new.pairs.items ≡ self.old.pairs.items }
+        ensures head { self.new.head ≡ self.old.head }
+    {
+        self.lists[list].remove(place);
+    }
+
+    /// Watches the next clause by these two of its literals.
+    pub fn watch(&mut self, number: u32, pair: Pair) -> Result<(), Want>
+        requires first { list_of pair.first < length self.old.lists.items }
+        requires second { list_of pair.second < length self.old.lists.items }
+        ensures lists { OnOk result (self.new.lists.items ≡
+            enlisted (enlisted self.old.lists.items (list_of pair.first) number) (list_of pair.second) number) }
+        ensures pairs { OnOk result (self.new.pairs.items ≡ self.old.pairs.items ++ Some pair ∷ []) }
+        ensures head { self.new.head ≡ self.old.head }
+    {
+        self.pairs.push(Some(pair))?;
+        self.enlist(list_index(pair.first), number)?;
+        self.enlist(list_index(pair.second), number)?;
+        Ok(())
+    }
+
+    /// Gives the next clause no pair.
+    pub fn skip(&mut self) -> Result<(), Want>
+        ensures lists { self.new.lists.items ≡ self.old.lists.items }
+        ensures pairs { OnOk result (self.new.pairs.items ≡ self.old.pairs.items ++ None ∷ []) }
+        ensures head { self.new.head ≡ self.old.head }
+    {
+        self.pairs.push(None)?;
+        Ok(())
+    }
+
+    /// Gives the clause at a place of a list another pair, whose second literal is new.
+    pub fn change(&mut self, list: usize, place: usize, number: u32, pair: Pair) -> Result<(), Want>
+        requires number { number < length self.old.pairs.items }
+        requires list { list < length self.old.lists.items }
+        requires place { place < length (list_at self.old.lists.items list) }
+        requires second { list_of pair.second < length self.old.lists.items }
+        ensures lists { OnOk result (self.new.lists.items ≡
+            enlisted (delisted self.old.lists.items list place) (list_of pair.second) number) }
+        ensures pairs { OnOk result (self.new.pairs.items ≡ slice_set self.old.pairs.items number (Some pair)) }
+        ensures head { self.new.head ≡ self.old.head }
+    {
+        self.delist(list, place);
+        self.pairs[number as usize] = Some(pair);
+        self.enlist(list_index(pair.second), number)?;
+        Ok(())
+    }
+}

@@ -1,0 +1,6 @@
+pub mod Grown
+pub mod Patterns
+pub mod Questions
+pub mod Solving
+pub mod Trees
+pub mod Written
