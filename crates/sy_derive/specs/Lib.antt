@@ -1,0 +1,5 @@
+pub mod Filled
+pub mod Noted
+pub mod Notes
+pub mod Rows
+pub mod Steps
