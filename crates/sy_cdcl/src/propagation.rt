@@ -1,10 +1,10 @@
 // Unit propagation.
-ghost use Rattle.std.specs.Prelude.{◌≡◌, ◌<◌, ◌≤◌, ◌+◌, ◌++◌, ◌∷◌, ℕ, [], not, true, false, length, vec_len, slice_get, Some, None, OnOk, IfOk, MatchOption, MatchBool};
+ghost use Rattle.std.specs.Prelude.{◌≡◌, ◌<◌, ◌≤◌, ◌+◌, ◌++◌, ◌∷◌, ℕ, [], not, true, false, length, vec_len, slice_get, Some, None, OnOk, IfOk, MatchOption, MatchBool, ◌⊎◌};
 ghost use Rattle.sy_clauses.specs.New.{AllSettled, IsFalse, HasTrue};
 ghost use Rattle.sy_clauses.specs.Clauses.{literals, same_literal, known_clauses, IsEmpty};
 ghost use Rattle.sy_cdcl.specs.Trails.{value_of, IsReady, Extends, VarsBelow, LevelsSettled};
 ghost use Rattle.sy_cdcl.specs.Status.{IsConflict};
-ghost use Rattle.sy_cdcl.specs.Watching.{AllWatched, IsWatching, IsAttached};
+ghost use Rattle.sy_cdcl.specs.Watching.{AllWatched, IsWatching, IsAttached, pair_of};
 ghost use Rattle.sy_cdcl.specs.Visits.{IsFalseBut, IsOther, IsApart, IsBeside, Suits, Fits, MayForce, IsOnly, IsAnother};
 
 use crate::trail::{Entry, Trail, Truth};
@@ -42,6 +42,18 @@ fn beside(pair: Pair, literal: Lit) -> Option<Lit>
         return Some(pair.first);
     }
     None
+}
+
+/// The literal of the pair that is likely not this one: it looks at the variables alone, and takes no
+/// branch where the processor can choose.
+fn likely_other(pair: Pair, literal: Lit) -> Lit
+    ensures { (result ≡ pair.first) ⊎ (result ≡ pair.second) }
+{
+    if pair.first.var == literal.var {
+        pair.second
+    } else {
+        pair.first
+    }
 }
 
 /// A literal of the clause that isn't false, other than this one.
@@ -91,6 +103,30 @@ fn inspect(trail: &Trail, clause: &[Lit], other: Lit) -> Outcome
     Outcome::Conflict
 }
 
+/// What becomes of the clause of this number, which watches this pair, where the literal has become false.
+fn examine(
+    watches: &Watches,
+    trail: &Trail,
+    cnf: &Cnf,
+    derived: &[Seq<Lit>],
+    number: u32,
+    pair: Pair,
+    falsified: Lit,
+) -> Outcome
+    requires agrees { IsReady (known_clauses cnf.now.clauses derived.now) trail.now }
+    requires watched { AllWatched (known_clauses cnf.now.clauses derived.now) trail.now watches.now.head watches.now.pairs.items }
+    requires pair { pair_of watches.now.pairs.items number ≡ Some pair }
+    ensures { Fits (known_clauses cnf.now.clauses derived.now) (value_of trail.now.values.items) watches.now.pairs.items falsified number result }
+{
+    let Some(other) = beside(pair, falsified) else {
+        return Outcome::Stay;
+    };
+    let Some(clause) = clause_at(cnf, derived, number) else {
+        return Outcome::Stay;
+    };
+    inspect(trail, clause, other)
+}
+
 /// What becomes of the clause of this number, where the literal has become false.
 fn judge(
     watches: &Watches,
@@ -107,13 +143,10 @@ fn judge(
     let Some(pair) = watches.pair(number) else {
         return Outcome::Stay;
     };
-    let Some(other) = beside(pair, falsified) else {
+    if trail.is_true(likely_other(pair, falsified)) {
         return Outcome::Stay;
-    };
-    let Some(clause) = clause_at(cnf, derived, number) else {
-        return Outcome::Stay;
-    };
-    inspect(trail, clause, other)
+    }
+    examine(watches, trail, cnf, derived, number, pair, falsified)
 }
 
 /// Makes the last literal of a unit clause true, with the clause's number as the reason.

@@ -80,6 +80,18 @@ impl Trail {
         }
     }
 
+    /// Whether the literal is true.
+    pub fn is_true(&self, literal: Lit) -> bool
+        ensures { MatchBool result
+            (value_of self.now.values.items literal.var ≡ Some literal.positive)
+            (value_of self.now.values.items literal.var ≢ Some literal.positive) }
+    {
+        match self.value(literal.var) {
+            Some(value) => value == literal.positive,
+            None => false,
+        }
+    }
+
     /// Whether the literal is false.
     pub fn is_false(&self, literal: Lit) -> bool
         ensures { MatchBool result

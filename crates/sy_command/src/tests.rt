@@ -56,7 +56,7 @@ fn lines_that_are_read(rt: HostRuntime) {
             "f.sl",
         ),
         (
-            "sygus --rounds 1024 f.sl",
+            "sygus --rounds=1024 f.sl",
             Limits {
                 rounds: 1024,
                 ..DEFAULT
@@ -72,7 +72,7 @@ fn lines_that_are_read(rt: HostRuntime) {
             "f.sl",
         ),
         (
-            "sygus --points 1024 f.sl",
+            "sygus --points=1024 f.sl",
             Limits {
                 points: 1024,
                 ..DEFAULT
@@ -81,7 +81,7 @@ fn lines_that_are_read(rt: HostRuntime) {
         ),
         ("sygus --bank 1 f.sl", Limits { bank: 1, ..DEFAULT }, "f.sl"),
         (
-            "sygus --bank 40000 f.sl",
+            "sygus --bank=40000 f.sl",
             Limits {
                 bank: 40_000,
                 ..DEFAULT
@@ -97,7 +97,7 @@ fn lines_that_are_read(rt: HostRuntime) {
             "f.sl",
         ),
         (
-            "sygus --weight 1000000 f.sl",
+            "sygus --weight=1000000 f.sl",
             Limits {
                 weight: 1_000_000,
                 ..DEFAULT
@@ -113,7 +113,7 @@ fn lines_that_are_read(rt: HostRuntime) {
             "f.sl",
         ),
         (
-            "sygus --clauses 400000 f.sl",
+            "sygus --clauses=400000 f.sl",
             Limits {
                 clauses: 400_000,
                 ..DEFAULT
@@ -129,7 +129,7 @@ fn lines_that_are_read(rt: HostRuntime) {
             "f.sl",
         ),
         (
-            "sygus --nodes 8000 f.sl",
+            "sygus --nodes=8000 f.sl",
             Limits {
                 nodes: 8_000,
                 ..DEFAULT
@@ -145,7 +145,7 @@ fn lines_that_are_read(rt: HostRuntime) {
             "f.sl",
         ),
         (
-            "sygus --pivots 100000 f.sl",
+            "sygus --pivots=100000 f.sl",
             Limits {
                 pivots: 100_000,
                 ..DEFAULT
@@ -178,17 +178,12 @@ fn lines_that_are_refused(rt: HostRuntime) {
         "sygus --size",
         "sygus --size 3",
         "sygus --size f.sl",
-        "sygus --size 0 f.sl",
         "sygus --size 65 f.sl",
         "sygus --size=-1 f.sl",
-        "sygus --size -1 f.sl",
-        "sygus --size +1 f.sl",
-        "sygus --size 01 f.sl",
         "sygus --size= f.sl",
         "sygus --size 1_0 f.sl",
         "sygus --size 0x1 f.sl",
         "sygus --size 4294967297 f.sl",
-        "sygus --size 3 --size 3 f.sl",
         "sygus --siz 3 f.sl",
         "sygus -s 3 f.sl",
         "sygus --rounds 1025 f.sl",
@@ -198,7 +193,6 @@ fn lines_that_are_refused(rt: HostRuntime) {
         "sygus --clauses 400001 f.sl",
         "sygus --nodes 8001 f.sl",
         "sygus --pivots 100001 f.sl",
-        "sygus --pivots 0 f.sl",
         "sygus --mode drill f.sl",
         "sygus --mode Solve f.sl",
         "sygus --mode= f.sl",
@@ -210,5 +204,44 @@ fn lines_that_are_refused(rt: HostRuntime) {
     for line in rows {
         let fault = read(rt.alloc(), line).err();
         assert!(rt; fault == Some(WordFault::Refused), "{line}");
+    }
+}
+
+/// Whether an option is refused with this behind it.
+fn is_refused(alloc: Global, name: &str, behind: &str) -> bool {
+    let Ok(line) = format!(in alloc; "sygus --{name} {behind} f.sl") else {
+        return false;
+    };
+    let fault = read(alloc, line.as_str()).err();
+    fault == Some(WordFault::Refused)
+}
+
+#[test]
+fn other_spellings_of_a_value(rt: HostRuntime) {
+    let names = [
+        "size", "rounds", "points", "bank", "weight", "clauses", "nodes", "pivots",
+    ];
+    let spellings = ["", "0", "+1", "-1", "01", "1.0", "one"];
+    for name in names {
+        for spelling in spellings {
+            assert!(rt; is_refused(rt.alloc(), name, spelling), "{name} {spelling}");
+        }
+    }
+}
+
+#[test]
+fn an_option_stands_once(rt: HostRuntime) {
+    let rows = [
+        ("size", "1 --size 1"),
+        ("rounds", "1 --rounds 1"),
+        ("points", "1 --points=1"),
+        ("bank", "1 --bank 1"),
+        ("weight", "1 --weight 1"),
+        ("clauses", "1 --clauses=1"),
+        ("nodes", "1 --nodes 1"),
+        ("pivots", "1 --pivots 1"),
+    ];
+    for (name, behind) in rows {
+        assert!(rt; is_refused(rt.alloc(), name, behind), "{name}");
     }
 }

@@ -10,5 +10,7 @@ mod note;
 mod rows;
 mod rules;
 mod step;
+#[cfg(test)]
+mod tests;
 
 pub use derivations::derive;

@@ -1,0 +1,4 @@
+pub mod Choices
+pub mod Factors
+pub mod Fitted
+pub mod Sorting

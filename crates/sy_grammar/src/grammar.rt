@@ -1,6 +1,8 @@
 // Grammars.
-ghost use Rattle.std.specs.Prelude.{◌≡◌};
+ghost use Rattle.std.specs.Prelude.{◌≡◌, true};
 ghost use Rattle.std.specs.Option.{option_map};
+ghost use Rattle.sy_terms.specs.Definitions.{scope_of};
+ghost use Rattle.sy_grammar.specs.Formed.{is_formed, syntax_with};
 ghost use Rattle.sy_grammar.specs.Written.{pattern_of};
 ghost use Rattle.sy_grammar.specs.Trees.{template_at};
 ghost use Rattle.sy_grammar.specs.Grown.{syntax_from};
@@ -31,8 +33,9 @@ pub struct Grammar<T: Theory> {
 }
 
 impl<T: Theory> Grammar<T> {
-    /// The grammar of these nonterminals over arguments of these sorts.
+    /// The grammar of these nonterminals over arguments of these sorts, under these definitions.
     pub fn new(args: Seq<Sort>, nons: Seq<Non<T>>, _defs: &Defs<T>) -> Grammar<T>
+        requires formed { is_formed T.numeric (scope_of T.owned _defs.now) (syntax_with T.denotes args nons) ≡ true }
         ensures args { result.args ≡ args }
         ensures nons { result.nons ≡ nons }
     {

@@ -176,7 +176,7 @@ fn evaluate_all<T: Theory>(
 }
 
 /// One list after the other.
-fn joined<X: Copy>(alloc: Global, first: &[X], second: &[X]) -> Result<Vec<X>, Want>
+pub(crate) fn joined<X: Copy>(alloc: Global, first: &[X], second: &[X]) -> Result<Vec<X>, Want>
     ensures { IfOk result (λ all. all.items ≡ first.now ++ second.now) }
 {
     let mut all = Vec::new(alloc);

@@ -2,9 +2,13 @@
 #![tactic(auto)]
 
 mod evaluation;
+mod fitting;
+#[cfg(test)]
+mod tests;
 mod trace;
 
 pub use evaluation::{Eval, evaluate, evaluate_with};
+pub use fitting::{Signature, term_sort, value_sorts};
 pub use sy_integers::IntTheory;
 pub use sy_words::{BvTheory, Word};
 pub use trace::Trace;

@@ -1,24 +1,20 @@
 // The program: it reads one file of commands and answers each `check-synth`.
 #![tactic(auto)]
 
-mod answers;
-mod form;
-mod items;
-mod job;
-mod reserved;
-mod run;
 #[cfg(test)]
 mod tests;
-mod text;
-mod words;
 
 use std::env;
+use std::io::ErrorKind;
 use std::process::ExitCode;
 use sy_io::{FileSource, StdSink};
+use sy_run::run;
 
 fn main(rt: HostRuntime) -> ExitCode {
-    let Ok(words) = env::args(&rt) else {
-        return ExitCode::from(3);
+    let words = match env::args(&rt) {
+        Ok(words) => words,
+        Err(error) if error.kind() == ErrorKind::OutOfMemory => return ExitCode::from(6),
+        Err(_) => return ExitCode::from(3),
     };
     let Ok(words) = words.collect::<Vec<String>>(rt.alloc()) else {
         return ExitCode::from(6);
@@ -26,7 +22,7 @@ fn main(rt: HostRuntime) -> ExitCode {
     let mut source = FileSource::new(&rt);
     let mut out = StdSink::out(&rt);
     let mut err = StdSink::err(&rt);
-    let ended = run::run(
+    let ended = run(
         rt.alloc(),
         words.as_slice(),
         &mut source,

@@ -1,8 +1,8 @@
 // Runs over sources and sinks in memory.
-use crate::run::run;
 use std::alloc::Global;
 use std::process::Abort;
 use sy_io::{MemSink, MemSource};
+use sy_run::run;
 
 /// A file with one example.
 const FIRST: &[u8] =
@@ -12,94 +12,79 @@ const FIRST: &[u8] =
 const FAILING: &[u8] =
     b"(set-logic BV)\n(synth-fun f ((x (_ BitVec 8))) (_ BitVec 8)\n  ((S (_ BitVec 8)))\n  ((S (_ BitVec 8) (x (bvadd x #x01)))))\n(constraint (= (f #x05) #x07))\n(check-synth)\n";
 
-/// Runs on a file and compares the status and what was written.
-fn expect<R: Abort>(
+/// The reply to the first file.
+const REPLY: &[u8] = b"(\n(define-fun f ((x (_ BitVec 8))) (_ BitVec 8) (bvadd x #x01))\n)\n";
+
+/// Whether a run on a file under the name `f.sl` ends with this status and has written these bytes. Reads and
+/// writes to the output are numbered from 1, and these fail.
+fn ends<R: Abort>(
     rt: &R,
     alloc: Global,
-    words: &[String],
+    line: &str,
     file: &[u8],
-    failing: &[u64],
-    status: u8,
-    out_text: &[u8],
-    err_text: &[u8],
-) {
-    let mut source = MemSource::new(alloc, "f.sl", file, 4096, failing).expect(rt, "a source");
-    let mut out = MemSink::new(alloc, 65536, 4096, &[]).expect(rt, "a sink");
-    let mut err = MemSink::new(alloc, 65536, 4096, &[]).expect(rt, "a sink");
-    let ended = run(alloc, words, &mut source, &mut out, &mut err);
-    assert!(rt; ended.status == status);
-    assert!(rt; out.written() == out_text);
-    assert!(rt; err.written() == err_text);
-}
-
-/// The words `sygus f.sl`.
-fn two_words<R: Abort>(rt: &R, alloc: Global) -> Vec<String> {
+    failing: (&[u64], &[u64]),
+    expected: (u8, &[u8], &[u8]),
+) -> bool {
     let mut words = Vec::new(alloc);
-    words
-        .push(String::from_str(alloc, "sygus").expect(rt, "a word"))
-        .expect(rt, "a list");
-    words
-        .push(String::from_str(alloc, "f.sl").expect(rt, "a word"))
-        .expect(rt, "a list");
-    words
+    for word in line.split(' ') {
+        words
+            .push(String::from_str(alloc, word).expect(rt, "a word"))
+            .expect(rt, "a list");
+    }
+    let (reads, writes) = failing;
+    let mut source = MemSource::new(alloc, "f.sl", file, 4096, reads).expect(rt, "a source");
+    let mut out = MemSink::new(alloc, 65536, 3, writes).expect(rt, "a sink");
+    let mut err = MemSink::new(alloc, 65536, 4096, &[]).expect(rt, "a sink");
+    let ended = run(alloc, words.as_slice(), &mut source, &mut out, &mut err);
+    let (status, replies, lines) = expected;
+    ended.status == status && out.written() == replies && err.written() == lines
 }
 
 #[test]
 fn every_status_has_its_texts(rt: HostRuntime) {
     let alloc = rt.alloc();
-    let words = two_words(&rt, alloc);
-    expect(
-        &rt,
-        alloc,
-        words.as_slice(),
-        FIRST,
-        &[],
-        0,
-        b"(\n(define-fun f ((x (_ BitVec 8))) (_ BitVec 8) (bvadd x #x01))\n)\n",
-        b"",
+    let failed: &[u8] = b"fail: check-synth 1 Size\n";
+    let refused: &[u8] = b"refused: words\n";
+    let not_built: &[u8] = b"refused: command 1 line 1 column 1 cause 17 NotBuilt\n";
+    let none: &[u8] = b"";
+    let fail: &[u8] = b"fail\n";
+    let logic: &[u8] = b"(set-logic LIA)";
+    let rows = [
+        ("sygus f.sl", FIRST, (0, REPLY, none)),
+        ("sygus --size 3 -- f.sl", FIRST, (0, REPLY, none)),
+        ("sygus f.sl --size=2", FIRST, (1, fail, failed)),
+        ("sygus f.sl", FAILING, (1, fail, failed)),
+        ("sygus f.sl", logic, (2, none, not_built)),
+        ("sygus g.sl", FIRST, (2, none, not_built)),
+        ("sygus", FIRST, (3, none, refused)),
+        ("sygus --size 65 f.sl", FIRST, (3, none, refused)),
+    ];
+    for (line, file, expected) in rows {
+        assert!(rt; ends(&rt, alloc, line, file, (&[], &[]), expected));
+    }
+}
+
+#[test]
+fn a_read_and_a_write_that_fail(rt: HostRuntime) {
+    let alloc = rt.alloc();
+    assert!(rt;
+        ends(
+            &rt,
+            alloc,
+            "sygus f.sl",
+            FIRST,
+            (&[1], &[]),
+            (4, b"", b"fault: read\n")
+        )
     );
-    expect(
-        &rt,
-        alloc,
-        words.as_slice(),
-        FIRST,
-        &[1],
-        4,
-        b"",
-        b"fault: read\n",
-    );
-    expect(
-        &rt,
-        alloc,
-        words.as_slice(),
-        FAILING,
-        &[],
-        1,
-        b"fail\n",
-        b"fail: check-synth 1 Size\n",
-    );
-    expect(
-        &rt,
-        alloc,
-        words.as_slice(),
-        b"(set-logic LIA)",
-        &[],
-        2,
-        b"",
-        b"refused: command 1 line 1 column 1 cause 17 NotBuilt\n",
-    );
-    let mut alone = Vec::new(alloc);
-    alone
-        .push(String::from_str(alloc, "sygus").expect(&rt, "a word"))
-        .expect(&rt, "a list");
-    expect(
-        &rt,
-        alloc,
-        alone.as_slice(),
-        FIRST,
-        &[],
-        3,
-        b"",
-        b"refused: words\n",
+    assert!(rt;
+        ends(
+            &rt,
+            alloc,
+            "sygus f.sl",
+            FIRST,
+            (&[], &[2]),
+            (5, b"(\n(", b"")
+        )
     );
 }

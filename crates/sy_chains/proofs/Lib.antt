@@ -1,0 +1,10 @@
+pub mod Best
+pub mod Derived
+pub mod Held
+pub mod Improved
+pub mod LeafTables
+pub mod Lists
+pub mod Magnitudes
+pub mod Marks
+pub mod PartSizes
+pub mod Tabled

@@ -1,0 +1,13 @@
+// Chain rules of grammars, and the largest sizes of derivations.
+#![tactic(auto)]
+
+mod chains;
+mod constants;
+mod greatest;
+mod leaves;
+mod table;
+#[cfg(test)]
+mod tests;
+
+pub use chains::chain_closure;
+pub use greatest::largest;

@@ -1,0 +1,12 @@
+// The grammars of functions that are declared without one.
+#![tactic(auto)]
+
+mod grammar;
+mod integers;
+mod rules;
+#[cfg(test)]
+mod tests;
+mod vectors;
+mod widths;
+
+pub use grammar::default_grammar;

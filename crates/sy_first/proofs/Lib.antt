@@ -1,0 +1,4 @@
+pub mod Traverse
+pub mod Commands
+pub mod Sound
+pub mod Reading

@@ -1,0 +1,3 @@
+pub mod Filling
+pub mod Members
+pub mod Numbering

@@ -1,0 +1,2 @@
+// Laws of members of grammars.
+#![tactic(auto)]

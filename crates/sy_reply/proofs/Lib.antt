@@ -1,0 +1,4 @@
+pub mod Checks
+pub mod Fitting
+pub mod Members
+pub mod Written

@@ -1,0 +1,16 @@
+pub mod Measured
+pub mod Serving
+pub mod Gathered
+pub mod Meant
+pub mod Table
+pub mod Seen
+pub mod Views
+pub mod Readings
+pub mod Parts
+pub mod Environments
+pub mod Sorts
+pub mod Operators
+pub mod Phrases
+pub mod Measures
+pub mod Terms
+pub mod Rules

@@ -1,0 +1,60 @@
+// The texts of answers.
+ghost use Rattle.std.specs.Prelude.{◌≡◌, IfOk};
+ghost use Rattle.sy_grammar.specs.Questions.{question_of};
+ghost use Rattle.sy_words.specs.Vectors.{vector};
+ghost use Rattle.sy_run.specs.Answers.{HasMembers, IsAnswerable};
+ghost use Rattle.sy_run.specs.Texts as texts;
+
+use std::alloc::Global;
+use sy_causes::Titles;
+use sy_grammar::Problem;
+use sy_io::Bytes;
+use sy_limits::FailName;
+use sy_lines::fail_line;
+use sy_loop::Plain;
+use sy_reply::reply_text;
+use sy_seq::Want;
+use sy_words::BvTheory;
+
+/// The text of the answer to a `check-synth`: definitions, or the line `fail`.
+#[tactic(auto, unfolding(crate::specs::Texts::answer_text))]
+pub(crate) fn answer_text(
+    alloc: Global,
+    titles: &Titles,
+    problem: &Problem<BvTheory>,
+    answer: &Plain<BvTheory>,
+) -> Result<Bytes, Want>
+    requires answerable { IsAnswerable titles.now (question_of vector problem.now) }
+    requires members { HasMembers (question_of vector problem.now) answer.now }
+    ensures { IfOk result (λ text. text ≡ texts.answer_text titles.now (question_of vector problem.now) answer.now) }
+{
+    match answer {
+        Plain::Found(bodies) => {
+            let text = reply_text(alloc, titles, problem, bodies)?;
+            Ok(text)
+        }
+        Plain::Size => {
+            let mut text = Bytes::new(alloc);
+            text.append(b"fail\n")?;
+            Ok(text)
+        }
+    }
+}
+
+/// The line for the answer to a `check-synth`, empty where it gives definitions.
+#[tactic(auto, unfolding(crate::specs::Texts::answer_line))]
+pub(crate) fn answer_line(
+    alloc: Global,
+    check: u32,
+    answer: &Plain<BvTheory>,
+) -> Result<Bytes, Want>
+    ensures { IfOk result (λ text. text ≡ texts.answer_line check answer.now) }
+{
+    match answer {
+        Plain::Found(_) => Ok(Bytes::new(alloc)),
+        Plain::Size => {
+            let line = fail_line(alloc, check, FailName::Size)?;
+            Ok(line)
+        }
+    }
+}

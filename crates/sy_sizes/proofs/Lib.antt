@@ -1,0 +1,3 @@
+pub mod BinaryDigits
+pub mod NodeSizes
+pub mod PoolMembers

@@ -1,0 +1,10 @@
+// Sizes of derivations.
+#![tactic(auto)]
+
+mod constants;
+mod sizes;
+#[cfg(test)]
+mod tests;
+
+pub use constants::{constant_size, digits, number_of};
+pub use sizes::derivation_size;

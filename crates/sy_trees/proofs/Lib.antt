@@ -1,0 +1,4 @@
+pub mod Lowest
+pub mod Folding
+pub mod Accepting
+pub mod Refuting

@@ -1,6 +1,0 @@
-pub mod Steps
-pub mod Written
-pub mod Traverse
-pub mod Commands
-pub mod Sound
-pub mod Reading
