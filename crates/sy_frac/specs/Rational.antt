@@ -389,3 +389,8 @@ over_negative (negsuc n) d = below (ltb 0 (suc n)) refl
     below : (t : Bool) → ltb 0 (suc n) ≡ t → t ≡ true
     below true e = refl
     below false e = absurd (omega (arith, ltb-false 0 (suc n) e))
+
+-- the number 1 as a fraction
+pub one_over : over (pos 1) 1 ≡ 1ℚ
+unfolding over Same ratio_over 1ℚ one_ratio
+one_over = sound {r = Same} refl

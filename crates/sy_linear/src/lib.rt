@@ -16,6 +16,6 @@ mod walk;
 
 pub use answer::Known;
 pub use path::{Fact, Path, Test};
-pub use queries::{known, known_under};
+pub use queries::{is_numbered, known, known_under};
 pub use sy_forms::{Form, FormEnd};
 pub use tree::{CheckEnd, Tree};

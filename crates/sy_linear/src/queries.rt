@@ -10,7 +10,7 @@ use crate::answer::Known;
 use crate::path::{Fact, Path, given};
 use crate::sight::{Seen, Sight};
 use crate::walk::walk;
-use std::alloc::Global;
+use std::alloc::{AllocError, Global};
 use sy_forms::Form;
 use sy_integers::IntTheory;
 use sy_query::Query;
@@ -76,6 +76,17 @@ fn known_of(seen: Seen) -> Known
     }
 }
 
+/// How many nodes and variables a query may have, so that numbers of 32 bits count them.
+const MOST: usize = 1 << 31;
+
+/// Whether numbers of 32 bits count the query's nodes and variables: it has fewer than 2^31 of each.
+pub fn is_numbered(q: &Query<IntTheory>) -> bool
+    ensures nodes { result ≡ true → nodes (query_of q.now).body < 2 ^ 31 }
+    ensures vars { result ≡ true → length q.now.vars < 2 ^ 31 }
+{
+    q.vars.len() < MOST && q.body.size(MOST as u64) < MOST as u64
+}
+
 /// What the facts tell of the query, as `known` says it.
 pub fn known_under(alloc: Global, q: &Query<IntTheory>, facts: &[Fact]) -> Result<Known, Want>
     requires nodes { nodes (query_of q.now).body < 2 ^ 31 }
@@ -94,14 +105,16 @@ pub fn known_under(alloc: Global, q: &Query<IntTheory>, facts: &[Fact]) -> Resul
 /// What the path tells of the query. A sum, a difference, a product and each test of a comparison is a linear form
 /// where 128 bits hold its numbers; a test is answered where its form is constant, or where it or its negation stands
 /// in the path. Only nodes that known conditions don't leave out are looked at. A product of two terms that vary, an
-/// operator that isn't of linear arithmetic and a call count as forms that don't fit.
+/// operator that isn't of linear arithmetic and a call count as forms that don't fit. A query of 2^31 nodes or variables
+/// is answered as want of memory.
 pub fn known(alloc: Global, q: &Query<IntTheory>, path: &Path) -> Result<Known, Want>
-    requires nodes { nodes (query_of q.now).body < 2 ^ 31 }
-    requires vars { length q.now.vars < 2 ^ 31 }
     ensures known { IfOk result (λ k. k ≡ spec.query_known (query_of q.now) path.now.facts) }
     ensures right { IfOk result (λ k. IsRight (query_of q.now) path.now.facts k) }
     ensures range { Fits (query_of q.now) → IfOk result (λ k. IsMisfit (query_of q.now) path.now.facts k) }
 {
+    if !is_numbered(q) {
+        return Err(AllocError);
+    }
     let answer = known_under(alloc, q, path.facts.as_slice())?;
     Ok(answer)
 }

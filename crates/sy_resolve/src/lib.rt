@@ -16,6 +16,8 @@ mod rule;
 mod sorts;
 mod table;
 mod term;
+#[cfg(test)]
+mod tests;
 mod written;
 
 pub use environment::{Environment, place_among};
@@ -23,7 +25,7 @@ pub use fault::{Fault, ReadEnd};
 pub use measure::Measures;
 pub use names::{Entity, Named, Role};
 pub use operators::is_reserved;
-pub use parts::{Rest, is, is_symbol, numeral, place_of, symbol, symbol_in};
+pub use parts::{Indices, Rest, is, is_symbol, numeral, place_of, symbol, symbol_in};
 pub use phrase::{Phrase, Phrases, Typed};
 pub use rule::{Ruling, constant_groups, read_rule, read_whole};
 pub use sorts::read_sort;

@@ -10,7 +10,7 @@ use sy_text::{Atom, Name, Place, Sexp, Sexps};
 
 /// The indices of an identifier: one, two, or more.
 #[derive(Clone, Copy, Debug, PartialEq, Eq)]
-pub(crate) enum Indices {
+pub enum Indices {
     One(u128),
     Two(u128, u128),
     More,

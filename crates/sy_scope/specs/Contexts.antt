@@ -1,9 +1,9 @@
 -- What the commands so far declare and ask for.
-use Rattle.std.specs.Prelude.{ℕ, ◌+◌, List, [], ◌∷◌, ◌++◌, map, length, Bool, ◌||◌, nat_le, nat_lt, is_some, Option, None, Ok, bytes_eq, codes, if◌then◌else◌}
-use Rattle.std.specs.List.{list_any}
+use Rattle.std.specs.Prelude.{ℕ, ◌+◌, List, [], ◌∷◌, ◌++◌, map, length, Bool, ◌||◌, nat_le, nat_lt, is_some, Option, Some, None, Ok, bytes_eq, codes, if◌then◌else◌}
 use Rattle.sy_text.specs.declared.atom.Place.{Place}
-use Rattle.sy_terms.specs.Values.{Val, same}
+use Rattle.sy_terms.specs.Values.{Val}
 use Rattle.sy_terms.specs.Expr.{Expr}
+use Rattle.sy_terms.specs.Fitting.{Signature}
 use Rattle.sy_terms.specs.declared.sort.Logic.{Logic}
 use Rattle.sy_terms.specs.declared.sort.Sort.{Sort}
 use Rattle.sy_causes.specs.declared.cause.Cause.TheVariants as cause
@@ -16,6 +16,7 @@ use Rattle.sy_resolve.specs.Measures.{Measures}
 use Rattle.sy_resolve.specs.Operators.{is_reserved}
 use Rattle.sy_resolve.specs.Phrases.{Phrase, expr_at}
 use Rattle.sy_resolve.specs.Readings.{Reading, refuse}
+use Rattle.sy_productions.specs.Lists.{sorts_of}
 
 -- a definition: its name, its arguments, its value's sort, and its body
 pub record Definition : Type 0 where
@@ -70,6 +71,10 @@ beginning = record {
   questions = [];
 }
 
+-- the same in a logic
+abbrev pub with_logic : Logic → Context → Context
+with_logic logic context = record context { logic = Some logic }
+
 -- declared names and fresh variables together
 abbrev pub names_used : Context → ℕ
 names_used context = length context.sorts + length context.entities + context.fresh
@@ -77,10 +82,6 @@ names_used context = length context.sorts + length context.entities + context.fr
 -- there is room for so many names more
 abbrev pub has_room : Context → ℕ → Bool
 has_room context names = nat_le (names_used context + names) 4096
-
--- the sorts of names
-abbrev pub sorts_of : List Named → List Sort
-sorts_of named = map (λ (x : Named). x.sort) named
 
 -- a new name of a variable or a function
 abbrev pub new_name : Context → Logic → Place → List ℕ → Reading (List ℕ)
@@ -107,16 +108,17 @@ new_sort_name context logic at name =
     else if has_room context 1 then Ok name
     else refuse at cause.TooMany
 
--- the pool with the values that are new to it, in order
-abbrev pub pooled : List Val → List Val → List Val
-pooled pool [] = pool
-pooled pool (value ∷ values) = pooled (if list_any (same value) pool then pool else pool ++ value ∷ []) values
-
 -- Questions
 
 abbrev pub condition_at : ℕ → Condition → Expr
 condition_at variables (Written phrase) = expr_at variables phrase
 condition_at variables (Expanded term) = term
+
+abbrev pub signature_of : Definition → Signature
+signature_of d = record { takes = sorts_of d.arguments; gives = d.sort }
+
+abbrev pub body_of : Definition → Expr
+body_of d = expr_at (length d.arguments) d.body
 
 abbrev pub goal_of : Sought → Goal
 goal_of f = record { signature = record { takes = sorts_of f.arguments; gives = f.sort }; grammar = f.grammar }
@@ -124,8 +126,8 @@ goal_of f = record { signature = record { takes = sorts_of f.arguments; gives = 
 -- what a check-synth asks: let names of assumptions and constraints stand behind all variables
 abbrev pub question_at : Context → Question
 question_at context = record {
-  signatures = map (λ (d : Definition). record { takes = sorts_of d.arguments; gives = d.sort }) context.definitions;
-  definitions = map (λ (d : Definition). expr_at (length d.arguments) d.body) context.definitions;
+  signatures = map signature_of context.definitions;
+  definitions = map body_of context.definitions;
   variables = context.variables;
   goals = map goal_of context.sought;
   assumptions = map (expr_at (length context.variables)) context.assumptions;

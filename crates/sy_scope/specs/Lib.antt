@@ -1,6 +1,5 @@
 pub mod Contexts
-pub mod Requests
-pub mod Grammars
 pub mod Steps
 pub mod Files
+pub mod Jobs
 pub mod Known

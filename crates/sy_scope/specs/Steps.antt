@@ -17,20 +17,23 @@ use Rattle.sy_resolve.specs.declared.names.Named.{Named}
 use Rattle.sy_resolve.specs.declared.names.Role.{Role}
 use Rattle.sy_resolve.specs.declared.names.Role.TheVariants as role
 use Rattle.sy_resolve.specs.Environments.{Environment, entry}
-use Rattle.sy_resolve.specs.Measures.{unfolded_size, unfolded_depth, literals}
+use Rattle.sy_terms.specs.Values.{Val}
+use Rattle.sy_resolve.specs.Measures.{Measures, unfolded_size, unfolded_depth, literals}
 use Rattle.sy_resolve.specs.Parts.{symbol, place_of}
 use Rattle.sy_resolve.specs.Phrases.{Phrase}
 use Rattle.sy_resolve.specs.Readings.{Reading, refuse, found_or, ◌>>=◌}
 use Rattle.sy_resolve.specs.Sorts.{read_sort}
 use Rattle.sy_resolve.specs.Terms.{read_whole}
+use Rattle.sy_productions.specs.Lists.{sorts_of, read_named}
+use Rattle.sy_productions.specs.Grammars.{Written, read_rulebook}
 use Rattle.sy_defaults.specs.Defaults.{default_syntax}
+use Rattle.sy_pool.specs.Pools.{pooled}
 use Rattle.sy_inv.specs.Conditions.{starts, keeps, ends}
-use Rattle.sy_scope.specs.Contexts.{Context, Definition, Sought, Condition, Expanded, names_used, has_room, sorts_of, new_name, new_sought, new_sort_name, pooled, question_at}
+use Rattle.sy_scope.specs.Contexts.{Context, Definition, Sought, Condition, Expanded, names_used, has_room, new_name, new_sought, new_sort_name, with_logic, question_at}
 use Rattle.sy_scope.specs.Contexts as contexts
-use Rattle.sy_scope.specs.declared.commands.Command.{Command}
-use Rattle.sy_scope.specs.Requests as requests
-use Rattle.sy_scope.specs.Requests.{Request, Spelled, Listed, Rulebook, command_named, request_of}
-use Rattle.sy_scope.specs.Grammars.{Written, read_named, read_rulebook}
+use Rattle.sy_requests.specs.declared.commands.Command.{Command}
+use Rattle.sy_requests.specs.Requests as requests
+use Rattle.sy_requests.specs.Requests.{Request, Spelled, Listed, Rulebook, command_named, request_of}
 
 -- `set-logic`
 
@@ -44,12 +47,15 @@ first_logic (Some logic) named = None
 
 abbrev pub set_logic : Context → Spelled → Reading Context
 set_logic context name =
-    found_or name.place cause.Logic (first_logic context.logic (logic_named name.name)) >>= λ logic. Ok (record context { logic = Some logic })
+    found_or name.place cause.Logic (first_logic context.logic (logic_named name.name)) >>= λ logic. Ok (with_logic logic context)
 
 -- `set-feature`: grammars alone can be switched on
+abbrev pub feature_set : Spelled → Bool → Reading (Unit {0})
+feature_set feature true = if bytes_eq feature.name (codes "grammars") then Ok tt else refuse feature.place cause.Feature
+feature_set feature false = Ok tt
+
 abbrev pub set_feature : Context → Spelled → Bool → Reading Context
-set_feature context feature true = if bytes_eq feature.name (codes "grammars") then Ok context else refuse feature.place cause.Feature
-set_feature context feature false = Ok context
+set_feature context feature on = feature_set feature on >>= λ done. Ok context
 
 -- `declare-var`
 abbrev pub with_variable : Context → List ℕ → Sort → Context
@@ -85,15 +91,18 @@ abbrev pub read_in : Context → Logic → Role → List Named → Sort → Item
 read_in context logic role arguments sort item = read_whole (environment context logic role arguments) context.measures sort item
 
 -- `define-fun`
-abbrev pub with_definition : Context → List ℕ → List Named → Sort → Phrase → Context
-with_definition context name arguments sort body = record context {
-  entities = context.entities ++ (name, entity.Function (funs.Defined (length context.definitions)) (sorts_of arguments) sort) ∷ [];
-  definitions = context.definitions ++ record { name = name; arguments = arguments; sort = sort; body = body } ∷ [];
-  measures = record {
-    sizes = context.measures.sizes ++ unfolded_size context.measures.sizes body ∷ [];
-    depths = context.measures.depths ++ unfolded_depth context.measures.depths body ∷ [];
-  };
-  pool = pooled context.pool (literals body);
+abbrev pub measured : Measures → Phrase → Measures
+measured measures body = record {
+  sizes = measures.sizes ++ unfolded_size measures.sizes body ∷ [];
+  depths = measures.depths ++ unfolded_depth measures.depths body ∷ [];
+}
+
+abbrev pub with_definition : Context → Definition → Context
+with_definition context definition = record context {
+  entities = context.entities ++ (definition.name, entity.Function (funs.Defined (length context.definitions)) (sorts_of definition.arguments) definition.sort) ∷ [];
+  definitions = context.definitions ++ definition ∷ [];
+  measures = measured context.measures definition.body;
+  pool = pooled context.pool (literals definition.body);
 }
 
 abbrev pub define : Context → Logic → Spelled → Items → Item → Item → Reading Context
@@ -102,28 +111,33 @@ define context logic name arguments sort body =
     read_named context.sorts logic [] [] arguments >>= λ named.
     read_sort logic context.sorts sort >>= λ found.
     read_in context logic role.Body named found body >>= λ phrase.
-    Ok (with_definition context new named found phrase)
+    Ok (with_definition context (record { name = new; arguments = named; sort = found; body = phrase }))
 
 -- `synth-fun` and `synth-inv`
-abbrev pub with_sought : Context → List ℕ → List Named → Sort → Written → Context
-with_sought context name arguments sort written = record context {
-  entities = context.entities ++ (name, entity.Function (funs.Wanted (length context.sought)) (sorts_of arguments) sort) ∷ [];
-  sought = context.sought ++ record { name = name; arguments = arguments; sort = sort; grammar = written.grammar } ∷ [];
-  pool = pooled context.pool written.values;
+abbrev pub with_sought : Context → Sought → List Val → Context
+with_sought context sought values = record context {
+  entities = context.entities ++ (sought.name, entity.Function (funs.Wanted (length context.sought)) (sorts_of sought.arguments) sought.sort) ∷ [];
+  sought = context.sought ++ sought ∷ [];
+  pool = pooled context.pool values;
 }
 
 -- the grammar that is written, or that of a function without one
 abbrev pub read_grammar : Context → Logic → List Named → Sort → Option Rulebook → Reading Written
 read_grammar context logic arguments sort None = Ok (record { grammar = default_syntax logic (sorts_of arguments) sort; values = [] })
-read_grammar context logic arguments sort (Some book) = read_rulebook context logic arguments sort book
+read_grammar context logic arguments sort (Some book) = read_rulebook context.sorts context.entities logic arguments sort book
 
-abbrev pub synthesise : Context → Logic → Spelled → Items → Reading Sort → Option Rulebook → Reading Context
+-- the sort that is written, or that of an invariant
+abbrev pub value_sort : Context → Logic → Option Item → Reading Sort
+value_sort context logic None = Ok sorts.Bool
+value_sort context logic (Some sort) = read_sort logic context.sorts sort
+
+abbrev pub synthesise : Context → Logic → Spelled → Items → Option Item → Option Rulebook → Reading Context
 synthesise context logic name arguments sort rules =
     new_sought context logic name.place name.name >>= λ new.
     read_named context.sorts logic [] [] arguments >>= λ named.
-    sort >>= λ found.
+    value_sort context logic sort >>= λ found.
     read_grammar context logic named found rules >>= λ written.
-    Ok (with_sought context new named found written)
+    Ok (with_sought context (record { name = new; arguments = named; sort = found; grammar = written.grammar }) written.values)
 
 -- `constraint` and `assume`
 abbrev pub constrain : Context → Logic → Item → Reading Context
@@ -171,19 +185,35 @@ abbrev pub as_condition : Spelled → List Sort → Called → Reading ℕ
 as_condition name takes f =
     if same_sort f.gives sorts.Bool && same_sorts f.takes takes then found_or name.place cause.InvShape (definition_number f.function) else refuse name.place cause.InvShape
 
+-- the numbers of the functions of an `inv-constraint`
+pub record Parts : Type 0 where
+  pub invariant : ℕ
+  pub before : ℕ
+  pub step : ℕ
+  pub after : ℕ
+
 -- the three conditions over fresh variables for a state and the next
-abbrev pub with_invariant : Context → List Sort → ℕ → ℕ → ℕ → ℕ → Context
-with_invariant context state invariant before step after = record context {
+abbrev pub with_invariant : Context → List Sort → Parts → Context
+with_invariant context state parts = record context {
   variables = context.variables ++ (state ++ state);
   fresh = context.fresh + 2 * length state;
   constraints = context.constraints ++
-      Expanded (starts (length state) before invariant (length context.variables)) ∷
-      Expanded (keeps (length state) step invariant (length context.variables)) ∷
-      Expanded (ends (length state) after invariant (length context.variables)) ∷ [];
+      Expanded (starts (length state) parts.before parts.invariant (length context.variables)) ∷
+      Expanded (keeps (length state) parts.step parts.invariant (length context.variables)) ∷
+      Expanded (ends (length state) parts.after parts.invariant (length context.variables)) ∷ [];
 }
 
-abbrev pub room_for_states : Context → Place → List Sort → Context → Reading Context
-room_for_states context place state next = if has_room context (2 * length state) then Ok next else refuse place cause.TooMany
+abbrev pub add_invariant : Context → Place → List Sort → Parts → Reading Context
+add_invariant context place state parts = if has_room context (2 * length state) then Ok (with_invariant context state parts) else refuse place cause.TooMany
+
+-- the functions' numbers, where each has its form
+abbrev pub invariant_parts : Spelled → Spelled → Spelled → Spelled → Called → Called → Called → Called → Reading Parts
+invariant_parts invariant before step after i p t q =
+    as_invariant invariant i >>= λ inv.
+    as_condition before i.takes p >>= λ pre.
+    as_condition step (i.takes ++ i.takes) t >>= λ trans.
+    as_condition after i.takes q >>= λ post.
+    Ok (record { invariant = inv; before = pre; step = trans; after = post })
 
 -- all four names are looked up first; then each function has its form
 abbrev pub constrain_invariant : Context → Place → Spelled → Spelled → Spelled → Spelled → Reading Context
@@ -192,11 +222,8 @@ constrain_invariant context place invariant before step after =
     function_named context before >>= λ p.
     function_named context step >>= λ t.
     function_named context after >>= λ q.
-    as_invariant invariant i >>= λ inv.
-    as_condition before i.takes p >>= λ pre.
-    as_condition step (i.takes ++ i.takes) t >>= λ trans.
-    as_condition after i.takes q >>= λ post.
-    room_for_states context place i.takes (with_invariant context i.takes inv pre trans post)
+    invariant_parts invariant before step after i p t q >>= λ parts.
+    add_invariant context place i.takes parts
 
 -- `check-synth`: at most 16; not yet in the logic of integers
 abbrev pub answered_yet : Context → Logic → Place → Reading Context
@@ -208,7 +235,31 @@ check_synth context logic at = if nat_lt (length context.questions) 16 then answ
 
 -- Commands
 
--- a command that asks for a logic, with the places of its bracket and its name
+-- what a command asks for, and the places of its bracket and its name
+pub record Asked : Type 0 where
+  pub request : Request
+  pub place : Place
+  pub at : Place
+
+abbrev pub asked_by : Place → Place → Option Request → Reading Asked
+asked_by place at None = refuse place cause.Shape
+asked_by place at (Some request) = Ok (record { request = request; place = place; at = at })
+
+abbrev pub asked_as : Place → Place → Option Command → Items → Reading Asked
+asked_as place at None parts = refuse at cause.CommandNotInProfile
+asked_as place at (Some command) parts = asked_by place at (request_of command parts)
+
+abbrev pub asked_named : Place → Place → Option (List ℕ) → Items → Reading Asked
+asked_named place at None parts = refuse place cause.Shape
+asked_named place at (Some name) parts = asked_as place at (command_named name) parts
+
+-- a command is a list that begins with a symbol
+abbrev pub asked : Item → Reading Asked
+asked (leaf atom place) = refuse place cause.Shape
+asked (group none place) = refuse place cause.Shape
+asked (group (more head parts) place) = asked_named place (place_of head) (symbol head) parts
+
+-- a command in a logic
 unfoldable pub perform_in : Context → Logic → Place → Place → Request → Reading Context
 perform_in context logic place at (requests.ToSetLogic name) = set_logic context name
 perform_in context logic place at (requests.ToSetFeature feature on) = set_feature context feature on
@@ -216,34 +267,23 @@ perform_in context logic place at requests.ToNote = Ok context
 perform_in context logic place at (requests.ToDeclareVariable name sort) = declare_variable context logic name sort
 perform_in context logic place at (requests.ToDefineSort name sort) = define_sort context logic name sort
 perform_in context logic place at (requests.ToDefine name arguments sort body) = define context logic name arguments sort body
-perform_in context logic place at (requests.ToSynthesise name arguments sort rules) = synthesise context logic name arguments (read_sort logic context.sorts sort) rules
-perform_in context logic place at (requests.ToSynthesiseInvariant name arguments rules) = synthesise context logic name arguments (Ok sorts.Bool) rules
+perform_in context logic place at (requests.ToSynthesise name arguments sort rules) = synthesise context logic name arguments (Some sort) rules
+perform_in context logic place at (requests.ToSynthesiseInvariant name arguments rules) = synthesise context logic name arguments None rules
 perform_in context logic place at (requests.ToConstrain term) = constrain context logic term
 perform_in context logic place at (requests.ToAssume term) = assume context logic term
 perform_in context logic place at (requests.ToConstrainInvariant i p t q) = constrain_invariant context place i p t q
 perform_in context logic place at requests.ToCheck = check_synth context logic at
 
--- before a logic was set
-abbrev pub perform_first : Context → Place → Request → Reading Context
+-- a command before a logic was set
+unfoldable pub perform_first : Context → Place → Request → Reading Context
 perform_first context at (requests.ToSetLogic name) = set_logic context name
 perform_first context at (requests.ToSetFeature feature on) = set_feature context feature on
 perform_first context at requests.ToNote = Ok context
 perform_first context at _ = refuse at cause.Logic
 
-abbrev pub perform : Context → Option Logic → Place → Place → Request → Reading Context
-perform context None place at request = perform_first context at request
-perform context (Some logic) place at request = perform_in context logic place at request
+abbrev pub perform : Context → Option Logic → Asked → Reading Context
+perform context None x = perform_first context x.at x.request
+perform context (Some logic) x = perform_in context logic x.place x.at x.request
 
-abbrev pub step_as : Context → Place → Place → Option Command → Items → Reading Context
-step_as context place at None parts = refuse at cause.CommandNotInProfile
-step_as context place at (Some command) parts = found_or place cause.Shape (request_of command parts) >>= λ request. perform context context.logic place at request
-
-abbrev pub step_named : Context → Place → Place → Option (List ℕ) → Items → Reading Context
-step_named context place at None parts = refuse place cause.Shape
-step_named context place at (Some name) parts = step_as context place at (command_named name) parts
-
--- a command is a list that begins with a symbol
 unfoldable pub step : Context → Item → Reading Context
-step context (leaf atom place) = refuse place cause.Shape
-step context (group none place) = refuse place cause.Shape
-step context (group (more head parts) place) = step_named context place (place_of head) (symbol head) parts
+step context item = asked item >>= λ x. perform context context.logic x

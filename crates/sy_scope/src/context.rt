@@ -1,5 +1,6 @@
-// What a file declares.
-ghost use Rattle.std.specs.Prelude.{◌≡◌};
+// Room for names, and new names.
+ghost use Rattle.std.specs.Prelude.{◌≡◌, None, IfOk};
+ghost use Rattle.sy_resolve.specs.Environments.{entry};
 ghost use Rattle.sy_resolve.specs.Readings.{Gives};
 ghost use Rattle.sy_scope.specs.Contexts as spec;
 ghost use Rattle.sy_scope.specs.Known.{declared};
@@ -13,7 +14,7 @@ use sy_text::Place;
 const NAMES_MAX: usize = 4096;
 
 /// Whether there is room for so many names more, beside the declared names and so many fresh variables.
-pub(crate) fn has_room(names: &Names, fresh: usize, more: usize) -> bool
+pub fn has_room(names: &Names, fresh: usize, more: usize) -> bool
     ensures { result ≡ spec.has_room (declared names.now fresh) more }
 {
     let used = names.len();
@@ -29,7 +30,8 @@ pub fn new_name(
     at: Place,
     name: &[u8],
 ) -> Result<(), ReadEnd>
-    ensures { Gives (λ _. name.now) result (spec.new_name (declared names.now fresh) logic at name.now) }
+    ensures name { Gives (λ _. name.now) result (spec.new_name (declared names.now fresh) logic at name.now) }
+    ensures free { IfOk result (λ _. entry name.now names.now.entities ≡ None) }
 {
     if is_reserved(logic, name) || names.entity(name).is_some() {
         return Err(ReadEnd::Refused(at, Cause::NameTaken));
@@ -57,7 +59,8 @@ pub fn new_sort_name(
     at: Place,
     name: &[u8],
 ) -> Result<(), ReadEnd>
-    ensures { Gives (λ _. name.now) result (spec.new_sort_name (declared names.now fresh) logic at name.now) }
+    ensures name { Gives (λ _. name.now) result (spec.new_sort_name (declared names.now fresh) logic at name.now) }
+    ensures free { IfOk result (λ _. entry name.now names.now.sorts ≡ None) }
 {
     if is_reserved(logic, name) || is_sort_name(name) || names.sort(name).is_some() {
         return Err(ReadEnd::Refused(at, Cause::NameTaken));

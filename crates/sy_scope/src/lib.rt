@@ -1,8 +1,6 @@
-// The reader of files: commands and contexts.
+// Contexts: what the commands of a file declare and ask for.
 #![tactic(auto)]
 
-mod commands;
 mod context;
 
-pub use commands::{Command, command_named};
-pub use context::{new_name, new_sort_name};
+pub use context::{has_room, new_name, new_sort_name};

@@ -1,8 +1,7 @@
 -- What fractions combine to is what they stand for: a combination that is accepted as a contradiction is one.
-use Rattle.std.specs.Prelude.{◌≡◌, ◌≢◌, ℕ, zero, suc, ◌<◌, ◌≤◌, ◌≤ℤ◌, ◌+◌, ◌*◌, neg_ℤ, negsuc, Bool, true, false, cond, not, ◌&&◌, List, [], ◌∷◌, ◌++◌, map, length, ℤ, pos, ◌+ℤ◌, ◌*ℤ◌, int_lt, nat_lt, nat_eq, Option, Some, None}
+use Rattle.std.specs.Prelude.{◌≡◌, ◌≢◌, ℕ, zero, suc, ◌<◌, ◌≤◌, ◌≤ℤ◌, ◌+◌, ◌*◌, neg_ℤ, negsuc, Bool, true, false, cond, not, ◌&&◌, List, [], ◌∷◌, length, ℤ, pos, ◌+ℤ◌, ◌*ℤ◌, int_lt, nat_lt, nat_eq, Option, Some, None}
 use Rattle.std.specs.Option.{option_and_then}
 use Rattle.std.specs.List.{list_all}
-use Rattle.std.specs.Ordering.{int_eq}
 use Rattle.std.specs.Cmp.{signed_Decides, unsigned_Decides}
 use Rattle.std.proofs.Math.IntN.{*ℤ_comm, zero-*ℤ}
 use Rattle.std.proofs.Math.Nat.{mul-le-mul_left}
@@ -10,7 +9,7 @@ use borrow.Author.Differences.{up, down, ints, same_in, sum_is_lem, product_is, 
 use Rattle.sy_forms.specs.Laws.{times_assoc}
 use Rattle.std.proofs.Common.{refl, sym, ◌∙◌, ap, ap₂, subst, arith}
 use Rattle.std.proofs.lemmas.Bool.{ltb-true, le-ltb}
-use Rattle.sy_frac.specs.Fraction.{Fraction, Fits, IsQuotient, sum_over}
+use Rattle.sy_frac.specs.Fraction.{Fraction, IsQuotient, sum_over}
 use Rattle.sy_frac.specs.Rational.{ℚ, 0ℚ, ◌+ℚ◌, ◌*ℚ◌, over, value, is_negative, over_same, over_negative, value_sum, value_product, sum_over_is, product_over_is, +ℚ_cancel, zero-+ℚ, *ℚ-+ℚ, not_negative_times, whole_not_negative}
 use Rattle.sy_frac.proofs.Quotients.{product_nonzero, mul-positive}
 use Rattle.sy_forms.specs.declared.form.Form.{Form}

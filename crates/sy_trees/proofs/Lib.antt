@@ -2,3 +2,5 @@ pub mod Lowest
 pub mod Folding
 pub mod Accepting
 pub mod Refuting
+pub mod Judged
+pub mod Bounds

@@ -18,11 +18,11 @@ use Rattle.sy_linear.specs.declared.answer.Known.{Known}
 use Rattle.sy_linear.specs.declared.answer.Known.TheVariants as known
 use Rattle.sy_linear.specs.Seen.{Query, query_known}
 use Rattle.sy_linear.specs.Right.{Assigns}
-use Rattle.sy_linear.specs.Trees.{Shape, Split, Branch, Cut, Farkas, Shown, Unfinished, added_fact, opposite_fact, at_or_below, forms, rationals, IsOf, OverIntegers, Suits, Refutes, IsCut, IsContradiction}
+use Rattle.sy_linear.specs.Trees.{Shape, Split, Branch, Cut, Farkas, Shown, Unfinished, added_fact, opposite_fact, at_or_below, forms, rationals, OverIntegers, Suits, Refutes, IsCut, IsContradiction}
 use Rattle.sy_linear.proofs.Refutation.{never_satisfied}
 use Rattle.sy_trees.specs.declared.combination.Combination.{Combination}
 use Rattle.sy_trees.specs.Combining.{are_multipliers, combination, is_negative_constant, divided, rounded}
-use Rattle.sy_trees.specs.Judging.{Judgement, Accepted, Broken, Unfit, Outcome, Adds, Fails, Leaves, both, after, size, is_int, is_bool, has_int, suits, opposite_fits, split_outcome, branch_outcome, cut_outcome, rounded_outcome, added_form, divided_combination, contradiction_judged, of_combination, shown_judged, judged}
+use Rattle.sy_trees.specs.Judging.{Judgement, Accepted, Broken, Unfit, Adds, Fails, Leaves, both, after, size, is_int, is_bool, has_int, suits, opposite_fits, rounded_outcome, added_form, divided_combination, of_combination, shown_judged, judged}
 use Rattle.sy_trees.proofs.Lowest.{left_true, right_true}
 use Rattle.sy_trees.proofs.Accepting.{contradiction, cut}
 

@@ -1,5 +1,5 @@
 -- Combinations of forms by fractions, folded form by form.
-use Rattle.std.specs.Prelude.{ℕ, ◌&&◌, Bool, true, cond, List, [], ◌∷◌, ◌++◌, length, not, ℤ, pos, int_lt, nat_lt, nat_eq, Option, Some, None}
+use Rattle.std.specs.Prelude.{ℕ, ◌&&◌, Bool, cond, List, [], ◌∷◌, ◌++◌, length, not, ℤ, pos, int_lt, nat_lt, nat_eq, Option, Some, None}
 use Rattle.std.specs.List.{list_all}
 use Rattle.std.specs.Option.{option_and_then}
 use Rattle.std.specs.Ordering.{int_eq}

@@ -1,5 +1,5 @@
 -- Operations on fractions in lowest terms, where each number that they form fits.
-use Rattle.std.specs.Prelude.{ℕ, zero, suc, ◌/◌, ◌%◌, ◌^◌, Bool, true, false, cond, ◌&&◌, ℤ, pos, ◌*ℤ◌, unsigned_abs, nat_lt, nat_eq, Option, Some, None}
+use Rattle.std.specs.Prelude.{ℕ, zero, suc, ◌/◌, ◌%◌, ◌^◌, Bool, cond, ◌&&◌, ℤ, pos, ◌*ℤ◌, unsigned_abs, nat_lt, nat_eq, Option, Some, None}
 use Rattle.std.specs.Option.{option_and_then}
 use Rattle.std.specs.Int.{int_div_euclid}
 use Rattle.sy_frac.specs.Fraction.{Fraction, signed_of, opposite_of, sum_over}

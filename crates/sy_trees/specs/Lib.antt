@@ -1,3 +1,4 @@
 pub mod Exact
 pub mod Combining
 pub mod Judging
+pub mod Unsatisfied

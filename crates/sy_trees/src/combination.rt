@@ -69,7 +69,7 @@ fn push_share(list: &mut Seq<Share>, variable: u32, weight: Frac) -> Result<(), 
 }
 
 /// The number of a coefficient.
-fn number_of(coefficient: &(u32, i128)) -> i128
+pub(crate) fn number_of(coefficient: &(u32, i128)) -> i128
     ensures { result ≡ coefficient.now.1 }
 {
     coefficient.1
@@ -135,7 +135,7 @@ fn push_all(list: &mut Seq<Share>, shares: &[Share]) -> Result<(), Want>
 }
 
 /// The constant of a form.
-fn constant_of(form: &Form) -> i128
+pub(crate) fn constant_of(form: &Form) -> i128
     ensures { result ≡ form.now.constant }
 {
     form.constant

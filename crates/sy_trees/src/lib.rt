@@ -1,8 +1,13 @@
-// Whether the nodes of a refutation tree are as they are asked to be.
+// The checker of refutation trees.
 #![tactic(auto)]
 
+mod checker;
 mod combination;
 mod exact;
 mod nodes;
+mod size;
+#[cfg(test)]
+mod tests;
 
+pub use checker::check_tree;
 pub use nodes::{contradicts, cut, suits};

@@ -1,16 +1,25 @@
 // What the nodes of a refutation tree add to the path.
-ghost use Rattle.std.specs.Prelude.{◌≡◌, ◌≤ℤ◌, pos, slice_get, IfOk, IsErrOf};
+ghost use Rattle.std.specs.Prelude.{◌≡◌, ◌≤ℤ◌, ◌<◌, ◌^◌, ◌∷◌, [], true, pos, length, slice_get, IfOk, IsErrOf};
 ghost use Rattle.std.specs.List.{list_all};
+ghost use Rattle.sy_terms.specs.Expr.{nodes};
+ghost use Rattle.sy_forms.specs.Forms.{fits};
+ghost use Rattle.sy_linear.specs.Seen.{query_known};
+ghost use Rattle.sy_linear.specs.Stored.{query_of};
 ghost use Rattle.sy_linear.specs.Trees.{forms};
 ghost use Rattle.sy_trees.specs.Judging as spec;
 ghost use Rattle.sy_trees.specs.Combining.{combination};
 ghost use Rattle.sy_trees.specs.Judging.{Tells, Gives};
 
-use crate::combination::{are_multipliers, combined, divided, is_negative_constant, rounded};
+use crate::combination::{
+    are_multipliers, combined, constant_of, divided, is_negative_constant, number_of, rounded,
+};
 use std::alloc::Global;
 use sy_forms::{Form, FormEnd};
 use sy_frac::Frac;
-use sy_linear::{CheckEnd, Fact, Test};
+use sy_integers::IntTheory;
+use sy_linear::{CheckEnd, Fact, Known, Test, known_under};
+use sy_query::Query;
+use sy_seq::{Seq, Want};
 use sy_terms::Sort;
 
 /// Whether the variable is an integer variable.
@@ -54,6 +63,74 @@ fn end_at(end: FormEnd, node: u32) -> CheckEnd
         FormEnd::OutOfRange => CheckEnd::Range(node),
         FormEnd::Want => CheckEnd::Want,
     }
+}
+
+/// The same form; its numbers are of 128 bits.
+fn copied(alloc: Global, form: &Form) -> Result<Form, Want>
+    ensures same { IfOk result (λ copy. copy ≡ form.now) }
+    ensures fits { IfOk result (λ copy. fits copy ≡ true) }
+{
+    let mut coefs = Seq::new(alloc);
+    for coefficient in form.coefs.as_slice() {
+        coefs.push((coefficient.0, number_of(coefficient)))?;
+    }
+    Ok(Form {
+        coefs,
+        constant: constant_of(form),
+    })
+}
+
+/// The facts that a split adds, of the test and of its negation. `None` where the test isn't on variables of the
+/// query. `Range` with the node's number exactly where a coefficient of the negation leaves 128 bits.
+pub(crate) fn split(
+    alloc: Global,
+    vars: &[Sort],
+    test: &Test,
+    node: u32,
+) -> Result<Option<(Fact, Fact)>, CheckEnd>
+    ensures { Gives node result (spec.split_outcome vars.now test.now) }
+{
+    if !suits(vars, test) {
+        return Ok(None);
+    }
+    match test {
+        Test::AtLeast(form) => {
+            let form = copied(alloc, form)?;
+            match form.negation(alloc) {
+                Ok(opposite) => Ok(Some((Fact::AtLeast(form), Fact::AtLeast(opposite)))),
+                Err(end) => Err(end_at(end, node)),
+            }
+        }
+        Test::Holds(variable) => Ok(Some((Fact::Is(*variable, true), Fact::Is(*variable, false)))),
+    }
+}
+
+/// The fact that so many times the variable and the constant are at least 0.
+fn bounded(alloc: Global, coefficient: i128, variable: u32, constant: i128) -> Result<Fact, Want>
+    ensures { IfOk result (λ fact. fact ≡ Fact.AtLeast (record { coefs = (variable, coefficient) ∷ []; constant = constant })) }
+{
+    let mut coefs = Seq::new(alloc);
+    coefs.push((variable, coefficient))?;
+    Ok(Fact::AtLeast(Form { coefs, constant }))
+}
+
+/// The facts that a branch adds: that the variable is at most the bound, and that it is above. `None` where it is no
+/// integer variable of the query.
+pub(crate) fn branch(
+    alloc: Global,
+    vars: &[Sort],
+    variable: u32,
+    bound: i128,
+    node: u32,
+) -> Result<Option<(Fact, Fact)>, CheckEnd>
+    ensures { Gives node result (spec.branch_outcome vars.now variable bound) }
+{
+    if !is_int(vars, variable) {
+        return Ok(None);
+    }
+    let below = bounded(alloc, -1, variable, bound)?;
+    let above = bounded(alloc, 1, variable, -1 - bound)?;
+    Ok(Some((below, above)))
 }
 
 /// The combination divided by the divisor, with its constant rounded down; `None` where a share isn't whole.
@@ -117,5 +194,24 @@ pub fn contradicts(
     match combined(alloc, multipliers, facts) {
         Ok(combination) => Ok(is_negative_constant(&combination)),
         Err(end) => Err(end_at(end, node)),
+    }
+}
+
+/// Whether the facts make the query false. `Range` with the node's number exactly where `known_under` finds a node of
+/// the query at which a form doesn't fit.
+pub(crate) fn shows(
+    alloc: Global,
+    query: &Query<IntTheory>,
+    facts: &[Fact],
+    node: u32,
+) -> Result<bool, CheckEnd>
+    requires nodes { nodes (query_of query.now).body < 2 ^ 31 }
+    requires vars { length query.now.vars < 2 ^ 31 }
+    ensures { Tells result (spec.shown_judged node (query_known (query_of query.now) facts.now)) }
+{
+    match known_under(alloc, query, facts)? {
+        Known::False => Ok(true),
+        Known::True | Known::Undecided(_) => Ok(false),
+        Known::OutOfRange(_) => Err(CheckEnd::Range(node)),
     }
 }

@@ -1,6 +1,6 @@
 use Rattle.std.proofs.Common.{◌≡◌, ◌∙◌, ap, sym, refl}
 use mir.Syntax.{w128}
-use mir.Val.{SFits, to_z, of_z}
+use mir.Val.{to_z, of_z}
 use Rattle.std.proofs.lemmas.Int.{to_z-of_z}
 use Rattle.std.specs.Prelude.{Some, None}
 use Rattle.sy_trees.specs.Combining.{divided_shares}

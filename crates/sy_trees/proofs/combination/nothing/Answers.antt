@@ -1,6 +1,5 @@
-use Rattle.std.proofs.Common.{◌≡◌, ◌∙◌, ap, ap₂, sym}
+use Rattle.std.proofs.Common.{◌∙◌, ap, ap₂}
 use Rattle.std.specs.Prelude.{Some, None, pos, List, [], Option}
-use Rattle.std.specs.Option.{option_and_then}
 use Rattle.sy_frac.specs.Fraction.{Fraction}
 use Rattle.sy_trees.specs.declared.combination.Share.{Share}
 use Rattle.sy_trees.specs.declared.combination.Combination.{Combination}

@@ -1,7 +1,7 @@
-use Rattle.std.proofs.Common.{◌≡◌, ◌∙◌, ap, sym, refl, rules, arith}
-use Rattle.std.specs.Prelude.{Some, None, ℤ}
+use Rattle.std.proofs.Common.{◌∙◌, ap, refl, rules}
+use Rattle.std.specs.Prelude.{Some, None}
 use mir.Syntax.{w128}
-use mir.Val.{SFits, to_z, of_z}
+use mir.Val.{SFits}
 use Rattle.std.proofs.lemmas.Int.{to_z-of_z}
 use Rattle.sy_trees.specs.Exact.{multiple, plus_multiple}
 use Rattle.sy_trees.proofs.Folding.{no_items, alone_is, new_is, old_is, both_is, sum_kept, sum_unfit, sum_end}

@@ -1,8 +1,8 @@
 use Rattle.sy_forms.specs.declared.form.FormEnd.TheVariants.{OutOfRange}
-use Rattle.std.proofs.Common.{◌≡◌, ◌∙◌, ap, sym, refl, rules, arith}
-use Rattle.std.specs.Prelude.{Some, None, ℤ}
+use Rattle.std.proofs.Common.{◌∙◌, refl, rules}
+use Rattle.std.specs.Prelude.{Some, None}
 use mir.Syntax.{w128}
-use mir.Val.{SFits, to_z, of_z}
+use mir.Val.{SFits}
 use Rattle.std.proofs.lemmas.Int.{to_z-of_z}
 use Rattle.sy_trees.specs.Combining.{plus_coefficients}
 use Rattle.sy_trees.proofs.Folding.{form_is, moved}

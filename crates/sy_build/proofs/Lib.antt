@@ -1,0 +1,11 @@
+pub mod Sorted
+pub mod Sizes
+pub mod Weighing
+pub mod Reaching
+pub mod Leaves
+pub mod Forms
+pub mod Steps
+pub mod Violation
+pub mod Walking
+pub mod Problem
+pub mod Parts

@@ -1,0 +1,4 @@
+pub mod Problems
+pub mod Placing
+pub mod Sized
+pub mod Violating

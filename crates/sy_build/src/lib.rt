@@ -1,0 +1,12 @@
+// The query of a problem and bodies: true exactly where the bodies violate the problem.
+#![tactic(auto)]
+
+mod built;
+mod leaf;
+mod place;
+mod queries;
+mod room;
+mod weight;
+
+pub use built::Built;
+pub use queries::build;

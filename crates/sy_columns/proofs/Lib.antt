@@ -1,0 +1,6 @@
+pub mod Fillings
+pub mod ByPoint
+pub mod Pieces
+pub mod Weights
+pub mod Forms
+pub mod Copies

@@ -1,0 +1,53 @@
+// Rows of operators at rows.
+ghost use Rattle.std.specs.Prelude.{◌≡◌, ℕ, ◌<◌, true, false, IfOk, IfErr, OnOk, map};
+ghost use Rattle.sy_terms.specs.Denoted.{IsSorted, vals_of};
+ghost use Rattle.sy_terms.specs.Theories.{fits};
+ghost use Rattle.sy_rows.specs.Columns.{column, AreSized};
+ghost use Rattle.sy_columns.specs.Found.{IsApplied, WhereLost};
+
+use crate::ends::{RowEnd, lost_at};
+use std::alloc::{AllocError, Global};
+use sy_terms::{Applied, Op, Theory, Value};
+
+/// What the rows have at the place of this number, in place of what the list had.
+pub fn fill<T: Theory>(
+    rows: &[Vec<Value<T::Num>>],
+    number: usize,
+    count: usize,
+    values: &mut Vec<Value<T::Num>>,
+) -> Result<(), AllocError>
+    requires sized { AreSized count (map (λ row. vals_of T.denotes row.items) rows.now) }
+    requires within { number < count }
+    ensures { OnOk result (vals_of T.denotes values.new.items ≡ column (map (λ row. vals_of T.denotes row.items) rows.now) number) }
+{
+    values.clear();
+    for row in rows {
+        values.push(row[number])?;
+    }
+    Ok(())
+}
+
+/// The operator's values at the columns of the rows, of which each has `count` values.
+pub fn applied_row<T: Theory>(
+    alloc: Global,
+    operator: &Op,
+    rows: &[Vec<Value<T::Num>>],
+    count: usize,
+) -> Result<Vec<Value<T::Num>>, RowEnd>
+    requires owned { (k : ℕ) → k < count → T.owned operator.now ≡ true }
+    requires sized { AreSized count (map (λ row. vals_of T.denotes row.items) rows.now) }
+    requires sorted { (k : ℕ) → k < count → IsSorted operator.now (column (map (λ row. vals_of T.denotes row.items) rows.now) k) }
+    ensures ok { IfOk result (λ found. IsApplied operator.now (map (λ row. vals_of T.denotes row.items) rows.now) count (vals_of T.denotes found.items)) }
+    ensures lost { IfErr result (λ end. WhereLost end (λ k. (k < count) × (fits operator.now (column (map (λ row. vals_of T.denotes row.items) rows.now) k) ≡ false))) }
+{
+    let mut found = Vec::with_capacity(alloc, count)?;
+    let mut values = Vec::with_capacity(alloc, rows.len())?;
+    for number in 0..count {
+        fill::<T>(rows, number, count, &mut values)?;
+        match T::apply(operator, values.as_slice()) {
+            Applied::Is(value) => found.push(value)?,
+            Applied::OutOfRange => return Err(lost_at(number)),
+        }
+    }
+    Ok(found)
+}

@@ -1,0 +1,133 @@
+// The row of a rule's part, from those of kept terms.
+ghost use Rattle.std.specs.Prelude.{◌≡◌, ℕ, ◌<◌, ◌≤◌, true, [], All, IfOk, IfErr, length, map, slice_get, Some, replicate, List};
+ghost use Rattle.sy_terms.specs.Values.{Val};
+ghost use Rattle.sy_terms.specs.Denoted.{val_of, vals_of};
+ghost use Rattle.sy_terms.specs.Theories.{valid};
+ghost use Rattle.sy_terms.specs.Meaning.{functions, value_at_position};
+ghost use Rattle.sy_terms.specs.declared.sort.Value.{Value};
+ghost use Rattle.sy_terms.specs.Definitions.{DefinitionsFit, scope_of, bodies};
+ghost use Rattle.sy_grammar.specs.Patterns.{occurring, all_occurring, filled, all_filled};
+ghost use Rattle.sy_grammar.specs.Written.{pattern_of, patterns_of};
+ghost use Rattle.sy_rows.specs.Rows.{IsLostAt};
+ghost use Rattle.sy_rows.specs.Covering.{terms};
+ghost use Rattle.sy_rows.specs.Columns.{FitsAt, FitAt, HasRow, HaveRows};
+ghost use Rattle.sy_columns.specs.Chosen.{chosen_of, AreRows, ArePoints};
+ghost use Rattle.sy_columns.specs.Found.{WhereLost, IsOneLostAt};
+
+use crate::apply::applied_row;
+use crate::call::called_row;
+use crate::ends::RowEnd;
+use crate::places::places;
+use std::alloc::{AllocError, Global};
+use sy_grammar::{Part, Parts};
+use sy_rows::Kept;
+use sy_terms::{Defs, Theory, Value, Values};
+
+/// A value for each point, all alike.
+fn repeated<N: Copy>(alloc: Global, value: N, count: usize) -> Result<Vec<N>, AllocError>
+    ensures { IfOk result (λ row. row.items ≡ replicate count value) }
+{
+    let mut row = Vec::with_capacity(alloc, count)?;
+    for _ in 0..count {
+        row.push(value)?;
+    }
+    Ok(row)
+}
+
+/// The argument of this number at each point.
+fn argument_row<T: Theory>(
+    alloc: Global,
+    points: &[Values<T>],
+    position: usize,
+) -> Result<Vec<Value<T::Num>>, AllocError>
+    requires { (k : ℕ) (point : List (Value T.Num)) → slice_get points.now k ≡ Some point → position < length point }
+    ensures { IfOk result (λ row. vals_of T.denotes row.items ≡ map (λ point. value_at_position (vals_of T.denotes point) position) points.now) }
+{
+    let mut row = Vec::with_capacity(alloc, points.len())?;
+    for point in points {
+        row.push(point.as_slice()[position])?;
+    }
+    Ok(row)
+}
+
+/// The values, in memory of their own.
+fn copied<N: Copy>(alloc: Global, values: &[N]) -> Result<Vec<N>, AllocError>
+    ensures { IfOk result (λ row. row.items ≡ values.now) }
+{
+    let mut row = Vec::with_capacity(alloc, values.len())?;
+    row.extend_from_slice(values)?;
+    Ok(row)
+}
+
+/// The row of the term that the part becomes where the chosen terms stand for its nonterminals, from left to right.
+/// `Lost` exactly where that term isn't computable at the point of the number that it carries.
+#[cycle(row)]
+pub fn part_row<T: Theory>(
+    alloc: Global,
+    defs: &Defs<T>,
+    points: &[Values<T>],
+    part: &Part<T>,
+    chosen: &[&Kept<T>],
+) -> Result<Vec<Value<T::Num>>, RowEnd>
+    requires definitions { DefinitionsFit T.owned T.denotes defs.now }
+    requires points { ArePoints (map (vals_of T.denotes) points.now) }
+    requires rows { AreRows (scope_of T.owned defs.now) (functions (bodies T.denotes defs.now)) (map (vals_of T.denotes) points.now) (chosen_of T.denotes chosen.now) }
+    requires enough { length (occurring (pattern_of T.denotes part.now)) ≤ length chosen.now }
+    requires fits { FitsAt (scope_of T.owned defs.now) (map (vals_of T.denotes) points.now) (filled (pattern_of T.denotes part.now) (terms (chosen_of T.denotes chosen.now))) }
+    ensures ok { IfOk result (λ row. HasRow (scope_of T.owned defs.now) (functions (bodies T.denotes defs.now)) (map (vals_of T.denotes) points.now) (filled (pattern_of T.denotes part.now) (terms (chosen_of T.denotes chosen.now))) (vals_of T.denotes row.items)) }
+    ensures lost { IfErr result (λ end. WhereLost end (IsLostAt (functions (bodies T.denotes defs.now)) (map (vals_of T.denotes) points.now) (filled (pattern_of T.denotes part.now) (terms (chosen_of T.denotes chosen.now))))) }
+{
+    match part {
+        Part::Const(value) => {
+            let row = repeated(alloc, *value, points.len())?;
+            Ok(row)
+        }
+        Part::Var(position) => {
+            let row = argument_row::<T>(alloc, points, *position as usize)?;
+            Ok(row)
+        }
+        Part::Non(_) => {
+            let row = copied(alloc, chosen[0].row.as_slice())?;
+            Ok(row)
+        }
+        Part::App(operator, parts) => match part_rows(alloc, defs, points, parts, chosen) {
+            Ok(rows) => applied_row::<T>(alloc, operator, rows.as_slice(), points.len()),
+            Err(end) => Err(end),
+        },
+        Part::Call(definition, parts) => match part_rows(alloc, defs, points, parts, chosen) {
+            Ok(rows) => called_row(alloc, defs, *definition, rows.as_slice(), points.len()),
+            Err(end) => Err(end),
+        },
+    }
+}
+
+/// The rows of the parts, one after the other.
+#[cycle(row)]
+fn part_rows<T: Theory>(
+    alloc: Global,
+    defs: &Defs<T>,
+    points: &[Values<T>],
+    parts: &Parts<T>,
+    chosen: &[&Kept<T>],
+) -> Result<Vec<Vec<Value<T::Num>>>, RowEnd>
+    requires definitions { DefinitionsFit T.owned T.denotes defs.now }
+    requires points { ArePoints (map (vals_of T.denotes) points.now) }
+    requires rows { AreRows (scope_of T.owned defs.now) (functions (bodies T.denotes defs.now)) (map (vals_of T.denotes) points.now) (chosen_of T.denotes chosen.now) }
+    requires enough { length (all_occurring (patterns_of T.denotes parts.now.items.items)) ≤ length chosen.now }
+    requires fit { FitAt (scope_of T.owned defs.now) (map (vals_of T.denotes) points.now) (all_filled (patterns_of T.denotes parts.now.items.items) (terms (chosen_of T.denotes chosen.now))) }
+    ensures ok { IfOk result (λ rows. HaveRows (scope_of T.owned defs.now) (functions (bodies T.denotes defs.now)) (map (vals_of T.denotes) points.now) (all_filled (patterns_of T.denotes parts.now.items.items) (terms (chosen_of T.denotes chosen.now))) (map (λ row. vals_of T.denotes row.items) rows.items)) }
+    ensures lost { IfErr result (λ end. WhereLost end (IsOneLostAt (functions (bodies T.denotes defs.now)) (map (vals_of T.denotes) points.now) (all_filled (patterns_of T.denotes parts.now.items.items) (terms (chosen_of T.denotes chosen.now))))) }
+{
+    let mut rows = Vec::with_capacity(alloc, parts.len())?;
+    let count = chosen.len();
+    let mut used = 0usize;
+    for part in parts.as_slice() {
+        let (_, rest) = chosen.split_at(used);
+        match part_row(alloc, defs, points, part, rest) {
+            Ok(row) => rows.push(row)?,
+            Err(end) => return Err(end),
+        }
+        used += places(part, count - used);
+    }
+    Ok(rows)
+}

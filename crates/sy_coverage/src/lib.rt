@@ -1,0 +1,2 @@
+// A law of merged banks: what is saturated covers.
+#![tactic(auto)]

@@ -1,0 +1,4 @@
+pub mod Finding
+pub mod Hashes
+pub mod Kept
+pub mod Keeping

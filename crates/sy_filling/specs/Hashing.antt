@@ -1,0 +1,37 @@
+-- Numbers by which rows are found.
+use Rattle.std.specs.Prelude.{ℕ, ◌+◌, ◌-◌, ◌*◌, ◌/◌, ◌%◌, ◌^◌, ◌≡◌, List, [], ◌∷◌, length, slice_get, slice_index_or, bit_xor, if◌then◌else◌, Some}
+use Rattle.sy_terms.specs.Values.{Val, Truth, Whole, Bits}
+use Rattle.sy_grammar.specs.Trees.{magnitude, is_negative}
+use Rattle.sy_filling.specs.declared.table.Place.{Place}
+
+-- the upper half of 64 bits, laid over the lower one
+abbrev pub folded : ℕ → ℕ
+folded n = bit_xor (n % 2 ^ 64) ((n % 2 ^ 64) / 2 ^ 32)
+
+-- a number for a value
+abbrev pub code : Val → ℕ
+code (Truth truth) = if truth then 1 else 0
+code (Whole number) = if is_negative (Whole number) then 2 ^ 64 - 1 - folded (magnitude (Whole number)) else folded (magnitude (Whole number))
+code (Bits width number) = folded number
+
+-- with one value more
+abbrev pub mixed : ℕ → Val → ℕ
+mixed seed value = ((seed * 11400714819323198485) % 2 ^ 64 + code value) % 2 ^ 64
+
+-- with these values more
+unfoldable pub hash_from : ℕ → List Val → ℕ
+hash_from seed [] = seed
+hash_from seed (value ∷ values) = hash_from (mixed seed value) values
+
+-- a table's places for the number
+abbrev pub bucket : List (List Place) → ℕ → List Place
+bucket buckets hash = slice_index_or buckets (hash % length buckets) []
+
+-- the place stands there
+abbrev pub HasPlace : List (List Place) → ℕ → Place → Type 0
+HasPlace buckets hash place = (i : ℕ) × (slice_get (bucket buckets hash) i ≡ Some place)
+
+-- the place is added for the number, and nothing is taken away
+pub record IsAdded (before : List (List Place)) (hash : ℕ) (place : Place) (after : List (List Place)) : Type 0 where
+  pub added : HasPlace after hash place
+  pub kept : (number : ℕ) (other : Place) → HasPlace before number other → HasPlace after number other

@@ -1,0 +1,12 @@
+pub mod Readings
+pub mod Names
+pub mod Operators
+pub mod Terms
+pub mod Exprs
+pub mod Widening
+pub mod Patterns
+pub mod Rules
+pub mod Sorts
+pub mod Growing
+pub mod Whole
+pub mod Problems

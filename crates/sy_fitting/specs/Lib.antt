@@ -1,0 +1,4 @@
+pub mod Fitting
+pub mod Right
+pub mod Questions
+pub mod Laws

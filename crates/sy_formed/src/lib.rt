@@ -1,0 +1,2 @@
+// Laws of written grammars: a grammar that was read is well formed.
+#![tactic(auto)]

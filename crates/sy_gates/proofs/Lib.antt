@@ -1,0 +1,11 @@
+pub mod Gates
+pub mod Words
+pub mod Encoding
+pub mod Ways
+pub mod Places
+pub mod Products
+pub mod Quotients
+pub mod Shifts
+pub mod Joints
+pub mod Signs
+pub mod Holding

@@ -1,0 +1,5 @@
+pub mod Circuits
+pub mod Models
+pub mod Arithmetic
+pub mod Bitwise
+pub mod Orders

@@ -1,0 +1,72 @@
+ghost use Rattle.std.specs.Prelude.{◌≡◌, ℕ, Bool, true, ◌+◌, ◌*◌, ◌≤◌, ◌<◌, ◌↔◌, ◌&&◌, not, max, length, OnOk, IfOk, List, [], ◌++◌, ◌∷◌, take};
+ghost use Rattle.sy_gates.specs.Circuits.{Plan, variables, Follows, lit_bound, gate_bound, gate_value, clauses_bound, xor};
+ghost use Rattle.sy_gates.specs.Models.{clauses_value, but_last, values_of};
+
+use crate::circuit::Circuit;
+use crate::gate::{Gate, negated};
+use std::alloc::Global;
+use sy_clauses::{Cnf, Lit};
+use sy_seq::{Seq, Want};
+
+// Adds the clause of the literals.
+pub fn add_clause(alloc: Global, clauses: &mut Seq<Seq<Lit>>, literals: &[Lit]) -> Result<(), Want>
+    ensures { OnOk result (clauses.new ≡ clauses.old ++ literals.now ∷ []) }
+{
+    let mut clause = Seq::new(alloc);
+    for literal in literals {
+        clause.push(*literal)?;
+    }
+    clauses.push(clause)
+}
+
+#[tactic(auto, using(crate::proofs::Encoding::push_steps))]
+// Adds clauses that hold exactly where the variable `made` has the truth value that the gate makes.
+pub fn add_gate(
+    alloc: Global,
+    clauses: &mut Seq<Seq<Lit>>,
+    made: u32,
+    gate: Gate,
+) -> Result<(), Want>
+    ensures value { OnOk result ((v : ℕ → Bool) → clauses_value v clauses.new ≡ (clauses_value v clauses.old && not (xor (v made) (gate_value v gate)))) }
+    ensures count { OnOk result (length clauses.new ≤ length clauses.old + 4) }
+    ensures bound { OnOk result (clauses_bound clauses.new ≤ max (clauses_bound clauses.old) (max (made + 1) (gate_bound gate))) }
+{
+    let on = Lit {
+        var: made,
+        positive: true,
+    };
+    let off = Lit {
+        var: made,
+        positive: false,
+    };
+    match gate {
+        Gate::Constant(b) => {
+            add_clause(alloc, clauses, &[if b { on } else { off }])?;
+        }
+        Gate::And(a, b) => {
+            let not_a = negated(a);
+            let not_b = negated(b);
+            add_clause(alloc, clauses, &[off, a])?;
+            add_clause(alloc, clauses, &[off, b])?;
+            add_clause(alloc, clauses, &[on, not_a, not_b])?;
+        }
+        Gate::Xor(a, b) => {
+            let not_a = negated(a);
+            let not_b = negated(b);
+            add_clause(alloc, clauses, &[off, a, b])?;
+            add_clause(alloc, clauses, &[off, not_a, not_b])?;
+            add_clause(alloc, clauses, &[on, not_a, b])?;
+            add_clause(alloc, clauses, &[on, a, not_b])?;
+        }
+        Gate::Choose(t, a, b) => {
+            let not_t = negated(t);
+            let not_a = negated(a);
+            let not_b = negated(b);
+            add_clause(alloc, clauses, &[not_t, not_a, on])?;
+            add_clause(alloc, clauses, &[not_t, a, off])?;
+            add_clause(alloc, clauses, &[t, not_b, on])?;
+            add_clause(alloc, clauses, &[t, b, off])?;
+        }
+    }
+    Ok(())
+}

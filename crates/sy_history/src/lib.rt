@@ -1,0 +1,2 @@
+// Definitions alone: what a search may try, and what refutes it.
+#![tactic(auto)]

@@ -1,0 +1,10 @@
+// Rules that give parts.
+use sy_grammar::Part;
+use sy_terms::Theory;
+
+/// A rule of a nonterminal that gives a part.
+pub struct Template<'a, T: Theory> {
+    pub nonterminal: u32,
+    pub number: u32,
+    pub part: &'a Part<T>,
+}

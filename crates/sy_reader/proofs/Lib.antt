@@ -1,0 +1,4 @@
+pub mod Leading
+pub mod Small
+pub mod Names
+pub mod Fits

@@ -1,0 +1,4 @@
+pub mod Seen
+pub mod Calls
+pub mod Read
+pub mod Fit

@@ -1,0 +1,5 @@
+pub mod Banks
+pub mod Columns
+pub mod Covering
+pub mod Rows
+pub mod Stored

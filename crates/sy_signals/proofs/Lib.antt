@@ -1,0 +1,9 @@
+pub mod Numbers
+pub mod Kept
+pub mod Rows
+pub mod Choices
+pub mod Pairs
+pub mod Taken
+pub mod Folds
+pub mod Shapes
+pub mod Theories

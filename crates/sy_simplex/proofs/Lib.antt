@@ -1,0 +1,13 @@
+pub mod Values
+pub mod FullRows
+pub mod Begun
+pub mod Tables
+pub mod Endings
+pub mod Balance
+pub mod Places
+pub mod Bridge
+pub mod Sound
+pub mod Refuted
+pub mod Answering
+pub mod Determined
+pub mod Outcomes

@@ -1,0 +1,13 @@
+use Rattle.std.specs.Prelude.{pos}
+use Rattle.sy_tableau.specs.Operations.{whole}
+use Rattle.sy_tableau.specs.Stated.{state_of}
+use Rattle.sy_tableau.proofs.Pushed.{each_pushed}
+use Rattle.sy_simplex.proofs.Begun.{length_pushed}
+use Rattle.sy_simplex.specs.Runs.{IsValue}
+use Rattle.sy_simplex.proofs.ends.point.Goals as goal
+
+pub loop-variable-preserved : goal.loop-variable-preserved
+loop-variable-preserved c = record {
+  len = length_pushed c.loop-variable.point _ _ c.loop-variable.variable c.in_ok-push.ensures.ok c.loop-variable.invariant.len;
+  each = each_pushed (λ v f. IsValue (state_of c.args.tableau.now) v f) (whole (pos 0)) c.loop-variable.point _ _ c.loop-variable.variable c.in_ok-push.ensures.ok c.loop-variable.invariant.len c.loop-variable.invariant.each c.value_of.ensures;
+}

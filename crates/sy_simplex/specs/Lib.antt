@@ -1,0 +1,4 @@
+pub mod Problems
+pub mod Runs
+pub mod Answers
+pub mod Beginnings

@@ -1,0 +1,11 @@
+// The law of the answers.
+ghost use Rattle.std.specs.Prelude.{ℕ, List};
+ghost use Rattle.sy_forms.specs.declared.form.Form.{Form};
+ghost use Rattle.sy_simplex.specs.declared.answer.Feasible.{Feasible};
+ghost use Rattle.sy_simplex.specs.Answers.{Tells, IsSameAnswer};
+
+/// What one answer tells of a run, no other answer tells: so each answer of `feasible` comes exactly where its part of
+/// `Tells` holds, unless memory is wanted.
+pub fn answers_are_determined()
+    ensures { (vars : ℕ) (forms : List Form) (pivots : ℕ) (a b : Feasible) → Tells vars forms pivots a → Tells vars forms pivots b → IsSameAnswer a b }
+{}

@@ -1,0 +1,62 @@
+// The run from the initial tableau to its answer.
+ghost use Rattle.std.specs.Prelude.{◌<◌, ◌^◌, ◌↔◌, length, IfOk, IsTrue};
+ghost use Rattle.sy_simplex.specs.Problems.{AreForms};
+ghost use Rattle.sy_simplex.specs.Answers.{IsSound, Tells};
+
+use crate::answer::{Feasible, Run};
+use crate::ends::{multipliers, point};
+use crate::initial::initial;
+use std::alloc::{AllocError, Global};
+use sy_forms::Form;
+use sy_seq::{Seq, Want};
+use sy_tableau::{Choice, Fault};
+
+/// Whether there are fewer than 2^31 variables, and as few forms.
+fn are_few(vars: u32, forms: &[Form]) -> bool
+    ensures { IsTrue result ↔ ((vars < 2 ^ 31) × (length forms.now < 2 ^ 31)) }
+{
+    vars < 1 << 31 && forms.len() < 1 << 31
+}
+
+/// Decides whether some rational point meets `e >= 0` for every form, in at most `pivots` steps.
+///
+/// `Point` is the corner of the forms at which the run ends. `Conflict` gives multipliers that combine the forms to a
+/// negative constant. `Pivots` comes exactly where the run has taken `pivots` steps and is at neither end, `Range` exactly
+/// where an operation that follows the given steps doesn't fit: one of the next step, or, after `pivots` steps, of its choice.
+/// More than 2^31 - 1 variables or forms are answered as want of memory.
+pub fn feasible(alloc: Global, vars: u32, bounds: &Seq<Form>, pivots: u32) -> Result<Feasible, Want>
+    requires { AreForms vars bounds.now }
+    ensures sound { IfOk result (λ answer. IsSound vars bounds.now answer) }
+    ensures exact { IfOk result (λ answer. Tells vars bounds.now pivots answer) }
+{
+    let forms = bounds.as_slice();
+    if !are_few(vars, forms) {
+        return Err(AllocError);
+    }
+    let mut steps = Seq::new(alloc);
+    let mut tableau = match initial(alloc, vars, forms) {
+        Ok(tableau) => tableau,
+        Err(Fault::Unfit) => return Ok(Feasible::Range(Run { steps })),
+        Err(Fault::Want) => return Err(AllocError),
+    };
+    loop {
+        match tableau.choose() {
+            None => return Ok(Feasible::Range(Run { steps })),
+            Some(Choice::Met) => return Ok(Feasible::Point(point(alloc, &tableau)?)),
+            Some(Choice::Stuck(row)) => {
+                return Ok(Feasible::Conflict(multipliers(alloc, &tableau, row)?));
+            },
+            Some(Choice::Exchange(row, column)) => {
+                if steps.len() == pivots as usize {
+                    return Ok(Feasible::Pivots(Run { steps }));
+                }
+                let step = (tableau.basics[row], tableau.columns[column]);
+                match tableau.exchange(alloc, row, column) {
+                    Ok(()) => steps.push(step)?,
+                    Err(Fault::Unfit) => return Ok(Feasible::Range(Run { steps })),
+                    Err(Fault::Want) => return Err(AllocError),
+                }
+            },
+        }
+    }
+}
