@@ -90,6 +90,15 @@ fn branches(alloc: Global, depth: u32, above: u32) -> Result<Tree, Want> {
     Ok(Tree::Branch(0, 0, Seq::new(alloc), left, right))
 }
 
+/// What is right of a split, under so many facts: the query is false under one or two of them, and three contradict
+/// each other.
+fn beside(alloc: Global, facts: u32) -> Result<Tree, Want> {
+    if facts < 3 {
+        return Ok(Tree::Shown);
+    }
+    Ok(Tree::Farkas(multipliers(alloc, facts)?))
+}
+
 /// That tree below so many splits, on a variable of at least 1 and at most 0.
 fn tree(alloc: Global, facts: u32, depth: u32) -> Result<Tree, Want> {
     let mut tree = branches(alloc, depth, facts)?;
@@ -100,7 +109,7 @@ fn tree(alloc: Global, facts: u32, depth: u32) -> Result<Tree, Want> {
             form(alloc, -1, 0)?
         };
         let left = Box::new(alloc, tree)?;
-        let right = Box::new(alloc, Tree::Shown)?;
+        let right = Box::new(alloc, beside(alloc, facts.saturating_sub(place))?)?;
         tree = Tree::Split(Test::AtLeast(form), Seq::new(alloc), left, right);
     }
     Ok(tree)
