@@ -1,7 +1,7 @@
 // The line of a refused file.
-ghost use Rattle.std.specs.Prelude.{◌≡◌, ◌≤◌, ◌++◌, length, OnOk, IfOk};
+ghost use Rattle.std.specs.Prelude.{◌≡◌, ◌++◌, OnOk, IfOk};
 ghost use Rattle.sy_causes.specs.Causes as causes;
-ghost use Rattle.sy_lines.specs.Lines.{refusal_line};
+ghost use Rattle.sy_lines.specs.Lines.{line_of, column_of, refusal_line};
 
 use crate::text::put;
 use std::alloc::Global;
@@ -53,13 +53,20 @@ fn put_cause(out: &mut Bytes, cause: &Cause) -> Result<(), Want>
     }
 }
 
+/// The line and the column of an offset, each counted from 1; one past the end counts as the end.
+fn position(bytes: &[u8], at: usize) -> (usize, usize)
+    ensures line { result.0 ≡ line_of bytes.now at }
+    ensures column { result.1 ≡ column_of bytes.now at }
+{
+    line_column(bytes, at.min(bytes.len()))
+}
+
 /// The line `refused: command K line L column C cause N NAME`, which ends with byte 10. The command, the line and
-/// the column are counted from 1.
+/// the column are counted from 1; a place past the end counts as the end.
 pub fn refusal_text(alloc: Global, bytes: &[u8], r: &Refused) -> Result<Bytes, Want>
-    requires { r.now.place.at ≤ length bytes.now }
     ensures { IfOk result (λ text. text ≡ refusal_line bytes.now r.now) }
 {
-    let (line, column) = line_column(bytes, r.place.at);
+    let (line, column) = position(bytes, r.place.at);
     let mut out = Bytes::new(alloc);
     put(&mut out, "refused: command ")?;
     write_numeral(&mut out, r.command as u128)?;

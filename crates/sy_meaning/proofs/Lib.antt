@@ -1,2 +1,3 @@
+pub mod Rightly
 pub mod Sorts
 pub mod ValueSorts

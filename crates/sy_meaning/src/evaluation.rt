@@ -5,6 +5,7 @@ ghost use Rattle.sy_terms.specs.Definitions.{DefinitionsFit, scope_of};
 ghost use Rattle.sy_laws.specs.Evaluation.{TermFits, FitsWith, AllFitWith, Gives, AllGive, can_compute, can_compute_all};
 ghost use Rattle.sy_laws.specs.Tracing.{Gains, TracedSome};
 ghost use Rattle.sy_laws.specs.Asking.{asks, all_asks, StandsWith};
+ghost use Rattle.sy_meaning.specs.Calls.{AsksRightly, AllAskRightly};
 
 use crate::trace::Trace;
 use std::alloc::{AllocFailed, Global};
@@ -63,7 +64,8 @@ pub fn evaluate<T: Theory>(
     )
 }
 
-/// The value of a term, with bodies for the functions to be found.
+/// The value of a term, with bodies for the functions to be found. The trace gains what the term asks of these; each such
+/// call is at values of the sorts that its function takes.
 pub fn evaluate_with<T: Theory>(
     alloc: Global,
     defs: &Defs<T>,
@@ -80,6 +82,7 @@ pub fn evaluate_with<T: Theory>(
     ensures traced { OnOk result (Gains trace.old (asks T.denotes defs.now bodies.now (vals_of T.denotes values.now) (expr_of T.denotes term.now)) trace.new) }
     ensures begun { OnErr result (TracedSome trace.old (asks T.denotes defs.now bodies.now (vals_of T.denotes values.now) (expr_of T.denotes term.now)) trace.new) }
     ensures agreement { OnOk result (StandsWith T.denotes defs.now bodies.now (vals_of T.denotes values.now) (expr_of T.denotes term.now) trace.new) }
+    ensures calls { OnOk result (AsksRightly T.owned T.denotes defs.now bodies.now (vals_of T.denotes values.now) (expr_of T.denotes term.now)) }
 {
     evaluate_under(
         alloc,
@@ -108,6 +111,7 @@ fn evaluate_under<T: Theory>(
     ensures range { IsErrOf result Eval.Range → can_compute T.denotes defs.now bodies.now (vals_of T.denotes values.now) (expr_of T.denotes term.now) ≡ false }
     ensures traced { OnOk result (Gains trace.old (asks T.denotes defs.now bodies.now (vals_of T.denotes values.now) (expr_of T.denotes term.now)) trace.new) }
     ensures begun { OnErr result (TracedSome trace.old (asks T.denotes defs.now bodies.now (vals_of T.denotes values.now) (expr_of T.denotes term.now)) trace.new) }
+    ensures calls { OnOk result (AsksRightly T.owned T.denotes defs.now bodies.now (vals_of T.denotes values.now) (expr_of T.denotes term.now)) }
 {
     match term {
         Term::Const(value) => Ok(*value),
@@ -166,6 +170,7 @@ fn evaluate_all<T: Theory>(
     ensures range { IsErrOf result Eval.Range → can_compute_all T.denotes defs.now bodies.now (vals_of T.denotes values.now) (exprs_of T.denotes terms.now.items.items) ≡ false }
     ensures traced { OnOk result (Gains trace.old (all_asks T.denotes defs.now bodies.now (vals_of T.denotes values.now) (exprs_of T.denotes terms.now.items.items)) trace.new) }
     ensures begun { OnErr result (TracedSome trace.old (all_asks T.denotes defs.now bodies.now (vals_of T.denotes values.now) (exprs_of T.denotes terms.now.items.items)) trace.new) }
+    ensures calls { OnOk result (AllAskRightly T.owned T.denotes defs.now bodies.now (vals_of T.denotes values.now) (exprs_of T.denotes terms.now.items.items)) }
 {
     let mut found = Vec::with_capacity(alloc, terms.len())?;
     for term in terms.as_slice() {

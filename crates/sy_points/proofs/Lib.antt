@@ -1,1 +1,1 @@
-mod Distinct
+pub mod Distinct

@@ -2,3 +2,4 @@ pub mod Leading
 pub mod Small
 pub mod Names
 pub mod Fits
+pub mod Sound

@@ -1,5 +1,5 @@
 -- When all that a file asks for fits.
-use Rattle.std.specs.Prelude.{Bool, true, List, ◌≡◌, All, ⊤}
+use Rattle.std.specs.Prelude.{Bool, List, All, ⊤}
 use Rattle.sy_terms.specs.Values.{Val, Whole}
 use Rattle.sy_terms.specs.declared.op.Op.{Op}
 use Rattle.sy_terms.specs.declared.sort.Sort.{Sort}

@@ -1,17 +1,17 @@
 // What a `check-synth` asks.
-ghost use Rattle.std.specs.Prelude.{◌≡◌, map, IfOk, OnOk};
-ghost use Rattle.std.specs.List.{list_all};
+ghost use Rattle.std.specs.Prelude.{◌≡◌, map, All, IfOk, OnOk};
 ghost use Rattle.sy_terms.specs.Denoted.{expr_of};
 ghost use Rattle.sy_terms.specs.Definitions.{signature, body, bodies};
 ghost use Rattle.sy_defaults.specs.Defaults.{IsOf};
-ghost use Rattle.sy_grammar.specs.Formed as formed;
 ghost use Rattle.sy_grammar.specs.Questions as questions;
 ghost use Rattle.sy_grammar.specs.Questions.{question_of};
 ghost use Rattle.sy_grammar.specs.Grown.{syntax_from};
 ghost use Rattle.sy_resolve.specs.Meant.{phrase_of};
 ghost use Rattle.sy_resolve.specs.Phrases.{expr_at};
 ghost use Rattle.sy_resolve.specs.Readings.{Gives};
+ghost use Rattle.sy_fitting.specs.Questions.{GoalFits};
 ghost use Rattle.sy_scope.specs.Contexts as contexts;
+ghost use Rattle.sy_sound.specs.Sound.{Sound};
 ghost use Rattle.sy_reader.specs.Seen.{context_of, definition_of, sought_of, condition_of, grammar_of};
 ghost use Rattle.sy_scope.specs.Steps as spec;
 
@@ -20,7 +20,7 @@ use crate::invariant::copied;
 use std::alloc::Global;
 use sy_causes::Cause;
 use sy_defaults::default_grammar;
-use sy_grammar::{Grammar, Problem, Wanted, well_formed};
+use sy_grammar::{Grammar, Problem, Wanted};
 use sy_productions::{nonterminals, sorts_of};
 use sy_resolve::{Phrase, ReadEnd};
 use sy_terms::{Def, Defs, Logic, Seq, Sort, Term, Theory, Want};
@@ -102,23 +102,6 @@ fn constraints_of<T: Theory>(
     Ok(terms)
 }
 
-/// Whether the sort is one of the theory's.
-fn is_known<T: Theory>(sort: Sort) -> bool
-    ensures { result ≡ formed.is_known T.numeric sort }
-{
-    match sort {
-        Sort::Bool => true,
-        Sort::Int | Sort::Bits(_) => T::of_number(sort, 0).is_some(),
-    }
-}
-
-/// Whether all sorts are the theory's.
-fn all_known<T: Theory>(sorts: &[Sort]) -> bool
-    ensures { result ≡ list_all (formed.is_known T.numeric) sorts.now }
-{
-    sorts.iter().all(|sort| is_known::<T>(*sort))
-}
-
 /// The grammar of a function to be found.
 fn grammar_in<T: Theory>(
     alloc: Global,
@@ -127,22 +110,15 @@ fn grammar_in<T: Theory>(
     defs: &Defs<T>,
 ) -> Result<Grammar<T>, Want>
     requires theory { IsOf logic T.owned T.numeric }
+    requires fits { GoalFits T.owned T.numeric (map signature defs.now) (contexts.goal_of (sought_of T.denotes logic sought.now)) }
     ensures { IfOk result (λ grammar. syntax_from T.denotes grammar ≡ grammar_of T.denotes logic sought.now.arguments sought.now.sort sought.now.groups) }
 {
     let args = sorts_of(alloc, sought.arguments.as_slice())?;
     let Some(groups) = &sought.groups else {
-        if !(is_known::<T>(sought.sort) && all_known::<T>(args.as_slice())) {
-            return Err(Want {});
-        }
-        let grammar = default_grammar(alloc, logic, args.as_slice(), sought.sort)?;
-        return Ok(grammar);
+        return default_grammar(alloc, logic, args.as_slice(), sought.sort);
     };
     let nons = nonterminals(alloc, groups.as_slice())?;
-    if well_formed(&args, &nons, defs) {
-        Ok(Grammar::new(args, nons, defs))
-    } else {
-        Err(Want {})
-    }
+    Ok(Grammar::new(args, nons, defs))
 }
 
 /// A function to be found, with its grammar.
@@ -153,6 +129,7 @@ fn wanted_of<T: Theory>(
     defs: &Defs<T>,
 ) -> Result<Wanted<T>, Want>
     requires theory { IsOf logic T.owned T.numeric }
+    requires fits { GoalFits T.owned T.numeric (map signature defs.now) (contexts.goal_of (sought_of T.denotes logic sought.now)) }
     ensures { IfOk result (λ wanted. questions.goal_of T.denotes wanted ≡ contexts.goal_of (sought_of T.denotes logic sought.now)) }
 {
     let args = sorts_of(alloc, sought.arguments.as_slice())?;
@@ -172,6 +149,7 @@ fn all_wanted<T: Theory>(
     defs: &Defs<T>,
 ) -> Result<Seq<Wanted<T>>, Want>
     requires theory { IsOf logic T.owned T.numeric }
+    requires fit { All (GoalFits T.owned T.numeric (map signature defs.now)) (map contexts.goal_of (map (sought_of T.denotes logic) sought.now)) }
     ensures { IfOk result (λ wanted. map (questions.goal_of T.denotes) wanted ≡ map contexts.goal_of (map (sought_of T.denotes logic) sought.now)) }
 {
     let mut wanted = Seq::new(alloc);
@@ -185,6 +163,7 @@ impl<T: Theory> Context<T> {
     /// What a `check-synth` asks.
     fn problem(&self, alloc: Global) -> Result<Problem<T>, Want>
         requires theory { IsOf self.now.logic T.owned T.numeric }
+        requires sound { Sound (context_of T.denotes self.now) }
         ensures { IfOk result (λ problem. question_of T.denotes problem ≡ contexts.question_at (context_of T.denotes self.now)) }
     {
         let Ok(outside) = u32::try_from(self.variables.len()) else {
@@ -210,6 +189,7 @@ impl<T: Theory> Context<T> {
     /// of integers.
     pub(crate) fn check_synth(&mut self, alloc: Global, at: Place) -> Result<(), ReadEnd>
         requires theory { IsOf self.old.logic T.owned T.numeric }
+        requires sound { Sound (context_of T.denotes self.old) }
         ensures step { Gives (λ _. context_of T.denotes self.new) result (spec.check_synth (context_of T.denotes self.old) self.old.logic at) }
         ensures logic { OnOk result (self.new.logic ≡ self.old.logic) }
     {

@@ -8,6 +8,7 @@ ghost use Rattle.sy_requests.specs.Asked.{spelled_of};
 ghost use Rattle.sy_reader.specs.Calls.{asked_of};
 ghost use Rattle.sy_reader.specs.Seen.{context_of};
 ghost use Rattle.sy_scope.specs.Steps as spec;
+ghost use Rattle.sy_sound.specs.Sound.{Sound};
 
 use crate::context::Context;
 use crate::invariant::Spellings;
@@ -72,6 +73,7 @@ impl<T: Theory> Context<T> {
     pub(crate) fn perform(&mut self, alloc: Global, asked: Asked<'_>) -> Result<(), ReadEnd>
         requires serves { Serves T.numeric self.old.logic }
         requires theory { IsOf self.old.logic T.owned T.numeric }
+        requires sound { Sound (context_of T.denotes self.old) }
         ensures step { Gives (λ _. context_of T.denotes self.new) result (spec.perform (context_of T.denotes self.old) (Some self.old.logic) (asked_of asked.entry)) }
         ensures logic { OnOk result (self.new.logic ≡ self.old.logic) }
     {
@@ -111,6 +113,7 @@ impl<T: Theory> Context<T> {
     pub(crate) fn step(&mut self, alloc: Global, item: &Sexp) -> Result<(), ReadEnd>
         requires serves { Serves T.numeric self.old.logic }
         requires theory { IsOf self.old.logic T.owned T.numeric }
+        requires sound { Sound (context_of T.denotes self.old) }
         ensures step { Gives (λ _. context_of T.denotes self.new) result (spec.step (context_of T.denotes self.old) (item_of item.now)) }
         ensures logic { OnOk result (self.new.logic ≡ self.old.logic) }
     {

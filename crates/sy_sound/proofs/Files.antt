@@ -34,7 +34,7 @@ pub sound_of : (logic : Logic) (context : Context) → IsSound logic context →
 sound_of logic context sound = subst (λ l. SoundBy l context) (sym sound.set) sound
 
 -- the first logic
-begun_sound : (logic : Logic) → IsSound logic (with_logic logic beginning)
+pub begun_sound : (logic : Logic) → IsSound logic (with_logic logic beginning)
 begun_sound logic = record {
   set = refl;
   abbreviations = All-nil (λ (x : List ℕ × Sort). is_known (defaults.sorts_of logic) x.1 ≡ true);

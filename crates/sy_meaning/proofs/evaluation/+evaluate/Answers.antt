@@ -1,4 +1,4 @@
-use Rattle.std.proofs.Common.{arith, ◌≡◌, [], ◌+◌, IfOk, ap, ◌∙◌, Result, Ok, Err, ◌++◌, OnOk, OnErr}
+use Rattle.std.proofs.Common.{arith, refl, ◌≡◌, [], ◌+◌, IfOk, ap, ◌∙◌, Result, Ok, Err, ◌++◌, OnOk, OnErr}
 use Rattle.std.specs.Result.{IsErrAnd}
 use Rattle.std.proofs.lemmas.Grind.{common_steps}
 use Rattle.std.proofs.lemmas.List.{take_all}
@@ -7,6 +7,7 @@ use Rattle.sy_terms.specs.Denoted.{expr_of}
 use Rattle.sy_laws.proofs.Steps as step
 use Rattle.sy_laws.proofs.Reached as reached
 use Rattle.sy_laws.proofs.Asks as asks
+use Rattle.sy_meaning.proofs.Rightly as rightly
 use Rattle.sy_laws.proofs.Reached.{weight_of}
 use Rattle.sy_laws.proofs.Lists.{weight, HaveValues-none}
 use Rattle.sy_meaning.proofs.evaluation.+evaluate.Goals as goal
@@ -196,7 +197,7 @@ evaluate_under-returns-clause-range g t c h =
 
 pub evaluate_all-loop-term-init : goal.evaluate_all-loop-term-init
 evaluate_all-loop-term-init g t c =
-    ((λ wanted bodies fit. rw (c.in_ok-found.ensures.items) (HaveValues-none g.row.T.Denot g.T.Theory.denotes _ _ _ _)), asks.gains_no_term _ _ _ _)
+    ((λ wanted bodies fit. rw (c.in_ok-found.ensures.items) (HaveValues-none g.row.T.Denot g.T.Theory.denotes _ _ _ _)), asks.gains_no_term _ _ _ _, (λ wanted bodies fit. rightly.no_term _ _ _ _))
 
 pub evaluate_all-evaluate_under-requires : goal.evaluate_all-evaluate_under-requires
 evaluate_all-evaluate_under-requires g t c κs within =
@@ -216,6 +217,9 @@ evaluate_all-loop-term-preserved g t c = (
       let has = c.in_ok-value.ensures.ok wanted bodies (step.all-at _ [] [] g.T.Theory.denotes _ c.as_slice-term-items.result.now c.loop-term.term-index c.term-item.result (omega arith) c.term-item.is fit) in
       rw (c.in_ok-push.ensures.items) (step.all-more _ _ _ g.T.Theory.denotes _ c.as_slice-term-items.result.now c.loop-term.term-index c.term-item.result c.loop-term.found.items c.in_ok-value.value (omega arith) c.term-item.is (c.loop-term.invariant.0 wanted bodies fit) has)),
   asks.gains_next _ _ _ g.T.Theory.denotes c.as_slice-term-items.result.now c.loop-term.term-index c.term-item.result _ _ _ (omega arith) c.term-item.is c.loop-term.invariant.1 c.in_ok-value.ensures.traced,
+  (λ wanted bodies fit.
+      let one = c.in_ok-value.ensures.calls wanted bodies (step.all-at _ [] [] g.T.Theory.denotes _ c.as_slice-term-items.result.now c.loop-term.term-index c.term-item.result (omega arith) c.term-item.is fit) in
+      rightly.next wanted _ _ _ g.T.Theory.denotes c.as_slice-term-items.result.now c.loop-term.term-index c.term-item.result (omega arith) c.term-item.is (c.loop-term.invariant.2 wanted bodies fit) one),
 )
 
 pub evaluate_all-returns-clause-ok : goal.evaluate_all-returns-clause-ok
@@ -327,3 +331,49 @@ evaluate_all-returns-clause-traced g t c =
     let gained = c.loop-term.invariant.1 in
     let all = take_all c.loop-term.term-index c.as_slice-term-items.result.now (omega arith) in
     rw (all, c.as_slice-term-items.ensures) at gained
+
+pub evaluate_under-returns-in-Const-clause-calls : goal.evaluate_under-returns-in-Const-clause-calls
+evaluate_under-returns-in-Const-clause-calls g t c =
+    λ wanted bodies fit. rightly.constant wanted g.T.Theory.denotes _ _ _ c.args.term.now c.in-Const.value c.in-Const.is
+
+pub evaluate_under-returns-in-Var-clause-calls : goal.evaluate_under-returns-in-Var-clause-calls
+evaluate_under-returns-in-Var-clause-calls g t c =
+    λ wanted bodies fit. rightly.variable wanted g.T.Theory.denotes _ _ _ c.args.term.now c.in-Var.position c.in-Var.is
+
+pub evaluate_under-returns-in-Is-clause-calls : goal.evaluate_under-returns-in-Is-clause-calls
+evaluate_under-returns-in-Is-clause-calls g t c =
+    λ wanted bodies fit.
+    rightly.application wanted g.T.Theory.denotes _ _ _ c.args.term.now c.in-App.operator c.in-App.arguments c.in-App.is
+    (c.in_ok-found-in-App.ensures.calls wanted bodies (step.app-arguments _ [] [] g.T.Theory.denotes _ _ _ _ c.in-App.is fit))
+
+pub evaluate_under-returns-in-Defined-clause-calls : goal.evaluate_under-returns-in-Defined-clause-calls
+evaluate_under-returns-in-Defined-clause-calls g t c =
+    on_ok c.evaluate_under.result c.evaluate_under.ensures.traced (λ after wanted bodies fit.
+    rightly.definition wanted g.T.Theory.denotes _ _ _ c.args.term.now c.in-Call.function c.in-Call.arguments _ c.in-Call.is c.in-Defined.is
+    (c.in_ok-found-in-Call.ensures.calls wanted bodies (step.call-arguments _ [] [] g.T.Theory.denotes _ _ _ _ c.in-Call.is fit)))
+
+pub evaluate_under-returns-in-Call-clause-calls : goal.evaluate_under-returns-in-Call-clause-calls
+evaluate_under-returns-in-Call-clause-calls g t c =
+    on_ok c.evaluate_under-in-Wanted.result c.evaluate_under-in-Wanted.ensures.traced (λ after wanted bodies fit.
+    let arguments = step.call-arguments _ [] [] g.T.Theory.denotes _ _ _ _ c.in-Call.is fit in
+    let have = c.in_ok-found-in-Call.ensures.ok wanted bodies arguments in
+    let takes = step.call-takes _ _ _ g.T.Theory.denotes _ _ _ _ _ _ c.in-Call.is c.in-Wanted.is fit have in
+    rightly.call wanted g.T.Theory.denotes _ _ _ c.args.term.now _ refl c.in-Call.function c.in-Call.arguments _ _ _ c.in-Call.is c.in-Wanted.is takes have
+    (c.in_ok-found-in-Call.ensures.calls wanted bodies arguments))
+
+pub evaluate_under-returns-clause-calls : goal.evaluate_under-returns-clause-calls
+evaluate_under-returns-clause-calls g t c =
+    let longer = c.as_slice-in-Let-2.ensures.value ∙ c.in_ok-longer-in-Let.ensures ∙ ap (λ rest. c.args.values.now ++ rest) c.as_slice-in-Let.ensures.value in
+    on_ok c.evaluate_under-in-Let.result c.evaluate_under-in-Let.ensures.calls (λ rightly_inner wanted bodies fit.
+    let within = step.let-bound _ [] [] g.T.Theory.denotes _ _ _ _ c.in-Let.is fit in
+    let have = c.in_ok-found-in-Let.ensures.ok wanted bodies within in
+    let inner = rw (longer, c.deref.ensures) at rightly_inner in
+    rightly.binding wanted g.T.Theory.denotes _ _ c.args.values.now _ c.args.term.now c.in-Let.bound c.in-Let.inner c.in-Let.is have.meanings
+    (c.in_ok-found-in-Let.ensures.calls wanted bodies within) (inner wanted bodies (step.let-inner _ _ _ g.T.Theory.denotes _ _ _ _ _ c.in-Let.is fit have)))
+
+pub evaluate_all-returns-clause-calls : goal.evaluate_all-returns-clause-calls
+evaluate_all-returns-clause-calls g t c =
+    λ wanted bodies fit.
+    let found = c.loop-term.invariant.2 wanted bodies (rw (c.as_slice-term-items.ensures) fit) in
+    let all = take_all c.loop-term.term-index c.as_slice-term-items.result.now (omega arith) in
+    rw (all, c.as_slice-term-items.ensures) at found

@@ -1,11 +1,20 @@
-use Rattle.std.proofs.Common.{◌<◌, ◌≤◌, ◌∙◌, ap, subst, length, Ok}
+use Rattle.std.proofs.Common.{◌<◌, ◌≤◌, ◌∙◌, ap, sym, subst, length, Ok}
 use Rattle.std.specs.Prelude.{IfSome}
 use Rattle.std.proofs.lemmas.Result.{err_from_is_err_and}
 use Rattle.sy_text.specs.Views.{item_of, command_of}
 use Rattle.sy_scope.specs.Files.{file_read}
+use Rattle.sy_reader.specs.Read.{LeadsTo}
 use Rattle.sy_reader.specs.Seen.{context_of}
 use Rattle.sy_reader.proofs.Leading.{leads_on, leads_to_end, ends_unread, ends_fault}
+use Rattle.sy_reader.proofs.Sound.{stays_sound, sound_from}
 use Rattle.sy_reader.proofs.file.read_commands.Goals as goal
+
+pub loop-context-init : goal.loop-context-init
+loop-context-init g c = record {
+  leads = subst (λ context. LeadsTo c.args.bytes.now c.args.opened.at c.args.opened.command context (file_read c.args.bytes.now)) (sym c.new-context.ensures.context) c.requires.opened;
+  logic = c.new-context.ensures.logic;
+  sound = sound_from c.args.opened.logic (context_of g.T.Theory.denotes c.new-context.result) c.new-context.ensures.context;
+}
 
 pub returns-in_err-item-clause-read : goal.returns-in_err-item-clause-read
 returns-in_err-item-clause-read g c =
@@ -24,6 +33,7 @@ loop-context-preserved-in-Ok g c =
     record {
       leads = leads_on c.args.bytes.now c.loop-context.at c.loop-context.command (context_of g.T.Theory.denotes c.loop-context.context) (file_read c.args.bytes.now) c.loop-context.invariant.leads (context_of g.T.Theory.denotes c.step.new.self) (item_of c.in-Some.item, c.in-Some.after) read forward.0 forward.1 c.in-Ok.ensures.step;
       logic = c.in-Ok.ensures.logic ∙ c.loop-context.invariant.logic;
+      sound = stays_sound (context_of g.T.Theory.denotes c.loop-context.context) (context_of g.T.Theory.denotes c.step.new.self) (item_of c.in-Some.item) c.loop-context.invariant.sound c.in-Ok.ensures.step;
     }
 
 pub loop-context-preserved-in-Ok-2 : goal.loop-context-preserved-in-Ok-2
@@ -33,6 +43,7 @@ loop-context-preserved-in-Ok-2 g c =
     record {
       leads = leads_on c.args.bytes.now c.loop-context.at c.loop-context.command (context_of g.T.Theory.denotes c.loop-context.context) (file_read c.args.bytes.now) c.loop-context.invariant.leads (context_of g.T.Theory.denotes c.step.new.self) (item_of c.in-Some.item, c.in-Some.after) read forward.0 forward.1 c.in-Ok.ensures.step;
       logic = c.in-Ok.ensures.logic ∙ c.loop-context.invariant.logic;
+      sound = stays_sound (context_of g.T.Theory.denotes c.loop-context.context) (context_of g.T.Theory.denotes c.step.new.self) (item_of c.in-Some.item) c.loop-context.invariant.sound c.in-Ok.ensures.step;
     }
 
 pub loop-context-preserved-in-Ok-3 : goal.loop-context-preserved-in-Ok-3
@@ -42,6 +53,7 @@ loop-context-preserved-in-Ok-3 g c =
     record {
       leads = leads_on c.args.bytes.now c.loop-context.at c.loop-context.command (context_of g.T.Theory.denotes c.loop-context.context) (file_read c.args.bytes.now) c.loop-context.invariant.leads (context_of g.T.Theory.denotes c.step.new.self) (item_of c.in-Some.item, c.in-Some.after) read forward.0 forward.1 c.in-Ok.ensures.step;
       logic = c.in-Ok.ensures.logic ∙ c.loop-context.invariant.logic;
+      sound = stays_sound (context_of g.T.Theory.denotes c.loop-context.context) (context_of g.T.Theory.denotes c.step.new.self) (item_of c.in-Some.item) c.loop-context.invariant.sound c.in-Ok.ensures.step;
     }
 
 pub loop-context-preserved-in-Ok-4 : goal.loop-context-preserved-in-Ok-4
@@ -51,6 +63,7 @@ loop-context-preserved-in-Ok-4 g c =
     record {
       leads = leads_on c.args.bytes.now c.loop-context.at c.loop-context.command (context_of g.T.Theory.denotes c.loop-context.context) (file_read c.args.bytes.now) c.loop-context.invariant.leads (context_of g.T.Theory.denotes c.step.new.self) (item_of c.in-Some.item, c.in-Some.after) read forward.0 forward.1 c.in-Ok.ensures.step;
       logic = c.in-Ok.ensures.logic ∙ c.loop-context.invariant.logic;
+      sound = stays_sound (context_of g.T.Theory.denotes c.loop-context.context) (context_of g.T.Theory.denotes c.step.new.self) (item_of c.in-Some.item) c.loop-context.invariant.sound c.in-Ok.ensures.step;
     }
 
 pub loop-context-preserved-in-Ok-5 : goal.loop-context-preserved-in-Ok-5
@@ -60,6 +73,7 @@ loop-context-preserved-in-Ok-5 g c =
     record {
       leads = leads_on c.args.bytes.now c.loop-context.at c.loop-context.command (context_of g.T.Theory.denotes c.loop-context.context) (file_read c.args.bytes.now) c.loop-context.invariant.leads (context_of g.T.Theory.denotes c.step.new.self) (item_of c.in-Some.item, c.in-Some.after) read forward.0 forward.1 c.in-Ok.ensures.step;
       logic = c.in-Ok.ensures.logic ∙ c.loop-context.invariant.logic;
+      sound = stays_sound (context_of g.T.Theory.denotes c.loop-context.context) (context_of g.T.Theory.denotes c.step.new.self) (item_of c.in-Some.item) c.loop-context.invariant.sound c.in-Ok.ensures.step;
     }
 
 pub loop-context-preserved : goal.loop-context-preserved
@@ -69,6 +83,7 @@ loop-context-preserved g c =
     record {
       leads = leads_on c.args.bytes.now c.loop-context.at c.loop-context.command (context_of g.T.Theory.denotes c.loop-context.context) (file_read c.args.bytes.now) c.loop-context.invariant.leads (context_of g.T.Theory.denotes c.step.new.self) (item_of c.in-Some.item, c.in-Some.after) read forward.0 forward.1 c.in-Ok.ensures.step;
       logic = c.in-Ok.ensures.logic ∙ c.loop-context.invariant.logic;
+      sound = stays_sound (context_of g.T.Theory.denotes c.loop-context.context) (context_of g.T.Theory.denotes c.step.new.self) (item_of c.in-Some.item) c.loop-context.invariant.sound c.in-Ok.ensures.step;
     }
 
 pub returns-clause-read : goal.returns-clause-read

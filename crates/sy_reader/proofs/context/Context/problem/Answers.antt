@@ -1,8 +1,9 @@
-use Rattle.std.proofs.Common.{◌≡◌, ◌∙◌, ap, map, length, arith}
+use Rattle.std.proofs.Common.{◌≡◌, ◌∙◌, refl, ap, map, length, arith}
 use Rattle.sy_resolve.specs.Meant.{phrase_of}
 use Rattle.sy_resolve.specs.Phrases.{expr_at}
 use Rattle.sy_scope.specs.Contexts.{signature_of, body_of, goal_of, condition_at}
-use Rattle.sy_reader.specs.Seen.{definition_of, sought_of, condition_of}
+use Rattle.sy_reader.specs.Seen.{context_of, definition_of, sought_of, condition_of}
+use Rattle.sy_reader.proofs.Sound.{goals_fit}
 use Rattle.sy_reader.proofs.context.Context.problem.Goals as goal
 
 pub returns : goal.returns
@@ -25,3 +26,9 @@ returns g c =
       constraints = constraints i;
       pool = c.in_ok-pool.ensures i;
     }
+
+pub all_wanted-requires-clause-fit : goal.all_wanted-requires-clause-fit
+all_wanted-requires-clause-fit g c =
+    let self = c.args.self.now in
+    let signatures = c.in_ok-defs.ensures.signatures ∙ ap (λ xs. map signature_of (map (definition_of g.T.Theory.denotes) xs)) c.as_slice.ensures in
+    rw c.as_slice-3.ensures (goals_fit self.logic g.T.Theory.owned g.T.Theory.numeric (context_of g.T.Theory.denotes self) _ c.requires.theory refl c.requires.sound signatures)
