@@ -1,0 +1,27 @@
+#!/usr/bin/env bash
+# Builds a bank of ten operators over four arguments of 32 bits at 64 points, beside the same in plain Rust (rustc -O).
+# It prints rows that were tried a second, and how many times as long the proved bank takes.
+# Its words, where it has some, are the number of points and that of sizes.
+set -eu
+cd "$(dirname "$0")/.."
+points=${1:-64} sizes=${2:-7}
+scratch=$(mktemp -d)
+trap 'rm -rf "$scratch"' EXIT
+rustc -O --edition 2021 -o "$scratch/bank" bench/bank.rs
+(cd crates/bench_bank && rt run) >/dev/null 2>&1 || true
+TIMEFORMAT='%U'
+# the least user time of five runs, after what the program printed
+measure() {
+    local line best=
+    for _ in 1 2 3 4 5; do
+        { time line=$("$@"); } 2>"$scratch/time"
+        best=$(sort -n <(echo "${best:-1000}") "$scratch/time" | head -1)
+    done
+    echo "$line $best"
+}
+read -r _ tried _ kept proved <<<"$(measure crates/bench_bank/out/bench_bank "$points" "$sizes" 1000000)"
+read -r _ plain_tried _ plain_kept plain <<<"$(measure "$scratch/bank" "$points" "$sizes")"
+[ "$tried $kept" = "$plain_tried $plain_kept" ] || echo "the counts differ: $tried $kept and $plain_tried $plain_kept"
+awk -v n="$tried" -v k="$kept" -v a="$proved" -v b="$plain" 'BEGIN {
+    printf "%d rows tried, %d terms kept: %.2f million rows a second; plain Rust %.2f; %.2f times as long\n",
+        n, k, n / a / 1e6, n / b / 1e6, a / b }'

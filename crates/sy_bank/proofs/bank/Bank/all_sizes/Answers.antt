@@ -1,0 +1,37 @@
+use Rattle.std.proofs.Common.{sym, subst, arith, List}
+use Rattle.std.proofs.lemmas.List.{length-map}
+use Rattle.sy_terms.specs.Values.{Val}
+use Rattle.sy_terms.specs.Denoted.{vals_of}
+use Rattle.sy_terms.specs.Definitions.{scope_of, bodies}
+use Rattle.sy_terms.specs.Meaning.{functions}
+use Rattle.sy_grammar.specs.Grown.{syntax_from}
+use Rattle.sy_rows.specs.Stored.{lost_of}
+use Rattle.sy_filling.specs.Task.{level_of}
+use Rattle.sy_offer.specs.Tasks.{ArePointsOf}
+use Rattle.sy_saturated.proofs.Next.{whole-covers}
+use Rattle.sy_bank.specs.Bank.{merged_of}
+use Rattle.sy_bank.specs.Promised.{Stays}
+use Rattle.sy_bank.proofs.Ends.{end-stays, handed-on, some-dropped}
+use Rattle.sy_bank.proofs.bank.Bank.all_sizes.Goals as goal
+use Rattle.sy_bank.proofs.bank.Bank.all_sizes.Goals.{then-loop-bank-test+else-len-upto, else-loop-bank-test}
+
+pub next_size-requires-clause-points : goal.next_size-requires-clause-points
+next_size-requires-clause-points g c = subst (λ (points : List (List Val)). ArePointsOf c.args.grammar.now.args points) (sym c.loop-bank.invariant.over) c.requires.points
+
+pub returns-in_err-bank-clause-stays : goal.returns-in_err-bank-clause-stays
+returns-in_err-bank-clause-stays g c =
+    let number = g.T.Theory.denotes in
+    let first = merged_of number c.args.self in
+    handed-on number (Stays first) c.from_residual.result c.in_err-bank.field-0.0 c.from_residual.ensures.1
+    (end-stays number (syntax_from number c.args.grammar.now) (functions (bodies number c.args.defs.now)) (vals_of number c.args.pool.now) c.args.cap first (merged_of number c.loop-bank.bank) c.in_err-bank.field-0.0 c.loop-bank.invariant.stays c.in_err-bank.ensures.next)
+
+pub returns-clause-whole : goal.returns-clause-whole
+returns-clause-whole g c =
+    let number = g.T.Theory.denotes in
+    let bank = merged_of number c.loop-bank.bank in
+    elim c.loop-bank-test.branch [
+      | then-loop-bank-test+else-len-upto w ↦ λ none_lost.
+          whole-covers (scope_of g.T.Theory.owned c.args.defs.now) (syntax_from number c.args.grammar.now) (functions (bodies number c.args.defs.now)) (vals_of number c.args.pool.now) bank c.loop-bank.invariant.built.ready none_lost
+          (omega (arith, w.if-len-upto.false, w.len.ensures, c.loop-bank.bank.levels.ok.0, length-map c.loop-bank.bank.levels.items (level_of number), c.loop-bank.invariant.up))
+      | else-loop-bank-test w ↦ λ none_lost. absurd (some-dropped (lost_of number) c.loop-bank.bank.dropped w.loop-bank-test.ensures none_lost)
+    ]

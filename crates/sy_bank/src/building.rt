@@ -1,0 +1,97 @@
+// Building banks.
+ghost use Rattle.std.specs.Prelude.{◌≡◌, ◌≤◌, true, None, map, IfOk};
+ghost use Rattle.sy_terms.specs.Denoted.{vals_of};
+ghost use Rattle.sy_terms.specs.Definitions.{DefinitionsFit, scope_of, bodies};
+ghost use Rattle.sy_terms.specs.Meaning.{functions};
+ghost use Rattle.sy_grammar.specs.Formed.{is_formed};
+ghost use Rattle.sy_grammar.specs.Grown.{syntax_from};
+ghost use Rattle.sy_rows.specs.Banks.{count};
+ghost use Rattle.sy_offer.specs.Tasks.{HasNegation, ArePointsOf};
+ghost use Rattle.sy_bank.specs.Answers.{OnBank, IfFull, IsBuilt};
+ghost use Rattle.sy_bank.specs.Bank.{merged_of};
+ghost use Rattle.sy_bank.specs.Promised.{IsBank, IsWhole, IsFull, Stays};
+
+use crate::bank::{Bank, BankEnd};
+use std::alloc::Global;
+use sy_filling::Table;
+use sy_grammar::Grammar;
+use sy_terms::{Defs, Seq, Theory, Values, Want, copied_values};
+
+/// How many buckets a table has at most; a bank of more terms has longer ones.
+const MOST_BUCKETS: u32 = 16_384;
+
+/// The same points, in memory of their own.
+fn copied_points<T: Theory>(alloc: Global, points: &[Values<T>]) -> Result<Seq<Values<T>>, Want>
+    ensures { IfOk result (λ copy. copy ≡ points.now) }
+{
+    let mut copy = Seq::new(alloc);
+    for point in points {
+        copy.push(copied_values::<T>(alloc, point.as_slice())?)?;
+    }
+    Ok(copy)
+}
+
+/// A bank of the terms of derivations up to this size, over these points, of at most `cap` kept terms. Where none was
+/// dropped, each yield of such a derivation is computable at all points, and a kept term of its nonterminal, of no
+/// larger size, has its row. `Full` comes exactly where `cap` terms are kept, none was dropped and one more is new.
+pub fn build<T: Theory>(
+    alloc: Global,
+    grammar: &Grammar<T>,
+    defs: &Defs<T>,
+    pool: &Values<T>,
+    points: &Seq<Values<T>>,
+    upto: u32,
+    cap: u32,
+) -> Result<Bank<T>, BankEnd<T>>
+    requires definitions { DefinitionsFit T.owned T.denotes defs.now }
+    requires negation { HasNegation T.numeric (scope_of T.owned defs.now) }
+    requires formed { is_formed T.numeric (scope_of T.owned defs.now) (syntax_from T.denotes grammar.now) ≡ true }
+    requires points { ArePointsOf grammar.now.args (map (vals_of T.denotes) points.now) }
+    ensures bank { OnBank T.denotes result (IsBank (syntax_from T.denotes grammar.now) (functions (bodies T.denotes defs.now)) (vals_of T.denotes pool.now) (map (vals_of T.denotes) points.now) upto cap) }
+    ensures whole { IfOk result (λ bank. IsWhole (syntax_from T.denotes grammar.now) (functions (bodies T.denotes defs.now)) (vals_of T.denotes pool.now) (merged_of T.denotes bank)) }
+    ensures full { IfFull T.denotes result (IsFull (syntax_from T.denotes grammar.now) (functions (bodies T.denotes defs.now)) (vals_of T.denotes pool.now) cap) }
+    ensures built { IfOk result (IsBuilt T.denotes (scope_of T.owned defs.now) (syntax_from T.denotes grammar.now) (functions (bodies T.denotes defs.now)) (vals_of T.denotes pool.now)) }
+{
+    let bank = Bank {
+        points: copied_points::<T>(alloc, points.as_slice())?,
+        upto,
+        levels: Vec::new(alloc),
+        table: Table::new(alloc, cap.min(MOST_BUCKETS) as usize)?,
+        count: 0,
+        dropped: None,
+    };
+    let whole = bank.all_sizes(alloc, grammar, defs, pool, cap)?;
+    Ok(whole)
+}
+
+impl<T: Theory> Bank<T> {
+    /// What `build` answers on the bank's points with the new numbers; the kept terms stay where they stood.
+    pub fn grow(
+        self,
+        alloc: Global,
+        grammar: &Grammar<T>,
+        defs: &Defs<T>,
+        pool: &Values<T>,
+        upto: u32,
+        cap: u32,
+    ) -> Result<Bank<T>, BankEnd<T>>
+        requires definitions { DefinitionsFit T.owned T.denotes defs.now }
+        requires negation { HasNegation T.numeric (scope_of T.owned defs.now) }
+        requires formed { is_formed T.numeric (scope_of T.owned defs.now) (syntax_from T.denotes grammar.now) ≡ true }
+        requires points { ArePointsOf grammar.now.args (merged_of T.denotes self).points }
+        requires built { IsBuilt T.denotes (scope_of T.owned defs.now) (syntax_from T.denotes grammar.now) (functions (bodies T.denotes defs.now)) (vals_of T.denotes pool.now) self }
+        requires none_lost { (merged_of T.denotes self).dropped ≡ None }
+        requires larger { self.upto ≤ upto }
+        requires room { count (merged_of T.denotes self).levels ≤ cap }
+        ensures bank { OnBank T.denotes result (IsBank (syntax_from T.denotes grammar.now) (functions (bodies T.denotes defs.now)) (vals_of T.denotes pool.now) (merged_of T.denotes self).points upto cap) }
+        ensures whole { IfOk result (λ bank. IsWhole (syntax_from T.denotes grammar.now) (functions (bodies T.denotes defs.now)) (vals_of T.denotes pool.now) (merged_of T.denotes bank)) }
+        ensures full { IfFull T.denotes result (IsFull (syntax_from T.denotes grammar.now) (functions (bodies T.denotes defs.now)) (vals_of T.denotes pool.now) cap) }
+        ensures built { IfOk result (IsBuilt T.denotes (scope_of T.owned defs.now) (syntax_from T.denotes grammar.now) (functions (bodies T.denotes defs.now)) (vals_of T.denotes pool.now)) }
+        ensures stays { OnBank T.denotes result (Stays (merged_of T.denotes self)) }
+    {
+        let mut bank = self;
+        bank.upto = upto;
+        let whole = bank.all_sizes(alloc, grammar, defs, pool, cap)?;
+        Ok(whole)
+    }
+}

@@ -1,0 +1,151 @@
+// Adding the kept terms of further sizes to a bank.
+ghost use Rattle.std.specs.Prelude.{◌≡◌, ◌<◌, ◌≤◌, ◌++◌, ◌∷◌, [], true, None, length, map, IfOk};
+ghost use Rattle.std.specs.Option.{option_map};
+ghost use Rattle.sy_terms.specs.Denoted.{vals_of};
+ghost use Rattle.sy_terms.specs.Definitions.{DefinitionsFit, scope_of, bodies};
+ghost use Rattle.sy_terms.specs.Meaning.{functions};
+ghost use Rattle.sy_grammar.specs.Formed.{is_formed};
+ghost use Rattle.sy_grammar.specs.Grown.{syntax_from};
+ghost use Rattle.sy_rows.specs.Banks.{count};
+ghost use Rattle.sy_rows.specs.Stored.{lost_of};
+ghost use Rattle.sy_filling.specs.Task.{level_of, levels_of};
+ghost use Rattle.sy_offer.specs.Tasks.{HasNegation, ArePointsOf};
+ghost use Rattle.sy_bank.specs.Answers.{OnBank, IfFull, IsBuilt};
+ghost use Rattle.sy_bank.specs.Bank.{merged_of};
+ghost use Rattle.sy_bank.specs.Promised.{IsBank, IsWhole, IsFull, IsNext, Stays};
+
+use crate::bank::{Bank, BankEnd};
+use crate::rules::fill;
+use std::alloc::Global;
+use sy_filling::{Filling, Level, Stop, Task};
+use sy_grammar::Grammar;
+use sy_terms::{Defs, Seq, Theory, Values, Want};
+
+/// The bank of these levels and what was kept beyond them.
+fn closed<T: Theory>(
+    points: Seq<Values<T>>,
+    upto: u32,
+    levels: Vec<Level<T>>,
+    filling: Filling<T>,
+) -> Result<Bank<T>, Want>
+    ensures merged { IfOk result (λ bank. merged_of T.denotes bank ≡ record { points = map (vals_of T.denotes) points; upto = upto; levels = levels_of T.denotes levels.items ++ level_of T.denotes filling.fresh ∷ []; dropped = option_map (lost_of T.denotes) filling.dropped }) }
+    ensures table { IfOk result (λ bank. bank.table ≡ filling.table) }
+    ensures count { IfOk result (λ bank. bank.count ≡ filling.count) }
+{
+    let mut levels = levels;
+    levels.push(filling.fresh)?;
+    Ok(Bank {
+        points,
+        upto,
+        levels,
+        table: filling.table,
+        count: filling.count,
+        dropped: filling.dropped,
+    })
+}
+
+impl<T: Theory> Bank<T> {
+    /// Adds the kept terms of the next size.
+    pub(crate) fn next_size(
+        self,
+        alloc: Global,
+        grammar: &Grammar<T>,
+        defs: &Defs<T>,
+        pool: &Values<T>,
+        cap: u32,
+    ) -> Result<Bank<T>, BankEnd<T>>
+        requires definitions { DefinitionsFit T.owned T.denotes defs.now }
+        requires negation { HasNegation T.numeric (scope_of T.owned defs.now) }
+        requires formed { is_formed T.numeric (scope_of T.owned defs.now) (syntax_from T.denotes grammar.now) ≡ true }
+        requires points { ArePointsOf grammar.now.args (merged_of T.denotes self).points }
+        requires built { IsBuilt T.denotes (scope_of T.owned defs.now) (syntax_from T.denotes grammar.now) (functions (bodies T.denotes defs.now)) (vals_of T.denotes pool.now) self }
+        requires none_lost { (merged_of T.denotes self).dropped ≡ None }
+        requires open { length self.levels.items ≤ self.upto }
+        requires room { count (merged_of T.denotes self).levels ≤ cap }
+        ensures next { OnBank T.denotes result (IsNext (syntax_from T.denotes grammar.now) (functions (bodies T.denotes defs.now)) (vals_of T.denotes pool.now) cap (merged_of T.denotes self)) }
+        ensures built { IfOk result (IsBuilt T.denotes (scope_of T.owned defs.now) (syntax_from T.denotes grammar.now) (functions (bodies T.denotes defs.now)) (vals_of T.denotes pool.now)) }
+        ensures full { IfFull T.denotes result (IsFull (syntax_from T.denotes grammar.now) (functions (bodies T.denotes defs.now)) (vals_of T.denotes pool.now) cap) }
+    {
+        let Bank {
+            points,
+            upto,
+            levels,
+            table,
+            count,
+            dropped,
+        } = self;
+        let mut filling = Filling {
+            fresh: Level::new(alloc, grammar.nons().len())?,
+            table,
+            count,
+            dropped,
+        };
+        let task = Task {
+            alloc,
+            grammar,
+            defs,
+            pool,
+            points: points.as_slice(),
+            levels: levels.as_slice(),
+            size: levels.len() as u32,
+            cap: cap as usize,
+        };
+        let filled = fill(&task, &mut filling);
+        let Task {
+            alloc: _,
+            grammar: _,
+            defs: _,
+            pool: _,
+            points: _,
+            levels: _,
+            size: _,
+            cap: _,
+        } = task;
+        match filled {
+            Ok(()) => {
+                let bank = closed(points, upto, levels, filling)?;
+                Ok(bank)
+            }
+            Err(Stop::Enough) => {
+                let bank = closed(points, upto, levels, filling)?;
+                Ok(bank)
+            }
+            Err(Stop::Full(nonterminal, next)) => {
+                let bank = closed(points, upto, levels, filling)?;
+                Err(BankEnd::Full(bank, nonterminal, next))
+            }
+            Err(Stop::Want) => Err(BankEnd::Want),
+        }
+    }
+}
+
+impl<T: Theory> Bank<T> {
+    /// Adds the kept terms of all sizes that are missing, until one is dropped.
+    pub(crate) fn all_sizes(
+        self,
+        alloc: Global,
+        grammar: &Grammar<T>,
+        defs: &Defs<T>,
+        pool: &Values<T>,
+        cap: u32,
+    ) -> Result<Bank<T>, BankEnd<T>>
+        requires definitions { DefinitionsFit T.owned T.denotes defs.now }
+        requires negation { HasNegation T.numeric (scope_of T.owned defs.now) }
+        requires formed { is_formed T.numeric (scope_of T.owned defs.now) (syntax_from T.denotes grammar.now) ≡ true }
+        requires points { ArePointsOf grammar.now.args (merged_of T.denotes self).points }
+        requires built { IsBuilt T.denotes (scope_of T.owned defs.now) (syntax_from T.denotes grammar.now) (functions (bodies T.denotes defs.now)) (vals_of T.denotes pool.now) self }
+        requires room { count (merged_of T.denotes self).levels ≤ cap }
+        ensures bank { OnBank T.denotes result (IsBank (syntax_from T.denotes grammar.now) (functions (bodies T.denotes defs.now)) (vals_of T.denotes pool.now) (merged_of T.denotes self).points self.upto cap) }
+        ensures whole { IfOk result (λ bank. IsWhole (syntax_from T.denotes grammar.now) (functions (bodies T.denotes defs.now)) (vals_of T.denotes pool.now) (merged_of T.denotes bank)) }
+        ensures full { IfFull T.denotes result (IsFull (syntax_from T.denotes grammar.now) (functions (bodies T.denotes defs.now)) (vals_of T.denotes pool.now) cap) }
+        ensures built { IfOk result (IsBuilt T.denotes (scope_of T.owned defs.now) (syntax_from T.denotes grammar.now) (functions (bodies T.denotes defs.now)) (vals_of T.denotes pool.now)) }
+        ensures stays { OnBank T.denotes result (Stays (merged_of T.denotes self)) }
+    {
+        let upto = self.upto as usize;
+        let mut bank = self;
+        while bank.dropped.is_none() && bank.levels.len() <= upto {
+            bank = bank.next_size(alloc, grammar, defs, pool, cap)?;
+        }
+        Ok(bank)
+    }
+}

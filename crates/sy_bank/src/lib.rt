@@ -1,0 +1,12 @@
+// Merged banks: the kept terms of a grammar up to a size, at most one for each row of values at the points.
+#![tactic(auto)]
+
+mod bank;
+mod building;
+mod growing;
+mod rules;
+#[cfg(test)]
+mod tests;
+
+pub use bank::{Bank, BankEnd};
+pub use building::build;

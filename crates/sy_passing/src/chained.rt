@@ -1,0 +1,55 @@
+// Chain rules, and what they make of kept terms.
+ghost use Rattle.std.specs.Prelude.{◌≡◌, ℕ, MatchOption, IfOk};
+ghost use Rattle.sy_grammar.specs.Patterns.{Occurrence};
+ghost use Rattle.sy_grammar.specs.Trees.{Template};
+ghost use Rattle.sy_grammar.specs.Grown.{production_of};
+ghost use Rattle.sy_rows.specs.Stored.{entry_of};
+ghost use Rattle.sy_passing.specs.Passing as spec;
+
+use std::alloc::Global;
+use sy_columns::copied_derivation;
+use sy_grammar::{Derivation, Derivations, Part, Rule};
+use sy_rows::Kept;
+use sy_terms::{Theory, Want, copied_values};
+
+/// The rule of this number of a nonterminal, which is the other nonterminal alone.
+#[derive(Clone, Copy)]
+pub struct Chain {
+    pub nonterminal: u32,
+    pub number: u32,
+    pub to: u32,
+}
+
+/// The nonterminal that the rule is alone; `None` exactly where it is another rule.
+pub fn chained_to<T: Theory>(rule: &Rule<T>) -> Option<u32>
+    ensures { MatchOption result
+        ((to : ℕ) → production_of T.denotes rule.now ≡ Template (Occurrence to) → ⊥)
+        (λ to. production_of T.denotes rule.now ≡ Template (Occurrence to)) }
+{
+    match rule {
+        Rule::Term(part) => match part {
+            Part::Non(to) => Some(*to),
+            Part::Const(_) => None,
+            Part::Var(_) => None,
+            Part::App(_, _) => None,
+            Part::Call(_, _) => None,
+        },
+        Rule::AnyConstant(_) => None,
+        Rule::AnyVariable(_) => None,
+    }
+}
+
+/// The kept term, in memory of its own, derived by the chain rule of this number.
+pub fn chained<T: Theory>(alloc: Global, number: u32, kept: &Kept<T>) -> Result<Kept<T>, Want>
+    ensures { IfOk result (λ passed. entry_of T.denotes passed ≡ spec.chained number (entry_of T.denotes kept.now)) }
+{
+    let mut children = Derivations::new(alloc);
+    let child = copied_derivation(alloc, &kept.derivation)?;
+    children.push(child)?;
+    Ok(Kept {
+        term: kept.term.copy(alloc)?,
+        derivation: Derivation::Node(number, children),
+        size: kept.size,
+        row: copied_values::<T>(alloc, kept.row.as_slice())?,
+    })
+}

@@ -1,0 +1,3 @@
+pub mod LevelsLemmas
+pub mod TriedLemmas
+pub mod Next
