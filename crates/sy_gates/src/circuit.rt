@@ -1,10 +1,11 @@
-ghost use Rattle.std.specs.Prelude.{◌<◌, ◌^◌, ◌≡◌, ℕ, Bool, true, ◌↔◌, ◌+◌, ◌≤◌, ◌&&◌, ◌||◌, cond, ◌*◌, length, OnOk, IfOk, [], ◌++◌, ◌∷◌};
+ghost use Rattle.std.specs.Prelude.{◌<◌, ◌^◌, ◌≡◌, ℕ, Bool, true, ◌↔◌, ◌+◌, ◌≤◌, ◌&&◌, ◌||◌, cond, ◌*◌, length, OnOk, IfOk, IfSome, [], ◌++◌, ◌∷◌};
 ghost use Rattle.sy_gates.specs.Circuits.{Plan, variables, Follows, bit_value, bit_bound, gate_bound, gate_value, bit_number, xor, Grown, lit_bound, lit_value, clauses_bound};
 ghost use Rattle.sy_gates.specs.Models.{but_last, ExtendsInOneWay};
 ghost use Rattle.sy_clauses.specs.Clauses.{IsModel};
 
 use crate::encode::{add_clause, add_gate};
-use crate::gate::{Added, Bit, Gate};
+use crate::gate::{Added, Bit, Gate, negated, variable};
+use crate::table::Table;
 use std::alloc::Global;
 use std::marker::Model;
 use sy_clauses::{Cnf, Lit};
@@ -15,6 +16,7 @@ use sy_seq::{Seq, Want};
 pub struct Circuit {
     inputs: u32,
     gates: Seq<Gate>,
+    table: Table,
 }
 
 impl Model for Circuit {
@@ -36,11 +38,24 @@ impl Circuit {
         Circuit {
             inputs,
             gates: Seq::new(alloc),
+            table: Table::new(alloc),
         }
     }
 
+    // The literal of a gate's variable, where the table knows the gate.
+    fn found(&self, gate: Gate) -> Option<Lit>
+        ensures inside { IfSome result (λ l. lit_bound l ≤ variables self.now) }
+        ensures value { IfSome result (λ l. (v : ℕ → Bool) → Follows v self.now → lit_value v l ≡ gate_value v gate) }
+    {
+        let place = self.table.place_of(self.gates.as_slice(), gate)?;
+        Some(Lit {
+            var: self.inputs + place,
+            positive: true,
+        })
+    }
+
     // Adds a gate and gives the literal of its variable.
-    fn make(&mut self, gate: Gate) -> Result<Lit, Want>
+    fn push_gate(&mut self, gate: Gate) -> Result<Lit, Want>
         requires inside { gate_bound gate ≤ variables self.old }
         requires room { variables self.old + 1 < 2 ^ 31 }
         ensures grown { Grown self.old self.new }
@@ -50,10 +65,27 @@ impl Circuit {
     {
         let made = self.gates.len();
         self.gates.push(gate)?;
+        self.table.note_last(self.gates.as_slice())?;
         Ok(Lit {
             var: self.inputs + made as u32,
             positive: true,
         })
+    }
+
+    // The literal of a gate's variable. A gate that was made before is not added again.
+    fn make(&mut self, gate: Gate) -> Result<Lit, Want>
+        requires inside { gate_bound gate ≤ variables self.old }
+        requires room { variables self.old + 1 < 2 ^ 31 }
+        ensures grown { Grown self.old self.new }
+        ensures cost { OnOk result (variables self.new ≤ variables self.old + 1) }
+        ensures inside { IfOk result (λ l. lit_bound l ≤ variables self.new) }
+        ensures value { IfOk result (λ l. (v : ℕ → Bool) → Follows v self.new → lit_value v l ≡ gate_value v gate) }
+    {
+        if let Some(literal) = self.found(gate) {
+            return Ok(literal);
+        }
+        let literal = self.push_gate(gate)?;
+        Ok(literal)
     }
 
     // Adds a gate and gives the bit of its variable.
@@ -67,6 +99,75 @@ impl Circuit {
     {
         let literal = self.make(gate)?;
         Ok(Bit::Of(literal))
+    }
+
+    // The bit that is true where both literals are. The gate's literals stand in the order of their variables.
+    fn both(&mut self, x: Lit, y: Lit) -> Result<Bit, Want>
+        requires left { lit_bound x ≤ variables self.old }
+        requires right { lit_bound y ≤ variables self.old }
+        requires room { variables self.old + 1 < 2 ^ 31 }
+        ensures grown { Grown self.old self.new }
+        ensures cost { OnOk result (variables self.new ≤ variables self.old + 1) }
+        ensures inside { IfOk result (λ r. bit_bound r ≤ variables self.new) }
+        ensures value { IfOk result (λ r. (v : ℕ → Bool) → Follows v self.new → bit_value v r ≡ lit_value v x && lit_value v y) }
+    {
+        if x.var == y.var {
+            return Ok(if x.positive == y.positive {
+                Bit::Of(x)
+            } else {
+                Bit::Fixed(false)
+            });
+        }
+        if x.var < y.var {
+            self.gate(Gate::And(x, y))
+        } else {
+            self.gate(Gate::And(y, x))
+        }
+    }
+
+    // The bit that is true where exactly one of the literals is. The gate's literals are variables, in their order.
+    fn differ(&mut self, x: Lit, y: Lit) -> Result<Bit, Want>
+        requires left { lit_bound x ≤ variables self.old }
+        requires right { lit_bound y ≤ variables self.old }
+        requires room { variables self.old + 1 < 2 ^ 31 }
+        ensures grown { Grown self.old self.new }
+        ensures cost { OnOk result (variables self.new ≤ variables self.old + 1) }
+        ensures inside { IfOk result (λ r. bit_bound r ≤ variables self.new) }
+        ensures value { IfOk result (λ r. (v : ℕ → Bool) → Follows v self.new → bit_value v r ≡ xor (lit_value v x) (lit_value v y)) }
+    {
+        let turned = x.positive != y.positive;
+        if x.var == y.var {
+            return Ok(Bit::Fixed(turned));
+        }
+        let least = x.var.min(y.var);
+        let greatest = x.var.max(y.var);
+        let bit = self.gate(Gate::Xor(variable(least), variable(greatest)))?;
+        Ok(if turned { bit.negated() } else { bit })
+    }
+
+    // The bit of `x` where the test is true, and of `y` elsewhere. The gate's test is a variable.
+    fn chosen(&mut self, test: Lit, x: Lit, y: Lit) -> Result<Bit, Want>
+        requires test { lit_bound test ≤ variables self.old }
+        requires left { lit_bound x ≤ variables self.old }
+        requires right { lit_bound y ≤ variables self.old }
+        requires room { variables self.old + 1 < 2 ^ 31 }
+        ensures grown { Grown self.old self.new }
+        ensures cost { OnOk result (variables self.new ≤ variables self.old + 1) }
+        ensures inside { IfOk result (λ r. bit_bound r ≤ variables self.new) }
+        ensures value { IfOk result (λ r. (v : ℕ → Bool) → Follows v self.new → bit_value v r ≡ cond (lit_value v test) (lit_value v x) (lit_value v y)) }
+    {
+        if x.var == y.var {
+            return if x.positive == y.positive {
+                Ok(Bit::Of(x))
+            } else {
+                self.differ(test, y)
+            };
+        }
+        if test.positive {
+            self.gate(Gate::Choose(test, x, y))
+        } else {
+            self.gate(Gate::Choose(negated(test), y, x))
+        }
     }
 
     /// A literal with the truth value of the bit.
@@ -119,7 +220,7 @@ impl Circuit {
             Bit::Fixed(x) => Ok(if x { b } else { Bit::Fixed(false) }),
             Bit::Of(x) => match b {
                 Bit::Fixed(y) => Ok(if y { a } else { Bit::Fixed(false) }),
-                Bit::Of(y) => self.gate(Gate::And(x, y)),
+                Bit::Of(y) => self.both(x, y),
             },
         }
     }
@@ -138,7 +239,7 @@ impl Circuit {
             Bit::Fixed(x) => Ok(if x { b.negated() } else { b }),
             Bit::Of(x) => match b {
                 Bit::Fixed(y) => Ok(if y { a.negated() } else { a }),
-                Bit::Of(y) => self.gate(Gate::Xor(x, y)),
+                Bit::Of(y) => self.differ(x, y),
             },
         }
     }
@@ -182,7 +283,7 @@ impl Circuit {
                     } else {
                         self.and(test, a)
                     },
-                    Bit::Of(y) => self.gate(Gate::Choose(t, x, y)),
+                    Bit::Of(y) => self.chosen(t, x, y),
                 },
             },
         }

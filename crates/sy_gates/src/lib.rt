@@ -10,6 +10,7 @@ mod product;
 mod quotient;
 mod shift;
 mod signed;
+mod table;
 #[cfg(test)]
 mod tests;
 mod wires;

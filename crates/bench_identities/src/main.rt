@@ -1,0 +1,155 @@
+// Decides whether an identity of bit vectors holds, for a measurement. The words are the name of a file, or `-` for
+// standard input, and the most clauses to learn. The file is a problem whose first constraint is the identity; the query
+// asks for values of its variables at which it is false. It prints what was found, how many clauses were learned by how
+// many resolutions, and the sizes of the circuit's clauses.
+#![tactic(auto)]
+
+ghost use Rattle.std.specs.Prelude.{◌≤◌, length};
+
+use std::alloc::Global;
+use std::env;
+use std::process::ExitCode;
+use sy_clauses::{Cnf, Log, check};
+use sy_decide::{Decide, Verdict};
+use sy_grammar::Problem;
+use sy_io::{FileSource, read_whole};
+use sy_limits::Limits;
+use sy_query::Query;
+use sy_reader::{Job, read_file};
+use sy_solve::{BvDecide, BvProof, BvSpent, fits};
+use sy_terms::{Op, Seq, Term, Terms, Want};
+use sy_words::BvTheory;
+
+/// The most bytes that are read.
+const FILE_MAX: usize = 4_194_304;
+
+/// The status where the words or the file are refused.
+const REFUSED: u8 = 3;
+
+/// The status where memory runs out.
+const WANT: u8 = 6;
+
+/// Limits with so many learned clauses.
+fn limits(clauses: u32) -> Limits {
+    Limits {
+        size: 12,
+        rounds: 256,
+        points: 512,
+        bank: 20_000,
+        weight: 400_000,
+        clauses,
+        nodes: 4_000,
+        pivots: 10_000,
+    }
+}
+
+/// The query of the values at which the problem's first constraint is false; `None` where there is none.
+fn query_of(alloc: Global, problem: &Problem<BvTheory>) -> Result<Option<Query<BvTheory>>, Want> {
+    let Some(identity) = problem.constraints.get(0) else {
+        return Ok(None);
+    };
+    let mut vars = Seq::new(alloc);
+    for sort in problem.vars.as_slice() {
+        vars.push(*sort)?;
+    }
+    let mut negated = Terms::new(alloc);
+    negated.push(identity.copy(alloc)?)?;
+    Ok(Some(Query {
+        vars,
+        body: Term::App(Op::Not, negated),
+    }))
+}
+
+/// The query of the first problem of the text; `None` where it has none, or is refused.
+fn first_query(alloc: Global, bytes: &[u8]) -> Result<Option<Query<BvTheory>>, Want> {
+    if bytes.len() > FILE_MAX {
+        return Ok(None);
+    }
+    let Ok(Job::Bits(problems, _)) = read_file(alloc, bytes) else {
+        return Ok(None);
+    };
+    match problems.get(0) {
+        Some(problem) => query_of(alloc, problem),
+        None => Ok(None),
+    }
+}
+
+/// The resolutions of a log's lines.
+fn resolutions(log: &Log) -> u64 {
+    let mut count: u64 = 0;
+    for line in log.lines.as_slice() {
+        count = count.saturating_add(line.steps.len() as u64);
+    }
+    count
+}
+
+/// Prints the sizes of the clauses and of the log.
+fn print_sizes(rt: &impl Print, cnf: &Cnf, log: &Log) {
+    let vars = cnf.vars;
+    let clauses = cnf.clauses.len();
+    let lines = log.lines.len();
+    let steps = resolutions(log);
+    let _ = println!(rt; "{vars} variables {clauses} clauses {lines} learned {steps} resolutions");
+}
+
+/// Decides the query, and prints what came of it; whether it fits.
+fn measure(rt: &HostRuntime, query: &Query<BvTheory>, clauses: u32) -> Result<bool, Want> {
+    let alloc = rt.alloc();
+    if !fits(alloc, query)? {
+        return Ok(false);
+    }
+    match BvDecide::new().decide(alloc, query, &limits(clauses))? {
+        Verdict::Never(BvProof { cnf, log }) => {
+            let accepted = check(alloc, &cnf, &log)?;
+            let _ = print!(rt; "holds {accepted} accepted ");
+            print_sizes(rt, &cnf, &log);
+        }
+        Verdict::Model(values) => {
+            let count = values.len();
+            let _ = println!(rt; "fails {count} values");
+        }
+        Verdict::Spent(BvSpent::Clauses(cnf, log)) => {
+            let _ = print!(rt; "spent ");
+            print_sizes(rt, &cnf, &log);
+        }
+    }
+    Ok(true)
+}
+
+/// Reads the file under the name, and measures.
+fn run(rt: &HostRuntime, name: &str, clauses: u32) -> Result<u8, Want> {
+    let mut source = FileSource::new(rt);
+    let Ok(bytes) = read_whole(rt.alloc(), &mut source, name, FILE_MAX) else {
+        return Ok(REFUSED);
+    };
+    let Some(query) = first_query(rt.alloc(), bytes.as_slice())? else {
+        return Ok(REFUSED);
+    };
+    let fitted = measure(rt, &query, clauses)?;
+    Ok(if fitted { 0 } else { REFUSED })
+}
+
+/// The word at a place, or an empty one.
+fn word(words: &[String], place: usize) -> &str {
+    match words.get(place) {
+        Some(word) => word.as_str(),
+        None => "",
+    }
+}
+
+fn main(rt: HostRuntime) -> ExitCode {
+    let Ok(words) = env::args(&rt) else {
+        return ExitCode::from(REFUSED);
+    };
+    let Ok(words) = words.collect::<Vec<String>>(rt.alloc()) else {
+        return ExitCode::from(WANT);
+    };
+    let words = words.as_slice();
+    let Ok(clauses) = word(words, 2).parse::<u32>() else {
+        return ExitCode::from(REFUSED);
+    };
+    match run(&rt, word(words, 1), clauses) {
+        Ok(status) => ExitCode::from(status),
+        Err(_) => ExitCode::from(WANT),
+    }
+}

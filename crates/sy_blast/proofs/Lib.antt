@@ -1,0 +1,4 @@
+pub mod Entering
+pub mod Examples
+pub mod Reading
+pub mod Saying

@@ -1,0 +1,4 @@
+pub mod Encoded
+pub mod Words
+pub mod Arguments
+pub mod Squares
