@@ -9,3 +9,5 @@ pub mod Violation
 pub mod Walking
 pub mod Problem
 pub mod Parts
+pub mod Itself
+pub mod Examples

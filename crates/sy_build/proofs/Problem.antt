@@ -19,6 +19,7 @@ use Rattle.sy_grammar.specs.declared.problem.Problem.{Problem}
 use Rattle.sy_query.specs.Queries as queries
 use Rattle.sy_query.specs.Weights.{weight, weights, query_scope}
 use Rattle.sy_decide.specs.Asked.{Query, Fits, query_weight, is_sort_with}
+use Rattle.sy_build.specs.declared.room.Left.{Left}
 use Rattle.sy_build.specs.Placing.{all_placed_with, AllFitOver, AreBuilt}
 use Rattle.sy_build.specs.Problems.{ProblemFits, IsTruth, signatures}
 use Rattle.sy_build.specs.Sized.{IsSized}
@@ -69,17 +70,17 @@ pub variables-sized : (numeric : Sort → Bool) (ss : List Sort) → All (λ sor
 variables-sized numeric ss all = All-weaker (λ (sort : Sort). is_sort_with numeric sort ≡ true) IsSized (is_sort-sized numeric) ss all
 
 -- ---- what the code has built
-pub body-built : {T N : Type 0} (owned : Op → Bool) (number : N → Val) (problem : Problem T N) (terms : List (Term T N)) (first second : List Sort) (before mid again after : ℕ) (assumptions constraints : Exprs) (found more_found : List Sort) (body : Expr) → first ≡ problem.vars → second ≡ first → AreBuilt (query_scope owned) first (all_placed_with number problem.defs terms 0 (length first) (exprs_of number problem.assumptions)) before mid assumptions found → AreBuilt (query_scope owned) second (all_placed_with number problem.defs terms 0 (length second) (exprs_of number problem.constraints)) again after constraints more_found → body ≡ violated_by assumptions constraints → body ≡ queries.query_of (question_of number problem) (map (expr_of number) terms)
-body-built owned number problem terms first second before mid again after assumptions constraints found more_found body at next are also is =
-    let front = rw at at are.are in
-    let back = rw (next ∙ at) at also.are in
+pub body-built : {T N : Type 0} (owned : Op → Bool) (number : N → Val) (problem : Problem T N) (terms : List (Term T N)) (first second : List Sort) (before mid after : Left) (assumptions constraints : Exprs) (found more_found : List Sort) (body : Expr) → first ≡ problem.vars → second ≡ first → AreBuilt (query_scope owned) first (all_placed_with number problem.defs terms 0 (length first) (exprs_of number problem.assumptions)) before mid assumptions found → AreBuilt (query_scope owned) second (all_placed_with number problem.defs terms 0 (length second) (exprs_of number problem.constraints)) mid after constraints more_found → after.counted ≡ true → body ≡ violated_by assumptions constraints → body ≡ queries.query_of (question_of number problem) (map (expr_of number) terms)
+body-built owned number problem terms first second before mid after assumptions constraints found more_found body at next are also counted is =
+    let front = rw at at are.are (also.counted counted) in
+    let back = rw (next ∙ at) at also.are counted in
     is ∙ ((λ k. violated_by (front k) (back k)) ∙ sym (body-is number problem terms))
 
 pub query-is : (variables : List Sort) (copy : List Sort) (body whole : Expr) → copy ≡ variables → body ≡ whole → let q : Query = record { variables = copy; body = body } in let w : Query = record { variables = variables; body = whole } in q ≡ w
 query-is variables copy body whole same is = λ k. record { variables = same k; body = is k }
 
 -- the weights that were taken from the limit
-pub taken : {T N : Type 0} (owned : Op → Bool) (number : N → Val) (problem : Problem T N) (terms items : List (Term T N)) (all : List Sort) (before after : ℕ) (built : Exprs) (found : List Sort) → all ≡ problem.vars → AreBuilt (query_scope owned) all (all_placed_with number problem.defs terms 0 (length all) (exprs_of number items)) before after built found → before ≡ after + weights (query_scope owned) problem.vars (row number problem terms items)
+pub taken : {T N : Type 0} (owned : Op → Bool) (number : N → Val) (problem : Problem T N) (terms items : List (Term T N)) (all : List Sort) (before after : Left) (built : Exprs) (found : List Sort) → all ≡ problem.vars → AreBuilt (query_scope owned) all (all_placed_with number problem.defs terms 0 (length all) (exprs_of number items)) before after built found → before.weight ≡ after.weight + weights (query_scope owned) problem.vars (row number problem terms items)
 taken owned number problem terms items all before after built found at are = rw at at are.weight
 
 pub taken-heavy : {T N : Type 0} (owned : Op → Bool) (number : N → Val) (problem : Problem T N) (terms items : List (Term T N)) (all : List Sort) (before : ℕ) → all ≡ problem.vars → before < weights (query_scope owned) all (all_placed_with number problem.defs terms 0 (length all) (exprs_of number items)) → before < weights (query_scope owned) problem.vars (row number problem terms items)

@@ -26,6 +26,7 @@ use Rattle.sy_laws.proofs.Equations.{if_Some, applied_sort_Some, called_sort_Som
 use Rattle.sy_laws.proofs.Steps.{app-is, call-is, let-is}
 use Rattle.sy_query.specs.Queries.{count, all_placed}
 use Rattle.sy_query.specs.Weights.{weight, weights, sort_weight, operator_weight, with_sorts, query_scope}
+use Rattle.sy_build.specs.declared.room.Left.{Left}
 use Rattle.sy_build.specs.Placing.{placed_with, all_placed_with, called_with, Takes, FitsOver, AllFitOver, IsBuilt, AreBuilt, IsBound, bound_weight, HasSort, IsApplied, applied_weight}
 use Rattle.sy_build.specs.Sized.{IsSized}
 use Rattle.sy_build.proofs.Forms.{var-placed, app-placed, defined-called, wanted-called, whole-sort, wholes-sort}
@@ -39,11 +40,11 @@ use Rattle.sy_build.proofs.Weighing.{all-weigh, count-nodes}
 use Rattle.sy_build.proofs.Leaves.{count-terms}
 
 -- ---- what is built is what stands for the term
-built-as : (scope : Scope) (sorts : List Sort) (whole e : Expr) (before after : ℕ) (built : Expr) (sort : Sort) → whole ≡ e → built ≡ e → sort_in scope sorts e ≡ Some sort → before ≡ after + weight scope sorts e → IsBuilt scope sorts whole before after built sort
-built-as scope sorts whole e before after built sort at is sorted weighs = rw at (record { is = is; has = sorted; weight = weighs })
+built-as : (scope : Scope) (sorts : List Sort) (whole e : Expr) (before after : Left) (built : Expr) (sort : Sort) → whole ≡ e → (after.counted ≡ true → built ≡ e) → sort_in scope sorts e ≡ Some sort → before.weight ≡ after.weight + weight scope sorts e → (after.counted ≡ true → before.counted ≡ true) → IsBuilt scope sorts whole before after built sort
+built-as scope sorts whole e before after built sort at is sorted weighs counted = rw at (record { is = is; has = sorted; weight = weighs; counted = counted })
 
 -- the same, in other words
-pub rebuilt : (scope : Scope) (sorts : List Sort) (whole e : Expr) (before after : ℕ) (built : Expr) (sort : Sort) → whole ≡ e → IsBuilt scope sorts e before after built sort → IsBuilt scope sorts whole before after built sort
+pub rebuilt : (scope : Scope) (sorts : List Sort) (whole e : Expr) (before after : Left) (built : Expr) (sort : Sort) → whole ≡ e → IsBuilt scope sorts e before after built sort → IsBuilt scope sorts whole before after built sort
 rebuilt scope sorts whole e before after built sort at is = rw at is
 
 -- a constant
@@ -68,7 +69,7 @@ app-fits owned number defs terms own term operator arguments is fit =
     record { wanted = fit.wanted; bodies = fit.bodies; found = parts.sorts; are = parts.is }
 
 -- the operator has a value, at arguments as many as they weigh at most
-pub app-sorted : {T N : Type 0} (owned : Op → Bool) (number : N → Val) (defs : List (Def T N)) (terms : List (Term T N)) (first : ℕ) (all : List Sort) (term : Term T N) (operator : Op) (arguments : Terms T N) (before after : ℕ) (built : Exprs) (found : List Sort) → term ≡ App operator arguments → DefinitionsFit owned number defs → first ≤ length all → FitsOver owned number defs terms (drop first all) (expr_of number term) → AreBuilt (query_scope owned) all (all_placed_with number defs terms first (length all) (exprs_of number arguments.items.items)) before after built found → (owned operator ≡ true) × HasSort operator found
+pub app-sorted : {T N : Type 0} (owned : Op → Bool) (number : N → Val) (defs : List (Def T N)) (terms : List (Term T N)) (first : ℕ) (all : List Sort) (term : Term T N) (operator : Op) (arguments : Terms T N) (before after : Left) (built : Exprs) (found : List Sort) → term ≡ App operator arguments → DefinitionsFit owned number defs → first ≤ length all → FitsOver owned number defs terms (drop first all) (expr_of number term) → AreBuilt (query_scope owned) all (all_placed_with number defs terms first (length all) (exprs_of number arguments.items.items)) before after built found → (owned operator ≡ true) × HasSort operator found
 unfolding sort_in
 app-sorted owned number defs terms first all term operator arguments before after built found is definitions within fit are =
     let whole = whole-sort owned number defs terms first all (expr_of number term) definitions within fit in
@@ -77,32 +78,32 @@ app-sorted owned number defs terms first all term operator arguments before afte
     let same = same_Some parts.sorts found (sym parts.is ∙ are.have) in
     (parts.owned, record { sort = fit.sort; is = rw same at parts.fits })
 
-pub applied-built : (owned : Op → Bool) (all : List Sort) (whole : Expr) (operator : Op) (arguments : Exprs) (before mid after : ℕ) (built : Exprs) (found : List Sort) (result : Expr) (sort : Sort) → whole ≡ Apply operator arguments → owned operator ≡ true → AreBuilt (query_scope owned) all arguments before mid built found → IsApplied operator built found mid after result sort → IsBuilt (query_scope owned) all whole before after result sort
+pub applied-built : (owned : Op → Bool) (all : List Sort) (whole : Expr) (operator : Op) (arguments : Exprs) (before mid after : Left) (built : Exprs) (found : List Sort) (result : Expr) (sort : Sort) → whole ≡ Apply operator arguments → owned operator ≡ true → AreBuilt (query_scope owned) all arguments before mid built found → IsApplied operator built found mid after result sort → IsBuilt (query_scope owned) all whole before after result sort
 unfolding sort_in weight
 applied-built owned all whole operator arguments before mid after built found result sort at own are is =
     let here : sort_in (query_scope owned) all (Apply operator arguments) ≡ Some sort = rw (are.have, own, is.has) refl in
-    let itself : applied_weight operator built found ≡ operator_weight operator (count arguments) (sort_weight (Some sort)) = rw (are.are, is.has) refl in
+    let itself : applied_weight operator built found ≡ operator_weight operator (count arguments) (sort_weight (Some sort)) = rw (are.many, is.has) refl in
     let first = are.weight in
     let second = is.weight in
-    built-as (query_scope owned) all whole (Apply operator arguments) before after result sort at (is.is ∙ ap (Apply operator) are.are) here (rw here (omega (arith, first, second, itself)))
+    built-as (query_scope owned) all whole (Apply operator arguments) before after result sort at (λ all. is.is ∙ ap (Apply operator) (are.are (is.counted all))) here (rw here (omega (arith, first, second, itself))) (λ all. are.counted (is.counted all))
 
-pub applied-heavy : (owned : Op → Bool) (all : List Sort) (whole : Expr) (operator : Op) (arguments : Exprs) (before mid : ℕ) (built : Exprs) (found : List Sort) → whole ≡ Apply operator arguments → owned operator ≡ true → AreBuilt (query_scope owned) all arguments before mid built found → mid < applied_weight operator built found → before < weight (query_scope owned) all whole
+pub applied-heavy : (owned : Op → Bool) (all : List Sort) (whole : Expr) (operator : Op) (arguments : Exprs) (before mid : Left) (built : Exprs) (found : List Sort) → whole ≡ Apply operator arguments → owned operator ≡ true → AreBuilt (query_scope owned) all arguments before mid built found → mid.weight < applied_weight operator built found → before.weight < weight (query_scope owned) all whole
 unfolding sort_in weight
 applied-heavy owned all whole operator arguments before mid built found at own are heavy =
     let here : sort_in (query_scope owned) all (Apply operator arguments) ≡ given_by (sort_of operator found) = rw (are.have, own) refl in
     let first = are.weight in
-    rw (at, here) (omega (arith, first, rw are.are at heavy))
+    rw (at, here) (omega (arith, first, rw are.many at heavy))
 
 pub arguments-heavy : (scope : Scope) (all : List Sort) (whole : Expr) (operator : Op) (arguments : Exprs) (before : ℕ) → whole ≡ Apply operator arguments → before < weights scope all arguments → before < weight scope all whole
 unfolding weight
 arguments-heavy scope all whole operator arguments before at heavy = rw at (omega (arith, heavy))
 
 -- what is built has sizes as the list has, and there are no more terms than they weigh
-pub found-small : {T N : Type 0} (owned : Op → Bool) (number : N → Val) (all : List Sort) (arguments : Exprs) (before after : ℕ) (built : List (Term T N)) (found : List Sort) → All IsSized all → AreBuilt (query_scope owned) all arguments before after (exprs_of number built) found → All IsSized found × (length built + after ≤ before) × (length found ≡ length built)
+pub found-small : {T N : Type 0} (owned : Op → Bool) (number : N → Val) (all : List Sort) (arguments : Exprs) (before after : Left) (built : List (Term T N)) (found : List Sort) → All IsSized all → AreBuilt (query_scope owned) all arguments before after (exprs_of number built) found → All IsSized found × (length built + after.weight ≤ before.weight) × (length found ≡ length built)
 found-small owned number all arguments before after built found sized are =
     let weighed = all-weigh owned all sized arguments found are.have in
     let many = sorts_in-length (query_scope owned) all arguments found are.have in
-    let same = ap count are.are in
+    let same = are.many in
     let length_is = count-terms number built in
     let nodes_are = count-nodes arguments in
     let weight_is = are.weight in
@@ -110,16 +111,16 @@ found-small owned number all arguments before after built found sized are =
     (weighed.0, omega (arith, same, length_is, nodes_are, weight_is, least), omega (arith, many, same, length_is))
 
 -- a binding
-pub bound-built : (owned : Op → Bool) (all : List Sort) (whole : Expr) (arguments : Exprs) (inner : Expr) (before mid after : ℕ) (built : Exprs) (found : List Sort) (result : Expr) (sort : Sort) → whole ≡ Bind arguments inner → AreBuilt (query_scope owned) all arguments before mid built found → IsBound (query_scope owned) (all ++ found) built inner mid after result sort → IsBuilt (query_scope owned) all whole before after result sort
+pub bound-built : (owned : Op → Bool) (all : List Sort) (whole : Expr) (arguments : Exprs) (inner : Expr) (before mid after : Left) (built : Exprs) (found : List Sort) (result : Expr) (sort : Sort) → whole ≡ Bind arguments inner → AreBuilt (query_scope owned) all arguments before mid built found → IsBound (query_scope owned) (all ++ found) built inner mid after result sort → IsBuilt (query_scope owned) all whole before after result sort
 unfolding sort_in weight
 bound-built owned all whole arguments inner before mid after built found result sort at are is =
     let here : sort_in (query_scope owned) all (Bind arguments inner) ≡ Some sort = rw are.have is.has in
     let longer : with_sorts all (sorts_in (query_scope owned) all arguments) ≡ all ++ found = rw are.have refl in
     let first = are.weight in
-    let second : mid ≡ after + (weight (query_scope owned) (all ++ found) inner + sort_weight (Some sort)) = rw is.has at is.weight in
-    built-as (query_scope owned) all whole (Bind arguments inner) before after result sort at (is.is ∙ ap (λ (es : Exprs). Bind es inner) are.are) here (rw (here, longer) (omega (arith, first, second)))
+    let second : mid.weight ≡ after.weight + (weight (query_scope owned) (all ++ found) inner + sort_weight (Some sort)) = rw is.has at is.weight in
+    built-as (query_scope owned) all whole (Bind arguments inner) before after result sort at (λ each. is.is each ∙ ap (λ (es : Exprs). Bind es inner) (are.are (is.counted each))) here (rw (here, longer) (omega (arith, first, second))) (λ each. are.counted (is.counted each))
 
-pub bound-heavy : (owned : Op → Bool) (all : List Sort) (whole : Expr) (arguments : Exprs) (inner : Expr) (before mid : ℕ) (built : Exprs) (found : List Sort) → whole ≡ Bind arguments inner → AreBuilt (query_scope owned) all arguments before mid built found → mid < bound_weight (query_scope owned) (all ++ found) inner → before < weight (query_scope owned) all whole
+pub bound-heavy : (owned : Op → Bool) (all : List Sort) (whole : Expr) (arguments : Exprs) (inner : Expr) (before mid : Left) (built : Exprs) (found : List Sort) → whole ≡ Bind arguments inner → AreBuilt (query_scope owned) all arguments before mid built found → mid.weight < bound_weight (query_scope owned) (all ++ found) inner → before.weight < weight (query_scope owned) all whole
 unfolding sort_in weight
 bound-heavy owned all whole arguments inner before mid built found at are heavy =
     let here : sort_in (query_scope owned) all (Bind arguments inner) ≡ sort_in (query_scope owned) (all ++ found) inner = rw are.have refl in
@@ -139,7 +140,7 @@ let-fits owned number defs terms own term bound inner is fit =
     let parts = after_Some (sorts_in scope own (exprs_of number bound.items.items)) (λ (more : List Sort). sort_in scope (own ++ more) (expr_of number inner.value)) fit.sort (rw (let-is number term bound inner is) at fit.is) in
     record { wanted = fit.wanted; bodies = fit.bodies; found = parts.sorts; are = parts.is }
 
-pub let-inner-fits : {T N : Type 0} (owned : Op → Bool) (number : N → Val) (defs : List (Def T N)) (terms : List (Term T N)) (first : ℕ) (all : List Sort) (term : Term T N) (bound : Terms T N) (inner : Box (Term T N) Global) (before after : ℕ) (built : Exprs) (found : List Sort) → term ≡ Let bound inner → DefinitionsFit owned number defs → first ≤ length all → FitsOver owned number defs terms (drop first all) (expr_of number term) → AreBuilt (query_scope owned) all (all_placed_with number defs terms first (length all) (exprs_of number bound.items.items)) before after built found → FitsOver owned number defs terms (drop first (all ++ found)) (expr_of number inner.value)
+pub let-inner-fits : {T N : Type 0} (owned : Op → Bool) (number : N → Val) (defs : List (Def T N)) (terms : List (Term T N)) (first : ℕ) (all : List Sort) (term : Term T N) (bound : Terms T N) (inner : Box (Term T N) Global) (before after : Left) (built : Exprs) (found : List Sort) → term ≡ Let bound inner → DefinitionsFit owned number defs → first ≤ length all → FitsOver owned number defs terms (drop first all) (expr_of number term) → AreBuilt (query_scope owned) all (all_placed_with number defs terms first (length all) (exprs_of number bound.items.items)) before after built found → FitsOver owned number defs terms (drop first (all ++ found)) (expr_of number inner.value)
 unfolding sort_in
 let-inner-fits owned number defs terms first all term bound inner before after built found is definitions within fit are =
     let scope = scope_with owned defs fit.wanted in
@@ -161,7 +162,7 @@ call-fits owned number defs terms own term (Wanted n) arguments is fit =
     let parts = called_sort_Some (slice_get fit.wanted n) (sorts_in scope own (exprs_of number arguments.items.items)) fit.sort (rw (call-is number term (Wanted n) arguments is) at fit.is) in
     record { wanted = fit.wanted; bodies = fit.bodies; found = parts.function.takes; are = parts.takes }
 
-pub call-takes : {T N : Type 0} (owned : Op → Bool) (number : N → Val) (defs : List (Def T N)) (terms : List (Term T N)) (first : ℕ) (all : List Sort) (term : Term T N) (function : Fun) (arguments : Terms T N) (before after : ℕ) (built : Exprs) (found : List Sort) → term ≡ Call function arguments → DefinitionsFit owned number defs → first ≤ length all → FitsOver owned number defs terms (drop first all) (expr_of number term) → AreBuilt (query_scope owned) all (all_placed_with number defs terms first (length all) (exprs_of number arguments.items.items)) before after built found → Takes owned number defs terms function found
+pub call-takes : {T N : Type 0} (owned : Op → Bool) (number : N → Val) (defs : List (Def T N)) (terms : List (Term T N)) (first : ℕ) (all : List Sort) (term : Term T N) (function : Fun) (arguments : Terms T N) (before after : Left) (built : Exprs) (found : List Sort) → term ≡ Call function arguments → DefinitionsFit owned number defs → first ≤ length all → FitsOver owned number defs terms (drop first all) (expr_of number term) → AreBuilt (query_scope owned) all (all_placed_with number defs terms first (length all) (exprs_of number arguments.items.items)) before after built found → Takes owned number defs terms function found
 unfolding sort_in
 call-takes owned number defs terms first all term function arguments before after built found is definitions within fit are =
     let scope = scope_with owned defs fit.wanted in
@@ -243,12 +244,16 @@ unfolding weights
 weights-last scope all expr.none last = omega arith
 weights-last scope all (expr.more e front) last = omega (arith, weights-last scope all front last)
 
-pub none-built : {T N : Type 0} (number : N → Val) (scope : Scope) (defs : List (Def T N)) (terms : List (Term T N)) (first : ℕ) (all : List Sort) (before : ℕ) → let nothing : List (Term T N) = [] in AreBuilt scope all (all_placed_with number defs terms first (length all) (exprs_of number nothing)) before before (exprs_of number nothing) []
+pub none-built : {T N : Type 0} (number : N → Val) (scope : Scope) (defs : List (Def T N)) (terms : List (Term T N)) (first : ℕ) (all : List Sort) (before : Left) → let nothing : List (Term T N) = [] in AreBuilt scope all (all_placed_with number defs terms first (length all) (exprs_of number nothing)) before before (exprs_of number nothing) []
 unfolding all_placed sorts_in weights
-none-built number scope defs terms first all before = record { are = refl; have = refl; weight = omega arith }
+none-built number scope defs terms first all before = record { are = λ each. refl; many = refl; have = refl; weight = omega arith; counted = λ each. each }
+
+count-last : (front : Exprs) (last : Expr) → count (expr.append front (expr.more last expr.none)) ≡ count front + 1
+count-last expr.none last = refl
+count-last (expr.more e front) last = omega (arith, count-last front last)
 
 -- one term more
-pub more-built : {T N : Type 0} (number : N → Val) (scope : Scope) (defs : List (Def T N)) (terms : List (Term T N)) (first : ℕ) (all : List Sort) (items : List (Term T N)) (i before mid after : ℕ) (built : List (Term T N)) (found : List Sort) (term result : Term T N) (sort : Sort) → i < length items → term ≡ get_or items i term → AreBuilt scope all (all_placed_with number defs terms first (length all) (exprs_of number (take i items))) before mid (exprs_of number built) found → IsBuilt scope all (placed_with number defs terms first (length all) (expr_of number term)) mid after (expr_of number result) sort → AreBuilt scope all (all_placed_with number defs terms first (length all) (exprs_of number (take (i + 1) items))) before after (exprs_of number (built ++ result ∷ [])) (found ++ sort ∷ [])
+pub more-built : {T N : Type 0} (number : N → Val) (scope : Scope) (defs : List (Def T N)) (terms : List (Term T N)) (first : ℕ) (all : List Sort) (items : List (Term T N)) (i : ℕ) (before mid after : Left) (built : List (Term T N)) (found : List Sort) (term result : Term T N) (sort : Sort) → i < length items → term ≡ get_or items i term → AreBuilt scope all (all_placed_with number defs terms first (length all) (exprs_of number (take i items))) before mid (exprs_of number built) found → IsBuilt scope all (placed_with number defs terms first (length all) (expr_of number term)) mid after (expr_of number result) sort → AreBuilt scope all (all_placed_with number defs terms first (length all) (exprs_of number (take (i + 1) items))) before after (exprs_of number (built ++ result ∷ [])) (found ++ sort ∷ [])
 unfolding all_placed
 more-built {T} {N} number scope defs terms first all items i before mid after built found term result sort within read are is =
     let longer : take (i + 1) items ≡ take i items ++ term ∷ [] = take_more items i term within ∙ ap (λ (t : Term T N). take i items ++ t ∷ []) (sym read) in
@@ -259,9 +264,12 @@ more-built {T} {N} number scope defs terms first all items i before mid after bu
     let first_weight = are.weight in
     let second_weight = is.weight in
     rw whole (record {
-      are = exprs_of-append number built (result ∷ []) ∙ (λ k. expr.append (are.are k) (expr.more (is.is k) expr.none));
+      are = λ each. exprs_of-append number built (result ∷ []) ∙ (λ k. expr.append (are.are (is.counted each) k) (expr.more (is.is each k) expr.none));
+      many = ap count (exprs_of-append number built (result ∷ [])) ∙ (count-last (exprs_of number built) (expr_of number result) ∙ (ap (λ n. n + 1) are.many
+          ∙ sym (count-last (all_placed_with number defs terms first (length all) (exprs_of number (take i items))) (placed_with number defs terms first (length all) (expr_of number term)))));
       have = sorts-last scope all (all_placed_with number defs terms first (length all) (exprs_of number (take i items))) (placed_with number defs terms first (length all) (expr_of number term)) found sort are.have is.has;
       weight = omega (arith, first_weight, second_weight, weights-last scope all (all_placed_with number defs terms first (length all) (exprs_of number (take i items))) (placed_with number defs terms first (length all) (expr_of number term)));
+      counted = λ each. are.counted (is.counted each);
     })
 
 part-weighs : {T N : Type 0} (number : N → Val) (scope : Scope) (defs : List (Def T N)) (terms : List (Term T N)) (first long : ℕ) (all : List Sort) (items : List (Term T N)) (i : ℕ) (term : Term T N) → slice_get items i ≡ Some term → weights scope all (all_placed_with number defs terms first long (exprs_of number (take i items))) + weight scope all (placed_with number defs terms first long (expr_of number term)) ≤ weights scope all (all_placed_with number defs terms first long (exprs_of number items))
@@ -273,14 +281,14 @@ part-weighs number scope defs terms first long all (x ∷ items) zero term e =
 part-weighs number scope defs terms first long all (x ∷ items) (suc i) term e = omega (arith, part-weighs number scope defs terms first long all items i term e)
 
 -- where one term is too heavy, so are all
-pub part-heavy : {T N : Type 0} (number : N → Val) (scope : Scope) (defs : List (Def T N)) (terms : List (Term T N)) (first : ℕ) (all : List Sort) (items : List (Term T N)) (i before mid : ℕ) (built : Exprs) (found : List Sort) (term : Term T N) → i < length items → term ≡ get_or items i term → AreBuilt scope all (all_placed_with number defs terms first (length all) (exprs_of number (take i items))) before mid built found → mid < weight scope all (placed_with number defs terms first (length all) (expr_of number term)) → before < weights scope all (all_placed_with number defs terms first (length all) (exprs_of number items))
+pub part-heavy : {T N : Type 0} (number : N → Val) (scope : Scope) (defs : List (Def T N)) (terms : List (Term T N)) (first : ℕ) (all : List Sort) (items : List (Term T N)) (i : ℕ) (before mid : Left) (built : Exprs) (found : List Sort) (term : Term T N) → i < length items → term ≡ get_or items i term → AreBuilt scope all (all_placed_with number defs terms first (length all) (exprs_of number (take i items))) before mid built found → mid.weight < weight scope all (placed_with number defs terms first (length all) (expr_of number term)) → before.weight < weights scope all (all_placed_with number defs terms first (length all) (exprs_of number items))
 part-heavy number scope defs terms first all items i before mid built found term within read are heavy =
     let least = part-weighs number scope defs terms first (length all) all items i term (slice_get-get_or items i term within ∙ ap Some (sym read)) in
     let before_is = are.weight in
     omega (arith, least, before_is, heavy)
 
 -- what is left after some of the terms
-pub part-left : {T N : Type 0} (number : N → Val) (scope : Scope) (defs : List (Def T N)) (terms : List (Term T N)) (first : ℕ) (all : List Sort) (each : Exprs) (before mid : ℕ) (built : Exprs) (found : List Sort) → AreBuilt scope all each before mid built found → mid ≤ before
+pub part-left : {T N : Type 0} (number : N → Val) (scope : Scope) (defs : List (Def T N)) (terms : List (Term T N)) (first : ℕ) (all : List Sort) (each : Exprs) (before mid : Left) (built : Exprs) (found : List Sort) → AreBuilt scope all each before mid built found → mid.weight ≤ before.weight
 part-left number scope defs terms first all each before mid built found are =
     let is = are.weight in
     omega (arith, is)

@@ -19,6 +19,7 @@ use Rattle.std.specs.declared.boxed.Box.{Box}
 use Rattle.std.specs.declared.alloc.Global.{Global}
 use Rattle.sy_query.specs.Queries.{count, all_placed}
 use Rattle.sy_query.specs.Weights.{weight, weights, sort_weight, query_scope}
+use Rattle.sy_build.specs.declared.room.Left.{Left}
 use Rattle.sy_build.specs.Placing.{placed_with, all_placed_with, called_with, FitsOver, IsBuilt, AreBuilt, IsBound, bound_weight, IsApplied, applied_weight}
 use Rattle.sy_build.specs.Sized.{IsSized}
 use Rattle.sy_build.proofs.Forms.{app-placed, let-placed, call-placed}
@@ -55,13 +56,13 @@ not-error r e f told not h = absurd (not (kept-error r e f told h))
 pub longer-sized : (old new found : List Sort) → new ≡ old → All IsSized old → All IsSized found → All IsSized (new ++ found)
 longer-sized old new found same first second = rw same (All-append IsSized old found first second)
 
-pub longer-small : (old new found : List Sort) (before after many : ℕ) → new ≡ old → many + after ≤ before → length found ≡ many → length old + before < 2 ^ 32 → length (new ++ found) + after < 2 ^ 32
-longer-small old new found before after many same most is small = rw (same, length-append old found) (omega (arith, most, is, small))
+pub less-left : (before after many : ℕ) → many + after ≤ before → before < 2 ^ 32 → after < 2 ^ 32
+less-left before after many most small = omega (arith, most, small)
 
-pub few-terms : (long before after many : ℕ) → many + after ≤ before → long + before < 2 ^ 32 → many < 2 ^ 32
-few-terms long before after many most small = omega (arith, most, small)
+pub few-terms : (before after many : ℕ) → many + after ≤ before → before < 2 ^ 32 → many < 2 ^ 32
+few-terms before after many most small = omega (arith, most, small)
 
-long-is : (owned : Op → Bool) (all : List Sort) (arguments : Exprs) (before mid : ℕ) (built : Exprs) (found : List Sort) → AreBuilt (query_scope owned) all arguments before mid built found → length (all ++ found) ≡ length all + count arguments
+long-is : (owned : Op → Bool) (all : List Sort) (arguments : Exprs) (before mid : Left) (built : Exprs) (found : List Sort) → AreBuilt (query_scope owned) all arguments before mid built found → length (all ++ found) ≡ length all + count arguments
 long-is owned all arguments before mid built found are = length-append all found ∙ ap (λ n. length all + n) (sorts_in-length (query_scope owned) all arguments found are.have)
 
 count-placed : {T N : Type 0} (number : N → Val) (defs : List (Def T N)) (terms : List (Term T N)) (first long : ℕ) (each : Exprs) → count (all_placed_with number defs terms first long each) ≡ count each
@@ -70,12 +71,12 @@ count-placed number defs terms first long expr.none = refl
 count-placed number defs terms first long (expr.more e rest) = omega (arith, count-placed number defs terms first long rest)
 
 -- ---- applications
-pub app-built : {T N : Type 0} (owned : Op → Bool) (number : N → Val) (defs : List (Def T N)) (terms : List (Term T N)) (first : ℕ) (all : List Sort) (term : Term T N) (operator : Op) (arguments : Terms T N) (before mid after : ℕ) (built : Exprs) (found : List Sort) (result : Expr) (sort : Sort) → term ≡ App operator arguments → DefinitionsFit owned number defs → first ≤ length all → FitsOver owned number defs terms (drop first all) (expr_of number term) → AreBuilt (query_scope owned) all (all_placed_with number defs terms first (length all) (exprs_of number arguments.items.items)) before mid built found → IsApplied operator built found mid after result sort → IsBuilt (query_scope owned) all (placed_with number defs terms first (length all) (expr_of number term)) before after result sort
+pub app-built : {T N : Type 0} (owned : Op → Bool) (number : N → Val) (defs : List (Def T N)) (terms : List (Term T N)) (first : ℕ) (all : List Sort) (term : Term T N) (operator : Op) (arguments : Terms T N) (before mid after : Left) (built : Exprs) (found : List Sort) (result : Expr) (sort : Sort) → term ≡ App operator arguments → DefinitionsFit owned number defs → first ≤ length all → FitsOver owned number defs terms (drop first all) (expr_of number term) → AreBuilt (query_scope owned) all (all_placed_with number defs terms first (length all) (exprs_of number arguments.items.items)) before mid built found → IsApplied operator built found mid after result sort → IsBuilt (query_scope owned) all (placed_with number defs terms first (length all) (expr_of number term)) before after result sort
 app-built owned number defs terms first all term operator arguments before mid after built found result sort is definitions within fit are applied =
     step.applied-built owned all (placed_with number defs terms first (length all) (expr_of number term)) operator (all_placed_with number defs terms first (length all) (exprs_of number arguments.items.items)) before mid after built found result sort (app-placed number defs terms first (length all) term operator arguments is)
     (step.app-sorted owned number defs terms first all term operator arguments before mid built found is definitions within fit are).0 are applied
 
-pub app-heavy : {T N : Type 0} (owned : Op → Bool) (number : N → Val) (defs : List (Def T N)) (terms : List (Term T N)) (first : ℕ) (all : List Sort) (term : Term T N) (operator : Op) (arguments : Terms T N) (before mid : ℕ) (built : Exprs) (found : List Sort) → term ≡ App operator arguments → DefinitionsFit owned number defs → first ≤ length all → FitsOver owned number defs terms (drop first all) (expr_of number term) → AreBuilt (query_scope owned) all (all_placed_with number defs terms first (length all) (exprs_of number arguments.items.items)) before mid built found → mid < applied_weight operator built found → before < weight (query_scope owned) all (placed_with number defs terms first (length all) (expr_of number term))
+pub app-heavy : {T N : Type 0} (owned : Op → Bool) (number : N → Val) (defs : List (Def T N)) (terms : List (Term T N)) (first : ℕ) (all : List Sort) (term : Term T N) (operator : Op) (arguments : Terms T N) (before mid : Left) (built : Exprs) (found : List Sort) → term ≡ App operator arguments → DefinitionsFit owned number defs → first ≤ length all → FitsOver owned number defs terms (drop first all) (expr_of number term) → AreBuilt (query_scope owned) all (all_placed_with number defs terms first (length all) (exprs_of number arguments.items.items)) before mid built found → mid.weight < applied_weight operator built found → before.weight < weight (query_scope owned) all (placed_with number defs terms first (length all) (expr_of number term))
 app-heavy owned number defs terms first all term operator arguments before mid built found is definitions within fit are heavy =
     step.applied-heavy owned all (placed_with number defs terms first (length all) (expr_of number term)) operator (all_placed_with number defs terms first (length all) (exprs_of number arguments.items.items)) before mid built found (app-placed number defs terms first (length all) term operator arguments is)
     (step.app-sorted owned number defs terms first all term operator arguments before mid built found is definitions within fit are).0 are heavy
@@ -85,14 +86,14 @@ app-arguments-heavy owned number defs terms first all term operator arguments be
     step.arguments-heavy (query_scope owned) all (placed_with number defs terms first (length all) (expr_of number term)) operator (all_placed_with number defs terms first (length all) (exprs_of number arguments.items.items)) before (app-placed number defs terms first (length all) term operator arguments is) heavy
 
 -- ---- calls
-pub call-built : {T N : Type 0} (owned : Op → Bool) (number : N → Val) (defs : List (Def T N)) (terms : List (Term T N)) (first : ℕ) (all new : List Sort) (term : Term T N) (function : Fun) (arguments : Terms T N) (before mid after : ℕ) (built : Exprs) (found : List Sort) (result : Expr) (sort : Sort) → term ≡ Call function arguments → new ≡ all → AreBuilt (query_scope owned) all (all_placed_with number defs terms first (length all) (exprs_of number arguments.items.items)) before mid built found → IsBound (query_scope owned) (new ++ found) built (called_with number defs terms function (length new) (length (new ++ found))) mid after result sort → IsBuilt (query_scope owned) all (placed_with number defs terms first (length all) (expr_of number term)) before after result sort
+pub call-built : {T N : Type 0} (owned : Op → Bool) (number : N → Val) (defs : List (Def T N)) (terms : List (Term T N)) (first : ℕ) (all new : List Sort) (term : Term T N) (function : Fun) (arguments : Terms T N) (before mid after : Left) (built : Exprs) (found : List Sort) (result : Expr) (sort : Sort) → term ≡ Call function arguments → new ≡ all → AreBuilt (query_scope owned) all (all_placed_with number defs terms first (length all) (exprs_of number arguments.items.items)) before mid built found → IsBound (query_scope owned) (new ++ found) built (called_with number defs terms function (length new) (length (new ++ found))) mid after result sort → IsBuilt (query_scope owned) all (placed_with number defs terms first (length all) (expr_of number term)) before after result sort
 call-built owned number defs terms first all new term function arguments before mid after built found result sort is same are bound =
     let counted : length (all ++ found) ≡ length all + count (exprs_of number arguments.items.items) = long-is owned all (all_placed_with number defs terms first (length all) (exprs_of number arguments.items.items)) before mid built found are ∙ ap (λ n. length all + n) (count-placed number defs terms first (length all) (exprs_of number arguments.items.items)) in
     step.bound-built owned all (placed_with number defs terms first (length all) (expr_of number term)) (all_placed_with number defs terms first (length all) (exprs_of number arguments.items.items)) (called_with number defs terms function (length all) (length (all ++ found))) before mid after built found result sort
     (call-placed number defs terms first (length all) term function arguments is ∙ ap (λ n. Bind (all_placed_with number defs terms first (length all) (exprs_of number arguments.items.items)) (called_with number defs terms function (length all) n)) (sym counted))
     are (rw same at bound)
 
-pub call-heavy : {T N : Type 0} (owned : Op → Bool) (number : N → Val) (defs : List (Def T N)) (terms : List (Term T N)) (first : ℕ) (all new : List Sort) (term : Term T N) (function : Fun) (arguments : Terms T N) (before mid : ℕ) (built : Exprs) (found : List Sort) → term ≡ Call function arguments → new ≡ all → AreBuilt (query_scope owned) all (all_placed_with number defs terms first (length all) (exprs_of number arguments.items.items)) before mid built found → mid < bound_weight (query_scope owned) (new ++ found) (called_with number defs terms function (length new) (length (new ++ found))) → before < weight (query_scope owned) all (placed_with number defs terms first (length all) (expr_of number term))
+pub call-heavy : {T N : Type 0} (owned : Op → Bool) (number : N → Val) (defs : List (Def T N)) (terms : List (Term T N)) (first : ℕ) (all new : List Sort) (term : Term T N) (function : Fun) (arguments : Terms T N) (before mid : Left) (built : Exprs) (found : List Sort) → term ≡ Call function arguments → new ≡ all → AreBuilt (query_scope owned) all (all_placed_with number defs terms first (length all) (exprs_of number arguments.items.items)) before mid built found → mid.weight < bound_weight (query_scope owned) (new ++ found) (called_with number defs terms function (length new) (length (new ++ found))) → before.weight < weight (query_scope owned) all (placed_with number defs terms first (length all) (expr_of number term))
 call-heavy owned number defs terms first all new term function arguments before mid built found is same are heavy =
     let counted : length (all ++ found) ≡ length all + count (exprs_of number arguments.items.items) = long-is owned all (all_placed_with number defs terms first (length all) (exprs_of number arguments.items.items)) before mid built found are ∙ ap (λ n. length all + n) (count-placed number defs terms first (length all) (exprs_of number arguments.items.items)) in
     step.bound-heavy owned all (placed_with number defs terms first (length all) (expr_of number term)) (all_placed_with number defs terms first (length all) (exprs_of number arguments.items.items)) (called_with number defs terms function (length all) (length (all ++ found))) before mid built found
@@ -104,14 +105,14 @@ call-arguments-heavy owned number defs terms first all term function arguments b
     step.bound-arguments-heavy (query_scope owned) all (placed_with number defs terms first (length all) (expr_of number term)) (all_placed_with number defs terms first (length all) (exprs_of number arguments.items.items)) _ before (call-placed number defs terms first (length all) term function arguments is) heavy
 
 -- ---- bindings
-pub let-built : {T N : Type 0} (owned : Op → Bool) (number : N → Val) (defs : List (Def T N)) (terms : List (Term T N)) (first : ℕ) (all new : List Sort) (term : Term T N) (bound : Terms T N) (inner : Box (Term T N) Global) (before mid after : ℕ) (built : Exprs) (found : List Sort) (result : Expr) (sort : Sort) → term ≡ Let bound inner → new ≡ all → AreBuilt (query_scope owned) all (all_placed_with number defs terms first (length all) (exprs_of number bound.items.items)) before mid built found → IsBound (query_scope owned) (new ++ found) built (placed_with number defs terms first (length (new ++ found)) (expr_of number inner.value)) mid after result sort → IsBuilt (query_scope owned) all (placed_with number defs terms first (length all) (expr_of number term)) before after result sort
+pub let-built : {T N : Type 0} (owned : Op → Bool) (number : N → Val) (defs : List (Def T N)) (terms : List (Term T N)) (first : ℕ) (all new : List Sort) (term : Term T N) (bound : Terms T N) (inner : Box (Term T N) Global) (before mid after : Left) (built : Exprs) (found : List Sort) (result : Expr) (sort : Sort) → term ≡ Let bound inner → new ≡ all → AreBuilt (query_scope owned) all (all_placed_with number defs terms first (length all) (exprs_of number bound.items.items)) before mid built found → IsBound (query_scope owned) (new ++ found) built (placed_with number defs terms first (length (new ++ found)) (expr_of number inner.value)) mid after result sort → IsBuilt (query_scope owned) all (placed_with number defs terms first (length all) (expr_of number term)) before after result sort
 let-built owned number defs terms first all new term bound inner before mid after built found result sort is same are bound_is =
     let counted : length (all ++ found) ≡ length all + count (exprs_of number bound.items.items) = long-is owned all (all_placed_with number defs terms first (length all) (exprs_of number bound.items.items)) before mid built found are ∙ ap (λ n. length all + n) (count-placed number defs terms first (length all) (exprs_of number bound.items.items)) in
     step.bound-built owned all (placed_with number defs terms first (length all) (expr_of number term)) (all_placed_with number defs terms first (length all) (exprs_of number bound.items.items)) (placed_with number defs terms first (length (all ++ found)) (expr_of number inner.value)) before mid after built found result sort
     (let-placed number defs terms first (length all) term bound inner is ∙ ap (λ n. Bind (all_placed_with number defs terms first (length all) (exprs_of number bound.items.items)) (placed_with number defs terms first n (expr_of number inner.value))) (sym counted))
     are (rw same at bound_is)
 
-pub let-heavy : {T N : Type 0} (owned : Op → Bool) (number : N → Val) (defs : List (Def T N)) (terms : List (Term T N)) (first : ℕ) (all new : List Sort) (term : Term T N) (bound : Terms T N) (inner : Box (Term T N) Global) (before mid : ℕ) (built : Exprs) (found : List Sort) → term ≡ Let bound inner → new ≡ all → AreBuilt (query_scope owned) all (all_placed_with number defs terms first (length all) (exprs_of number bound.items.items)) before mid built found → mid < bound_weight (query_scope owned) (new ++ found) (placed_with number defs terms first (length (new ++ found)) (expr_of number inner.value)) → before < weight (query_scope owned) all (placed_with number defs terms first (length all) (expr_of number term))
+pub let-heavy : {T N : Type 0} (owned : Op → Bool) (number : N → Val) (defs : List (Def T N)) (terms : List (Term T N)) (first : ℕ) (all new : List Sort) (term : Term T N) (bound : Terms T N) (inner : Box (Term T N) Global) (before mid : Left) (built : Exprs) (found : List Sort) → term ≡ Let bound inner → new ≡ all → AreBuilt (query_scope owned) all (all_placed_with number defs terms first (length all) (exprs_of number bound.items.items)) before mid built found → mid.weight < bound_weight (query_scope owned) (new ++ found) (placed_with number defs terms first (length (new ++ found)) (expr_of number inner.value)) → before.weight < weight (query_scope owned) all (placed_with number defs terms first (length all) (expr_of number term))
 let-heavy owned number defs terms first all new term bound inner before mid built found is same are heavy =
     let counted : length (all ++ found) ≡ length all + count (exprs_of number bound.items.items) = long-is owned all (all_placed_with number defs terms first (length all) (exprs_of number bound.items.items)) before mid built found are ∙ ap (λ n. length all + n) (count-placed number defs terms first (length all) (exprs_of number bound.items.items)) in
     step.bound-heavy owned all (placed_with number defs terms first (length all) (expr_of number term)) (all_placed_with number defs terms first (length all) (exprs_of number bound.items.items)) (placed_with number defs terms first (length (all ++ found)) (expr_of number inner.value)) before mid built found
@@ -126,16 +127,17 @@ let-bound-heavy owned number defs terms first all term bound inner before is hea
 pub longer-own : (first : ℕ) (old new found : List Sort) → new ≡ old → first ≤ length old → first ≤ length (new ++ found)
 longer-own first old new found same own = rw (same, length-append old found) (omega (arith, own))
 
-pub inner-heavy : (scope : Scope) (sorts : List Sort) (inner : Expr) (before mid w : ℕ) (built : Expr) (sort : Sort) → IsBuilt scope sorts inner before mid built sort → w ≡ sort_weight (Some sort) → mid < w → before < bound_weight scope sorts inner
+pub inner-heavy : (scope : Scope) (sorts : List Sort) (inner : Expr) (before mid : Left) (w : ℕ) (built : Expr) (sort : Sort) → IsBuilt scope sorts inner before mid built sort → w ≡ sort_weight (Some sort) → mid.weight < w → before.weight < bound_weight scope sorts inner
 inner-heavy scope sorts inner before mid w built sort is weighs heavy =
     let first = is.weight in
     rw is.has (omega (arith, first, weighs, heavy))
 
-pub inner-bound : {T N : Type 0} (number : N → Val) (scope : Scope) (sorts : List Sort) (inner : Expr) (before mid after w : ℕ) (bound : Terms T N) (built : Term T N) (box : Box (Term T N) Global) (sort : Sort) → IsBuilt scope sorts inner before mid (expr_of number built) sort → w ≡ sort_weight (Some sort) → mid ≡ after + w → box.value ≡ built → IsBound scope sorts (exprs_of number bound.items.items) inner before after (expr_of number (Let bound box)) sort
-inner-bound number scope sorts inner before mid after w bound built box sort is weighs taken holds =
+pub inner-bound : {T N : Type 0} (number : N → Val) (scope : Scope) (sorts : List Sort) (inner : Expr) (before mid after : Left) (w : ℕ) (bound : Terms T N) (built : Term T N) (box : Box (Term T N) Global) (sort : Sort) → IsBuilt scope sorts inner before mid (expr_of number built) sort → w ≡ sort_weight (Some sort) → mid.weight ≡ after.weight + w → after.counted ≡ mid.counted → box.value ≡ built → IsBound scope sorts (exprs_of number bound.items.items) inner before after (expr_of number (Let bound box)) sort
+inner-bound number scope sorts inner before mid after w bound built box sort is weighs taken counted holds =
     let first = is.weight in
     record {
-      is = expr_of-Let number bound box ∙ ap (λ e. Bind (exprs_of number bound.items.items) e) (ap (expr_of number) holds ∙ is.is);
+      is = λ all. expr_of-Let number bound box ∙ ap (λ e. Bind (exprs_of number bound.items.items) e) (ap (expr_of number) holds ∙ is.is (sym counted ∙ all));
       has = is.has;
       weight = rw is.has (omega (arith, first, weighs, taken));
+      counted = λ all. is.counted (sym counted ∙ all);
     }

@@ -1,5 +1,5 @@
 -- What the walk over a term gives: the term with its calls replaced, its sort, and what it weighs.
-use Rattle.std.specs.Prelude.{ℕ, ◌+◌, Bool, ◌≡◌, List, Some, map}
+use Rattle.std.specs.Prelude.{ℕ, ◌+◌, Bool, true, ◌≡◌, List, Some, map}
 use Rattle.sy_terms.specs.Values.{Val}
 use Rattle.sy_terms.specs.Expr.{Expr, Exprs, Bind, Apply}
 use Rattle.sy_terms.specs.Denoted.{expr_of}
@@ -13,6 +13,7 @@ use Rattle.sy_terms.specs.declared.term.Def.{Def}
 use Rattle.sy_terms.specs.declared.term.Fun.{Fun}
 use Rattle.sy_terms.specs.declared.term.Term.{Term}
 use Rattle.sy_laws.specs.Evaluation.{BodiesFit, scope_with}
+use Rattle.sy_build.specs.declared.room.Left.{Left}
 use Rattle.sy_query.specs.Queries.{Placement, count, placed, all_placed, called_at, placement_of, placement_from, placements}
 use Rattle.sy_query.specs.Weights.{weight, weights, sort_weight, operator_weight}
 
@@ -52,26 +53,31 @@ pub record AllFitOver {T N : Type 0} (owned : Op → Bool) (number : N → Val) 
   pub found : List Sort
   pub are : sorts_in (scope_with owned defs wanted) sorts all ≡ Some found
 
--- the term that is built is this one, has this sort, and what it weighs was taken from what was left
-pub record IsBuilt (scope : Scope) (sorts : List Sort) (term : Expr) (before after : ℕ) (built : Expr) (sort : Sort) : Type 0 where
-  pub is : built ≡ term
+-- The term that is built is this one, where all positions are counted; it has this sort, and what it weighs was taken from
+-- what was left.
+pub record IsBuilt (scope : Scope) (sorts : List Sort) (term : Expr) (before after : Left) (built : Expr) (sort : Sort) : Type 0 where
+  pub is : after.counted ≡ true → built ≡ term
   pub has : sort_in scope sorts term ≡ Some sort
-  pub weight : before ≡ after + weight scope sorts term
+  pub weight : before.weight ≡ after.weight + weight scope sorts term
+  pub counted : after.counted ≡ true → before.counted ≡ true
 
-pub record AreBuilt (scope : Scope) (sorts : List Sort) (terms : Exprs) (before after : ℕ) (built : Exprs) (found : List Sort) : Type 0 where
-  pub are : built ≡ terms
+pub record AreBuilt (scope : Scope) (sorts : List Sort) (terms : Exprs) (before after : Left) (built : Exprs) (found : List Sort) : Type 0 where
+  pub are : after.counted ≡ true → built ≡ terms
+  pub many : count built ≡ count terms
   pub have : sorts_in scope sorts terms ≡ Some found
-  pub weight : before ≡ after + weights scope sorts terms
+  pub weight : before.weight ≡ after.weight + weights scope sorts terms
+  pub counted : after.counted ≡ true → before.counted ≡ true
 
 -- a binding of these terms around an inner term, which stands where the values in force have these sorts; what the
 -- inner term and the binding itself weigh was taken
 abbrev pub bound_weight : Scope → List Sort → Expr → ℕ
 bound_weight scope sorts inner = weight scope sorts inner + sort_weight (sort_in scope sorts inner)
 
-pub record IsBound (scope : Scope) (sorts : List Sort) (bound : Exprs) (inner : Expr) (before after : ℕ) (built : Expr) (sort : Sort) : Type 0 where
-  pub is : built ≡ Bind bound inner
+pub record IsBound (scope : Scope) (sorts : List Sort) (bound : Exprs) (inner : Expr) (before after : Left) (built : Expr) (sort : Sort) : Type 0 where
+  pub is : after.counted ≡ true → built ≡ Bind bound inner
   pub has : sort_in scope sorts inner ≡ Some sort
-  pub weight : before ≡ after + bound_weight scope sorts inner
+  pub weight : before.weight ≡ after.weight + bound_weight scope sorts inner
+  pub counted : after.counted ≡ true → before.counted ≡ true
 
 -- the operator has a value at arguments of these sorts
 pub record HasSort (operator : Op) (sorts : List Sort) : Type 0 where
@@ -83,7 +89,8 @@ abbrev pub applied_weight : Op → Exprs → List Sort → ℕ
 applied_weight operator arguments sorts = operator_weight operator (count arguments) (sort_weight (given_by (sort_of operator sorts)))
 
 -- an operator at arguments of these sorts; what the application itself weighs was taken
-pub record IsApplied (operator : Op) (arguments : Exprs) (sorts : List Sort) (before after : ℕ) (built : Expr) (sort : Sort) : Type 0 where
+pub record IsApplied (operator : Op) (arguments : Exprs) (sorts : List Sort) (before after : Left) (built : Expr) (sort : Sort) : Type 0 where
   pub is : built ≡ Apply operator arguments
   pub has : sort_of operator sorts ≡ Is sort
-  pub weight : before ≡ after + applied_weight operator arguments sorts
+  pub weight : before.weight ≡ after.weight + applied_weight operator arguments sorts
+  pub counted : after.counted ≡ true → before.counted ≡ true

@@ -31,7 +31,7 @@ pub(crate) fn constant<T: Theory>(value: Value<T::Num>, room: &mut Room) -> Resu
     requires { valid (val_of T.denotes value) ≡ true }
     ensures ok { IfOk result (λ p. IsBuilt (query_scope T.owned) room.old.sorts.items (Constant (val_of T.denotes value)) room.old.left room.new.left (expr_of T.denotes p.term) p.sort) }
     ensures kept { room.new.sorts ≡ room.old.sorts }
-    ensures heavy { OnErr result (room.old.left < spec.weight (query_scope T.owned) room.old.sorts.items (Constant (val_of T.denotes value))) }
+    ensures heavy { OnErr result (room.old.left.weight < spec.weight (query_scope T.owned) room.old.sorts.items (Constant (val_of T.denotes value))) }
 {
     let sort = T::value_sort(&value);
     room.take(sort_weight(sort))?;
@@ -48,16 +48,15 @@ pub(crate) fn variable<T: Theory>(
     room: &mut Room,
 ) -> Result<Placed<T>, Built>
     requires within { first + position < length room.now.sorts.items }
-    requires small { length room.now.sorts.items < 2 ^ 32 }
     ensures ok { IfOk result (λ p. IsBuilt (query_scope T.owned) room.old.sorts.items (Variable (first + position)) room.old.left room.new.left (expr_of T.denotes p.term) p.sort) }
     ensures kept { room.new.sorts ≡ room.old.sorts }
-    ensures heavy { OnErr result (room.old.left < spec.weight (query_scope T.owned) room.old.sorts.items (Variable (first + position))) }
+    ensures heavy { OnErr result (room.old.left.weight < spec.weight (query_scope T.owned) room.old.sorts.items (Variable (first + position))) }
 {
     let place = first + position as usize;
     let sort = room.sorts[place];
     room.take(sort_weight(sort))?;
     Ok(Placed {
-        term: Term::Var(place as u32),
+        term: Term::Var(room.position(place)),
         sort,
     })
 }
@@ -72,7 +71,7 @@ pub(crate) fn apply<T: Theory>(
     requires sorted { HasSort operator.now found.sorts.items }
     ensures ok { IfOk result (λ p. IsApplied operator.now (exprs_of T.denotes found.terms.items.items) found.sorts.items room.old.left room.new.left (expr_of T.denotes p.term) p.sort) }
     ensures kept { room.new.sorts ≡ room.old.sorts }
-    ensures heavy { OnErr result (room.old.left < applied_weight operator.now (exprs_of T.denotes found.terms.items.items) found.sorts.items) }
+    ensures heavy { OnErr result (room.old.left.weight < applied_weight operator.now (exprs_of T.denotes found.terms.items.items) found.sorts.items) }
 {
     let AllPlaced { terms, sorts } = found;
     let Sorted::Is(sort) = operator_sort(operator, sorts.as_slice()) else {

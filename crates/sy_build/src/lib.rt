@@ -1,4 +1,4 @@
-// The query of a problem and bodies: true exactly where the bodies violate the problem.
+// The query of a problem and bodies, true exactly where the bodies violate the problem; and what a query weighs.
 #![tactic(auto)]
 
 mod built;
@@ -6,7 +6,9 @@ mod leaf;
 mod place;
 mod queries;
 mod room;
+#[cfg(test)]
+mod tests;
 mod weight;
 
 pub use built::Built;
-pub use queries::build;
+pub use queries::{build, weigh};

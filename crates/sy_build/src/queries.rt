@@ -1,4 +1,4 @@
-// The query of a problem and bodies.
+// The query of a problem and bodies, and what a query weighs.
 ghost use Rattle.std.specs.Prelude.{◌≡◌, ◌≤◌, ◌<◌, ◌^◌, length, map, IfOk, IsErrOf};
 ghost use Rattle.sy_terms.specs.Denoted.{expr_of, exprs_of};
 ghost use Rattle.sy_laws.specs.Evaluation.{BodiesFit};
@@ -8,16 +8,17 @@ ghost use Rattle.sy_build.specs.Problems.{ProblemFits, signatures};
 ghost use Rattle.sy_build.specs.Violating.{violating, violated_by, conjoined, IsViolation};
 
 use crate::built::Built;
-use crate::place::place_all;
+use crate::place::{place, place_all};
 use crate::room::Room;
 use std::alloc::Global;
 use sy_grammar::Problem;
 use sy_query::Query;
-use sy_terms::{Bodies, Op, Seq, Sort, Term, Terms, Theory, Value, Want};
+use sy_terms::{Bodies, Defs, Op, Seq, Sort, Term, Terms, Theory, Value, Want};
 
 /// The query of the problem and a body for each function to be found: every assumption, and not every constraint, with
 /// each call replaced by a `let` of its arguments around the called body. It is true exactly at the assignments where
 /// the bodies violate the problem. `Heavy` exactly where it weighs more than `limit`; then no more than that is built.
+/// Where 32 bits don't count one of its positions, `Want` comes, and only if it weighs no more than `limit`.
 pub fn build<T: Theory>(
     alloc: Global,
     problem: &Problem<T>,
@@ -26,8 +27,6 @@ pub fn build<T: Theory>(
 ) -> Result<Query<T>, Built>
     requires problem { ProblemFits T.owned T.numeric T.denotes problem.now }
     requires bodies { BodiesFit T.owned T.denotes problem.now.defs bodies.now (signatures problem.now) }
-    requires variables { length problem.now.vars < 2 ^ 31 }
-    requires limit { limit < 2 ^ 31 }
     ensures query { IfOk result (λ query. query_of T.denotes query ≡ violating (question_of T.denotes problem.now) (map (expr_of T.denotes) bodies.now)) }
     ensures fits { IfOk result (λ query. Fits T.owned T.numeric (query_of T.denotes query)) }
     ensures violations { IfOk result (λ query. IsViolation (question_of T.denotes problem.now) (map (expr_of T.denotes) bodies.now) (query_of T.denotes query)) }
@@ -35,10 +34,7 @@ pub fn build<T: Theory>(
     ensures heavy { IsErrOf result Built.Heavy → limit < query_weight T.owned (violating (question_of T.denotes problem.now) (map (expr_of T.denotes) bodies.now)) }
 {
     let vars = problem.vars.as_slice();
-    let mut room = Room {
-        sorts: vars.to_vec(alloc)?,
-        left: u64::from(limit),
-    };
+    let mut room = Room::new(vars.to_vec(alloc)?, limit);
     let defs = problem.defs.as_slice();
     let bodies = bodies.as_slice();
     let assumptions = problem.assumptions.as_slice();
@@ -46,9 +42,34 @@ pub fn build<T: Theory>(
     let constraints = problem.constraints.as_slice();
     let constraints = place_all(alloc, defs, bodies, 0, constraints, &mut room)?;
     room.take(3)?;
+    // The weight is within the limit, but some position is larger than a term may have.
+    if !room.left.counted {
+        return Err(Built::Want);
+    }
     let body = violation(alloc, assumptions.terms, constraints.terms)?;
     let vars = copied(alloc, vars)?;
     Ok(Query { vars, body })
+}
+
+/// What the query weighs. `Heavy` exactly where that is more than `cap`.
+pub fn weigh<T: Theory>(alloc: Global, query: &Query<T>, cap: u32) -> Result<u32, Built>
+    requires { Fits T.owned T.numeric (query_of T.denotes query.now) }
+    ensures weight { IfOk result (λ weight. weight ≡ query_weight T.owned (query_of T.denotes query.now)) }
+    ensures light { IfOk result (λ weight. weight ≤ cap) }
+    ensures heavy { IsErrOf result Built.Heavy → cap < query_weight T.owned (query_of T.denotes query.now) }
+{
+    let mut room = Room::new(query.vars.as_slice().to_vec(alloc)?, cap);
+    let (defs, bodies) = (Defs::new(alloc), Bodies::new(alloc));
+    let body = &query.body;
+    let _placed = place(
+        alloc,
+        defs.as_slice(),
+        bodies.as_slice(),
+        0,
+        body,
+        &mut room,
+    )?;
+    Ok(cap - room.left.weight as u32)
 }
 
 /// Every assumption, and not every constraint.

@@ -9,4 +9,4 @@ returns-in_err-take-clause-heavy g c =
 
 pub returns-clause-ok : goal.returns-clause-ok
 returns-clause-ok g c =
-    leaf.applied-built g.T.Theory.denotes _ _ _ _ _ _ _ _ _ (sym (c.in-Is.ensures ∙ ap (sort_of c.args.operator.now) c.as_slice.ensures.value)) c.len.ensures c.sort_weight.ensures.is c.operator_weight.ensures c.in_ok-take.ensures.ok
+    leaf.applied-built g.T.Theory.denotes _ _ _ _ _ _ _ _ _ (sym (c.in-Is.ensures ∙ ap (sort_of c.args.operator.now) c.as_slice.ensures.value)) c.len.ensures c.sort_weight.ensures.is c.operator_weight.ensures c.in_ok-take.ensures.ok c.take.ensures.counted

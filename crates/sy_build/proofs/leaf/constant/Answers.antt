@@ -7,4 +7,4 @@ returns-in_err-take-clause-heavy g c =
 
 pub returns-clause-ok : goal.returns-clause-ok
 returns-clause-ok g c =
-    leaf.const-built _ _ g.T.Theory.denotes _ _ _ _ _ _ c.requires c.value_sort-sort.ensures c.sort_weight.ensures.is c.in_ok-take.ensures.ok
+    leaf.const-built _ _ g.T.Theory.denotes _ _ _ _ _ _ c.requires c.value_sort-sort.ensures c.sort_weight.ensures.is c.in_ok-take.ensures.ok c.take.ensures.counted

@@ -25,12 +25,9 @@ pub place-returns-in-Const-clause-heavy : goal.place-returns-in-Const-clause-hea
 place-returns-in-Const-clause-heavy g t c h =
     step.reheavy _ _ _ _ _ (forms.const-placed g.T.Theory.denotes c.args.defs.now c.args.bodies.now c.args.first (length c.args.room.now.sorts.items) c.args.term.now c.in-Const.value c.in-Const.is) (walk.err_of c.constant.result _ c.constant.ensures.heavy h)
 
-pub place-variable-requires-clause-within : goal.place-variable-requires-clause-within
-place-variable-requires-clause-within g t c =
-    step.var-within g.T.Theory.owned g.T.Theory.denotes c.args.defs.now c.args.bodies.now c.args.first _ _ _ c.in-Var.is c.requires.definitions c.requires.own c.requires.term
-
-pub place-variable-requires-clause-small : goal.place-variable-requires-clause-small
-place-variable-requires-clause-small g t c = omega (arith, c.requires.small)
+pub place-variable-requires : goal.place-variable-requires
+place-variable-requires g t c =
+    record { within = step.var-within g.T.Theory.owned g.T.Theory.denotes c.args.defs.now c.args.bodies.now c.args.first _ _ _ c.in-Var.is c.requires.definitions c.requires.own c.requires.term }
 
 pub place-returns-in-Var-clause-ok : goal.place-returns-in-Var-clause-ok
 place-returns-in-Var-clause-ok g t c =
@@ -76,7 +73,7 @@ place-returns-in_err-found-in-App-clause-heavy g t c h =
 pub place-apply-requires-clause-arguments : goal.place-apply-requires-clause-arguments
 place-apply-requires-clause-arguments g t c =
     let few = step.found-small g.T.Theory.owned g.T.Theory.denotes _ _ _ _ _ _ c.requires.sized c.in_ok-found-in-App.ensures.ok in
-    walk.few-terms _ _ _ _ few.1 c.requires.small
+    walk.few-terms _ _ _ few.1 c.requires.small
 
 pub place-apply-requires-clause-sorted : goal.place-apply-requires-clause-sorted
 place-apply-requires-clause-sorted g t c =
@@ -138,7 +135,7 @@ place-call-requires g t c κs within =
             (
               walk.longer-sized _ _ _ c.in_ok-found-in-Call.ensures.kept c.requires.sized few.0,
               (
-                walk.longer-small _ _ _ _ _ _ c.in_ok-found-in-Call.ensures.kept few.1 few.2 c.requires.small,
+                walk.less-left _ _ _ few.1 c.requires.small,
                 step.call-takes g.T.Theory.owned g.T.Theory.denotes c.args.defs.now c.args.bodies.now c.args.first _ _ _ _ _ _ _ _ c.in-Call.is c.requires.definitions c.requires.own c.requires.term are,
               ),
             ),
@@ -207,7 +204,7 @@ place-bind-requires g t c κs within =
               (
                 walk.longer-own _ _ _ _ kept c.requires.own,
                 (
-                  walk.longer-small _ _ _ _ _ _ kept few.1 few.2 c.requires.small,
+                  walk.less-left _ _ _ few.1 c.requires.small,
                   rw (kept, c.deref.ensures) (step.let-inner-fits g.T.Theory.owned g.T.Theory.denotes c.args.defs.now c.args.bodies.now c.args.first _ _ _ _ _ _ _ _ c.in-Let.is c.requires.definitions c.requires.own c.requires.term are),
                 ),
               ),
@@ -250,7 +247,7 @@ place_all-place-requires g t c κs within =
               (
                 rw same c.requires.own,
                 (
-                  rw same (omega (arith, left, c.requires.small)),
+                  omega (arith, left, c.requires.small),
                   rw same (step.one-fits g.T.Theory.owned g.T.Theory.denotes c.args.defs.now c.args.bodies.now _ c.args.terms.now c.loop-term.term-index c.term-item.result (omega arith) c.term-item.is c.requires.terms),
                 ),
               ),
@@ -389,7 +386,7 @@ call-returns-in-Wanted-clause-heavy g t c h =
 pub bind-place-requires : goal.bind-place-requires
 bind-place-requires g t c κs within =
     let longer = c.in_ok-extend_from_slice.ensures.items ∙ ap (λ rest. c.args.room.now.sorts.items ++ rest) c.as_slice.ensures.value in
-    (omega (arith, c.decreases), (within.0, (within.1, (c.requires.definitions, (rw longer c.requires.sized, (rw longer c.requires.own, (rw longer c.requires.small, rw longer c.requires.inner)))))))
+    (omega (arith, c.decreases), (within.0, (within.1, (c.requires.definitions, (rw longer c.requires.sized, (rw longer c.requires.own, (c.requires.small, rw longer c.requires.inner)))))))
 
 pub bind-returns-in_err-take-clause-heavy : goal.bind-returns-in_err-take-clause-heavy
 bind-returns-in_err-take-clause-heavy g t c h =
@@ -399,7 +396,7 @@ bind-returns-in_err-take-clause-heavy g t c h =
 pub bind-returns-clause-ok : goal.bind-returns-clause-ok
 bind-returns-clause-ok g t c =
     let longer = c.in_ok-extend_from_slice.ensures.items ∙ ap (λ rest. c.args.room.now.sorts.items ++ rest) c.as_slice.ensures.value in
-    walk.inner-bound g.T.Theory.denotes _ _ _ _ _ _ _ _ _ _ _ (rw longer at c.in_ok-term.ensures.ok) c.sort_weight.ensures.is c.in_ok-take.ensures.ok c.in_ok-new.ensures.ok
+    walk.inner-bound g.T.Theory.denotes _ _ _ _ _ _ _ _ _ _ _ (rw longer at c.in_ok-term.ensures.ok) c.sort_weight.ensures.is c.in_ok-take.ensures.ok c.take.ensures.counted c.in_ok-new.ensures.ok
 
 pub bind-returns-clause-kept : goal.bind-returns-clause-kept
 bind-returns-clause-kept g t c =
