@@ -1,5 +1,5 @@
 -- What shows that a search met a budget.
-use Rattle.std.specs.Prelude.{ℕ, Bool, true, false, List, [], ◌∷◌, ◌++◌, ◌≡◌, ◌≤◌, ◌<◌, ◌+◌, length, map, slice_get, Some, All, Contains}
+use Rattle.std.specs.Prelude.{ℕ, Bool, true, false, List, [], ◌∷◌, ◌++◌, ◌≡◌, ◌≤◌, ◌<◌, ◌+◌, length, map, slice_get, Some, None, All, Contains}
 use Rattle.sy_terms.specs.Values.{Val}
 use Rattle.sy_terms.specs.Expr.{Expr}
 use Rattle.sy_terms.specs.Meaning.{function_from, functions, computable}
@@ -9,6 +9,12 @@ use Rattle.sy_grammar.specs.Questions.{Goal, Question}
 use Rattle.sy_query.specs.Queries.{query_of}
 use Rattle.sy_query.specs.Weights.{weight, query_scope}
 use Rattle.sy_points.specs.Asked.{AreDistinct}
+use Rattle.sy_rows.specs.Banks as banks
+use Rattle.sy_rows.specs.Banks.{Entry, Merged, IsNew, count}
+use Rattle.sy_limits.specs.declared.FailName.{FailName}
+use Rattle.sy_limits.specs.declared.Limits.{Limits}
+use Rattle.sy_decide.specs.Asked.{Query}
+use Rattle.sy_build.specs.Violating.{violating}
 use Rattle.sy_history.specs.Histories.{Counterexample, IsCandidate, IsDue, IsHonest, IsMet, trace}
 
 -- as many rounds as there may be
@@ -58,3 +64,22 @@ pub record MemberLeaves (question : Question) (size rounds : ℕ) (history : Lis
   pub small : tree_size goal.grammar question.pool nonterminal tree ≤ size
   pub met : IsMet question size history function tuple
   pub leaves : Leaves question [] tuple term
+
+-- the bank of the function, over tuples that were met, has as many kept terms as it may and dropped none, and one more is new
+pub record BankMet (question : Question) (size rounds limit : ℕ) (history : List Counterexample) (function : ℕ) (bank : Merged) (nonterminal : ℕ) (next : Entry) : Type 0 where
+  pub honest : IsHonest question size rounds history
+  pub goal : Goal
+  pub at : slice_get question.goals function ≡ Some goal
+  pub sound : banks.IsHonest goal.grammar (functions question.definitions) question.pool bank
+  pub within : bank.upto ≤ size
+  pub met : All (IsMet question size history function) bank.points
+  pub all : count bank.levels ≡ limit
+  pub none : bank.dropped ≡ None
+  pub new : IsNew goal.grammar (functions question.definitions) question.pool bank nonterminal next
+
+-- bodies that are due have a query on which a solver's budget ran out
+pub record DecideMet {S : Type 0} (budget : S → FailName) (shows : Query → Limits → FailName → S → Type 0) (question : Question) (limits : Limits)
+    (history : List Counterexample) (bodies : List Expr) (spent : S) : Type 0 where
+  pub honest : IsHonest question limits.size limits.rounds history
+  pub due : IsDue question limits.size history bodies
+  pub shown : shows (violating question bodies) limits (budget spent) spent

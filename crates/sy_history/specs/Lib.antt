@@ -1,2 +1,4 @@
 pub mod Histories
 pub mod Budgets
+pub mod Solutions
+pub mod Stored

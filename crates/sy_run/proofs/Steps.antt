@@ -1,25 +1,25 @@
 -- One more problem is answered.
 use Rattle.std.proofs.Common.{refl, inl, inr, ◌≡◌, ◌≤◌, ◌<◌, ◌+◌, ◌++◌, ◌∙◌, sym, ap, suc, zero, map, zero-add, List, [], ◌∷◌, ℕ, length, take, get_or, Some, None, arith, append_assoc, append-nil, subst}
-use Rattle.std.specs.Prelude.{Option, IfSome, replicate, codes}
+use Rattle.std.specs.Prelude.{Option, IfSome, replicate, Ok, Err, All}
 use Rattle.std.specs.Io.KnownBytes.{Appends}
 use Rattle.std.proofs.Math.Seq.{take-length}
 use Rattle.std.proofs.lemmas.List.{length-replicate}
-use Rattle.sy_loop.specs.Bits.{BvPlain, BvProblem}
 use Rattle.sy_words.specs.Vectors.{vector}
 use Rattle.sy_grammar.specs.Questions.{Question, question_of}
 use Rattle.sy_io.specs.Source.{Holding, bytes_under}
 use Rattle.sy_run.specs.declared.answers.Answers.{Answers}
 use Rattle.sy_run.specs.declared.answers.Answers.TheVariants.{Idle}
-use Rattle.sy_command.specs.CommandLine.{IsReading, LimitIs, value_of}
+use Rattle.sy_command.specs.CommandLine.{IsReading}
 use Rattle.sy_command.specs.declared.settings.Settings.{Settings}
 use Rattle.sy_causes.specs.declared.titles.Titles.{Titles}
 use Rattle.sy_causes.specs.declared.cause.Refused.{Refused}
 use Rattle.sy_lines.specs.Lines.{refusal_line}
 use Rattle.sy_limits.specs.declared.Limits.{Limits}
-use Rattle.sy_run.specs.Answers.{RightAnswer}
+use Rattle.sy_run.specs.Answers.{BvOutcome, BvProblem, IsAnswerable, RightOutcome}
 use Rattle.sy_run.specs.Texts.{answer_text, replies, answer_line, answer_lines, too_long_line}
-use Rattle.sy_first.specs.Files.{Asked, reading, Asks, Faulty}
-use Rattle.sy_run.specs.Runs.{Poses, AreRight, WritesMost, BreaksNext, IsRefused, outcomes, longest}
+use Rattle.sy_scope.specs.Files.{file_read}
+use Rattle.sy_scope.specs.Jobs.{Wish, wished}
+use Rattle.sy_run.specs.Runs.{Answered, Poses, AreRight, WritesMost, BreaksNext, IsRefused, outcomes, longest}
 
 -- bytes appended one after the other
 pub appended_more : (before between after : Option (List ℕ)) (xs ys : List ℕ) → Appends before between xs → Appends between after ys → Appends before after (xs ++ ys)
@@ -45,7 +45,7 @@ pub right-none : (limits : Limits) (problems : List Question) → AreRight limit
 unfolding AreRight
 right-none limits problems = tt
 
-pub replies-more : (titles : Titles) (problems : List Question) (answers : List BvPlain) (problem : Question) (answer : BvPlain) → length answers < length problems → problem ≡ get_or problems (length answers) problem
+pub replies-more : (titles : Titles) (problems : List Question) (answers : List BvOutcome) (problem : Question) (answer : BvOutcome) → length answers < length problems → problem ≡ get_or problems (length answers) problem
     → replies titles problems (answers ++ answer ∷ []) ≡ replies titles problems answers ++ answer_text titles problem answer
 unfolding replies
 replies-more titles [] answers problem answer lt e = absurd (omega arith)
@@ -55,16 +55,16 @@ replies-more titles (p ∷ ps) (a ∷ rest) problem answer lt e =
     ap (λ (xs : List ℕ). answer_text titles p a ++ xs) (replies-more titles ps rest problem answer (omega arith) e)
     ∙ sym (append_assoc (answer_text titles p a) (replies titles ps rest) (answer_text titles problem answer))
 
-pub right-more : (limits : Limits) (problems : List Question) (answers : List BvPlain) (problem : Question) (answer : BvPlain) → length answers < length problems → problem ≡ get_or problems (length answers) problem
-    → AreRight limits problems answers → RightAnswer limits problem answer → AreRight limits problems (answers ++ answer ∷ [])
+pub right-more : (limits : Limits) (problems : List Question) (answers : List BvOutcome) (problem : Question) (answer : BvOutcome) → length answers < length problems → problem ≡ get_or problems (length answers) problem
+    → AreRight limits problems answers → RightOutcome limits problem answer → AreRight limits problems (answers ++ answer ∷ [])
 unfolding AreRight
 right-more limits [] answers problem answer lt e right here = absurd (omega arith)
 right-more limits (p ∷ ps) [] problem answer lt e right here =
-    (subst (λ (x : Question). RightAnswer limits x answer) e here, tt)
+    (subst (λ (x : Question). RightOutcome limits x answer) e here, tt)
 right-more limits (p ∷ ps) (a ∷ rest) problem answer lt e right here =
     (right.0, right-more limits ps rest problem answer (omega arith) e right.1 here)
 
-pub lines-more : (k : ℕ) (answers : List BvPlain) (answer : BvPlain) → answer_lines k (answers ++ answer ∷ []) ≡ answer_lines k answers ++ answer_line (length answers + k) answer
+pub lines-more : (k : ℕ) (answers : List BvOutcome) (answer : BvOutcome) → answer_lines k (answers ++ answer ∷ []) ≡ answer_lines k answers ++ answer_line (length answers + k) answer
 unfolding answer_lines
 lines-more k [] answer =
     append-nil (answer_line k answer) ∙ ap (λ (n : ℕ). answer_line n answer) (sym (zero-add k))
@@ -81,7 +81,7 @@ take-past (x ∷ xs) ys n =
     ap (λ (k : ℕ). take k (x ∷ (xs ++ ys))) e ∙ ap (λ (zs : List ℕ). x ∷ zs) (take-past xs ys n)
 
 -- the text of the last answer was cut off
-pub most-more : (limits : Limits) (titles : Titles) (problems : List Question) (problem : Question) (old new : List BvPlain) (before between after : Option (List ℕ)) → (next : BreaksNext limits titles problem old new between after)
+pub most-more : (limits : Limits) (titles : Titles) (problems : List Question) (problem : Question) (old new : List BvOutcome) (before between after : Option (List ℕ)) → (next : BreaksNext limits titles problem old new between after)
     → length old < length problems → problem ≡ get_or problems (length old) problem
     → Appends before between (replies titles problems old) → WritesMost titles problems new before after
 most-more limits titles problems problem old new before between after next lt at written = record {
@@ -96,7 +96,7 @@ most-more limits titles problems problem old new before between after next lt at
 }
 
 -- all texts were written
-pub most-all : (titles : Titles) (problems : List Question) (answers : List BvPlain) (before after : Option (List ℕ)) → Appends before after (replies titles problems answers) → WritesMost titles problems answers before after
+pub most-all : (titles : Titles) (problems : List Question) (answers : List BvOutcome) (before after : Option (List ℕ)) → Appends before after (replies titles problems answers) → WritesMost titles problems answers before after
 most-all titles problems answers before after written = record {
   earlier = answers;
   last = [];
@@ -133,7 +133,7 @@ too_long words (Some h) settings name before after accepted same long written = 
 
 -- a file with a fault is refused
 pub refused_file : (words : List (List ℕ)) (held : Option Holding) (settings : Settings) (file name : List ℕ) (refused : Refused) (before after : Option (List ℕ)) → IsReading words settings → name ≡ settings.file
-    → IfSome held (λ h. file ≡ bytes_under h name) → length file ≤ longest → reading file ≡ Faulty refused → Appends before after (refusal_line file refused) → IsRefused words held before after
+    → IfSome held (λ h. file ≡ bytes_under h name) → length file ≤ longest → wished (file_read file) ≡ Err refused → Appends before after (refusal_line file refused) → IsRefused words held before after
 refused_file words None settings file name refused before after accepted same whole short reads written = record {
   settings = settings;
   file = file;
@@ -157,26 +157,38 @@ pub question_count : (problems : List BvProblem) → length (map (question_of ve
 question_count [] = refl
 question_count (p ∷ ps) = ap suc (question_count ps)
 
+-- each problem's question can be answered, where all can
+pub question_answerable : (titles : Titles) (problems : List BvProblem) (k : ℕ) (problem : BvProblem) → k < length problems → problem ≡ get_or problems k problem → All (IsAnswerable titles) (map (question_of vector) problems) → IsAnswerable titles (question_of vector problem)
+question_answerable titles problems k problem lt at each =
+    let here = question_at problems k problem lt at in
+    let count = question_count problems in
+    subst (IsAnswerable titles) (sym here) (each k (question_of vector problem) (omega (arith, lt, count)))
+
 -- a file that was read is the one that the words name
-pub poses : (words : List (List ℕ)) (held : Option Holding) (settings : Settings) (asked_for : Asked) (file name : List ℕ) → IsReading words settings → name ≡ settings.file → IfSome held (λ h. file ≡ bytes_under h name)
-    → length file ≤ longest → reading file ≡ Asks asked_for → Poses words held settings asked_for
-poses words None settings asked_for file name accepted same whole short reads = record {
+pub poses : (words : List (List ℕ)) (held : Option Holding) (settings : Settings) (wish : Wish) (file name : List ℕ) → IsReading words settings → name ≡ settings.file → IfSome held (λ h. file ≡ bytes_under h name)
+    → length file ≤ longest → wished (file_read file) ≡ Ok wish → Poses words held settings wish
+poses words None settings wish file name accepted same whole short reads = record {
   file = file;
   named = record { accepted = accepted; told = tt };
   short = short;
   reads = reads;
 }
-poses words (Some h) settings asked_for file name accepted same whole short reads = record {
+poses words (Some h) settings wish file name accepted same whole short reads = record {
   file = file;
   named = record { accepted = accepted; told = whole ∙ ap (λ (n : List ℕ). bytes_under h n) same };
   short = short;
   reads = reads;
 }
 
-limit_within : (default greatest : ℕ) (value : Option (List ℕ)) (limit : ℕ) → default ≤ greatest → LimitIs default greatest value limit → limit ≤ greatest
-limit_within default greatest None limit le is = rw is le
-limit_within default greatest (Some text) limit le is = is.2
-
--- the size bound that words may ask for
-pub size_within : (words : List (List ℕ)) (settings : Settings) → IsReading words settings → settings.limits.size ≤ 64
-size_within words settings reads = limit_within 12 64 (value_of words (codes "size")) settings.limits.size (omega arith) reads.given.limits.size
+-- a file that asks nothing is answered by nothing
+pub answered_idle : (words : List (List ℕ)) (held : Option Holding) (settings : Settings) (wish : Wish) (file name : List ℕ) (out err : Option (List ℕ)) → IsReading words settings → name ≡ settings.file → IfSome held (λ h. file ≡ bytes_under h name)
+    → length file ≤ longest → wished (file_read file) ≡ Ok wish → wish.questions ≡ [] → Answered words held Idle out out err err
+answered_idle words held settings wish file name out err accepted same whole short reads none = record {
+  settings = settings;
+  wish = wish;
+  posed = poses words held settings wish file name accepted same whole short reads;
+  right = right-none settings.limits wish.questions;
+  every = sym (ap length none);
+  replied = rw replies-none (appended_nothing out);
+  lines = rw lines-none (appended_nothing err);
+}

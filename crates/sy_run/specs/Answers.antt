@@ -1,33 +1,40 @@
 -- Which problems are answered, and which answers are right.
-use Rattle.std.specs.Prelude.{All, length, map}
+use Rattle.std.specs.Prelude.{map}
 use Rattle.sy_terms.specs.Denoted.{expr_of}
-use Rattle.sy_grammar.specs.Questions.{Goal, Question}
+use Rattle.sy_fitting.specs.Questions.{QuestionFits}
+use Rattle.sy_grammar.specs.Questions.{Question}
 use Rattle.sy_grammar.specs.Solving.{AreMembers}
-use Rattle.sy_grammar.specs.Trees.{Production, start_rules}
-use Rattle.sy_words.specs.Vectors.{vector, owned}
+use Rattle.sy_grammar.specs.declared.problem.Problem.{Problem}
+use Rattle.sy_words.specs.declared.theory.BvTheory.{BvTheory}
+use Rattle.sy_words.specs.declared.word.Word.{Word}
+use Rattle.sy_words.specs.Vectors.{vector, owned, is_bits}
 use Rattle.sy_causes.specs.declared.titles.Titles.{Titles}
 use Rattle.sy_limits.specs.declared.Limits.{Limits}
-use Rattle.sy_loop.specs.Bits.{BvPlain}
-use Rattle.sy_loop.specs.Plainly.{IsPlain, rule_term}
-use Rattle.sy_loop.specs.Right.{IsRight}
-use Rattle.sy_loop.specs.declared.answer.Plain.TheVariants.{Found, Size}
-use Rattle.sy_reply.specs.Writable.{AreTitled, IsWritable}
+use Rattle.sy_outcome.specs.Right.{IsRight}
+use Rattle.sy_outcome.specs.declared.outcome.Outcome.{Outcome}
+use Rattle.sy_outcome.specs.declared.outcome.Outcome.TheVariants.{Found, Fail}
+use Rattle.sy_solve.specs.Proofs.{Accepted, budget, Shows}
+use Rattle.sy_solve.specs.declared.answers.BvProof.{BvProof}
+use Rattle.sy_solve.specs.declared.answers.BvSpent.{BvSpent}
+use Rattle.sy_titled.specs.Titled.{IsTitled}
 
--- the answer is right within these limits
-abbrev pub RightAnswer : Limits → Question → BvPlain → Type 0
-RightAnswer limits question answer = IsRight vector limits.size question answer
+-- problems over bit vectors, and their outcomes
+abbrev pub BvProblem : Type 0
+BvProblem = Problem BvTheory Word
 
--- the one term that a rule gives can be written with a name for each argument of its function
-abbrev pub IsTermWritable : Goal → Production → Type 0
-IsTermWritable goal rule = IsWritable (length goal.signature.takes) 0 (rule_term rule)
+abbrev pub BvOutcome : Type 0
+BvOutcome = Outcome BvTheory BvProof BvSpent Word
 
--- the search takes the problem, and what it finds can be written with these names
+-- the outcome is right within these limits
+abbrev pub RightOutcome : Limits → Question → BvOutcome → Type 0
+RightOutcome limits question outcome = IsRight owned vector Accepted budget Shows question limits outcome
+
+-- all that is asked fits, and has names
 pub record IsAnswerable (titles : Titles) (question : Question) : Type 0 where
-  pub plain : IsPlain owned question
-  pub titled : AreTitled titles.wanted question.goals
-  pub writable : All (λ goal. All (IsTermWritable goal) (start_rules goal.grammar.nonterminals)) question.goals
+  pub fits : QuestionFits owned is_bits question
+  pub titled : IsTitled titles question
 
--- the bodies of an answer are members of the grammars
-abbrev pub HasMembers : Question → BvPlain → Type 0
-HasMembers question (Found bodies) = AreMembers question.goals (map (expr_of vector) bodies)
-HasMembers question Size = Unit {0}
+-- the bodies of an outcome are members of the grammars
+abbrev pub HasMembers : Question → BvOutcome → Type 0
+HasMembers question (Found bodies proof) = AreMembers question.goals (map (expr_of vector) bodies)
+HasMembers question (Fail cause) = Unit {0}

@@ -1,6 +1,7 @@
 // The answers of a run.
-use sy_loop::Plain;
+use sy_outcome::Outcome;
 use sy_seq::Seq;
+use sy_solve::{BvProof, BvSpent};
 use sy_words::BvTheory;
 
 /// The answers to the problems of a file, in order.
@@ -8,8 +9,8 @@ use sy_words::BvTheory;
 pub enum Answers {
     /// There was no problem to answer.
     Idle,
-    /// An answer of the search by listing for each `check-synth`.
-    Plain(Seq<Plain<BvTheory>>),
+    /// An outcome for each `check-synth` over bit vectors.
+    Bits(Seq<Outcome<BvTheory, BvProof, BvSpent>>),
 }
 
 /// How a run ended: the status of the program, and the answers.

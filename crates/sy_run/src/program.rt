@@ -4,7 +4,6 @@ ghost use Rattle.std.specs.Io.KnownBytes.{Appends};
 ghost use Rattle.sy_io.specs.Causes.{Rose};
 ghost use Rattle.sy_grammar.specs.Questions.{question_of};
 ghost use Rattle.sy_words.specs.Vectors.{vector};
-ghost use Rattle.sy_first.specs.Files.{asked_by};
 ghost use Rattle.sy_run.specs.Answers.{IsAnswerable};
 ghost use Rattle.sy_run.specs.Texts.{replies, answer_lines, words_line, read_line, memory_line};
 ghost use Rattle.sy_run.specs.Runs.{HaveNoReading, outcomes, IsFound, IsFail, AreRight, Answered, IsRefused, IsCutOff, WantsMemory, WritesMost, AnswersNext, BreaksNext};
@@ -12,15 +11,18 @@ ghost use Rattle.sy_run.specs.Runs.{HaveNoReading, outcomes, IsFound, IsFail, Ar
 use crate::answers::{Answers, Ended};
 use crate::text::{answer_line, answer_text};
 use std::alloc::Global;
+use sy_asked::problem_fits;
 use sy_causes::Titles;
 use sy_command::{WordFault, read_words};
-use sy_first::{Job, ScopeEnd, read_file};
 use sy_grammar::Problem;
 use sy_io::{ReadEnd, Sink, Source, read_whole, write_whole};
 use sy_limits::Limits;
 use sy_lines::refusal_text;
-use sy_loop::{Plain, plain};
+use sy_outcome::Outcome;
+use sy_reader::{Job, ScopeEnd, read_file};
 use sy_seq::Seq;
+use sy_solve::{BvDecide, BvProof, BvSpent};
+use sy_synthesis::synthesise;
 use sy_words::BvTheory;
 
 /// The most bytes that a file may have.
@@ -88,12 +90,31 @@ pub fn run<S: Source, O: Sink, E: Sink>(
         Err(ReadEnd::Want) => return last(err, b"want of memory\n", 6, Answers::Idle),
     };
     match read_file(alloc, bytes.as_slice()) {
-        Ok(job) => solve(alloc, &job, settings.limits, out, err),
+        Ok(Job::Bits(problems, titles)) => solve(
+            alloc,
+            problems.as_slice(),
+            &titles,
+            &settings.limits,
+            out,
+            err,
+        ),
+        Ok(Job::Idle) => nothing(),
+        Ok(Job::Ints(_, _)) => nothing(),
         Err(ScopeEnd::Refused(refused)) => match refusal_text(alloc, bytes.as_slice(), &refused) {
             Ok(line) => last(err, line.as_slice(), 2, Answers::Idle),
             Err(_) => last(err, b"want of memory\n", 6, Answers::Idle),
         },
         Err(ScopeEnd::Want) => last(err, b"want of memory\n", 6, Answers::Idle),
+    }
+}
+
+/// The end where there is no problem to answer. No file over integers asks for an answer yet.
+fn nothing() -> Ended
+    ensures { result ≡ record { status = 0; answers = Answers.Idle } }
+{
+    Ended {
+        status: 0,
+        answers: Answers::Idle,
     }
 }
 
@@ -113,55 +134,55 @@ fn last<E: Sink>(err: &mut E, line: &[u8], status: u8, answers: Answers) -> Ende
 /// Answers the problems in order.
 fn solve<O: Sink, E: Sink>(
     alloc: Global,
-    job: &Job,
-    limits: Limits,
+    problems: &[Problem<BvTheory>],
+    titles: &Titles,
+    limits: &Limits,
     out: &mut O,
     err: &mut E,
 ) -> Ended
-    requires few { length job.now.problems < 2 ^ 31 }
-    requires answerable { All (IsAnswerable job.now.titles) (asked_by job.now).questions }
-    requires size { limits.size ≤ 64 }
+    requires few { length problems.now < 2 ^ 31 }
+    requires answerable { All (IsAnswerable titles.now) (map (question_of vector) problems.now) }
     ensures status { (result.status ≤ 1) ⊎ ((result.status ≡ 5) ⊎ (result.status ≡ 6)) }
-    ensures right { AreRight limits (asked_by job.now).questions (outcomes result.answers) }
-    ensures every { result.status ≤ 1 → length (outcomes result.answers) ≡ length (asked_by job.now).questions }
-    ensures replied { result.status ≤ 1 → Appends (O.written out.old) (O.written out.new) (replies job.now.titles (asked_by job.now).questions (outcomes result.answers)) }
+    ensures right { AreRight limits.now (map (question_of vector) problems.now) (outcomes result.answers) }
+    ensures every { result.status ≤ 1 → length (outcomes result.answers) ≡ length (map (question_of vector) problems.now) }
+    ensures replied { result.status ≤ 1 → Appends (O.written out.old) (O.written out.new) (replies titles.now (map (question_of vector) problems.now) (outcomes result.answers)) }
     ensures lines { result.status ≤ 1 → Appends (E.written err.old) (E.written err.new) (answer_lines 1 (outcomes result.answers)) }
     ensures all_found { result.status ≡ 0 → All IsFound (outcomes result.answers) }
     ensures some_fail { result.status ≡ 1 → Any IsFail (outcomes result.answers) }
     ensures write { result.status ≡ 5 → Rose (O.faults out.old) (O.faults out.new) ⊎ Rose (E.faults err.old) (E.faults err.new) }
-    ensures cut_off { result.status ≡ 5 → WritesMost job.now.titles (asked_by job.now).questions (outcomes result.answers) (O.written out.old) (O.written out.new) }
-    ensures memory { result.status ≡ 6 → Appends (O.written out.old) (O.written out.new) (replies job.now.titles (asked_by job.now).questions (outcomes result.answers)) }
+    ensures cut_off { result.status ≡ 5 → WritesMost titles.now (map (question_of vector) problems.now) (outcomes result.answers) (O.written out.old) (O.written out.new) }
+    ensures memory { result.status ≡ 6 → Appends (O.written out.old) (O.written out.new) (replies titles.now (map (question_of vector) problems.now) (outcomes result.answers)) }
     ensures memory_line { result.status ≡ 6 → Appends (E.written err.old) (E.written err.new) (answer_lines 1 (outcomes result.answers) ++ memory_line) }
 {
     let mut answers = Seq::new(alloc);
-    for problem in job.problems.as_slice() {
-        match answer_next(alloc, &job.titles, problem, limits, &mut answers, out, err) {
+    for problem in problems {
+        match answer_next(alloc, titles, problem, limits, &mut answers, out, err) {
             Ok(()) => {}
             Err(Stop::Write) => {
                 return Ended {
                     status: 5,
-                    answers: Answers::Plain(answers),
+                    answers: Answers::Bits(answers),
                 };
             }
             Err(Stop::Memory) => {
-                return last(err, b"want of memory\n", 6, Answers::Plain(answers));
+                return last(err, b"want of memory\n", 6, Answers::Bits(answers));
             }
         }
     }
     Ended {
         status: status_of(answers.as_slice()),
-        answers: Answers::Plain(answers),
+        answers: Answers::Bits(answers),
     }
 }
 
 /// 0 where all answers give definitions, else 1.
-fn status_of(answers: &[Plain<BvTheory>]) -> u8
+fn status_of(answers: &[Outcome<BvTheory, BvProof, BvSpent>]) -> u8
     ensures bound { result ≤ 1 }
     ensures all_found { result ≡ 0 → All IsFound answers.now }
     ensures some_fail { result ≡ 1 → Any IsFail answers.now }
 {
     for answer in answers {
-        if let Plain::Size = answer {
+        if let Outcome::Fail(_) = answer {
             return 1;
         }
     }
@@ -180,17 +201,16 @@ fn answer_next<O: Sink, E: Sink>(
     alloc: Global,
     titles: &Titles,
     problem: &Problem<BvTheory>,
-    limits: Limits,
-    answers: &mut Seq<Plain<BvTheory>>,
+    limits: &Limits,
+    answers: &mut Seq<Outcome<BvTheory, BvProof, BvSpent>>,
     out: &mut O,
     err: &mut E,
 ) -> Result<(), Stop>
     requires few { length answers.old < 2 ^ 31 }
     requires answerable { IsAnswerable titles.now (question_of vector problem.now) }
-    requires size { limits.size ≤ 64 }
-    ensures ok { OnOk result (AnswersNext limits titles.now (question_of vector problem.now) answers.old answers.new
+    ensures ok { OnOk result (AnswersNext limits.now titles.now (question_of vector problem.now) answers.old answers.new
         (O.written out.old) (O.written out.new) (E.written err.old) (E.written err.new)) }
-    ensures broken { IsErrOf result Stop.Write → BreaksNext limits titles.now (question_of vector problem.now) answers.old answers.new
+    ensures broken { IsErrOf result Stop.Write → BreaksNext limits.now titles.now (question_of vector problem.now) answers.old answers.new
         (O.written out.old) (O.written out.new) }
     ensures cause { IsErrOf result Stop.Write → Rose (O.faults out.old) (O.faults out.new) ⊎ Rose (E.faults err.old) (E.faults err.new) }
     ensures unchanged { IsErrOf result Stop.Memory → answers.new ≡ answers.old }
@@ -200,7 +220,9 @@ fn answer_next<O: Sink, E: Sink>(
     ensures later_err { E.faults err.old ≤ E.faults err.new }
 {
     let check = (answers.len() + 1) as u32;
-    let Ok(answer) = plain(alloc, problem, limits.size) else {
+    problem_fits(problem);
+    let mut decide = BvDecide::new();
+    let Ok(answer) = synthesise(alloc, problem, limits, &mut decide) else {
         return Err(Stop::Memory);
     };
     let Ok(text) = answer_text(alloc, titles, problem, &answer) else {

@@ -9,11 +9,11 @@ use std::alloc::Global;
 use sy_causes::Titles;
 use sy_grammar::Problem;
 use sy_io::Bytes;
-use sy_limits::FailName;
 use sy_lines::fail_line;
-use sy_loop::Plain;
+use sy_outcome::{Outcome, fail_name};
 use sy_reply::reply_text;
 use sy_seq::Want;
+use sy_solve::{BvDecide, BvProof, BvSpent};
 use sy_words::BvTheory;
 
 /// The text of the answer to a `check-synth`: definitions, or the line `fail`.
@@ -22,18 +22,18 @@ pub(crate) fn answer_text(
     alloc: Global,
     titles: &Titles,
     problem: &Problem<BvTheory>,
-    answer: &Plain<BvTheory>,
+    answer: &Outcome<BvTheory, BvProof, BvSpent>,
 ) -> Result<Bytes, Want>
     requires answerable { IsAnswerable titles.now (question_of vector problem.now) }
     requires members { HasMembers (question_of vector problem.now) answer.now }
     ensures { IfOk result (λ text. text ≡ texts.answer_text titles.now (question_of vector problem.now) answer.now) }
 {
     match answer {
-        Plain::Found(bodies) => {
+        Outcome::Found(bodies, _) => {
             let text = reply_text(alloc, titles, problem, bodies)?;
             Ok(text)
         }
-        Plain::Size => {
+        Outcome::Fail(_) => {
             let mut text = Bytes::new(alloc);
             text.append(b"fail\n")?;
             Ok(text)
@@ -46,14 +46,15 @@ pub(crate) fn answer_text(
 pub(crate) fn answer_line(
     alloc: Global,
     check: u32,
-    answer: &Plain<BvTheory>,
+    answer: &Outcome<BvTheory, BvProof, BvSpent>,
 ) -> Result<Bytes, Want>
     ensures { IfOk result (λ text. text ≡ texts.answer_line check answer.now) }
 {
     match answer {
-        Plain::Found(_) => Ok(Bytes::new(alloc)),
-        Plain::Size => {
-            let line = fail_line(alloc, check, FailName::Size)?;
+        Outcome::Found(_, _) => Ok(Bytes::new(alloc)),
+        Outcome::Fail(cause) => {
+            let name = fail_name::<BvTheory, BvDecide>(cause);
+            let line = fail_line(alloc, check, name)?;
             Ok(line)
         }
     }

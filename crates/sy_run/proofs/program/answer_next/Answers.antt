@@ -1,7 +1,11 @@
+use Rattle.std.proofs.Common.{◌≡◌}
 use Rattle.sy_grammar.specs.Questions.{question_of}
 use Rattle.sy_words.specs.Vectors.{vector}
 use Rattle.sy_run.proofs.Answerable.{right_members}
 use Rattle.sy_run.proofs.program.answer_next.Goals as goal
 
+pub problem_fits-requires : goal.problem_fits-requires
+problem_fits-requires g c = c.requires.answerable.fits
+
 pub answer_text-requires-clause-members : goal.answer_text-requires-clause-members
-answer_text-requires-clause-members g c = right_members c.args.limits (question_of vector c.args.problem.now) c.in-Ok.answer c.in-Ok.ensures
+answer_text-requires-clause-members g c = right_members c.args.limits.now (question_of vector c.args.problem.now) c.in-Ok.answer c.in-Ok.ensures

@@ -1,6 +1,7 @@
-use Rattle.std.proofs.Common.{◌≡◌, ◌≤◌, length}
+use Rattle.std.proofs.Common.{◌≡◌, ◌≤◌, length, map}
 use Rattle.std.specs.Io.KnownBytes.{Appends}
-use Rattle.sy_first.specs.Files.{asked_by}
+use Rattle.sy_grammar.specs.Questions.{question_of}
+use Rattle.sy_words.specs.Vectors.{vector}
 use Rattle.sy_run.specs.Texts.{replies, answer_lines}
 use Rattle.sy_run.specs.Runs.{AreRight}
 use Rattle.sy_run.proofs.program.solve.Given as goal
@@ -8,8 +9,8 @@ use Rattle.sy_run.proofs.program.solve.Given as goal
 abbrev pub invariant-loop-problem : goal.invariant-loop-problem
 invariant-loop-problem g l = record {
   count : length l.answers ≡ l.problem-index;
-  right : AreRight l.limits (asked_by l.job).questions l.answers;
-  replied : Appends (g.O.Sink.written l.fn.out) (g.O.Sink.written l.out) (replies l.job.titles (asked_by l.job).questions l.answers);
+  right : AreRight l.limits (map (question_of vector) l.problems) l.answers;
+  replied : Appends (g.O.Sink.written l.fn.out) (g.O.Sink.written l.out) (replies l.titles (map (question_of vector) l.problems) l.answers);
   lined : Appends (g.E.Sink.written l.fn.err) (g.E.Sink.written l.err) (answer_lines 1 l.answers);
   later_out : g.O.Sink.faults l.fn.out ≤ g.O.Sink.faults l.out;
   later_err : g.E.Sink.faults l.fn.err ≤ g.E.Sink.faults l.err;

@@ -1,0 +1,216 @@
+#!/usr/bin/env python3
+"""Runs `sygus`, and cvc5 where it is installed, on problems, and prints a table of their processor times.
+
+    bench/answers.py [--sygus PROGRAM] [--limit SECONDS] [FILE ..]
+
+Without files it takes those of examples/ and bench/problems/. Without --sygus it builds the program by ./sygus. Each run
+has a limit of processor seconds and 6 GB. A comment line `; words: WORDS` of a file holds words for `sygus`, as
+`--size 15`. Each answer of `sygus` is checked: it is definitions of the functions of the file, in order, with their
+arguments and sorts; and where z3 is installed, z3 finds no values at which they violate the problem. A line
+`; answer: fail CAUSE` says that no definitions are wanted, and why. The status is 1 where an answer is wrong.
+"""
+import argparse
+import glob
+import os
+import re
+import resource
+import shutil
+import subprocess
+import sys
+import tempfile
+
+TOP = os.path.dirname(os.path.dirname(os.path.abspath(__file__)))
+MEMORY = 6 << 30
+
+
+def read_items(text):
+    """The items of a text: strings, and lists of items."""
+    stack = [[]]
+    for token in re.findall(r";[^\n\r]*|\|[^|]*\||\"(?:[^\"]|\"\")*\"|[()]|[^\s()|\";]+", text):
+        if token.startswith(";"):
+            continue
+        if token == "(":
+            stack.append([])
+        elif token == ")":
+            last = stack.pop()
+            stack[-1].append(last)
+        else:
+            stack[-1].append(token)
+    return stack[0]
+
+
+def write_item(item):
+    return item if isinstance(item, str) else "(" + " ".join(map(write_item, item)) + ")"
+
+
+class Problem:
+    """What stands before a `check-synth`, as SMT-LIB."""
+
+    def __init__(self):
+        self.before, self.functions, self.arguments, self.sorts = [], [], {}, {}
+        self.variables, self.assumed, self.wanted, self.count = [], [], [], 0
+
+    def take(self, command):
+        name = command[0]
+        if name == "declare-var":
+            self.variables.append(["declare-const", *command[1:]])
+        elif name in ("define-fun", "define-sort"):
+            if name == "define-sort" and len(command) == 3:
+                command = [command[0], command[1], [], command[2]]
+            if name == "define-sort":
+                self.sorts[command[1]] = self.resolved(command[3])
+            if name == "define-fun":
+                self.arguments[command[1]] = command[2]
+            self.before.append(command)
+        elif name in ("synth-fun", "synth-inv"):
+            sort = command[3] if name == "synth-fun" else "Bool"
+            arguments = [[argument, self.resolved(given)] for argument, given in command[2]]
+            self.functions.append(["define-fun", command[1], arguments, self.resolved(sort)])
+            self.arguments[command[1]] = command[2]
+        elif name == "assume":
+            self.assumed.append(command[1])
+        elif name == "constraint":
+            self.wanted.append(command[1])
+        elif name == "inv-constraint":
+            self.take_invariant(*command[1:])
+
+    def resolved(self, sort):
+        return self.sorts.get(sort, sort) if isinstance(sort, str) else sort
+
+    def take_invariant(self, inv, pre, trans, post):
+        rows = [[], []]
+        for row in rows:
+            for _, sort in self.arguments[inv]:
+                self.count += 1
+                row.append(f"row_{self.count}")
+                self.variables.append(["declare-const", row[-1], sort])
+        here, there = rows
+        call = lambda f, args: [f, *args] if args else f
+        self.wanted += [
+            ["=>", call(pre, here), call(inv, here)],
+            ["=>", ["and", call(inv, here), call(trans, here + there)], call(inv, there)],
+            ["=>", call(inv, here), call(post, here)],
+        ]
+
+    def fault(self, reply):
+        """What is wrong with a reply, or None."""
+        heads = [definition[:4] for definition in reply]
+        if [write_item(head) for head in heads] != [write_item(head) for head in self.functions]:
+            return "not the definitions that were asked"
+        if not shutil.which("z3"):
+            return None
+        lines = ["(set-logic QF_BV)", *map(write_item, self.before), *map(write_item, reply)]
+        lines += map(write_item, self.variables)
+        lines += [f"(assert {write_item(term)})" for term in self.assumed]
+        wanted = ["and", "true", *self.wanted]
+        lines += [f"(assert (not {write_item(called(wanted, self.arguments))}))", "(check-sat)"]
+        found = subprocess.run(["z3", "-in", "-T:300"], input="\n".join(lines), capture_output=True, text=True).stdout
+        return None if found.strip() == "unsat" else f"z3: {found.strip()[:60]}"
+
+
+def called(term, arguments):
+    """The term with `(f)` written `f` where f takes no arguments."""
+    if isinstance(term, str):
+        return term
+    if len(term) == 1 and isinstance(term[0], str) and arguments.get(term[0]) == []:
+        return term[0]
+    return [called(part, arguments) for part in term]
+
+
+def fault_of(text, output):
+    """What is wrong with the answers to a file, or None."""
+    replies, problem = read_items(output), Problem()
+    for command in read_items(text):
+        if command[0] == "check-synth":
+            if not replies:
+                return "an answer is missing"
+            reply = replies.pop(0)
+            if isinstance(reply, str):
+                return reply
+            fault = problem.fault(reply)
+            if fault:
+                return fault
+        else:
+            problem.take(command)
+    return "more than the answers" if replies else None
+
+
+def run(words, limit):
+    """The processor seconds of a run, its output and its errors; None for the seconds where it met the limit."""
+
+    def bound():
+        resource.setrlimit(resource.RLIMIT_CPU, (limit, limit + 1))
+        resource.setrlimit(resource.RLIMIT_AS, (MEMORY, MEMORY))
+
+    with tempfile.TemporaryFile("w+") as out, tempfile.TemporaryFile("w+") as err:
+        child = subprocess.Popen(words, stdin=subprocess.DEVNULL, stdout=out, stderr=err, preexec_fn=bound)
+        _, status, used = os.wait4(child.pid, 0)
+        child.returncode = status
+        out.seek(0)
+        err.seek(0)
+        seconds = used.ru_utime + used.ru_stime
+        return (None if os.WIFSIGNALED(status) else seconds), out.read(), err.read()
+
+
+def line_of(text, label):
+    found = re.search(rf"^; {label}: (.*)$", text, re.MULTILINE)
+    return found.group(1).strip() if found else ""
+
+
+def answer_of(text, seconds, output, errors):
+    """What `sygus` answered, and whether that is right."""
+    if seconds is None:
+        return "no answer within the limit", True
+    wanted = line_of(text, "answer")
+    if output.startswith("fail"):
+        cause = errors.strip().split(" ")[-1]
+        return f"fail {cause}", wanted in ("", f"fail {cause}")
+    fault = fault_of(text, output)
+    if fault:
+        return f"WRONG: {fault} {errors.strip()}", False
+    return ("definitions", True) if not wanted else ("WRONG: definitions", False)
+
+
+def shown(seconds):
+    return "-" if seconds is None else f"{seconds:.2f}"
+
+
+def main():
+    options = argparse.ArgumentParser()
+    options.add_argument("--sygus")
+    options.add_argument("--limit", type=int, default=20)
+    options.add_argument("files", nargs="*")
+    options = options.parse_args()
+    program = options.sygus or f"{TOP}/crates/sygus/out/sygus"
+    if not options.sygus:
+        subprocess.run([f"{TOP}/sygus", f"{TOP}/examples/first.sl"], stdout=subprocess.DEVNULL, check=True)
+    files = options.files or sorted(glob.glob(f"{TOP}/examples/*.sl")) + sorted(glob.glob(f"{TOP}/bench/problems/*.sl"))
+    beside = shutil.which("cvc5")
+    right, found, rows = True, 0, []
+    print(f"| {'File':24} | {'Answer':26} | {'sygus s':>8} | {'cvc5 s':>8} | {'ratio':>7} |")
+    print(f"|{'-' * 26}|{'-' * 28}|{'-' * 9}:|{'-' * 9}:|{'-' * 8}:|")
+    for file in files:
+        with open(file) as opened:
+            text = opened.read()
+        seconds, output, errors = run([program, *line_of(text, "words").split(), file], options.limit)
+        answer, is_right = answer_of(text, seconds, output, errors)
+        right &= is_right
+        found += answer == "definitions"
+        other = None
+        if beside:
+            other, output, _ = run([beside, "--lang=sygus2", file], options.limit)
+            other = other if "define-fun" in output else None
+        ratio = f"{seconds / max(other, 0.005):.2f}" if None not in (seconds, other) else "-"
+        if answer == "definitions" and other is not None:
+            rows.append((seconds, other))
+        name = os.path.basename(file)[:-3]
+        print(f"| {name:24} | {answer:26} | {shown(seconds):>8} | {shown(other):>8} | {ratio:>7} |", flush=True)
+    print(f"{found} of {len(files)} files answered by definitions; of those, cvc5 answers {len(rows)}.")
+    if rows:
+        ours, theirs = (sum(column) for column in zip(*rows))
+        print(f"On these: sygus {ours:.1f} s, cvc5 {theirs:.1f} s; sygus faster on {sum(a < b for a, b in rows)}.")
+    sys.exit(0 if right else 1)
+
+
+if __name__ == "__main__":
+    main()

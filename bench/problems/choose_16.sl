@@ -1,0 +1,10 @@
+; A choice by a mask, at width 16.
+(set-logic BV)
+(synth-fun f ((m (_ BitVec 16)) (x (_ BitVec 16)) (y (_ BitVec 16))) (_ BitVec 16)
+  ((S (_ BitVec 16)))
+  ((S (_ BitVec 16) (m x y (bvand S S) (bvor S S) (bvxor S S) (bvadd S S) (bvsub S S) (bvnot S)))))
+(declare-var m (_ BitVec 16))
+(declare-var x (_ BitVec 16))
+(declare-var y (_ BitVec 16))
+(constraint (= (f m x y) (bvor (bvand m x) (bvand (bvnot m) y))))
+(check-synth)

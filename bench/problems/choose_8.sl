@@ -1,0 +1,10 @@
+; A choice by a mask, at width 8.
+(set-logic BV)
+(synth-fun f ((m (_ BitVec 8)) (x (_ BitVec 8)) (y (_ BitVec 8))) (_ BitVec 8)
+  ((S (_ BitVec 8)))
+  ((S (_ BitVec 8) (m x y (bvand S S) (bvor S S) (bvxor S S) (bvadd S S) (bvsub S S) (bvnot S)))))
+(declare-var m (_ BitVec 8))
+(declare-var x (_ BitVec 8))
+(declare-var y (_ BitVec 8))
+(constraint (= (f m x y) (bvor (bvand m x) (bvand (bvnot m) y))))
+(check-synth)

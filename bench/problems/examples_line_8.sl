@@ -1,0 +1,12 @@
+; Examples of three times a number and one.
+(set-logic BV)
+(synth-fun f ((x (_ BitVec 8))) (_ BitVec 8)
+  ((S (_ BitVec 8)))
+  ((S (_ BitVec 8) (x #x01 #x02 (bvadd S S) (bvsub S S) (bvmul S S) (bvand S S) (bvor S S) (bvxor S S)))))
+(constraint (= (f #x1e) #x5b))
+(constraint (= (f #x92) #xb7))
+(constraint (= (f #x4e) #xeb))
+(constraint (= (f #x8f) #xae))
+(constraint (= (f #xd0) #x71))
+(constraint (= (f #xae) #x0b))
+(check-synth)

@@ -1,0 +1,11 @@
+; A loop that counts to a hundred, at width 32.
+(set-logic BV)
+(synth-inv inv ((x (_ BitVec 32)))
+  ((B Bool) (S (_ BitVec 32)))
+  ((B Bool ((= S S) (bvule S S) (bvult S S) (not B) (and B B) (or B B)))
+   (S (_ BitVec 32) (x #x00000000 #x00000064 (bvadd S S) (bvsub S S)))))
+(define-fun pre ((x (_ BitVec 32))) Bool (= x #x00000000))
+(define-fun trans ((x (_ BitVec 32)) (x1 (_ BitVec 32))) Bool (and (bvult x #x00000064) (= x1 (bvadd x #x00000001))))
+(define-fun post ((x (_ BitVec 32))) Bool (=> (not (bvult x #x00000064)) (= x #x00000064)))
+(inv-constraint inv pre trans post)
+(check-synth)

@@ -1,0 +1,11 @@
+; A loop that counts to a hundred, at width 8.
+(set-logic BV)
+(synth-inv inv ((x (_ BitVec 8)))
+  ((B Bool) (S (_ BitVec 8)))
+  ((B Bool ((= S S) (bvule S S) (bvult S S) (not B) (and B B) (or B B)))
+   (S (_ BitVec 8) (x #x00 #x64 (bvadd S S) (bvsub S S)))))
+(define-fun pre ((x (_ BitVec 8))) Bool (= x #x00))
+(define-fun trans ((x (_ BitVec 8)) (x1 (_ BitVec 8))) Bool (and (bvult x #x64) (= x1 (bvadd x #x01))))
+(define-fun post ((x (_ BitVec 8))) Bool (=> (not (bvult x #x64)) (= x #x64)))
+(inv-constraint inv pre trans post)
+(check-synth)

@@ -1,0 +1,11 @@
+; Two numbers that are raised together, at width 8.
+(set-logic BV)
+(synth-inv inv ((x (_ BitVec 8)) (y (_ BitVec 8)))
+  ((B Bool) (S (_ BitVec 8)))
+  ((B Bool ((= S S) (bvule S S) (bvult S S) (not B) (and B B) (or B B)))
+   (S (_ BitVec 8) (x y #x00 (bvadd S S) (bvsub S S)))))
+(define-fun pre ((x (_ BitVec 8)) (y (_ BitVec 8))) Bool (and (= x #x00) (= y #x00)))
+(define-fun trans ((x (_ BitVec 8)) (y (_ BitVec 8)) (x1 (_ BitVec 8)) (y1 (_ BitVec 8))) Bool (and (= x1 (bvadd x #x01)) (= y1 (bvadd y #x01))))
+(define-fun post ((x (_ BitVec 8)) (y (_ BitVec 8))) Bool (=> (= x #x09) (= y #x09)))
+(inv-constraint inv pre trans post)
+(check-synth)

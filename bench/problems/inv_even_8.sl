@@ -1,0 +1,11 @@
+; A loop whose number stays even, at width 8.
+(set-logic BV)
+(synth-inv inv ((x (_ BitVec 8)))
+  ((B Bool) (S (_ BitVec 8)))
+  ((B Bool ((= S S) (bvule S S) (bvult S S) (not B) (and B B) (or B B)))
+   (S (_ BitVec 8) (x #x00 #x01 (bvand S S) (bvadd S S)))))
+(define-fun pre ((x (_ BitVec 8))) Bool (= x #x04))
+(define-fun trans ((x (_ BitVec 8)) (x1 (_ BitVec 8))) Bool (= x1 (bvadd x #x02)))
+(define-fun post ((x (_ BitVec 8))) Bool (distinct x #x07))
+(inv-constraint inv pre trans post)
+(check-synth)

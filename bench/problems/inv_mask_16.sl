@@ -1,0 +1,11 @@
+; A mask that is shifted, at width 16.
+(set-logic BV)
+(synth-inv inv ((x (_ BitVec 16)) (m (_ BitVec 16)))
+  ((B Bool) (S (_ BitVec 16)))
+  ((B Bool ((= S S) (bvule S S) (and B B) (not B)))
+   (S (_ BitVec 16) (x m #x0000 #x0001 (bvand S S) (bvadd S S) (bvsub S S)))))
+(define-fun pre ((x (_ BitVec 16)) (m (_ BitVec 16))) Bool (and (= m #x0001) (= x #x0000)))
+(define-fun trans ((x (_ BitVec 16)) (m (_ BitVec 16)) (x1 (_ BitVec 16)) (m1 (_ BitVec 16))) Bool (and (= m1 (bvadd m m)) (= x1 (bvor x m))))
+(define-fun post ((x (_ BitVec 16)) (m (_ BitVec 16))) Bool (=> (= m #x0000) (= x #xffff)))
+(inv-constraint inv pre trans post)
+(check-synth)

@@ -1,0 +1,11 @@
+; Two numbers that meet, at width 16.
+(set-logic BV)
+(synth-inv inv ((x (_ BitVec 16)) (y (_ BitVec 16)))
+  ((B Bool) (S (_ BitVec 16)))
+  ((B Bool ((= S S) (bvule S S) (and B B) (not B)))
+   (S (_ BitVec 16) (x y #x0064 (bvadd S S)))))
+(define-fun pre ((x (_ BitVec 16)) (y (_ BitVec 16))) Bool (and (= x #x0000) (= y #x0064)))
+(define-fun trans ((x (_ BitVec 16)) (y (_ BitVec 16)) (x1 (_ BitVec 16)) (y1 (_ BitVec 16))) Bool (and (bvult x y) (= x1 (bvadd x #x0001)) (= y1 (bvsub y #x0001))))
+(define-fun post ((x (_ BitVec 16)) (y (_ BitVec 16))) Bool (=> (not (bvult x y)) (= x y)))
+(inv-constraint inv pre trans post)
+(check-synth)

@@ -1,0 +1,11 @@
+; Two numbers that meet, at width 8.
+(set-logic BV)
+(synth-inv inv ((x (_ BitVec 8)) (y (_ BitVec 8)))
+  ((B Bool) (S (_ BitVec 8)))
+  ((B Bool ((= S S) (bvule S S) (and B B) (not B)))
+   (S (_ BitVec 8) (x y #x64 (bvadd S S)))))
+(define-fun pre ((x (_ BitVec 8)) (y (_ BitVec 8))) Bool (and (= x #x00) (= y #x64)))
+(define-fun trans ((x (_ BitVec 8)) (y (_ BitVec 8)) (x1 (_ BitVec 8)) (y1 (_ BitVec 8))) Bool (and (bvult x y) (= x1 (bvadd x #x01)) (= y1 (bvsub y #x01))))
+(define-fun post ((x (_ BitVec 8)) (y (_ BitVec 8))) Bool (=> (not (bvult x y)) (= x y)))
+(inv-constraint inv pre trans post)
+(check-synth)

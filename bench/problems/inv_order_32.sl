@@ -1,0 +1,11 @@
+; A number that never passes another, at width 32.
+(set-logic BV)
+(synth-inv inv ((x (_ BitVec 32)) (y (_ BitVec 32)))
+  ((B Bool) (S (_ BitVec 32)))
+  ((B Bool ((= S S) (bvule S S) (bvult S S) (not B) (and B B) (or B B)))
+   (S (_ BitVec 32) (x y #x00000000 (bvadd S S) (bvsub S S)))))
+(define-fun pre ((x (_ BitVec 32)) (y (_ BitVec 32))) Bool (and (= x #x00000000) (= y #x00000032)))
+(define-fun trans ((x (_ BitVec 32)) (y (_ BitVec 32)) (x1 (_ BitVec 32)) (y1 (_ BitVec 32))) Bool (and (bvult x y) (= x1 (bvadd x #x00000001)) (= y1 y)))
+(define-fun post ((x (_ BitVec 32)) (y (_ BitVec 32))) Bool (=> (not (bvult x y)) (= x y)))
+(inv-constraint inv pre trans post)
+(check-synth)

@@ -1,0 +1,11 @@
+; Sums of odd numbers, at width 8.
+(set-logic BV)
+(synth-inv inv ((x (_ BitVec 8)) (y (_ BitVec 8)) (z (_ BitVec 8)))
+  ((B Bool) (S (_ BitVec 8)))
+  ((B Bool ((= S S) (bvule S S) (and B B) (not B)))
+   (S (_ BitVec 8) (x y z #x00 #x01 (bvadd S S) (bvmul S S)))))
+(define-fun pre ((x (_ BitVec 8)) (y (_ BitVec 8)) (z (_ BitVec 8))) Bool (and (= x #x00) (and (= y #x01) (= z #x00))))
+(define-fun trans ((x (_ BitVec 8)) (y (_ BitVec 8)) (z (_ BitVec 8)) (x1 (_ BitVec 8)) (y1 (_ BitVec 8)) (z1 (_ BitVec 8))) Bool (and (= x1 (bvadd x #x01)) (and (= y1 (bvadd y #x02)) (= z1 (bvadd z y)))))
+(define-fun post ((x (_ BitVec 8)) (y (_ BitVec 8)) (z (_ BitVec 8))) Bool (=> (= x #x05) (= z #x19)))
+(inv-constraint inv pre trans post)
+(check-synth)

@@ -1,0 +1,8 @@
+; The lowest bit that is clear, alone, at width 16.
+(set-logic BV)
+(synth-fun f ((x (_ BitVec 16))) (_ BitVec 16)
+  ((S (_ BitVec 16)))
+  ((S (_ BitVec 16) (x #x0000 #x0001 (bvnot S) (bvneg S) (bvand S S) (bvor S S) (bvxor S S) (bvadd S S)))))
+(declare-var x (_ BitVec 16))
+(constraint (= (f x) (bvsub (bvadd x #x0001) (bvand x (bvadd x #x0001)))))
+(check-synth)

@@ -1,0 +1,8 @@
+; The lowest bit that is clear, alone, at width 64.
+(set-logic BV)
+(synth-fun f ((x (_ BitVec 64))) (_ BitVec 64)
+  ((S (_ BitVec 64)))
+  ((S (_ BitVec 64) (x #x0000000000000000 #x0000000000000001 (bvnot S) (bvneg S) (bvand S S) (bvor S S) (bvxor S S) (bvadd S S)))))
+(declare-var x (_ BitVec 64))
+(constraint (= (f x) (bvsub (bvadd x #x0000000000000001) (bvand x (bvadd x #x0000000000000001)))))
+(check-synth)

@@ -1,0 +1,8 @@
+; The lowest bit that is set, spread to its right, at width 32.
+(set-logic BV)
+(synth-fun f ((x (_ BitVec 32))) (_ BitVec 32)
+  ((S (_ BitVec 32)))
+  ((S (_ BitVec 32) (x #x00000000 #x00000001 (bvnot S) (bvneg S) (bvand S S) (bvor S S) (bvxor S S) (bvadd S S) (bvsub S S) (bvmul S S) (bvshl S S) (bvlshr S S) (bvashr S S) (bvudiv S S)))))
+(declare-var x (_ BitVec 32))
+(constraint (= (f x) (bvnot (bvand (bvnot x) (bvneg x)))))
+(check-synth)

@@ -1,0 +1,8 @@
+; The trailing ones, cleared, at width 8.
+(set-logic BV)
+(synth-fun f ((x (_ BitVec 8))) (_ BitVec 8)
+  ((S (_ BitVec 8)))
+  ((S (_ BitVec 8) (x #x00 #x01 (bvnot S) (bvneg S) (bvand S S) (bvor S S) (bvxor S S) (bvadd S S) (bvsub S S) (bvlshr S S)))))
+(declare-var x (_ BitVec 8))
+(constraint (= (f x) (bvsub x (bvand x (bvxor x (bvadd x #x01))))))
+(check-synth)

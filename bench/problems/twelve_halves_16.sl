@@ -1,0 +1,8 @@
+; A number with its halves added, with twelve operators, at width 16.
+(set-logic BV)
+(synth-fun f ((x (_ BitVec 16))) (_ BitVec 16)
+  ((S (_ BitVec 16)))
+  ((S (_ BitVec 16) (x #x0008 (bvnot S) (bvneg S) (bvand S S) (bvor S S) (bvxor S S) (bvadd S S) (bvsub S S) (bvmul S S) (bvudiv S S) (bvshl S S) (bvlshr S S) (bvashr S S)))))
+(declare-var x (_ BitVec 16))
+(constraint (= (f x) (bvadd x ((_ zero_extend 8) ((_ extract 15 8) x)))))
+(check-synth)

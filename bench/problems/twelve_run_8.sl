@@ -1,0 +1,8 @@
+; The lowest run of ones, cleared, with twelve operators, at width 8.
+(set-logic BV)
+(synth-fun f ((x (_ BitVec 8))) (_ BitVec 8)
+  ((S (_ BitVec 8)))
+  ((S (_ BitVec 8) (x #x01 (bvnot S) (bvneg S) (bvand S S) (bvor S S) (bvxor S S) (bvadd S S) (bvsub S S) (bvmul S S) (bvudiv S S) (bvshl S S) (bvlshr S S) (bvashr S S)))))
+(declare-var x (_ BitVec 8))
+(constraint (= (f x) (bvand x (bvadd x (bvand x (bvneg x))))))
+(check-synth)

@@ -1,0 +1,12 @@
+; Two functions that undo each other, neither of them the identity, at width 32.
+(set-logic BV)
+(synth-fun f ((x (_ BitVec 32))) (_ BitVec 32)
+  ((S (_ BitVec 32)))
+  ((S (_ BitVec 32) (x #x00000001 (bvnot S) (bvneg S) (bvand S S) (bvor S S) (bvxor S S) (bvadd S S)))))
+(synth-fun g ((x (_ BitVec 32))) (_ BitVec 32)
+  ((S (_ BitVec 32)))
+  ((S (_ BitVec 32) (x #x00000001 (bvnot S) (bvneg S) (bvand S S) (bvor S S) (bvxor S S) (bvsub S S)))))
+(declare-var x (_ BitVec 32))
+(constraint (= (f (g x)) x))
+(constraint (= (f #x00000000) #x00000003))
+(check-synth)

@@ -1,0 +1,12 @@
+; Two functions that undo each other, neither of them the identity, at width 8.
+(set-logic BV)
+(synth-fun f ((x (_ BitVec 8))) (_ BitVec 8)
+  ((S (_ BitVec 8)))
+  ((S (_ BitVec 8) (x #x01 (bvnot S) (bvneg S) (bvand S S) (bvor S S) (bvxor S S) (bvadd S S)))))
+(synth-fun g ((x (_ BitVec 8))) (_ BitVec 8)
+  ((S (_ BitVec 8)))
+  ((S (_ BitVec 8) (x #x01 (bvnot S) (bvneg S) (bvand S S) (bvor S S) (bvxor S S) (bvsub S S)))))
+(declare-var x (_ BitVec 8))
+(constraint (= (f (g x)) x))
+(constraint (= (f #x00) #x03))
+(check-synth)

@@ -1,0 +1,13 @@
+; Two parts of a number without a common bit, one with the lowest, at width 8.
+(set-logic BV)
+(synth-fun f ((x (_ BitVec 8))) (_ BitVec 8)
+  ((S (_ BitVec 8)))
+  ((S (_ BitVec 8) (x (bvnot S) (bvneg S) (bvand S S) (bvor S S) (bvxor S S) (bvadd S S)))))
+(synth-fun g ((x (_ BitVec 8))) (_ BitVec 8)
+  ((S (_ BitVec 8)))
+  ((S (_ BitVec 8) (x #x01 (bvnot S) (bvneg S) (bvand S S) (bvor S S) (bvxor S S) (bvsub S S)))))
+(declare-var x (_ BitVec 8))
+(constraint (= (bvor (f x) (g x)) x))
+(constraint (= (bvand (f x) (g x)) #x00))
+(constraint (= (f x) (bvand x (bvadd (bvnot x) #x01))))
+(check-synth)

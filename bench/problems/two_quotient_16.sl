@@ -1,0 +1,13 @@
+; A quotient by four and its remainder, at width 16.
+(set-logic BV)
+(synth-fun f ((x (_ BitVec 16))) (_ BitVec 16)
+  ((S (_ BitVec 16)))
+  ((S (_ BitVec 16) (x #x0002 #x0003 (bvand S S) (bvor S S) (bvadd S S) (bvsub S S) (bvshl S S) (bvlshr S S)))))
+(synth-fun g ((x (_ BitVec 16))) (_ BitVec 16)
+  ((S (_ BitVec 16)))
+  ((S (_ BitVec 16) (x #x0002 #x0003 (bvand S S) (bvor S S) (bvadd S S) (bvsub S S) (bvshl S S) (bvlshr S S)))))
+(declare-var x (_ BitVec 16))
+(constraint (= (bvadd (bvshl (f x) #x0002) (g x)) x))
+(constraint (bvult (g x) #x0004))
+(constraint (bvule (f x) x))
+(check-synth)

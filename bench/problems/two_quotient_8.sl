@@ -1,0 +1,13 @@
+; A quotient by four and its remainder, at width 8.
+(set-logic BV)
+(synth-fun f ((x (_ BitVec 8))) (_ BitVec 8)
+  ((S (_ BitVec 8)))
+  ((S (_ BitVec 8) (x #x02 #x03 (bvand S S) (bvor S S) (bvadd S S) (bvsub S S) (bvshl S S) (bvlshr S S)))))
+(synth-fun g ((x (_ BitVec 8))) (_ BitVec 8)
+  ((S (_ BitVec 8)))
+  ((S (_ BitVec 8) (x #x02 #x03 (bvand S S) (bvor S S) (bvadd S S) (bvsub S S) (bvshl S S) (bvlshr S S)))))
+(declare-var x (_ BitVec 8))
+(constraint (= (bvadd (bvshl (f x) #x02) (g x)) x))
+(constraint (bvult (g x) #x04))
+(constraint (bvule (f x) x))
+(check-synth)

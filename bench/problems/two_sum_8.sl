@@ -1,0 +1,13 @@
+; Two functions whose sum and difference are given, at width 8.
+(set-logic BV)
+(synth-fun f ((x (_ BitVec 8)) (y (_ BitVec 8))) (_ BitVec 8)
+  ((S (_ BitVec 8)))
+  ((S (_ BitVec 8) (x y (bvneg S) (bvnot S) (bvand S S) (bvor S S) (bvxor S S) (bvadd S S)))))
+(synth-fun g ((x (_ BitVec 8)) (y (_ BitVec 8))) (_ BitVec 8)
+  ((S (_ BitVec 8)))
+  ((S (_ BitVec 8) (x y (bvneg S) (bvnot S) (bvand S S) (bvor S S) (bvxor S S) (bvadd S S)))))
+(declare-var x (_ BitVec 8))
+(declare-var y (_ BitVec 8))
+(constraint (= (bvadd (f x y) (g x y)) (bvadd x y)))
+(constraint (= (bvsub (f x y) (g x y)) (bvxor x y)))
+(check-synth)

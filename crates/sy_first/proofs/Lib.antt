@@ -1,4 +1,0 @@
-pub mod Traverse
-pub mod Commands
-pub mod Sound
-pub mod Reading

@@ -1,3 +1,0 @@
-pub mod Right
-pub mod Plainly
-pub mod Bits

@@ -1,0 +1,41 @@
+-- What comes of bodies that are tried one after the other.
+use Rattle.std.proofs.Common.{◌≡◌, ◌<◌, ◌+◌, ◌-◌, refl, ap, sym, subst, ◌∙◌, ℕ, Bool, List, length, map, arith, Result, Ok, Err, IfOk}
+use Rattle.std.proofs.lemmas.List.{length-map}
+use Rattle.sy_terms.specs.Values.{Val}
+use Rattle.sy_terms.specs.Expr.{Expr}
+use Rattle.sy_terms.specs.declared.op.Op.{Op}
+use Rattle.sy_grammar.specs.Questions.{Question}
+use Rattle.sy_limits.specs.declared.FailName.{FailName}
+use Rattle.sy_limits.specs.declared.Limits.{Limits}
+use Rattle.sy_decide.specs.Asked.{Query}
+use Rattle.sy_points.specs.Asked.{Asked}
+use Rattle.sy_points.specs.declared.stored.Stored.{Stored}
+use Rattle.sy_history.specs.Histories.{Counterexample}
+use Rattle.sy_history.specs.Stored.{counterexample_of, history_of}
+use Rattle.sy_trial.specs.Known.{left}
+use Rattle.sy_trial.specs.Steps.{Steps}
+use Rattle.sy_trial.specs.declared.step.Step.{Step}
+use Rattle.sy_trial.specs.declared.step.Step.TheVariants.{Next, Again}
+use Rattle.sy_trial.specs.declared.step.Step.TheVariants as steps
+use Rattle.sy_synthesis.specs.Levels.{Goes}
+
+-- as many stored pairs as the history has
+pub same_room : {T N : Type 0} (number : N → Val) (before after : Stored T N) (rounds : ℕ) → history_of number after ≡ history_of number before → length before.items < rounds → length after.items < rounds
+same_room number before after rounds same room =
+    omega (arith, room, ap length same, length-map before.items (counterexample_of number), length-map after.items (counterexample_of number))
+
+module _ {T P S N : Type 0} (owned : Op → Bool) (number : N → Val) (accepted : Query → P → Type 0) (budget : S → FailName) (shows : Query → Limits → FailName → S → Type 0) (question : Question) (limits : Limits) where
+  -- one candidate
+  pub goes_by : (bodies : List Expr) (history history' : List Counterexample) (asked asked' : Asked) (step : Step T P S N) → Steps owned number accepted budget shows question limits bodies history asked history' asked' step →
+      Goes owned number accepted budget shows question limits history asked history' asked' step
+  goes_by bodies history history' asked asked' Next came = (came.1, came.2)
+  goes_by bodies history history' asked asked' Again came = came
+  goes_by bodies history history' asked asked' (steps.End end) came = came
+
+  -- after others by which nothing changed
+  pub goes_after : (first history history' : List Counterexample) (initial asked asked' : Asked) (step : Step T P S N) → history ≡ first → asked ≡ initial → Goes owned number accepted budget shows question limits history asked history' asked' step →
+      Goes owned number accepted budget shows question limits first initial history' asked' step
+  goes_after first history history' initial asked asked' Next same same' came = (came.0 ∙ same, came.1 ∙ same')
+  goes_after first history history' initial asked asked' Again same same' came =
+      subst (λ h. left limits history' asked' < left limits h initial) same (subst (λ a. left limits history' asked' < left limits history a) same' came)
+  goes_after first history history' initial asked asked' (steps.End end) same same' came = came

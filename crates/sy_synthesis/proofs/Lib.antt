@@ -1,0 +1,5 @@
+pub mod Choosing
+pub mod Going
+pub mod Summing
+pub mod Building
+pub mod Rounding

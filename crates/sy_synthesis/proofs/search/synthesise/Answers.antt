@@ -1,0 +1,27 @@
+use Rattle.std.proofs.Common.{rules, arith, length, ◌≡◌, ◌≤◌, map}
+use Rattle.std.proofs.lemmas.List.{length-map}
+use Rattle.sy_grammar.specs.Questions.{question_of, goal_of}
+use Rattle.sy_synthesis.proofs.Rounding.{nothing_known}
+use Rattle.sy_synthesis.proofs.search.synthesise.Goals as goal
+
+pub rounds-init : goal.rounds-init
+rounds-init g c =
+    let all : c.len-functions.result ≡ length (question_of g.T.Theory.denotes c.args.problem.now).goals = omega (arith, c.len-functions.ensures, length-map c.args.problem.now.wanted (goal_of g.T.Theory.denotes)) in
+    record {
+      known = rw c.new.ensures (nothing_known (question_of g.T.Theory.denotes c.args.problem.now) c.args.limits.now c.in_ok-new.field-0 c.len-functions.result all c.in_ok-new.ensures.tuples c.in_ok-new.ensures.limit);
+      within = omega arith;
+    }
+
+pub run_round-requires-clause-functions : goal.run_round-requires-clause-functions
+run_round-requires-clause-functions g c = c.len-functions.ensures
+
+pub rounds-preserved : goal.rounds-preserved
+rounds-preserved g c =
+    let goes = rw c.in-Goes.is at c.in_ok-more.ensures in
+    record { known = goes.0; within = goes.1 }
+
+pub rounds-smaller : goal.rounds-smaller
+rounds-smaller g c = (rw c.in-Goes.is at c.in_ok-more.ensures).2
+
+pub returns-in-Ends : goal.returns-in-Ends
+returns-in-Ends g c = rw c.in-Ends.is at c.in_ok-more.ensures

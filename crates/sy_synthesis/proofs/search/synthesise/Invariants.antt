@@ -1,0 +1,15 @@
+use Rattle.std.proofs.Common.{◌≤◌}
+use Rattle.sy_grammar.specs.Questions.{question_of}
+use Rattle.sy_history.specs.Stored.{history_of}
+use Rattle.sy_trial.specs.Known.{IsKnown}
+use Rattle.sy_synthesis.specs.Rounds.{work}
+use Rattle.sy_synthesis.proofs.search.synthesise.Given as goal
+
+abbrev pub decreases-rounds : goal.decreases-rounds
+decreases-rounds g l = work l.limits (history_of g.T.Theory.denotes l.known.stored) l.known.points l.level
+
+abbrev pub invariant-rounds : goal.invariant-rounds
+invariant-rounds g l = record {
+  known : IsKnown (question_of g.T.Theory.denotes l.problem) l.limits (history_of g.T.Theory.denotes l.known.stored) l.known.points;
+  within : l.level ≤ l.limits.size;
+}

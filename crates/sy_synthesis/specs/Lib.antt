@@ -1,0 +1,4 @@
+pub mod Banks
+pub mod Dropping
+pub mod Levels
+pub mod Rounds

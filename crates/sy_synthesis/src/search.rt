@@ -1,0 +1,50 @@
+// The search.
+ghost use Rattle.std.specs.Prelude.{IfOk};
+ghost use Rattle.sy_grammar.specs.Questions.{question_of};
+ghost use Rattle.sy_build.specs.Problems.{ProblemFits};
+ghost use Rattle.sy_candidates.specs.Grammars.{GrammarsFit, HasNegation};
+ghost use Rattle.sy_outcome.specs.Right.{IsRight};
+
+use crate::round::{Round, run_round};
+use std::alloc::{AllocError, Global};
+use sy_decide::Decide;
+use sy_grammar::Problem;
+use sy_limits::Limits;
+use sy_outcome::Outcome;
+use sy_points::{Points, Stored};
+use sy_terms::{Theory, Want};
+use sy_trial::Known;
+
+/// Bodies that solve the problem, with the solver's proof; or why the search ended without them. Sizes ascend from 0 to
+/// the greatest. At each the bodies of kept terms whose sizes sum to it are tried; where something new is learned, the
+/// size begins anew. `Want` comes also where there are more functions to be found than numbers of 32 bits.
+pub fn synthesise<T: Theory, D: Decide<T>>(
+    alloc: Global,
+    problem: &Problem<T>,
+    limits: &Limits,
+    decide: &mut D,
+) -> Result<Outcome<T, D::Proof, D::Spent>, Want>
+    requires problem { ProblemFits T.owned T.numeric T.denotes problem.now }
+    requires grammars { GrammarsFit T.owned T.numeric T.denotes problem.now }
+    requires negation { HasNegation T.numeric T.owned }
+    ensures { IfOk result (IsRight T.owned T.denotes D.accepted D.budget D.shows (question_of T.denotes problem.now) limits.now) }
+{
+    if problem.wanted.len() > u32::MAX as usize {
+        return Err(AllocError);
+    }
+    let functions = problem.wanted.len() as u32;
+    let mut known = Known {
+        stored: Stored::new(alloc),
+        points: Points::new(alloc, functions, limits.points)?,
+    };
+    let mut level = 0;
+    'rounds: loop {
+        match run_round(alloc, problem, limits, functions, decide, known, level)? {
+            Round::Goes(more, next) => {
+                known = more;
+                level = next;
+            }
+            Round::Ends(outcome) => return Ok(outcome),
+        }
+    }
+}

@@ -1,0 +1,6 @@
+pub mod Traced
+pub mod Items
+pub mod Saying
+pub mod Tuples
+pub mod Assignments
+pub mod Ending

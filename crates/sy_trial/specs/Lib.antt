@@ -1,0 +1,5 @@
+pub mod Adding
+pub mod Known
+pub mod Steps
+pub mod Trials
+pub mod Truths

@@ -1,0 +1,10 @@
+// The judging of candidates: at stored assignments, and where they meet the problem there, by a solver.
+#![tactic(auto)]
+
+mod calls;
+mod due;
+mod step;
+mod trial;
+mod truth;
+
+pub use step::{End, Known, Step, try_candidate};

@@ -1,0 +1,10 @@
+; A quotient by a shift, where the divisor is assumed to be 1 or 2.
+(set-logic BV)
+(synth-fun f ((x (_ BitVec 8)) (y (_ BitVec 8))) (_ BitVec 8)
+  ((S (_ BitVec 8)))
+  ((S (_ BitVec 8) (x y #x01 (bvlshr S S) (bvadd S S) (bvsub S S)))))
+(declare-var x (_ BitVec 8))
+(declare-var y (_ BitVec 8))
+(assume (or (= y #x01) (= y #x02)))
+(constraint (= (f x y) (bvudiv x y)))
+(check-synth)

@@ -1,0 +1,12 @@
+; A function of 16 bits, known at six inputs alone: the lowest bit that is set is cleared.
+(set-logic BV)
+(synth-fun f ((x (_ BitVec 16))) (_ BitVec 16)
+  ((S (_ BitVec 16)))
+  ((S (_ BitVec 16) (x #x0001 (bvand S S) (bvor S S) (bvadd S S) (bvsub S S)))))
+(constraint (= (f #x0001) #x0000))
+(constraint (= (f #x000c) #x0008))
+(constraint (= (f #x0108) #x0100))
+(constraint (= (f #x7777) #x7776))
+(constraint (= (f #x8000) #x0000))
+(constraint (= (f #xa5e0) #xa5c0))
+(check-synth)
