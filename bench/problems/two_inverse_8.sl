@@ -8,5 +8,5 @@
   ((S (_ BitVec 8) (x #x01 (bvnot S) (bvneg S) (bvand S S) (bvor S S) (bvxor S S) (bvsub S S)))))
 (declare-var x (_ BitVec 8))
 (constraint (= (f (g x)) x))
-(constraint (= (f #x00) #x03))
+(constraint (= (f #x00) #x02))
 (check-synth)

@@ -1,27 +1,24 @@
 -- Banks over what is known.
 use Rattle.std.proofs.Common.{◌≡◌, ◌<◌, ◌≤◌, ◌+◌, ◌++◌, ⊎_elim, inl, inr, refl, ap, sym, subst, ◌∙◌, ℕ, zero, suc, Bool, List, [], ◌∷◌, length, map, get_or, slice_index_or, arith, slice_get, Some, None}
-use Rattle.std.specs.Prelude.{◌⊎◌, IfSome, true, false, Option, Err}
+use Rattle.std.specs.Prelude.{◌⊎◌, IfSome, false, Option, Err}
 use Rattle.std.specs.Option.{option_map}
 use Rattle.std.specs.List.{All, Contains}
-use Rattle.std.proofs.lemmas.List.{length-map, length-append, map_push}
+use Rattle.std.proofs.lemmas.List.{length-map, length-append}
 use Rattle.std.proofs.lemmas.Option.{slice_get-map, slice_get_within}
-use Rattle.std.proofs.lemmas.List.Elements.{All-contains, All-weaker, All-contains_itself, Contains-get_or}
+use Rattle.std.proofs.lemmas.List.Elements.{All-contains, All-weaker, All-contains_itself}
 use Rattle.sy_terms.specs.Values.{Val}
 use Rattle.sy_terms.specs.Denoted.{expr_of, vals_of}
-use Rattle.sy_terms.specs.Definitions.{scope_of, bodies}
+use Rattle.sy_terms.specs.Definitions.{bodies}
 use Rattle.sy_terms.specs.Fitting.{Signature}
 use Rattle.sy_terms.specs.Meaning.{Function, functions, computable}
-use Rattle.sy_terms.specs.Theories.{sort_of_value, valid}
 use Rattle.sy_terms.specs.declared.op.Op.{Op}
 use Rattle.sy_terms.specs.declared.sort.Sort.{Sort}
-use Rattle.sy_grammar.specs.Formed.{is_formed}
 use Rattle.sy_grammar.specs.Grown.{syntax_from}
 use Rattle.sy_grammar.specs.Trees.{Syntax}
 use Rattle.sy_grammar.specs.Questions.{Goal, Question, goal_of, question_of}
 use Rattle.sy_grammar.specs.declared.problem.Problem.{Problem}
 use Rattle.sy_grammar.specs.declared.problem.Wanted.{Wanted}
 use Rattle.sy_limits.specs.declared.Limits.{Limits}
-use Rattle.sy_meaning.specs.Calls.{IsCallOf}
 use Rattle.sy_points.specs.Asked.{Asked, of_function}
 use Rattle.sy_rows.specs.Banks.{Entry, Lost, Merged, IsDropped}
 use Rattle.sy_offer.specs.Tasks.{ArePointsOf}
@@ -37,7 +34,6 @@ use Rattle.sy_candidates.specs.Grammars.{GrammarFits, GrammarsFit}
 use Rattle.sy_history.specs.Histories.{Counterexample, IsMet}
 use Rattle.sy_history.specs.Budgets.{BankMet, MemberLeaves}
 use Rattle.sy_trial.specs.Truths.{wanted_of}
-use Rattle.sy_trial.specs.Adding.{IsAsked}
 use Rattle.sy_trial.specs.Known.{IsKnown}
 use Rattle.sy_trial.proofs.Items.{has_place}
 use Rattle.sy_synthesis.specs.Banks.{IsBankOf, IsWholeOf, IsFullOf, AreBanks, AreBuilt, IsFullBank}

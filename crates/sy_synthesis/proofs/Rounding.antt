@@ -1,5 +1,5 @@
 -- Rounds of a search.
-use Rattle.std.proofs.Common.{◌≡◌, ◌<◌, ◌≤◌, ◌+◌, ◌-◌, ◌*◌, refl, ap, sym, subst, ◌∙◌, ℕ, zero, suc, List, [], ◌∷◌, length, map, arith, replicate, slice_index_or}
+use Rattle.std.proofs.Common.{◌≡◌, ◌<◌, ◌≤◌, ◌+◌, ◌*◌, refl, ap, sym, subst, ◌∙◌, ℕ, zero, suc, List, [], length, arith, replicate, slice_index_or}
 use Rattle.std.specs.List.{All, Contains}
 use Rattle.std.proofs.Math.Nat.{mul-lt-mul_of_pos_right}
 use Rattle.std.proofs.lemmas.List.{length-map, length-replicate}
@@ -7,12 +7,11 @@ use Rattle.std.proofs.lemmas.List.Elements.{All-replicate}
 use Rattle.sy_terms.specs.Values.{Val}
 use Rattle.sy_grammar.specs.Questions.{Question}
 use Rattle.sy_limits.specs.declared.Limits.{Limits}
-use Rattle.sy_points.specs.Asked.{Asked, IsBounded, AreDistinct}
+use Rattle.sy_points.specs.Asked.{Asked, AreDistinct}
 use Rattle.sy_points.specs.declared.stored.Stored.{Stored}
-use Rattle.sy_history.specs.Histories.{Counterexample, IsHonest}
+use Rattle.sy_history.specs.Histories.{Counterexample}
 use Rattle.sy_history.specs.Budgets.{RoundsMet}
 use Rattle.sy_history.specs.Stored.{counterexample_of, history_of}
-use Rattle.sy_trial.specs.Adding.{room}
 use Rattle.sy_trial.specs.Known.{IsKnown, left}
 use Rattle.sy_trial.proofs.Traced.{no_element}
 use Rattle.sy_synthesis.specs.Rounds.{work}

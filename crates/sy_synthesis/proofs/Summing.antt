@@ -1,11 +1,10 @@
 -- Sums of the largest sizes of grammars.
 use Rattle.std.proofs.Common.{◌≡◌, ◌<◌, ◌≤◌, ◌+◌, ◌-◌, ◌++◌, ⊎_elim, refl, ap, sym, subst, ◌∙◌, ℕ, zero, suc, List, [], ◌∷◌, length, map, take, drop, get_or, arith}
-use Rattle.std.specs.Prelude.{◌⊎◌}
 use Rattle.std.proofs.lemmas.List.{take_more, take_all, map_push, map-append}
 use Rattle.sy_terms.specs.Values.{Val}
 use Rattle.sy_grammar.specs.Trees.{Syntax}
 use Rattle.sy_grammar.specs.Grown.{syntax_from}
-use Rattle.sy_grammar.specs.Questions.{Goal, Question, goal_of, question_of}
+use Rattle.sy_grammar.specs.Questions.{Goal, goal_of, question_of}
 use Rattle.sy_grammar.specs.declared.problem.Problem.{Problem}
 use Rattle.sy_grammar.specs.declared.problem.Wanted.{Wanted}
 use Rattle.sy_chains.specs.Greatest.{IsSize, IsEmpty, IsLargest, IsExceeded}

@@ -9,7 +9,6 @@ use Rattle.sy_rows.specs.Banks.{Entry, Merged}
 use Rattle.sy_rows.specs.Stored.{entry_of}
 use Rattle.sy_bank.specs.Bank.{merged_of}
 use Rattle.sy_bank.specs.Promised.{IsBank, IsWhole, IsFull}
-use Rattle.sy_bank.specs.declared.bank.Bank.{Bank}
 use Rattle.sy_bank.specs.declared.bank.BankEnd.{BankEnd}
 use Rattle.sy_bank.specs.declared.bank.BankEnd.TheVariants as ends
 use Rattle.sy_synthesis.specs.declared.banks.Banks.{Banks}

@@ -8,5 +8,7 @@ mod outcome;
 mod round;
 mod search;
 mod sizes;
+#[cfg(test)]
+mod tests;
 
 pub use search::synthesise;

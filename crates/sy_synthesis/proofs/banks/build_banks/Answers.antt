@@ -1,12 +1,10 @@
-use Rattle.std.proofs.Common.{rules, arith, refl, map, length, ◌≡◌, ◌<◌, ◌∙◌, sym, ap, subst}
+use Rattle.std.proofs.Common.{arith, map, length, ◌≡◌}
 use Rattle.std.proofs.lemmas.List.{length-map, map_push}
-use Rattle.sy_terms.specs.Denoted.{vals_of}
 use Rattle.sy_grammar.specs.Questions.{question_of, goal_of}
 use Rattle.sy_points.specs.Asked.{tuples_of}
-use Rattle.sy_rows.specs.Stored.{entry_of}
 use Rattle.sy_bank.specs.Bank.{merged_of}
 use Rattle.sy_history.specs.Stored.{history_of}
-use Rattle.sy_synthesis.proofs.Building.{AreFirst, no_banks, one_bank_more, all_banks, bank_of, whole_of, built_full, grammar_fits, points_fit, tuples_at}
+use Rattle.sy_synthesis.proofs.Building.{no_banks, one_bank_more, all_banks, bank_of, whole_of, built_full, grammar_fits, points_fit, tuples_at}
 use Rattle.sy_synthesis.proofs.banks.build_banks.Goals as goal
 
 pub loop-function-init : goal.loop-function-init

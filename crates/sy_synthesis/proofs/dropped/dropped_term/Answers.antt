@@ -1,4 +1,4 @@
-use Rattle.std.proofs.Common.{rules, arith, refl, map, length, ◌≡◌, ◌<◌, ◌∙◌, sym, ap, subst, None}
+use Rattle.std.proofs.Common.{arith, ◌≡◌, ◌∙◌, ap, None}
 use Rattle.std.specs.Option.{option_map}
 use Rattle.std.proofs.lemmas.Option.{slice_get-map}
 use Rattle.std.proofs.lemmas.List.Elements.{All-nil}

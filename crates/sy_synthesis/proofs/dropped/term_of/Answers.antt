@@ -1,4 +1,3 @@
-use Rattle.std.proofs.Common.{rules, arith, refl, map, length, ◌≡◌, ◌<◌, ◌∙◌, sym, ap, subst}
 use Rattle.sy_synthesis.proofs.Building.{dropped_by, placed_within}
 use Rattle.sy_synthesis.proofs.dropped.term_of.Goals as goal
 

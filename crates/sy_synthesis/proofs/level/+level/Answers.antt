@@ -1,11 +1,11 @@
-use Rattle.std.proofs.Common.{rules, arith, refl, map, length, ◌≡◌, ◌<◌, ◌≤◌, ◌+◌, ◌-◌, ◌*◌, ◌∙◌, sym, ap, subst}
+use Rattle.std.proofs.Common.{arith, refl, map, length, ◌<◌, ◌≤◌, ◌-◌}
 use Rattle.sy_terms.specs.Denoted.{expr_of}
 use Rattle.sy_grammar.specs.Questions.{question_of}
 use Rattle.sy_history.specs.Stored.{history_of}
 use Rattle.sy_candidates.proofs.Candidates.{bodies_fit}
 use Rattle.sy_trial.proofs.Ending.{members}
 use Rattle.sy_synthesis.proofs.Choosing.{next_begun, next_length, kept_choices, chosen_all}
-use Rattle.sy_synthesis.proofs.Going.{same_room, goes_by, goes_after}
+use Rattle.sy_synthesis.proofs.Going.{same_room, goes_after}
 use Rattle.sy_synthesis.proofs.level.+level.Goals as goal
 
 pub try_kept-loop-choice-init : goal.try_kept-loop-choice-init

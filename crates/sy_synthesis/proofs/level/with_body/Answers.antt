@@ -1,4 +1,3 @@
-use Rattle.std.proofs.Common.{rules, arith, ◌≡◌, map}
 use Rattle.sy_terms.specs.Denoted.{expr_of}
 use Rattle.sy_synthesis.proofs.Choosing.{copied_more, copied_last}
 use Rattle.sy_synthesis.proofs.level.with_body.Goals as goal

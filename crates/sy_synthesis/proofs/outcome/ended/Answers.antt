@@ -1,5 +1,3 @@
-use Rattle.std.proofs.Common.{rules, arith, subst, sym}
-use Rattle.sy_terms.specs.Denoted.{vals_of}
 use Rattle.sy_points.specs.Asked.{tuples_of}
 use Rattle.sy_synthesis.proofs.Building.{tuples_at}
 use Rattle.sy_synthesis.proofs.outcome.ended.Goals as goal

@@ -1,6 +1,5 @@
-use Rattle.std.proofs.Common.{rules, arith, refl, map, length, ◌≡◌, ◌<◌, ◌≤◌, ◌+◌, ◌∙◌, sym, ap, subst}
+use Rattle.std.proofs.Common.{arith, map, length, ◌≡◌, sym, ap, subst}
 use Rattle.std.proofs.lemmas.List.{length-map}
-use Rattle.sy_terms.specs.Denoted.{expr_of}
 use Rattle.sy_grammar.specs.Questions.{question_of, goal_of}
 use Rattle.sy_rows.specs.Stored.{entry_of}
 use Rattle.sy_bank.specs.Bank.{merged_of}

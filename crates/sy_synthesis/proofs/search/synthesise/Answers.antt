@@ -1,4 +1,4 @@
-use Rattle.std.proofs.Common.{rules, arith, length, ◌≡◌, ◌≤◌, map}
+use Rattle.std.proofs.Common.{arith, length, ◌≡◌}
 use Rattle.std.proofs.lemmas.List.{length-map}
 use Rattle.sy_grammar.specs.Questions.{question_of, goal_of}
 use Rattle.sy_synthesis.proofs.Rounding.{nothing_known}

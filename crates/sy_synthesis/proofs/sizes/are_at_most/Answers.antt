@@ -1,8 +1,7 @@
-use Rattle.std.proofs.Common.{rules, arith, true, false, ◌≡◌, ◌≤◌, ◌+◌, ◌-◌, subst, sym}
-use Rattle.std.specs.Prelude.{IsTrue}
+use Rattle.std.proofs.Common.{rules, arith, ◌-◌, sym}
 use mathlib.Core.Bool.{true≢false}
 use Rattle.sy_terms.specs.Denoted.{vals_of}
-use Rattle.sy_synthesis.proofs.Summing.{Summed, summed_start, summed_more, summed_all, summed_exceeds}
+use Rattle.sy_synthesis.proofs.Summing.{summed_start, summed_more, summed_all, summed_exceeds}
 use Rattle.sy_synthesis.proofs.sizes.are_at_most.Goals as goal
 
 pub loop-wanted-init : goal.loop-wanted-init
