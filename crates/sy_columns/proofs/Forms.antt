@@ -1,6 +1,7 @@
 -- Rows of each form of a term, from the rows of its parts.
-use Rattle.std.proofs.Common.{◌≡◌, ℕ, zero, suc, ◌<◌, List, [], ◌∷◌, length, refl, ap, sym, ◌∙◌, Some, slice_get, map, arith, get_or, Bool, true, false, subst, replicate, Result, Ok, Err, IfOk, IfErr}
+use Rattle.std.proofs.Common.{◌≡◌, ℕ, zero, suc, ◌<◌, List, [], ◌∷◌, length, refl, ap, sym, ◌∙◌, Some, slice_get, map, arith, get_or, Bool, true, false, subst, replicate, Result, Ok, Err, IfErr}
 use Rattle.std.specs.Prelude.{All}
+use Rattle.std.specs.Result.{IsErrAnd}
 use Rattle.std.proofs.lemmas.Option.{slice_get-get_or, slice_get_within, none-some, get_or_from_slice_get, slice_get-map}
 use Rattle.std.specs.Option.{option_map}
 use Rattle.std.proofs.lemmas.List.{length-map}
@@ -259,18 +260,10 @@ apply-part number part operator parts terms P is whole = subst P (sym (part-appl
 pub call-part : {T N : Type 0} (number : N → Val) (part : Part T N) (definition : ℕ) (parts : Parts T N) (terms : List Expr) (P : Expr → Type 0) → part ≡ Call definition parts → P (Invoke (Defined definition) (all_filled (patterns_of number parts.items.items) terms)) → P (filled (pattern_of number part) terms)
 call-part number part definition parts terms P is whole = subst P (sym (part-invoke number part definition parts terms is)) whole
 
--- results and losses, one after the other
-pub ok_then : {X E : Type 0} {P Q : X → Type 0} (r : Result X E) → IfOk r P → ((x : X) → P x → Q x) → IfOk r Q
-ok_then (Ok x) h f = f x h
-ok_then (Err e) h f = tt
-
-pub err_then : {X E : Type 0} {P Q : E → Type 0} (r : Result X E) → IfErr r P → ((e : E) → P e → Q e) → IfErr r Q
-err_then (Ok x) h f = tt
-err_then (Err e) h f = f e h
-
-pub ok_both : {X E : Type 0} {P Q R : X → Type 0} (r : Result X E) → IfOk r P → IfOk r Q → ((x : X) → P x → Q x → R x) → IfOk r R
-ok_both (Ok x) h k f = f x h k
-ok_both (Err e) h k f = tt
+-- errors that are handed on, and losses
+pub handed_on : {X E : Type 0} (P : E → Type 0) (r : Result X E) (end : E) → IsErrAnd r (λ e. e ≡ end) → P end → IfErr r P
+handed_on P (Ok x) end told holds = tt
+handed_on P (Err e) end told holds = subst P (sym told) holds
 
 pub lost_then : {P Q : ℕ → Type 0} (end : RowEnd) → WhereLost end P → ((k : ℕ) → P k → Q k) → WhereLost end Q
 lost_then (Lost point) h f = f point h

@@ -3,26 +3,28 @@ ghost use Rattle.std.specs.Prelude.{◌≡◌, ℕ, ◌<◌, true, false, IfOk, 
 ghost use Rattle.sy_terms.specs.Denoted.{IsSorted, vals_of};
 ghost use Rattle.sy_terms.specs.Theories.{fits};
 ghost use Rattle.sy_rows.specs.Columns.{column, AreSized};
+ghost use Rattle.sy_columns.specs.Lent.{values_of};
 ghost use Rattle.sy_columns.specs.Found.{IsApplied, WhereLost};
 
 use crate::ends::{RowEnd, lost_at};
+use crate::lent::Row;
 use std::alloc::{AllocError, Global};
 use sy_terms::{Applied, Op, Theory, Value};
 
 /// What the rows have at the place of this number, in place of what the list had.
 pub fn fill<T: Theory>(
-    rows: &[Vec<Value<T::Num>>],
+    rows: &[Row<'_, Value<T::Num>>],
     number: usize,
     count: usize,
     values: &mut Vec<Value<T::Num>>,
 ) -> Result<(), AllocError>
-    requires sized { AreSized count (map (λ row. vals_of T.denotes row.items) rows.now) }
+    requires sized { AreSized count (map (λ row. vals_of T.denotes (values_of row)) rows.now) }
     requires within { number < count }
-    ensures { OnOk result (vals_of T.denotes values.new.items ≡ column (map (λ row. vals_of T.denotes row.items) rows.now) number) }
+    ensures { OnOk result (vals_of T.denotes values.new.items ≡ column (map (λ row. vals_of T.denotes (values_of row)) rows.now) number) }
 {
     values.clear();
     for row in rows {
-        values.push(row[number])?;
+        values.push(row.as_slice()[number])?;
     }
     Ok(())
 }
@@ -31,14 +33,14 @@ pub fn fill<T: Theory>(
 pub fn applied_row<T: Theory>(
     alloc: Global,
     operator: &Op,
-    rows: &[Vec<Value<T::Num>>],
+    rows: &[Row<'_, Value<T::Num>>],
     count: usize,
 ) -> Result<Vec<Value<T::Num>>, RowEnd>
     requires owned { (k : ℕ) → k < count → T.owned operator.now ≡ true }
-    requires sized { AreSized count (map (λ row. vals_of T.denotes row.items) rows.now) }
-    requires sorted { (k : ℕ) → k < count → IsSorted operator.now (column (map (λ row. vals_of T.denotes row.items) rows.now) k) }
-    ensures ok { IfOk result (λ found. IsApplied operator.now (map (λ row. vals_of T.denotes row.items) rows.now) count (vals_of T.denotes found.items)) }
-    ensures lost { IfErr result (λ end. WhereLost end (λ k. (k < count) × (fits operator.now (column (map (λ row. vals_of T.denotes row.items) rows.now) k) ≡ false))) }
+    requires sized { AreSized count (map (λ row. vals_of T.denotes (values_of row)) rows.now) }
+    requires sorted { (k : ℕ) → k < count → IsSorted operator.now (column (map (λ row. vals_of T.denotes (values_of row)) rows.now) k) }
+    ensures ok { IfOk result (λ found. IsApplied operator.now (map (λ row. vals_of T.denotes (values_of row)) rows.now) count (vals_of T.denotes found.items)) }
+    ensures lost { IfErr result (λ end. WhereLost end (λ k. (k < count) × (fits operator.now (column (map (λ row. vals_of T.denotes (values_of row)) rows.now) k) ≡ false))) }
 {
     let mut found = Vec::with_capacity(alloc, count)?;
     let mut values = Vec::with_capacity(alloc, rows.len())?;

@@ -7,9 +7,11 @@ ghost use Rattle.sy_terms.specs.Meaning.{value_at_position};
 ghost use Rattle.sy_terms.specs.declared.term.Fun.TheVariants.{Defined};
 ghost use Rattle.sy_laws.specs.Evaluation.{FitsWith, Gives, can_compute};
 ghost use Rattle.sy_rows.specs.Columns.{column, constants, AreSized};
+ghost use Rattle.sy_columns.specs.Lent.{values_of};
 ghost use Rattle.sy_columns.specs.Found.{WhereLost};
 
 use crate::ends::{RowEnd, lost_at};
+use crate::lent::Row;
 use std::alloc::{AllocError, Global};
 use sy_meaning::{Eval, evaluate};
 use sy_terms::{Defs, Fun, Term, Terms, Theory, Value};
@@ -18,17 +20,17 @@ use sy_terms::{Defs, Fun, Term, Terms, Theory, Value};
 fn call_at<T: Theory>(
     alloc: Global,
     definition: u32,
-    rows: &[Vec<Value<T::Num>>],
+    rows: &[Row<'_, Value<T::Num>>],
     number: usize,
     count: usize,
 ) -> Result<Term<T>, AllocError>
-    requires sized { AreSized count (map (λ row. vals_of T.denotes row.items) rows.now) }
+    requires sized { AreSized count (map (λ row. vals_of T.denotes (values_of row)) rows.now) }
     requires within { number < count }
-    ensures { IfOk result (λ term. expr_of T.denotes term ≡ Invoke (Defined definition) (constants (column (map (λ row. vals_of T.denotes row.items) rows.now) number))) }
+    ensures { IfOk result (λ term. expr_of T.denotes term ≡ Invoke (Defined definition) (constants (column (map (λ row. vals_of T.denotes (values_of row)) rows.now) number))) }
 {
     let mut arguments = Terms::new(alloc);
     for row in rows {
-        arguments.push(Term::Const(row[number]))?;
+        arguments.push(Term::Const(row.as_slice()[number]))?;
     }
     Ok(Term::Call(Fun::Defined(definition), arguments))
 }
@@ -38,15 +40,15 @@ pub fn called_row<T: Theory>(
     alloc: Global,
     defs: &Defs<T>,
     definition: u32,
-    rows: &[Vec<Value<T::Num>>],
+    rows: &[Row<'_, Value<T::Num>>],
     count: usize,
 ) -> Result<Vec<Value<T::Num>>, RowEnd>
     requires definitions { DefinitionsFit T.owned T.denotes defs.now }
-    requires sized { AreSized count (map (λ row. vals_of T.denotes row.items) rows.now) }
-    requires fit { (k : ℕ) → k < count → FitsWith T.owned T.denotes defs.now [] [] (Invoke (Defined definition) (constants (column (map (λ row. vals_of T.denotes row.items) rows.now) k))) }
+    requires sized { AreSized count (map (λ row. vals_of T.denotes (values_of row)) rows.now) }
+    requires fit { (k : ℕ) → k < count → FitsWith T.owned T.denotes defs.now [] [] (Invoke (Defined definition) (constants (column (map (λ row. vals_of T.denotes (values_of row)) rows.now) k))) }
     ensures sized { IfOk result (λ found. length found.items ≡ count) }
-    ensures ok { IfOk result (λ found. (k : ℕ) → k < count → Gives T.owned T.denotes defs.now [] [] (Invoke (Defined definition) (constants (column (map (λ row. vals_of T.denotes row.items) rows.now) k))) (value_at_position (vals_of T.denotes found.items) k)) }
-    ensures lost { IfErr result (λ end. WhereLost end (λ k. (k < count) × (can_compute T.denotes defs.now [] [] (Invoke (Defined definition) (constants (column (map (λ row. vals_of T.denotes row.items) rows.now) k))) ≡ false))) }
+    ensures ok { IfOk result (λ found. (k : ℕ) → k < count → Gives T.owned T.denotes defs.now [] [] (Invoke (Defined definition) (constants (column (map (λ row. vals_of T.denotes (values_of row)) rows.now) k))) (value_at_position (vals_of T.denotes found.items) k)) }
+    ensures lost { IfErr result (λ end. WhereLost end (λ k. (k < count) × (can_compute T.denotes defs.now [] [] (Invoke (Defined definition) (constants (column (map (λ row. vals_of T.denotes (values_of row)) rows.now) k))) ≡ false))) }
 {
     let mut found = Vec::with_capacity(alloc, count)?;
     let nothing = Vec::new(alloc);

@@ -12,11 +12,13 @@ ghost use Rattle.sy_rows.specs.Rows.{IsLostAt};
 ghost use Rattle.sy_rows.specs.Covering.{terms};
 ghost use Rattle.sy_rows.specs.Columns.{FitsAt, FitAt, HasRow, HaveRows};
 ghost use Rattle.sy_columns.specs.Chosen.{chosen_of, AreRows, ArePoints};
+ghost use Rattle.sy_columns.specs.Lent.{values_of};
 ghost use Rattle.sy_columns.specs.Found.{WhereLost, IsOneLostAt};
 
 use crate::apply::applied_row;
 use crate::call::called_row;
 use crate::ends::RowEnd;
+use crate::lent::Row;
 use crate::places::places;
 use std::alloc::{AllocError, Global};
 use sy_grammar::{Part, Parts};
@@ -50,52 +52,46 @@ fn argument_row<T: Theory>(
     Ok(row)
 }
 
-/// The values, in memory of their own.
-fn copied<N: Copy>(alloc: Global, values: &[N]) -> Result<Vec<N>, AllocError>
-    ensures { IfOk result (λ row. row.items ≡ values.now) }
-{
-    let mut row = Vec::with_capacity(alloc, values.len())?;
-    row.extend_from_slice(values)?;
-    Ok(row)
-}
-
 /// The row of the term that the part becomes where the chosen terms stand for its nonterminals, from left to right.
 /// `Lost` exactly where that term isn't computable at the point of the number that it carries.
 #[cycle(row)]
-pub fn part_row<T: Theory>(
+pub fn part_row<'a, T: Theory>(
     alloc: Global,
     defs: &Defs<T>,
     points: &[Values<T>],
     part: &Part<T>,
-    chosen: &[&Kept<T>],
-) -> Result<Vec<Value<T::Num>>, RowEnd>
+    chosen: &[&'a Kept<T>],
+) -> Result<Row<'a, Value<T::Num>>, RowEnd>
     requires definitions { DefinitionsFit T.owned T.denotes defs.now }
     requires points { ArePoints (map (vals_of T.denotes) points.now) }
     requires rows { AreRows (scope_of T.owned defs.now) (functions (bodies T.denotes defs.now)) (map (vals_of T.denotes) points.now) (chosen_of T.denotes chosen.now) }
     requires enough { length (occurring (pattern_of T.denotes part.now)) ≤ length chosen.now }
     requires fits { FitsAt (scope_of T.owned defs.now) (map (vals_of T.denotes) points.now) (filled (pattern_of T.denotes part.now) (terms (chosen_of T.denotes chosen.now))) }
-    ensures ok { IfOk result (λ row. HasRow (scope_of T.owned defs.now) (functions (bodies T.denotes defs.now)) (map (vals_of T.denotes) points.now) (filled (pattern_of T.denotes part.now) (terms (chosen_of T.denotes chosen.now))) (vals_of T.denotes row.items)) }
+    ensures ok { IfOk result (λ row. HasRow (scope_of T.owned defs.now) (functions (bodies T.denotes defs.now)) (map (vals_of T.denotes) points.now) (filled (pattern_of T.denotes part.now) (terms (chosen_of T.denotes chosen.now))) (vals_of T.denotes (values_of row))) }
     ensures lost { IfErr result (λ end. WhereLost end (IsLostAt (functions (bodies T.denotes defs.now)) (map (vals_of T.denotes) points.now) (filled (pattern_of T.denotes part.now) (terms (chosen_of T.denotes chosen.now))))) }
 {
     match part {
         Part::Const(value) => {
             let row = repeated(alloc, *value, points.len())?;
-            Ok(row)
+            Ok(Row::Own(row))
         }
         Part::Var(position) => {
             let row = argument_row::<T>(alloc, points, *position as usize)?;
-            Ok(row)
+            Ok(Row::Own(row))
         }
-        Part::Non(_) => {
-            let row = copied(alloc, chosen[0].row.as_slice())?;
-            Ok(row)
-        }
+        Part::Non(_) => Ok(Row::Lent(chosen[0].row.as_slice())),
         Part::App(operator, parts) => match part_rows(alloc, defs, points, parts, chosen) {
-            Ok(rows) => applied_row::<T>(alloc, operator, rows.as_slice(), points.len()),
+            Ok(rows) => {
+                let row = applied_row::<T>(alloc, operator, rows.as_slice(), points.len())?;
+                Ok(Row::Own(row))
+            }
             Err(end) => Err(end),
         },
         Part::Call(definition, parts) => match part_rows(alloc, defs, points, parts, chosen) {
-            Ok(rows) => called_row(alloc, defs, *definition, rows.as_slice(), points.len()),
+            Ok(rows) => {
+                let row = called_row(alloc, defs, *definition, rows.as_slice(), points.len())?;
+                Ok(Row::Own(row))
+            }
             Err(end) => Err(end),
         },
     }
@@ -103,19 +99,19 @@ pub fn part_row<T: Theory>(
 
 /// The rows of the parts, one after the other.
 #[cycle(row)]
-fn part_rows<T: Theory>(
+fn part_rows<'a, T: Theory>(
     alloc: Global,
     defs: &Defs<T>,
     points: &[Values<T>],
     parts: &Parts<T>,
-    chosen: &[&Kept<T>],
-) -> Result<Vec<Vec<Value<T::Num>>>, RowEnd>
+    chosen: &[&'a Kept<T>],
+) -> Result<Vec<Row<'a, Value<T::Num>>>, RowEnd>
     requires definitions { DefinitionsFit T.owned T.denotes defs.now }
     requires points { ArePoints (map (vals_of T.denotes) points.now) }
     requires rows { AreRows (scope_of T.owned defs.now) (functions (bodies T.denotes defs.now)) (map (vals_of T.denotes) points.now) (chosen_of T.denotes chosen.now) }
     requires enough { length (all_occurring (patterns_of T.denotes parts.now.items.items)) ≤ length chosen.now }
     requires fit { FitAt (scope_of T.owned defs.now) (map (vals_of T.denotes) points.now) (all_filled (patterns_of T.denotes parts.now.items.items) (terms (chosen_of T.denotes chosen.now))) }
-    ensures ok { IfOk result (λ rows. HaveRows (scope_of T.owned defs.now) (functions (bodies T.denotes defs.now)) (map (vals_of T.denotes) points.now) (all_filled (patterns_of T.denotes parts.now.items.items) (terms (chosen_of T.denotes chosen.now))) (map (λ row. vals_of T.denotes row.items) rows.items)) }
+    ensures ok { IfOk result (λ rows. HaveRows (scope_of T.owned defs.now) (functions (bodies T.denotes defs.now)) (map (vals_of T.denotes) points.now) (all_filled (patterns_of T.denotes parts.now.items.items) (terms (chosen_of T.denotes chosen.now))) (map (λ row. vals_of T.denotes (values_of row)) rows.items)) }
     ensures lost { IfErr result (λ end. WhereLost end (IsOneLostAt (functions (bodies T.denotes defs.now)) (map (vals_of T.denotes) points.now) (all_filled (patterns_of T.denotes parts.now.items.items) (terms (chosen_of T.denotes chosen.now))))) }
 {
     let mut rows = Vec::with_capacity(alloc, parts.len())?;

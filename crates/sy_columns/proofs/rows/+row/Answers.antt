@@ -9,11 +9,12 @@ use Rattle.sy_grammar.specs.Written.{patterns_of, pattern_of-Non, pattern_of-App
 use Rattle.sy_rows.specs.Rows.{IsLostAt}
 use Rattle.sy_rows.specs.Columns.{AreSized, HasRow}
 use Rattle.sy_rows.specs.Covering.{terms}
+use Rattle.sy_columns.specs.Lent.{values_of}
 use Rattle.sy_columns.specs.Chosen.{chosen_of}
 use Rattle.sy_columns.specs.Found.{IsApplied}
 use Rattle.sy_columns.proofs.Pieces.{apply-owned, rows-none, rows-from, part-fits, part-lost, rows-next}
 use Rattle.sy_columns.proofs.Weights.{all_weight, app-falls, call-falls, part-falls}
-use Rattle.sy_columns.proofs.Forms.{constant-part, position-within, variable-part, place-part, apply-part-fit, call-part-fit, apply-part, call-part, apply-arguments, apply-sorted, apply-row, apply-lost, apply-lost-argument, call-arguments, call-lost-argument, call-fits, call-row, call-lost, ok_then, ok_both, err_then, lost_then}
+use Rattle.sy_columns.proofs.Forms.{constant-part, position-within, variable-part, place-part, apply-part-fit, call-part-fit, apply-part, call-part, apply-arguments, apply-sorted, apply-row, apply-lost, apply-lost-argument, call-arguments, call-lost-argument, call-fits, call-row, call-lost, handed_on, lost_then}
 use Rattle.sy_columns.proofs.Fillings.{occurring-next, enough-left, all_filled-none}
 use Rattle.sy_columns.proofs.rows.+row.Goals as goal
 
@@ -32,10 +33,10 @@ part_row-returns-in_ok-row-in-Var-clause-ok g t c =
 pub part_row-bounds-chosen-0 : goal.part_row-bounds-chosen-0
 part_row-bounds-chosen-0 g t c = let enough = rw (c.in-Non.is, pattern_of-Non) at c.requires.enough in omega (arith, enough)
 
-pub part_row-returns-in_ok-row-in-Non-clause-ok : goal.part_row-returns-in_ok-row-in-Non-clause-ok
-part_row-returns-in_ok-row-in-Non-clause-ok g t c =
+pub part_row-returns-in-Non-clause-ok : goal.part_row-returns-in-Non-clause-ok
+part_row-returns-in-Non-clause-ok g t c =
     let enough = rw (c.in-Non.is, pattern_of-Non) at c.requires.enough in
-    place-part g.T.Theory.denotes (scope_of g.T.Theory.owned c.args.defs.now) (functions (bodies g.T.Theory.denotes c.args.defs.now)) (map (vals_of g.T.Theory.denotes) c.args.points.now) c.args.part.now c.in-Non.field-0 c.args.chosen.now c.index-chosen-0.result c.in_ok-row-in-Non.row.items c.in-Non.is c.requires.rows (omega (arith, enough)) (c.in_ok-row-in-Non.ensures ∙ c.as_slice.ensures)
+    place-part g.T.Theory.denotes (scope_of g.T.Theory.owned c.args.defs.now) (functions (bodies g.T.Theory.denotes c.args.defs.now)) (map (vals_of g.T.Theory.denotes) c.args.points.now) c.args.part.now c.in-Non.field-0 c.args.chosen.now c.index-chosen-0.result c.as_slice.result.now c.in-Non.is c.requires.rows (omega (arith, enough)) c.as_slice.ensures
 
 pub part_row-part_rows-requires : goal.part_row-part_rows-requires
 part_row-part_rows-requires g t c κs within =
@@ -76,8 +77,8 @@ part_row-applied_row-requires-clause-owned g t c =
 pub part_row-applied_row-requires-clause-sized : goal.part_row-applied_row-requires-clause-sized
 part_row-applied_row-requires-clause-sized g t c =
     let number = g.T.Theory.denotes in
-    let have : AreSized (length (map (vals_of number) c.args.points.now)) (map (λ row. vals_of number row.items) c.as_slice-in-Ok.result.now) = rw c.as_slice-in-Ok.ensures.value c.in-Ok.ensures.ok.sized in
-    subst (λ n. AreSized n (map (λ row. vals_of number row.items) c.as_slice-in-Ok.result.now)) (length-map c.args.points.now (vals_of number)) have
+    let have : AreSized (length (map (vals_of number) c.args.points.now)) (map (λ row. vals_of number (values_of row)) c.as_slice-in-Ok.result.now) = rw c.as_slice-in-Ok.ensures.value c.in-Ok.ensures.ok.sized in
+    subst (λ n. AreSized n (map (λ row. vals_of number (values_of row)) c.as_slice-in-Ok.result.now)) (length-map c.args.points.now (vals_of number)) have
 
 pub part_row-applied_row-requires-clause-sorted : goal.part_row-applied_row-requires-clause-sorted
 part_row-applied_row-requires-clause-sorted g t c =
@@ -88,33 +89,35 @@ part_row-applied_row-requires-clause-sorted g t c =
     let ts = terms (chosen_of number c.args.chosen.now) in
     let arguments = all_filled (patterns_of number c.in-App.parts.items.items) ts in
     let fit = apply-part-fit number scope points c.args.part.now c.in-App.operator c.in-App.parts ts c.in-App.is c.requires.fits in
-    λ k within. rw c.as_slice-in-Ok.ensures.value (apply-sorted scope defined points c.in-App.operator arguments (map (λ row. vals_of number row.items) c.in-Ok.rows.items) fit c.in-Ok.ensures.ok k (omega (arith, within, length-map c.args.points.now (vals_of number))))
+    λ k within. rw c.as_slice-in-Ok.ensures.value (apply-sorted scope defined points c.in-App.operator arguments (map (λ row. vals_of number (values_of row)) c.in-Ok.rows.items) fit c.in-Ok.ensures.ok k (omega (arith, within, length-map c.args.points.now (vals_of number))))
 
-pub part_row-returns-in-Ok-clause-ok : goal.part_row-returns-in-Ok-clause-ok
-part_row-returns-in-Ok-clause-ok g t c =
+pub part_row-returns-in_ok-row-in-Ok-clause-ok : goal.part_row-returns-in_ok-row-in-Ok-clause-ok
+part_row-returns-in_ok-row-in-Ok-clause-ok g t c =
     let number = g.T.Theory.denotes in
     let scope = scope_of g.T.Theory.owned c.args.defs.now in
     let defined = functions (bodies number c.args.defs.now) in
     let points = map (vals_of number) c.args.points.now in
     let ts = terms (chosen_of number c.args.chosen.now) in
     let arguments = all_filled (patterns_of number c.in-App.parts.items.items) ts in
-    let rows = map (λ row. vals_of number row.items) c.in-Ok.rows.items in
+    let rows = map (λ row. vals_of number (values_of row)) c.in-Ok.rows.items in
     let fit = apply-part-fit number scope points c.args.part.now c.in-App.operator c.in-App.parts ts c.in-App.is c.requires.fits in
-    ok_then c.applied_row.result (rw c.as_slice-in-Ok.ensures.value at c.applied_row.ensures.ok) (λ found applied.
-    apply-part number c.args.part.now c.in-App.operator c.in-App.parts ts (λ term. HasRow scope defined points term (vals_of number found.items)) c.in-App.is
-    (apply-row scope defined points c.in-App.operator arguments rows (vals_of number found.items) fit c.in-Ok.ensures.ok
-    (subst (λ n. IsApplied c.in-App.operator rows n (vals_of number found.items)) (sym (length-map c.args.points.now (vals_of number))) applied)))
+    let found = vals_of number c.in_ok-row-in-Ok.row.items in
+    apply-part number c.args.part.now c.in-App.operator c.in-App.parts ts (λ term. HasRow scope defined points term found) c.in-App.is
+    (apply-row scope defined points c.in-App.operator arguments rows found fit c.in-Ok.ensures.ok
+    (subst (λ n. IsApplied c.in-App.operator rows n found) (sym (length-map c.args.points.now (vals_of number))) (rw c.as_slice-in-Ok.ensures.value at c.in_ok-row-in-Ok.ensures.ok)))
 
-pub part_row-returns-in-Ok-clause-lost : goal.part_row-returns-in-Ok-clause-lost
-part_row-returns-in-Ok-clause-lost g t c =
+pub part_row-returns-in_err-row-in-Ok-clause-lost : goal.part_row-returns-in_err-row-in-Ok-clause-lost
+part_row-returns-in_err-row-in-Ok-clause-lost g t c =
     let number = g.T.Theory.denotes in
     let scope = scope_of g.T.Theory.owned c.args.defs.now in
     let defined = functions (bodies number c.args.defs.now) in
     let points = map (vals_of number) c.args.points.now in
     let ts = terms (chosen_of number c.args.chosen.now) in
     let arguments = all_filled (patterns_of number c.in-App.parts.items.items) ts in
-    let rows = map (λ row. vals_of number row.items) c.in-Ok.rows.items in
-    err_then c.applied_row.result (rw c.as_slice-in-Ok.ensures.value at c.applied_row.ensures.lost) (λ end lost. lost_then end lost (λ k it.
+    let rows = map (λ row. vals_of number (values_of row)) c.in-Ok.rows.items in
+    let end = c.in_err-row-in-Ok.field-0.0 in
+    handed_on _ c.from_residual-in_err-row-in-Ok.result end c.from_residual-in_err-row-in-Ok.ensures.1
+    (lost_then end (rw c.as_slice-in-Ok.ensures.value at c.in_err-row-in-Ok.ensures.lost) (λ k it.
     apply-part number c.args.part.now c.in-App.operator c.in-App.parts ts (λ term. IsLostAt defined points term k) c.in-App.is
     (apply-lost scope defined points c.in-App.operator arguments rows k c.in-Ok.ensures.ok (let below = it.0 in omega (arith, below, length-map c.args.points.now (vals_of number)), it.1))))
 
@@ -159,8 +162,8 @@ part_row-part_rows-requires-in-Call g t c κs within =
 pub part_row-called_row-requires-clause-sized : goal.part_row-called_row-requires-clause-sized
 part_row-called_row-requires-clause-sized g t c =
     let number = g.T.Theory.denotes in
-    let have : AreSized (length (map (vals_of number) c.args.points.now)) (map (λ row. vals_of number row.items) c.as_slice-in-Ok-part_rows.result.now) = rw c.as_slice-in-Ok-part_rows.ensures.value c.in-Ok-part_rows.ensures.ok.sized in
-    subst (λ n. AreSized n (map (λ row. vals_of number row.items) c.as_slice-in-Ok-part_rows.result.now)) (length-map c.args.points.now (vals_of number)) have
+    let have : AreSized (length (map (vals_of number) c.args.points.now)) (map (λ row. vals_of number (values_of row)) c.as_slice-in-Ok-part_rows.result.now) = rw c.as_slice-in-Ok-part_rows.ensures.value c.in-Ok-part_rows.ensures.ok.sized in
+    subst (λ n. AreSized n (map (λ row. vals_of number (values_of row)) c.as_slice-in-Ok-part_rows.result.now)) (length-map c.args.points.now (vals_of number)) have
 
 pub part_row-called_row-requires-clause-fit : goal.part_row-called_row-requires-clause-fit
 part_row-called_row-requires-clause-fit g t c =
@@ -170,33 +173,36 @@ part_row-called_row-requires-clause-fit g t c =
     let ts = terms (chosen_of number c.args.chosen.now) in
     let arguments = all_filled (patterns_of number c.in-Call.parts.items.items) ts in
     let fit = call-part-fit number scope points c.args.part.now c.in-Call.definition c.in-Call.parts ts c.in-Call.is c.requires.fits in
-    λ k within. rw c.as_slice-in-Ok-part_rows.ensures.value (call-fits g.T.Theory.owned number c.args.defs.now points (Defined c.in-Call.definition) arguments (map (λ row. vals_of number row.items) c.in-Ok-part_rows.rows.items) fit c.in-Ok-part_rows.ensures.ok k (omega (arith, within, length-map c.args.points.now (vals_of number))))
+    λ k within. rw c.as_slice-in-Ok-part_rows.ensures.value (call-fits g.T.Theory.owned number c.args.defs.now points (Defined c.in-Call.definition) arguments (map (λ row. vals_of number (values_of row)) c.in-Ok-part_rows.rows.items) fit c.in-Ok-part_rows.ensures.ok k (omega (arith, within, length-map c.args.points.now (vals_of number))))
 
-pub part_row-returns-in-Ok-part_rows-clause-ok : goal.part_row-returns-in-Ok-part_rows-clause-ok
-part_row-returns-in-Ok-part_rows-clause-ok g t c =
+pub part_row-returns-in_ok-row-in-Ok-part_rows-clause-ok : goal.part_row-returns-in_ok-row-in-Ok-part_rows-clause-ok
+part_row-returns-in_ok-row-in-Ok-part_rows-clause-ok g t c =
     let number = g.T.Theory.denotes in
     let scope = scope_of g.T.Theory.owned c.args.defs.now in
-    let defined = functions (bodies number c.args.defs.now) in
     let points = map (vals_of number) c.args.points.now in
+    let defined = functions (bodies number c.args.defs.now) in
     let ts = terms (chosen_of number c.args.chosen.now) in
     let arguments = all_filled (patterns_of number c.in-Call.parts.items.items) ts in
-    let rows = map (λ row. vals_of number row.items) c.in-Ok-part_rows.rows.items in
+    let rows = map (λ row. vals_of number (values_of row)) c.in-Ok-part_rows.rows.items in
     let fit = call-part-fit number scope points c.args.part.now c.in-Call.definition c.in-Call.parts ts c.in-Call.is c.requires.fits in
-    ok_both c.called_row.result c.called_row.ensures.sized (rw c.as_slice-in-Ok-part_rows.ensures.value at c.called_row.ensures.ok) (λ found sized gives.
-    call-part number c.args.part.now c.in-Call.definition c.in-Call.parts ts (λ term. HasRow scope defined points term (vals_of number found.items)) c.in-Call.is
-    (call-row g.T.Theory.owned number c.args.defs.now points (Defined c.in-Call.definition) arguments rows (vals_of number found.items) fit c.in-Ok-part_rows.ensures.ok
-    (length-map found.items (val_of number) ∙ sized ∙ sym (length-map c.args.points.now (vals_of number)))
-    (λ k within. gives k (omega (arith, within, length-map c.args.points.now (vals_of number))))))
+    let found = c.in_ok-row-in-Ok-part_rows.row.items in
+    let gives = rw c.as_slice-in-Ok-part_rows.ensures.value at c.in_ok-row-in-Ok-part_rows.ensures.ok in
+    call-part number c.args.part.now c.in-Call.definition c.in-Call.parts ts (λ term. HasRow scope defined points term (vals_of number found)) c.in-Call.is
+    (call-row g.T.Theory.owned number c.args.defs.now points (Defined c.in-Call.definition) arguments rows (vals_of number found) fit c.in-Ok-part_rows.ensures.ok
+    (length-map found (val_of number) ∙ c.in_ok-row-in-Ok-part_rows.ensures.sized ∙ sym (length-map c.args.points.now (vals_of number)))
+    (λ k within. gives k (omega (arith, within, length-map c.args.points.now (vals_of number)))))
 
-pub part_row-returns-in-Ok-part_rows-clause-lost : goal.part_row-returns-in-Ok-part_rows-clause-lost
-part_row-returns-in-Ok-part_rows-clause-lost g t c =
+pub part_row-returns-in_err-row-in-Ok-part_rows-clause-lost : goal.part_row-returns-in_err-row-in-Ok-part_rows-clause-lost
+part_row-returns-in_err-row-in-Ok-part_rows-clause-lost g t c =
     let number = g.T.Theory.denotes in
     let defined = functions (bodies number c.args.defs.now) in
     let points = map (vals_of number) c.args.points.now in
     let ts = terms (chosen_of number c.args.chosen.now) in
     let arguments = all_filled (patterns_of number c.in-Call.parts.items.items) ts in
-    let rows = map (λ row. vals_of number row.items) c.in-Ok-part_rows.rows.items in
-    err_then c.called_row.result (rw c.as_slice-in-Ok-part_rows.ensures.value at c.called_row.ensures.lost) (λ end lost. lost_then end lost (λ k it.
+    let rows = map (λ row. vals_of number (values_of row)) c.in-Ok-part_rows.rows.items in
+    let end = c.in_err-row-in-Ok-part_rows.field-0.0 in
+    handed_on _ c.from_residual-in_err-row-in-Ok-part_rows.result end c.from_residual-in_err-row-in-Ok-part_rows.ensures.1
+    (lost_then end (rw c.as_slice-in-Ok-part_rows.ensures.value at c.in_err-row-in-Ok-part_rows.ensures.lost) (λ k it.
     call-part number c.args.part.now c.in-Call.definition c.in-Call.parts ts (λ term. IsLostAt defined points term k) c.in-Call.is
     (call-lost g.T.Theory.owned number c.args.defs.now points (Defined c.in-Call.definition) arguments rows k c.in-Ok-part_rows.ensures.ok (let below = it.0 in omega (arith, below, length-map c.args.points.now (vals_of number)), it.1))))
 
@@ -279,6 +285,6 @@ part_rows-loop-part-preserved g t c =
     let enough : length (all_occurring (patterns_of number parts)) ≤ length c.args.chosen.now = rw c.as_slice-part-items.ensures c.requires.enough in
     record {
       used_is = omega (arith, c.places-used.ensures, occurring-next number parts i c.part-item.result c.loop-part-test.true c.part-item.is, c.loop-part.invariant.used_is, enough-left number parts i c.part-item.result used (length c.args.chosen.now) c.loop-part-test.true c.part-item.is c.loop-part.invariant.used_is enough);
-      rows = rw c.in_ok-push-in-Ok.ensures.items (rows-next number scope defined points parts i c.part-item.result c.args.chosen.now c.split_at.result.1.now used (λ row. vals_of number row.items) c.loop-part.rows.items c.in-Ok.row
+      rows = rw c.in_ok-push-in-Ok.ensures.items (rows-next number scope defined points parts i c.part-item.result c.args.chosen.now c.split_at.result.1.now used (λ row. vals_of number (values_of row)) c.loop-part.rows.items c.in-Ok.row
           c.loop-part-test.true c.part-item.is c.loop-part.invariant.used_is c.split_at.ensures.back c.loop-part.invariant.rows c.in-Ok.ensures.ok);
     }

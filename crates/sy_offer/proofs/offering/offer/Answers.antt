@@ -6,6 +6,7 @@ use Rattle.sy_grammar.specs.Written.{pattern_of}
 use Rattle.sy_rows.specs.Covering.{terms}
 use Rattle.sy_rows.specs.Stored.{entry_of}
 use Rattle.sy_columns.specs.Chosen.{chosen_of}
+use Rattle.sy_columns.specs.Lent.{values_of}
 use Rattle.sy_filling.specs.Task.{world, state_of, level_of}
 use Rattle.sy_offer.proofs.Given.{IsGiven, rows-below, given-fits, given-enough, given-right, given-dropped, new-row, found-done}
 use Rattle.sy_offer.proofs.offering.offer.Goals as goal
@@ -57,8 +58,8 @@ returns-then-has_row-clause-done g c =
     let number = g.T.Theory.denotes in
     let w = world g.T.Theory.owned number c.args.task.now in
     let sized : c.args.task.now.size ≡ length w.levels = c.requires.task.sized ∙ sym (length-map c.args.task.now.levels.now (level_of number)) in
-    let found = rw c.as_slice-2.ensures.value at c.if-has_row.ensures in
-    rw sized (found-done w (state_of number c.args.filling.now) c.args.template.now.nonterminal (filled (pattern_of number c.args.template.now.part.now) (terms (chosen_of number c.args.chosen.now))) (vals_of number c.in-Ok.row.items) c.requires.steady c.in-Ok.ensures.ok found)
+    let found = rw c.as_slice-2.ensures at c.if-has_row.ensures in
+    rw sized (found-done w (state_of number c.args.filling.now) c.args.template.now.nonterminal (filled (pattern_of number c.args.template.now.part.now) (terms (chosen_of number c.args.chosen.now))) (vals_of number (values_of c.in-Ok.row)) c.requires.steady c.in-Ok.ensures.ok found)
 
 pub filled_part-requires-2 : goal.filled_part-requires-2
 filled_part-requires-2 g c =
@@ -76,13 +77,13 @@ keep-requires-clause-right g c =
     let sized : c.args.task.now.size ≡ length w.levels = c.requires.task.sized ∙ sym (length-map c.args.task.now.levels.now (level_of number)) in
     let given : IsGiven g.T.Theory.numeric w c.args.template.now.nonterminal c.args.template.now.number (pattern_of number c.args.template.now.part.now) (chosen_of number c.args.chosen.now) =
     record { set = c.requires.task.set; rule_is = c.requires.rule; kept = c.requires.chosen; sized = c.requires.sized ∙ sized } in
-    rw (c.in_ok-filled_part.ensures, c.in_ok-node.ensures, c.in_ok-copied_values.ensures, c.as_slice-3.ensures.value, sized)
-    (given-right g.T.Theory.numeric w (state_of number c.args.filling.now) c.args.template.now.nonterminal c.args.template.now.number (pattern_of number c.args.template.now.part.now) (chosen_of number c.args.chosen.now) (vals_of number c.in-Ok.row.items) c.requires.steady given c.in-Ok.ensures.ok)
+    rw (c.in_ok-filled_part.ensures, c.in_ok-node.ensures, c.in_ok-copied_values.ensures, c.as_slice-3.ensures, sized)
+    (given-right g.T.Theory.numeric w (state_of number c.args.filling.now) c.args.template.now.nonterminal c.args.template.now.number (pattern_of number c.args.template.now.part.now) (chosen_of number c.args.chosen.now) (vals_of number (values_of c.in-Ok.row)) c.requires.steady given c.in-Ok.ensures.ok)
 
 pub keep-requires-clause-differs : goal.keep-requires-clause-differs
 keep-requires-clause-differs g c =
     let number = g.T.Theory.denotes in
-    let hash = rw c.as_slice.ensures.value at c.row_hash-hash.ensures in
-    let others = rw c.as_slice-2.ensures.value at c.if-has_row.ensures in
-    rw (c.in_ok-copied_values.ensures, c.as_slice-3.ensures.value)
-    (new-row (world g.T.Theory.owned number c.args.task.now) (state_of number c.args.filling.now) c.args.template.now.nonterminal c.row_hash-hash.result (vals_of number c.in-Ok.row.items) c.requires.steady hash others)
+    let hash = rw c.as_slice.ensures at c.row_hash-hash.ensures in
+    let others = rw c.as_slice-2.ensures at c.if-has_row.ensures in
+    rw (c.in_ok-copied_values.ensures, c.as_slice-3.ensures)
+    (new-row (world g.T.Theory.owned number c.args.task.now) (state_of number c.args.filling.now) c.args.template.now.nonterminal c.row_hash-hash.result (vals_of number (values_of c.in-Ok.row)) c.requires.steady hash others)

@@ -33,7 +33,6 @@ returns-in-Err-TooLong-clause-refused g c is =
     let not : c.last-in-Err-TooLong.result.status ≡ 5 → ⊥ = λ h. cc in
     too_long _ _ _ _ _ _ c.in-Ok.ensures.ok c.as_str.ensures (c.in-Err-TooLong.ensures.too_long (cc)) (c.last-in-Err-TooLong.ensures.written not).1
 
-
 pub solve-requires-clause-few : goal.solve-requires-clause-few
 solve-requires-clause-few g c =
     let read = rw (c.in-Ok-Bits.field-0-is, c.as_slice.ensures) at c.in-Ok-Bits.ensures.read in
