@@ -9,16 +9,7 @@ scratch=$(mktemp -d)
 trap 'rm -rf "$scratch"' EXIT
 rustc -O --edition 2021 -o "$scratch/bank" bench/bank.rs
 (cd crates/bench_bank && rt run) >/dev/null 2>&1 || true
-TIMEFORMAT='%U'
-# the least user time of five runs, after what the program printed
-measure() {
-    local line best=
-    for _ in 1 2 3 4 5; do
-        { time line=$("$@"); } 2>"$scratch/time"
-        best=$(sort -n <(echo "${best:-1000}") "$scratch/time" | head -1)
-    done
-    echo "$line $best"
-}
+. bench/measure.sh
 read -r _ tried _ kept proved <<<"$(measure crates/bench_bank/out/bench_bank "$points" "$sizes" 1000000)"
 read -r _ plain_tried _ plain_kept plain <<<"$(measure "$scratch/bank" "$points" "$sizes")"
 [ "$tried $kept" = "$plain_tried $plain_kept" ] || echo "the counts differ: $tried $kept and $plain_tried $plain_kept"

@@ -8,16 +8,7 @@ scratch=$(mktemp -d)
 trap 'rm -rf "$scratch"' EXIT
 rustc -O --edition 2021 -o "$scratch/evaluate" bench/evaluate.rs
 (cd crates/bench_evaluate && rt run -- bv 1 1) >/dev/null 2>&1 || true
-TIMEFORMAT='%U'
-# the least user time of five runs, after what the program printed
-measure() {
-    local line best=
-    for _ in 1 2 3 4 5; do
-        { time line=$("$@"); } 2>"$scratch/time"
-        best=$(sort -n <(echo "${best:-1000}") "$scratch/time" | head -1)
-    done
-    echo "$line $best"
-}
+. bench/measure.sh
 for theory in bv lia; do
     read -r _ nodes _ sum proved <<<"$(measure crates/bench_evaluate/out/bench_evaluate "$theory" "$leaves" "$rounds")"
     read -r _ _ _ plain_sum plain <<<"$(measure "$scratch/evaluate" "$theory" "$leaves" "$rounds")"
