@@ -4,3 +4,4 @@ pub mod Pieces
 pub mod Weights
 pub mod Forms
 pub mod Copies
+mod Paired

@@ -1,6 +1,7 @@
 // Rows of operators at rows.
-ghost use Rattle.std.specs.Prelude.{◌≡◌, ℕ, ◌<◌, true, false, IfOk, IfErr, OnOk, map};
+ghost use Rattle.std.specs.Prelude.{◌≡◌, ℕ, ◌<◌, true, false, IfOk, IfErr, OnOk, map, length};
 ghost use Rattle.sy_terms.specs.Denoted.{IsSorted, vals_of};
+ghost use Rattle.sy_terms.specs.Pairs.{ArePairsSorted, ArePairsApplied, IsFirstUnfit};
 ghost use Rattle.sy_terms.specs.Theories.{fits};
 ghost use Rattle.sy_rows.specs.Columns.{column, AreSized};
 ghost use Rattle.sy_columns.specs.Lent.{values_of};
@@ -31,6 +32,46 @@ pub fn fill<T: Theory>(
 
 /// The operator's values at the columns of the rows, of which each has `count` values.
 pub fn applied_row<T: Theory>(
+    alloc: Global,
+    operator: &Op,
+    rows: &[Row<'_, Value<T::Num>>],
+    count: usize,
+) -> Result<Vec<Value<T::Num>>, RowEnd>
+    requires owned { (k : ℕ) → k < count → T.owned operator.now ≡ true }
+    requires sized { AreSized count (map (λ row. vals_of T.denotes (values_of row)) rows.now) }
+    requires sorted { (k : ℕ) → k < count → IsSorted operator.now (column (map (λ row. vals_of T.denotes (values_of row)) rows.now) k) }
+    ensures ok { IfOk result (λ found. IsApplied operator.now (map (λ row. vals_of T.denotes (values_of row)) rows.now) count (vals_of T.denotes found.items)) }
+    ensures lost { IfErr result (λ end. WhereLost end (λ k. (k < count) × (fits operator.now (column (map (λ row. vals_of T.denotes (values_of row)) rows.now) k) ≡ false))) }
+{
+    match rows {
+        [first, second] => pair_row::<T>(alloc, operator, first.as_slice(), second.as_slice()),
+        _ => column_row::<T>(alloc, operator, rows, count),
+    }
+}
+
+/// The same for two rows.
+fn pair_row<T: Theory>(
+    alloc: Global,
+    operator: &Op,
+    first: &[Value<T::Num>],
+    second: &[Value<T::Num>],
+) -> Result<Vec<Value<T::Num>>, RowEnd>
+    requires owned { (k : ℕ) → k < length first.now → T.owned operator.now ≡ true }
+    requires same { length second.now ≡ length first.now }
+    requires sorted { ArePairsSorted operator.now (vals_of T.denotes first.now) (vals_of T.denotes second.now) }
+    ensures ok { IfOk result (λ found. ArePairsApplied operator.now (vals_of T.denotes first.now) (vals_of T.denotes second.now) (vals_of T.denotes found.items)) }
+    ensures lost { IfErr result (λ end. WhereLost end (IsFirstUnfit operator.now (vals_of T.denotes first.now) (vals_of T.denotes second.now))) }
+{
+    let mut found = Vec::with_capacity(alloc, first.len())?;
+    found.extend_from_slice(first)?;
+    match T::apply_each(operator, found.as_mut_slice(), second) {
+        None => Ok(found),
+        Some(place) => Err(lost_at(place)),
+    }
+}
+
+/// The same for any rows, one column after the other.
+fn column_row<T: Theory>(
     alloc: Global,
     operator: &Op,
     rows: &[Row<'_, Value<T::Num>>],

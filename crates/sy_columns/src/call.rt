@@ -28,7 +28,7 @@ fn call_at<T: Theory>(
     requires within { number < count }
     ensures { IfOk result (λ term. expr_of T.denotes term ≡ Invoke (Defined definition) (constants (column (map (λ row. vals_of T.denotes (values_of row)) rows.now) number))) }
 {
-    let mut arguments = Terms::new(alloc);
+    let mut arguments = Terms::with_capacity(alloc, rows.len())?;
     for row in rows {
         arguments.push(Term::Const(row.as_slice()[number]))?;
     }

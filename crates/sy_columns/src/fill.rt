@@ -52,7 +52,7 @@ fn filled_parts<T: Theory>(
     requires { length (all_occurring (patterns_of T.denotes parts.now.items.items)) ≤ length chosen.now }
     ensures { IfOk result (λ filled. exprs_of T.denotes filled.items.items ≡ all_filled (patterns_of T.denotes parts.now.items.items) (terms (chosen_of T.denotes chosen.now))) }
 {
-    let mut terms = Terms::new(alloc);
+    let mut terms = Terms::with_capacity(alloc, parts.len())?;
     let count = chosen.len();
     let mut used = 0usize;
     for part in parts.as_slice() {
@@ -90,7 +90,7 @@ fn copied_derivations<T: Theory>(
 ) -> Result<Derivations<T>, Want>
     ensures { IfOk result (λ copy. trees_of T.denotes copy.items.items ≡ trees_of T.denotes derivations.now.items.items) }
 {
-    let mut copies = Derivations::new(alloc);
+    let mut copies = Derivations::with_capacity(alloc, derivations.len())?;
     for derivation in derivations.as_slice() {
         let copy = copied_derivation(alloc, derivation)?;
         copies.push(copy)?;
@@ -102,7 +102,7 @@ fn copied_derivations<T: Theory>(
 pub fn node<T: Theory>(alloc: Global, rule: u32, chosen: &[&Kept<T>]) -> Result<Derivation<T>, Want>
     ensures { IfOk result (λ derivation. tree_of T.denotes derivation ≡ Node rule (children (chosen_of T.denotes chosen.now))) }
 {
-    let mut children = Derivations::new(alloc);
+    let mut children = Derivations::with_capacity(alloc, chosen.len())?;
     for kept in chosen {
         let child = copied_derivation(alloc, &kept.derivation)?;
         children.push(child)?;

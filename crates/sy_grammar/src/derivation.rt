@@ -1,5 +1,5 @@
 // Derivation trees.
-ghost use Rattle.std.specs.Prelude.{◌≡◌, [], ◌++◌, ◌∷◌, length, OnOk, OnErr, slice_get, MatchOption, ◌≤◌};
+ghost use Rattle.std.specs.Prelude.{◌≡◌, [], ◌++◌, ◌∷◌, length, OnOk, OnErr, slice_get, MatchOption, IfOk, ◌≤◌};
 
 use std::alloc::Global;
 use sy_terms::{Theory, Value, Want};
@@ -29,6 +29,14 @@ impl<T: Theory> Derivations<T> {
         Derivations {
             items: Vec::new(alloc),
         }
+    }
+
+    /// The empty list, with memory for so many derivations.
+    pub fn with_capacity(alloc: Global, count: usize) -> Result<Self, Want>
+        ensures { IfOk result (λ derivations. derivations.items.items ≡ []) }
+    {
+        let items = Vec::with_capacity(alloc, count)?;
+        Ok(Derivations { items })
     }
 
     /// How many derivations there are.

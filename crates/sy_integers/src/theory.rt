@@ -63,6 +63,18 @@ impl Theory for IntTheory {
         }
     }
 
+    fn apply_each(op: &Op, values: &mut [Value<i128>], others: &[Value<i128>]) -> Option<usize> {
+        for place in 0..values.len() {
+            let value = values[place];
+            let other = others[place];
+            match IntTheory::apply(op, &[value, other]) {
+                Applied::Is(found) => values[place] = found,
+                Applied::OutOfRange => return Some(place),
+            }
+        }
+        None
+    }
+
     fn value_sort(v: &Value<i128>) -> Sort {
         match v {
             Value::Truth(_) => Sort::Bool,

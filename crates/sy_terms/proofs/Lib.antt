@@ -2,3 +2,4 @@ mod Vectors
 mod Equal
 mod Same
 mod Apart
+pub mod PairsApplied

@@ -10,3 +10,4 @@ pub mod Meaning
 pub mod Fitting
 pub mod Definitions
 pub mod Spelling
+pub mod Pairs

@@ -60,6 +60,14 @@ impl<T: Theory> Terms<T> {
         }
     }
 
+    /// The empty list, with memory for so many terms.
+    pub fn with_capacity(alloc: Global, count: usize) -> Result<Self, Want>
+        ensures { IfOk result (λ terms. terms.items.items ≡ []) }
+    {
+        let items = Vec::with_capacity(alloc, count)?;
+        Ok(Terms { items })
+    }
+
     /// How many terms there are.
     pub fn len(&self) -> usize
         ensures { result ≡ length self.now.items.items }

@@ -18,13 +18,14 @@ pub trait Theory {
     /// A number as the machine keeps it.
     type Num: Copy + Eq + Ord + Hash;
 
-    ghost use Rattle.std.specs.Prelude.{◌≡◌, ◌≢◌, ◌↔◌, IsTrue, Option, List, ℕ, Bool, map, IsSome, true, None, if◌then◌else◌};
+    ghost use Rattle.std.specs.Prelude.{◌≡◌, ◌≢◌, ◌↔◌, ◌<◌, IsTrue, Option, List, ℕ, Bool, map, length, IsSome, MatchOption, true, None, if◌then◌else◌};
     ghost use Rattle.std.specs.Option.{option_map};
     ghost use Rattle.sy_terms.specs.Values.{Val, Truth};
     ghost use Rattle.sy_terms.specs.Operators.{op_value};
     ghost use Rattle.sy_terms.specs.Sorts as spec;
     ghost use Rattle.sy_terms.specs.Theories.{sort_of_value, whole_number, value_at, in_core};
-    ghost use Rattle.sy_terms.specs.Denoted.{val_of, IsSorted, Applies};
+    ghost use Rattle.sy_terms.specs.Denoted.{val_of, vals_of, IsSorted, Applies};
+    ghost use Rattle.sy_terms.specs.Pairs.{ArePairsSorted, ArePairsApplied, IsFirstUnfit};
     ghost use Rattle.sy_terms.specs.declared.op.Op.{Op};
     ghost use Rattle.sy_terms.specs.declared.sort.Sort.{Sort};
 
@@ -51,6 +52,18 @@ pub trait Theory {
         requires owned { owned op.now ≡ true }
         requires sorted { IsSorted op.now (map (val_of denotes) args.now) }
         ensures { Applies denotes op.now (map (val_of denotes) args.now) result };
+
+    /// Puts the operator's value at each value and the other of its place into that value's place, up to the first place
+    /// where it doesn't fit 128 bits, and answers that place.
+    fn apply_each(
+        op: &Op,
+        values: &mut [Value<Self::Num>],
+        others: &[Value<Self::Num>],
+    ) -> Option<usize>
+        requires owned { (place : ℕ) → place < length values.old → owned op.now ≡ true }
+        requires same { length others.now ≡ length values.old }
+        requires sorted { ArePairsSorted op.now (vals_of denotes values.old) (vals_of denotes others.now) }
+        ensures { MatchOption result (ArePairsApplied op.now (vals_of denotes values.old) (vals_of denotes others.now) (vals_of denotes values.new)) (IsFirstUnfit op.now (vals_of denotes values.old) (vals_of denotes others.now)) };
 
     /// The value's sort.
     fn value_sort(v: &Value<Self::Num>) -> Sort

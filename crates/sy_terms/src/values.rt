@@ -28,9 +28,7 @@ pub fn same_values<T: Theory>(a: &[Value<T::Num>], b: &[Value<T::Num>]) -> bool
 pub fn copied_values<T: Theory>(alloc: Global, values: &[Value<T::Num>]) -> Result<Values<T>, Want>
     ensures { IfOk result (λ copy. copy ≡ values.now) }
 {
-    let mut copy = Seq::new(alloc);
-    for value in values {
-        copy.push(*value)?;
-    }
-    Ok(copy)
+    let mut copy = Vec::with_capacity(alloc, values.len())?;
+    copy.extend_from_slice(values)?;
+    Ok(Seq::from(copy))
 }

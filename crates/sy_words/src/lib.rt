@@ -6,6 +6,7 @@ mod bitwise;
 mod division;
 mod operators;
 mod orders;
+mod pairs;
 mod shifts;
 mod structure;
 #[cfg(test)]

@@ -2,10 +2,10 @@
 ghost use Rattle.std.specs.Prelude.{◌≡◌, ◌≢◌, [], ◌∷◌, true};
 ghost use Rattle.sy_terms.specs.Operators.{op_value};
 ghost use Rattle.sy_terms.specs.Theories.{sort_of_value};
-ghost use Rattle.sy_terms.specs.Denoted.{val_of, vals_of, sorts_of};
+ghost use Rattle.sy_terms.specs.Denoted.{val_of, vals_of, sorts_of, IsSorted};
 ghost use Rattle.sy_terms.specs.declared.op.Op.TheVariants as ops;
 ghost use Rattle.sy_terms.specs.declared.sort.Sort.TheVariants as sorts;
-ghost use Rattle.sy_words.specs.Vectors.{vector, in_vectors, is_bits, Takes, TakesMany};
+ghost use Rattle.sy_words.specs.Vectors.{vector, owned, in_vectors, is_bits, Takes, TakesMany};
 
 use crate::arithmetic::{difference, negated, product, sum};
 use crate::bitwise::{and, inverted, nand, nor, or, xnor, xor};
@@ -16,10 +16,11 @@ use crate::structure::{
     extracted, joined, repeated, rotated_left, rotated_right, sign_extended, zero_extended,
 };
 use crate::word::Word;
+use sy_core::{core_value, in_core};
 use sy_terms::{Op, Value};
 
 /// The vector that a value is.
-fn word_of(value: &Value<Word>) -> Word
+pub(crate) fn word_of(value: &Value<Word>) -> Word
     requires { is_bits (sort_of_value (val_of vector value.now)) ≡ true }
     ensures { vector result ≡ val_of vector value.now }
 {
@@ -127,5 +128,18 @@ pub(crate) fn vector_value(op: &Op, args: &[Value<Word>]) -> Value<Word>
         [s] => Value::Num(single_value(op, word_of(s))),
         [s, t] => pair_value(op, word_of(s), word_of(t)),
         [first, rest @ ..] => folded_value(op, word_of(first), rest),
+    }
+}
+
+/// The value of one of the theory's operators, at arguments that it takes.
+pub(crate) fn operator_value(op: &Op, args: &[Value<Word>]) -> Value<Word>
+    requires owned { owned op.now ≡ true }
+    requires sorted { IsSorted op.now (vals_of vector args.now) }
+    ensures { val_of vector result ≡ op_value op.now (vals_of vector args.now) }
+{
+    if in_core(op) {
+        core_value(op, args)
+    } else {
+        vector_value(op, args)
     }
 }

@@ -44,6 +44,27 @@ fn at_three(op: &Op, args: [Word; 3]) -> Option<Value<Word>> {
     }
 }
 
+/// The operator's values at two pairs of vectors, where it takes both.
+fn at_pairs(op: &Op, first: [Word; 2], second: [Word; 2]) -> Option<[Value<Word>; 2]> {
+    let [s, t] = first;
+    let [u, v] = second;
+    if !BvTheory::owns(op) {
+        return None;
+    }
+    let above = BvTheory::sort_of(op, &[Sort::Bits(s.width()), Sort::Bits(t.width())]);
+    let below = BvTheory::sort_of(op, &[Sort::Bits(u.width()), Sort::Bits(v.width())]);
+    match (above, below) {
+        (Sorted::Is(_), Sorted::Is(_)) => {
+            let mut values = [Value::Num(s), Value::Num(u)];
+            match BvTheory::apply_each(op, &mut values, &[Value::Num(t), Value::Num(v)]) {
+                None => Some(values),
+                Some(_) => None,
+            }
+        }
+        _ => None,
+    }
+}
+
 fn found(applied: Applied<Word>) -> Option<Value<Word>> {
     match applied {
         Applied::Is(value) => Some(value),
@@ -152,6 +173,18 @@ fn orders(rt: HostRuntime) {
     for (op, width, s, t, want) in order_rows() {
         let given = at_two(&op, Word::new(width, s), Word::new(width, t));
         assert_eq!(rt; given, Some(Value::Truth(want)), "{op:?} of {s} and {t}");
+    }
+}
+
+#[test]
+fn at_each_place(rt: HostRuntime) {
+    let s = Word::new(8, 200).expect(&rt, "a word");
+    let t = Word::new(8, 7).expect(&rt, "a word");
+    let u = Word::new(8, 0).expect(&rt, "a word");
+    for op in operators_of_two() {
+        let values = at_pairs(&op, [s, t], [t, u]).expect(&rt, "two values");
+        assert_eq!(rt; Some(values[0]), at_two(&op, Some(s), Some(t)), "{op:?}");
+        assert_eq!(rt; Some(values[1]), at_two(&op, Some(t), Some(u)), "{op:?}");
     }
 }
 
@@ -974,5 +1007,39 @@ fn order_rows() -> [(Op, u8, u64, u64, bool); 40] {
         (Op::BvSge, 32, 4294967237, 4294967267, false),
         (Op::BvSge, 63, 27, 9223372036854775714, true),
         (Op::BvSge, 64, 35, 39, false),
+    ]
+}
+
+fn operators_of_two() -> [Op; 29] {
+    [
+        Op::Equal,
+        Op::Distinct,
+        Op::Concat,
+        Op::BvAnd,
+        Op::BvOr,
+        Op::BvXor,
+        Op::BvAdd,
+        Op::BvMul,
+        Op::BvSub,
+        Op::BvNand,
+        Op::BvNor,
+        Op::BvXnor,
+        Op::BvComp,
+        Op::BvUdiv,
+        Op::BvUrem,
+        Op::BvSdiv,
+        Op::BvSrem,
+        Op::BvSmod,
+        Op::BvShl,
+        Op::BvLshr,
+        Op::BvAshr,
+        Op::BvUlt,
+        Op::BvUle,
+        Op::BvUgt,
+        Op::BvUge,
+        Op::BvSlt,
+        Op::BvSle,
+        Op::BvSgt,
+        Op::BvSge,
     ]
 }

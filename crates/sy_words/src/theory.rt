@@ -4,9 +4,10 @@ ghost use Rattle.sy_terms.specs.Theories as theories;
 ghost use Rattle.sy_words.specs.Vectors.{vector, owned, is_bits};
 ghost use Rattle.sy_words.specs.Laws as law;
 
-use crate::operators::vector_value;
+use crate::operators::operator_value;
+use crate::pairs::apply_pairs;
 use crate::word::Word;
-use sy_core::{Number, core_value, in_core};
+use sy_core::Number;
 use sy_terms::{Applied, Op, Sort, Sorted, Theory, Value, operator_sort};
 
 /// A word stands for its vector.
@@ -44,12 +45,12 @@ impl Theory for BvTheory {
     }
 
     fn apply(op: &Op, args: &[Value<Word>]) -> Applied<Word> {
-        let value = if in_core(op) {
-            core_value(op, args)
-        } else {
-            vector_value(op, args)
-        };
-        Applied::Is(value)
+        Applied::Is(operator_value(op, args))
+    }
+
+    fn apply_each(op: &Op, values: &mut [Value<Word>], others: &[Value<Word>]) -> Option<usize> {
+        apply_pairs(op, values, others);
+        None
     }
 
     fn value_sort(v: &Value<Word>) -> Sort {

@@ -63,4 +63,4 @@ filled_parts-loop-part-preserved g t c =
     }
 
 pub filled_parts-loop-part-init : goal.filled_parts-loop-part-init
-filled_parts-loop-part-init g t c = record { used_is = refl; whole = rw (c.new-terms.ensures, all_filled-none) refl }
+filled_parts-loop-part-init g t c = record { used_is = refl; whole = rw (c.in_ok-terms.ensures, all_filled-none) refl }

@@ -3,5 +3,5 @@ use Rattle.sy_words.specs.Vectors.{vector}
 use Rattle.sy_words.proofs.Ranges.{fits_always, valid_always, not_ints}
 use Rattle.sy_words.proofs.theory.BvTheoryTheory.apply.Goals as goal
 
-pub returns-else-in_core : goal.returns-else-in_core
-returns-else-in_core c = (valid_always c.vector_value-value.result, fits_always c.args.op.now (vals_of vector c.args.args.now) (not_ints c.args.op.now c.requires.owned), c.vector_value-value.ensures)
+pub returns : goal.returns
+returns c = (valid_always c.operator_value.result, fits_always c.args.op.now (vals_of vector c.args.args.now) (not_ints c.args.op.now c.requires.owned), c.operator_value.ensures)
