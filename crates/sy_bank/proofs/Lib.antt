@@ -1,4 +1,3 @@
 pub mod Steps
 pub mod Ends
 pub mod Places
-pub mod Points

@@ -38,7 +38,7 @@ step-next scope syntax defined pool bank cap w s after step =
       stays = λ n size place e at. stays-more bank.levels s.fresh n size place e at;
     })
 
-pub step-indexed : (scope : Scope) (syntax : Syntax) (defined : List Function) (pool : List Val) (bank : Merged) (cap : ℕ) (w : World) (s : State) (after : Merged) (table : List (List Place)) (number : ℕ) → IsStep scope syntax defined pool bank cap w s after →
+pub step-indexed : (scope : Scope) (syntax : Syntax) (defined : List Function) (pool : List Val) (bank : Merged) (cap : ℕ) (w : World) (s : State) (after : Merged) (table : ℕ → List Place) (number : ℕ) → IsStep scope syntax defined pool bank cap w s after →
     table ≡ s.table → number ≡ s.count → IsIndexed after.levels table number
 step-indexed scope syntax defined pool bank cap w s after table number step one two =
     rw (step.is, one, two) (indexed-next (world_at scope syntax defined pool bank cap) s (steady-here scope syntax defined pool bank cap w s after step))

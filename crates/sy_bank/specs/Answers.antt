@@ -6,6 +6,7 @@ use Rattle.sy_terms.specs.Fitting.{Scope}
 use Rattle.sy_grammar.specs.Trees.{Syntax}
 use Rattle.sy_rows.specs.Banks.{Entry, Merged}
 use Rattle.sy_rows.specs.Stored.{entry_of}
+use Rattle.sy_filling.specs.Places.{places_of}
 use Rattle.sy_saturated.specs.Indexed.{IsIndexed}
 use Rattle.sy_saturated.specs.Ready.{IsReady}
 use Rattle.sy_bank.specs.Bank.{merged_of}
@@ -28,4 +29,4 @@ IfFull number (Err Want) fact = Unit {0}
 -- a bank as building leaves it, to which the kept terms of further sizes can be added
 pub record IsBuilt {T N : Type 0} (number : N → Val) (scope : Scope) (syntax : Syntax) (defined : List Function) (pool : List Val) (bank : Bank T N) : Type 0 where
   pub ready : IsReady scope syntax defined pool (merged_of number bank)
-  pub indexed : IsIndexed (merged_of number bank).levels bank.table bank.count
+  pub indexed : IsIndexed (merged_of number bank).levels (places_of bank.table) bank.count

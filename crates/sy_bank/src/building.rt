@@ -17,9 +17,6 @@ use sy_filling::Table;
 use sy_grammar::Grammar;
 use sy_terms::{Defs, Seq, Theory, Values, Want, copied_values};
 
-/// How many buckets a table has at most; a bank of more terms has longer ones.
-const MOST_BUCKETS: u32 = 16_384;
-
 /// The same points, in memory of their own.
 fn copied_points<T: Theory>(alloc: Global, points: &[Values<T>]) -> Result<Seq<Values<T>>, Want>
     ensures { IfOk result (λ copy. copy ≡ points.now) }
@@ -56,7 +53,7 @@ pub fn build<T: Theory>(
         points: copied_points::<T>(alloc, points.as_slice())?,
         upto,
         levels: Vec::new(alloc),
-        table: Table::new(alloc, cap.min(MOST_BUCKETS) as usize)?,
+        table: Table::new(alloc),
         count: 0,
         dropped: None,
     };

@@ -90,18 +90,7 @@ impl<T: Theory> Bank<T> {
             size: levels.len() as u32,
             cap: cap as usize,
         };
-        let filled = fill(&task, &mut filling);
-        let Task {
-            alloc: _,
-            grammar: _,
-            defs: _,
-            pool: _,
-            points: _,
-            levels: _,
-            size: _,
-            cap: _,
-        } = task;
-        match filled {
+        match fill(&task, &mut filling) {
             Ok(()) => {
                 let bank = closed(points, upto, levels, filling)?;
                 Ok(bank)

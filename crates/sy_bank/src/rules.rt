@@ -125,11 +125,5 @@ fn try_part<T: Theory>(
         number,
         part,
     };
-    let tried = choose(task, filling, &template);
-    let Template {
-        nonterminal: _,
-        number: _,
-        part: _,
-    } = template;
-    tried
+    choose(task, filling, &template)
 }

@@ -1,9 +1,8 @@
 -- No derivation is smaller than 1, and so no kept term is.
-use Rattle.std.proofs.Common.{◌≡◌, ℕ, ◌+◌, ◌≤◌, ◌<◌, zero, suc, List, [], ◌∷◌, length, Bool, true, false, Option, Some, None, slice_get, arith, ap, refl, ◌∙◌}
+use Rattle.std.proofs.Common.{◌≡◌, ℕ, ◌+◌, ◌≤◌, List, [], ◌∷◌, length, Bool, true, false, Option, Some, None, slice_get, arith, ap, refl, ◌∙◌}
 use Rattle.std.specs.Prelude.{if◌then◌else◌, ◌||◌}
 use Rattle.std.specs.Option.{option_map}
 use Rattle.std.specs.List.{list_any}
-use Rattle.std.proofs.lemmas.Option.{none-some}
 use Rattle.sy_terms.specs.Values.{Val, same}
 use Rattle.sy_terms.specs.Expr.{Expr}
 use Rattle.sy_grammar.specs.Patterns as pattern
@@ -13,7 +12,7 @@ use Rattle.sy_grammar.specs.Trees.{Syntax, Production, Template, EachConstant, E
 use Rattle.sy_rows.specs.Banks.{Entry, kept_at}
 use Rattle.sy_rows.specs.Covering.{AreKept, sizes}
 use Rattle.sy_filling.specs.Filling.{World, State, IsSteady, IsRight}
-use Rattle.sy_filling.proofs.Kept.{kept_at-before}
+use Rattle.sy_filling.proofs.Kept.{kept_at-before, size-within}
 
 cond-least : (test : Bool) (n : ℕ) → 1 ≤ (if test then 1 else n + 1)
 cond-least true n = omega arith
@@ -65,12 +64,6 @@ mutual
   trees-least syntax pool (nonterminal ∷ nonterminals) (trees.more first rest) found e =
       let parts = both-of (yield_from syntax nonterminal first) (yields_from syntax nonterminals rest) found e in
       omega (arith, tree-least syntax pool nonterminal first parts.0.0 parts.0.1, trees-least syntax pool nonterminals rest parts.1.0 parts.1.1)
-
--- a kept term stands at a size that there is
-size-within : {X : Type 0} (levels : List (List (List X))) (n size place : ℕ) (x : X) → slice_get (kept_at levels n size) place ≡ Some x → size < length levels
-size-within [] n size place x at = absurd (none-some x at)
-size-within (level ∷ levels) n zero place x at = omega arith
-size-within (level ∷ levels) n (suc size) place x at = let below = size-within levels n size place x at in omega (arith, below)
 
 -- a kept term of a lesser size is right
 pub right-at : (w : World) (s : State) (n size place : ℕ) (entry : Entry) → IsSteady w s → slice_get (kept_at w.levels n size) place ≡ Some entry → IsRight w n size entry

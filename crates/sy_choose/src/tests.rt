@@ -95,13 +95,7 @@ fn choose_all<T: Theory>(
                 number,
                 part,
             };
-            let chosen = choose(task, filling, &template);
-            let Template {
-                nonterminal: _,
-                number: _,
-                part: _,
-            } = template;
-            chosen?;
+            choose(task, filling, &template)?;
         }
     }
     Ok(())
@@ -126,7 +120,7 @@ fn counts<T: Theory>(
     let nonterminals = grammar.nons().len();
     let mut filling = Filling {
         fresh: Level::new(alloc, nonterminals)?,
-        table: Table::new(alloc, 64)?,
+        table: Table::new(alloc),
         count: 0,
         dropped: None,
     };
@@ -141,18 +135,7 @@ fn counts<T: Theory>(
             size,
             cap: 100,
         };
-        let chosen = choose_all(&task, &mut filling, 4);
-        let Task {
-            alloc: _,
-            grammar: _,
-            defs: _,
-            pool: _,
-            points: _,
-            levels: _,
-            size: _,
-            cap: _,
-        } = task;
-        chosen?;
+        choose_all(&task, &mut filling, 4)?;
         counts.push(filling.count)?;
         let fresh = mem::replace(&mut filling.fresh, Level::new(alloc, nonterminals)?);
         levels.push(fresh)?;

@@ -5,10 +5,11 @@ use Rattle.sy_rows.specs.Banks.{Entry, Lost, kept_at, IsKept, IsDropped}
 use Rattle.sy_filling.specs.Hashing.{hash_from, IsAdded}
 use Rattle.sy_filling.specs.Filling.{World, State, all, IsRight, IsNewRow, IsSteady, Grows, IsDone}
 use Rattle.sy_filling.specs.declared.table.Place.{Place}
+use Rattle.sy_filling.proofs.Hashes.{has-added, still-has}
 use Rattle.sy_filling.proofs.Kept.{pushed, at-last, still-last, new-pushed, wide-pushed, count-last, kept_at-last}
 
 -- the state with the term kept, and with another table
-abbrev pub after : State → ℕ → Entry → List (List Place) → State
+abbrev pub after : State → ℕ → Entry → (ℕ → List Place) → State
 after state m x table = record { fresh = pushed state.fresh m x; table = table; count = state.count + 1; dropped = state.dropped }
 
 abbrev pub place_of : World → State → ℕ → Place
@@ -17,7 +18,7 @@ place_of world state m = record { nonterminal = m; size = length world.levels; i
 is-kept : (w : World) (s : State) (n size i : ℕ) (e : Entry) → slice_get (kept_at (all w s) n size) i ≡ Some e → IsKept (all w s) n e
 is-kept w s n size i e at = record { size = size; place = i; at = at }
 
-pub keeps : (w : World) (s : State) (m : ℕ) (x : Entry) (table : List (List Place)) → IsSteady w s → IsRight w m (length w.levels) x → IsNewRow w s m x.row → m < length s.fresh →
+pub keeps : (w : World) (s : State) (m : ℕ) (x : Entry) (table : (ℕ → List Place)) → IsSteady w s → IsRight w m (length w.levels) x → IsNewRow w s m x.row → m < length s.fresh →
     IsAdded s.table (hash_from m x.row) (place_of w s m) table → s.count < w.cap → IsSteady w (after s m x table)
 keeps w s m x table steady right new within added room = record {
   wide = wide-pushed s.fresh m x ∙ steady.wide;
@@ -36,15 +37,15 @@ keeps w s m x table steady right new within added room = record {
     ]
   ];
   placed = λ n size i e at. elim (at-last w.levels s.fresh m n size i x e at) [
-    | inl h ↦ added.kept (hash_from n e.row) (record { nonterminal = n; size = size; index = i }) (steady.placed n size i e h)
-    | inr h ↦ rw (h.0, h.1, h.2, h.3) added.added
+    | inl h ↦ still-has s.table table (hash_from m x.row) (hash_from n e.row) (place_of w s m) (record { nonterminal = n; size = size; index = i }) added (steady.placed n size i e h)
+    | inr h ↦ rw (h.0, h.1, h.2, h.3) (has-added s.table table (hash_from m x.row) (place_of w s m) added)
   ];
   counted = count-last w.levels s.fresh m x within ∙ ap (λ k. k + 1) steady.counted;
   within = omega arith;
   lost = steady.lost;
 }
 
-pub keeps-grows : (w : World) (s : State) (m : ℕ) (x : Entry) (table : List (List Place)) → Grows w s (after s m x table)
+pub keeps-grows : (w : World) (s : State) (m : ℕ) (x : Entry) (table : (ℕ → List Place)) → Grows w s (after s m x table)
 keeps-grows w s m x table = record {
   kept = λ n e kept. record { size = kept.size; place = kept.place; at = still-last w.levels s.fresh m n kept.size kept.place x e kept.at };
   lost = λ h. h;
@@ -52,7 +53,7 @@ keeps-grows w s m x table = record {
   same = λ h. absurd (omega arith);
 }
 
-pub keeps-done : (w : World) (s : State) (m : ℕ) (x : Entry) (table : List (List Place)) → IsRight w m (length w.levels) x → m < length s.fresh → IsDone w (after s m x table) m (length w.levels) x.term
+pub keeps-done : (w : World) (s : State) (m : ℕ) (x : Entry) (table : (ℕ → List Place)) → IsRight w m (length w.levels) x → m < length s.fresh → IsDone w (after s m x table) m (length w.levels) x.term
 keeps-done w s m x table right within none_lost = record {
   entry = x;
   kept = record { size = length w.levels; place = length (slice_index_or s.fresh m []); at = ap (λ list. slice_get list (length (slice_index_or s.fresh m []))) (kept_at-last w.levels (pushed s.fresh m x) m) ∙ new-pushed s.fresh m x within };
@@ -88,6 +89,6 @@ done-on w s t n size term grows done none_lost =
     record { entry = covered.entry; kept = grows.kept n covered.entry covered.kept; small = covered.small; row = covered.row }
 
 -- a place by its parts
-pub added-as : (w : World) (s : State) (m : ℕ) (x : Entry) (hash size index : ℕ) (table : List (List Place)) → size ≡ length w.levels → index ≡ length (slice_index_or s.fresh m []) → hash ≡ hash_from m x.row →
+pub added-as : (w : World) (s : State) (m : ℕ) (x : Entry) (hash size index : ℕ) (table : (ℕ → List Place)) → size ≡ length w.levels → index ≡ length (slice_index_or s.fresh m []) → hash ≡ hash_from m x.row →
     IsAdded s.table hash (record { nonterminal = m; size = size; index = index }) table → IsAdded s.table (hash_from m x.row) (place_of w s m) table
 added-as w s m x hash size index table one two three added = rw (← one, ← two, ← three) added

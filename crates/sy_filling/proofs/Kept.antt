@@ -8,7 +8,7 @@ use Rattle.sy_rows.specs.Banks.{kept_at, count, count_of}
 abbrev pub pushed : {X : Type 0} → List (List X) → ℕ → X → List (List X)
 pushed lists m x = slice_set lists m (slice_index_or lists m [] ++ x ∷ [])
 
-at-end : {X : Type 0} (xs : List X) (i : ℕ) (x y : X) → slice_get (xs ++ x ∷ []) i ≡ Some y → (slice_get xs i ≡ Some y) ⊎ ((i ≡ length xs) × (y ≡ x))
+pub at-end : {X : Type 0} (xs : List X) (i : ℕ) (x y : X) → slice_get (xs ++ x ∷ []) i ≡ Some y → (slice_get xs i ≡ Some y) ⊎ ((i ≡ length xs) × (y ≡ x))
 at-end [] zero x y at = inr (refl, cc)
 at-end [] (suc i) x y at = absurd (none-some y at)
 at-end (z ∷ xs) zero x y at = inl at
@@ -99,3 +99,9 @@ kept_at-beyond (level ∷ levels) lists n (suc size) above = kept_at-beyond leve
 pub count-last : {X : Type 0} (levels : List (List (List X))) (lists : List (List X)) (m : ℕ) (x : X) → m < length lists → count (levels ++ pushed lists m x ∷ []) ≡ count (levels ++ lists ∷ []) + 1
 count-last [] lists m x within = omega (arith, count_of-pushed lists m x within)
 count-last (level ∷ levels) lists m x within = omega (arith, count-last levels lists m x within)
+
+-- a kept term stands at a size that there is
+pub size-within : {X : Type 0} (levels : List (List (List X))) (n size place : ℕ) (x : X) → slice_get (kept_at levels n size) place ≡ Some x → size < length levels
+size-within [] n size place x at = absurd (none-some x at)
+size-within (level ∷ levels) n zero place x at = omega arith
+size-within (level ∷ levels) n (suc size) place x at = let below = size-within levels n size place x at in omega (arith, below)

@@ -1,3 +1,4 @@
+pub mod Beginnings
 pub mod Finding
 pub mod Hashes
 pub mod Kept

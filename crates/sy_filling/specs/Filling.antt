@@ -24,7 +24,7 @@ pub record World : Type 0 where
 -- what changes: the kept terms of this size, where rows are found, how many terms are kept in all, and what was dropped
 pub record State : Type 0 where
   pub fresh : List (List Entry)
-  pub table : List (List Place)
+  pub table : ℕ → List Place
   pub count : ℕ
   pub dropped : Option Lost
 

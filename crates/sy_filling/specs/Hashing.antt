@@ -1,5 +1,5 @@
 -- Numbers by which rows are found.
-use Rattle.std.specs.Prelude.{ℕ, ◌+◌, ◌-◌, ◌*◌, ◌/◌, ◌%◌, ◌^◌, ◌≡◌, List, [], ◌∷◌, length, slice_get, slice_index_or, bit_xor, if◌then◌else◌, Some}
+use Rattle.std.specs.Prelude.{ℕ, ◌+◌, ◌-◌, ◌*◌, ◌/◌, ◌%◌, ◌^◌, ◌≡◌, List, [], ◌∷◌, ◌++◌, slice_get, nat_eq, bit_xor, if◌then◌else◌, Some}
 use Rattle.sy_terms.specs.Values.{Val, Truth, Whole, Bits}
 use Rattle.sy_grammar.specs.Trees.{magnitude, is_negative}
 use Rattle.sy_filling.specs.declared.table.Place.{Place}
@@ -23,15 +23,10 @@ unfoldable pub hash_from : ℕ → List Val → ℕ
 hash_from seed [] = seed
 hash_from seed (value ∷ values) = hash_from (mixed seed value) values
 
--- a table's places for the number
-abbrev pub bucket : List (List Place) → ℕ → List Place
-bucket buckets hash = slice_index_or buckets (hash % length buckets) []
+-- the place is one of those for the number
+abbrev pub HasPlace : (ℕ → List Place) → ℕ → Place → Type 0
+HasPlace table hash place = (i : ℕ) × (slice_get (table hash) i ≡ Some place)
 
--- the place stands there
-abbrev pub HasPlace : List (List Place) → ℕ → Place → Type 0
-HasPlace buckets hash place = (i : ℕ) × (slice_get (bucket buckets hash) i ≡ Some place)
-
--- the place is added for the number, and nothing is taken away
-pub record IsAdded (before : List (List Place)) (hash : ℕ) (place : Place) (after : List (List Place)) : Type 0 where
-  pub added : HasPlace after hash place
-  pub kept : (number : ℕ) (other : Place) → HasPlace before number other → HasPlace after number other
+-- the place is added for the number, after the others; nothing else changes
+abbrev pub IsAdded : (ℕ → List Place) → ℕ → Place → (ℕ → List Place) → Type 0
+IsAdded before hash place after = (number : ℕ) → after number ≡ (if nat_eq hash number then before number ++ place ∷ [] else before number)

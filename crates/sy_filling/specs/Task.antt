@@ -9,6 +9,7 @@ use Rattle.sy_terms.specs.declared.op.Op.{Op}
 use Rattle.sy_grammar.specs.Grown.{syntax_from}
 use Rattle.sy_rows.specs.Banks.{Entry}
 use Rattle.sy_rows.specs.Stored.{entry_of, entries_of, lost_of}
+use Rattle.sy_filling.specs.Places.{places_of}
 use Rattle.sy_filling.specs.Filling.{World, State, IsSteady, IsBeyond}
 use Rattle.sy_filling.specs.declared.task.Task.{Task}
 use Rattle.sy_filling.specs.declared.level.Level.{Level}
@@ -24,7 +25,7 @@ abbrev pub levels_of : {T N : Type 0} → (N → Val) → List (Level T N) → L
 levels_of number levels = map (level_of number) levels
 
 abbrev pub state_of : {T N : Type 0} → (N → Val) → Filling T N → State
-state_of number filling = record { fresh = level_of number filling.fresh; table = filling.table; count = filling.count; dropped = option_map (lost_of number) filling.dropped }
+state_of number filling = record { fresh = level_of number filling.fresh; table = places_of filling.table; count = filling.count; dropped = option_map (lost_of number) filling.dropped }
 
 abbrev pub world : {T N : Type 0} → (Op → Bool) → (N → Val) → Task T N → World
 world owned number task = record {

@@ -4,7 +4,8 @@ ghost use Rattle.std.specs.Option.{option_map};
 ghost use Rattle.sy_terms.specs.Denoted.{vals_of, expr_of};
 ghost use Rattle.sy_rows.specs.Banks.{Entry, IsKept, IsDropped, kept_at};
 ghost use Rattle.sy_rows.specs.Stored.{entry_of, lost_of};
-ghost use Rattle.sy_filling.specs.Hashing.{hash_from, bucket};
+ghost use Rattle.sy_filling.specs.Hashing.{hash_from};
+ghost use Rattle.sy_filling.specs.Places.{places_of};
 ghost use Rattle.sy_filling.specs.Filling.{IsSteady, IsRight, IsNewRow, Grows, IsDone, AreOther};
 ghost use Rattle.sy_filling.specs.Task.{world, IsStop, level_of, levels_of, state_of};
 
@@ -79,7 +80,7 @@ impl<T: Theory> Filling<T> {
     ) -> bool
         ensures { MatchBool result
             ((entry : Entry) × IsKept (levels_of T.denotes levels.now ++ level_of T.denotes self.now.fresh ∷ []) nonterminal entry × (entry.row ≡ vals_of T.denotes row.now))
-            (AreOther (levels_of T.denotes levels.now ++ level_of T.denotes self.now.fresh ∷ []) nonterminal (bucket self.now.table hash) (vals_of T.denotes row.now)) }
+            (AreOther (levels_of T.denotes levels.now ++ level_of T.denotes self.now.fresh ∷ []) nonterminal (places_of self.now.table hash) (vals_of T.denotes row.now)) }
     {
         for place in self.table.at(hash) {
             if place.nonterminal != nonterminal as usize {
@@ -124,6 +125,7 @@ impl<T: Theory> Filling<T> {
         let index = self.fresh.of(nonterminal).len();
         let size = task.levels.len();
         self.table.add(
+            task.alloc,
             hash,
             Place {
                 nonterminal,

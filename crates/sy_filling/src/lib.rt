@@ -6,6 +6,8 @@ mod hash;
 mod level;
 mod table;
 mod task;
+#[cfg(test)]
+mod tests;
 
 pub use filling::{Filling, Stop};
 pub use hash::row_hash;

@@ -1,9 +1,10 @@
 // Where kept terms with a row may stand.
-ghost use Rattle.std.specs.Prelude.{◌≡◌, ◌+◌, [], replicate, IfOk, OnOk, OnErr};
-ghost use Rattle.sy_filling.specs.Hashing.{bucket, IsAdded};
+ghost use Rattle.std.specs.Prelude.{◌≡◌, [], ℕ, OnOk, OnErr};
+ghost use Rattle.sy_filling.specs.Places.{places_of};
+ghost use Rattle.sy_filling.specs.Hashing.{IsAdded};
 
 use std::alloc::Global;
-use std::marker::Model;
+use std::collections::HashMap;
 use sy_terms::Want;
 
 /// A place among kept terms.
@@ -17,48 +18,41 @@ pub struct Place {
 /// Places by the numbers of their rows.
 #[derive(Drop)]
 pub struct Table {
-    buckets: Vec<Vec<Place>>,
-}
-
-impl Model for Table {
-    ghost use Rattle.std.specs.Prelude.{List, map, length, ◌<◌};
-    ghost use Rattle.sy_filling.specs.declared.table.Place.{Place};
-
-    ghost Value = { List (List Place) };
-
-    ghost view = { λ table. map (λ places. places.items) table.buckets.items };
-
-    ghost invariant = { λ table. 0 < length table.buckets.items };
+    places: HashMap<u64, Vec<Place>>,
 }
 
 impl Table {
-    /// No places, in so many buckets and one more.
-    pub fn new(alloc: Global, buckets: usize) -> Result<Table, Want>
-        ensures { IfOk result (λ table. table ≡ replicate (buckets + 1) []) }
+    /// No places. It takes no memory.
+    pub fn new(alloc: Global) -> Table
+        ensures { (number : ℕ) → places_of result number ≡ [] }
     {
-        let mut all = Vec::new(alloc);
-        all.push(Vec::new(alloc))?;
-        for _ in 0..buckets {
-            all.push(Vec::new(alloc))?;
+        Table {
+            places: HashMap::new(alloc),
         }
-        Ok(Table { buckets: all })
     }
 
     /// The places for the number.
     pub fn at(&self, hash: u64) -> &[Place]
-        ensures { result.now ≡ bucket self.now hash }
+        ensures { result.now ≡ places_of self.now hash }
     {
-        let number = hash as usize % self.buckets.len();
-        self.buckets[number].as_slice()
+        match self.places.get(&hash) {
+            Some(places) => places.as_slice(),
+            None => &[],
+        }
     }
 
     /// Adds the place for the number. On `Want` nothing changes.
-    pub fn add(&mut self, hash: u64, place: Place) -> Result<(), Want>
-        ensures ok { OnOk result (IsAdded self.old hash place self.new) }
-        ensures err { OnErr result (self.new ≡ self.old) }
+    pub fn add(&mut self, alloc: Global, hash: u64, place: Place) -> Result<(), Want>
+        ensures ok { OnOk result (IsAdded (places_of self.old) hash place (places_of self.new)) }
+        ensures err { OnErr result ((number : ℕ) → places_of self.new number ≡ places_of self.old number) }
     {
-        let number = hash as usize % self.buckets.len();
-        self.buckets[number].push(place)?;
+        if let Some(places) = self.places.get_mut(&hash) {
+            places.push(place)?;
+            return Ok(());
+        }
+        let mut places = Vec::with_capacity(alloc, 1)?;
+        places.push(place)?;
+        self.places.insert(hash, places)?;
         Ok(())
     }
 }

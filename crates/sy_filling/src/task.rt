@@ -5,6 +5,7 @@ use sy_grammar::Grammar;
 use sy_terms::{Defs, Theory, Values};
 
 /// The grammar, the definitions, the pool, the points, the kept terms of lesser sizes, and how many terms may be kept.
+#[derive(Drop)]
 pub struct Task<'a, T: Theory> {
     pub alloc: Global,
     pub grammar: &'a Grammar<T>,

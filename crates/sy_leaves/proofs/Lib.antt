@@ -1,4 +1,4 @@
-pub mod Beginnings
 pub mod ConstantSizes
 pub mod Digits
 pub mod Offered
+pub mod Rules

@@ -1,7 +1,7 @@
 -- What holds of leaves: of the tree and the term of one, and of all that a rule gives.
 use Rattle.std.proofs.Common.{◌≡◌, ◌≢◌, ℕ, zero, suc, ◌+◌, ◌<◌, ◌≤◌, List, [], ◌∷◌, length, refl, ap, sym, ◌∙◌, Option, Some, None, slice_get, arith, subst, Bool, true, false, map, pos, inl, inr, ◌⊎◌}
 use Rattle.std.specs.Prelude.{ℤ, neg_ℤ, ◌&&◌, ◌==◌, MatchBool, if◌then◌else◌}
-use Rattle.std.proofs.lemmas.Option.{none-some, same_Some}
+use Rattle.std.proofs.lemmas.Option.{none-some, same_Some, slice_get_within}
 use Rattle.sy_terms.specs.Values.{Val, Truth}
 use Rattle.sy_terms.specs.Denoted.{val_of, vals_of}
 use Rattle.sy_terms.specs.Expr as expr
@@ -82,11 +82,6 @@ from-map f [] i y at = absurd (none-some y at)
 from-map f (x ∷ xs) zero y at = (x, refl, cc)
 from-map f (x ∷ xs) (suc i) y at = from-map f xs i y at
 
-within : {X : Type 0} (xs : List X) (i : ℕ) (x : X) → slice_get xs i ≡ Some x → i < length xs
-within [] i x at = absurd (none-some x at)
-within (y ∷ xs) zero x at = omega arith
-within (y ∷ xs) (suc i) x at = let below = within xs i x at in omega (arith, below)
-
 -- truth values, 0, 1 and the pool are all that counts 1
 pub ones-done : {N : Type 0} (number : N → Val) (w : World) (s : State) (n : ℕ) (sort : Sort) (size : ℕ) (pool : List (Value N)) (count : ℕ) → size ≡ 1 → w.pool ≡ vals_of number pool → length pool ≤ count →
     ((b : Bool) → IsDoneFor w s n sort size (Truth b)) → IsDoneAt w s n sort size (pos 0) → IsDoneAt w s n sort size (pos 1) → ArePooled number w s n sort size pool count →
@@ -99,7 +94,7 @@ ones-done number w s n sort size pool count one same whole truths first second m
     each (unit at) = second value at given sized
     each (pooled i item at is) =
         let found = from-map (val_of number) pool i item (ap (λ list. slice_get list i) (sym same) ∙ at) in
-        members i found.0 (let below = within pool i found.0 found.1 in omega (arith, below, whole)) found.1 value (ap (λ v. value_at sort (whole_number v)) found.2 ∙ is) given sized
+        members i found.0 (let below = slice_get_within pool i found.0 found.1 in omega (arith, below, whole)) found.1 value (ap (λ v. value_at sort (whole_number v)) found.2 ∙ is) given sized
 
 -- the arguments of the sort below a position
 abbrev pub AreArgued : World → State → ℕ → Sort → ℕ → ℕ → Type 0
@@ -122,7 +117,7 @@ argued-all w s n sort size count whole done term offers =
   where
     each : (o : Option Sort) → slice_get w.syntax.arguments offers.0 ≡ o → is_sort sort (slice_get w.syntax.arguments offers.0) ≡ true → IsDone w s n size (expr.Variable offers.0)
     each None at is = absurd (let no = ap (is_sort sort) (sym at) ∙ is in cc)
-    each (Some last) at is = done offers.0 last (let below = within w.syntax.arguments offers.0 last at in omega (arith, below, whole)) at (ap (is_sort sort) (sym at) ∙ is)
+    each (Some last) at is = done offers.0 last (let below = slice_get_within w.syntax.arguments offers.0 last at in omega (arith, below, whole)) at (ap (is_sort sort) (sym at) ∙ is)
 
 -- arguments count 1
 pub argued-never : (w : World) (s : State) (n : ℕ) (sort : Sort) (size : ℕ) → size ≢ 1 → GivesDone w s n (EachVariable sort) size

@@ -131,7 +131,7 @@ fn kept<T: Theory>(
     let levels = no_levels(alloc, size, nonterminals)?;
     let mut filling = Filling {
         fresh: Level::new(alloc, nonterminals)?,
-        table: Table::new(alloc, 64)?,
+        table: Table::new(alloc),
         count: 0,
         dropped: None,
     };
@@ -145,18 +145,7 @@ fn kept<T: Theory>(
         size,
         cap: 50,
     };
-    let offered = offer_both(&task, &mut filling);
-    let Task {
-        alloc: _,
-        grammar: _,
-        defs: _,
-        pool: _,
-        points: _,
-        levels: _,
-        size: _,
-        cap: _,
-    } = task;
-    offered?;
+    offer_both(&task, &mut filling)?;
     Ok(filling.count)
 }
 

@@ -1,5 +1,5 @@
 -- What holds of a term that a rule gives of kept terms of lesser sizes.
-use Rattle.std.proofs.Common.{◌≡◌, ℕ, zero, suc, ◌+◌, ◌<◌, ◌≤◌, List, [], ◌∷◌, ◌++◌, length, refl, ap, sym, ◌∙◌, Some, slice_get, map, arith, subst, Bool, true, length-append}
+use Rattle.std.proofs.Common.{◌≡◌, ℕ, zero, suc, ◌+◌, ◌≤◌, List, [], ◌∷◌, length, refl, ap, sym, ◌∙◌, Some, slice_get, map, arith, subst, Bool, length-append}
 use Rattle.std.specs.Prelude.{slice_index_or}
 use Rattle.std.proofs.lemmas.Option.{none-some, slice_get-get_or}
 use Rattle.sy_terms.specs.Values.{Val}
@@ -8,23 +8,16 @@ use Rattle.sy_terms.specs.Meaning.{meaning, value_at_position}
 use Rattle.sy_terms.specs.declared.sort.Sort.{Sort}
 use Rattle.sy_grammar.specs.Patterns.{Pattern, occurring, filled, own_size}
 use Rattle.sy_grammar.specs.Trees.{Node}
-use Rattle.sy_rows.specs.Banks.{Entry, kept_at, IsKept, IsDropped}
+use Rattle.sy_rows.specs.Banks.{Entry, IsKept, IsDropped}
 use Rattle.sy_rows.specs.Rows.{IsRow, IsLostAt}
-use Rattle.sy_rows.specs.Covering.{AreKept, sizes, terms, IsCovered}
+use Rattle.sy_rows.specs.Covering.{AreKept, sizes, terms}
 use Rattle.sy_rows.specs.Columns.{FitsAt, HasRow}
 use Rattle.sy_columns.specs.Chosen.{AreRows, children}
-use Rattle.sy_filling.specs.Hashing.{bucket, hash_from, HasPlace}
+use Rattle.sy_filling.specs.Hashing.{hash_from}
 use Rattle.sy_filling.specs.Filling.{World, State, all, IsRight, IsSteady, IsNewRow, IsDone, AreOther}
-use Rattle.sy_filling.specs.declared.table.Place.{Place}
-use Rattle.sy_filling.proofs.Kept.{kept_at-before}
+use Rattle.sy_filling.proofs.Kept.{kept_at-before, size-within}
 use Rattle.sy_offer.specs.Tasks.{IsSet, IsRule}
 use Rattle.sy_offer.proofs.Nodes.{AreSound, node-derives, node-sized, as-many, derived-fits}
-
--- a kept term stands at a size that there is
-size-within : {X : Type 0} (levels : List (List (List X))) (n size place : ℕ) (x : X) → slice_get (kept_at levels n size) place ≡ Some x → size < length levels
-size-within [] n size place x at = absurd (none-some x at)
-size-within (level ∷ levels) n zero place x at = omega arith
-size-within (level ∷ levels) n (suc size) place x at = let below = size-within levels n size place x at in omega (arith, below)
 
 -- a kept term of a lesser size is right
 pub right-below : (w : World) (s : State) (n : ℕ) (entry : Entry) → IsSteady w s → (kept : IsKept w.levels n entry) → IsRight w n kept.size entry
@@ -108,11 +101,11 @@ given-dropped numeric w s n rule pattern entries point steady given lost =
     }
 
 -- where none of the row's places has a term with it, none is kept
-pub new-row : (w : World) (s : State) (n hash : ℕ) (row : List Val) → IsSteady w s → hash ≡ hash_from n row → AreOther (all w s) n (bucket s.table hash) row → IsNewRow w s n row
+pub new-row : (w : World) (s : State) (n hash : ℕ) (row : List Val) → IsSteady w s → hash ≡ hash_from n row → AreOther (all w s) n (s.table hash) row → IsNewRow w s n row
 new-row w s n hash row steady is others other kept same =
     let placed = steady.placed n kept.size kept.place other kept.at in
     let here : hash_from n other.row ≡ hash = ap (hash_from n) same ∙ sym is in
-    others placed.0 (record { nonterminal = n; size = kept.size; index = kept.place }) other (ap (λ (h : ℕ). slice_get (bucket s.table h) placed.0) (sym here) ∙ placed.1) refl kept.at same
+    others placed.0 (record { nonterminal = n; size = kept.size; index = kept.place }) other (ap (λ (h : ℕ). slice_get (s.table h) placed.0) (sym here) ∙ placed.1) refl kept.at same
 
 -- where one is kept with it, the term is covered
 pub found-done : (w : World) (s : State) (n : ℕ) (term : Expr) (row : List Val) → IsSteady w s → HasRow w.scope w.defined w.points term row →

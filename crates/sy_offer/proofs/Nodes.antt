@@ -1,23 +1,18 @@
 -- Nodes over kept terms: what they derive, their sizes, and that what they derive fits at each point.
-use Rattle.std.proofs.Common.{◌≡◌, ℕ, zero, suc, ◌+◌, ◌<◌, ◌≤◌, List, [], ◌∷◌, ◌++◌, length, refl, ap, sym, ◌∙◌, Option, Some, None, slice_get, map, arith, subst, Bool, true}
-use Rattle.std.specs.Prelude.{All}
+use Rattle.std.proofs.Common.{◌≡◌, ℕ, zero, suc, ◌+◌, ◌<◌, List, [], ◌∷◌, length, refl, ap, Some, slice_get, arith, Bool, true}
 use Rattle.std.specs.Option.{option_map}
-use Rattle.std.proofs.lemmas.Option.{slice_get-map}
 use Rattle.sy_terms.specs.Values.{Val}
 use Rattle.sy_terms.specs.Expr.{Expr}
-use Rattle.sy_terms.specs.Theories.{sort_of_value, valid}
 use Rattle.sy_terms.specs.Meaning.{Function}
-use Rattle.sy_terms.specs.Fitting.{Scope, sort_in}
+use Rattle.sy_terms.specs.Fitting.{Scope}
 use Rattle.sy_terms.specs.declared.sort.Sort.{Sort}
-use Rattle.sy_laws.specs.Evaluation.{TermFits}
 use Rattle.sy_grammar.specs.Patterns.{Pattern, occurring, filled, own_size}
-use Rattle.sy_grammar.specs.Trees as trees
-use Rattle.sy_grammar.specs.Trees.{Syntax, Nonterminal, Production, Template, Tree, Trees, Node, Derives, rule_at, yield_from, yields_from, node_yield, node_size, joined, tree_size, tree_sizes}
+use Rattle.sy_grammar.specs.Trees.{Syntax, Nonterminal, Template, Tree, Node, Derives, rule_at, yield_from, yields_from, tree_size, tree_sizes}
 use Rattle.sy_grammar.specs.Formed.{is_formed}
 use Rattle.sy_members.proofs.Members.{derived_fits}
 use Rattle.sy_members.proofs.Filling.{sort_at}
-use Rattle.sy_rows.specs.Banks.{Entry, IsSound, IsKept}
-use Rattle.sy_rows.specs.Covering.{AreKept, sizes, terms}
+use Rattle.sy_rows.specs.Banks.{Entry, IsSound}
+use Rattle.sy_rows.specs.Covering.{sizes, terms}
 use Rattle.sy_rows.specs.Columns.{FitsAt}
 use Rattle.sy_columns.specs.Chosen.{children}
 use Rattle.sy_offer.specs.Tasks.{ArePointsOf, HasNegation}

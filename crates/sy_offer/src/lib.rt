@@ -3,6 +3,8 @@
 
 mod offering;
 mod template;
+#[cfg(test)]
+mod tests;
 
 pub use offering::offer;
 pub use template::Template;

@@ -12,7 +12,7 @@ use crate::template::Template;
 use sy_columns::{RowEnd, filled_part, node, part_row};
 use sy_filling::{Filling, Stop, Task, row_hash};
 use sy_rows::{Dropped, Kept};
-use sy_terms::{Theory, copied_values};
+use sy_terms::Theory;
 
 /// Keeps what the part gives of the chosen terms, unless a kept term has its row; drops it where it isn't computable.
 pub fn offer<T: Theory>(
@@ -49,7 +49,7 @@ pub fn offer<T: Theory>(
         term: filled_part(alloc, template.part, chosen)?,
         derivation: node(alloc, template.number, chosen)?,
         size: task.size,
-        row: copied_values::<T>(alloc, row.as_slice())?,
+        row: row.into_values(alloc)?,
     };
     filling.keep(task, template.nonterminal, hash, kept)
 }

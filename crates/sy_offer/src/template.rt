@@ -3,6 +3,7 @@ use sy_grammar::Part;
 use sy_terms::Theory;
 
 /// A rule of a nonterminal that gives a part.
+#[derive(Drop)]
 pub struct Template<'a, T: Theory> {
     pub nonterminal: u32,
     pub number: u32,

@@ -1,8 +1,8 @@
 -- Kept terms of the size along chain rules, while nothing new is kept.
-use Rattle.std.proofs.Common.{◌≡◌, ℕ, zero, suc, ◌+◌, ◌<◌, ◌≤◌, List, [], ◌∷◌, length, refl, ap, sym, ◌∙◌, Option, Some, None, slice_get, arith, subst, Bool, map, inl, inr, ◌⊎◌}
+use Rattle.std.proofs.Common.{◌≡◌, ℕ, ◌+◌, ◌<◌, ◌≤◌, List, [], ◌∷◌, length, refl, ap, sym, ◌∙◌, Option, Some, None, slice_get, arith, subst, Bool, map, inl, inr, ◌⊎◌}
 use Rattle.std.specs.Prelude.{◌^◌, slice_index_or}
 use Rattle.std.specs.Option.{option_map}
-use Rattle.std.proofs.lemmas.Option.{none-some, same_Some}
+use Rattle.std.proofs.lemmas.Option.{same_Some, slice_get_within, slice_get-map}
 use Rattle.sy_terms.specs.declared.sort.Sort.{Sort}
 use Rattle.sy_terms.specs.Expr.{Expr}
 use Rattle.sy_terms.specs.Values.{Val}
@@ -24,11 +24,6 @@ use Rattle.sy_offer.proofs.Given.{found-done}
 use Rattle.sy_offer.proofs.Nodes.{node-derives, node-sized}
 use Rattle.sy_passing.specs.Passing.{IsChain, chained, IsPassed, ArePassed}
 
-within : {X : Type 0} (xs : List X) (i : ℕ) (x : X) → slice_get xs i ≡ Some x → i < length xs
-within [] i x at = absurd (none-some x at)
-within (y ∷ xs) zero x at = omega arith
-within (y ∷ xs) (suc i) x at = let below = within xs i x at in omega (arith, below)
-
 -- a chain rule names a nonterminal that there is
 pub chain-within : (numeric : Sort → Bool) (w : World) (n rule to : ℕ) → IsSet numeric w → IsChain w.syntax n rule to → to < length w.syntax.nonterminals
 unfolding pattern_sort
@@ -36,7 +31,7 @@ chain-within numeric w n rule to set is = each (slice_get w.syntax.nonterminals 
   where
     named : (o : Option Nonterminal) (sort : Sort) → slice_get w.syntax.nonterminals to ≡ o → option_map (λ (x : Nonterminal). x.sort) o ≡ Some sort → to < length w.syntax.nonterminals
     named None sort at found = absurd cc
-    named (Some nonterminal) sort at found = within w.syntax.nonterminals to nonterminal at
+    named (Some nonterminal) sort at found = slice_get_within w.syntax.nonterminals to nonterminal at
 
     each : (o : Option Nonterminal) → slice_get w.syntax.nonterminals n ≡ o → rule_of o rule ≡ Some (Template (Occurrence to)) → to < length w.syntax.nonterminals
     each None at found = absurd cc
@@ -44,16 +39,11 @@ chain-within numeric w n rule to set is = each (slice_get w.syntax.nonterminals 
         let fits = formed_fits numeric w.scope w.syntax set.formed n nonterminal at in
         named (slice_get w.syntax.nonterminals to) nonterminal.sort refl (fits.rules rule (Template (Occurrence to)) found)
 
-mapped-at : {X Y : Type 0} (f : X → Y) (xs : List X) (i : ℕ) (x : X) → slice_get xs i ≡ Some x → slice_get (map f xs) i ≡ Some (f x)
-mapped-at f [] i x at = absurd (none-some x at)
-mapped-at f (y ∷ xs) zero x at = ap Some (ap f (same_Some y x at))
-mapped-at f (y ∷ xs) (suc i) x at = mapped-at f xs i x at
-
 -- each nonterminal has fewer than 2 ^ 31 rules
 pub few-rules : {T N : Type 0} (number : N → Val) (numeric : Sort → Bool) (w : World) (nons : List (Non T N)) (place : ℕ) (item : Non T N) → IsSet numeric w →
     w.syntax.nonterminals ≡ map (nonterminal_of number) nons → slice_get nons place ≡ Some item → length item.rules < 2 ^ 31
 few-rules number numeric w nons place item set same at =
-    let there = ap (λ (all : List Nonterminal). slice_get all place) same ∙ mapped-at (nonterminal_of number) nons place item at in
+    let there = ap (λ (all : List Nonterminal). slice_get all place) same ∙ (slice_get-map (nonterminal_of number) nons place ∙ ap (option_map (nonterminal_of number)) at) in
     let few = (numbered numeric w.scope w.syntax set.formed).rules place (nonterminal_of number item) there in
     omega (arith, few, length-map item.rules (production_of number))
 
@@ -124,7 +114,7 @@ below-all w r t n to size count steady grows is whole done same entry kept sized
     sym (ap (λ (list : List Entry). slice_get list kept.place) (kept_at-last w.levels t.fresh to)) ∙ sym (ap (λ (k : ℕ). slice_get (kept_at (all w t) to k) kept.place) level) ∙ kept.at in
     let at : slice_get (slice_index_or r.fresh to []) kept.place ≡ Some entry =
     ap (λ (lists : List (List Entry)). slice_get (slice_index_or lists to []) kept.place) (grows.same same) ∙ fresh in
-    let below = within (slice_index_or r.fresh to []) kept.place entry at in
+    let below = slice_get_within (slice_index_or r.fresh to []) kept.place entry at in
     done same kept.place entry (omega (arith, below, whole)) at
 
 -- what is passed stays so where nothing new is kept
@@ -152,7 +142,7 @@ rules-next w r s t n size count one two before done same rule to below at =
 pub rules-all : (w : World) (t : State) (n size count : ℕ) (productions : List Production) → ((rule : ℕ) → rule_at w.syntax n rule ≡ slice_get productions rule) → length productions ≤ count → ArePassedBelow w t n size count →
     (rule to : ℕ) → rule_at w.syntax n rule ≡ Some (Template (Occurrence to)) → IsPassed w t n to size
 rules-all w t n size count productions same whole done rule to at =
-    let below = within productions rule (Template (Occurrence to)) (sym (same rule) ∙ at) in
+    let below = slice_get_within productions rule (Template (Occurrence to)) (sym (same rule) ∙ at) in
     done rule to (omega (arith, below, whole)) at
 
 -- a chain rule names one nonterminal
@@ -179,4 +169,4 @@ nonterminals-all w t size count whole done n rule to at = done n rule to (each (
   where
     each : (o : Option Nonterminal) → slice_get w.syntax.nonterminals n ≡ o → rule_of o rule ≡ Some (Template (Occurrence to)) → n < count
     each None here found = absurd cc
-    each (Some nonterminal) here found = let below = within w.syntax.nonterminals n nonterminal here in omega (arith, below, whole)
+    each (Some nonterminal) here found = let below = slice_get_within w.syntax.nonterminals n nonterminal here in omega (arith, below, whole)

@@ -88,7 +88,7 @@ fn kept<T: Theory>(alloc: Global, cap: usize) -> Result<usize, Stop<T>>
     levels.push(Level::new(alloc, nonterminals)?)?;
     let mut filling = Filling {
         fresh: Level::new(alloc, nonterminals)?,
-        table: Table::new(alloc, 8)?,
+        table: Table::new(alloc),
         count: 0,
         dropped: None,
     };
@@ -103,18 +103,7 @@ fn kept<T: Theory>(alloc: Global, cap: usize) -> Result<usize, Stop<T>>
         size: 1,
         cap,
     };
-    let passed = offer_and_pass(&task, &mut filling, 2);
-    let Task {
-        alloc: _,
-        grammar: _,
-        defs: _,
-        pool: _,
-        points: _,
-        levels: _,
-        size: _,
-        cap: _,
-    } = task;
-    passed?;
+    offer_and_pass(&task, &mut filling, 2)?;
     Ok(filling.count)
 }
 

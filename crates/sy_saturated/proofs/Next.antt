@@ -11,11 +11,13 @@ use Rattle.sy_rows.specs.Banks.{Entry, Lost, Merged, kept_at, count, IsHonest, I
 use Rattle.sy_rows.specs.Covering.{IsCovered, Covers, Offers}
 use Rattle.sy_filling.specs.Filling.{World, State, all, IsSteady, IsBeyond}
 use Rattle.sy_filling.specs.declared.table.Place.{Place}
+use Rattle.sy_filling.proofs.Beginnings.{kept_at-idle, count-idle}
+use Rattle.sy_filling.proofs.Kept.{size-within}
 use Rattle.sy_coverage.proofs.Coverage.{saturated_covers}
 use Rattle.sy_saturated.specs.Indexed.{IsIndexed}
 use Rattle.sy_saturated.specs.Ready.{IsSaturatedBelow, IsReady}
 use Rattle.sy_saturated.specs.Tried.{IsFilled}
-use Rattle.sy_saturated.proofs.LevelsLemmas.{kept_at-idle, count-idle, size-within, kept-more}
+use Rattle.sy_saturated.proofs.LevelsLemmas.{kept-more}
 use Rattle.sy_saturated.proofs.TriedLemmas.{lower-offers}
 
 -- what stays the same while the kept terms of the bank's next size are found
@@ -23,14 +25,14 @@ abbrev pub world_at : Scope → Syntax → List Function → List Val → Merged
 world_at scope syntax defined pool bank cap = record { scope = scope; syntax = syntax; defined = defined; pool = pool; points = bank.points; levels = bank.levels; cap = cap }
 
 -- what there is to begin with
-abbrev pub begun : Syntax → Merged → List (List Place) → ℕ → State
+abbrev pub begun : Syntax → Merged → (ℕ → List Place) → ℕ → State
 begun syntax bank table count = record { fresh = replicate (length syntax.nonterminals) []; table = table; count = count; dropped = bank.dropped }
 
 -- the bank with the kept terms of one size more
 abbrev pub extended : World → ℕ → State → Merged
 extended w upto s = record { points = w.points; upto = upto; levels = all w s; dropped = s.dropped }
 
-pub steady-begun : (scope : Scope) (syntax : Syntax) (defined : List Function) (pool : List Val) (bank : Merged) (cap : ℕ) (table : List (List Place)) (number : ℕ) →
+pub steady-begun : (scope : Scope) (syntax : Syntax) (defined : List Function) (pool : List Val) (bank : Merged) (cap : ℕ) (table : ℕ → List Place) (number : ℕ) →
     IsReady scope syntax defined pool bank → IsIndexed bank.levels table number → number ≤ cap → bank.dropped ≡ None →
     IsSteady (world_at scope syntax defined pool bank cap) (begun syntax bank table number)
 steady-begun scope syntax defined pool bank cap table number ready indexed room none_lost =

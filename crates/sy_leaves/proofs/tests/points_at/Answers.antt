@@ -2,7 +2,7 @@ use Rattle.std.proofs.Common.{map}
 use Rattle.std.proofs.lemmas.List.{map-append}
 use Rattle.sy_terms.specs.Denoted.{vals_of}
 use Rattle.sy_leaves.proofs.ConstantSizes.{found-at}
-use Rattle.sy_leaves.proofs.Beginnings.{points-more}
+use Rattle.sy_leaves.proofs.Rules.{points-more}
 use Rattle.sy_leaves.proofs.tests.points_at.Goals as goal
 
 pub loop-number-preserved : goal.loop-number-preserved

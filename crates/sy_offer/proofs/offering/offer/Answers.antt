@@ -1,4 +1,4 @@
-use Rattle.std.proofs.Common.{◌≡◌, ◌≤◌, ◌∙◌, sym, arith, length}
+use Rattle.std.proofs.Common.{◌≡◌, ◌∙◌, sym, arith, length}
 use Rattle.std.proofs.lemmas.List.{length-map}
 use Rattle.sy_terms.specs.Denoted.{vals_of}
 use Rattle.sy_grammar.specs.Patterns.{occurring, filled}
@@ -77,7 +77,7 @@ keep-requires-clause-right g c =
     let sized : c.args.task.now.size ≡ length w.levels = c.requires.task.sized ∙ sym (length-map c.args.task.now.levels.now (level_of number)) in
     let given : IsGiven g.T.Theory.numeric w c.args.template.now.nonterminal c.args.template.now.number (pattern_of number c.args.template.now.part.now) (chosen_of number c.args.chosen.now) =
     record { set = c.requires.task.set; rule_is = c.requires.rule; kept = c.requires.chosen; sized = c.requires.sized ∙ sized } in
-    rw (c.in_ok-filled_part.ensures, c.in_ok-node.ensures, c.in_ok-copied_values.ensures, c.as_slice-3.ensures, sized)
+    rw (c.in_ok-filled_part.ensures, c.in_ok-node.ensures, c.in_ok-into_values.ensures, sized)
     (given-right g.T.Theory.numeric w (state_of number c.args.filling.now) c.args.template.now.nonterminal c.args.template.now.number (pattern_of number c.args.template.now.part.now) (chosen_of number c.args.chosen.now) (vals_of number (values_of c.in-Ok.row)) c.requires.steady given c.in-Ok.ensures.ok)
 
 pub keep-requires-clause-differs : goal.keep-requires-clause-differs
@@ -85,5 +85,5 @@ keep-requires-clause-differs g c =
     let number = g.T.Theory.denotes in
     let hash = rw c.as_slice.ensures at c.row_hash-hash.ensures in
     let others = rw c.as_slice-2.ensures at c.if-has_row.ensures in
-    rw (c.in_ok-copied_values.ensures, c.as_slice-3.ensures)
+    rw c.in_ok-into_values.ensures
     (new-row (world g.T.Theory.owned number c.args.task.now) (state_of number c.args.filling.now) c.args.template.now.nonterminal c.row_hash-hash.result (vals_of number (values_of c.in-Ok.row)) c.requires.steady hash others)

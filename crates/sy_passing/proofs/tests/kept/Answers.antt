@@ -5,11 +5,11 @@ use Rattle.sy_grammar.specs.Grown.{nonterminal_of}
 use Rattle.sy_rows.specs.Banks.{Entry}
 use Rattle.sy_filling.specs.Task.{levels_of}
 use Rattle.sy_filling.specs.declared.level.Level.{Level}
-use Rattle.sy_leaves.proofs.Beginnings.{steady-none}
+use Rattle.sy_filling.proofs.Beginnings.{steady-none}
 use Rattle.sy_passing.proofs.tests.kept.Goals as goal
 
-pub offer_and_pass-passed-requires-clause-task : goal.offer_and_pass-passed-requires-clause-task
-offer_and_pass-passed-requires-clause-task g c = record {
+pub offer_and_pass-requires-clause-task : goal.offer_and_pass-requires-clause-task
+offer_and_pass-requires-clause-task g c = record {
   definitions = rw c.new-defs.ensures tt;
   set = record {
     negation = c.requires;
@@ -19,8 +19,8 @@ offer_and_pass-passed-requires-clause-task g c = record {
   sized = rw (c.as_slice-2.ensures.value, c.in_ok-push.ensures.items, c.new-levels.ensures.items) refl;
 }
 
-pub offer_and_pass-passed-requires-clause-steady : goal.offer_and_pass-passed-requires-clause-steady
-offer_and_pass-passed-requires-clause-steady g c =
+pub offer_and_pass-requires-clause-steady : goal.offer_and_pass-requires-clause-steady
+offer_and_pass-requires-clause-steady g c =
     let number = g.T.Theory.denotes in
     let width : c.len-nonterminals.result ≡ length (map (nonterminal_of number) c.in-Some.grammar.nons) = c.len-nonterminals.ensures ∙ ap length c.nons.ensures ∙ sym (length-map c.in-Some.grammar.nons _) in
     let items = c.as_slice-2.ensures.value ∙ c.in_ok-push.ensures.items ∙ ap (λ (levels : List (Level _ _)). levels ++ c.in_ok-new.field-0 ∷ []) c.new-levels.ensures.items in

@@ -1,4 +1,4 @@
-use Rattle.std.proofs.Common.{sym, subst, arith, List}
+use Rattle.std.proofs.Common.{◌∙◌, sym, subst, arith, List}
 use Rattle.std.proofs.lemmas.List.{length-map}
 use Rattle.sy_terms.specs.Values.{Val}
 use Rattle.sy_terms.specs.Denoted.{vals_of}
@@ -17,6 +17,18 @@ use Rattle.sy_bank.proofs.bank.Bank.all_sizes.Goals.{then-loop-bank-test+else-le
 
 pub next_size-requires-clause-points : goal.next_size-requires-clause-points
 next_size-requires-clause-points g c = subst (λ (points : List (List Val)). ArePointsOf c.args.grammar.now.args points) (sym c.loop-bank.invariant.over) c.requires.points
+
+pub loop-bank-preserved : goal.loop-bank-preserved
+loop-bank-preserved g c =
+    let next = c.in_ok-bank.ensures.next in
+    let before = c.loop-bank.invariant in
+    record {
+      over = next.over ∙ before.over;
+      up = next.up ∙ before.up;
+      built = c.in_ok-bank.ensures.built;
+      within = next.within;
+      stays = λ n size place e at. next.stays n size place e (before.stays n size place e at);
+    }
 
 pub returns-in_err-bank-clause-stays : goal.returns-in_err-bank-clause-stays
 returns-in_err-bank-clause-stays g c =

@@ -6,14 +6,15 @@ use Rattle.sy_terms.specs.Meaning.{functions}
 use Rattle.sy_grammar.specs.Grown.{syntax_from, nonterminal_of}
 use Rattle.sy_rows.specs.Stored.{entry_of}
 use Rattle.sy_filling.specs.Filling.{World}
+use Rattle.sy_filling.specs.Places.{places_of}
 use Rattle.sy_filling.specs.Task.{level_of, levels_of, state_of}
 use Rattle.sy_saturated.proofs.Next.{steady-begun}
 use Rattle.sy_bank.specs.Bank.{merged_of}
 use Rattle.sy_bank.proofs.Steps.{IsStep, step-next, step-indexed, step-ready, step-full}
 use Rattle.sy_bank.proofs.bank.Bank.next_size.Goals as goal
 
-pub fill-filled-requires-clause-task : goal.fill-filled-requires-clause-task
-fill-filled-requires-clause-task g c =
+pub fill-requires-clause-task : goal.fill-requires-clause-task
+fill-requires-clause-task g c =
     let points = rw (← c.as_slice.ensures) at c.requires.points in
     record {
       definitions = c.requires.definitions;
@@ -21,14 +22,14 @@ fill-filled-requires-clause-task g c =
       sized = c.len-2.ensures ∙ sym c.as_slice-2.ensures.len;
     }
 
-pub fill-filled-requires-clause-steady : goal.fill-filled-requires-clause-steady
-fill-filled-requires-clause-steady g c =
+pub fill-requires-clause-steady : goal.fill-requires-clause-steady
+fill-requires-clause-steady g c =
     let number = g.T.Theory.denotes in
     let bank = merged_of number c.args.self in
     let wide : c.len.result ≡ length (map (nonterminal_of number) c.args.grammar.now.nons) = c.len.ensures ∙ ap length c.nons.ensures ∙ sym (length-map c.args.grammar.now.nons (nonterminal_of number)) in
     let room : c.args.self.count ≤ c.args.cap = omega (arith, c.requires.room, c.requires.built.indexed.counted) in
     rw (c.as_slice.ensures, c.as_slice-2.ensures.value, c.in_ok-new.ensures, wide)
-    (steady-begun (scope_of g.T.Theory.owned c.args.defs.now) (syntax_from number c.args.grammar.now) (functions (bodies number c.args.defs.now)) (vals_of number c.args.pool.now) bank c.args.cap c.args.self.table c.args.self.count
+    (steady-begun (scope_of g.T.Theory.owned c.args.defs.now) (syntax_from number c.args.grammar.now) (functions (bodies number c.args.defs.now)) (vals_of number c.args.pool.now) bank c.args.cap (places_of c.args.self.table) c.args.self.count
     c.requires.built.ready c.requires.built.indexed room c.requires.none_lost)
 
 pub returns-in_ok-bank-in-Ok-clause-next : goal.returns-in_ok-bank-in-Ok-clause-next
@@ -40,7 +41,7 @@ returns-in_ok-bank-in-Ok-clause-next g c =
     let pool = vals_of number c.args.pool.now in
     let bank = merged_of number c.args.self in
     let w : World = record { scope = scope; syntax = syntax; defined = defined; pool = pool; points = map (vals_of number) c.as_slice.result.now; levels = levels_of number c.as_slice-2.result.now; cap = c.args.cap } in
-    let s = state_of number c.fill-filled.new.filling in
+    let s = state_of number c.fill.new.filling in
     let after = merged_of number c.in_ok-bank-in-Ok.bank in
     let step : IsStep scope syntax defined pool bank c.args.cap w s after = record {
       below = omega (arith, c.requires.open, length-map c.args.self.levels.items (level_of number));
@@ -59,7 +60,7 @@ returns-in_ok-bank-in-Ok-clause-built g c =
     let pool = vals_of number c.args.pool.now in
     let bank = merged_of number c.args.self in
     let w : World = record { scope = scope; syntax = syntax; defined = defined; pool = pool; points = map (vals_of number) c.as_slice.result.now; levels = levels_of number c.as_slice-2.result.now; cap = c.args.cap } in
-    let s = state_of number c.fill-filled.new.filling in
+    let s = state_of number c.fill.new.filling in
     let after = merged_of number c.in_ok-bank-in-Ok.bank in
     let step : IsStep scope syntax defined pool bank c.args.cap w s after = record {
       below = omega (arith, c.requires.open, length-map c.args.self.levels.items (level_of number));
@@ -69,7 +70,7 @@ returns-in_ok-bank-in-Ok-clause-built g c =
     } in
     record {
       ready = step-ready scope syntax defined pool bank c.args.cap c.len-2.result w s after step c.requires.built.ready c.requires.none_lost (c.len-2.ensures ∙ sym c.as_slice-2.ensures.len ∙ ap length c.as_slice-2.ensures.value ∙ sym (length-map c.args.self.levels.items (level_of number))) (λ still. c.in-Ok.ensures.filled);
-      indexed = step-indexed scope syntax defined pool bank c.args.cap w s after c.in_ok-bank-in-Ok.bank.table c.in_ok-bank-in-Ok.bank.count step c.in_ok-bank-in-Ok.ensures.table c.in_ok-bank-in-Ok.ensures.count;
+      indexed = step-indexed scope syntax defined pool bank c.args.cap w s after (places_of c.in_ok-bank-in-Ok.bank.table) c.in_ok-bank-in-Ok.bank.count step (ap places_of c.in_ok-bank-in-Ok.ensures.table) c.in_ok-bank-in-Ok.ensures.count;
     }
 
 pub returns-in_ok-bank-in-Err-Enough-clause-next : goal.returns-in_ok-bank-in-Err-Enough-clause-next
@@ -82,7 +83,7 @@ returns-in_ok-bank-in-Err-Enough-clause-next g c =
     let pool = vals_of number c.args.pool.now in
     let bank = merged_of number c.args.self in
     let w : World = record { scope = scope; syntax = syntax; defined = defined; pool = pool; points = map (vals_of number) c.as_slice.result.now; levels = levels_of number c.as_slice-2.result.now; cap = c.args.cap } in
-    let s = state_of number c.fill-filled.new.filling in
+    let s = state_of number c.fill.new.filling in
     let after = merged_of number c.in_ok-bank-in-Err-Enough.bank in
     let step : IsStep scope syntax defined pool bank c.args.cap w s after = record {
       below = omega (arith, c.requires.open, length-map c.args.self.levels.items (level_of number));
@@ -102,7 +103,7 @@ returns-in_ok-bank-in-Err-Enough-clause-built g c =
     let pool = vals_of number c.args.pool.now in
     let bank = merged_of number c.args.self in
     let w : World = record { scope = scope; syntax = syntax; defined = defined; pool = pool; points = map (vals_of number) c.as_slice.result.now; levels = levels_of number c.as_slice-2.result.now; cap = c.args.cap } in
-    let s = state_of number c.fill-filled.new.filling in
+    let s = state_of number c.fill.new.filling in
     let after = merged_of number c.in_ok-bank-in-Err-Enough.bank in
     let step : IsStep scope syntax defined pool bank c.args.cap w s after = record {
       below = omega (arith, c.requires.open, length-map c.args.self.levels.items (level_of number));
@@ -112,7 +113,7 @@ returns-in_ok-bank-in-Err-Enough-clause-built g c =
     } in
     record {
       ready = step-ready scope syntax defined pool bank c.args.cap c.len-2.result w s after step c.requires.built.ready c.requires.none_lost (c.len-2.ensures ∙ sym c.as_slice-2.ensures.len ∙ ap length c.as_slice-2.ensures.value ∙ sym (length-map c.args.self.levels.items (level_of number))) (λ still. absurd (stop.1 still));
-      indexed = step-indexed scope syntax defined pool bank c.args.cap w s after c.in_ok-bank-in-Err-Enough.bank.table c.in_ok-bank-in-Err-Enough.bank.count step c.in_ok-bank-in-Err-Enough.ensures.table c.in_ok-bank-in-Err-Enough.ensures.count;
+      indexed = step-indexed scope syntax defined pool bank c.args.cap w s after (places_of c.in_ok-bank-in-Err-Enough.bank.table) c.in_ok-bank-in-Err-Enough.bank.count step (ap places_of c.in_ok-bank-in-Err-Enough.ensures.table) c.in_ok-bank-in-Err-Enough.ensures.count;
     }
 
 pub returns-in_ok-bank-in-Err-Full-clause-next : goal.returns-in_ok-bank-in-Err-Full-clause-next
@@ -125,7 +126,7 @@ returns-in_ok-bank-in-Err-Full-clause-next g c =
     let pool = vals_of number c.args.pool.now in
     let bank = merged_of number c.args.self in
     let w : World = record { scope = scope; syntax = syntax; defined = defined; pool = pool; points = map (vals_of number) c.as_slice.result.now; levels = levels_of number c.as_slice-2.result.now; cap = c.args.cap } in
-    let s = state_of number c.fill-filled.new.filling in
+    let s = state_of number c.fill.new.filling in
     let after = merged_of number c.in_ok-bank-in-Err-Full.bank in
     let step : IsStep scope syntax defined pool bank c.args.cap w s after = record {
       below = omega (arith, c.requires.open, length-map c.args.self.levels.items (level_of number));
@@ -145,7 +146,7 @@ returns-in_ok-bank-in-Err-Full-clause-full g c =
     let pool = vals_of number c.args.pool.now in
     let bank = merged_of number c.args.self in
     let w : World = record { scope = scope; syntax = syntax; defined = defined; pool = pool; points = map (vals_of number) c.as_slice.result.now; levels = levels_of number c.as_slice-2.result.now; cap = c.args.cap } in
-    let s = state_of number c.fill-filled.new.filling in
+    let s = state_of number c.fill.new.filling in
     let after = merged_of number c.in_ok-bank-in-Err-Full.bank in
     let step : IsStep scope syntax defined pool bank c.args.cap w s after = record {
       below = omega (arith, c.requires.open, length-map c.args.self.levels.items (level_of number));
