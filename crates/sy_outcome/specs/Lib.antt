@@ -1,3 +1,4 @@
 pub mod Names
 pub mod Right
 pub mod Sizes
+pub mod Unsolved

@@ -15,6 +15,7 @@ use Rattle.sy_history.specs.Budgets.{RoundsMet, PointsMet, BankMet, WeightMet, D
 use Rattle.sy_history.specs.Solutions.{IsSolution}
 use Rattle.sy_history.specs.Stored.{history_of}
 use Rattle.sy_outcome.specs.Sizes.{AreAtMost}
+use Rattle.sy_outcome.specs.Unsolved.{NoSolution, NoSolutionWithin}
 use Rattle.sy_outcome.specs.declared.outcome.LoopRange.{LoopRange}
 use Rattle.sy_outcome.specs.declared.outcome.LoopRange.TheVariants.{Member, Checked}
 use Rattle.sy_outcome.specs.declared.outcome.FailCause.{FailCause}
@@ -31,8 +32,8 @@ Leaves number question limits history (Checked bodies assignment) =
 
 -- the cause holds
 abbrev pub Holds : {T S N : Type 0} → (Op → Bool) → (N → Val) → (S → FailName) → (Query → Limits → FailName → S → Type 0) → Question → Limits → FailCause T S N → Type 0
-Holds owned number budget shows question limits Size = AreAtMost question limits.size → ⊥
-Holds owned number budget shows question limits Exhausted = AreAtMost question limits.size
+Holds owned number budget shows question limits Size = NoSolutionWithin question limits.size × (AreAtMost question limits.size → ⊥)
+Holds owned number budget shows question limits Exhausted = NoSolution question × AreAtMost question limits.size
 Holds owned number budget shows question limits (Rounds stored) = RoundsMet question limits.size limits.rounds (history_of number stored)
 Holds owned number budget shows question limits (Points stored function bodies assignment tuples) =
     PointsMet question limits.size limits.rounds limits.points (history_of number stored) function (map (expr_of number) bodies) (vals_of number assignment) (tuples_of number tuples)

@@ -16,9 +16,10 @@ pub enum LoopRange<T: Theory> {
 /// Why a search ended without a solution, with what shows it. The pairs are the assignments that refuted candidates.
 #[derive(Drop)]
 pub enum FailCause<T: Theory, S: Drop> {
-    /// The largest sizes of the grammars don't sum to at most the greatest size.
+    /// No bodies whose sizes sum to at most the greatest size solve the problem, and the largest sizes of the grammars
+    /// don't sum to at most it.
     Size,
-    /// They do.
+    /// They do, and no bodies at all solve the problem.
     Exhausted,
     /// There are as many pairs as there may be.
     Rounds(Stored<T>),

@@ -1,6 +1,6 @@
 -- Banks over what is known.
-use Rattle.std.proofs.Common.{◌≡◌, ◌<◌, ◌≤◌, ◌+◌, ◌++◌, ⊎_elim, inl, inr, refl, ap, sym, subst, ◌∙◌, ℕ, zero, suc, Bool, List, [], ◌∷◌, length, map, get_or, slice_index_or, arith, slice_get, Some, None}
-use Rattle.std.specs.Prelude.{◌⊎◌, IfSome, false, Option, Err}
+use Rattle.std.proofs.Common.{◌≡◌, ◌<◌, ◌≤◌, ◌+◌, ◌++◌, ⊎_elim, refl, ap, sym, subst, ◌∙◌, ℕ, zero, suc, Bool, List, [], ◌∷◌, length, map, get_or, slice_index_or, arith, slice_get, Some, None}
+use Rattle.std.specs.Prelude.{IfSome, false, Option, Err}
 use Rattle.std.specs.Option.{option_map}
 use Rattle.std.specs.List.{All, Contains}
 use Rattle.std.proofs.lemmas.List.{length-map, length-append}
@@ -8,7 +8,7 @@ use Rattle.std.proofs.lemmas.Option.{slice_get-map, slice_get_within}
 use Rattle.std.proofs.lemmas.List.Elements.{All-contains, All-weaker, All-contains_itself}
 use Rattle.sy_terms.specs.Values.{Val}
 use Rattle.sy_terms.specs.Denoted.{expr_of, vals_of}
-use Rattle.sy_terms.specs.Definitions.{bodies}
+use Rattle.sy_terms.specs.Definitions.{bodies, scope_of}
 use Rattle.sy_terms.specs.Fitting.{Signature}
 use Rattle.sy_terms.specs.Meaning.{Function, functions, computable}
 use Rattle.sy_terms.specs.declared.op.Op.{Op}
@@ -20,7 +20,8 @@ use Rattle.sy_grammar.specs.declared.problem.Problem.{Problem}
 use Rattle.sy_grammar.specs.declared.problem.Wanted.{Wanted}
 use Rattle.sy_limits.specs.declared.Limits.{Limits}
 use Rattle.sy_points.specs.Asked.{Asked, of_function}
-use Rattle.sy_rows.specs.Banks.{Entry, Lost, Merged, IsDropped}
+use Rattle.sy_rows.specs.Banks.{Entry, Lost, Merged, IsDropped, IsKept}
+use Rattle.sy_rows.specs.Columns.{HasRow}
 use Rattle.sy_offer.specs.Tasks.{ArePointsOf}
 use Rattle.sy_bank.specs.Bank.{merged_of}
 use Rattle.sy_bank.specs.Promised.{IsBank, IsWhole, IsFull}
@@ -36,7 +37,7 @@ use Rattle.sy_history.specs.Budgets.{BankMet, MemberLeaves}
 use Rattle.sy_trial.specs.Truths.{wanted_of}
 use Rattle.sy_trial.specs.Known.{IsKnown}
 use Rattle.sy_trial.proofs.Items.{has_place}
-use Rattle.sy_synthesis.specs.Banks.{IsBankOf, IsWholeOf, IsFullOf, AreBanks, AreBuilt, IsFullBank}
+use Rattle.sy_synthesis.specs.Banks.{IsBankOf, IsWholeOf, IsFullOf, AreBanks, AreBuilt, IsFullBank, AreCarried}
 use Rattle.sy_outcome.specs.Right.{Leaves}
 use Rattle.sy_outcome.specs.declared.outcome.LoopRange.{LoopRange}
 use Rattle.sy_outcome.specs.declared.outcome.LoopRange.TheVariants.{Member, Checked}
@@ -46,7 +47,7 @@ use Rattle.sy_terms.specs.declared.sort.Value.{Value}
 use Rattle.sy_terms.specs.declared.term.Term.{Term}
 use Rattle.sy_synthesis.specs.Dropping.{IsPlaced, IsDroppedBy}
 use Rattle.sy_synthesis.specs.Levels.{AreHonest}
-use Rattle.sy_synthesis.proofs.Choosing.{bank_at}
+use Rattle.sy_synthesis.proofs.Choosing.{bank_at, before_or_last}
 
 -- a function's grammar fits
 pub grammar_fits : {T N : Type 0} (owned : Op → Bool) (numeric : Sort → Bool) (number : N → Val) (problem : Problem T N) (function : ℕ) (wanted : Wanted T N) → GrammarsFit owned numeric number problem → slice_get problem.wanted function ≡ Some wanted → GrammarFits owned numeric number problem wanted
@@ -87,15 +88,6 @@ pub record AreFirst (question : Question) (limits : Limits) (asked : Asked) (lev
 pub no_banks : (question : Question) (limits : Limits) (asked : Asked) (level : ℕ) → AreFirst question limits asked level 0 []
 no_banks question limits asked level = record { each = λ place bank at. absurd (cc); whole = λ place bank at. absurd (cc); all = refl }
 
-before_or_last : {X : Type 0} (xs : List X) (x : X) (place : ℕ) (k : X) → slice_get (xs ++ x ∷ []) place ≡ Some k → (slice_get xs place ≡ Some k) ⊎ ((place ≡ length xs) × (x ≡ k))
-before_or_last [] x zero k e = inr (refl, cc)
-before_or_last [] x (suc place) k e = absurd (cc)
-before_or_last (y ∷ xs) x zero k e = inl e
-before_or_last (y ∷ xs) x (suc place) k e = ⊎_elim
-    (λ (old : slice_get xs place ≡ Some k). inl old)
-    (λ (last : (place ≡ length xs) × (x ≡ k)). inr (ap suc last.0, last.1))
-    (before_or_last xs x place k e)
-
 pub one_bank_more : (question : Question) (limits : Limits) (asked : Asked) (level function : ℕ) (banks : List Merged) (bank : Merged) → AreFirst question limits asked level function banks → IsBankOf question limits asked level function bank → IsWholeOf question function bank →
     AreFirst question limits asked level (function + 1) (banks ++ bank ∷ [])
 one_bank_more question limits asked level function banks bank first of whole = record {
@@ -130,10 +122,27 @@ pub full_of : {T N : Type 0} (number : N → Val) (problem : Problem T N) (limit
     IsFull (syntax_from number wanted.grammar) (functions (bodies number problem.defs)) (vals_of number problem.pool) limits.bank bank nonterminal next → IsFullOf (question_of number problem) limits function bank nonterminal next
 full_of number problem limits function wanted bank nonterminal next at full = record { goal = goal_of number wanted; at = goal_at number problem function wanted at; full = full }
 
+from_map : {A B : Type 0} (f : A → B) (xs : List A) (k : ℕ) (y : B) → slice_get (map f xs) k ≡ Some y → (x : A) × (slice_get xs k ≡ Some x) × (f x ≡ y)
+from_map f [] k y at = absurd (cc)
+from_map f (x ∷ xs) zero y at = (x, refl, cc)
+from_map f (x ∷ xs) (suc k) y at = from_map f xs k y at
+
 -- honest banks
-pub honest_banks : (question : Question) (limits : Limits) (asked : Asked) (level : ℕ) (banks : List Merged) → AreBanks question limits asked level banks → AreHonest question banks
-honest_banks question limits asked level banks are = record {
-  each = λ function bank at. let of = are.each function bank at in record { goal = of.goal; at = of.at; honest = of.is.honest };
+pub honest_banks : {T N : Type 0} (owned : Op → Bool) (number : N → Val) (problem : Problem T N) (limits : Limits) (asked : Asked) (level : ℕ) (banks : List (Bank T N)) → AreBanks (question_of number problem) limits asked level (map (merged_of number) banks) → AreCarried owned number problem limits level banks →
+    AreHonest (scope_of owned problem.defs) (question_of number problem) asked (map (merged_of number) banks)
+honest_banks {T} {N} owned number problem limits asked level banks are carried = record {
+  each = λ function bank at.
+      let of = are.each function bank at in
+      let found = from_map (merged_of number) banks function bank at in
+      let wanted = from_map (goal_of number) problem.wanted function of.goal of.at in
+      let built = (carried function wanted.0 found.0 wanted.1 found.1).built in
+      record {
+        goal = of.goal;
+        at = of.at;
+        over = of.is.over;
+        honest = of.is.honest;
+        rows = subst (λ (b : Merged). (entry : Entry) → IsKept b.levels 0 entry → HasRow (scope_of owned problem.defs) (functions (bodies number problem.defs)) b.points entry.term entry.row) found.2 (λ entry kept. built.ready.rows 0 entry kept);
+      };
   all = are.all;
 }
 

@@ -13,7 +13,7 @@ use sy_bank::Bank;
 use sy_grammar::Problem;
 use sy_limits::Limits;
 use sy_outcome::LoopRange;
-use sy_terms::{Seq, Theory, Want, copied_values};
+use sy_terms::{Theory, Want, copied_values};
 use sy_trial::Known;
 
 /// A term that one of the banks dropped, at the tuple where it leaves the 128 bits; `None` exactly where none did.
@@ -22,7 +22,7 @@ pub(crate) fn dropped_term<T: Theory>(
     problem: &Problem<T>,
     limits: &Limits,
     functions: u32,
-    banks: &Seq<Bank<T>>,
+    banks: &[Bank<T>],
     known: &Known<T>,
 ) -> Result<Option<LoopRange<T>>, Want>
     requires functions { functions ≡ length banks.now }

@@ -1,5 +1,5 @@
 // One round of a search: the bodies of one size together, up to what ends the round.
-ghost use Rattle.std.specs.Prelude.{◌≡◌, ◌≤◌, length, map, IfOk};
+ghost use Rattle.std.specs.Prelude.{◌+◌, ◌≡◌, ◌≤◌, length, map, IfOk};
 ghost use Rattle.sy_grammar.specs.Questions.{question_of};
 ghost use Rattle.sy_build.specs.Problems.{ProblemFits};
 ghost use Rattle.sy_bank.specs.Bank.{merged_of};
@@ -7,12 +7,14 @@ ghost use Rattle.sy_candidates.specs.Grammars.{GrammarsFit, HasNegation};
 ghost use Rattle.sy_history.specs.Stored.{history_of};
 ghost use Rattle.sy_outcome.specs.Right.{IsRight};
 ghost use Rattle.sy_trial.specs.Known.{IsKnown};
-ghost use Rattle.sy_synthesis.specs.Banks.{AreBanks};
-ghost use Rattle.sy_synthesis.specs.Rounds.{Rounds};
+ghost use Rattle.sy_merging.specs.Agreeing.{AssumptionsFit};
+ghost use Rattle.sy_merging.specs.Refuting.{AreDoneBelow};
+ghost use Rattle.sy_synthesis.specs.Banks.{AreBanks, AreCarried};
+ghost use Rattle.sy_synthesis.specs.Rounds.{AreDone, Carries, Follows, Rounds};
 
-use crate::banks::{Banks, build_banks};
+use crate::banks::{Banks, take_banks};
 use crate::dropped::dropped_term;
-use crate::level::{Task, try_rest};
+use crate::level::try_level;
 use crate::outcome::ended;
 use crate::sizes::are_at_most;
 use std::alloc::Global;
@@ -21,19 +23,19 @@ use sy_decide::Decide;
 use sy_grammar::Problem;
 use sy_limits::Limits;
 use sy_outcome::{FailCause, Outcome};
-use sy_terms::{Seq, Theory, Want};
+use sy_terms::{Theory, Want};
 use sy_trial::{Known, Step};
 
 /// How a round ends.
 #[derive(Drop)]
 pub(crate) enum Round<T: Theory, P: Drop, S: Drop> {
-    /// The search goes on at this size, with what it knows now.
-    Goes(Known<T>, u32),
+    /// The search goes on at this size, with what it knows now and these banks.
+    Goes(Known<T>, Vec<Bank<T>>, u32),
     /// The search ends.
     Ends(Outcome<T, P, S>),
 }
 
-/// Tries the bodies whose sizes sum to `level`.
+/// Tries the bodies whose sizes sum to `level`. Banks of an earlier round are carried on.
 pub(crate) fn run_round<T: Theory, D: Decide<T>>(
     alloc: Global,
     problem: &Problem<T>,
@@ -41,6 +43,7 @@ pub(crate) fn run_round<T: Theory, D: Decide<T>>(
     functions: u32,
     decide: &mut D,
     known: Known<T>,
+    carried: Vec<Bank<T>>,
     level: u32,
 ) -> Result<Round<T, D::Proof, D::Spent>, Want>
     requires problem { ProblemFits T.owned T.numeric T.denotes problem.now }
@@ -49,37 +52,45 @@ pub(crate) fn run_round<T: Theory, D: Decide<T>>(
     requires functions { functions ≡ length problem.now.wanted }
     requires known { IsKnown (question_of T.denotes problem.now) limits.now (history_of T.denotes known.stored) known.points }
     requires level { level ≤ limits.now.size }
-    ensures { IfOk result (Rounds T.owned T.denotes D.accepted D.budget D.shows (question_of T.denotes problem.now) limits.now (history_of T.denotes known.stored) known.points level) }
+    requires carried { AreCarried T.owned T.denotes problem.now limits.now level carried.items }
+    requires assumptions { AssumptionsFit T.owned (question_of T.denotes problem.now) }
+    requires done { AreDoneBelow (question_of T.denotes problem.now) (history_of T.denotes known.stored) known.points level }
+    ensures round { IfOk result (Rounds T.owned T.denotes D.accepted D.budget D.shows (question_of T.denotes problem.now) limits.now (history_of T.denotes known.stored) known.points level) }
+    ensures carries { IfOk result (Carries T.owned T.denotes problem.now limits.now) }
+    ensures done { IfOk result (AreDone T.denotes (question_of T.denotes problem.now)) }
+    ensures follows { IfOk result (Follows T.denotes (question_of T.denotes problem.now) limits.now level) }
 {
     let mut known = known;
     if known.stored.len() >= limits.rounds as usize {
         return Ok(Round::Ends(Outcome::Fail(FailCause::Rounds(known.stored))));
     }
-    let banks = match build_banks(alloc, problem, limits, functions, &known, level)? {
+    let banks = match take_banks(alloc, problem, limits, functions, &known, carried, level)? {
         Banks::Built(banks) => banks,
         Banks::Full(function, bank, nonterminal, next) => {
             let cause = FailCause::Bank(known.stored, function, bank, nonterminal, next);
             return Ok(Round::Ends(Outcome::Fail(cause)));
         }
     };
-    let task = Task {
+    match try_level(
         alloc,
         problem,
         limits,
-        banks: banks.as_slice(),
-    };
-    match try_rest(&task, decide, Seq::new(alloc), level, &mut known)? {
+        decide,
+        banks.as_slice(),
+        level,
+        &mut known,
+    )? {
         Step::Next => {}
-        Step::Again => return Ok(Round::Goes(known, level)),
+        Step::Again => return Ok(Round::Goes(known, banks, level)),
         Step::End(end) => {
             let outcome = ended::<T, D>(alloc, problem, limits, end, known)?;
             return Ok(Round::Ends(outcome));
         }
     }
     if level < limits.size {
-        return Ok(Round::Goes(known, level + 1));
+        return Ok(Round::Goes(known, banks, level + 1));
     }
-    let outcome = exhausted::<T, D>(alloc, problem, limits, functions, &banks, known)?;
+    let outcome = exhausted::<T, D>(alloc, problem, limits, functions, banks.as_slice(), known)?;
     Ok(Round::Ends(outcome))
 }
 
@@ -89,12 +100,13 @@ fn exhausted<T: Theory, D: Decide<T>>(
     problem: &Problem<T>,
     limits: &Limits,
     functions: u32,
-    banks: &Seq<Bank<T>>,
+    banks: &[Bank<T>],
     known: Known<T>,
 ) -> Result<Outcome<T, D::Proof, D::Spent>, Want>
     requires functions { functions ≡ length banks.now }
     requires banks { AreBanks (question_of T.denotes problem.now) limits.now known.points limits.now.size (map (merged_of T.denotes) banks.now) }
     requires known { IsKnown (question_of T.denotes problem.now) limits.now (history_of T.denotes known.stored) known.points }
+    requires done { AreDoneBelow (question_of T.denotes problem.now) (history_of T.denotes known.stored) known.points (limits.now.size + 1) }
     ensures { IfOk result (IsRight T.owned T.denotes D.accepted D.budget D.shows (question_of T.denotes problem.now) limits.now) }
 {
     if let Some(left) = dropped_term(alloc, problem, limits, functions, banks, &known)? {

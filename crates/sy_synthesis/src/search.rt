@@ -4,6 +4,7 @@ ghost use Rattle.sy_grammar.specs.Questions.{question_of};
 ghost use Rattle.sy_build.specs.Problems.{ProblemFits};
 ghost use Rattle.sy_candidates.specs.Grammars.{GrammarsFit, HasNegation};
 ghost use Rattle.sy_outcome.specs.Right.{IsRight};
+ghost use Rattle.sy_merging.specs.Agreeing.{AssumptionsFit};
 
 use crate::round::{Round, run_round};
 use std::alloc::{AllocError, Global};
@@ -27,6 +28,7 @@ pub fn synthesise<T: Theory, D: Decide<T>>(
     requires problem { ProblemFits T.owned T.numeric T.denotes problem.now }
     requires grammars { GrammarsFit T.owned T.numeric T.denotes problem.now }
     requires negation { HasNegation T.numeric T.owned }
+    requires assumptions { AssumptionsFit T.owned (question_of T.denotes problem.now) }
     ensures { IfOk result (IsRight T.owned T.denotes D.accepted D.budget D.shows (question_of T.denotes problem.now) limits.now) }
 {
     if problem.wanted.len() > u32::MAX as usize {
@@ -37,11 +39,15 @@ pub fn synthesise<T: Theory, D: Decide<T>>(
         stored: Stored::new(alloc),
         points: Points::new(alloc, functions, limits.points)?,
     };
+    let mut banks = Vec::new(alloc);
     let mut level = 0;
     'rounds: loop {
-        match run_round(alloc, problem, limits, functions, decide, known, level)? {
-            Round::Goes(more, next) => {
+        match run_round(
+            alloc, problem, limits, functions, decide, known, banks, level,
+        )? {
+            Round::Goes(more, carried, next) => {
                 known = more;
+                banks = carried;
                 level = next;
             }
             Round::Ends(outcome) => return Ok(outcome),

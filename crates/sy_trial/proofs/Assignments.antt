@@ -1,33 +1,31 @@
 -- Candidates at the assignments of a history.
-use Rattle.std.proofs.Common.{◌≡◌, ◌<◌, ◌≤◌, ◌++◌, ⊎_elim, inl, inr, refl, ap, sym, subst, ◌∙◌, ℕ, zero, suc, List, [], ◌∷◌, length, map, arith, slice_get, Some}
-use Rattle.std.specs.Prelude.{◌⊎◌}
+use Rattle.std.proofs.Common.{◌≡◌, ◌<◌, ◌++◌, ⊎_elim, ap, sym, subst, ◌∙◌, ℕ, List, [], ◌∷◌, length, map, slice_get, Some}
 use Rattle.std.specs.Option.{option_map}
-use Rattle.std.specs.List.{All, Contains}
-use Rattle.std.proofs.lemmas.List.{length-map}
-use Rattle.std.proofs.lemmas.Option.{slice_get-map, slice_get_within}
-use Rattle.std.proofs.lemmas.List.Elements.{All-contains, Contains-append_left, Contains-append_right}
+use Rattle.std.specs.List.{Contains}
+use Rattle.std.proofs.lemmas.Option.{slice_get-map}
+use Rattle.std.proofs.lemmas.List.Elements.{Contains-append_left, Contains-append_right}
 use Rattle.sy_terms.specs.Values.{Val}
 use Rattle.sy_terms.specs.Expr.{Expr}
-use Rattle.sy_terms.specs.Meaning.{Function, functions, function_from, asked}
-use Rattle.sy_terms.specs.Fitting.{Signature}
+use Rattle.sy_terms.specs.Meaning.{functions, function_from, asked}
 use Rattle.sy_terms.specs.declared.sort.Value.{Value}
 use Rattle.sy_terms.specs.declared.term.Term.{Term}
 use Rattle.sy_limits.specs.declared.Limits.{Limits}
-use Rattle.sy_meaning.specs.Calls.{IsCallOf}
-use Rattle.sy_grammar.specs.Questions.{Goal, Question}
+use Rattle.sy_grammar.specs.Questions.{Question}
 use Rattle.sy_grammar.specs.Solving.{AreValues}
-use Rattle.sy_points.specs.Asked.{Asked, of_function}
+use Rattle.sy_points.specs.Asked.{Asked}
 use Rattle.sy_points.specs.declared.stored.Stored.{Stored}
-use Rattle.sy_history.specs.Histories.{Counterexample, IsCandidate, IsHonest, IsMet, all_asked_by, trace}
+use Rattle.sy_history.specs.Histories.{Counterexample, IsCandidate, IsHonest, all_asked_by, trace}
 use Rattle.sy_history.specs.Stored.{counterexample_of, history_of}
-use Rattle.sy_trial.specs.Truths.{asked_by, wanted_of, IsFalse, IsViolated, OneLeaves}
-use Rattle.sy_trial.specs.Adding.{IsAsked, Gains, Adds}
+use Rattle.sy_trial.specs.Truths.{IsViolated, OneLeaves}
+use Rattle.sy_trial.specs.Adding.{Gains, Adds}
 use Rattle.sy_trial.specs.Known.{IsKnown}
-use Rattle.sy_trial.specs.Trials.{Tries, trial_of, LeavesAt}
+use Rattle.sy_trial.specs.Traces.{LeavesAt}
+use Rattle.sy_trial.specs.Trials.{Tries, trial_of}
 use Rattle.sy_trial.specs.declared.calls.Adding.{Adding}
 use Rattle.sy_trial.specs.declared.calls.Adding.TheVariants.{There, New, Full}
 use Rattle.sy_trial.proofs.Traced.{no_element, first_or_later}
 use Rattle.sy_trial.proofs.Items.{has_place}
+use Rattle.sy_trial.proofs.Asking.{within_known, known_with}
 
 -- the counterexample of this place
 pub place_of : {T N : Type 0} (number : N → Val) (stored : Stored T N) (place : ℕ) (pair : List (Value N) × List (Term T N)) → slice_get stored.items place ≡ Some pair → slice_get (history_of number stored) place ≡ Some (counterexample_of number pair)
@@ -52,34 +50,18 @@ asked_of definitions bodies values (first ∷ terms) term call of asks =
     (first_or_later first terms term of)
 
 module _ (question : Question) (limits : Limits) (history : List Counterexample) (bodies : List Expr) (c : Counterexample) (calls : List (ℕ × List Val)) (violated : IsViolated question bodies c.assignment calls) where
-  taken_at : (function : ℕ) (tuple : List Val) → Contains calls (function, tuple) → IsCallOf (wanted_of question) (function, tuple)
-  taken_at function tuple at = All-contains (IsCallOf (wanted_of question)) calls (function, tuple) violated.constraint.is.taken at
-
   traced_at : (call : ℕ × List Val) → Contains calls call → Contains (trace question bodies c.assignment) call
   traced_at call at = asked_of question.definitions bodies c.assignment question.constraints violated.constraint.term call violated.constraint.of (violated.constraint.is.only call at)
 
   -- the calls are of functions to be found
   pub calls_within : (before : Asked) → IsKnown question limits history before → (function : ℕ) (tuple : List Val) → Contains calls (function, tuple) → function < length before.tuples
   calls_within before known function tuple at =
-      let it = taken_at function tuple at in
-      omega (arith, slice_get_within (wanted_of question) function it.signature it.at, known.functions, length-map question.goals (λ (goal : Goal). goal.signature))
+      within_known question limits history bodies c calls violated.constraint.is.taken traced_at before known function tuple at
 
   -- what is known after they were added
   pub knows : (before after : Asked) (place : ℕ) → slice_get history place ≡ Some c → IsCandidate question limits.size bodies → IsKnown question limits history before → Gains calls before after → IsKnown question limits history after
-  knows before after place at candidate known gains = record {
-    honest = known.honest;
-    limit = gains.limit ∙ known.limit;
-    functions = gains.functions ∙ known.functions;
-    bounded = gains.bounded known.bounded;
-    taken = λ function tuple is. ⊎_elim
-        (λ (old : IsAsked before function tuple). known.taken function tuple old)
-        (λ (new : Contains calls (function, tuple)). taken_at function tuple new)
-        (gains.only function tuple is);
-    met = λ function tuple is. ⊎_elim
-        (λ (old : IsAsked before function tuple). known.met function tuple old)
-        (λ (new : Contains calls (function, tuple)). record { bodies = bodies; candidate = candidate; counterexample = c; stored = has_place history place c at; asks = traced_at (function, tuple) new })
-        (gains.only function tuple is);
-  }
+  knows before after place at candidate known gains =
+      known_with question limits history bodies c calls violated.constraint.is.taken traced_at before after place at candidate known gains
 
   -- what became of the bodies
   pub tried : (before after : Asked) (place : ℕ) (adding : Adding) → slice_get history place ≡ Some c → Adds calls before after adding → Tries question limits history bodies before after (trial_of adding place)

@@ -1,6 +1,6 @@
 -- What comes of a candidate.
-use Rattle.std.proofs.Common.{◌≡◌, ◌<◌, ◌≤◌, ◌+◌, ◌-◌, ◌++◌, ⊎_elim, inl, inr, refl, ap, sym, subst, ◌∙◌, ℕ, zero, suc, Bool, true, false, List, [], ◌∷◌, length, map, take, arith, slice_get, Some, Result, Ok, Err, IfOk, OnOk, slice_index_or}
-use Rattle.std.specs.Prelude.{◌⊎◌, ◌↔◌}
+use Rattle.std.proofs.Common.{◌≡◌, ◌<◌, ◌≤◌, ◌+◌, ◌-◌, ◌++◌, ⊎_elim, inl, inr, refl, ap, sym, subst, ◌∙◌, ℕ, zero, suc, Bool, true, false, List, [], ◌∷◌, length, map, take, arith, slice_get, Some, slice_index_or}
+use Rattle.std.specs.Prelude.{◌⊎◌}
 use Rattle.std.specs.Option.{option_map}
 use Rattle.std.specs.List.{All, Contains}
 use Rattle.std.proofs.lemmas.List.{length-append, length-map, map_push}
@@ -16,21 +16,25 @@ use Rattle.sy_limits.specs.declared.FailName.{FailName}
 use Rattle.sy_limits.specs.declared.Limits.{Limits}
 use Rattle.sy_grammar.specs.Trees.{tree_size}
 use Rattle.sy_grammar.specs.Questions.{Goal, Question}
-use Rattle.sy_grammar.specs.Solving.{AreValues, IsTrueUnder, Meets, Solves, AreMembers, AreWithin}
+use Rattle.sy_grammar.specs.Solving.{IsTrueUnder, Meets, AreMembers, AreWithin}
 use Rattle.sy_query.specs.Queries.{Violates}
 use Rattle.sy_decide.specs.Asked.{Query, Satisfies, IsNever}
 use Rattle.sy_build.specs.Violating.{violating, IsViolation}
-use Rattle.sy_points.specs.Asked.{Asked, of_function, IsBounded, AreDistinct}
+use Rattle.sy_points.specs.Asked.{Asked, of_function, AreDistinct}
 use Rattle.sy_points.specs.declared.stored.Stored.{Stored}
 use Rattle.sy_history.specs.Histories.{Counterexample, IsCandidate, IsDue, IsNext, IsHonest, IsMet, trace}
 use Rattle.sy_history.specs.Budgets as budgets
 use Rattle.sy_history.specs.Budgets.{PointsMet, CheckedLeaves}
 use Rattle.sy_history.specs.Solutions.{IsSolution}
 use Rattle.sy_history.specs.Stored.{counterexample_of, history_of}
-use Rattle.sy_trial.specs.Adding.{IsAsked, room}
-use Rattle.sy_trial.specs.Known.{IsKnown, left}
-use Rattle.sy_trial.specs.Trials.{AsksMore, LeavesAt}
-use Rattle.sy_trial.specs.Steps.{IsAssignment, IsEnd, Steps, HasMore, Decides}
+use Rattle.sy_trial.specs.Adding.{room}
+use Rattle.sy_trial.specs.Known.{IsKnown}
+use Rattle.sy_trial.specs.Traces.{AsksMore, LeavesAt, IsTraced, IsTracedAt}
+use Rattle.sy_trial.specs.Truths.{OneLeaves}
+use Rattle.sy_trial.specs.Steps.{Steps, Follows, IsFollowed, IsTracedOrLeaves}
+use Rattle.sy_laws.specs.Evaluation.{BodiesFit}
+use Rattle.sy_build.specs.Problems.{signatures}
+use Rattle.sy_grammar.specs.declared.problem.Problem.{Problem}
 use Rattle.sy_trial.specs.declared.step.Step.{Step}
 use Rattle.sy_trial.specs.declared.step.Step.TheVariants.{Next, Again}
 use Rattle.sy_trial.specs.declared.step.Step.TheVariants as steps
@@ -91,6 +95,13 @@ before_or_last {X} (y ∷ xs) x (suc place) k e = ⊎_elim
     (λ (last : (x ≡ k) × (take place (xs ++ x ∷ []) ≡ xs)). inr (last.0, ap (λ (rest : List X). y ∷ rest) last.1))
     (before_or_last xs x place k e)
 
+-- the history is honest and has one counterexample more, to these bodies
+pub record HasMore (question : Question) (limits : Limits) (bodies : List Expr) (before after : List Counterexample) : Type 0 where
+  pub honest : IsHonest question limits.size limits.rounds after
+  pub counterexample : Counterexample
+  pub is : after ≡ before ++ counterexample ∷ []
+  pub refutes : counterexample.bodies ≡ bodies
+
 -- one counterexample more
 honest_more : (question : Question) (size rounds : ℕ) (history : List Counterexample) (c : Counterexample) → IsHonest question size rounds history → length history < rounds → IsNext question size history c → IsHonest question size rounds (history ++ c ∷ [])
 honest_more question size rounds history c honest room next = record {
@@ -104,7 +115,7 @@ honest_more question size rounds history c honest room next = record {
 pub stored_more : {T N : Type 0} (number : N → Val) (question : Question) (limits : Limits) (before after : Stored T N) (values : List (Value N)) (terms : List (Term T N)) (query : Query) →
     after.items ≡ before.items ++ (values, terms) ∷ [] → query ≡ violating question (map (expr_of number) terms) → IsViolation question (map (expr_of number) terms) query → Satisfies query (vals_of number values) →
     IsHonest question limits.size limits.rounds (history_of number before) → length before.items < limits.rounds → IsDue question limits.size (history_of number before) (map (expr_of number) terms) →
-    HasMore question limits (history_of number before) (history_of number after)
+    HasMore question limits (map (expr_of number) terms) (history_of number before) (history_of number after)
 stored_more {T} {N} number question limits before after values terms query is query_is says satisfies honest room due =
     let bodies = map (expr_of number) terms in
     let pair : List (Value N) × List (Term T N) = (values, terms) in
@@ -119,10 +130,11 @@ stored_more {T} {N} number question limits before after values terms query is qu
       honest = subst (IsHonest question limits.size limits.rounds) (sym history_is) (honest_more question limits.size limits.rounds (history_of number before) (counterexample_of number pair) honest few next);
       counterexample = counterexample_of number pair;
       is = history_is;
+      refutes = refl;
     }
 
-known_more : (question : Question) (limits : Limits) (history history' : List Counterexample) (asked : Asked) → HasMore question limits history history' → IsKnown question limits history asked → IsKnown question limits history' asked
-known_more question limits history history' asked more known = record {
+pub known_more : (question : Question) (limits : Limits) (bodies : List Expr) (history history' : List Counterexample) (asked : Asked) → HasMore question limits bodies history history' → IsKnown question limits history asked → IsKnown question limits history' asked
+known_more question limits bodies history history' asked more known = record {
   honest = more.honest;
   limit = known.limit;
   functions = known.functions;
@@ -139,23 +151,34 @@ known_more question limits history history' asked more known = record {
       };
 }
 
-module _ {T P S N E : Type 0} (owned : Op → Bool) (number : N → Val) (accepted : Query → P → Type 0) (budget : S → FailName) (shows : Query → Limits → FailName → S → Type 0) (question : Question) (limits : Limits)
-    (history history' : List Counterexample) (asked asked' : Asked) (bodies : List Expr) where
-  -- what is known after a solver's answer
-  pub due_known : (r : Result (Step T P S N) E) → IfOk r (Decides owned number accepted budget shows question limits history history') → IsKnown question limits history asked' → OnOk r (IsKnown question limits history' asked')
-  due_known (Ok Next) decides known = absurd decides
-  due_known (Ok Again) decides known = known_more question limits history history' asked' decides known
-  due_known (Ok (steps.End end)) decides known = subst (λ h. IsKnown question limits h asked') (sym decides.0) known
-  due_known (Err e) decides known = tt
+-- the last item
+pub at_last : {X : Type 0} (xs : List X) (x : X) → slice_get (xs ++ x ∷ []) (length xs) ≡ Some x
+at_last [] x = refl
+at_last (y ∷ xs) x = at_last xs x
 
-  -- what comes of it
-  pub due_step : (r : Result (Step T P S N) E) → IfOk r (Decides owned number accepted budget shows question limits history history') → asked' ≡ asked → length history < limits.rounds → IfOk r (Steps owned number accepted budget shows question limits bodies history asked history' asked')
-  due_step (Ok Next) decides same few = absurd decides
-  due_step (Ok Again) decides same few =
-      let long : length history' ≡ length history + 1 = ap length decides.is ∙ length-append history (decides.counterexample ∷ []) in
-      omega (arith, long, few, ap room same)
-  due_step (Ok (steps.End end)) decides same few = subst (λ h. IsEnd owned number accepted budget shows question limits h asked' end) (sym decides.0) (decides.1 asked')
-  due_step (Err e) decides same few = tt
+-- the bodies stored last
+pub last_fits : {T N : Type 0} (owned : Op → Bool) (number : N → Val) (problem : Problem T N) (before after : Stored T N) (values : List (Value N)) (terms : List (Term T N)) (place : ℕ) (pair : List (Value N) × List (Term T N)) →
+    after.items ≡ before.items ++ (values, terms) ∷ [] → place ≡ length before.items → BodiesFit owned number problem.defs terms (signatures problem) → slice_get after.items place ≡ Some pair → BodiesFit owned number problem.defs pair.1 (signatures problem)
+last_fits {T} {N} owned number problem before after values terms place pair is last fit at =
+    let first : List (Value N) × List (Term T N) = (values, terms) in
+    let found : Some first ≡ Some pair = sym (at_last before.items first) ∙ ap (λ k. slice_get (before.items ++ first ∷ []) k) (sym last) ∙ ap (λ all. slice_get all place) (sym is) ∙ at in
+    let same : first ≡ pair = cc in
+    subst (λ (p : List (Value N) × List (Term T N)). BodiesFit owned number problem.defs p.1 (signatures problem)) same fit
+
+module _ {T P S N : Type 0} (owned : Op → Bool) (number : N → Val) (accepted : Query → P → Type 0) (budget : S → FailName) (shows : Query → Limits → FailName → S → Type 0) (question : Question) (limits : Limits)
+    (bodies : List Expr) (history history' : List Counterexample) (asked asked' : Asked) where
+  -- what comes of a candidate that was stored
+  pub followed : (place : ℕ) (step : Step T P S N) → HasMore question limits bodies history history' → place ≡ length history → length history < limits.rounds → Follows owned number accepted budget shows question limits place history' asked asked' step →
+      Steps owned number accepted budget shows question limits bodies history asked history' asked' step
+  followed place Next more last few follows = absurd follows
+  followed place Again more last few follows =
+      let long : length history' ≡ length history + 1 = ap length more.is ∙ length-append history (more.counterexample ∷ []) in
+      let it = follows.0 in
+      let found : Some more.counterexample ≡ Some it.counterexample =
+      sym (at_last history more.counterexample) ∙ ap (λ k. slice_get (history ++ more.counterexample ∷ []) k) (sym last) ∙ ap (λ h. slice_get h place) (sym more.is) ∙ it.at in
+      let same : more.counterexample ≡ it.counterexample = cc in
+      (omega (arith, long, few, follows.1), inr (record { counterexample = it.counterexample; is = more.is ∙ ap (λ c. history ++ c ∷ []) same; refutes = ap (λ (c : Counterexample). c.bodies) (sym same) ∙ more.refutes; followed = subst (λ b. IsTracedOrLeaves question asked' b it.counterexample.assignment) (ap (λ (c : Counterexample). c.bodies) (sym same) ∙ more.refutes) it.followed }))
+  followed place (steps.End end) more last few follows = follows
 
 -- what a function has
 bounded_at : (limit : ℕ) (lists : List (List (List Val))) (function : ℕ) → All (λ tuples. AreDistinct tuples × (length tuples ≤ limit)) lists → AreDistinct (slice_index_or lists function []) × (length (slice_index_or lists function []) ≤ limit)
@@ -199,3 +222,22 @@ checked_leaves question limits history bodies place assignment honest candidate 
       asked = at.leaves.of;
       leaves = subst (λ values. budgets.Leaves question bodies values at.leaves.term) same at.leaves.leaves;
     }
+
+same_place : (history : List Counterexample) (place : ℕ) (c k : Counterexample) → slice_get history place ≡ Some c → slice_get history place ≡ Some k → c ≡ k
+same_place history place c k at at' = let found : Some c ≡ Some k = sym at ∙ at' in cc
+
+-- what the stored bodies of a place ask is known
+pub followed_at : (question : Question) (history : List Counterexample) (asked : Asked) (place : ℕ) (c : Counterexample) → slice_get history place ≡ Some c → IsTracedAt question history asked c.bodies place → IsFollowed question history asked place
+followed_at question history asked place c at it = record {
+  counterexample = it.counterexample;
+  at = it.at;
+  followed = inl (subst (λ b. IsTraced question asked b it.counterexample.assignment) (ap (λ (k : Counterexample). k.bodies) (same_place history place c it.counterexample at it.at)) it.there);
+}
+
+-- they leave the range there
+pub followed_leaves : (question : Question) (history : List Counterexample) (asked : Asked) (place : ℕ) (c : Counterexample) → slice_get history place ≡ Some c → LeavesAt question history c.bodies place → IsFollowed question history asked place
+followed_leaves question history asked place c at it = record {
+  counterexample = it.counterexample;
+  at = it.at;
+  followed = inr (subst (λ b. OneLeaves question b it.counterexample.assignment (question.assumptions ++ question.constraints)) (ap (λ (k : Counterexample). k.bodies) (same_place history place c it.counterexample at it.at)) it.leaves);
+}

@@ -1,7 +1,7 @@
 -- Items of mapped lists.
-use Rattle.std.proofs.Common.{◌≡◌, ◌<◌, ◌≤◌, ◌+◌, ◌++◌, refl, ap, sym, subst, ◌∙◌, ℕ, zero, suc, List, [], ◌∷◌, length, map, take, get_or, arith, slice_get, Some}
+use Rattle.std.proofs.Common.{◌≡◌, ◌<◌, ◌≤◌, ◌+◌, ◌++◌, ap, sym, subst, ◌∙◌, ℕ, zero, suc, List, [], ◌∷◌, length, map, take, get_or, arith, slice_get, Some}
 use Rattle.std.specs.List.{All, Contains}
-use Rattle.std.proofs.lemmas.List.{take_more, take_all, map-append}
+use Rattle.std.proofs.lemmas.List.{take_more, take_all, map-append, map_push}
 use Rattle.std.proofs.lemmas.Option.{slice_get_within, get_or_from_slice_get}
 use Rattle.std.proofs.lemmas.List.Elements.{All-head, All-tail, All-push}
 use Rattle.sy_trial.proofs.Traced.{here, there}
@@ -33,3 +33,9 @@ has_place (y ∷ ys) (suc k) x e = there y ys x (has_place ys k x e)
 -- the same for what stands at a place
 pub all_next : {A B : Type 0} (P : B → Type 0) (f : A → B) (xs : List A) (k : ℕ) (x : A) → slice_get xs k ≡ Some x → All P (map f (take k xs)) → P (f x) → All P (map f (take (k + 1) xs))
 all_next P f xs k x at all has = all_more P f xs k x (slice_get_within xs k x at) (sym (get_or_from_slice_get xs k x x at)) all has
+
+-- one copy more
+pub copied_more : {A B : Type 0} (f : A → B) (copies xs : List A) (k : ℕ) (copy x : A) → map f copies ≡ map f (take k xs) → k < length xs → x ≡ get_or xs k x → f copy ≡ f x → map f (copies ++ copy ∷ []) ≡ map f (take (k + 1) xs)
+copied_more f copies xs k copy x same within at is =
+    let last : map f (take (k + 1) xs) ≡ map f (take k xs) ++ f x ∷ [] = rw (take_more xs k x within, ← at) (map_push f (take k xs) x) in
+    map_push f copies copy ∙ ap (λ all. all ++ f copy ∷ []) same ∙ ap (λ y. map f (take k xs) ++ y ∷ []) is ∙ sym last

@@ -1,5 +1,5 @@
 -- What evaluation finds of a problem's terms.
-use Rattle.std.proofs.Common.{◌≡◌, ◌++◌, refl, ap, sym, subst, ◌∙◌, ℕ, Bool, true, false, List, [], ◌∷◌, map, length}
+use Rattle.std.proofs.Common.{◌≡◌, ◌++◌, refl, ap, sym, subst, ◌∙◌, ℕ, Bool, true, false, List, [], ◌∷◌, map}
 use Rattle.std.specs.List.{Contains, All}
 use Rattle.std.specs.Prelude.{Some}
 use Rattle.std.proofs.lemmas.List.Elements.{All-contains, All-contains_itself, All-weaker, Contains-append_left, Contains-append_right}
@@ -10,7 +10,6 @@ use Rattle.sy_terms.specs.Definitions.{bodies}
 use Rattle.sy_terms.specs.Fitting.{Signature, sort_in}
 use Rattle.sy_terms.specs.Meaning.{Function, functions, function_from, meaning, asked, computable}
 use Rattle.sy_terms.specs.declared.op.Op.{Op}
-use Rattle.sy_terms.specs.declared.sort.Sort.{Sort}
 use Rattle.sy_terms.specs.declared.sort.Sort.TheVariants as sorts
 use Rattle.sy_terms.specs.declared.term.Term.{Term}
 use Rattle.sy_terms.specs.declared.term.Def.{Def}
@@ -54,10 +53,10 @@ module _ {T N : Type 0} (owned : Op → Bool) (number : N → Val) (problem : Pr
   means value gives =
       (gives (signatures problem) fit term_fits).meaning ∙ ap (λ fs. meaning (functions (bodies number problem.defs)) fs values (expr_of number term)) (functions_are number problem.defs terms)
 
-  asks_are : asks number problem.defs terms values (expr_of number term) ≡ asked_by (question_of number problem) (map (expr_of number) terms) values (expr_of number term)
+  pub asks_are : asks number problem.defs terms values (expr_of number term) ≡ asked_by (question_of number problem) (map (expr_of number) terms) values (expr_of number term)
   asks_are = ap (λ fs. asked (functions (bodies number problem.defs)) fs values (expr_of number term)) (functions_are number problem.defs terms)
 
-  call_taken : AsksRightly owned number problem.defs terms values (expr_of number term) → (call : ℕ × List Val) → Contains (asks number problem.defs terms values (expr_of number term)) call → IsCallOf (wanted_of (question_of number problem)) call
+  pub call_taken : AsksRightly owned number problem.defs terms values (expr_of number term) → (call : ℕ × List Val) → Contains (asks number problem.defs terms values (expr_of number term)) call → IsCallOf (wanted_of (question_of number problem)) call
   call_taken rightly call at =
       subst (λ wanted. IsCallOf wanted call) (signatures_are number problem.wanted)
       (All-contains (IsCallOf (signatures problem)) (asks number problem.defs terms values (expr_of number term)) call (rightly (signatures problem) fit term_fits) at)

@@ -1,5 +1,5 @@
 -- One tuple more.
-use Rattle.std.proofs.Common.{◌≡◌, ◌<◌, ◌≤◌, ◌+◌, ◌-◌, ◌++◌, ⊎_elim, inl, inr, refl, ap, sym, subst, ◌∙◌, ℕ, zero, suc, List, [], ◌∷◌, length, take, arith, slice_get, slice_index_or, slice_set, get_or, Some}
+use Rattle.std.proofs.Common.{◌≡◌, ◌<◌, ◌≤◌, ◌+◌, ◌++◌, ⊎_elim, inl, inr, refl, ap, sym, subst, ◌∙◌, ℕ, zero, suc, List, [], ◌∷◌, length, take, arith, slice_get, slice_index_or, slice_set, get_or, Some}
 use Rattle.std.specs.Prelude.{◌⊎◌}
 use Rattle.std.specs.List.{Contains}
 use Rattle.std.proofs.lemmas.List.{length-append, take_more, take_all}
@@ -12,7 +12,6 @@ use Rattle.sy_points.proofs.Distinct.{bounded_with}
 use Rattle.sy_trial.specs.Adding.{IsAsked, room_in, room, Gains, AreAsked, IsFull, Adds}
 use Rattle.sy_trial.specs.declared.calls.Adding.{Adding}
 use Rattle.sy_trial.specs.declared.calls.Adding.TheVariants.{There, New, Full}
-use Rattle.sy_trial.proofs.Traced.{no_element}
 use Rattle.sy_trial.proofs.Items.{has_place}
 
 abbrev pub Lists : Type 0

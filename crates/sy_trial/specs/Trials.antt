@@ -1,13 +1,14 @@
 -- What becomes of a candidate at the assignments of a history.
-use Rattle.std.specs.Prelude.{ℕ, ◌≡◌, ◌<◌, ◌≤◌, List, ◌++◌, length, slice_get, Some, Contains}
+use Rattle.std.specs.Prelude.{ℕ, ◌≡◌, ◌<◌, List, Contains}
 use Rattle.sy_terms.specs.Values.{Val}
 use Rattle.sy_terms.specs.Expr.{Expr}
 use Rattle.sy_grammar.specs.Questions.{Question}
 use Rattle.sy_limits.specs.declared.Limits.{Limits}
-use Rattle.sy_points.specs.Asked.{Asked, of_function}
-use Rattle.sy_history.specs.Histories.{Counterexample, IsDue, trace}
-use Rattle.sy_trial.specs.Adding.{IsAsked, AreAsked, room}
-use Rattle.sy_trial.specs.Truths.{IsViolated, OneLeaves}
+use Rattle.sy_points.specs.Asked.{Asked}
+use Rattle.sy_history.specs.Histories.{Counterexample, IsDue}
+use Rattle.sy_trial.specs.Adding.{AreAsked, room}
+use Rattle.sy_trial.specs.Truths.{IsViolated}
+use Rattle.sy_trial.specs.Traces.{AreTraced, AsksMore, LeavesAt}
 use Rattle.sy_trial.specs.declared.calls.Adding.{Adding}
 use Rattle.sy_trial.specs.declared.calls.Adding.TheVariants as adding
 use Rattle.sy_trial.specs.declared.calls.Adding.TheVariants.{There, New}
@@ -28,25 +29,10 @@ pub record IsRefuted (question : Question) (history : List Counterexample) (aske
   pub violated : IsViolated question bodies counterexample.assignment calls
   pub there : AreAsked calls asked
 
--- at the history's assignment of this place the bodies ask the function for one tuple more than it may have
-pub record AsksMore (question : Question) (history : List Counterexample) (asked : Asked) (bodies : List Expr) (function place : ℕ) : Type 0 where
-  pub counterexample : Counterexample
-  pub at : slice_get history place ≡ Some counterexample
-  pub tuple : List Val
-  pub asks : Contains (trace question bodies counterexample.assignment) (function, tuple)
-  pub within : function < length asked.tuples
-  pub new : IsAsked asked function tuple → ⊥
-  pub full : asked.limit ≤ length (of_function asked function)
-
--- at the history's assignment of this place an assumption or a constraint leaves the range
-pub record LeavesAt (question : Question) (history : List Counterexample) (bodies : List Expr) (place : ℕ) : Type 0 where
-  pub counterexample : Counterexample
-  pub at : slice_get history place ≡ Some counterexample
-  pub leaves : OneLeaves question bodies counterexample.assignment (question.assumptions ++ question.constraints)
-
 -- the answer
 abbrev pub Tries : Question → Limits → List Counterexample → List Expr → Asked → Asked → Trial → Type 0
-Tries question limits history bodies before after Due = IsDue question limits.size history bodies × (after ≡ before)
+Tries question limits history bodies before after Due =
+    IsDue question limits.size history bodies × AreTraced question history after bodies × (after ≡ before)
 Tries question limits history bodies before after Refuted = IsRefuted question history after bodies × (after ≡ before)
 Tries question limits history bodies before after Asks = room after < room before
 Tries question limits history bodies before after (Full function place) = AsksMore question history after bodies function place

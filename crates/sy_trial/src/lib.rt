@@ -1,7 +1,9 @@
 // The judging of candidates: at stored assignments, and where they meet the problem there, by a solver.
 #![tactic(auto)]
 
+mod asks;
 mod calls;
+mod copies;
 mod due;
 mod step;
 mod trial;

@@ -7,8 +7,10 @@ ghost use Rattle.sy_build.specs.Problems.{ProblemFits, signatures};
 ghost use Rattle.sy_history.specs.Histories.{IsCandidate};
 ghost use Rattle.sy_history.specs.Stored.{history_of};
 ghost use Rattle.sy_trial.specs.Known.{IsKnown};
-ghost use Rattle.sy_trial.specs.Steps.{Steps, IsAssignment};
+ghost use Rattle.sy_trial.specs.Steps.{Steps};
+ghost use Rattle.sy_trial.specs.Traces.{Grows};
 
+use crate::copies::assignment_at;
 use crate::due::decide_due;
 use crate::trial::{Trial, try_bodies};
 use std::alloc::Global;
@@ -16,7 +18,7 @@ use sy_decide::Decide;
 use sy_grammar::Problem;
 use sy_points::{Points, Stored};
 use sy_query::Limits;
-use sy_terms::{Bodies, Theory, Values, Want, copied_values};
+use sy_terms::{Bodies, Theory, Values, Want};
 
 /// What a search knows: the assignments that refuted candidates, and the tuples that candidates ask for.
 #[derive(Drop)]
@@ -51,7 +53,8 @@ pub enum Step<T: Theory, P: Drop, S: Drop> {
     End(End<T, P, S>),
 }
 
-/// Tries the bodies at the stored assignments; where they meet the problem at each of them, decides their query.
+/// Tries the bodies at the stored assignments. Where they meet the problem at each of them, and all that they ask there is
+/// among the points, their query is decided.
 pub fn try_candidate<T: Theory, D: Decide<T>>(
     alloc: Global,
     problem: &Problem<T>,
@@ -66,6 +69,7 @@ pub fn try_candidate<T: Theory, D: Decide<T>>(
     requires known { IsKnown (question_of T.denotes problem.now) limits.now (history_of T.denotes known.old.stored) known.old.points }
     requires room { length known.old.stored.items < limits.now.rounds }
     ensures known { OnOk result (IsKnown (question_of T.denotes problem.now) limits.now (history_of T.denotes known.new.stored) known.new.points) }
+    ensures grows { OnOk result (Grows known.old.points known.new.points) }
     ensures step { IfOk result (Steps T.owned T.denotes D.accepted D.budget D.shows (question_of T.denotes problem.now) limits.now (map (expr_of T.denotes) bodies)
         (history_of T.denotes known.old.stored) known.old.points (history_of T.denotes known.new.stored) known.new.points) }
 {
@@ -77,7 +81,10 @@ pub fn try_candidate<T: Theory, D: Decide<T>>(
         &known.stored,
         &mut known.points,
     )? {
-        Trial::Due => decide_due(alloc, problem, limits, decide, bodies, &mut known.stored),
+        Trial::Due => {
+            let step = decide_due(alloc, problem, limits, decide, bodies, known)?;
+            Ok(step)
+        }
         Trial::Refuted => Ok(Step::Next),
         Trial::Asks => Ok(Step::Again),
         Trial::Full(function, place) => {
@@ -89,19 +96,4 @@ pub fn try_candidate<T: Theory, D: Decide<T>>(
             Ok(Step::End(End::Checked(bodies, assignment)))
         }
     }
-}
-
-/// A copy of the stored assignment of this place.
-fn assignment_at<T: Theory>(
-    alloc: Global,
-    stored: &Stored<T>,
-    place: usize,
-) -> Result<Values<T>, Want>
-    requires { place < length stored.now.items }
-    ensures { IfOk result (λ values. IsAssignment T.denotes stored.now place values) }
-{
-    let Some((assignment, _)) = stored.get(place) else {
-        unreachable!();
-    };
-    copied_values::<T>(alloc, assignment.as_slice())
 }

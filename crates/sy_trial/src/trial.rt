@@ -7,8 +7,10 @@ ghost use Rattle.sy_build.specs.Problems.{ProblemFits, signatures};
 ghost use Rattle.sy_history.specs.Histories.{IsCandidate};
 ghost use Rattle.sy_history.specs.Stored.{history_of};
 ghost use Rattle.sy_trial.specs.Known.{IsKnown};
+ghost use Rattle.sy_trial.specs.Traces.{Grows};
 ghost use Rattle.sy_trial.specs.Trials.{Tries, trial_of};
 
+use crate::asks::ask_all;
 use crate::calls::{Adding, add_calls};
 use crate::truth::{Truth, judge};
 use std::alloc::Global;
@@ -20,11 +22,11 @@ use sy_terms::{Bodies, Theory, Want};
 /// What became of bodies that were tried.
 #[derive(Clone, Copy, Debug, PartialEq, Eq)]
 pub(crate) enum Trial {
-    /// They meet the problem at every stored assignment.
+    /// They meet the problem at every stored assignment, and all that they ask there was there.
     Due,
-    /// They violate it at one, and all that they ask there was there.
+    /// They violate it at one, and all that shows it was there.
     Refuted,
-    /// They violate it at one, and something that they ask there is new.
+    /// Something that they ask at one is new.
     Asks,
     /// The function of this number has as many tuples as it may, and at the stored assignment of this place they ask for
     /// one more.
@@ -33,8 +35,8 @@ pub(crate) enum Trial {
     Leaves(usize),
 }
 
-/// Tries the bodies at the stored assignments up to the first where they don't meet the problem. There what they ask for
-/// is added to the points.
+/// Tries the bodies at the stored assignments up to the first where they don't meet the problem: what shows this is added
+/// to the points. Where they meet it at all of them, what they ask at each is added.
 pub(crate) fn try_bodies<T: Theory>(
     alloc: Global,
     problem: &Problem<T>,
@@ -48,6 +50,7 @@ pub(crate) fn try_bodies<T: Theory>(
     requires candidate { IsCandidate (question_of T.denotes problem.now) limits.now.size (map (expr_of T.denotes) bodies.now) }
     requires known { IsKnown (question_of T.denotes problem.now) limits.now (history_of T.denotes stored.now) points.old }
     ensures known { OnOk result (IsKnown (question_of T.denotes problem.now) limits.now (history_of T.denotes stored.now) points.new) }
+    ensures grows { OnOk result (Grows points.old points.new) }
     ensures answer { IfOk result (Tries (question_of T.denotes problem.now) limits.now (history_of T.denotes stored.now) (map (expr_of T.denotes) bodies.now) points.old points.new) }
 {
     for place in 0..stored.len() {
@@ -63,7 +66,8 @@ pub(crate) fn try_bodies<T: Theory>(
             Truth::Leaves => return Ok(Trial::Leaves(place)),
         }
     }
-    Ok(Trial::Due)
+    let trial = ask_all(alloc, problem, limits, bodies, stored, points)?;
+    Ok(trial)
 }
 
 /// What became of bodies that violate the problem at the stored assignment of this place.

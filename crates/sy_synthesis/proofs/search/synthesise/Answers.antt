@@ -1,6 +1,8 @@
 use Rattle.std.proofs.Common.{arith, length, ◌≡◌}
 use Rattle.std.proofs.lemmas.List.{length-map}
 use Rattle.sy_grammar.specs.Questions.{question_of, goal_of}
+use Rattle.sy_merging.proofs.Done as done
+use Rattle.sy_synthesis.proofs.Carrying.{none_carried}
 use Rattle.sy_synthesis.proofs.Rounding.{nothing_known}
 use Rattle.sy_synthesis.proofs.search.synthesise.Goals as goal
 
@@ -10,6 +12,8 @@ rounds-init g c =
     record {
       known = rw c.new.ensures (nothing_known (question_of g.T.Theory.denotes c.args.problem.now) c.args.limits.now c.in_ok-new.field-0 c.len-functions.result all c.in_ok-new.ensures.tuples c.in_ok-new.ensures.limit);
       within = omega arith;
+      carried = rw c.new-banks.ensures.items (none_carried g.T.Theory.owned g.T.Theory.denotes c.args.problem.now c.args.limits.now 0);
+      done = done.begins (question_of g.T.Theory.denotes c.args.problem.now) _ _;
     }
 
 pub run_round-requires-clause-functions : goal.run_round-requires-clause-functions
@@ -17,11 +21,11 @@ run_round-requires-clause-functions g c = c.len-functions.ensures
 
 pub rounds-preserved : goal.rounds-preserved
 rounds-preserved g c =
-    let goes = rw c.in-Goes.is at c.in_ok-more.ensures in
-    record { known = goes.0; within = goes.1 }
+    let goes = rw c.in-Goes.is at c.in_ok-more.ensures.round in
+    record { known = goes.0; within = goes.1; carried = rw c.in-Goes.is at c.in_ok-more.ensures.carries; done = rw c.in-Goes.is at c.in_ok-more.ensures.done }
 
 pub rounds-smaller : goal.rounds-smaller
-rounds-smaller g c = (rw c.in-Goes.is at c.in_ok-more.ensures).2
+rounds-smaller g c = (rw c.in-Goes.is at c.in_ok-more.ensures.round).2
 
 pub returns-in-Ends : goal.returns-in-Ends
-returns-in-Ends g c = rw c.in-Ends.is at c.in_ok-more.ensures
+returns-in-Ends g c = rw c.in-Ends.is at c.in_ok-more.ensures.round

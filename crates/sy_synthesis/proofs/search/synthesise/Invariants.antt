@@ -2,6 +2,8 @@ use Rattle.std.proofs.Common.{◌≤◌}
 use Rattle.sy_grammar.specs.Questions.{question_of}
 use Rattle.sy_history.specs.Stored.{history_of}
 use Rattle.sy_trial.specs.Known.{IsKnown}
+use Rattle.sy_synthesis.specs.Banks.{AreCarried}
+use Rattle.sy_merging.specs.Refuting.{AreDoneBelow}
 use Rattle.sy_synthesis.specs.Rounds.{work}
 use Rattle.sy_synthesis.proofs.search.synthesise.Given as goal
 
@@ -12,4 +14,6 @@ abbrev pub invariant-rounds : goal.invariant-rounds
 invariant-rounds g l = record {
   known : IsKnown (question_of g.T.Theory.denotes l.problem) l.limits (history_of g.T.Theory.denotes l.known.stored) l.known.points;
   within : l.level ≤ l.limits.size;
+  done : AreDoneBelow (question_of g.T.Theory.denotes l.problem) (history_of g.T.Theory.denotes l.known.stored) l.known.points l.level;
+  carried : AreCarried g.T.Theory.owned g.T.Theory.denotes l.problem l.limits l.level l.banks.items;
 }

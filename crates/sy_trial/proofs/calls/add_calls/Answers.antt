@@ -1,11 +1,8 @@
-use Rattle.std.proofs.Common.{rules, ◌≡◌, ◌<◌, length, arith, refl, sym, ap, ◌∙◌, subst, Some, slice_get}
+use Rattle.std.proofs.Common.{◌<◌, length, arith, refl, sym, ◌∙◌}
 use Rattle.sy_terms.specs.Denoted.{vals_of}
-use Rattle.sy_points.specs.Asked as points
-use Rattle.sy_points.specs.declared.points.Added.TheVariants as added
-use Rattle.sy_trial.specs.Adding.{Gains, AreAsked}
 use Rattle.sy_trial.proofs.Traced.{no_element}
 use Rattle.sy_trial.proofs.Items.{has_place}
-use Rattle.sy_trial.proofs.Tuples.{Changed, gains_start, gains_more, there_more, changed_not, changed_new, adds_all, full_at}
+use Rattle.sy_trial.proofs.Tuples.{gains_start, gains_more, there_more, changed_not, changed_new, adds_all, full_at}
 use Rattle.sy_trial.proofs.calls.add_calls.Goals.{in-There, in-New}
 use Rattle.sy_trial.proofs.calls.add_calls.Goals as goal
 

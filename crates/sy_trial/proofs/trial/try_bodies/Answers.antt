@@ -1,4 +1,4 @@
-use Rattle.std.proofs.Common.{rules, List, ◌≡◌, map, arith, refl, sym, ap, ◌∙◌, subst, take}
+use Rattle.std.proofs.Common.{List, map, arith, refl, sym, subst}
 use Rattle.std.proofs.lemmas.List.Elements.{All-nil}
 use Rattle.sy_terms.specs.Denoted.{expr_of}
 use Rattle.sy_terms.specs.declared.sort.Value.{Value}
@@ -7,9 +7,10 @@ use Rattle.sy_grammar.specs.Questions.{question_of}
 use Rattle.sy_grammar.specs.Solving.{Meets}
 use Rattle.sy_history.specs.Histories.{Counterexample}
 use Rattle.sy_history.specs.Stored.{counterexample_of, history_of}
-use Rattle.sy_trial.specs.Known.{IsKnown}
 use Rattle.sy_trial.proofs.Items.{all_next, all_done}
 use Rattle.sy_trial.proofs.Assignments.{place_of, values_at, calls_within, knows, tried, leaves_at}
+use Rattle.sy_trial.specs.Traces.{Grows}
+use Rattle.sy_trial.proofs.Asking.{grows_by, grows_not}
 use Rattle.sy_trial.proofs.trial.try_bodies.Goals as goal
 
 pub loop-place-init : goal.loop-place-init
@@ -68,14 +69,25 @@ loop-place-preserved g c =
           (rw (c.in-True.is, c.as_slice.ensures) at c.in_ok-judge.ensures);
     }
 
-pub returns-clause-known : goal.returns-clause-known
-returns-clause-known g c = rw c.loop-place.invariant.same c.requires.known
+pub ask_all-requires-clause-due : goal.ask_all-requires-clause-due
+ask_all-requires-clause-due g c = record {
+  candidate = c.requires.candidate;
+  meets = all_done (λ (k : Counterexample). Meets (question_of g.T.Theory.denotes c.args.problem.now) (map (expr_of g.T.Theory.denotes) c.args.bodies.now) k.assignment) (counterexample_of g.T.Theory.denotes) c.args.stored.now.items c.loop-place.place (omega (arith, c.loop-place-test.false, c.len-place-end.ensures)) c.loop-place.invariant.meets;
+}
+
+pub ask_all-requires-clause-known : goal.ask_all-requires-clause-known
+ask_all-requires-clause-known g c = rw c.loop-place.invariant.same c.requires.known
 
 pub returns-clause-answer : goal.returns-clause-answer
-returns-clause-answer g c = (
-  record {
-    candidate = c.requires.candidate;
-    meets = all_done (λ (k : Counterexample). Meets (question_of g.T.Theory.denotes c.args.problem.now) (map (expr_of g.T.Theory.denotes) c.args.bodies.now) k.assignment) (counterexample_of g.T.Theory.denotes) c.args.stored.now.items c.loop-place.place (omega (arith, c.loop-place-test.false, c.len-place-end.ensures)) c.loop-place.invariant.meets;
-  },
-  c.loop-place.invariant.same,
-)
+returns-clause-answer g c = rw c.loop-place.invariant.same at c.in_ok-trial.ensures.answer
+
+pub returns-in-False-clause-grows : goal.returns-in-False-clause-grows
+returns-in-False-clause-grows g c =
+    subst (λ points. Grows points c.add_calls.new.points) c.loop-place.invariant.same
+    (grows_by c.in-False.calls c.loop-place.points c.add_calls.new.points c.in_ok-adding-in-False.ensures.gains)
+
+pub returns-in-Leaves-clause-grows : goal.returns-in-Leaves-clause-grows
+returns-in-Leaves-clause-grows g c = subst (Grows c.args.points.now) (sym c.loop-place.invariant.same) (grows_not c.args.points.now)
+
+pub returns-clause-grows : goal.returns-clause-grows
+returns-clause-grows g c = rw c.loop-place.invariant.same at c.in_ok-trial.ensures.grows

@@ -1,11 +1,8 @@
-use Rattle.std.proofs.Common.{rules, map, arith}
+use Rattle.std.proofs.Common.{map}
 use Rattle.std.proofs.lemmas.List.Elements.{All-nil}
 use Rattle.sy_terms.specs.Denoted.{expr_of, vals_of}
 use Rattle.sy_grammar.specs.Questions.{question_of}
 use Rattle.sy_grammar.specs.Solving.{IsTrueUnder}
-use Rattle.sy_build.specs.Problems.{IsTruth}
-use Rattle.sy_trial.specs.Truths.{Says}
-use Rattle.std.proofs.Common.{subst, All}
 use Rattle.sy_trial.proofs.Saying.{one_false, one_leaves}
 use Rattle.sy_trial.proofs.Items.{all_more, all_done, has_at}
 use Rattle.sy_trial.proofs.truth.all_true.Goals as goal

@@ -1,4 +1,4 @@
-use Rattle.std.proofs.Common.{rules, map, ap, Err}
+use Rattle.std.proofs.Common.{ap, Err}
 use Rattle.sy_terms.specs.Denoted.{val_of, vals_of}
 use Rattle.sy_trial.proofs.Saying.{says, says_leaves}
 use Rattle.sy_trial.proofs.truth.decide_term.Goals as goal

@@ -1,4 +1,4 @@
-use Rattle.std.proofs.Common.{rules, map, ◌≡◌}
+use Rattle.std.proofs.Common.{map}
 use Rattle.sy_terms.specs.Denoted.{expr_of, vals_of}
 use Rattle.sy_grammar.specs.Questions.{question_of}
 use Rattle.sy_trial.proofs.Saying.{judged, unassumed, assumption_leaves}

@@ -1,0 +1,4 @@
+pub mod Same
+pub mod Covered
+pub mod Refuted
+pub mod Done

@@ -1,0 +1,5 @@
+pub mod Calls
+pub mod Told
+pub mod Untold
+pub mod Telling
+pub mod Examples
