@@ -1,19 +1,22 @@
 #!/usr/bin/env bash
 # Times the derivation of bodies of 500, 1,000 and 2,000 nodes from a grammar of 64 nonterminals and 1,024 rules, which
-# has cycles of chain rules and many derivations of each sum; and of as large bodies that have no derivation.
+# has cycles of chain rules and many derivations of each sum; and of as large bodies that have no derivation. What the
+# program takes to make its input is timed with it, and so is the least time of five runs that is printed.
 # Its words, where it has some, are the numbers of nonterminals, of rules for each, and of nodes.
 set -eu
 cd "$(dirname "$0")/.."
 (cd crates/bench_derive && rt run -- 1 1 1) >/dev/null 2>&1 || true
-TIMEFORMAT='%U s'
-measure() {
-    printf '%s nonterminals, %s rules for each, %s nodes: ' "$1" "$2" "$3"
-    { time crates/bench_derive/out/bench_derive "$1" "$2" "$3"; } 2>&1 | paste -sd' '
+scratch=$(mktemp -d)
+trap 'rm -rf "$scratch"' EXIT
+. bench/measure.sh
+row() {
+    printf '%s nonterminals, %s rules for each, %s nodes: %s s\n' \
+        "$1" "$2" "$3" "$(measure crates/bench_derive/out/bench_derive "$@")"
 }
 if [ $# -eq 3 ]; then
-    measure "$@"
+    row "$@"
 else
     for nodes in 500 1000 2000; do
-        measure 64 16 "$nodes"
+        row 64 16 "$nodes"
     done
 fi

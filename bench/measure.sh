@@ -1,4 +1,4 @@
-# Read by the scripts that time a program beside one in plain Rust; they have set `scratch`, a folder of their own.
+# Read by the scripts that time a program by its user time; they have set `scratch`, a folder of their own.
 TIMEFORMAT='%U'
 # what the program printed, and after it the least user time of five runs
 measure() {

@@ -8,19 +8,15 @@ cd "$(dirname "$0")/.."
 (cd crates/bench_trees && rt run) >/dev/null 2>&1 || true
 scratch=$(mktemp -d)
 trap 'rm -rf "$scratch"' EXIT
-TIMEFORMAT='%U'
-measure() {
-    local best=
-    for _ in 1 2 3 4 5; do
-        { time crates/bench_trees/out/bench_trees "$@" >"$scratch/line"; } 2>"$scratch/time"
-        best=$(sort -n <(echo "${best:-1000}") "$scratch/time" | head -1)
-    done
-    printf 'query of %s nodes, %s facts, tree of depth %s: %s s (%s)\n' "$1" "$2" "$3" "$best" "$(cat "$scratch/line")"
+. bench/measure.sh
+row() {
+    printf 'query of %s nodes, %s facts, tree of depth %s: %s s\n' \
+        "$1" "$2" "$3" "$(measure crates/bench_trees/out/bench_trees "$@")"
 }
 if [ $# -eq 3 ]; then
-    measure "$@"
+    row "$@"
 else
-    for row in '0 100 0' '5000 100 0' '10000 100 0' '10000 200 0' '0 100 10' '0 100 11' '0 100 12' '0 50 11' '0 200 11'; do
-        measure $row
+    for words in '0 100 0' '5000 100 0' '10000 100 0' '10000 200 0' '0 100 10' '0 100 11' '0 100 12' '0 50 11' '0 200 11'; do
+        row $words
     done
 fi

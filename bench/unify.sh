@@ -1,6 +1,7 @@
 #!/usr/bin/env bash
 # Times the join of 5,000 leaves by 5,000 conditions over 512 points, beside the same join in plain Rust (rustc -O).
-# Both make the same random rows, and both print the number of leaves of their tree.
+# Both make the same random rows, and both print the number of leaves of their tree; behind it stands the least time of
+# five runs.
 set -eu
 cd "$(dirname "$0")/.."
 words=("${@:-512 5000 5000}")
@@ -9,12 +10,6 @@ scratch=$(mktemp -d)
 trap 'rm -rf "$scratch"' EXIT
 rustc -O --edition 2021 -o "$scratch/unify" bench/unify.rs
 (cd crates/bench_unify && rt run -- 1 1 1) >/dev/null 2>&1 || true
-TIMEFORMAT='%U s'
-measure() {
-    for _ in 1 2 3; do
-        printf '%s: ' "$1"
-        { time "$2" "$points" "$leaves" "$conditions"; } 2>&1 | paste -sd' '
-    done
-}
-measure sy_unify crates/bench_unify/out/bench_unify
-measure 'plain Rust' "$scratch/unify"
+. bench/measure.sh
+printf 'sy_unify: %s s\n' "$(measure crates/bench_unify/out/bench_unify "$points" "$leaves" "$conditions")"
+printf 'plain Rust: %s s\n' "$(measure "$scratch/unify" "$points" "$leaves" "$conditions")"

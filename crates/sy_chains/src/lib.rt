@@ -6,8 +6,6 @@ mod constants;
 mod greatest;
 mod leaves;
 mod table;
-#[cfg(test)]
-mod tests;
 
 pub use chains::chain_closure;
 pub use greatest::largest;

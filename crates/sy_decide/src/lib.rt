@@ -2,6 +2,8 @@
 #![tactic(auto)]
 
 mod decide;
+#[cfg(test)]
+mod tests;
 mod verdict;
 
 pub use decide::Decide;

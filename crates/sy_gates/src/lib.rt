@@ -11,8 +11,6 @@ mod quotient;
 mod shift;
 mod signed;
 mod table;
-#[cfg(test)]
-mod tests;
 mod wires;
 mod word;
 

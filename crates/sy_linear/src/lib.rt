@@ -8,8 +8,6 @@ mod comparisons;
 mod path;
 mod queries;
 mod sight;
-#[cfg(test)]
-mod tests;
 mod tree;
 mod truths;
 mod walk;

@@ -7,8 +7,6 @@ mod groups;
 mod list;
 mod predeclared;
 mod rulebook;
-#[cfg(test)]
-mod tests;
 
 pub use convert::nonterminals;
 pub use groups::Group;

@@ -11,8 +11,6 @@ mod invariant;
 mod job;
 mod step;
 mod synthesise;
-#[cfg(test)]
-mod tests;
 mod titles;
 
 pub use file::read_file;

@@ -16,8 +16,6 @@ mod rule;
 mod sorts;
 mod table;
 mod term;
-#[cfg(test)]
-mod tests;
 mod written;
 
 pub use environment::{Environment, place_among};

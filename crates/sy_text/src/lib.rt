@@ -17,8 +17,3 @@ pub use items::next_command;
 pub use lines::line_column;
 pub use sexp::{Sexp, Sexps};
 pub use writer::{write_numeral, write_sexp, write_symbol, write_vector};
-
-#[cfg(test)]
-mod second;
-#[cfg(test)]
-mod tests;

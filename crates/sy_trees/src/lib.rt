@@ -6,8 +6,6 @@ mod combination;
 mod exact;
 mod nodes;
 mod size;
-#[cfg(test)]
-mod tests;
 
 pub use checker::check_tree;
 pub use nodes::{contradicts, cut, suits};

@@ -5,8 +5,6 @@ mod choice;
 mod guide;
 mod join_tree;
 mod rows;
-#[cfg(test)]
-mod tests;
 
 pub use choice::{Choice, Joined};
 pub use join_tree::unify;

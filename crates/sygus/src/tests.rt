@@ -2,5 +2,6 @@
 mod answers;
 mod broken;
 mod budgets;
+mod large;
 mod refusals;
 mod runs;

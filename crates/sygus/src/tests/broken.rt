@@ -1,5 +1,5 @@
-// Files that are cut off or large, and reads and writes that fail.
-use super::runs::{Failing, Left, SURE, leaves};
+// Files that are cut off, and sources and sinks that give and take little or fail.
+use super::runs::{ALL, Calls, Failing, Left, SURE, leaves};
 use std::alloc::Global;
 use std::process::Abort;
 use sy_io::{MemSink, MemSource};
@@ -11,6 +11,13 @@ const EXAMPLE: &[u8] =
 
 /// The reply to it.
 const REPLY: &[u8] = b"(\n(define-fun f ((x (_ BitVec 8))) (_ BitVec 8) (bvadd x #x01))\n)\n";
+
+/// The greatest vector has none above it.
+const ABOVE: &[u8] =
+    b"(set-logic BV)\n(synth-fun f ((x (_ BitVec 8))) (_ BitVec 8)\n  ((S (_ BitVec 8)))\n  ((S (_ BitVec 8) (x (bvadd x #x01)))))\n(declare-var x (_ BitVec 8))\n(constraint (bvugt (f x) x))\n(check-synth)\n";
+
+/// A symbol in bars that doesn't end.
+const OPEN: &[u8] = b"(set-info :source |ab";
 
 /// Whether the file is refused as cut off inside a list or a symbol, or has no more than whole commands without a
 /// `check-synth`.
@@ -38,118 +45,104 @@ fn files_cut_anywhere(rt: HostRuntime) {
     }
 }
 
-/// The first read that isn't reached has number 3: one takes the bytes, and one sees the end.
+/// Each call moves one byte.
+const SLOW: Calls = Calls {
+    failing: &[],
+    piece: 1,
+};
+
+/// Each call moves one byte, and the first fails.
+const NONE: Calls = Calls {
+    failing: &[1],
+    piece: 1,
+};
+
+/// Each call moves three bytes, and the second fails.
+const SECOND: Calls = Calls {
+    failing: &[2],
+    piece: 3,
+};
+
+/// The words, the file, the calls of the source and of both sinks, and the status and bytes that are left.
+type Row = (
+    &'static str,
+    &'static [u8],
+    [Calls<'static>; 3],
+    u8,
+    &'static [u8],
+    &'static [u8],
+);
+
+/// A write that fails has the last word, whatever the status would have been.
+#[test]
+fn slow_and_failing_calls(rt: HostRuntime) {
+    let fails = b"fail: check-synth 1 Exhausted\n";
+    let open = b"refused: command 1 line 1 column 19 cause 1 Text Unclosed\n";
+    let rows: [Row; 9] = [
+        ("sygus f.sl", EXAMPLE, [SLOW; 3], 0, REPLY, b""),
+        ("sygus f.sl", ABOVE, [SLOW; 3], 1, b"fail\n", fails),
+        ("sygus f.sl", OPEN, [SLOW; 3], 2, b"", open),
+        ("sygus f.sl", EXAMPLE, [ALL, SECOND, ALL], 5, b"(\n(", b""),
+        ("sygus f.sl", ABOVE, [ALL, SLOW, NONE], 5, b"fail\n", b""),
+        ("sygus f.sl", EXAMPLE, [SLOW, SLOW, NONE], 0, REPLY, b""),
+        ("sygus f.sl", OPEN, [ALL, ALL, NONE], 5, b"", b""),
+        ("sygus", EXAMPLE, [ALL, ALL, NONE], 5, b"", b""),
+        ("sygus f.sl", EXAMPLE, [NONE, ALL, NONE], 5, b"", b""),
+    ];
+    for (line, file, [source, out, err], status, replies, lines) in rows {
+        let failing = Failing { source, out, err };
+        let left = Left {
+            status,
+            out: replies,
+            err: lines,
+        };
+        assert!(rt; leaves(&rt, rt.alloc(), line, file, &failing, &left));
+    }
+}
+
+/// The source is begun, its bytes come in pieces of 64, and one read more sees the end.
 #[test]
 fn reads_that_fail(rt: HostRuntime) {
-    let alloc = rt.alloc();
     let failed = Left {
         status: 4,
         out: b"",
         err: b"fault: read\n",
     };
-    for number in 1..3u64 {
+    let answered = Left {
+        status: 0,
+        out: REPLY,
+        err: b"",
+    };
+    let calls = EXAMPLE.len().div_ceil(64) + 2;
+    for number in 1..=calls + 1 {
         let failing = Failing {
-            reads: &[number],
+            source: Calls {
+                failing: &[number as u64],
+                piece: 64,
+            },
             ..SURE
         };
-        assert!(rt; leaves(&rt, alloc, "sygus f.sl", EXAMPLE, &failing, &failed));
+        let left = if number <= calls { failed } else { answered };
+        assert!(rt; leaves(&rt, rt.alloc(), "sygus f.sl", EXAMPLE, &failing, &left));
     }
 }
 
 /// Each write takes one byte.
 #[test]
 fn writes_that_fail(rt: HostRuntime) {
-    let alloc = rt.alloc();
-    for count in 0..REPLY.len() {
+    for count in 0..=REPLY.len() {
         let failing = Failing {
-            writes: &[count as u64 + 1],
-            piece: 1,
+            out: Calls {
+                failing: &[count as u64 + 1],
+                piece: 1,
+            },
             ..SURE
         };
         let left = Left {
-            status: 5,
+            status: if count < REPLY.len() { 5 } else { 0 },
             out: &REPLY[..count],
             err: b"",
         };
-        assert!(rt; leaves(&rt, alloc, "sygus f.sl", EXAMPLE, &failing, &left));
+        assert!(rt; leaves(&rt, rt.alloc(), "sygus f.sl", EXAMPLE, &failing, &left));
     }
-}
-
-/// The first command, and behind it so many times the others.
-fn repeated<R: Abort>(rt: &R, alloc: Global, first: &[u8], other: &[u8], count: usize) -> Vec<u8> {
-    let mut file = Vec::new(alloc);
-    file.extend_from_slice(first).expect(rt, "a file");
-    for _ in 0..count {
-        file.extend_from_slice(other).expect(rt, "a file");
-    }
-    file
-}
-
-#[test]
-fn many_questions(rt: HostRuntime) {
-    let alloc = rt.alloc();
-    let first = b"(set-logic BV)\n";
-    let other = b"(check-synth)\n";
-    let most = repeated(&rt, alloc, first, other, 16);
-    let replies = repeated(&rt, alloc, b"", b"(\n)\n", 16);
-    let left = Left {
-        status: 0,
-        out: replies.as_slice(),
-        err: b"",
-    };
-    assert!(rt; leaves(&rt, alloc, "sygus f.sl", most.as_slice(), &SURE, &left));
-    let more = repeated(&rt, alloc, first, other, 17);
-    let left = Left {
-        status: 2,
-        out: b"",
-        err: b"refused: command 18 line 18 column 2 cause 16 TooMany\n",
-    };
-    assert!(rt; leaves(&rt, alloc, "sygus f.sl", more.as_slice(), &SURE, &left));
-}
-
-#[test]
-fn large_files(rt: HostRuntime) {
-    let alloc = rt.alloc();
-    let spaces = repeated(&rt, alloc, b"", b" ", 4194304);
-    let left = Left {
-        status: 0,
-        out: b"",
-        err: b"",
-    };
-    assert!(rt; leaves(&rt, alloc, "sygus f.sl", spaces.as_slice(), &SURE, &left));
-    let more = repeated(&rt, alloc, b"", b" ", 4194305);
-    let left = Left {
-        status: 2,
-        out: b"",
-        err: b"refused: input longer than 4194304 bytes\n",
-    };
-    assert!(rt; leaves(&rt, alloc, "sygus f.sl", more.as_slice(), &SURE, &left));
-    let open = repeated(&rt, alloc, b"", b"(", 1201);
-    let left = Left {
-        status: 2,
-        out: b"",
-        err: b"refused: command 1 line 1 column 1201 cause 1 Text TooDeep\n",
-    };
-    assert!(rt; leaves(&rt, alloc, "sygus f.sl", open.as_slice(), &SURE, &left));
-}
-
-/// Definitions each of which stands for twice the one before it.
-const DOUBLING: &[u8] =
-    b"(set-logic BV)\n(define-fun a () Bool true)\n(define-fun b () Bool (and a a))\n(define-fun c () Bool (and b b))\n(define-fun d () Bool (and c c))\n(define-fun e () Bool (and d d))\n(constraint e)\n(check-synth)\n";
-
-#[test]
-fn heavy_queries(rt: HostRuntime) {
-    let alloc = rt.alloc();
-    let left = Left {
-        status: 1,
-        out: b"fail\n",
-        err: b"fail: check-synth 1 Weight\n",
-    };
-    assert!(rt; leaves(&rt, alloc, "sygus --weight 20 f.sl", DOUBLING, &SURE, &left));
-    let left = Left {
-        status: 0,
-        out: b"(\n)\n",
-        err: b"",
-    };
-    assert!(rt; leaves(&rt, alloc, "sygus f.sl", DOUBLING, &SURE, &left));
 }

@@ -13,9 +13,10 @@ const SUMS: &[u8] =
 const ABOVE: &[u8] =
     b"(set-logic BV)\n(synth-fun f ((x (_ BitVec 8))) (_ BitVec 8)\n  ((S (_ BitVec 8)))\n  ((S (_ BitVec 8) (x (bvadd x #x01)))))\n(declare-var x (_ BitVec 8))\n(constraint (bvugt (f x) x))\n(check-synth)\n";
 
-/// Twice applied, a sum with 2. The complement is tried first, and asks for a second tuple at any assignment.
+/// Twice applied, the argument again, and never the argument at once. The complement is due after the first round, and
+/// asks for a second tuple at its assignment.
 const TWICE: &[u8] =
-    b"(set-logic BV)\n(synth-fun f ((x (_ BitVec 8))) (_ BitVec 8)\n  ((S (_ BitVec 8)))\n  ((S (_ BitVec 8) (x (bvnot x) (bvadd x #x01)))))\n(declare-var x (_ BitVec 8))\n(constraint (= (f (f x)) (bvadd x #x02)))\n(check-synth)\n";
+    b"(set-logic BV)\n(synth-fun f ((x (_ BitVec 8))) (_ BitVec 8)\n  ((S (_ BitVec 8)))\n  ((S (_ BitVec 8) (x (bvneg x) (bvnot x)))))\n(declare-var x (_ BitVec 8))\n(constraint (= (f (f x)) x))\n(constraint (distinct (f x) x))\n(check-synth)\n";
 
 /// A product in either order.
 const PRODUCT: &[u8] =
@@ -53,10 +54,10 @@ fn budgets_are_named(rt: HostRuntime) {
             b"fail: check-synth 1 Points\n",
         ),
         (
-            "sygus --points 3 f.sl",
+            "sygus f.sl",
             TWICE,
             0,
-            b"(\n(define-fun f ((x (_ BitVec 8))) (_ BitVec 8) (bvadd x #x01))\n)\n",
+            b"(\n(define-fun f ((x (_ BitVec 8))) (_ BitVec 8) (bvnot x))\n)\n",
             b"",
         ),
         (

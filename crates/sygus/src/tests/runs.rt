@@ -4,23 +4,36 @@ use std::process::Abort;
 use sy_io::{MemSink, MemSource};
 use sy_run::run;
 
-/// Which reads and which writes to the output fail, numbered from 1, and the most bytes that a write takes.
-#[derive(Drop)]
-pub(crate) struct Failing<'a> {
-    pub(crate) reads: &'a [u64],
-    pub(crate) writes: &'a [u64],
+/// Which calls of a source or a sink fail, numbered from 1, and the most bytes that a call moves, at least 1.
+#[derive(Clone, Copy, Drop)]
+pub(crate) struct Calls<'a> {
+    pub(crate) failing: &'a [u64],
     pub(crate) piece: usize,
+}
+
+/// No call fails.
+pub(crate) const ALL: Calls = Calls {
+    failing: &[],
+    piece: 4096,
+};
+
+/// The calls of the source and of both sinks.
+#[derive(Clone, Copy, Drop)]
+pub(crate) struct Failing<'a> {
+    pub(crate) source: Calls<'a>,
+    pub(crate) out: Calls<'a>,
+    pub(crate) err: Calls<'a>,
 }
 
 /// No read and no write fails.
 pub(crate) const SURE: Failing = Failing {
-    reads: &[],
-    writes: &[],
-    piece: 4096,
+    source: ALL,
+    out: ALL,
+    err: ALL,
 };
 
 /// What a run should leave: its status, and the bytes on the output and on the error output.
-#[derive(Drop)]
+#[derive(Clone, Copy, Drop)]
 pub(crate) struct Left<'a> {
     pub(crate) status: u8,
     pub(crate) out: &'a [u8],
@@ -42,15 +55,21 @@ pub(crate) fn leaves<R: Abort>(
             .push(String::from_str(alloc, word).expect(rt, "a word"))
             .expect(rt, "a list");
     }
-    let mut source = MemSource::new(alloc, "f.sl", file, 4096, failing.reads).expect(
-        rt, "a source",
-    );
-    let mut out = MemSink::new(alloc, 65536, failing.piece.max(1), failing.writes).expect(
-        rt, "a sink",
-    );
-    let mut err = MemSink::new(alloc, 65536, 4096, &[]).expect(rt, "a sink");
+    let mut source = source_of(rt, alloc, file, &failing.source);
+    let mut out = sink_of(rt, alloc, &failing.out);
+    let mut err = sink_of(rt, alloc, &failing.err);
     let ended = run(alloc, words.as_slice(), &mut source, &mut out, &mut err);
     ended.status == left.status && out.written() == left.out && err.written() == left.err
+}
+
+/// A source that holds a file under the name `f.sl`.
+fn source_of<R: Abort>(rt: &R, alloc: Global, file: &[u8], calls: &Calls) -> MemSource {
+    MemSource::new(alloc, "f.sl", file, calls.piece.max(1), calls.failing).expect(rt, "a source")
+}
+
+/// A sink with room for any reply of these tests.
+fn sink_of<R: Abort>(rt: &R, alloc: Global, calls: &Calls) -> MemSink {
+    MemSink::new(alloc, 65536, calls.piece.max(1), calls.failing).expect(rt, "a sink")
 }
 
 /// A run's words, its file, and the status and bytes that it should leave.
