@@ -9,14 +9,14 @@ cd "$(dirname "$0")/.."
 scratch=$(mktemp -d)
 trap 'rm -rf "$scratch"' EXIT
 . bench/measure.sh
-row() {
+derived() {
     printf '%s nonterminals, %s rules for each, %s nodes: %s s\n' \
         "$1" "$2" "$3" "$(measure crates/bench_derive/out/bench_derive "$@")"
 }
 if [ $# -eq 3 ]; then
-    row "$@"
+    derived "$@"
 else
     for nodes in 500 1000 2000; do
-        row 64 16 "$nodes"
+        derived 64 16 "$nodes"
     done
 fi
