@@ -8,12 +8,14 @@ ghost use Rattle.sy_filling.specs.Task.{world, IsStop, state_of};
 ghost use Rattle.sy_offer.specs.Tasks.{IsTask, IsRule};
 ghost use Rattle.sy_saturated.specs.Tried.{IsTried, AllAreTried, IsFilled};
 
+use std::rc::Rc;
 use sy_choose::choose;
 use sy_filling::{Filling, Stop, Task};
 use sy_grammar::{Part, Rule};
 use sy_leaves::{LeafRule, constants, variables};
 use sy_offer::Template;
 use sy_passing::pass_chains;
+use sy_rows::copied_part;
 use sy_terms::Theory;
 
 /// Keeps what all rules give at the task's size, unless kept terms have its rows.
@@ -120,10 +122,11 @@ fn try_part<T: Theory>(
     ensures tried { OnOk result (IsTried (world T.owned T.denotes task.now) (state_of T.denotes filling.new) task.now.size nonterminal number) }
     ensures stop { IfErr result (IsStop T.denotes (world T.owned T.denotes task.now) (state_of T.denotes filling.new)) }
 {
+    let part = Rc::new(task.alloc, copied_part(task.alloc, part)?)?;
     let template = Template {
         nonterminal,
         number,
-        part,
+        part: &part,
     };
     choose(task, filling, &template)
 }

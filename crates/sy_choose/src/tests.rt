@@ -14,10 +14,12 @@ ghost use Rattle.sy_offer.specs.Tasks.{IsTask, IsSet, ArePointsOf, HasNegation};
 use crate::choose;
 use std::alloc::{AllocError, Global};
 use std::mem;
+use std::rc::Rc;
 use sy_filling::{Filling, Level, Stop, Table, Task};
 use sy_grammar::{Grammar, Non, Part, Parts, Rule, well_formed};
 use sy_integers::IntTheory;
 use sy_offer::Template;
+use sy_rows::copied_part;
 use sy_terms::{Defs, Op, Seq, Sort, Theory, Value, Values};
 
 /// An operator over the start symbol.
@@ -90,10 +92,11 @@ fn choose_all<T: Theory>(
 {
     for number in 0..rules {
         if let Some(part) = task.grammar.part(0, number) {
+            let part = Rc::new(task.alloc, copied_part(task.alloc, part)?)?;
             let template = Template {
                 nonterminal: 0,
                 number,
-                part,
+                part: &part,
             };
             choose(task, filling, &template)?;
         }

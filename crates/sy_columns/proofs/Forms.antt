@@ -34,7 +34,8 @@ use Rattle.sy_rows.specs.Columns.{column, constants, FitsAt, FitAt, HasRow, Have
 use Rattle.sy_columns.specs.Chosen.{ArePoints, AreRows, chosen_of}
 use Rattle.sy_columns.specs.declared.ends.RowEnd.{RowEnd}
 use Rattle.sy_columns.specs.declared.ends.RowEnd.TheVariants.{Lost, Want}
-use Rattle.sy_columns.proofs.Fillings.{filled-Constant, filled-Variable, filled-Occurrence, filled-Apply, filled-Invoke, first-chosen}
+use Rattle.sy_rows.proofs.Fillings.{filled-Constant, filled-Variable, filled-Occurrence, filled-Apply, filled-Invoke}
+use Rattle.sy_columns.proofs.Fillings.{first-chosen}
 use Rattle.sy_columns.specs.Found.{IsApplied, IsOneLostAt, WhereLost, IsLoss}
 
 -- what is at a place of a list

@@ -3,5 +3,5 @@ pub mod ByPoint
 pub mod Pieces
 pub mod Weights
 pub mod Forms
-pub mod Copies
-mod Paired
+pub mod Paired
+pub mod Growing

@@ -1,57 +1,74 @@
--- Two rows, place by place.
-use Rattle.std.specs.Prelude.{ℕ, ◌≡◌, ◌<◌, ◌≤◌, false, List, [], ◌∷◌, length, map, refl, Result, Ok, Err, IfOk, IfErr, slice_index_or}
-use Rattle.std.proofs.Common.{arith, sym, ◌∙◌, subst}
+-- Two parts and their rows.
+use Rattle.std.specs.Prelude.{ℕ, ◌≡◌, ◌<◌, ◌≤◌, List, [], ◌∷◌, length, map, refl, slice_index_or, min}
+use Rattle.std.proofs.Common.{arith, sym, ap, ◌∙◌, take, drop, length-append}
+use Rattle.std.proofs.lemmas.List.{length-map}
+use denote.Ref.{Bor}
 use Rattle.sy_terms.specs.Values.{Val}
-use Rattle.sy_terms.specs.Theories.{fits}
-use Rattle.sy_terms.specs.Denoted.{IsSorted, vals_of}
-use Rattle.sy_terms.specs.Pairs.{pair_at, ArePairsSorted, ArePairsApplied, IsFirstUnfit}
+use Rattle.sy_terms.specs.Expr.{Exprs, Apply}
+use Rattle.sy_terms.specs.Denoted.{val_of, vals_of}
+use Rattle.sy_terms.specs.Pairs.{ArePairsSorted, ArePairsApplied, IsFirstUnfit}
+use Rattle.sy_terms.specs.Meaning.{Function}
+use Rattle.sy_terms.specs.Fitting.{Scope}
 use Rattle.sy_terms.specs.declared.op.Op.{Op}
 use Rattle.sy_terms.specs.declared.sort.Value.{Value}
-use Rattle.sy_rows.specs.Columns.{column, AreSized}
-use Rattle.sy_columns.specs.Found.{IsApplied, WhereLost}
-use Rattle.sy_columns.specs.declared.ends.RowEnd.{RowEnd}
-use Rattle.sy_columns.specs.declared.ends.RowEnd.TheVariants.{Lost, Want}
+use Rattle.sy_grammar.specs.Patterns.{occurring, all_occurring, filled, all_filled}
+use Rattle.sy_grammar.specs.Written.{pattern_of, patterns_of}
+use Rattle.sy_grammar.specs.declared.part.Part.{Part}
+use Rattle.sy_rows.specs.Rows.{IsLostAt}
+use Rattle.sy_rows.specs.Covering.{terms}
+use Rattle.sy_rows.specs.Columns.{FitsAt, HasRow, HaveRows}
+use Rattle.sy_rows.specs.declared.kept.Kept.{Kept}
+use Rattle.sy_rows.proofs.Fillings.{all_filled-none}
+use Rattle.sy_columns.specs.Chosen.{chosen_of}
+use Rattle.sy_columns.proofs.Forms.{apply-sorted, apply-row, apply-lost}
+use Rattle.sy_columns.proofs.Pieces.{rows-none, rows-next}
 
+-- the two of a list of two
 two-items : {X : Type 0} (xs : List X) (x y : X) → 2 ≤ length xs → length xs < 3 → x ≡ slice_index_or xs 0 x → y ≡ slice_index_or xs 1 y → xs ≡ x ∷ y ∷ []
 two-items [] x y h k e f = absurd (omega arith)
 two-items (a ∷ []) x y h k e f = absurd (omega arith)
 two-items (a ∷ b ∷ []) x y h k e f = cc
 two-items (a ∷ b ∷ c ∷ r) x y h k e f = absurd (omega arith)
 
--- the values of two rows
-pub two-rows : {N X : Type 0} (number : N → Val) (f : X → List (Value N)) (rows : List X) (a b : X) (first second : List (Value N)) → 2 ≤ length rows → length rows < 3 → a ≡ slice_index_or rows 0 a → b ≡ slice_index_or rows 1 b → first ≡ f a → second ≡ f b →
-    map (λ r. vals_of number (f r)) rows ≡ vals_of number first ∷ vals_of number second ∷ []
-two-rows number f rows a b first second least most a_is b_is first_is second_is =
-    rw (two-items rows a b least most a_is b_is, first_is, second_is) refl
+pub pair-items : {X : Type 0} (all xs : List X) (x y : X) → xs ≡ all → 2 ≤ length xs → length xs < 3 → x ≡ slice_index_or xs 0 x → y ≡ slice_index_or xs 1 y → all ≡ x ∷ y ∷ []
+pair-items all xs x y same h k e f = sym same ∙ two-items xs x y h k e f
 
--- they are of one length, at whose places the operator has values
-pub first-sized : (count : ℕ) (rows : List (List Val)) (x y : List Val) → rows ≡ x ∷ y ∷ [] → AreSized count rows → length x ≡ count
-first-sized count rows x y e sized = (subst (AreSized count) e sized) 0 x refl
+-- the first takes as many chosen terms as it has places
+pub pair-used : {T N : Type 0} (number : N → Val) (first second : Part T N) (used count : ℕ) → length (all_occurring (patterns_of number (first ∷ second ∷ []))) ≤ count → used ≡ min count (length (occurring (pattern_of number first))) →
+    used ≡ length (all_occurring (patterns_of number (take 1 (first ∷ second ∷ []))))
+pair-used number first second used count enough is =
+    omega (arith, is, enough, length-append (occurring (pattern_of number first)) (all_occurring (patterns_of number (second ∷ []))), length-append (occurring (pattern_of number first)) [])
 
-pub second-sized : (count : ℕ) (rows : List (List Val)) (x y : List Val) → rows ≡ x ∷ y ∷ [] → AreSized count rows → length y ≡ count
-second-sized count rows x y e sized = (subst (AreSized count) e sized) 1 y refl
+-- their rows, one after the other
+pub pair-rows : {T N : Type 0} (number : N → Val) (scope : Scope) (defined : List Function) (points : List (List Val)) (first second : Part T N) (chosen rest : List (Bor (Kept T N))) (used : ℕ) (left right x y : List (Value N)) →
+    used ≡ length (all_occurring (patterns_of number (take 1 (first ∷ second ∷ [])))) → rest ≡ drop used chosen → left ≡ x → right ≡ y →
+    HasRow scope defined points (filled (pattern_of number first) (terms (chosen_of number chosen))) (vals_of number x) → HasRow scope defined points (filled (pattern_of number second) (terms (chosen_of number rest))) (vals_of number y) →
+    HaveRows scope defined points (all_filled (patterns_of number (first ∷ second ∷ [])) (terms (chosen_of number chosen))) (vals_of number left ∷ vals_of number right ∷ [])
+pair-rows {T} {N} number scope defined points first second chosen rest used left right x y at same left_is right_is has_first has_second =
+    let parts = first ∷ second ∷ [] in
+    let ts = terms (chosen_of number chosen) in
+    let none : HaveRows scope defined points (all_filled (patterns_of number (take 0 parts)) ts) (map (λ (row : List Val). row) []) = rw (all_filled-none ts) (rows-none number scope defined points) in
+    let one : HaveRows scope defined points (all_filled (patterns_of number (take 1 parts)) ts) (vals_of number x ∷ []) =
+    rows-next number scope defined points parts 0 first chosen chosen 0 (λ (row : List Val). row) [] (vals_of number x) (omega arith) refl refl refl none has_first in
+    rw (left_is, right_is) (rows-next number scope defined points parts 1 second chosen rest used (λ (row : List Val). row) (vals_of number x ∷ []) (vals_of number y) (omega arith) refl at same one has_second)
 
-pub two-sorted : (operator : Op) (count : ℕ) (rows : List (List Val)) (x y : List Val) → rows ≡ x ∷ y ∷ [] → AreSized count rows → ((k : ℕ) → k < count → IsSorted operator (column rows k)) → ArePairsSorted operator x y
-two-sorted operator count rows x y e sized sorted place within =
-    let long = first-sized count rows x y e sized in
-    (subst (λ rs. (k : ℕ) → k < count → IsSorted operator (column rs k)) e sorted) place (omega arith)
+-- the operator at the two rows
+pub pair-sorted : (scope : Scope) (defined : List Function) (points : List (List Val)) (operator : Op) (arguments : Exprs) (x y : List Val) →
+    FitsAt scope points (Apply operator arguments) → HaveRows scope defined points arguments (x ∷ y ∷ []) → ArePairsSorted operator x y
+pair-sorted scope defined points operator arguments x y fit have place within = apply-sorted scope defined points operator arguments (x ∷ y ∷ []) fit have place (omega (arith, within, have.sized 0 x refl))
 
--- what is found of them is what is found of the rows
-is-applied : (operator : Op) (count : ℕ) (x y found : List Val) → length x ≡ count → ArePairsApplied operator x y found → IsApplied operator (x ∷ y ∷ []) count found
-is-applied operator count x y found long applied = record { sized = applied.sized ∙ long; each = λ k within. applied.each k (omega arith) }
+pub pair-applied : (scope : Scope) (defined : List Function) (points : List (List Val)) (operator : Op) (arguments : Exprs) (x y found : List Val) →
+    FitsAt scope points (Apply operator arguments) → HaveRows scope defined points arguments (x ∷ y ∷ []) → ArePairsApplied operator x y found → HasRow scope defined points (Apply operator arguments) found
+pair-applied scope defined points operator arguments x y found fit have applied =
+    apply-row scope defined points operator arguments (x ∷ y ∷ []) found fit have
+    (record { sized = applied.sized ∙ have.sized 0 x refl; each = λ k within. applied.each k (omega (arith, within, have.sized 0 x refl)) })
 
-pub found-applied : {A : Type 0} (operator : Op) (count : ℕ) (rows : List (List Val)) (x y : List Val) (values : A → List Val) (result : Result A RowEnd) → rows ≡ x ∷ y ∷ [] → AreSized count rows →
-    IfOk result (λ found. ArePairsApplied operator x y (values found)) → IfOk result (λ found. IsApplied operator rows count (values found))
-found-applied operator count rows x y values (Ok found) e sized applied =
-    subst (λ rs. IsApplied operator rs count (values found)) (sym e) (is-applied operator count x y (values found) (first-sized count rows x y e sized) applied)
-found-applied operator count rows x y values (Err end) e sized applied = tt
+pub pair-lost : (scope : Scope) (defined : List Function) (points : List (List Val)) (operator : Op) (arguments : Exprs) (x y : List Val) (k : ℕ) →
+    HaveRows scope defined points arguments (x ∷ y ∷ []) → IsFirstUnfit operator x y k → IsLostAt defined points (Apply operator arguments) k
+pair-lost scope defined points operator arguments x y k have lost =
+    let within = lost.within in
+    apply-lost scope defined points operator arguments (x ∷ y ∷ []) k have (omega (arith, within, have.sized 0 x refl), lost.unfit)
 
-is-lost : (operator : Op) (count : ℕ) (x y : List Val) (end : RowEnd) → length x ≡ count → WhereLost end (IsFirstUnfit operator x y) → WhereLost end (λ k. (k < count) × (fits operator (pair_at x y k) ≡ false))
-is-lost operator count x y (Lost point) long lost = let within = lost.within in (omega arith, lost.unfit)
-is-lost operator count x y Want long lost = tt
-
-pub found-lost : {A : Type 0} (operator : Op) (count : ℕ) (rows : List (List Val)) (x y : List Val) (result : Result A RowEnd) → rows ≡ x ∷ y ∷ [] → AreSized count rows →
-    IfErr result (λ end. WhereLost end (IsFirstUnfit operator x y)) → IfErr result (λ end. WhereLost end (λ k. (k < count) × (fits operator (column rows k) ≡ false)))
-found-lost operator count rows x y (Ok found) e sized lost = tt
-found-lost operator count rows x y (Err end) e sized lost =
-    subst (λ rs. WhereLost end (λ k. (k < count) × (fits operator (column rs k) ≡ false))) (sym e) (is-lost operator count x y end (first-sized count rows x y e sized) lost)
+-- a row is as long as there are points
+pub row-long : {N : Type 0} (number : N → Val) (count : ℕ) (slice row : List (Value N)) → slice ≡ row → length (vals_of number row) ≡ count → length slice ≡ count
+row-long number count slice row same long = ap length same ∙ sym (length-map row (val_of number)) ∙ long

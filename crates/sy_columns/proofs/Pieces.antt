@@ -21,7 +21,8 @@ use Rattle.sy_rows.specs.declared.kept.Kept.{Kept}
 use Rattle.sy_columns.specs.Chosen.{AreRows, chosen_of}
 use Rattle.sy_columns.specs.Found.{IsOneLostAt}
 use Rattle.sy_columns.proofs.ByPoint.{rows-last}
-use Rattle.sy_columns.proofs.Fillings.{fits-at, lost-at, filled-next, chosen-from}
+use Rattle.sy_rows.proofs.Fillings.{filled-next}
+use Rattle.sy_columns.proofs.Fillings.{fits-at, lost-at, chosen-from}
 use Rattle.sy_columns.proofs.Forms.{point-at}
 
 -- the operator belongs to the logic, where there is a point

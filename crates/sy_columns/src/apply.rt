@@ -43,14 +43,20 @@ pub fn applied_row<T: Theory>(
     ensures ok { IfOk result (λ found. IsApplied operator.now (map (λ row. vals_of T.denotes (values_of row)) rows.now) count (vals_of T.denotes found.items)) }
     ensures lost { IfErr result (λ end. WhereLost end (λ k. (k < count) × (fits operator.now (column (map (λ row. vals_of T.denotes (values_of row)) rows.now) k) ≡ false))) }
 {
-    match rows {
-        [first, second] => pair_row::<T>(alloc, operator, first.as_slice(), second.as_slice()),
-        _ => column_row::<T>(alloc, operator, rows, count),
+    let mut found = Vec::with_capacity(alloc, count)?;
+    let mut values = Vec::with_capacity(alloc, rows.len())?;
+    for number in 0..count {
+        fill::<T>(rows, number, count, &mut values)?;
+        match T::apply(operator, values.as_slice()) {
+            Applied::Is(value) => found.push(value)?,
+            Applied::OutOfRange => return Err(lost_at(number)),
+        }
     }
+    Ok(found)
 }
 
-/// The same for two rows.
-fn pair_row<T: Theory>(
+/// The operator's values at the pairs of two rows of one length, without a list of a column's values.
+pub fn pair_row<T: Theory>(
     alloc: Global,
     operator: &Op,
     first: &[Value<T::Num>],
@@ -68,29 +74,4 @@ fn pair_row<T: Theory>(
         None => Ok(found),
         Some(place) => Err(lost_at(place)),
     }
-}
-
-/// The same for any rows, one column after the other.
-fn column_row<T: Theory>(
-    alloc: Global,
-    operator: &Op,
-    rows: &[Row<'_, Value<T::Num>>],
-    count: usize,
-) -> Result<Vec<Value<T::Num>>, RowEnd>
-    requires owned { (k : ℕ) → k < count → T.owned operator.now ≡ true }
-    requires sized { AreSized count (map (λ row. vals_of T.denotes (values_of row)) rows.now) }
-    requires sorted { (k : ℕ) → k < count → IsSorted operator.now (column (map (λ row. vals_of T.denotes (values_of row)) rows.now) k) }
-    ensures ok { IfOk result (λ found. IsApplied operator.now (map (λ row. vals_of T.denotes (values_of row)) rows.now) count (vals_of T.denotes found.items)) }
-    ensures lost { IfErr result (λ end. WhereLost end (λ k. (k < count) × (fits operator.now (column (map (λ row. vals_of T.denotes (values_of row)) rows.now) k) ≡ false))) }
-{
-    let mut found = Vec::with_capacity(alloc, count)?;
-    let mut values = Vec::with_capacity(alloc, rows.len())?;
-    for number in 0..count {
-        fill::<T>(rows, number, count, &mut values)?;
-        match T::apply(operator, values.as_slice()) {
-            Applied::Is(value) => found.push(value)?,
-            Applied::OutOfRange => return Err(lost_at(number)),
-        }
-    }
-    Ok(found)
 }

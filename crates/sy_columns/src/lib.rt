@@ -7,11 +7,10 @@ mod ends;
 mod evaluated;
 mod fill;
 mod lent;
-mod places;
 mod rows;
 
 pub use ends::RowEnd;
 pub use evaluated::term_row;
-pub use fill::{copied_derivation, filled_part, node};
+pub use fill::{chosen_part, grown};
 pub use lent::Row;
 pub use rows::part_row;

@@ -1,6 +1,7 @@
 // The row of a rule's part, from those of kept terms.
-ghost use Rattle.std.specs.Prelude.{◌≡◌, ℕ, ◌<◌, ◌≤◌, true, [], All, IfOk, IfErr, length, map, slice_get, Some, replicate, List};
+ghost use Rattle.std.specs.Prelude.{◌≡◌, ℕ, ◌<◌, ◌≤◌, true, [], ◌∷◌, All, IfOk, IfErr, length, map, slice_get, Some, replicate, List};
 ghost use Rattle.sy_terms.specs.Values.{Val};
+ghost use Rattle.sy_terms.specs.Expr.{Apply};
 ghost use Rattle.sy_terms.specs.Denoted.{val_of, vals_of};
 ghost use Rattle.sy_terms.specs.Theories.{valid};
 ghost use Rattle.sy_terms.specs.Meaning.{functions, value_at_position};
@@ -15,15 +16,14 @@ ghost use Rattle.sy_columns.specs.Chosen.{chosen_of, AreRows, ArePoints};
 ghost use Rattle.sy_columns.specs.Lent.{values_of};
 ghost use Rattle.sy_columns.specs.Found.{WhereLost, IsOneLostAt};
 
-use crate::apply::applied_row;
+use crate::apply::{applied_row, pair_row};
 use crate::call::called_row;
 use crate::ends::RowEnd;
 use crate::lent::Row;
-use crate::places::places;
 use std::alloc::{AllocError, Global};
 use sy_grammar::{Part, Parts};
-use sy_rows::Kept;
-use sy_terms::{Defs, Theory, Value, Values};
+use sy_rows::{Kept, places};
+use sy_terms::{Defs, Op, Theory, Value, Values};
 
 /// A value for each point, all alike.
 fn repeated<N: Copy>(alloc: Global, value: N, count: usize) -> Result<Vec<N>, AllocError>
@@ -80,12 +80,18 @@ pub fn part_row<'a, T: Theory>(
             Ok(Row::Own(row))
         }
         Part::Non(_) => Ok(Row::Lent(chosen[0].row.as_slice())),
-        Part::App(operator, parts) => match part_rows(alloc, defs, points, parts, chosen) {
-            Ok(rows) => {
-                let row = applied_row::<T>(alloc, operator, rows.as_slice(), points.len())?;
+        Part::App(operator, parts) => match parts.as_slice() {
+            [first, second] => {
+                let row = part_pair(alloc, defs, points, operator, first, second, chosen)?;
                 Ok(Row::Own(row))
             }
-            Err(end) => Err(end),
+            _ => match part_rows(alloc, defs, points, parts, chosen) {
+                Ok(rows) => {
+                    let row = applied_row::<T>(alloc, operator, rows.as_slice(), points.len())?;
+                    Ok(Row::Own(row))
+                }
+                Err(end) => Err(end),
+            },
         },
         Part::Call(definition, parts) => match part_rows(alloc, defs, points, parts, chosen) {
             Ok(rows) => {
@@ -95,6 +101,32 @@ pub fn part_row<'a, T: Theory>(
             Err(end) => Err(end),
         },
     }
+}
+
+/// The row of the operator at two parts, from their rows at once.
+#[cycle(row)]
+fn part_pair<'a, T: Theory>(
+    alloc: Global,
+    defs: &Defs<T>,
+    points: &[Values<T>],
+    operator: &Op,
+    first: &Part<T>,
+    second: &Part<T>,
+    chosen: &[&'a Kept<T>],
+) -> Result<Vec<Value<T::Num>>, RowEnd>
+    requires definitions { DefinitionsFit T.owned T.denotes defs.now }
+    requires points { ArePoints (map (vals_of T.denotes) points.now) }
+    requires rows { AreRows (scope_of T.owned defs.now) (functions (bodies T.denotes defs.now)) (map (vals_of T.denotes) points.now) (chosen_of T.denotes chosen.now) }
+    requires enough { length (all_occurring (patterns_of T.denotes (first.now ∷ second.now ∷ []))) ≤ length chosen.now }
+    requires fits { FitsAt (scope_of T.owned defs.now) (map (vals_of T.denotes) points.now) (Apply operator.now (all_filled (patterns_of T.denotes (first.now ∷ second.now ∷ [])) (terms (chosen_of T.denotes chosen.now)))) }
+    ensures ok { IfOk result (λ row. HasRow (scope_of T.owned defs.now) (functions (bodies T.denotes defs.now)) (map (vals_of T.denotes) points.now) (Apply operator.now (all_filled (patterns_of T.denotes (first.now ∷ second.now ∷ [])) (terms (chosen_of T.denotes chosen.now)))) (vals_of T.denotes row.items)) }
+    ensures lost { IfErr result (λ end. WhereLost end (IsLostAt (functions (bodies T.denotes defs.now)) (map (vals_of T.denotes) points.now) (Apply operator.now (all_filled (patterns_of T.denotes (first.now ∷ second.now ∷ [])) (terms (chosen_of T.denotes chosen.now)))))) }
+{
+    let (_, rest) = chosen.split_at(places(first, chosen.len()));
+    let left = part_row(alloc, defs, points, first, chosen)?;
+    let right = part_row(alloc, defs, points, second, rest)?;
+    let row = pair_row::<T>(alloc, operator, left.as_slice(), right.as_slice())?;
+    Ok(row)
 }
 
 /// The rows of the parts, one after the other.

@@ -1,7 +1,6 @@
 -- A saturated bank covers: by induction over derivations, each of which is matched by one of kept terms.
-use Rattle.std.proofs.Common.{◌≡◌, ◌≤◌, ◌+◌, ℕ, List, [], ◌∷◌, refl, ap, ◌∙◌, sym, Bool, true, false, Option, Some, None, All, arith, subst}
+use Rattle.std.proofs.Common.{◌≡◌, ◌≤◌, ◌+◌, ℕ, List, [], ◌∷◌, refl, sym, Option, Some, None, All, arith, subst}
 use Rattle.std.specs.Option.{option_map}
-use Rattle.std.proofs.lemmas.List.Elements.{All-nil, All-cons, All-head, All-tail}
 use Rattle.sy_terms.specs.Values.{Val}
 use Rattle.sy_terms.specs.Expr.{Expr}
 use Rattle.sy_terms.specs.Meaning.{Function}
@@ -11,7 +10,7 @@ use Rattle.sy_grammar.specs.Trees.{Syntax, Production, Template, EachConstant, E
 use Rattle.sy_rows.specs.Rows.{IsRow}
 use Rattle.sy_rows.specs.Banks.{Entry, Merged, IsKept, IsHonest}
 use Rattle.sy_rows.specs.Covering.{IsCovered, Covers, AreKept, sizes, terms, Offers, IsSaturated}
-use Rattle.sy_coverage.proofs.Alike.{AllAlike, Alike, filled_alike, rows_alike, row_of_alike}
+use Rattle.sy_coverage.proofs.Alike.{AllAlike, filled_alike, rows_alike, row_of_alike}
 
 -- a kept term for each nonterminal, with the rows of these terms
 pub record AreCovered (syntax : Syntax) (defined : List Function) (bank : Merged) (nonterminals : List ℕ) (size : ℕ) (found : List Expr) : Type 0 where

@@ -1,27 +1,31 @@
 -- The number of a row with one value more, and tables with one place more.
-use Rattle.std.proofs.Common.{◌≡◌, ℕ, zero, suc, ◌+◌, ◌<◌, List, [], ◌∷◌, ◌++◌, length, refl, ap, sym, ◌∙◌, Some, slice_get, get_or, set, take, map, arith, replicate, Bool, true, false}
-use Rattle.std.specs.Prelude.{slice_index_or, slice_set, nat_eq, if◌then◌else◌}
+use Rattle.std.proofs.Common.{◌≡◌, ℕ, zero, suc, ◌+◌, ◌<◌, ◌≤◌, List, [], ◌∷◌, ◌++◌, length, refl, ap, sym, ◌∙◌, Some, slice_get, get_or, set, map, arith, replicate, Bool, true, false}
+use Rattle.std.specs.Prelude.{slice_index_or, slice_set, drop, nat_eq, if◌then◌else◌}
 use Rattle.std.proofs.lemmas.Bool.{eq-eqb}
-use Rattle.std.proofs.lemmas.List.{take_more}
+use Rattle.std.proofs.lemmas.List.{drop_more, drop_all}
 use Rattle.std.proofs.lemmas.Option.{none-some}
 use Rattle.sy_terms.specs.Values.{Val}
 use Rattle.sy_terms.specs.Denoted.{val_of, vals_of}
 use Rattle.sy_terms.specs.declared.sort.Value.{Value}
-use Rattle.sy_filling.specs.Hashing.{hash_from, mixed, HasPlace, IsAdded}
+use Rattle.sy_filling.specs.Hashing.{hash_from, lanes, mixed, code, HasPlace, IsAdded}
 use Rattle.sy_filling.specs.declared.table.Place.{Place}
 
-last : {N : Type 0} (number : N → Val) (seed : ℕ) (row : List (Value N)) (value : Value N) → hash_from seed (vals_of number (row ++ value ∷ [])) ≡ mixed (hash_from seed (vals_of number row)) (val_of number value)
+-- the lanes before the first value, before another, and after the last one
+pub lanes-first : {N : Type 0} (number : N → Val) (seed : ℕ) (row : List (Value N)) → hash_from seed (vals_of number row) ≡ lanes seed 0 0 (vals_of number (drop 0 row))
 unfolding hash_from
-last number seed [] value = refl
-last number seed (first ∷ row) value = last number (mixed seed (val_of number first)) row value
+lanes-first number seed row = refl
 
-pub hash-next : {N : Type 0} (number : N → Val) (seed hash : ℕ) (row : List (Value N)) (i : ℕ) (value : Value N) → i < length row → value ≡ get_or row i value → hash ≡ hash_from seed (vals_of number (take i row)) →
-    mixed hash (val_of number value) ≡ hash_from seed (vals_of number (take (i + 1) row))
-hash-next number seed hash row i value within is e = rw (take_more row i value within, ← is, last number seed (take i row) value, e) refl
+pub lanes-next : {N : Type 0} (number : N → Val) (first second third : ℕ) (row : List (Value N)) (i : ℕ) (value : Value N) → i < length row → value ≡ get_or row i value →
+    lanes first second third (vals_of number (drop i row)) ≡ lanes second third (mixed first (code (val_of number value))) (vals_of number (drop (i + 1) row))
+unfolding lanes
+lanes-next number first second third row i value within is =
+    ap (λ rest. lanes first second third (vals_of number rest)) (drop_more row i value within)
+    ∙ ap (λ v. lanes second third (mixed first (code (val_of number v))) (vals_of number (drop (i + 1) row))) (sym is)
 
-pub hash-none : {N : Type 0} (number : N → Val) (seed : ℕ) (row : List (Value N)) → seed ≡ hash_from seed (vals_of number (take 0 row))
-unfolding hash_from
-hash-none number seed row = refl
+pub lanes-last : {N : Type 0} (number : N → Val) (first second third : ℕ) (row : List (Value N)) (i : ℕ) → length row ≤ i →
+    lanes first second third (vals_of number (drop i row)) ≡ mixed (mixed first second) third
+unfolding lanes
+lanes-last number first second third row i beyond = ap (λ rest. lanes first second third (vals_of number rest)) (drop_all i row beyond)
 
 -- the places for numbers, with one place more
 end : {X : Type 0} (xs : List X) (x : X) → slice_get (xs ++ x ∷ []) (length xs) ≡ Some x

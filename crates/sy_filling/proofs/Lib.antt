@@ -1,4 +1,5 @@
 pub mod Beginnings
+pub mod Comparing
 pub mod Finding
 pub mod Hashes
 pub mod Kept

@@ -73,6 +73,13 @@ pub record IsBeyond (world : World) (state : State) (nonterminal : ℕ) (entry :
   pub right : IsRight world nonterminal (length world.levels) entry
   pub differs : IsNewRow world state nonterminal entry.row
 
+-- a term with this row is kept for the nonterminal at the place
+pub record IsThere (levels : List (List (List Entry))) (nonterminal : ℕ) (place : Place) (row : List Val) : Type 0 where
+  pub entry : Entry
+  pub nonterminal_is : place.nonterminal ≡ nonterminal
+  pub at : slice_get (kept_at levels nonterminal place.size) place.index ≡ Some entry
+  pub row_is : entry.row ≡ row
+
 -- none of the places is that of a kept term of the nonterminal with this row
 abbrev pub AreOther : List (List (List Entry)) → ℕ → List Place → List Val → Type 0
 AreOther levels nonterminal places row = (i : ℕ) (place : Place) (entry : Entry) → slice_get places i ≡ Some place → place.nonterminal ≡ nonterminal →

@@ -14,14 +14,18 @@ code (Truth truth) = if truth then 1 else 0
 code (Whole number) = if is_negative (Whole number) then 2 ^ 64 - 1 - folded (magnitude (Whole number)) else folded (magnitude (Whole number))
 code (Bits width number) = folded number
 
--- with one value more
-abbrev pub mixed : ℕ → Val → ℕ
-mixed seed value = ((seed * 11400714819323198485) % 2 ^ 64 + code value) % 2 ^ 64
+-- a number for two numbers
+abbrev pub mixed : ℕ → ℕ → ℕ
+mixed seed code = ((seed * 11400714819323198485) % 2 ^ 64 + code) % 2 ^ 64
 
--- with these values more
+-- with these values more, the next of which is mixed into the first of three numbers
+unfoldable pub lanes : ℕ → ℕ → ℕ → List Val → ℕ
+lanes first second third [] = mixed (mixed first second) third
+lanes first second third (value ∷ values) = lanes second third (mixed first (code value)) values
+
+-- a number for a seed and a row
 unfoldable pub hash_from : ℕ → List Val → ℕ
-hash_from seed [] = seed
-hash_from seed (value ∷ values) = hash_from (mixed seed value) values
+hash_from seed row = lanes seed 0 0 row
 
 -- the place is one of those for the number
 abbrev pub HasPlace : (ℕ → List Place) → ℕ → Place → Type 0

@@ -1,20 +1,21 @@
 // Finding the kept terms of one size.
-ghost use Rattle.std.specs.Prelude.{◌≡◌, ◌≢◌, ◌<◌, None, IfErr, OnOk, MatchBool, length, [], ◌∷◌, ◌++◌, slice_get};
+ghost use Rattle.std.specs.Prelude.{◌≡◌, ◌≢◌, ◌<◌, None, IfErr, OnOk, MatchBool, IsTrue, ◌↔◌, length, [], ◌∷◌, ◌++◌, slice_get};
 ghost use Rattle.std.specs.Option.{option_map};
-ghost use Rattle.sy_terms.specs.Denoted.{vals_of, expr_of};
+ghost use Rattle.sy_terms.specs.Denoted.{vals_of};
 ghost use Rattle.sy_rows.specs.Banks.{Entry, IsKept, IsDropped, kept_at};
 ghost use Rattle.sy_rows.specs.Stored.{entry_of, lost_of};
 ghost use Rattle.sy_filling.specs.Hashing.{hash_from};
 ghost use Rattle.sy_filling.specs.Places.{places_of};
-ghost use Rattle.sy_filling.specs.Filling.{IsSteady, IsRight, IsNewRow, Grows, IsDone, AreOther};
+ghost use Rattle.sy_filling.specs.Filling.{IsSteady, IsRight, IsNewRow, Grows, IsDone, IsThere, AreOther};
 ghost use Rattle.sy_filling.specs.Task.{world, IsStop, level_of, levels_of, state_of};
 
 use crate::level::Level;
+use crate::rows::same_rows;
 use crate::table::{Place, Table};
 use crate::task::Task;
 use std::alloc::AllocFailed;
 use sy_rows::{Dropped, Kept};
-use sy_terms::{Theory, Value, Want, same_values};
+use sy_terms::{Theory, Value, Want};
 
 /// Why no more terms are looked for.
 #[derive(Drop)]
@@ -61,13 +62,33 @@ impl<T: Theory> Filling<T> {
     fn at<'a>(&'a self, levels: &'a [Level<T>], place: &Place) -> Option<&'a Kept<T>>
         ensures { option_map (λ kept. entry_of T.denotes kept.now) result ≡ slice_get (kept_at (levels_of T.denotes levels.now ++ level_of T.denotes self.now.fresh ∷ []) place.now.nonterminal place.now.size) place.now.index }
     {
-        if place.size < levels.len() {
-            return levels[place.size].get(place.nonterminal, place.index);
+        let size = place.size as usize;
+        if size < levels.len() {
+            return levels[size].get(place.nonterminal as usize, place.index);
         }
-        if place.size == levels.len() {
-            return self.fresh.get(place.nonterminal, place.index);
+        if size == levels.len() {
+            return self.fresh.get(place.nonterminal as usize, place.index);
         }
         None
+    }
+
+    /// Whether a term with this row is kept for the nonterminal at this place.
+    fn is_at(
+        &self,
+        levels: &[Level<T>],
+        nonterminal: u32,
+        place: &Place,
+        row: &[Value<T::Num>],
+    ) -> bool
+        ensures { IsTrue result ↔ IsThere (levels_of T.denotes levels.now ++ level_of T.denotes self.now.fresh ∷ []) nonterminal place.now (vals_of T.denotes row.now) }
+    {
+        if place.nonterminal != nonterminal {
+            return false;
+        }
+        match self.at(levels, place) {
+            Some(kept) => same_rows::<T>(kept.row.as_slice(), row),
+            None => false,
+        }
     }
 
     /// Whether a term with this row, of which this is the number, is kept for the nonterminal.
@@ -82,14 +103,15 @@ impl<T: Theory> Filling<T> {
             ((entry : Entry) × IsKept (levels_of T.denotes levels.now ++ level_of T.denotes self.now.fresh ∷ []) nonterminal entry × (entry.row ≡ vals_of T.denotes row.now))
             (AreOther (levels_of T.denotes levels.now ++ level_of T.denotes self.now.fresh ∷ []) nonterminal (places_of self.now.table hash) (vals_of T.denotes row.now)) }
     {
-        for place in self.table.at(hash) {
-            if place.nonterminal != nonterminal as usize {
-                continue;
-            }
-            if let Some(kept) = self.at(levels, place) {
-                if same_values::<T>(kept.row.as_slice(), row) {
-                    return true;
-                }
+        let Some(first) = self.table.first(hash) else {
+            return false;
+        };
+        if self.is_at(levels, nonterminal, first, row) {
+            return true;
+        }
+        for place in self.table.others(hash) {
+            if self.is_at(levels, nonterminal, place, row) {
+                return true;
             }
         }
         false
@@ -111,7 +133,7 @@ impl<T: Theory> Filling<T> {
         requires differs { IsNewRow (world T.owned T.denotes task.now) (state_of T.denotes self.old) nonterminal (vals_of T.denotes kept.row) }
         ensures steady { OnOk result (IsSteady (world T.owned T.denotes task.now) (state_of T.denotes self.new)) }
         ensures grows { OnOk result (Grows (world T.owned T.denotes task.now) (state_of T.denotes self.old) (state_of T.denotes self.new)) }
-        ensures done { OnOk result (IsDone (world T.owned T.denotes task.now) (state_of T.denotes self.new) nonterminal task.now.size (expr_of T.denotes kept.term)) }
+        ensures done { OnOk result (IsDone (world T.owned T.denotes task.now) (state_of T.denotes self.new) nonterminal task.now.size (entry_of T.denotes kept).term) }
         ensures stop { IfErr result (IsStop T.denotes (world T.owned T.denotes task.now) (state_of T.denotes self.new)) }
     {
         if self.count >= task.cap {
@@ -121,19 +143,13 @@ impl<T: Theory> Filling<T> {
                 Err(Stop::Full(nonterminal, kept))
             };
         }
-        let nonterminal = nonterminal as usize;
-        let index = self.fresh.of(nonterminal).len();
-        let size = task.levels.len();
-        self.table.add(
-            task.alloc,
-            hash,
-            Place {
-                nonterminal,
-                size,
-                index,
-            },
-        )?;
-        self.fresh.push(nonterminal, kept)?;
+        let place = Place {
+            nonterminal,
+            size: task.size,
+            index: self.fresh.of(nonterminal as usize).len(),
+        };
+        self.table.add(task.alloc, hash, place)?;
+        self.fresh.push(nonterminal as usize, kept)?;
         self.count += 1;
         Ok(())
     }

@@ -28,15 +28,26 @@ fn code<T: Theory>(value: &Value<T::Num>) -> u64
     }
 }
 
+/// A number for both numbers.
+fn mixed(seed: u64, code: u64) -> u64
+    ensures { result ≡ spec.mixed seed code }
+{
+    seed.wrapping_mul(11400714819323198485).wrapping_add(code)
+}
+
 /// A number for the nonterminal and the row.
 pub fn row_hash<T: Theory>(nonterminal: u32, row: &[Value<T::Num>]) -> u64
     ensures { result ≡ hash_from nonterminal (vals_of T.denotes row.now) }
 {
-    let mut hash = nonterminal as u64;
+    // three lanes, so that no multiplication waits for the one before it
+    let mut first = u64::from(nonterminal);
+    let mut second = 0;
+    let mut third = 0;
     for value in row {
-        hash = hash
-            .wrapping_mul(11400714819323198485)
-            .wrapping_add(code::<T>(value));
+        let next = mixed(first, code::<T>(value));
+        first = second;
+        second = third;
+        third = next;
     }
-    hash
+    mixed(mixed(first, second), third)
 }

@@ -4,6 +4,7 @@
 mod filling;
 mod hash;
 mod level;
+mod rows;
 mod table;
 mod task;
 #[cfg(test)]

@@ -1,7 +1,6 @@
 // Where kept terms with a row may stand.
-ghost use Rattle.std.specs.Prelude.{◌≡◌, [], ℕ, OnOk, OnErr};
-ghost use Rattle.sy_filling.specs.Places.{places_of};
-ghost use Rattle.sy_filling.specs.Hashing.{IsAdded};
+ghost use Rattle.std.specs.Prelude.{ℕ, IsSome, nat_eq};
+ghost use Rattle.std.specs.HashMap.{get};
 
 use std::alloc::Global;
 use std::collections::HashMap;
@@ -10,33 +9,48 @@ use sy_terms::Want;
 /// A place among kept terms.
 #[derive(Clone, Copy)]
 pub struct Place {
-    pub nonterminal: usize,
-    pub size: usize,
+    pub nonterminal: u32,
+    pub size: u32,
     pub index: usize,
 }
 
 /// Places by the numbers of their rows.
 #[derive(Drop)]
 pub struct Table {
-    places: HashMap<u64, Vec<Place>>,
+    firsts: HashMap<u64, Place>,
+    others: HashMap<u64, Vec<Place>>,
+    ghost others_follow: { (number : ℕ) → IsSome (get nat_eq others number) → IsSome (get nat_eq firsts number) },
 }
 
 impl Table {
+    ghost use Rattle.std.specs.Prelude.{◌≡◌, [], OnOk, OnErr, slice_get, drop};
+    ghost use Rattle.std.specs.Option.{option_map};
+    ghost use Rattle.sy_filling.specs.Places.{places_of};
+    ghost use Rattle.sy_filling.specs.Hashing.{IsAdded};
+
     /// No places. It takes no memory.
     pub fn new(alloc: Global) -> Table
         ensures { (number : ℕ) → places_of result number ≡ [] }
     {
         Table {
-            places: HashMap::new(alloc),
+            firsts: HashMap::new(alloc),
+            others: HashMap::new(alloc),
         }
     }
 
-    /// The places for the number.
-    pub fn at(&self, hash: u64) -> &[Place]
-        ensures { result.now ≡ places_of self.now hash }
+    /// The first place for the number; `None` exactly where there is none.
+    pub fn first(&self, hash: u64) -> Option<&Place>
+        ensures { option_map (λ place. place.now) result ≡ slice_get (places_of self.now hash) 0 }
     {
-        match self.places.get(&hash) {
-            Some(places) => places.as_slice(),
+        self.firsts.get(&hash)
+    }
+
+    /// The places for the number after the first.
+    pub fn others(&self, hash: u64) -> &[Place]
+        ensures { result.now ≡ drop 1 (places_of self.now hash) }
+    {
+        match self.others.get(&hash) {
+            Some(others) => others.as_slice(),
             None => &[],
         }
     }
@@ -46,13 +60,17 @@ impl Table {
         ensures ok { OnOk result (IsAdded (places_of self.old) hash place (places_of self.new)) }
         ensures err { OnErr result ((number : ℕ) → places_of self.new number ≡ places_of self.old number) }
     {
-        if let Some(places) = self.places.get_mut(&hash) {
-            places.push(place)?;
+        if !self.firsts.contains_key(&hash) {
+            self.firsts.insert(hash, place)?;
             return Ok(());
         }
-        let mut places = Vec::with_capacity(alloc, 1)?;
-        places.push(place)?;
-        self.places.insert(hash, places)?;
+        if let Some(others) = self.others.get_mut(&hash) {
+            others.push(place)?;
+            return Ok(());
+        }
+        let mut others = Vec::with_capacity(alloc, 1)?;
+        others.push(place)?;
+        self.others.insert(hash, others)?;
         Ok(())
     }
 }

@@ -7,11 +7,12 @@ ghost use Rattle.sy_filling.specs.Filling.{IsSteady, Grows, IsDone};
 ghost use Rattle.sy_filling.specs.Task.{world, IsStop, state_of};
 ghost use Rattle.sy_offer.specs.Tasks.{IsTask};
 
+use std::rc::Rc;
 use sy_columns::{RowEnd, term_row};
 use sy_filling::{Filling, Stop, Task, row_hash};
 use sy_grammar::Derivation;
-use sy_rows::{Dropped, Kept};
-use sy_terms::{Term, Theory, copied_values};
+use sy_rows::{Dropped, Grown, Kept};
+use sy_terms::{Seq, Term, Theory};
 
 /// Keeps the term of the derivation, which has the task's size, unless a kept term has its row; drops it where it isn't
 /// computable.
@@ -46,10 +47,9 @@ pub fn offer_leaf<T: Theory>(
         return Ok(());
     }
     let kept = Kept {
-        term,
-        derivation,
+        grown: Rc::new(alloc, Grown::Leaf(term, derivation))?,
         size: task.size,
-        row: copied_values::<T>(alloc, row.as_slice())?,
+        row: Seq::from(row),
     };
     filling.keep(task, nonterminal, hash, kept)
 }

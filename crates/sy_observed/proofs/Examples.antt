@@ -18,10 +18,10 @@ use Rattle.sy_grammar.specs.declared.problem.Problem.{Problem}
 use Rattle.sy_build.specs.Problems.{ProblemFits, IsTruth, signatures}
 use Rattle.sy_history.specs.Histories.{Counterexample}
 use Rattle.sy_history.specs.Stored.{counterexample_of}
-use Rattle.sy_laws.specs.Evaluation.{BodiesFit}
 use Rattle.sy_points.specs.Asked.{Asked}
 use Rattle.sy_rows.specs.declared.kept.Kept.{Kept}
-use Rattle.sy_observed.specs.Observing.{terms_of, HaveRows}
+use Rattle.sy_observed.specs.Bodies.{AreBodies, bodies_of}
+use Rattle.sy_observed.specs.Observing.{HaveRows}
 use Rattle.sy_observed.specs.Refuting.{AreAssignments, AreTaken}
 
 constant-fits : {T : Type 0} (problem : Problem T ℤ) (truth : Bool) → IsTruth lia.owned Whole problem (Const (Truth truth))
@@ -51,7 +51,7 @@ assigned-fit {T} {N} number question items none cases = ⊎_elim
     cases
 
 -- no functions, no bodies, no rows, no tuples
-pub no-bodies : {T : Type 0} (problem : Problem T ℤ) (chosen : List (Bor (Kept T ℤ))) → chosen ≡ [] → problem.wanted ≡ [] → BodiesFit lia.owned Whole problem.defs (terms_of chosen) (signatures problem)
+pub no-bodies : {T : Type 0} (problem : Problem T ℤ) (chosen : List (Bor (Kept T ℤ))) → chosen ≡ [] → problem.wanted ≡ [] → AreBodies lia.owned problem.defs (bodies_of Whole chosen) (signatures problem)
 no-bodies problem chosen none wanted = rw (none, wanted) tt
 
 pub no-rows : {T : Type 0} (defs : List (Def T ℤ)) (points : Asked) (chosen : List (Bor (Kept T ℤ))) → chosen ≡ [] → HaveRows lia.owned Whole defs points chosen

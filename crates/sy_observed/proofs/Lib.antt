@@ -1,5 +1,7 @@
 pub mod Calls
+pub mod Reaching
 pub mod Told
 pub mod Untold
 pub mod Telling
 pub mod Examples
+pub mod Identity

@@ -1,5 +1,5 @@
 -- What rows tell of a problem's terms.
-use Rattle.std.proofs.Common.{◌≡◌, ◌≤◌, ◌∷◌, refl, ap, sym, subst, ◌∙◌, Bool, true, false, List, [], map, length, arith, Some, inl, inr, ⊎_elim}
+use Rattle.std.proofs.Common.{◌≡◌, ◌≤◌, ◌∷◌, refl, sym, subst, ◌∙◌, Bool, true, List, [], length, arith, Some}
 use Rattle.std.specs.List.{Contains, All}
 use Rattle.std.proofs.lemmas.List.{length-map}
 use Rattle.std.proofs.lemmas.List.Elements.{All-contains_itself, All-weaker}
@@ -9,13 +9,12 @@ use Rattle.sy_terms.specs.Expr.{Expr}
 use Rattle.sy_terms.specs.Denoted.{expr_of}
 use Rattle.sy_terms.specs.Definitions.{bodies}
 use Rattle.sy_terms.specs.Fitting.{Signature, sort_in}
-use Rattle.sy_terms.specs.Meaning.{Function, functions, function_from, meaning, asked, computable}
+use Rattle.sy_terms.specs.Meaning.{functions, meaning}
 use Rattle.sy_terms.specs.declared.op.Op.{Op}
 use Rattle.sy_terms.specs.declared.sort.Sort.TheVariants as sorts
 use Rattle.sy_terms.specs.declared.term.Def.{Def}
 use Rattle.sy_terms.specs.declared.term.Term.{Term}
-use Rattle.sy_laws.specs.Evaluation.{BodiesFit, TermFits, FitsWith, scope_with, wanted_functions}
-use Rattle.sy_laws.specs.Asking.{asks}
+use Rattle.sy_laws.specs.Evaluation.{TermFits, scope_with}
 use Rattle.sy_meaning.specs.Calls.{IsCallOf}
 use Rattle.sy_grammar.specs.Questions.{Question, goal_of, question_of}
 use Rattle.sy_grammar.specs.Solving.{AreValues, IsTrueUnder}
@@ -23,29 +22,26 @@ use Rattle.sy_grammar.specs.declared.problem.Problem.{Problem}
 use Rattle.sy_build.specs.Problems.{IsTruth, signature_of, signatures}
 use Rattle.sy_points.specs.Asked.{Asked}
 use Rattle.sy_rows.specs.declared.kept.Kept.{Kept}
-use Rattle.sy_trial.specs.Adding.{AreAsked}
 use Rattle.sy_trial.specs.Truths.{asked_by, wanted_of}
-use Rattle.sy_observed.specs.Observing.{terms_of, IsMissing, IsTold, IsUntold}
+use Rattle.sy_observed.specs.Bodies.{AreBodies, bodies_of, functions_by, FitsUnder}
+use Rattle.sy_observed.specs.Observing.{IsTold, IsUntold}
 use Rattle.sy_observed.specs.Refuting.{AreReady, IsHidden, IsShownFalse, IsOne, IsShown}
-
-functions_are : {T N : Type 0} (number : N → Val) (defs : List (Def T N)) (terms : List (Term T N)) → wanted_functions number defs terms ≡ map (function_from (functions (bodies number defs))) (map (expr_of number) terms)
-functions_are number defs [] = refl
-functions_are number defs (t ∷ terms) = ap (λ (fs : List Function). function_from (functions (bodies number defs)) (expr_of number t) ∷ fs) (functions_are number defs terms)
+use Rattle.sy_observed.proofs.Told.{bodies-length}
 
 -- as many bodies as signatures
-as_many : {T N : Type 0} (owned : Op → Bool) (number : N → Val) (defs : List (Def T N)) (terms : List (Term T N)) (wanted : List Signature) → BodiesFit owned number defs terms wanted → length terms ≡ length wanted
-as_many owned number defs [] [] fit = refl
-as_many owned number defs [] (s ∷ wanted) fit = absurd fit
-as_many owned number defs (t ∷ terms) [] fit = absurd fit
-as_many owned number defs (t ∷ terms) (s ∷ wanted) fit = omega (arith, as_many owned number defs terms wanted fit.1)
+as_many : {T N : Type 0} (owned : Op → Bool) (defs : List (Def T N)) (all : List Expr) (wanted : List Signature) → AreBodies owned defs all wanted → length all ≡ length wanted
+as_many owned defs [] [] fit = refl
+as_many owned defs [] (s ∷ wanted) fit = absurd fit
+as_many owned defs (t ∷ all) [] fit = absurd fit
+as_many owned defs (t ∷ all) (s ∷ wanted) fit = omega (arith, as_many owned defs all wanted fit.1)
 
 module _ {T N : Type 0} (owned : Op → Bool) (number : N → Val) (problem : Problem T N) (points : Asked) (chosen : List (Bor (Kept T N))) (ready : AreReady owned number problem points chosen) where
   -- each of the chosen terms has its function's tuples
   pub few : length chosen ≤ length points.tuples
   few = omega (
     arith,
-    as_many owned number problem.defs (terms_of chosen) (signatures problem) ready.fit,
-    length-map chosen (λ (kept : Bor (Kept T N)). kept.now.term),
+    as_many owned problem.defs (bodies_of number chosen) (signatures problem) ready.fit,
+    bodies-length number chosen,
     length-map problem.wanted signature_of,
     length-map problem.wanted (goal_of number),
     ready.functions,
@@ -59,43 +55,34 @@ module _ {T N : Type 0} (owned : Op → Bool) (number : N → Val) (problem : Pr
     }
 
     -- what is asked of a term that is observed
-    pub fits_with : FitsWith owned number problem.defs (terms_of chosen) values (expr_of number term)
+    pub fits_with : FitsUnder owned problem.defs (bodies_of number chosen) values (expr_of number term)
     fits_with = record { wanted = signatures problem; bodies = ready.fit; fits = term_fits }
 
-    means : (value : Val) → IsTold owned number problem.defs (terms_of chosen) points values (expr_of number term) value →
-        value ≡ meaning (functions (bodies number problem.defs)) (map (function_from (functions (bodies number problem.defs))) (map (expr_of number) (terms_of chosen))) values (expr_of number term)
-    means value told =
-        (told.gives (signatures problem) ready.fit term_fits).meaning ∙ ap (λ fs. meaning (functions (bodies number problem.defs)) fs values (expr_of number term)) (functions_are number problem.defs (terms_of chosen))
+    means : (value : Val) → IsTold owned number problem.defs (bodies_of number chosen) points values (expr_of number term) value →
+        value ≡ meaning (functions (bodies number problem.defs)) (functions_by number problem.defs (bodies_of number chosen)) values (expr_of number term)
+    means value told = (told.gives (signatures problem) ready.fit term_fits).meaning
 
-    asks_are : asks number problem.defs (terms_of chosen) values (expr_of number term) ≡ asked_by (question_of number problem) (map (expr_of number) (terms_of chosen)) values (expr_of number term)
-    asks_are = ap (λ fs. asked (functions (bodies number problem.defs)) fs values (expr_of number term)) (functions_are number problem.defs (terms_of chosen))
-
-    pub tells_true : (value : Val) → IsTold owned number problem.defs (terms_of chosen) points values (expr_of number term) value → value ≡ Truth true →
-        IsTrueUnder (question_of number problem) (map (expr_of number) (terms_of chosen)) values (expr_of number term)
+    pub tells_true : (value : Val) → IsTold owned number problem.defs (bodies_of number chosen) points values (expr_of number term) value → value ≡ Truth true →
+        IsTrueUnder (question_of number problem) (bodies_of number chosen) values (expr_of number term)
     tells_true value told is = sym (means value told) ∙ is
 
-    pub tells_false : (value : Val) → IsTold owned number problem.defs (terms_of chosen) points values (expr_of number term) value → (value ≡ Truth true → ⊥) →
-        IsShownFalse (question_of number problem) points (map (expr_of number) (terms_of chosen)) values (expr_of number term)
+    pub tells_false : (value : Val) → IsTold owned number problem.defs (bodies_of number chosen) points values (expr_of number term) value → (value ≡ Truth true → ⊥) →
+        IsShownFalse (question_of number problem) points (bodies_of number chosen) values (expr_of number term)
     tells_false value told untrue =
-        let calls = asked_by (question_of number problem) (map (expr_of number) (terms_of chosen)) values (expr_of number term) in
-        let there : AreAsked calls points = subst (λ all. AreAsked all points) asks_are told.there in
+        let calls = asked_by (question_of number problem) (bodies_of number chosen) values (expr_of number term) in
         record {
           is = record {
             untrue = λ is. untrue (means value told ∙ is);
             all = λ call at. at;
             only = λ call at. at;
-            taken = All-weaker (Contains calls) (IsCallOf (wanted_of (question_of number problem))) (λ call at. ready.taken call.0 call.1 (there call.0 call.1 at)) calls (All-contains_itself calls);
+            taken = All-weaker (Contains calls) (IsCallOf (wanted_of (question_of number problem))) (λ call at. ready.taken call.0 call.1 (told.there call.0 call.1 at)) calls (All-contains_itself calls);
           };
-          there = there;
+          there = told.there;
         }
 
-    pub tells_nothing : IsUntold number problem.defs (terms_of chosen) points values (expr_of number term) →
-        IsHidden (question_of number problem) points (map (expr_of number) (terms_of chosen)) values (expr_of number term)
-    tells_nothing untold = ⊎_elim
-        (λ (no : computable (functions (bodies number problem.defs)) (wanted_functions number problem.defs (terms_of chosen)) values (expr_of number term) ≡ false).
-        inl (sym (ap (λ fs. computable (functions (bodies number problem.defs)) fs values (expr_of number term)) (functions_are number problem.defs (terms_of chosen))) ∙ no))
-        (λ (one : IsMissing (asks number problem.defs (terms_of chosen) values (expr_of number term)) points). inr (subst (λ calls. IsMissing calls points) asks_are one))
-        untold
+    pub tells_nothing : IsUntold number problem.defs (bodies_of number chosen) points values (expr_of number term) →
+        IsHidden (question_of number problem) points (bodies_of number chosen) values (expr_of number term)
+    tells_nothing untold = untold
 
 -- a violation that is shown
 pub shown : (question : Question) (points : Asked) (all : List Expr) (values : List Val) → All (IsTrueUnder question all values) question.assumptions → IsOne (IsShownFalse question points all values) question.constraints → IsShown question points all values

@@ -4,7 +4,6 @@ use denote.Ref.{Bor}
 use Rattle.sy_terms.specs.Values.{Val}
 use Rattle.sy_terms.specs.Expr.{Expr}
 use Rattle.sy_terms.specs.declared.op.Op.{Op}
-use Rattle.sy_laws.specs.Evaluation.{BodiesFit}
 use Rattle.sy_grammar.specs.Questions.{Question, question_of}
 use Rattle.sy_grammar.specs.Solving.{AreValues, IsTrueUnder}
 use Rattle.sy_grammar.specs.declared.problem.Problem.{Problem}
@@ -16,7 +15,8 @@ use Rattle.sy_history.specs.Budgets.{Leaves}
 use Rattle.sy_history.specs.Histories.{Counterexample}
 use Rattle.sy_trial.specs.Adding.{IsAsked, AreAsked}
 use Rattle.sy_trial.specs.Truths.{asked_by, wanted_of, IsFalse, IsViolated}
-use Rattle.sy_observed.specs.Observing.{terms_of, HaveRows, IsMissing}
+use Rattle.sy_observed.specs.Bodies.{AreBodies, bodies_of}
+use Rattle.sy_observed.specs.Observing.{HaveRows, IsMissing}
 use Rattle.sy_observed.specs.declared.tell.Told.{Told}
 use Rattle.sy_observed.specs.declared.tell.Told.TheVariants.{True, False, Nothing}
 
@@ -30,7 +30,7 @@ AreAssignments question history = (place : ℕ) (c : Counterexample) → slice_g
 
 -- kept terms with their rows, one for each function to be found, as bodies of which the rows may tell
 pub record AreReady {T N : Type 0} (owned : Op → Bool) (number : N → Val) (problem : Problem T N) (asked : Asked) (chosen : List (Bor (Kept T N))) : Type 0 where
-  pub fit : BodiesFit owned number problem.defs (terms_of chosen) (signatures problem)
+  pub fit : AreBodies owned problem.defs (bodies_of number chosen) (signatures problem)
   pub rows : HaveRows owned number problem.defs asked chosen
   pub functions : length asked.tuples ≡ length (question_of number problem).goals
   pub taken : AreTaken (question_of number problem) asked

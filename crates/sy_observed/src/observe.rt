@@ -2,8 +2,8 @@
 ghost use Rattle.std.specs.Prelude.{◌≡◌, ◌≤◌, ◌++◌, length, IfOk, MatchOption};
 ghost use Rattle.sy_terms.specs.Denoted.{val_of, vals_of, AreValid, expr_of, exprs_of};
 ghost use Rattle.sy_terms.specs.Definitions.{DefinitionsFit};
-ghost use Rattle.sy_laws.specs.Evaluation.{FitsWith, AllFitWith};
-ghost use Rattle.sy_observed.specs.Observing.{terms_of, HaveRows, IsTold, AllAreTold, IsUntold, AllUntold};
+ghost use Rattle.sy_observed.specs.Bodies.{bodies_of, FitsUnder, AllFitUnder};
+ghost use Rattle.sy_observed.specs.Observing.{HaveRows, IsTold, AllAreTold, IsUntold, AllUntold};
 
 use crate::place::value_at;
 use std::alloc::Global;
@@ -27,9 +27,9 @@ pub(crate) fn observe<T: Theory>(
     requires functions { length chosen.now ≤ length points.now.tuples }
     requires rows { HaveRows T.owned T.denotes defs.now points.now chosen.now }
     requires values { AreValid T.denotes values.now }
-    requires term { FitsWith T.owned T.denotes defs.now (terms_of chosen.now) (vals_of T.denotes values.now) (expr_of T.denotes term.now) }
-    ensures { IfOk result (λ found. MatchOption found (IsUntold T.denotes defs.now (terms_of chosen.now) points.now (vals_of T.denotes values.now) (expr_of T.denotes term.now))
-        (λ value. IsTold T.owned T.denotes defs.now (terms_of chosen.now) points.now (vals_of T.denotes values.now) (expr_of T.denotes term.now) (val_of T.denotes value))) }
+    requires term { FitsUnder T.owned defs.now (bodies_of T.denotes chosen.now) (vals_of T.denotes values.now) (expr_of T.denotes term.now) }
+    ensures { IfOk result (λ found. MatchOption found (IsUntold T.denotes defs.now (bodies_of T.denotes chosen.now) points.now (vals_of T.denotes values.now) (expr_of T.denotes term.now))
+        (λ value. IsTold T.owned T.denotes defs.now (bodies_of T.denotes chosen.now) points.now (vals_of T.denotes values.now) (expr_of T.denotes term.now) (val_of T.denotes value))) }
 {
     match term {
         Term::Const(value) => Ok(Some(*value)),
@@ -83,9 +83,9 @@ fn observe_all<T: Theory>(
     requires functions { length chosen.now ≤ length points.now.tuples }
     requires rows { HaveRows T.owned T.denotes defs.now points.now chosen.now }
     requires values { AreValid T.denotes values.now }
-    requires terms { AllFitWith T.owned T.denotes defs.now (terms_of chosen.now) (vals_of T.denotes values.now) (exprs_of T.denotes terms.now.items.items) }
-    ensures { IfOk result (λ found. MatchOption found (AllUntold T.denotes defs.now (terms_of chosen.now) points.now (vals_of T.denotes values.now) (exprs_of T.denotes terms.now.items.items))
-        (λ all. AllAreTold T.owned T.denotes defs.now (terms_of chosen.now) points.now (vals_of T.denotes values.now) (exprs_of T.denotes terms.now.items.items) (vals_of T.denotes all.items))) }
+    requires terms { AllFitUnder T.owned defs.now (bodies_of T.denotes chosen.now) (vals_of T.denotes values.now) (exprs_of T.denotes terms.now.items.items) }
+    ensures { IfOk result (λ found. MatchOption found (AllUntold T.denotes defs.now (bodies_of T.denotes chosen.now) points.now (vals_of T.denotes values.now) (exprs_of T.denotes terms.now.items.items))
+        (λ all. AllAreTold T.owned T.denotes defs.now (bodies_of T.denotes chosen.now) points.now (vals_of T.denotes values.now) (exprs_of T.denotes terms.now.items.items) (vals_of T.denotes all.items))) }
 {
     let mut found = Vec::with_capacity(alloc, terms.len())?;
     for term in terms.as_slice() {

@@ -1,12 +1,11 @@
 // Candidates that rows refute.
-ghost use Rattle.std.specs.Prelude.{◌≡◌, IsTrue, false, length, map, IfOk};
-ghost use Rattle.sy_terms.specs.Denoted.{expr_of};
-ghost use Rattle.sy_laws.specs.Evaluation.{BodiesFit};
+ghost use Rattle.std.specs.Prelude.{◌≡◌, IsTrue, false, length, IfOk};
 ghost use Rattle.sy_grammar.specs.Questions.{question_of};
 ghost use Rattle.sy_build.specs.Problems.{ProblemFits, signatures};
 ghost use Rattle.sy_history.specs.Stored.{history_of};
 ghost use Rattle.sy_trial.specs.Trials.{IsRefuted};
-ghost use Rattle.sy_observed.specs.Observing.{terms_of, HaveRows};
+ghost use Rattle.sy_observed.specs.Bodies.{AreBodies, bodies_of};
+ghost use Rattle.sy_observed.specs.Observing.{HaveRows};
 ghost use Rattle.sy_observed.specs.Refuting.{AreTaken, AreAssignments, IsOpen};
 
 use crate::tell::show_violation;
@@ -26,13 +25,13 @@ pub fn are_refuted<T: Theory>(
     stored: &Stored<T>,
 ) -> Result<bool, Want>
     requires problem { ProblemFits T.owned T.numeric T.denotes problem.now }
-    requires bodies { BodiesFit T.owned T.denotes problem.now.defs (terms_of chosen.now) (signatures problem.now) }
+    requires bodies { AreBodies T.owned problem.now.defs (bodies_of T.denotes chosen.now) (signatures problem.now) }
     requires rows { HaveRows T.owned T.denotes problem.now.defs points.now chosen.now }
     requires functions { length points.now.tuples ≡ length (question_of T.denotes problem.now).goals }
     requires taken { AreTaken (question_of T.denotes problem.now) points.now }
     requires stored { AreAssignments (question_of T.denotes problem.now) (history_of T.denotes stored.now) }
-    ensures refuted { IfOk result (λ refuted. IsTrue refuted → IsRefuted (question_of T.denotes problem.now) (history_of T.denotes stored.now) points.now (map (expr_of T.denotes) (terms_of chosen.now))) }
-    ensures open { IfOk result (λ refuted. refuted ≡ false → IsOpen (question_of T.denotes problem.now) (history_of T.denotes stored.now) points.now (map (expr_of T.denotes) (terms_of chosen.now))) }
+    ensures refuted { IfOk result (λ refuted. IsTrue refuted → IsRefuted (question_of T.denotes problem.now) (history_of T.denotes stored.now) points.now (bodies_of T.denotes chosen.now)) }
+    ensures open { IfOk result (λ refuted. refuted ≡ false → IsOpen (question_of T.denotes problem.now) (history_of T.denotes stored.now) points.now (bodies_of T.denotes chosen.now)) }
 {
     for place in 0..stored.len() {
         let Some((assignment, _)) = stored.get(place) else {

@@ -1,11 +1,11 @@
 // What rows tell of the problem's terms at an assignment.
-ghost use Rattle.std.specs.Prelude.{◌≡◌, ◌↔◌, IsTrue, true, false, map, All, IfOk};
+ghost use Rattle.std.specs.Prelude.{◌≡◌, ◌↔◌, IsTrue, true, false, All, IfOk};
 ghost use Rattle.sy_terms.specs.Values as spec;
 ghost use Rattle.sy_terms.specs.Denoted.{val_of, expr_of, vals_of};
 ghost use Rattle.sy_grammar.specs.Questions.{question_of};
 ghost use Rattle.sy_grammar.specs.Solving.{AreValues, IsTrueUnder};
 ghost use Rattle.sy_build.specs.Problems.{ProblemFits, IsTruth};
-ghost use Rattle.sy_observed.specs.Observing.{terms_of};
+ghost use Rattle.sy_observed.specs.Bodies.{bodies_of};
 ghost use Rattle.sy_observed.specs.Refuting.{AreReady, Tells, IsOne, IsUnassured, IsUnrefuted, IsShown, IsOpenAt, IsShownFalse};
 
 use crate::observe::observe;
@@ -37,8 +37,8 @@ pub(crate) fn show_violation<T: Theory>(
     requires problem { ProblemFits T.owned T.numeric T.denotes problem.now }
     requires ready { AreReady T.owned T.denotes problem.now points.now chosen.now }
     requires values { AreValues problem.now.vars (vals_of T.denotes values.now) }
-    ensures shown { IfOk result (λ shown. shown ≡ true → IsShown (question_of T.denotes problem.now) points.now (map (expr_of T.denotes) (terms_of chosen.now)) (vals_of T.denotes values.now)) }
-    ensures open { IfOk result (λ shown. shown ≡ false → IsOpenAt (question_of T.denotes problem.now) points.now (map (expr_of T.denotes) (terms_of chosen.now)) (vals_of T.denotes values.now)) }
+    ensures shown { IfOk result (λ shown. shown ≡ true → IsShown (question_of T.denotes problem.now) points.now (bodies_of T.denotes chosen.now) (vals_of T.denotes values.now)) }
+    ensures open { IfOk result (λ shown. shown ≡ false → IsOpenAt (question_of T.denotes problem.now) points.now (bodies_of T.denotes chosen.now) (vals_of T.denotes values.now)) }
 {
     if !are_assumed(alloc, problem, chosen, points, values)? {
         return Ok(false);
@@ -58,8 +58,8 @@ fn are_assumed<T: Theory>(
     requires problem { ProblemFits T.owned T.numeric T.denotes problem.now }
     requires ready { AreReady T.owned T.denotes problem.now points.now chosen.now }
     requires values { AreValues problem.now.vars (vals_of T.denotes values.now) }
-    ensures assumed { IfOk result (λ assumed. assumed ≡ true → All (IsTrueUnder (question_of T.denotes problem.now) (map (expr_of T.denotes) (terms_of chosen.now)) (vals_of T.denotes values.now)) (question_of T.denotes problem.now).assumptions) }
-    ensures unassured { IfOk result (λ assumed. assumed ≡ false → IsOne (IsUnassured (question_of T.denotes problem.now) points.now (map (expr_of T.denotes) (terms_of chosen.now)) (vals_of T.denotes values.now)) (question_of T.denotes problem.now).assumptions) }
+    ensures assumed { IfOk result (λ assumed. assumed ≡ true → All (IsTrueUnder (question_of T.denotes problem.now) (bodies_of T.denotes chosen.now) (vals_of T.denotes values.now)) (question_of T.denotes problem.now).assumptions) }
+    ensures unassured { IfOk result (λ assumed. assumed ≡ false → IsOne (IsUnassured (question_of T.denotes problem.now) points.now (bodies_of T.denotes chosen.now) (vals_of T.denotes values.now)) (question_of T.denotes problem.now).assumptions) }
 {
     for term in problem.assumptions.as_slice() {
         match tell(alloc, problem, chosen, points, values, term)? {
@@ -82,8 +82,8 @@ fn is_one_false<T: Theory>(
     requires problem { ProblemFits T.owned T.numeric T.denotes problem.now }
     requires ready { AreReady T.owned T.denotes problem.now points.now chosen.now }
     requires values { AreValues problem.now.vars (vals_of T.denotes values.now) }
-    ensures shown { IfOk result (λ shown. shown ≡ true → IsOne (IsShownFalse (question_of T.denotes problem.now) points.now (map (expr_of T.denotes) (terms_of chosen.now)) (vals_of T.denotes values.now)) (question_of T.denotes problem.now).constraints) }
-    ensures unrefuted { IfOk result (λ shown. shown ≡ false → All (IsUnrefuted (question_of T.denotes problem.now) points.now (map (expr_of T.denotes) (terms_of chosen.now)) (vals_of T.denotes values.now)) (question_of T.denotes problem.now).constraints) }
+    ensures shown { IfOk result (λ shown. shown ≡ true → IsOne (IsShownFalse (question_of T.denotes problem.now) points.now (bodies_of T.denotes chosen.now) (vals_of T.denotes values.now)) (question_of T.denotes problem.now).constraints) }
+    ensures unrefuted { IfOk result (λ shown. shown ≡ false → All (IsUnrefuted (question_of T.denotes problem.now) points.now (bodies_of T.denotes chosen.now) (vals_of T.denotes values.now)) (question_of T.denotes problem.now).constraints) }
 {
     for term in problem.constraints.as_slice() {
         match tell(alloc, problem, chosen, points, values, term)? {
@@ -108,7 +108,7 @@ fn tell<T: Theory>(
     requires ready { AreReady T.owned T.denotes problem.now points.now chosen.now }
     requires values { AreValues problem.now.vars (vals_of T.denotes values.now) }
     requires term { IsTruth T.owned T.denotes problem.now term.now }
-    ensures { IfOk result (Tells (question_of T.denotes problem.now) points.now (map (expr_of T.denotes) (terms_of chosen.now)) (vals_of T.denotes values.now) (expr_of T.denotes term.now)) }
+    ensures { IfOk result (Tells (question_of T.denotes problem.now) points.now (bodies_of T.denotes chosen.now) (vals_of T.denotes values.now) (expr_of T.denotes term.now)) }
 {
     let defs = problem.defs.as_slice();
     let Some(value) = observe(alloc, defs, chosen, points, values, term)? else {

@@ -9,7 +9,7 @@ ghost use Rattle.sy_filling.specs.Task.{world, IsStop, state_of, levels_of};
 ghost use Rattle.sy_offer.specs.Tasks.{IsTask, IsRule};
 
 use crate::template::Template;
-use sy_columns::{RowEnd, filled_part, node, part_row};
+use sy_columns::{RowEnd, chosen_part, grown, part_row};
 use sy_filling::{Filling, Stop, Task, row_hash};
 use sy_rows::{Dropped, Kept};
 use sy_terms::Theory;
@@ -22,20 +22,20 @@ pub fn offer<T: Theory>(
     chosen: &[&Kept<T>],
 ) -> Result<(), Stop<T>>
     requires task { IsTask T.owned T.numeric T.denotes task.now }
-    requires rule { IsRule (world T.owned T.denotes task.now).syntax template.now.nonterminal template.now.number (pattern_of T.denotes template.now.part.now) }
+    requires rule { IsRule (world T.owned T.denotes task.now).syntax template.now.nonterminal template.now.number (pattern_of T.denotes template.now.part.now.value) }
     requires steady { IsSteady (world T.owned T.denotes task.now) (state_of T.denotes filling.old) }
-    requires chosen { AreKept (levels_of T.denotes task.now.levels.now) (occurring (pattern_of T.denotes template.now.part.now)) (chosen_of T.denotes chosen.now) }
-    requires sized { own_size (pattern_of T.denotes template.now.part.now) + sizes (chosen_of T.denotes chosen.now) ≡ task.now.size }
+    requires chosen { AreKept (levels_of T.denotes task.now.levels.now) (occurring (pattern_of T.denotes template.now.part.now.value)) (chosen_of T.denotes chosen.now) }
+    requires sized { own_size (pattern_of T.denotes template.now.part.now.value) + sizes (chosen_of T.denotes chosen.now) ≡ task.now.size }
     ensures steady { OnOk result (IsSteady (world T.owned T.denotes task.now) (state_of T.denotes filling.new)) }
     ensures grows { OnOk result (Grows (world T.owned T.denotes task.now) (state_of T.denotes filling.old) (state_of T.denotes filling.new)) }
-    ensures done { OnOk result (IsDone (world T.owned T.denotes task.now) (state_of T.denotes filling.new) template.now.nonterminal task.now.size (filled (pattern_of T.denotes template.now.part.now) (terms (chosen_of T.denotes chosen.now)))) }
+    ensures done { OnOk result (IsDone (world T.owned T.denotes task.now) (state_of T.denotes filling.new) template.now.nonterminal task.now.size (filled (pattern_of T.denotes template.now.part.now.value) (terms (chosen_of T.denotes chosen.now)))) }
     ensures stop { IfErr result (IsStop T.denotes (world T.owned T.denotes task.now) (state_of T.denotes filling.new)) }
 {
     let alloc = task.alloc;
     let row = match part_row(alloc, task.defs, task.points, template.part, chosen) {
         Ok(row) => row,
         Err(RowEnd::Lost(point)) => {
-            let term = filled_part(alloc, template.part, chosen)?;
+            let term = chosen_part(alloc, template.part, chosen)?;
             filling.lose(task, Dropped { term, point });
             return Ok(());
         }
@@ -46,8 +46,7 @@ pub fn offer<T: Theory>(
         return Ok(());
     }
     let kept = Kept {
-        term: filled_part(alloc, template.part, chosen)?,
-        derivation: node(alloc, template.number, chosen)?,
+        grown: grown(alloc, template.number, template.part, chosen)?,
         size: task.size,
         row: row.into_values(alloc)?,
     };

@@ -1,4 +1,5 @@
 // Rules that give parts.
+use std::rc::Rc;
 use sy_grammar::Part;
 use sy_terms::Theory;
 
@@ -7,5 +8,5 @@ use sy_terms::Theory;
 pub struct Template<'a, T: Theory> {
     pub nonterminal: u32,
     pub number: u32,
-    pub part: &'a Part<T>,
+    pub part: &'a Rc<Part<T>>,
 }

@@ -12,9 +12,11 @@ ghost use Rattle.sy_offer.specs.Tasks.{IsTask};
 
 use crate::{Template, offer};
 use std::alloc::{AllocError, Global};
+use std::rc::Rc;
 use sy_filling::{Filling, Level, Stop, Table, Task};
 use sy_grammar::{Grammar, Non, Part, Parts, Rule, well_formed};
 use sy_integers::IntTheory;
+use sy_rows::copied_part;
 use sy_terms::{Defs, Op, Seq, Sort, Theory, Value};
 
 /// One number.
@@ -86,10 +88,11 @@ fn offer_rule<T: Theory>(
     if part.occurrence(0).is_ok() {
         return Ok(());
     }
+    let part = Rc::new(task.alloc, copied_part(task.alloc, part)?)?;
     let template = Template {
         nonterminal: 0,
         number,
-        part,
+        part: &part,
     };
     offer(task, filling, &template, &[])
 }

@@ -7,9 +7,9 @@ ghost use Rattle.sy_rows.specs.Stored.{entry_of};
 ghost use Rattle.sy_passing.specs.Passing as spec;
 
 use std::alloc::Global;
-use sy_columns::copied_derivation;
-use sy_grammar::{Derivation, Derivations, Part, Rule};
-use sy_rows::Kept;
+use std::rc::Rc;
+use sy_grammar::{Part, Rule};
+use sy_rows::{Grown, Growns, Kept};
 use sy_terms::{Theory, Want, copied_values};
 
 /// The rule of this number of a nonterminal, which is the other nonterminal alone.
@@ -39,16 +39,15 @@ pub fn chained_to<T: Theory>(rule: &Rule<T>) -> Option<u32>
     }
 }
 
-/// The kept term, in memory of its own, derived by the chain rule of this number.
-pub fn chained<T: Theory>(alloc: Global, number: u32, kept: &Kept<T>) -> Result<Kept<T>, Want>
-    ensures { IfOk result (λ passed. entry_of T.denotes passed ≡ spec.chained number (entry_of T.denotes kept.now)) }
+/// The kept term, derived by the chain rule.
+pub fn chained<T: Theory>(alloc: Global, chain: &Chain, kept: &Kept<T>) -> Result<Kept<T>, Want>
+    ensures { IfOk result (λ passed. entry_of T.denotes passed ≡ spec.chained chain.now.number (entry_of T.denotes kept.now)) }
 {
-    let mut children = Derivations::new(alloc);
-    let child = copied_derivation(alloc, &kept.derivation)?;
-    children.push(child)?;
+    let part = Rc::new(alloc, Part::Non(chain.to))?;
+    let mut passed = Growns::with_capacity(alloc, 1)?;
+    passed.push(kept.grown.clone()?)?;
     Ok(Kept {
-        term: kept.term.copy(alloc)?,
-        derivation: Derivation::Node(number, children),
+        grown: Rc::new(alloc, Grown::Filled(chain.number, part, passed))?,
         size: kept.size,
         row: copied_values::<T>(alloc, kept.row.as_slice())?,
     })

@@ -145,7 +145,7 @@ fn pass_term<T: Theory>(
     if filling.has_row(task.levels, chain.nonterminal, hash, kept.row.as_slice()) {
         return Ok(());
     }
-    let passed = chained(task.alloc, chain.number, kept)?;
+    let passed = chained(task.alloc, chain, kept)?;
     filling.keep(task, chain.nonterminal, hash, passed)?;
     Ok(())
 }

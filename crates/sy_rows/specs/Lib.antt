@@ -2,4 +2,5 @@ pub mod Banks
 pub mod Columns
 pub mod Covering
 pub mod Rows
+pub mod Shared
 pub mod Stored

@@ -2,13 +2,13 @@
 use Rattle.std.specs.Prelude.{List, map}
 use Rattle.sy_terms.specs.Values.{Val}
 use Rattle.sy_terms.specs.Denoted.{expr_of, vals_of}
-use Rattle.sy_grammar.specs.Grown.{tree_of}
 use Rattle.sy_rows.specs.Banks.{Entry, Lost}
+use Rattle.sy_rows.specs.Shared.{term_from, tree_from}
 use Rattle.sy_rows.specs.declared.kept.Kept.{Kept}
 use Rattle.sy_rows.specs.declared.kept.Dropped.{Dropped}
 
 abbrev pub entry_of : {T N : Type 0} → (N → Val) → Kept T N → Entry
-entry_of number kept = record { term = expr_of number kept.term; tree = tree_of number kept.derivation; size = kept.size; row = vals_of number kept.row }
+entry_of number kept = record { term = term_from number kept.grown.value; tree = tree_from number kept.grown.value; size = kept.size; row = vals_of number kept.row }
 
 abbrev pub entries_of : {T N : Type 0} → (N → Val) → List (Kept T N) → List Entry
 entries_of number all = map (entry_of number) all

@@ -1,12 +1,12 @@
 // Kept terms and dropped terms.
-use sy_grammar::Derivation;
+use crate::grown::Grown;
+use std::rc::Rc;
 use sy_terms::{Term, Theory, Values};
 
-/// A kept term: its derivation from its nonterminal, the size of that derivation, and its values at the points.
+/// A kept term with its derivation from its nonterminal, the size of that derivation, and its values at the points.
 #[derive(Drop)]
 pub struct Kept<T: Theory> {
-    pub term: Term<T>,
-    pub derivation: Derivation<T>,
+    pub grown: Rc<Grown<T>>,
     pub size: u32,
     pub row: Values<T>,
 }

@@ -1,8 +1,6 @@
 -- What is kept with one size more.
-use Rattle.std.proofs.Common.{◌≡◌, ℕ, zero, suc, ◌<◌, List, [], ◌∷◌, ◌++◌, length, refl, ap, ◌∙◌, Some, slice_get, arith, replicate}
-use Rattle.std.specs.Prelude.{slice_index_or}
-use Rattle.std.proofs.lemmas.Option.{none-some}
-use Rattle.sy_rows.specs.Banks.{Entry, kept_at, count, count_of, IsKept}
+use Rattle.std.proofs.Common.{◌≡◌, ℕ, List, [], ◌∷◌, ◌++◌, ap, ◌∙◌, Some, slice_get}
+use Rattle.sy_rows.specs.Banks.{Entry, kept_at, IsKept}
 use Rattle.sy_filling.proofs.Kept.{kept_at-before, size-within}
 
 -- kept terms stay where they stand

@@ -147,9 +147,9 @@ chosen_all number scope question asked size left banks chosen honest begun all =
 
 -- copies of the chosen terms
 pub copied_more : {T N : Type 0} (number : N → Val) (copies : List (Term T N)) (chosen : List (Bor (Kept T N))) (index : ℕ) (copy : Term T N) (kept : Bor (Kept T N)) → map (expr_of number) copies ≡ terms (chosen_of number (take index chosen)) → index < length chosen →
-    kept ≡ get_or chosen index kept → expr_of number copy ≡ expr_of number kept.now.term → map (expr_of number) (copies ++ copy ∷ []) ≡ terms (chosen_of number (take (index + 1) chosen))
+    kept ≡ get_or chosen index kept → expr_of number copy ≡ (entry_of number kept.now).term → map (expr_of number) (copies ++ copy ∷ []) ≡ terms (chosen_of number (take (index + 1) chosen))
 copied_more number copies chosen index copy kept same within at is =
-    let last : terms (chosen_of number (take (index + 1) chosen)) ≡ terms (chosen_of number (take index chosen)) ++ expr_of number kept.now.term ∷ [] =
+    let last : terms (chosen_of number (take (index + 1) chosen)) ≡ terms (chosen_of number (take index chosen)) ++ (entry_of number kept.now).term ∷ [] =
     ap (λ all. terms (chosen_of number all)) (take_more chosen index kept within ∙ ap (λ k. take index chosen ++ k ∷ []) (sym at))
     ∙ ap terms (map-append (λ (k : Bor (Kept _ _)). entry_of number k.now) (take index chosen) (kept ∷ [])) ∙ terms_push (chosen_of number (take index chosen)) (entry_of number kept.now) in
     map_push (expr_of number) copies copy ∙ ap (λ all. all ++ expr_of number copy ∷ []) same ∙ ap (λ y. terms (chosen_of number (take index chosen)) ++ y ∷ []) is ∙ sym last

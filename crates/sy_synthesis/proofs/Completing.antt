@@ -1,14 +1,12 @@
 -- Rounds at ascending sizes: what they have done, and what follows at the greatest size.
-use Rattle.std.proofs.Common.{◌≡◌, ◌≤◌, ◌+◌, refl, ap, sym, subst, ◌∙◌, ℕ, zero, suc, true, false, true≢false, List, [], ◌∷◌, length, arith, slice_get, Option, Some, None}
+use Rattle.std.proofs.Common.{◌≡◌, ◌+◌, refl, sym, subst, ◌∙◌, ℕ, suc, true, true≢false, List, [], ◌∷◌, arith, slice_get, Option, Some, None}
 use Rattle.std.specs.Prelude.{IfSome}
 use Rattle.std.specs.List.{Contains}
 use Rattle.std.proofs.lemmas.List.Elements.{All-contains}
-use Rattle.sy_terms.specs.Values.{Val}
 use Rattle.sy_terms.specs.Meaning.{functions, computable}
-use Rattle.sy_grammar.specs.Trees.{tree_size}
 use Rattle.sy_grammar.specs.Questions.{Goal, Question}
 use Rattle.sy_limits.specs.declared.Limits.{Limits}
-use Rattle.sy_points.specs.Asked.{Asked, of_function}
+use Rattle.sy_points.specs.Asked.{Asked}
 use Rattle.sy_rows.specs.Banks.{Entry, Lost, Merged, IsDropped, kept_at}
 use Rattle.sy_rows.specs.Covering.{Covers, sizes, terms}
 use Rattle.sy_history.specs.Histories.{Counterexample}

@@ -1,5 +1,5 @@
 -- What comes of bodies that are tried one after the other.
-use Rattle.std.proofs.Common.{◌≡◌, ◌<◌, ⊎_elim, inl, inr, ap, sym, subst, ◌∙◌, ℕ, Bool, List, [], ◌∷◌, length, arith}
+use Rattle.std.proofs.Common.{◌≡◌, ◌<◌, ⊎_elim, ap, sym, subst, ◌∙◌, ℕ, Bool, List, [], ◌∷◌, length, arith}
 use Rattle.std.specs.Prelude.{◌⊎◌}
 use Rattle.std.specs.List.{Contains}
 use Rattle.std.proofs.lemmas.List.Elements.{Contains-append_left}

@@ -1,38 +1,40 @@
 -- What the search knows of kept terms that are chosen as bodies.
-use Rattle.std.proofs.Common.{◌≡◌, ap, sym, subst, ◌∙◌, refl, ℕ, Bool, List, [], ◌∷◌, map}
+use Rattle.std.proofs.Common.{◌≡◌, ap, subst, ◌∙◌, ℕ, Bool, List, [], ◌∷◌, map, Some}
+use Rattle.std.specs.List.{All}
 use Rattle.std.specs.Option.{option_map}
 use Rattle.std.proofs.lemmas.Option.{slice_get-map}
+use Rattle.std.proofs.lemmas.List.Elements.{All-head, All-tail}
 use denote.Ref.{Bor}
 use Rattle.sy_terms.specs.Values.{Val}
+use Rattle.sy_terms.specs.Expr.{Expr}
 use Rattle.sy_terms.specs.Denoted.{expr_of}
 use Rattle.sy_terms.specs.Definitions.{scope_of}
+use Rattle.sy_terms.specs.Fitting.{sort_in}
 use Rattle.sy_terms.specs.declared.op.Op.{Op}
 use Rattle.sy_terms.specs.declared.sort.Sort.{Sort}
 use Rattle.sy_terms.specs.declared.term.Term.{Term}
 use Rattle.sy_laws.specs.Evaluation.{BodiesFit}
-use Rattle.sy_grammar.specs.Questions.{question_of}
+use Rattle.sy_grammar.specs.Grown.{syntax_from}
+use Rattle.sy_grammar.specs.Questions.{question_of, goal_of}
+use Rattle.sy_grammar.specs.Solving.{AreMembers}
 use Rattle.sy_grammar.specs.declared.problem.Problem.{Problem}
+use Rattle.sy_grammar.specs.declared.problem.Wanted.{Wanted}
+use Rattle.sy_members.proofs.Members.{member_fits}
 use Rattle.sy_limits.specs.declared.Limits.{Limits}
 use Rattle.sy_points.specs.Asked.{Asked}
-use Rattle.sy_rows.specs.Covering.{terms}
 use Rattle.sy_rows.specs.Stored.{entry_of}
 use Rattle.sy_rows.specs.declared.kept.Kept.{Kept}
 use Rattle.sy_columns.specs.Chosen.{chosen_of}
-use Rattle.sy_build.specs.Problems.{signatures}
-use Rattle.sy_candidates.specs.Grammars.{GrammarsFit, HasNegation}
+use Rattle.sy_build.specs.Problems.{signature_of, signatures}
+use Rattle.sy_candidates.specs.Grammars.{GrammarFits, GrammarsFit, HasNegation}
 use Rattle.sy_candidates.proofs.Candidates.{bodies_fit}
 use Rattle.sy_history.specs.Histories.{Counterexample, IsCandidate}
 use Rattle.sy_trial.specs.Known.{IsKnown}
 use Rattle.sy_trial.proofs.Ending.{members}
+use Rattle.sy_observed.specs.Bodies.{AreBodies}
 use Rattle.sy_observed.specs.Observing as observing
-use Rattle.sy_observed.specs.Observing.{terms_of}
 use Rattle.sy_observed.specs.Refuting.{AreAssignments}
 use Rattle.sy_synthesis.specs.Levels.{HaveRows}
-
--- the chosen terms as what they stand for
-pub terms_are : {T N : Type 0} (number : N → Val) (chosen : List (Bor (Kept T N))) → map (expr_of number) (terms_of chosen) ≡ terms (chosen_of number chosen)
-terms_are number [] = refl
-terms_are number (kept ∷ chosen) = ap (λ all. expr_of number kept.now.term ∷ all) (terms_are number chosen)
 
 -- bodies that are a candidate fit
 pub candidate_fits : {T N : Type 0} (owned : Op → Bool) (numeric : Sort → Bool) (number : N → Val) (problem : Problem T N) (size : ℕ) (bodies : List (Term T N)) → GrammarsFit owned numeric number problem → HasNegation numeric owned →
@@ -40,10 +42,23 @@ pub candidate_fits : {T N : Type 0} (owned : Op → Bool) (numeric : Sort → Bo
 candidate_fits owned numeric number problem size bodies fit negation candidate =
     bodies_fit owned numeric number problem bodies fit negation (members (question_of number problem).pool size (question_of number problem).goals (map (expr_of number) bodies) candidate)
 
-pub chosen_fit : {T N : Type 0} (owned : Op → Bool) (numeric : Sort → Bool) (number : N → Val) (problem : Problem T N) (size : ℕ) (chosen : List (Bor (Kept T N))) → GrammarsFit owned numeric number problem → HasNegation numeric owned →
-    IsCandidate (question_of number problem) size (terms (chosen_of number chosen)) → BodiesFit owned number problem.defs (terms_of chosen) (signatures problem)
-chosen_fit owned numeric number problem size chosen fit negation candidate =
-    candidate_fits owned numeric number problem size (terms_of chosen) fit negation (subst (IsCandidate (question_of number problem) size) (sym (terms_are number chosen)) candidate)
+-- and so do bodies that are members of their grammars
+all_fit : {T N : Type 0} (owned : Op → Bool) (numeric : Sort → Bool) (number : N → Val) (problem : Problem T N) → HasNegation numeric owned → (wanted : List (Wanted T N)) (bodies : List Expr) → All (GrammarFits owned numeric number problem) wanted →
+    AreMembers (map (goal_of number) wanted) bodies → AreBodies owned problem.defs bodies (map signature_of wanted)
+all_fit owned numeric number problem negation [] [] fit members = tt
+all_fit owned numeric number problem negation [] (body ∷ bodies) fit members = members
+all_fit owned numeric number problem negation (w ∷ wanted) [] fit members = members
+all_fit owned numeric number problem negation (w ∷ wanted) (body ∷ bodies) fit members =
+    let it = All-head (GrammarFits owned numeric number problem) w wanted fit in (
+      subst (λ arguments. sort_in (scope_of owned problem.defs) arguments body ≡ Some w.sort) it.arguments
+          (member_fits numeric (scope_of owned problem.defs) (syntax_from number w.grammar) negation it.formed w.sort body it.start members.0),
+      all_fit owned numeric number problem negation wanted bodies (All-tail (GrammarFits owned numeric number problem) w wanted fit) members.1,
+    )
+
+pub chosen_fit : {T N : Type 0} (owned : Op → Bool) (numeric : Sort → Bool) (number : N → Val) (problem : Problem T N) (size : ℕ) (bodies : List Expr) → GrammarsFit owned numeric number problem → HasNegation numeric owned →
+    IsCandidate (question_of number problem) size bodies → AreBodies owned problem.defs bodies (signatures problem)
+chosen_fit owned numeric number problem size bodies fit negation candidate =
+    all_fit owned numeric number problem negation problem.wanted bodies fit (members (question_of number problem).pool size (question_of number problem).goals bodies candidate)
 
 pub rows_are : {T N : Type 0} (owned : Op → Bool) (number : N → Val) (problem : Problem T N) (asked : Asked) (chosen : List (Bor (Kept T N))) → HaveRows (scope_of owned problem.defs) (question_of number problem) asked (chosen_of number chosen) →
     observing.HaveRows owned number problem.defs asked chosen

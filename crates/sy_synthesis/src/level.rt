@@ -197,7 +197,7 @@ fn copied_bodies<T: Theory>(alloc: Global, chosen: &[&Kept<T>]) -> Result<Bodies
 {
     let mut bodies = Seq::new(alloc);
     for kept in chosen {
-        let copy = kept.term.copy(alloc)?;
+        let copy = kept.term(alloc)?;
         bodies.push(copy)?;
     }
     Ok(bodies)

@@ -22,7 +22,7 @@ invariant-choose_rest-loop-size g l =
       steady : IsSteady w (state_of g.T.Theory.denotes l.filling);
       grows : Grows w (state_of g.T.Theory.denotes l.initial.filling) (state_of g.T.Theory.denotes l.filling);
       chosen : l.chosen.items ≡ l.initial.chosen.items;
-      done : AreDoneBelow w (state_of g.T.Theory.denotes l.filling) l.template.nonterminal (pattern_of g.T.Theory.denotes l.template.part.now) (chosen_of g.T.Theory.denotes l.initial.chosen.items) l.first l.others l.left l.least l.size;
+      done : AreDoneBelow w (state_of g.T.Theory.denotes l.filling) l.template.nonterminal (pattern_of g.T.Theory.denotes l.template.part.now.value) (chosen_of g.T.Theory.denotes l.initial.chosen.items) l.first l.others l.left l.least l.size;
     }
 
 abbrev pub invariant-choose_first-loop-term : goal.invariant-choose_first-loop-term
@@ -32,5 +32,5 @@ invariant-choose_first-loop-term g l =
       steady : IsSteady w (state_of g.T.Theory.denotes l.filling);
       grows : Grows w (state_of g.T.Theory.denotes l.initial.filling) (state_of g.T.Theory.denotes l.filling);
       chosen : l.chosen.items ≡ l.initial.chosen.items;
-      done : All (λ term. AreDoneFrom w (state_of g.T.Theory.denotes l.filling) l.template.nonterminal (pattern_of g.T.Theory.denotes l.template.part.now) (chosen_of g.T.Theory.denotes l.initial.chosen.items ++ entry_of g.T.Theory.denotes term ∷ []) l.places l.left) (take l.term-index l.terms);
+      done : All (λ term. AreDoneFrom w (state_of g.T.Theory.denotes l.filling) l.template.nonterminal (pattern_of g.T.Theory.denotes l.template.part.now.value) (chosen_of g.T.Theory.denotes l.initial.chosen.items ++ entry_of g.T.Theory.denotes term ∷ []) l.places l.left) (take l.term-index l.terms);
     }

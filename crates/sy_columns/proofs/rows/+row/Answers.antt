@@ -1,5 +1,6 @@
-use Rattle.std.proofs.Common.{◌≤◌, ◌∙◌, ap, sym, arith, length, map, subst, refl}
+use Rattle.std.proofs.Common.{◌≤◌, ◌∙◌, [], ◌∷◌, ap, sym, arith, length, map, subst, refl}
 use Rattle.std.proofs.lemmas.List.{length-map}
+use Rattle.sy_terms.specs.Expr.{Apply}
 use Rattle.sy_terms.specs.Denoted.{val_of, vals_of}
 use Rattle.sy_terms.specs.Meaning.{functions}
 use Rattle.sy_terms.specs.Definitions.{scope_of, bodies}
@@ -7,15 +8,17 @@ use Rattle.sy_terms.specs.declared.term.Fun.TheVariants.{Defined}
 use Rattle.sy_grammar.specs.Patterns.{all_occurring, all_filled}
 use Rattle.sy_grammar.specs.Written.{patterns_of, pattern_of-Non, pattern_of-App, pattern_of-Call}
 use Rattle.sy_rows.specs.Rows.{IsLostAt}
-use Rattle.sy_rows.specs.Columns.{AreSized, HasRow}
+use Rattle.sy_rows.specs.Columns.{AreSized, FitsAt, HasRow}
 use Rattle.sy_rows.specs.Covering.{terms}
 use Rattle.sy_columns.specs.Lent.{values_of}
 use Rattle.sy_columns.specs.Chosen.{chosen_of}
 use Rattle.sy_columns.specs.Found.{IsApplied}
 use Rattle.sy_columns.proofs.Pieces.{apply-owned, rows-none, rows-from, part-fits, part-lost, rows-next}
+use Rattle.sy_columns.proofs.Paired.{pair-items, pair-used, pair-rows, pair-sorted, pair-applied, pair-lost, row-long}
 use Rattle.sy_columns.proofs.Weights.{all_weight, app-falls, call-falls, part-falls}
 use Rattle.sy_columns.proofs.Forms.{constant-part, position-within, variable-part, place-part, apply-part-fit, call-part-fit, apply-part, call-part, apply-arguments, apply-sorted, apply-row, apply-lost, apply-lost-argument, call-arguments, call-lost-argument, call-fits, call-row, call-lost, handed_on, lost_then}
-use Rattle.sy_columns.proofs.Fillings.{occurring-next, enough-left, all_filled-none}
+use Rattle.sy_rows.proofs.Fillings.{occurring-next, all_filled-none}
+use Rattle.sy_columns.proofs.Fillings.{enough-left}
 use Rattle.sy_columns.proofs.rows.+row.Goals as goal
 
 pub part_row-returns-in_ok-row-in-Const-clause-ok : goal.part_row-returns-in_ok-row-in-Const-clause-ok
@@ -288,3 +291,197 @@ part_rows-loop-part-preserved g t c =
       rows = rw c.in_ok-push-in-Ok.ensures.items (rows-next number scope defined points parts i c.part-item.result c.args.chosen.now c.split_at.result.1.now used (λ row. vals_of number (values_of row)) c.loop-part.rows.items c.in-Ok.row
           c.loop-part-test.true c.part-item.is c.loop-part.invariant.used_is c.split_at.ensures.back c.loop-part.invariant.rows c.in-Ok.ensures.ok);
     }
+
+pub part_row-part_pair-requires : goal.part_row-part_pair-requires
+part_row-part_pair-requires g t c κs within =
+    let number = g.T.Theory.denotes in
+    let scope = scope_of g.T.Theory.owned c.args.defs.now in
+    let points = map (vals_of number) c.args.points.now in
+    let ts = terms (chosen_of number c.args.chosen.now) in
+    let items = pair-items c.in-App.parts.items.items c.as_slice-in-App.result.now c.first-item.result c.second-item.result c.as_slice-in-App.ensures c.in-len2.len_at_least c.in-len2.len_below c.first-item.is c.second-item.is in
+    let same = ap (λ parts. all_weight (patterns_of number parts)) items in (
+      omega (arith, app-falls number c.args.part.now c.in-App.operator c.in-App.parts c.in-App.is, same, c.decreases),
+      (
+        within.0,
+        (
+          within.1,
+          (
+            c.requires.definitions,
+            (
+              c.requires.points,
+              (
+                c.requires.rows,
+                (
+                  rw (c.in-App.is, pattern_of-App, items) at c.requires.enough,
+                  subst (λ parts. FitsAt scope points (Apply c.in-App.operator (all_filled (patterns_of number parts) ts))) items (apply-part-fit number scope points c.args.part.now c.in-App.operator c.in-App.parts ts c.in-App.is c.requires.fits),
+                ),
+              ),
+            ),
+          ),
+        ),
+      ),
+    )
+
+pub part_row-returns-in_ok-row-in-len2-clause-ok : goal.part_row-returns-in_ok-row-in-len2-clause-ok
+part_row-returns-in_ok-row-in-len2-clause-ok g t c =
+    let number = g.T.Theory.denotes in
+    let scope = scope_of g.T.Theory.owned c.args.defs.now in
+    let defined = functions (bodies number c.args.defs.now) in
+    let points = map (vals_of number) c.args.points.now in
+    let ts = terms (chosen_of number c.args.chosen.now) in
+    let items = pair-items c.in-App.parts.items.items c.as_slice-in-App.result.now c.first-item.result c.second-item.result c.as_slice-in-App.ensures c.in-len2.len_at_least c.in-len2.len_below c.first-item.is c.second-item.is in
+    let found = vals_of number c.in_ok-row-in-len2.row.items in
+    apply-part number c.args.part.now c.in-App.operator c.in-App.parts ts (λ term. HasRow scope defined points term found) c.in-App.is (rw items c.in_ok-row-in-len2.ensures.ok)
+
+pub part_row-returns-in_err-row-in-len2-clause-lost : goal.part_row-returns-in_err-row-in-len2-clause-lost
+part_row-returns-in_err-row-in-len2-clause-lost g t c =
+    let number = g.T.Theory.denotes in
+    let defined = functions (bodies number c.args.defs.now) in
+    let points = map (vals_of number) c.args.points.now in
+    let ts = terms (chosen_of number c.args.chosen.now) in
+    let items = pair-items c.in-App.parts.items.items c.as_slice-in-App.result.now c.first-item.result c.second-item.result c.as_slice-in-App.ensures c.in-len2.len_at_least c.in-len2.len_below c.first-item.is c.second-item.is in
+    let end = c.in_err-row-in-len2.field-0.0 in
+    handed_on _ c.from_residual-in_err-row-in-len2.result end c.from_residual-in_err-row-in-len2.ensures.1
+    (lost_then end c.in_err-row-in-len2.ensures.lost (λ k it. apply-part number c.args.part.now c.in-App.operator c.in-App.parts ts (λ term. IsLostAt defined points term k) c.in-App.is (rw items it)))
+
+pub part_pair-part_row-requires : goal.part_pair-part_row-requires
+part_pair-part_row-requires g t c κs within =
+    let number = g.T.Theory.denotes in
+    let scope = scope_of g.T.Theory.owned c.args.defs.now in
+    let points = map (vals_of number) c.args.points.now in
+    let parts = c.args.first.now ∷ c.args.second.now ∷ [] in
+    let arguments = all_filled (patterns_of number parts) (terms (chosen_of number c.args.chosen.now)) in
+    let falls = part-falls number parts 0 c.args.first.now (omega arith) refl in (
+      omega (arith, falls, c.decreases),
+      (
+        within.0,
+        (
+          within.1,
+          (
+            c.requires.definitions,
+            (
+              c.requires.points,
+              (
+                c.requires.rows,
+                (
+                  omega (arith, enough-left number parts 0 c.args.first.now 0 (length c.args.chosen.now) (omega arith) refl refl c.requires.enough),
+                  part-fits number scope points parts 0 c.args.first.now c.args.chosen.now c.args.chosen.now 0 (omega arith) refl refl refl (apply-arguments scope points c.args.operator.now arguments c.requires.fits),
+                ),
+              ),
+            ),
+          ),
+        ),
+      ),
+    )
+
+pub part_pair-returns-in_err-left-clause-lost : goal.part_pair-returns-in_err-left-clause-lost
+part_pair-returns-in_err-left-clause-lost g t c =
+    let number = g.T.Theory.denotes in
+    let defined = functions (bodies number c.args.defs.now) in
+    let points = map (vals_of number) c.args.points.now in
+    let parts = c.args.first.now ∷ c.args.second.now ∷ [] in
+    let arguments = all_filled (patterns_of number parts) (terms (chosen_of number c.args.chosen.now)) in
+    let end = c.in_err-left.field-0.0 in
+    handed_on _ c.from_residual.result end c.from_residual.ensures.1
+    (lost_then end c.in_err-left.ensures.lost (λ k it.
+    apply-lost-argument defined points c.args.operator.now arguments k (part-lost number defined points parts 0 c.args.first.now c.args.chosen.now c.args.chosen.now 0 (omega arith) refl refl refl k it)))
+
+pub part_pair-part_row-requires-2 : goal.part_pair-part_row-requires-2
+part_pair-part_row-requires-2 g t c κs within =
+    let number = g.T.Theory.denotes in
+    let scope = scope_of g.T.Theory.owned c.args.defs.now in
+    let defined = functions (bodies number c.args.defs.now) in
+    let points = map (vals_of number) c.args.points.now in
+    let parts = c.args.first.now ∷ c.args.second.now ∷ [] in
+    let arguments = all_filled (patterns_of number parts) (terms (chosen_of number c.args.chosen.now)) in
+    let used = pair-used number c.args.first.now c.args.second.now c.places.result (length c.args.chosen.now) c.requires.enough c.places.ensures in
+    let falls = part-falls number parts 1 c.args.second.now (omega arith) refl in (
+      omega (arith, falls, c.decreases),
+      (
+        within.0,
+        (
+          within.1,
+          (
+            c.requires.definitions,
+            (
+              c.requires.points,
+              (
+                rw c.split_at.ensures.back (rows-from number scope defined points c.places.result c.args.chosen.now c.requires.rows),
+                (
+                  omega (arith, c.split_at.ensures.back_len, enough-left number parts 1 c.args.second.now c.places.result (length c.args.chosen.now) (omega arith) refl used c.requires.enough),
+                  part-fits number scope points parts 1 c.args.second.now c.args.chosen.now c.split_at.result.1.now c.places.result (omega arith) refl used c.split_at.ensures.back (apply-arguments scope points c.args.operator.now arguments c.requires.fits),
+                ),
+              ),
+            ),
+          ),
+        ),
+      ),
+    )
+
+pub part_pair-returns-in_err-right-clause-lost : goal.part_pair-returns-in_err-right-clause-lost
+part_pair-returns-in_err-right-clause-lost g t c =
+    let number = g.T.Theory.denotes in
+    let defined = functions (bodies number c.args.defs.now) in
+    let points = map (vals_of number) c.args.points.now in
+    let parts = c.args.first.now ∷ c.args.second.now ∷ [] in
+    let arguments = all_filled (patterns_of number parts) (terms (chosen_of number c.args.chosen.now)) in
+    let used = pair-used number c.args.first.now c.args.second.now c.places.result (length c.args.chosen.now) c.requires.enough c.places.ensures in
+    let end = c.in_err-right.field-0.0 in
+    handed_on _ c.from_residual-in_err-right.result end c.from_residual-in_err-right.ensures.1
+    (lost_then end c.in_err-right.ensures.lost (λ k it.
+    apply-lost-argument defined points c.args.operator.now arguments k (part-lost number defined points parts 1 c.args.second.now c.args.chosen.now c.split_at.result.1.now c.places.result (omega arith) refl used c.split_at.ensures.back k it)))
+
+pub part_pair-pair_row-requires-clause-owned : goal.part_pair-pair_row-requires-clause-owned
+part_pair-pair_row-requires-clause-owned g t c =
+    let number = g.T.Theory.denotes in
+    let scope = scope_of g.T.Theory.owned c.args.defs.now in
+    let points = map (vals_of number) c.args.points.now in
+    let parts = c.args.first.now ∷ c.args.second.now ∷ [] in
+    let arguments = all_filled (patterns_of number parts) (terms (chosen_of number c.args.chosen.now)) in
+    let long = row-long number (length points) c.as_slice.result.now (values_of c.in_ok-left.left) c.as_slice.ensures c.in_ok-left.ensures.ok.sized in
+    λ k within. apply-owned scope points c.args.operator.now arguments c.requires.fits k (omega (arith, within, long))
+
+pub part_pair-pair_row-requires-clause-same : goal.part_pair-pair_row-requires-clause-same
+part_pair-pair_row-requires-clause-same g t c =
+    let number = g.T.Theory.denotes in
+    let points = map (vals_of number) c.args.points.now in
+    row-long number (length points) c.as_slice-2.result.now (values_of c.in_ok-right.right) c.as_slice-2.ensures c.in_ok-right.ensures.ok.sized
+    ∙ sym (row-long number (length points) c.as_slice.result.now (values_of c.in_ok-left.left) c.as_slice.ensures c.in_ok-left.ensures.ok.sized)
+
+pub part_pair-pair_row-requires-clause-sorted : goal.part_pair-pair_row-requires-clause-sorted
+part_pair-pair_row-requires-clause-sorted g t c =
+    let number = g.T.Theory.denotes in
+    let scope = scope_of g.T.Theory.owned c.args.defs.now in
+    let defined = functions (bodies number c.args.defs.now) in
+    let points = map (vals_of number) c.args.points.now in
+    let parts = c.args.first.now ∷ c.args.second.now ∷ [] in
+    let arguments = all_filled (patterns_of number parts) (terms (chosen_of number c.args.chosen.now)) in
+    let used = pair-used number c.args.first.now c.args.second.now c.places.result (length c.args.chosen.now) c.requires.enough c.places.ensures in
+    let rows = pair-rows number scope defined points c.args.first.now c.args.second.now c.args.chosen.now c.split_at.result.1.now c.places.result c.as_slice.result.now c.as_slice-2.result.now (values_of c.in_ok-left.left) (values_of c.in_ok-right.right) used c.split_at.ensures.back c.as_slice.ensures c.as_slice-2.ensures c.in_ok-left.ensures.ok c.in_ok-right.ensures.ok in
+    pair-sorted scope defined points c.args.operator.now arguments (vals_of number c.as_slice.result.now) (vals_of number c.as_slice-2.result.now) c.requires.fits rows
+
+pub part_pair-returns-in_err-row-clause-lost : goal.part_pair-returns-in_err-row-clause-lost
+part_pair-returns-in_err-row-clause-lost g t c =
+    let number = g.T.Theory.denotes in
+    let scope = scope_of g.T.Theory.owned c.args.defs.now in
+    let defined = functions (bodies number c.args.defs.now) in
+    let points = map (vals_of number) c.args.points.now in
+    let parts = c.args.first.now ∷ c.args.second.now ∷ [] in
+    let arguments = all_filled (patterns_of number parts) (terms (chosen_of number c.args.chosen.now)) in
+    let used = pair-used number c.args.first.now c.args.second.now c.places.result (length c.args.chosen.now) c.requires.enough c.places.ensures in
+    let rows = pair-rows number scope defined points c.args.first.now c.args.second.now c.args.chosen.now c.split_at.result.1.now c.places.result c.as_slice.result.now c.as_slice-2.result.now (values_of c.in_ok-left.left) (values_of c.in_ok-right.right) used c.split_at.ensures.back c.as_slice.ensures c.as_slice-2.ensures c.in_ok-left.ensures.ok c.in_ok-right.ensures.ok in
+    let end = c.in_err-row.field-0.0 in
+    handed_on _ c.from_residual-in_err-row.result end c.from_residual-in_err-row.ensures.1
+    (lost_then end c.in_err-row.ensures.lost (λ k it. pair-lost scope defined points c.args.operator.now arguments (vals_of number c.as_slice.result.now) (vals_of number c.as_slice-2.result.now) k rows it))
+
+pub part_pair-returns-clause-ok : goal.part_pair-returns-clause-ok
+part_pair-returns-clause-ok g t c =
+    let number = g.T.Theory.denotes in
+    let scope = scope_of g.T.Theory.owned c.args.defs.now in
+    let defined = functions (bodies number c.args.defs.now) in
+    let points = map (vals_of number) c.args.points.now in
+    let parts = c.args.first.now ∷ c.args.second.now ∷ [] in
+    let arguments = all_filled (patterns_of number parts) (terms (chosen_of number c.args.chosen.now)) in
+    let used = pair-used number c.args.first.now c.args.second.now c.places.result (length c.args.chosen.now) c.requires.enough c.places.ensures in
+    let rows = pair-rows number scope defined points c.args.first.now c.args.second.now c.args.chosen.now c.split_at.result.1.now c.places.result c.as_slice.result.now c.as_slice-2.result.now (values_of c.in_ok-left.left) (values_of c.in_ok-right.right) used c.split_at.ensures.back c.as_slice.ensures c.as_slice-2.ensures c.in_ok-left.ensures.ok c.in_ok-right.ensures.ok in
+    pair-applied scope defined points c.args.operator.now arguments (vals_of number c.as_slice.result.now) (vals_of number c.as_slice-2.result.now) (vals_of number c.in_ok-row.row.items) c.requires.fits rows c.in_ok-row.ensures.ok

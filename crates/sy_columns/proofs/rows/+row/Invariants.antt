@@ -1,4 +1,4 @@
-use Rattle.std.proofs.Common.{◌≡◌, ◌+◌, ◌*◌, length, take, map}
+use Rattle.std.proofs.Common.{◌≡◌, ◌+◌, ◌*◌, [], ◌∷◌, length, take, map}
 use Rattle.sy_terms.specs.Denoted.{vals_of}
 use Rattle.sy_terms.specs.Meaning.{functions}
 use Rattle.sy_terms.specs.Definitions.{scope_of, bodies}
@@ -17,6 +17,9 @@ decreases-part_row g l = 2 * weight (pattern_of g.T.Theory.denotes l.part.now)
 
 abbrev pub decreases-part_rows : goal.decreases-part_rows
 decreases-part_rows g l = 2 * all_weight (patterns_of g.T.Theory.denotes l.parts.now.items.items) + 1
+
+abbrev pub decreases-part_pair : goal.decreases-part_pair
+decreases-part_pair g l = 2 * all_weight (patterns_of g.T.Theory.denotes (l.first.now ∷ l.second.now ∷ [])) + 1
 
 abbrev pub invariant-part_rows-loop-part : goal.invariant-part_rows-loop-part
 invariant-part_rows-loop-part g l = record {

@@ -1,7 +1,10 @@
-use Rattle.std.proofs.Common.{◌≡◌, take}
+use Rattle.std.proofs.Common.{◌≡◌}
+use Rattle.std.specs.Prelude.{drop}
 use Rattle.sy_terms.specs.Denoted.{vals_of}
-use Rattle.sy_filling.specs.Hashing.{hash_from}
+use Rattle.sy_filling.specs.Hashing.{hash_from, lanes}
 use Rattle.sy_filling.proofs.hash.row_hash.Given as goal
 
 abbrev pub invariant-loop-value : goal.invariant-loop-value
-invariant-loop-value g l = l.hash ≡ hash_from l.fn.nonterminal (vals_of g.T.Theory.denotes (take l.value-index l.row))
+invariant-loop-value g l =
+    let number = g.T.Theory.denotes in
+    hash_from l.fn.nonterminal (vals_of number l.row) ≡ lanes l.first l.second l.third (vals_of number (drop l.value-index l.row))

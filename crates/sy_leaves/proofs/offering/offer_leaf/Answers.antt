@@ -2,6 +2,7 @@ use Rattle.std.proofs.Common.{◌≡◌, ◌∙◌, sym, length}
 use Rattle.std.proofs.lemmas.List.{length-map}
 use Rattle.sy_terms.specs.Denoted.{vals_of, expr_of}
 use Rattle.sy_grammar.specs.Grown.{tree_of}
+use Rattle.sy_rows.specs.Shared.{term_from-Leaf, tree_from-Leaf}
 use Rattle.sy_filling.specs.Task.{world, state_of, level_of}
 use Rattle.sy_offer.proofs.Given.{new-row, found-done}
 use Rattle.sy_offer.proofs.Nodes.{derived-fits}
@@ -31,7 +32,7 @@ keep-requires-clause-right g c =
     let number = g.T.Theory.denotes in
     let w = world g.T.Theory.owned number c.args.task.now in
     let sized : c.args.task.now.size ≡ length w.levels = c.requires.task.sized ∙ sym (length-map c.args.task.now.levels.now (level_of number)) in
-    rw (c.in_ok-copied_values.ensures, c.as_slice-3.ensures.value, sized)
+    rw (c.in_ok-new.ensures.ok, term_from-Leaf, tree_from-Leaf, c.from.ensures, sized)
     (leaf-right w c.args.nonterminal (tree_of number c.args.derivation) (expr_of number c.args.term) (vals_of number c.in-Ok.row.items) c.requires.derives (c.requires.sized ∙ sized) c.in-Ok.ensures.ok)
 
 pub keep-requires-clause-differs : goal.keep-requires-clause-differs
@@ -39,5 +40,8 @@ keep-requires-clause-differs g c =
     let number = g.T.Theory.denotes in
     let hash = rw c.as_slice.ensures.value at c.row_hash-hash.ensures in
     let others = rw c.as_slice-2.ensures.value at c.if-has_row.ensures in
-    rw (c.in_ok-copied_values.ensures, c.as_slice-3.ensures.value)
+    rw c.from.ensures
     (new-row (world g.T.Theory.owned number c.args.task.now) (state_of number c.args.filling.now) c.args.nonterminal c.row_hash-hash.result (vals_of number c.in-Ok.row.items) c.requires.steady hash others)
+
+pub returns-clause-done : goal.returns-clause-done
+returns-clause-done g c = rw (c.in_ok-new.ensures.ok, term_from-Leaf) at c.keep.ensures.done

@@ -2,7 +2,7 @@ use Rattle.std.proofs.Common.{◌+◌, ◌*◌}
 use Rattle.sy_terms.specs.Expr.{nodes, nodes_of}
 use Rattle.sy_terms.specs.Denoted.{vals_of, expr_of, exprs_of}
 use Rattle.sy_laws.proofs.Lists.{weight}
-use Rattle.sy_observed.specs.Observing.{terms_of}
+use Rattle.sy_observed.specs.Bodies.{bodies_of}
 use Rattle.sy_observed.proofs.Told.{AreToldTo}
 use Rattle.sy_observed.proofs.observe.+observe.Given as goal
 
@@ -14,4 +14,4 @@ decreases-observe_all g l = 2 * (nodes_of (exprs_of g.T.Theory.denotes l.terms.n
 
 abbrev pub invariant-observe_all-loop-term : goal.invariant-observe_all-loop-term
 invariant-observe_all-loop-term g l =
-    AreToldTo g.T.Theory.owned g.T.Theory.denotes l.defs (terms_of l.chosen) l.points (vals_of g.T.Theory.denotes l.values) l.term-items l.term-index (vals_of g.T.Theory.denotes l.found.items)
+    AreToldTo g.T.Theory.owned g.T.Theory.denotes l.defs (bodies_of g.T.Theory.denotes l.chosen) l.points (vals_of g.T.Theory.denotes l.values) l.term-items l.term-index (vals_of g.T.Theory.denotes l.found.items)

@@ -1,10 +1,10 @@
-use Rattle.std.proofs.Common.{sym, map, inl, inr}
+use Rattle.std.proofs.Common.{sym, inl, inr}
 use mathlib.Core.Bool.{true≢false}
 use Rattle.sy_terms.specs.Denoted.{expr_of, vals_of}
 use Rattle.sy_grammar.specs.Questions.{question_of}
 use Rattle.sy_grammar.specs.Solving.{IsTrueUnder}
 use Rattle.sy_trial.proofs.Items.{all_more, all_done, has_at}
-use Rattle.sy_observed.specs.Observing.{terms_of}
+use Rattle.sy_observed.specs.Bodies.{bodies_of}
 use Rattle.sy_observed.proofs.tell.are_assumed.Goals as goal
 
 pub returns-in-False : goal.returns-in-False
@@ -26,12 +26,12 @@ returns-in-Nothing g c =
 
 pub loop-term-preserved : goal.loop-term-preserved
 loop-term-preserved g c =
-    all_more (IsTrueUnder (question_of g.T.Theory.denotes c.args.problem.now) (map (expr_of g.T.Theory.denotes) (terms_of c.args.chosen.now)) (vals_of g.T.Theory.denotes c.args.values.now))
+    all_more (IsTrueUnder (question_of g.T.Theory.denotes c.args.problem.now) (bodies_of g.T.Theory.denotes c.args.chosen.now) (vals_of g.T.Theory.denotes c.args.values.now))
     (expr_of g.T.Theory.denotes) c.as_slice-term-items.result.now c.loop-term.term-index c.term-item.result c.loop-term-test.true c.term-item.is c.loop-term.invariant
     (rw c.in-True.is at c.in_ok-tell.ensures)
 
 pub returns-clause-assumed : goal.returns-clause-assumed
 returns-clause-assumed g c =
-    let all = all_done (IsTrueUnder (question_of g.T.Theory.denotes c.args.problem.now) (map (expr_of g.T.Theory.denotes) (terms_of c.args.chosen.now)) (vals_of g.T.Theory.denotes c.args.values.now))
+    let all = all_done (IsTrueUnder (question_of g.T.Theory.denotes c.args.problem.now) (bodies_of g.T.Theory.denotes c.args.chosen.now) (vals_of g.T.Theory.denotes c.args.values.now))
     (expr_of g.T.Theory.denotes) c.as_slice-term-items.result.now c.loop-term.term-index c.loop-term-test.false c.loop-term.invariant in
     λ _. (rw c.as_slice-term-items.ensures at all)

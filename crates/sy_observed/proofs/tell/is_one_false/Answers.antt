@@ -1,9 +1,9 @@
-use Rattle.std.proofs.Common.{map, inl, inr}
+use Rattle.std.proofs.Common.{inl, inr}
 use mathlib.Core.Bool.{true≢false}
 use Rattle.sy_terms.specs.Denoted.{expr_of, vals_of}
 use Rattle.sy_grammar.specs.Questions.{question_of}
 use Rattle.sy_trial.proofs.Items.{all_more, all_done, has_at}
-use Rattle.sy_observed.specs.Observing.{terms_of}
+use Rattle.sy_observed.specs.Bodies.{bodies_of}
 use Rattle.sy_observed.specs.Refuting.{IsUnrefuted}
 use Rattle.sy_observed.proofs.tell.is_one_false.Goals.{in-True, in-Nothing}
 use Rattle.sy_observed.proofs.tell.is_one_false.Goals as goal
@@ -18,12 +18,12 @@ returns-in-False g c =
 
 pub loop-term-preserved : goal.loop-term-preserved
 loop-term-preserved g c =
-    all_more (IsUnrefuted (question_of g.T.Theory.denotes c.args.problem.now) c.args.points.now (map (expr_of g.T.Theory.denotes) (terms_of c.args.chosen.now)) (vals_of g.T.Theory.denotes c.args.values.now))
+    all_more (IsUnrefuted (question_of g.T.Theory.denotes c.args.problem.now) c.args.points.now (bodies_of g.T.Theory.denotes c.args.chosen.now) (vals_of g.T.Theory.denotes c.args.values.now))
     (expr_of g.T.Theory.denotes) c.as_slice-term-items.result.now c.loop-term.term-index c.term-item.result c.loop-term-test.true c.term-item.is c.loop-term.invariant
     (elim c.match-branch-2.branch [ in-True w ↦ inl (rw w.in-True.is at c.in_ok-tell.ensures) | in-Nothing w ↦ inr (rw w.in-Nothing.is at c.in_ok-tell.ensures) ])
 
 pub returns-clause-unrefuted : goal.returns-clause-unrefuted
 returns-clause-unrefuted g c =
-    let all = all_done (IsUnrefuted (question_of g.T.Theory.denotes c.args.problem.now) c.args.points.now (map (expr_of g.T.Theory.denotes) (terms_of c.args.chosen.now)) (vals_of g.T.Theory.denotes c.args.values.now))
+    let all = all_done (IsUnrefuted (question_of g.T.Theory.denotes c.args.problem.now) c.args.points.now (bodies_of g.T.Theory.denotes c.args.chosen.now) (vals_of g.T.Theory.denotes c.args.values.now))
     (expr_of g.T.Theory.denotes) c.as_slice-term-items.result.now c.loop-term.term-index c.loop-term-test.false c.loop-term.invariant in
     λ _. (rw c.as_slice-term-items.ensures at all)

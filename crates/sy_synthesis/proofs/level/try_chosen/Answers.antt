@@ -1,15 +1,16 @@
 use Rattle.std.proofs.Common.{refl, sym, subst}
 use Rattle.sy_grammar.specs.Questions.{question_of}
+use Rattle.sy_rows.specs.Covering.{terms}
+use Rattle.sy_columns.specs.Chosen.{chosen_of}
 use Rattle.sy_history.specs.Histories.{IsCandidate}
 use Rattle.sy_history.specs.Stored.{history_of}
-use Rattle.sy_trial.specs.Trials.{IsRefuted}
 use Rattle.sy_trial.proofs.Asking.{grows_not}
-use Rattle.sy_synthesis.proofs.Observed.{terms_are, candidate_fits, chosen_fit, rows_are, assignments_are}
+use Rattle.sy_synthesis.proofs.Observed.{candidate_fits, chosen_fit, rows_are, assignments_are}
 use Rattle.sy_synthesis.proofs.level.try_chosen.Goals as goal
 
 pub are_refuted-requires-clause-bodies : goal.are_refuted-requires-clause-bodies
 are_refuted-requires-clause-bodies g c =
-    chosen_fit g.T.Theory.owned g.T.Theory.numeric g.T.Theory.denotes c.args.task.now.problem.now c.args.task.now.limits.now.size c.args.chosen.now c.requires.grammars c.requires.negation c.requires.candidate
+    chosen_fit g.T.Theory.owned g.T.Theory.numeric g.T.Theory.denotes c.args.task.now.problem.now c.args.task.now.limits.now.size (terms (chosen_of g.T.Theory.denotes c.args.chosen.now)) c.requires.grammars c.requires.negation c.requires.candidate
 
 pub are_refuted-requires-clause-rows : goal.are_refuted-requires-clause-rows
 are_refuted-requires-clause-rows g c = rows_are g.T.Theory.owned g.T.Theory.denotes c.args.task.now.problem.now c.args.known.now.points c.args.chosen.now c.requires.rows
@@ -19,12 +20,7 @@ are_refuted-requires-clause-stored g c =
     assignments_are g.T.Theory.denotes c.args.task.now.problem.now c.args.task.now.limits.now (history_of g.T.Theory.denotes c.args.known.now.stored) c.args.known.now.points c.requires.known
 
 pub returns-then-refuted-clause-step : goal.returns-then-refuted-clause-step
-returns-then-refuted-clause-step g c = (
-  subst (IsRefuted (question_of g.T.Theory.denotes c.args.task.now.problem.now) (history_of g.T.Theory.denotes c.args.known.now.stored) c.args.known.now.points) (terms_are g.T.Theory.denotes c.args.chosen.now)
-      (c.in_ok-refuted.ensures.refuted c.if-refuted.true),
-  refl,
-  refl,
-)
+returns-then-refuted-clause-step g c = (c.in_ok-refuted.ensures.refuted c.if-refuted.true, refl, refl)
 
 pub try_candidate-requires-clause-bodies : goal.try_candidate-requires-clause-bodies
 try_candidate-requires-clause-bodies g c =

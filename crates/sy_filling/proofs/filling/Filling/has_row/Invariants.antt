@@ -5,4 +5,6 @@ use Rattle.sy_filling.specs.Task.{level_of, levels_of}
 use Rattle.sy_filling.proofs.filling.Filling.has_row.Given as goal
 
 abbrev pub invariant-loop-place : goal.invariant-loop-place
-invariant-loop-place g l = AreOther (levels_of g.T.Theory.denotes l.levels ++ level_of g.T.Theory.denotes l.self.fresh ∷ []) l.nonterminal (take l.place-index l.place-items) (vals_of g.T.Theory.denotes l.row)
+invariant-loop-place g l =
+    let number = g.T.Theory.denotes in
+    AreOther (levels_of number l.levels ++ level_of number l.self.fresh ∷ []) l.nonterminal (take l.place-index l.place-items) (vals_of number l.row)

@@ -16,8 +16,8 @@ returns-clause-steady g c =
     let sized : c.args.task.now.size ≡ length w.levels = c.requires.sized ∙ sym (length-map c.args.task.now.levels.now (level_of number)) in
     let within : c.args.nonterminal < length s.fresh = omega (arith, c.requires.known, c.requires.steady.wide, length-map c.args.task.now.grammar.now.nons (nonterminal_of number)) in
     let right = subst (λ size. IsRight w c.args.nonterminal size (entry_of number c.args.kept)) sized c.requires.right in
-    let index = c.len-index.ensures ∙ sym (length-map c.of.result.now (entry_of number)) ∙ ap length c.of.ensures in
-    let added = added-as w s c.args.nonterminal (entry_of number c.args.kept) c.args.hash _ _ (places_of c.add.new.self) (sym (length-map c.args.task.now.levels.now (level_of number))) index c.requires.hash c.in_ok-add.ensures.ok in
+    let index = c.len.ensures ∙ sym (length-map c.of.result.now (entry_of number)) ∙ ap length c.of.ensures in
+    let added = added-as w s c.args.nonterminal (entry_of number c.args.kept) c.args.hash _ _ (places_of c.add.new.self) sized index c.requires.hash c.in_ok-add.ensures.ok in
     rw c.in_ok-push.ensures.ok (keeps w s c.args.nonterminal (entry_of number c.args.kept) (places_of c.add.new.self) c.requires.steady right c.requires.differs within added c.if-self-task.false)
 
 pub returns-clause-grows : goal.returns-clause-grows
