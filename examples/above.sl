@@ -1,4 +1,4 @@
-; No member of the grammar is above every x: the greatest byte has none above it. All two members were tried.
+; No member of the grammar is above every x: the greatest byte has none above it. Both members were tried.
 ; answer: fail Exhausted
 (set-logic BV)
 (synth-fun f ((x (_ BitVec 8))) (_ BitVec 8)
