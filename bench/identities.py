@@ -1,11 +1,11 @@
 #!/usr/bin/env python3
-"""Runs `sy_solve` beside cvc5 and z3 on the question whether an identity of bit vectors holds.
+"""Runs `sy_bits` beside cvc5 and z3 on the question whether an identity of bit vectors holds.
 
     bench/identities.py [NAME ..]
 
 With no name it takes every identity, at 8, 16, 32 and 64 bits. Each program runs at most three times a file, and the least
 processor time of its whole process counts; a run that takes longer than a second isn't repeated. The last columns are the
-time of `sy_solve` by that of the other. A solver that isn't installed is left out.
+time of `sy_bits` by that of the other. A solver that isn't installed is left out.
 """
 import os
 import shutil
@@ -129,7 +129,7 @@ def main():
     others = {name: words for name, words in (("cvc5", ["cvc5"]), ("z3", ["z3"])) if shutil.which(name)}
     subprocess.run(["rt", "run"], cwd=CRATE, stdout=subprocess.DEVNULL, stderr=subprocess.DEVNULL)
     names = sys.argv[1:]
-    heads = ["Identity", "bits", "variables", "clauses", "learned", "`sy_solve` ms"]
+    heads = ["Identity", "bits", "variables", "clauses", "learned", "`sy_bits` ms"]
     heads += [name + " ms" for name in others] + ["by " + name for name in others]
     print("| " + " | ".join(heads) + " |")
     print("|" + "---|" * len(heads))

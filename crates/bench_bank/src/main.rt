@@ -8,15 +8,15 @@ ghost use Rattle.sy_terms.specs.Denoted.{val_of, vals_of, AreValid};
 ghost use Rattle.sy_terms.specs.Theories.{valid, sort_of_value};
 ghost use Rattle.sy_terms.specs.declared.op.Op.TheVariants as ops;
 ghost use Rattle.sy_terms.specs.declared.sort.Sort.TheVariants as sorts;
-ghost use Rattle.sy_offer.specs.Tasks.{ArePointsOf};
+ghost use Rattle.sy_bank_offer.specs.Tasks.{ArePointsOf};
 
 use std::alloc::Global;
 use std::env;
 use std::process::ExitCode;
 use sy_bank::{Bank, BankEnd, build};
-use sy_grammar::{Grammar, Non, Part, Parts, Rule, well_formed};
+use sy_grammar_base::{Grammar, Non, Part, Parts, Rule, well_formed};
+use sy_meaning_words::BvTheory;
 use sy_terms::{Op, Seq, Sort, Theory, Value, Values, Want};
-use sy_words::BvTheory;
 
 /// The state of a random source after this one.
 fn next(state: u64) -> u64 {

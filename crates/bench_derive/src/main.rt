@@ -8,9 +8,9 @@ ghost use Rattle.std.specs.Prelude.{◌<◌};
 use std::alloc::Global;
 use std::env;
 use std::process::ExitCode;
-use sy_derive::derive;
-use sy_grammar::{Grammar, Non, Part, Parts, Rule, well_formed};
-use sy_integers::IntTheory;
+use sy_grammar_base::{Grammar, Non, Part, Parts, Rule, well_formed};
+use sy_grammar_derive::derive;
+use sy_meaning_integers::IntTheory;
 use sy_terms::{Op, Seq, Sort, Term, Terms, Value, Want};
 
 /// A rule of the nonterminal `n`: a leaf, a chain rule, or a sum of two nonterminals.

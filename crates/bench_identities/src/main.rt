@@ -9,16 +9,16 @@ ghost use Rattle.std.specs.Prelude.{◌≤◌, length};
 use std::alloc::Global;
 use std::env;
 use std::process::ExitCode;
+use sy_bits::{BvDecide, BvProof, BvSpent, fits};
 use sy_clauses::{Cnf, Log, check};
-use sy_decide::{Decide, Verdict};
-use sy_grammar::Problem;
+use sy_grammar_base::Problem;
 use sy_io::{FileSource, read_whole};
-use sy_limits::Limits;
-use sy_query::Query;
-use sy_reader::{Job, read_file};
-use sy_solve::{BvDecide, BvProof, BvSpent, fits};
+use sy_meaning_words::BvTheory;
+use sy_query_base::Query;
+use sy_query_decide::{Decide, Verdict};
+use sy_query_limits::Limits;
+use sy_scope::{Job, read_file};
 use sy_terms::{Op, Seq, Term, Terms, Want};
-use sy_words::BvTheory;
 
 /// The most bytes that are read.
 const FILE_MAX: usize = 4_194_304;

@@ -8,7 +8,7 @@ ghost use Rattle.std.specs.Prelude.{◌<◌, ◌≤◌, length};
 use std::alloc::{AllocError, Global};
 use std::env;
 use std::process::ExitCode;
-use sy_reader::{Job, read_file};
+use sy_scope::{Job, read_file};
 use sy_text::next_command;
 
 /// The longest file.

@@ -5,7 +5,7 @@
 use std::alloc::Global;
 use std::env;
 use std::process::ExitCode;
-use sy_forms::Form;
+use sy_linear_forms::Form;
 use sy_seq::{Seq, Want};
 use sy_simplex::{Feasible, are_forms, feasible};
 

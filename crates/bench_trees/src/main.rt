@@ -8,14 +8,14 @@
 use std::alloc::Global;
 use std::env;
 use std::process::ExitCode;
-use sy_forms::Form;
 use sy_frac::Frac;
-use sy_integers::IntTheory;
-use sy_linear::{CheckEnd, Fact, Known, Test, Tree, is_numbered, known_under};
-use sy_query::Query;
+use sy_linear::check_tree;
+use sy_linear_forms::Form;
+use sy_linear_known::{CheckEnd, Fact, Known, Test, Tree, is_numbered, known_under};
+use sy_meaning_integers::IntTheory;
+use sy_query_base::Query;
 use sy_seq::{Seq, Want};
 use sy_terms::{Op, Sort, Term, Terms, Value};
-use sy_trees::check_tree;
 
 /// `(<= least (* 1 x))`, of five nodes.
 fn at_least(alloc: Global, least: i128) -> Result<Term<IntTheory>, Want> {

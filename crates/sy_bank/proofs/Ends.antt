@@ -4,8 +4,8 @@ use Rattle.std.specs.Prelude.{IfSome, is_some, IsErrAnd}
 use Rattle.std.specs.Option.{option_map}
 use Rattle.sy_terms.specs.Values.{Val}
 use Rattle.sy_terms.specs.Meaning.{Function}
-use Rattle.sy_grammar.specs.Trees.{Syntax}
-use Rattle.sy_rows.specs.Banks.{Lost, Merged, IsDropped}
+use Rattle.sy_grammar_base.specs.Trees.{Syntax}
+use Rattle.sy_bank_rows.specs.Banks.{Lost, Merged, IsDropped}
 use Rattle.sy_bank.specs.Answers.{OnBank, IfFull}
 use Rattle.sy_bank.specs.Bank.{merged_of}
 use Rattle.sy_bank.specs.Promised.{IsBank, IsFull, IsNext, Stays}

@@ -3,15 +3,15 @@ use Rattle.std.proofs.Common.{◌≡◌, ℕ, ◌≤◌, List, [], ◌∷◌, le
 use Rattle.sy_terms.specs.Values.{Val}
 use Rattle.sy_terms.specs.Meaning.{Function}
 use Rattle.sy_terms.specs.Fitting.{Scope}
-use Rattle.sy_grammar.specs.Trees.{Syntax}
-use Rattle.sy_rows.specs.Banks.{Entry, Merged}
-use Rattle.sy_filling.specs.Filling.{World, State, IsSteady, IsBeyond}
-use Rattle.sy_filling.specs.declared.table.Place.{Place}
-use Rattle.sy_saturated.specs.Indexed.{IsIndexed}
-use Rattle.sy_saturated.specs.Ready.{IsReady}
-use Rattle.sy_saturated.specs.Tried.{IsFilled}
-use Rattle.sy_saturated.proofs.LevelsLemmas.{stays-more}
-use Rattle.sy_saturated.proofs.Next.{world_at, extended, indexed-next, honest-next, ready-next, new-next}
+use Rattle.sy_grammar_base.specs.Trees.{Syntax}
+use Rattle.sy_bank_rows.specs.Banks.{Entry, Merged}
+use Rattle.sy_bank_level.specs.Filling.{World, State, IsSteady, IsBeyond}
+use Rattle.sy_bank_level.specs.declared.table.Place.{Place}
+use Rattle.sy_bank_growth_laws.specs.Indexed.{IsIndexed}
+use Rattle.sy_bank_growth_laws.specs.Ready.{IsReady}
+use Rattle.sy_bank_growth_laws.specs.Tried.{IsFilled}
+use Rattle.sy_bank_growth_laws.proofs.LevelsLemmas.{stays-more}
+use Rattle.sy_bank_growth_laws.proofs.Next.{world_at, extended, indexed-next, honest-next, ready-next, new-next}
 use Rattle.sy_bank.specs.Promised.{IsFull, IsNext}
 
 -- the kept terms of the bank's next size, once they are found, and the bank that has them

@@ -3,12 +3,12 @@ use Rattle.std.specs.Prelude.{ℕ, List, Result, Ok, Err}
 use Rattle.sy_terms.specs.Values.{Val}
 use Rattle.sy_terms.specs.Meaning.{Function}
 use Rattle.sy_terms.specs.Fitting.{Scope}
-use Rattle.sy_grammar.specs.Trees.{Syntax}
-use Rattle.sy_rows.specs.Banks.{Entry, Merged}
-use Rattle.sy_rows.specs.Stored.{entry_of}
-use Rattle.sy_filling.specs.Places.{places_of}
-use Rattle.sy_saturated.specs.Indexed.{IsIndexed}
-use Rattle.sy_saturated.specs.Ready.{IsReady}
+use Rattle.sy_grammar_base.specs.Trees.{Syntax}
+use Rattle.sy_bank_rows.specs.Banks.{Entry, Merged}
+use Rattle.sy_bank_rows.specs.Stored.{entry_of}
+use Rattle.sy_bank_level.specs.Places.{places_of}
+use Rattle.sy_bank_growth_laws.specs.Indexed.{IsIndexed}
+use Rattle.sy_bank_growth_laws.specs.Ready.{IsReady}
 use Rattle.sy_bank.specs.Bank.{merged_of}
 use Rattle.sy_bank.specs.declared.bank.Bank.{Bank}
 use Rattle.sy_bank.specs.declared.bank.BankEnd.{BankEnd}

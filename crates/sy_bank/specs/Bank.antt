@@ -3,9 +3,9 @@ use Rattle.std.specs.Prelude.{map}
 use Rattle.std.specs.Option.{option_map}
 use Rattle.sy_terms.specs.Values.{Val}
 use Rattle.sy_terms.specs.Denoted.{vals_of}
-use Rattle.sy_rows.specs.Banks.{Merged}
-use Rattle.sy_rows.specs.Stored.{lost_of}
-use Rattle.sy_filling.specs.Task.{levels_of}
+use Rattle.sy_bank_rows.specs.Banks.{Merged}
+use Rattle.sy_bank_rows.specs.Stored.{lost_of}
+use Rattle.sy_bank_level.specs.Task.{levels_of}
 use Rattle.sy_bank.specs.declared.bank.Bank.{Bank}
 
 abbrev pub merged_of : {T N : Type 0} → (N → Val) → Bank T N → Merged

@@ -3,18 +3,18 @@ ghost use Rattle.std.specs.Prelude.{◌≡◌, ◌≤◌, true, None, map, IfOk}
 ghost use Rattle.sy_terms.specs.Denoted.{vals_of};
 ghost use Rattle.sy_terms.specs.Definitions.{DefinitionsFit, scope_of, bodies};
 ghost use Rattle.sy_terms.specs.Meaning.{functions};
-ghost use Rattle.sy_grammar.specs.Formed.{is_formed};
-ghost use Rattle.sy_grammar.specs.Grown.{syntax_from};
-ghost use Rattle.sy_rows.specs.Banks.{count};
-ghost use Rattle.sy_offer.specs.Tasks.{HasNegation, ArePointsOf};
+ghost use Rattle.sy_grammar_base.specs.Formed.{is_formed};
+ghost use Rattle.sy_grammar_base.specs.Grown.{syntax_from};
+ghost use Rattle.sy_bank_rows.specs.Banks.{count};
+ghost use Rattle.sy_bank_offer.specs.Tasks.{HasNegation, ArePointsOf};
 ghost use Rattle.sy_bank.specs.Answers.{OnBank, IfFull, IsBuilt};
 ghost use Rattle.sy_bank.specs.Bank.{merged_of};
 ghost use Rattle.sy_bank.specs.Promised.{IsBank, IsWhole, IsFull, Stays};
 
 use crate::bank::{Bank, BankEnd};
 use std::alloc::Global;
-use sy_filling::Table;
-use sy_grammar::Grammar;
+use sy_bank_level::Table;
+use sy_grammar_base::Grammar;
 use sy_terms::{Defs, Seq, Theory, Values, Want, copied_values};
 
 /// The same points, in memory of their own.

@@ -4,12 +4,12 @@ ghost use Rattle.std.specs.Option.{option_map};
 ghost use Rattle.sy_terms.specs.Denoted.{vals_of};
 ghost use Rattle.sy_terms.specs.Definitions.{DefinitionsFit, scope_of, bodies};
 ghost use Rattle.sy_terms.specs.Meaning.{functions};
-ghost use Rattle.sy_grammar.specs.Formed.{is_formed};
-ghost use Rattle.sy_grammar.specs.Grown.{syntax_from};
-ghost use Rattle.sy_rows.specs.Banks.{count};
-ghost use Rattle.sy_rows.specs.Stored.{lost_of};
-ghost use Rattle.sy_filling.specs.Task.{level_of, levels_of};
-ghost use Rattle.sy_offer.specs.Tasks.{HasNegation, ArePointsOf};
+ghost use Rattle.sy_grammar_base.specs.Formed.{is_formed};
+ghost use Rattle.sy_grammar_base.specs.Grown.{syntax_from};
+ghost use Rattle.sy_bank_rows.specs.Banks.{count};
+ghost use Rattle.sy_bank_rows.specs.Stored.{lost_of};
+ghost use Rattle.sy_bank_level.specs.Task.{level_of, levels_of};
+ghost use Rattle.sy_bank_offer.specs.Tasks.{HasNegation, ArePointsOf};
 ghost use Rattle.sy_bank.specs.Answers.{OnBank, IfFull, IsBuilt};
 ghost use Rattle.sy_bank.specs.Bank.{merged_of};
 ghost use Rattle.sy_bank.specs.Promised.{IsBank, IsWhole, IsFull, IsNext, Stays};
@@ -17,8 +17,8 @@ ghost use Rattle.sy_bank.specs.Promised.{IsBank, IsWhole, IsFull, IsNext, Stays}
 use crate::bank::{Bank, BankEnd};
 use crate::rules::fill;
 use std::alloc::Global;
-use sy_filling::{Filling, Level, Stop, Task};
-use sy_grammar::Grammar;
+use sy_bank_level::{Filling, Level, Stop, Task};
+use sy_grammar_base::Grammar;
 use sy_terms::{Defs, Seq, Theory, Values, Want};
 
 /// The bank of these levels and what was kept beyond them.

@@ -1,21 +1,21 @@
 // What the rules of a grammar give at one size.
 ghost use Rattle.std.specs.Prelude.{◌≡◌, ◌<◌, ℕ, length, Some, OnOk, IfErr};
-ghost use Rattle.sy_grammar.specs.Trees.{rule_at};
-ghost use Rattle.sy_grammar.specs.Grown.{production_of};
-ghost use Rattle.sy_grammar.specs.Written.{pattern_of};
-ghost use Rattle.sy_filling.specs.Filling.{IsSteady, Grows};
-ghost use Rattle.sy_filling.specs.Task.{world, IsStop, state_of};
-ghost use Rattle.sy_offer.specs.Tasks.{IsTask, IsRule};
-ghost use Rattle.sy_saturated.specs.Tried.{IsTried, AllAreTried, IsFilled};
+ghost use Rattle.sy_grammar_base.specs.Trees.{rule_at};
+ghost use Rattle.sy_grammar_base.specs.Grown.{production_of};
+ghost use Rattle.sy_grammar_base.specs.Written.{pattern_of};
+ghost use Rattle.sy_bank_level.specs.Filling.{IsSteady, Grows};
+ghost use Rattle.sy_bank_level.specs.Task.{world, IsStop, state_of};
+ghost use Rattle.sy_bank_offer.specs.Tasks.{IsTask, IsRule};
+ghost use Rattle.sy_bank_growth_laws.specs.Tried.{IsTried, AllAreTried, IsFilled};
 
 use std::rc::Rc;
-use sy_choose::choose;
-use sy_filling::{Filling, Stop, Task};
-use sy_grammar::{Part, Rule};
-use sy_leaves::{LeafRule, constants, variables};
-use sy_offer::Template;
-use sy_passing::pass_chains;
-use sy_rows::copied_part;
+use sy_bank_chains::pass_chains;
+use sy_bank_leaves::{LeafRule, constants, variables};
+use sy_bank_level::{Filling, Stop, Task};
+use sy_bank_offer::Template;
+use sy_bank_rows::copied_part;
+use sy_bank_rules::choose;
+use sy_grammar_base::{Part, Rule};
 use sy_terms::Theory;
 
 /// Keeps what all rules give at the task's size, unless kept terms have its rows.

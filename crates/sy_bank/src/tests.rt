@@ -4,14 +4,14 @@ ghost use Rattle.sy_terms.specs.Denoted.{val_of, vals_of};
 ghost use Rattle.sy_terms.specs.Theories.{valid, sort_of_value};
 ghost use Rattle.sy_terms.specs.declared.op.Op.TheVariants as ops;
 ghost use Rattle.sy_terms.specs.declared.sort.Sort.TheVariants as sorts;
-ghost use Rattle.sy_offer.specs.Tasks.{ArePointsOf};
+ghost use Rattle.sy_bank_offer.specs.Tasks.{ArePointsOf};
 
 use crate::{Bank, BankEnd, build};
 use std::alloc::{AllocError, Global};
-use sy_grammar::{Grammar, Non, Part, Parts, Rule, well_formed};
-use sy_integers::IntTheory;
+use sy_grammar_base::{Grammar, Non, Part, Parts, Rule, well_formed};
+use sy_meaning_integers::IntTheory;
+use sy_meaning_words::BvTheory;
 use sy_terms::{Op, Seq, Sort, Theory, Value, Values, Want};
-use sy_words::BvTheory;
 
 /// The value of the sort that is this number.
 fn value<T: Theory>(sort: Sort, number: i128) -> Option<Value<T::Num>>

@@ -1,3 +1,2 @@
-pub mod Assignments
-pub mod Clauses
-pub mod Fitting
+pub mod Proofs
+pub mod Soundness

@@ -1,2 +1,13 @@
-// Queries over bit vectors: what their circuit clauses say, and what they cost.
+// A solver of queries over bit vectors: their circuit clauses, and a search for a model or a refutation of these.
 #![tactic(auto)]
+
+mod answers;
+mod decider;
+mod fitting;
+mod room;
+#[cfg(test)]
+mod tests;
+
+pub use answers::{BvProof, BvSpent};
+pub use decider::BvDecide;
+pub use fitting::fits;

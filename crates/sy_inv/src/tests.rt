@@ -1,7 +1,7 @@
 // What the calls give over integers.
 use crate::expand;
 use std::alloc::AllocError;
-use sy_integers::IntTheory;
+use sy_meaning_integers::IntTheory;
 
 #[test]
 fn expands_over_one_variable(rt: HostRuntime) -> Result<(), AllocError> {

@@ -1,7 +1,6 @@
-pub mod Agreement
-pub mod Refutation
-pub mod Fitting
-pub mod Steps
-pub mod Valid
-pub mod Walking
-pub mod Decided
+pub mod Lowest
+pub mod Folding
+pub mod Accepting
+pub mod Refuting
+pub mod Judged
+pub mod Bounds

@@ -1,8 +1,4 @@
-pub mod Paths
-pub mod Sights
-pub mod Fitting
-pub mod Operations
-pub mod Seen
-pub mod Right
-pub mod Trees
-pub mod Stored
+pub mod Exact
+pub mod Combining
+pub mod Judging
+pub mod Unsatisfied

@@ -1,19 +1,11 @@
-// What facts on linear forms and truth values tell of a query, and trees that refute one.
+// The checker of refutation trees.
 #![tactic(auto)]
 
-mod answer;
-mod application;
-mod arithmetic;
-mod comparisons;
-mod path;
-mod queries;
-mod sight;
-mod tree;
-mod truths;
-mod walk;
+mod checker;
+mod combination;
+mod exact;
+mod nodes;
+mod size;
 
-pub use answer::Known;
-pub use path::{Fact, Path, Test};
-pub use queries::{is_numbered, known, known_under};
-pub use sy_forms::{Form, FormEnd};
-pub use tree::{CheckEnd, Tree};
+pub use checker::check_tree;
+pub use nodes::{contradicts, cut, suits};

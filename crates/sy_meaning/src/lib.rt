@@ -9,6 +9,6 @@ mod trace;
 
 pub use evaluation::{Eval, evaluate, evaluate_with};
 pub use fitting::{Signature, term_sort, value_sorts};
-pub use sy_integers::IntTheory;
-pub use sy_words::{BvTheory, Word};
+pub use sy_meaning_integers::IntTheory;
+pub use sy_meaning_words::{BvTheory, Word};
 pub use trace::Trace;

@@ -4,7 +4,7 @@ ghost use Rattle.std.specs.Prelude.{◌≡◌, ◌∷◌, [], IfOk, IfSome, IsTr
 ghost use Rattle.sy_terms.specs.Denoted.{expr_of};
 ghost use Rattle.sy_terms.specs.Definitions.{DefinitionsFit};
 ghost use Rattle.sy_terms.specs.Fitting.{sort_in};
-ghost use Rattle.sy_laws.specs.Evaluation.{BodiesFit};
+ghost use Rattle.sy_terms_laws.specs.Evaluation.{BodiesFit};
 ghost use Rattle.sy_meaning.specs.Signatures.{signatures_of, scope_of};
 
 use crate::{

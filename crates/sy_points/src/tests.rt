@@ -1,7 +1,7 @@
 // What the calls give over integers.
 use crate::{Added, Points, Stored};
 use std::alloc::{AllocError, Global};
-use sy_integers::IntTheory;
+use sy_meaning_integers::IntTheory;
 use sy_terms::{Seq, Term, Value, Values};
 
 fn tuple(alloc: Global, numbers: &[i128]) -> Result<Values<IntTheory>, AllocError> {

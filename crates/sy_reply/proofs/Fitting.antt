@@ -10,7 +10,7 @@ use Rattle.sy_terms.specs.declared.op.Op.{Op}
 use Rattle.sy_terms.specs.declared.sort.Sort.{Sort}
 use Rattle.sy_terms.specs.declared.term.Fun.{Fun}
 use Rattle.sy_terms.specs.declared.term.Fun.TheVariants.{Defined, Wanted}
-use Rattle.sy_grammar.specs.Trees.{is_negative}
+use Rattle.sy_grammar_base.specs.Trees.{is_negative}
 use Rattle.sy_reply.specs.Writable.{is_literal, IsDefined, IsWritable, AreWritable}
 
 abbrev mutual

@@ -13,13 +13,13 @@ use Rattle.sy_terms.specs.Fitting.{Scope, applied_sort}
 use Rattle.sy_terms.specs.Sorts.{same_sort}
 use Rattle.sy_terms.specs.Expr.{Expr, Variable}
 use Rattle.sy_terms.specs.declared.sort.Sort.{Sort}
-use Rattle.sy_grammar.specs.Patterns as pattern
-use Rattle.sy_grammar.specs.Patterns.{Pattern, Patterns, occurring, all_occurring, filled, all_filled}
-use Rattle.sy_grammar.specs.Trees as trees
-use Rattle.sy_grammar.specs.Trees.{Production, Template, EachConstant, EachVariable, Nonterminal, Syntax, Tree, Trees, Node, ConstantLeaf, VariableLeaf, rule_at, rule_of, is_written, literal, node_yield, constant_yield, variable_yield, is_sort, joined, yield_from, yields_from, IsMember}
-use Rattle.sy_grammar.specs.Formed.{is_known, is_plain, is_linear, pattern_sort, pattern_sorts, rule_sort, fits, is_formed}
-use Rattle.sy_grammar.specs.Questions.{Goal}
-use Rattle.sy_grammar.specs.Solving.{AreMembers}
+use Rattle.sy_grammar_base.specs.Patterns as pattern
+use Rattle.sy_grammar_base.specs.Patterns.{Pattern, Patterns, occurring, all_occurring, filled, all_filled}
+use Rattle.sy_grammar_base.specs.Trees as trees
+use Rattle.sy_grammar_base.specs.Trees.{Production, Template, EachConstant, EachVariable, Nonterminal, Syntax, Tree, Trees, Node, ConstantLeaf, VariableLeaf, rule_at, rule_of, is_written, literal, node_yield, constant_yield, variable_yield, is_sort, joined, yield_from, yields_from, IsMember}
+use Rattle.sy_grammar_base.specs.Formed.{is_known, is_plain, is_linear, pattern_sort, pattern_sorts, rule_sort, fits, is_formed}
+use Rattle.sy_grammar_base.specs.Questions.{Goal}
+use Rattle.sy_grammar_base.specs.Solving.{AreMembers}
 use Rattle.sy_reply.specs.Writable.{is_literal, IsWritable, AreWritable, HaveBodies}
 use Rattle.sy_reply.proofs.Fitting.{applied_some, called_some, with_some}
 

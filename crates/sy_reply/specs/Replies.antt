@@ -2,8 +2,8 @@
 use Rattle.std.specs.Prelude.{ℕ, List, [], ◌∷◌, ◌++◌, codes, map, true, false, pos, negsuc, slice_get, Option, Some, None}
 use Rattle.std.specs.List.{join_with_byte, concat}
 use Rattle.sy_text.specs.Spelling.{symbol_text, numeral_text, vector_text}
-use Rattle.sy_causes.specs.declared.titles.Title.{Title}
-use Rattle.sy_causes.specs.declared.titles.Titles.{Titles}
+use Rattle.sy_scope_causes.specs.declared.titles.Title.{Title}
+use Rattle.sy_scope_causes.specs.declared.titles.Titles.{Titles}
 use Rattle.sy_terms.specs.Values.{Val, Truth, Whole, Bits}
 use Rattle.sy_terms.specs.Expr.{Expr, Exprs, Constant, Variable, Apply, Invoke, Bind, none, more}
 use Rattle.sy_terms.specs.Spelling.{spelling}
@@ -13,7 +13,7 @@ use Rattle.sy_terms.specs.declared.sort.Sort.{Sort}
 use Rattle.sy_terms.specs.declared.sort.Sort.TheVariants as sorts
 use Rattle.sy_terms.specs.declared.term.Fun.{Fun}
 use Rattle.sy_terms.specs.declared.term.Fun.TheVariants.{Defined, Wanted}
-use Rattle.sy_grammar.specs.Questions.{Goal, Question}
+use Rattle.sy_grammar_base.specs.Questions.{Goal, Question}
 
 -- the parts in brackets, with one space between them
 unfoldable pub bracketed : List (List ℕ) → List ℕ

@@ -1,13 +1,13 @@
 -- What can be written: titles with enough names, and bodies that use nothing else.
 use Rattle.std.specs.Prelude.{ℕ, ◌≡◌, ◌<◌, Bool, true, false, List, length, take, pos, negsuc}
 use Rattle.std.specs.List.{AllZip}
-use Rattle.sy_causes.specs.declared.titles.Title.{Title}
+use Rattle.sy_scope_causes.specs.declared.titles.Title.{Title}
 use Rattle.sy_terms.specs.Values.{Val, Truth, Whole, Bits}
 use Rattle.sy_terms.specs.Expr.{Expr, Exprs, Constant, Variable, Apply, Invoke, Bind, none, more}
 use Rattle.sy_terms.specs.Theories.{valid}
 use Rattle.sy_terms.specs.declared.term.Fun.{Fun}
 use Rattle.sy_terms.specs.declared.term.Fun.TheVariants.{Defined, Wanted}
-use Rattle.sy_grammar.specs.Questions.{Goal}
+use Rattle.sy_grammar_base.specs.Questions.{Goal}
 
 -- a value of its sort that isn't negative
 abbrev pub is_literal : Val → Bool

@@ -2,16 +2,16 @@
 ghost use Rattle.std.specs.Prelude.{◌≡◌, ◌≤◌, ◌++◌, length, map, OnOk, IfOk};
 ghost use Rattle.std.specs.List.{join_with_byte};
 ghost use Rattle.sy_terms.specs.Denoted.{expr_of};
-ghost use Rattle.sy_grammar.specs.Questions.{goal_of, question_of};
+ghost use Rattle.sy_grammar_base.specs.Questions.{goal_of, question_of};
 ghost use Rattle.sy_reply.specs.Replies as replies;
 ghost use Rattle.sy_reply.specs.Writable.{IsWritable, AreTitled, HaveBodies};
 
 use crate::symbols::write_sort;
 use crate::terms::write_term;
 use std::alloc::Global;
-use sy_causes::{Title, Titles};
-use sy_grammar::{Problem, Wanted};
+use sy_grammar_base::{Problem, Wanted};
 use sy_io::Bytes;
+use sy_scope_causes::{Title, Titles};
 use sy_seq::Want;
 use sy_terms::{Bodies, Sort, Term, Theory};
 use sy_text::{Name, write_symbol};

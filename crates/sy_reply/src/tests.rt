@@ -1,18 +1,18 @@
 // Replies as they are written out by hand.
 ghost use Rattle.std.specs.Prelude.{◌≡◌, map, true, length, IsTrue};
 ghost use Rattle.sy_terms.specs.Denoted.{expr_of, exprs_of, val_of};
-ghost use Rattle.sy_grammar.specs.Questions.{goal_of};
+ghost use Rattle.sy_grammar_base.specs.Questions.{goal_of};
 ghost use Rattle.sy_reply.specs.Writable.{is_literal, IsDefined, IsWritable, AreWritable, AreTitled, HaveBodies};
 
 use crate::reply_text;
 use std::alloc::{AllocError, Global};
-use sy_causes::{Title, Titles};
-use sy_grammar::{Grammar, Non, Problem, Rule, Wanted, well_formed};
-use sy_integers::IntTheory;
+use sy_grammar_base::{Grammar, Non, Problem, Rule, Wanted, well_formed};
 use sy_io::Bytes;
+use sy_meaning_integers::IntTheory;
+use sy_meaning_words::{BvTheory, Word};
+use sy_scope_causes::{Title, Titles};
 use sy_terms::{Bodies, Def, Fun, Op, Seq, Sort, Term, Terms, Theory, Value};
 use sy_text::Name;
-use sy_words::{BvTheory, Word};
 
 /// Whether the value has a literal.
 fn has_literal<T: Theory>(value: &Value<T::Num>) -> bool

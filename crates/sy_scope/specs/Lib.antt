@@ -1,5 +1,4 @@
-pub mod Contexts
-pub mod Steps
-pub mod Files
-pub mod Jobs
-pub mod Known
+pub mod Seen
+pub mod Calls
+pub mod Read
+pub mod Fit

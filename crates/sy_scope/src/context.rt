@@ -1,73 +1,90 @@
-// Room for names, and new names.
-ghost use Rattle.std.specs.Prelude.{◌≡◌, None, IfOk};
-ghost use Rattle.sy_resolve.specs.Environments.{entry};
-ghost use Rattle.sy_resolve.specs.Readings.{Gives};
-ghost use Rattle.sy_scope.specs.Contexts as spec;
-ghost use Rattle.sy_scope.specs.Known.{declared};
+// What the commands so far declare and ask for.
+ghost use Rattle.std.specs.Prelude.{◌≡◌};
+ghost use Rattle.sy_scope_steps.specs.Contexts as spec;
+ghost use Rattle.sy_scope.specs.Seen.{context_of};
 
-use sy_causes::Cause;
-use sy_resolve::{Names, ReadEnd, is, is_reserved};
-use sy_terms::Logic;
-use sy_text::Place;
+use std::alloc::Global;
+use sy_forms::{Measures, Named, Names, Phrase};
+use sy_grammar_base::Problem;
+use sy_scope_pool::Pool;
+use sy_scope_rules::Group;
+use sy_terms::{Logic, Seq, Sort, Term, Theory, Values};
+use sy_text::Name;
 
-/// How many declared names and fresh variables a file may have.
-const NAMES_MAX: usize = 4096;
-
-/// Whether there is room for so many names more, beside the declared names and so many fresh variables.
-pub fn has_room(names: &Names, fresh: usize, more: usize) -> bool
-    ensures { result ≡ spec.has_room (declared names.now fresh) more }
-{
-    let used = names.len();
-    used <= NAMES_MAX && fresh <= NAMES_MAX - used && more <= NAMES_MAX - used - fresh
+/// A definition: its name, its arguments, its value's sort, and its body.
+#[derive(Drop)]
+pub struct Definition<T: Theory> {
+    pub name: Name,
+    pub arguments: Seq<Named>,
+    pub sort: Sort,
+    pub body: Phrase<T>,
 }
 
-/// Tests a new name of a variable or a function, beside the declared names and so many fresh variables: `NameTaken`
-/// comes where it is reserved or stands for something, and then `TooMany` where there are 4,096 names already.
-pub fn new_name(
-    names: &Names,
-    fresh: usize,
-    logic: Logic,
-    at: Place,
-    name: &[u8],
-) -> Result<(), ReadEnd>
-    ensures name { Gives (λ _. name.now) result (spec.new_name (declared names.now fresh) logic at name.now) }
-    ensures free { IfOk result (λ _. entry name.now names.now.entities ≡ None) }
-{
-    if is_reserved(logic, name) || names.entity(name).is_some() {
-        return Err(ReadEnd::Refused(at, Cause::NameTaken));
-    }
-    if has_room(names, fresh, 1) {
-        Ok(())
-    } else {
-        Err(ReadEnd::Refused(at, Cause::TooMany))
-    }
+/// A function to be found: its name, its arguments, its value's sort, and the nonterminals of its grammar, where one was
+/// written.
+#[derive(Drop)]
+pub struct Sought<T: Theory> {
+    pub name: Name,
+    pub arguments: Seq<Named>,
+    pub sort: Sort,
+    pub groups: Option<Seq<Group<T>>>,
 }
 
-/// Whether it is the name of a sort that is always there.
-fn is_sort_name(name: &[u8]) -> bool
-    ensures { result ≡ spec.is_sort_name name.now }
-{
-    is(name, b"Bool") || is(name, b"Int") || is(name, b"BitVec")
+/// A grammar: the nonterminals that are written, where there are any, and the values that are written in them.
+#[derive(Drop)]
+pub struct Ruled<T: Theory> {
+    pub groups: Option<Seq<Group<T>>>,
+    pub values: Values<T>,
 }
 
-/// Tests a new name of a sort, beside the declared names and so many fresh variables: `NameTaken` comes where it is
-/// reserved or a sort's, and then `TooMany` where there are 4,096 names already.
-pub fn new_sort_name(
-    names: &Names,
-    fresh: usize,
-    logic: Logic,
-    at: Place,
-    name: &[u8],
-) -> Result<(), ReadEnd>
-    ensures name { Gives (λ _. name.now) result (spec.new_sort_name (declared names.now fresh) logic at name.now) }
-    ensures free { IfOk result (λ _. entry name.now names.now.sorts ≡ None) }
-{
-    if is_reserved(logic, name) || is_sort_name(name) || names.sort(name).is_some() {
-        return Err(ReadEnd::Refused(at, Cause::NameTaken));
-    }
-    if has_room(names, fresh, 1) {
-        Ok(())
-    } else {
-        Err(ReadEnd::Refused(at, Cause::TooMany))
+/// A constraint that was written, or a condition of an invariant.
+#[derive(Drop)]
+pub enum Condition<T: Theory> {
+    Written(Phrase<T>),
+    Expanded(Term<T>),
+}
+
+/// What the commands so far declare and ask for, once the logic is known.
+#[derive(Drop)]
+pub struct Context<T: Theory> {
+    pub(crate) logic: Logic,
+    /// The abbreviations of sorts, and what the declared names stand for.
+    pub(crate) names: Names,
+    /// The sorts of all variables, and how many of these are fresh.
+    pub(crate) variables: Seq<Sort>,
+    pub(crate) fresh: usize,
+    pub(crate) definitions: Seq<Definition<T>>,
+    pub(crate) measures: Measures,
+    pub(crate) sought: Seq<Sought<T>>,
+    pub(crate) assumptions: Seq<Phrase<T>>,
+    pub(crate) constraints: Seq<Condition<T>>,
+    /// The values that were written.
+    pub(crate) pool: Pool<T>,
+    /// What each `check-synth` so far asks.
+    pub(crate) questions: Seq<Problem<T>>,
+}
+
+impl<T: Theory> Context<T> {
+    /// The context of a file in which only the logic was set.
+    pub fn new(alloc: Global, logic: Logic) -> Context<T>
+        ensures context { context_of T.denotes result ≡ spec.with_logic logic spec.beginning }
+        ensures logic { result.logic ≡ logic }
+    {
+        Context {
+            logic,
+            names: Names::new(alloc),
+            variables: Seq::new(alloc),
+            fresh: 0,
+            definitions: Seq::new(alloc),
+            measures: Measures {
+                sizes: Seq::new(alloc),
+                depths: Seq::new(alloc),
+            },
+            sought: Seq::new(alloc),
+            assumptions: Seq::new(alloc),
+            constraints: Seq::new(alloc),
+            pool: Pool::new(alloc),
+            questions: Seq::new(alloc),
+        }
     }
 }

@@ -1,6 +1,17 @@
-// Contexts: what the commands of a file declare and ask for.
+// The reader of files.
 #![tactic(auto)]
 
+mod check;
+mod constrain;
 mod context;
+mod declare;
+mod define;
+mod file;
+mod invariant;
+mod job;
+mod step;
+mod synthesise;
+mod titles;
 
-pub use context::{has_room, new_name, new_sort_name};
+pub use file::read_file;
+pub use job::{Job, ScopeEnd};

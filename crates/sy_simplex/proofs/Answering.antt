@@ -4,9 +4,9 @@ use Rattle.std.proofs.Common.{sym, ◌∙◌, ap₂, subst, arith, inl, inr}
 use Rattle.std.proofs.lemmas.List.{get_or_read}
 use Rattle.std.proofs.lemmas.Int.{ints}
 use Rattle.sy_frac.specs.Fraction.{Fraction}
-use Rattle.sy_forms.specs.declared.form.Form.{Form}
-use Rattle.sy_forms.specs.Systems.{Meets, IsCorner, IsRefutation}
-use Rattle.sy_tableau.specs.States.{State, column, coef, IsShaped, IsMet, IsStuck, IsLeaving, IsEntering, IsStep}
+use Rattle.sy_linear_forms.specs.declared.form.Form.{Form}
+use Rattle.sy_linear_forms.specs.Systems.{Meets, IsCorner, IsRefutation}
+use Rattle.sy_simplex_tableau.specs.States.{State, column, coef, IsShaped, IsMet, IsStuck, IsLeaving, IsEntering, IsStep}
 use Rattle.sy_simplex.specs.Problems.{system_of, numbers}
 use Rattle.sy_simplex.specs.Runs.{Ran, stepped, IsPoint, AreMultipliers}
 use Rattle.sy_simplex.proofs.Sound.{IsSteady, ran_steady, point_meets, point_is_corner}

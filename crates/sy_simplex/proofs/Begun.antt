@@ -4,11 +4,11 @@ use Rattle.std.proofs.Common.{refl, sym, ◌∙◌, ap, subst, arith, length-app
 use Rattle.std.proofs.Math.Dec.{eqb}
 use Rattle.std.proofs.lemmas.Bool.Decides.{eqb_tells}
 use Rattle.sy_frac.specs.Fraction.{Fraction, Fits}
-use Rattle.sy_forms.specs.declared.form.Form.{Form}
-use Rattle.sy_tableau.specs.Operations.{whole, opposite}
-use Rattle.sy_tableau.specs.Rows.{at}
-use Rattle.sy_tableau.specs.States.{State}
-use Rattle.sy_tableau.proofs.Pushed.{each_pushed}
+use Rattle.sy_linear_forms.specs.declared.form.Form.{Form}
+use Rattle.sy_simplex_tableau.specs.Operations.{whole, opposite}
+use Rattle.sy_simplex_tableau.specs.Rows.{at}
+use Rattle.sy_simplex_tableau.specs.States.{State}
+use Rattle.sy_simplex_tableau.proofs.Pushed.{each_pushed}
 use Rattle.sy_simplex.specs.Problems.{form}
 use Rattle.sy_simplex.specs.Runs.{FormFits, IsInitial}
 use Rattle.sy_simplex.specs.Beginnings.{AreZeros, IsFullRow, CoefficientsFit, AllFit}

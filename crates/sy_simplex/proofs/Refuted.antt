@@ -6,11 +6,11 @@ use Rattle.std.proofs.lemmas.Bool.Decides.{eqb_tells}
 use Rattle.std.proofs.lemmas.Int.{ints}
 use Rattle.sy_frac.specs.Fraction.{Fraction}
 use Rattle.sy_frac.specs.Rational.{ℚ, 0ℚ, 1ℚ, ◌+ℚ◌, ◌*ℚ◌, neg_ℚ, value as number, is_negative, +ℚ_zero, zero-+ℚ}
-use Rattle.sy_forms.specs.declared.form.Form.{Form}
-use Rattle.sy_forms.specs.Total.{total, total-same, total_zero, total_split, without, without_same, without_other}
-use Rattle.sy_forms.specs.Systems.{form_at, IsRefutation}
-use Rattle.sy_tableau.specs.Rows.{at, Raises}
-use Rattle.sy_tableau.specs.States.{State, column, basic, row, coef, value, bound, IsStuck}
+use Rattle.sy_linear_forms.specs.declared.form.Form.{Form}
+use Rattle.sy_linear_forms.specs.Total.{total, total-same, total_zero, total_split, without, without_same, without_other}
+use Rattle.sy_linear_forms.specs.Systems.{form_at, IsRefutation}
+use Rattle.sy_simplex_tableau.specs.Rows.{at, Raises}
+use Rattle.sy_simplex_tableau.specs.States.{State, column, basic, row, coef, value, bound, IsStuck}
 use Rattle.sy_simplex.specs.Problems.{system_of, numbers}
 use Rattle.sy_simplex.specs.Runs.{IsMultiplier, AreMultipliers}
 use Rattle.sy_simplex.proofs.Values.{zero_is, one_is, value_opposite, less_negative, opposite_not_negative, zero_numerator}

@@ -5,14 +5,14 @@ use Rattle.std.proofs.Math.Dec.{ltb}
 use Rattle.std.proofs.Math.ListN.{length-set}
 use Rattle.sy_frac.specs.Fraction.{Fraction, Fits, IsLowest}
 use Rattle.sy_frac.specs.Rational.{ℚ, 0ℚ, ◌+ℚ◌, ◌*ℚ◌, neg_ℚ, over, value as number, is_negative, zero_not_negative, +ℚ_comm, +ℚ-neg, *ℚ_zero}
-use Rattle.sy_forms.specs.declared.form.Form.{Form}
-use Rattle.sy_forms.specs.Total.{total-same, total_zero, combined}
-use Rattle.sy_forms.specs.Systems.{System, form_at, Meets, IsCorner}
-use Rattle.sy_tableau.specs.Operations.{whole}
-use Rattle.sy_tableau.specs.Rows.{at, AreLowest}
-use Rattle.sy_tableau.specs.States.{State, column, basic, row, coef, value, bound, rest, IsShaped, IsVariable, IsClear, IsMet, IsStep}
-use Rattle.sy_tableau.proofs.Exact.{whole_lowest, abs_neg}
-use Rattle.sy_tableau.proofs.Shapes.{step_shaped}
+use Rattle.sy_linear_forms.specs.declared.form.Form.{Form}
+use Rattle.sy_linear_forms.specs.Total.{total-same, total_zero, combined}
+use Rattle.sy_linear_forms.specs.Systems.{System, form_at, Meets, IsCorner}
+use Rattle.sy_simplex_tableau.specs.Operations.{whole}
+use Rattle.sy_simplex_tableau.specs.Rows.{at, AreLowest}
+use Rattle.sy_simplex_tableau.specs.States.{State, column, basic, row, coef, value, bound, rest, IsShaped, IsVariable, IsClear, IsMet, IsStep}
+use Rattle.sy_simplex_tableau.proofs.Exact.{whole_lowest, abs_neg}
+use Rattle.sy_simplex_tableau.proofs.Shapes.{step_shaped}
 use Rattle.sy_simplex.specs.Problems.{coefficient, form, system_of, numbers}
 use Rattle.sy_simplex.specs.Runs.{FormFits, IsInitial, Ran, begun, stepped, IsValue, IsPoint}
 use Rattle.sy_simplex.proofs.Values.{zero_is, value_opposite, not_less_negative}

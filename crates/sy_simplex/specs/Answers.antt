@@ -1,7 +1,7 @@
 -- What each answer says of the forms, and of the run.
 use Rattle.std.specs.Prelude.{◌≡◌, ℕ, List, length}
-use Rattle.sy_forms.specs.declared.form.Form.{Form}
-use Rattle.sy_forms.specs.Systems.{Meets, IsCorner, IsRefutation}
+use Rattle.sy_linear_forms.specs.declared.form.Form.{Form}
+use Rattle.sy_linear_forms.specs.Systems.{Meets, IsCorner, IsRefutation}
 use Rattle.sy_simplex.specs.declared.answer.Feasible.{Feasible}
 use Rattle.sy_simplex.specs.declared.answer.Feasible.TheVariants.{Point, Conflict, Pivots, Range}
 use Rattle.sy_simplex.specs.Problems.{system_of, numbers}

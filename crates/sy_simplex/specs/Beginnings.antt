@@ -1,9 +1,9 @@
 -- The parts of the initial tableau.
 use Rattle.std.specs.Prelude.{◌≡◌, ℕ, ◌<◌, List, length, ℤ, pos, get_or}
 use Rattle.sy_frac.specs.Fraction.{Fraction, Fits}
-use Rattle.sy_forms.specs.declared.form.Form.{Form}
-use Rattle.sy_tableau.specs.Operations.{whole}
-use Rattle.sy_tableau.specs.Rows.{at}
+use Rattle.sy_linear_forms.specs.declared.form.Form.{Form}
+use Rattle.sy_simplex_tableau.specs.Operations.{whole}
+use Rattle.sy_simplex_tableau.specs.Rows.{at}
 use Rattle.sy_simplex.specs.Problems.{coefficient, form}
 use Rattle.sy_simplex.specs.Runs.{FormFits}
 

@@ -1,10 +1,10 @@
 -- Runs of the simplex method by Bland's rule, from the initial tableau.
 use Rattle.std.specs.Prelude.{◌≡◌, ◌≢◌, ℕ, ◌<◌, ◌≤◌, ◌+◌, ◌⊎◌, List, [], ◌∷◌, ◌++◌, length, pos, neg_ℤ, get_or}
 use Rattle.sy_frac.specs.Fraction.{Fraction, Fits}
-use Rattle.sy_forms.specs.declared.form.Form.{Form}
-use Rattle.sy_tableau.specs.Operations.{whole, opposite}
-use Rattle.sy_tableau.specs.Rows.{at}
-use Rattle.sy_tableau.specs.States.{State, column, basic, row, coef, value, rest, IsMet, IsStuck, IsLeaving, IsEntering, SomeChoiceUnfit, IsStep, StepUnfit}
+use Rattle.sy_linear_forms.specs.declared.form.Form.{Form}
+use Rattle.sy_simplex_tableau.specs.Operations.{whole, opposite}
+use Rattle.sy_simplex_tableau.specs.Rows.{at}
+use Rattle.sy_simplex_tableau.specs.States.{State, column, basic, row, coef, value, rest, IsMet, IsStuck, IsLeaving, IsEntering, SomeChoiceUnfit, IsStep, StepUnfit}
 use Rattle.sy_simplex.specs.Problems.{coefficient, form}
 
 -- each coefficient and constant is at most 2^127 - 1 in magnitude

@@ -1,16 +1,16 @@
 // The initial tableau.
 ghost use Rattle.std.specs.Prelude.{◌≡◌, ◌<◌, ◌^◌, length, IfOk, IsErrOf, MatchOption};
 ghost use Rattle.sy_frac.specs.Fraction.{Fits};
-ghost use Rattle.sy_tableau.specs.Operations.{whole as whole_fraction};
-ghost use Rattle.sy_tableau.specs.Stated.{state_of};
+ghost use Rattle.sy_simplex_tableau.specs.Operations.{whole as whole_fraction};
+ghost use Rattle.sy_simplex_tableau.specs.Stated.{state_of};
 ghost use Rattle.sy_simplex.specs.Problems.{AreForms, IsForm};
 ghost use Rattle.sy_simplex.specs.Runs.{IsInitial};
 ghost use Rattle.sy_simplex.specs.Beginnings.{AreZeros, IsFullRow, CoefficientsFit, AllFit, SomeUnfit};
 
 use std::alloc::Global;
-use sy_forms::Form;
 use sy_frac::Frac;
-use sy_tableau::{Fault, Row, Tableau, negated, whole, zero};
+use sy_linear_forms::Form;
+use sy_simplex_tableau::{Fault, Row, Tableau, negated, whole, zero};
 
 /// The fraction of a whole number; `None` exactly where the number is `-2^127`.
 fn fraction(number: &i128) -> Option<Frac>

@@ -1,6 +1,6 @@
 // The law of the answers.
 ghost use Rattle.std.specs.Prelude.{ℕ, List};
-ghost use Rattle.sy_forms.specs.declared.form.Form.{Form};
+ghost use Rattle.sy_linear_forms.specs.declared.form.Form.{Form};
 ghost use Rattle.sy_simplex.specs.declared.answer.Feasible.{Feasible};
 ghost use Rattle.sy_simplex.specs.Answers.{Tells, IsSameAnswer};
 

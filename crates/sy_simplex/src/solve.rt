@@ -7,9 +7,9 @@ use crate::answer::{Feasible, Run};
 use crate::ends::{multipliers, point};
 use crate::initial::initial;
 use std::alloc::{AllocError, Global};
-use sy_forms::Form;
+use sy_linear_forms::Form;
 use sy_seq::{Seq, Want};
-use sy_tableau::{Choice, Fault};
+use sy_simplex_tableau::{Choice, Fault};
 
 /// Whether there are fewer than 2^31 variables, and as few forms.
 fn are_few(vars: u32, forms: &[Form]) -> bool

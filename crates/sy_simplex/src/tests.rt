@@ -1,8 +1,8 @@
 use super::*;
 use std::alloc::Global;
 use std::test::Fail;
-use sy_forms::Form;
 use sy_frac::Frac;
+use sy_linear_forms::Form;
 use sy_seq::{Seq, Want};
 
 /// What is expected: the whole numbers of a point, the multipliers of a conflict, or how many steps a run has.

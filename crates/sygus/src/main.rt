@@ -8,7 +8,7 @@ use std::env;
 use std::io::ErrorKind;
 use std::process::ExitCode;
 use sy_io::{FileSource, StdSink};
-use sy_run::run;
+use sygus_run::run;
 
 fn main(rt: HostRuntime) -> ExitCode {
     let words = match env::args(&rt) {

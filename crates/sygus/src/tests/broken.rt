@@ -3,7 +3,7 @@ use super::runs::{ALL, Calls, Failing, Left, SURE, leaves};
 use std::alloc::Global;
 use std::process::Abort;
 use sy_io::{MemSink, MemSource};
-use sy_run::run;
+use sygus_run::run;
 
 /// One example.
 const EXAMPLE: &[u8] =

@@ -2,7 +2,7 @@
 use std::alloc::Global;
 use std::process::Abort;
 use sy_io::{MemSink, MemSource};
-use sy_run::run;
+use sygus_run::run;
 
 /// Which calls of a source or a sink fail, numbered from 1, and the most bytes that a call moves, at least 1.
 #[derive(Clone, Copy, Drop)]

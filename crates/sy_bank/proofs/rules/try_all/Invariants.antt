@@ -1,6 +1,6 @@
-use Rattle.sy_filling.specs.Filling.{IsSteady}
-use Rattle.sy_filling.specs.Task.{world, state_of}
-use Rattle.sy_saturated.specs.Tried.{AllAreTried}
+use Rattle.sy_bank_level.specs.Filling.{IsSteady}
+use Rattle.sy_bank_level.specs.Task.{world, state_of}
+use Rattle.sy_bank_growth_laws.specs.Tried.{AllAreTried}
 use Rattle.sy_bank.proofs.rules.try_all.Given as goal
 
 abbrev pub invariant-loop-nonterminal : goal.invariant-loop-nonterminal

@@ -1,6 +1,6 @@
-use Rattle.sy_filling.specs.Filling.{IsSteady, Grows}
-use Rattle.sy_filling.specs.Task.{world, state_of}
-use Rattle.sy_saturated.specs.Tried.{AreTried}
+use Rattle.sy_bank_level.specs.Filling.{IsSteady, Grows}
+use Rattle.sy_bank_level.specs.Task.{world, state_of}
+use Rattle.sy_bank_growth_laws.specs.Tried.{AreTried}
 use Rattle.sy_bank.proofs.rules.try_rules.Given as goal
 
 abbrev pub invariant-loop-number : goal.invariant-loop-number

@@ -1,7 +1,7 @@
 use Rattle.std.proofs.Common.{◌≡◌, ◌∷◌, ◌++◌, [], ◌∙◌, ap, sym, subst, List}
 use Rattle.sy_terms.specs.Values.{Val}
 use Rattle.sy_terms.specs.declared.sort.Sort.{Sort}
-use Rattle.sy_offer.specs.Tasks.{ArePointsOf}
+use Rattle.sy_bank_offer.specs.Tasks.{ArePointsOf}
 use Rattle.sy_bank.proofs.tests.bank_of.Goals as goal
 
 pub build-requires-clause-points : goal.build-requires-clause-points

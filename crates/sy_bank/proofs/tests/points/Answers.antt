@@ -3,7 +3,7 @@ use Rattle.std.proofs.lemmas.List.{map-append}
 use Rattle.std.proofs.lemmas.List.Elements.{All-nil, All-cons}
 use Rattle.sy_terms.specs.Denoted.{val_of, vals_of}
 use Rattle.sy_terms.specs.Theories.{valid}
-use Rattle.sy_offer.proofs.Points.{points-more}
+use Rattle.sy_bank_offer.proofs.Points.{points-more}
 use Rattle.sy_bank.proofs.tests.points.Goals as goal
 
 pub loop-number-preserved : goal.loop-number-preserved

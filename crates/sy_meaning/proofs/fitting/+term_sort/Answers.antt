@@ -1,5 +1,5 @@
 use Rattle.std.proofs.Common.{arith, ◌++◌, ap, sym, ◌∙◌, Result, Ok, Err, IfOk}
-use Rattle.sy_laws.proofs.Steps as step
+use Rattle.sy_terms_laws.proofs.Steps as step
 use Rattle.sy_meaning.proofs.Sorts as sorts
 use Rattle.sy_meaning.proofs.fitting.+term_sort.Goals as goal
 

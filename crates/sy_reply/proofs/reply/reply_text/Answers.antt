@@ -3,7 +3,7 @@ use Rattle.std.specs.Prelude.{codes}
 use Rattle.std.specs.List.{concat}
 use Rattle.std.proofs.lemmas.List.{length-map}
 use Rattle.sy_terms.specs.Denoted.{expr_of}
-use Rattle.sy_grammar.specs.Questions.{goal_of}
+use Rattle.sy_grammar_base.specs.Questions.{goal_of}
 use Rattle.sy_reply.specs.Replies.{line, definitions_text, reply_text}
 use Rattle.sy_reply.proofs.Written as written
 use Rattle.sy_reply.proofs.reply.reply_text.Goals as goal

@@ -2,7 +2,7 @@ use Rattle.std.proofs.Common.{◌≡◌, ◌++◌, length, map}
 use Rattle.std.specs.Prelude.{codes}
 use Rattle.std.specs.List.{concat}
 use Rattle.sy_terms.specs.Denoted.{expr_of}
-use Rattle.sy_grammar.specs.Questions.{goal_of}
+use Rattle.sy_grammar_base.specs.Questions.{goal_of}
 use Rattle.sy_reply.specs.Replies.{line, definitions_text}
 use Rattle.sy_reply.specs.Writable.{AreTitled, HaveBodies}
 use Rattle.sy_reply.proofs.reply.reply_text.Given as goal

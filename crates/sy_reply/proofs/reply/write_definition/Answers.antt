@@ -1,5 +1,5 @@
 use Rattle.sy_terms.specs.Denoted.{expr_of}
-use Rattle.sy_grammar.specs.Questions.{goal_of}
+use Rattle.sy_grammar_base.specs.Questions.{goal_of}
 use Rattle.sy_reply.proofs.Written as written
 use Rattle.sy_reply.proofs.reply.write_definition.Goals as goal
 

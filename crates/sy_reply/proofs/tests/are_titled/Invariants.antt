@@ -1,5 +1,5 @@
 use Rattle.std.proofs.Common.{◌≤◌, length, map}
-use Rattle.sy_grammar.specs.Questions.{goal_of}
+use Rattle.sy_grammar_base.specs.Questions.{goal_of}
 use Rattle.sy_reply.specs.Writable.{AreTitled}
 use Rattle.sy_reply.proofs.tests.are_titled.Given as goal
 

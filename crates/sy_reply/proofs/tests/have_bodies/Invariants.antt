@@ -1,6 +1,6 @@
 use Rattle.std.proofs.Common.{◌≡◌, length, map}
 use Rattle.sy_terms.specs.Denoted.{expr_of}
-use Rattle.sy_grammar.specs.Questions.{goal_of}
+use Rattle.sy_grammar_base.specs.Questions.{goal_of}
 use Rattle.sy_reply.specs.Writable.{HaveBodies}
 use Rattle.sy_reply.proofs.tests.have_bodies.Given as goal
 

@@ -1,8 +1,8 @@
 use Rattle.std.proofs.Common.{◌+◌}
 use Rattle.std.specs.Prelude.{pos}
-use Rattle.sy_tableau.specs.Operations.{whole}
-use Rattle.sy_tableau.specs.Stated.{state_of}
-use Rattle.sy_tableau.proofs.Pushed.{each_pushed}
+use Rattle.sy_simplex_tableau.specs.Operations.{whole}
+use Rattle.sy_simplex_tableau.specs.Stated.{state_of}
+use Rattle.sy_simplex_tableau.proofs.Pushed.{each_pushed}
 use Rattle.sy_simplex.proofs.Begun.{length_pushed}
 use Rattle.sy_simplex.specs.Runs.{IsMultiplier}
 use Rattle.sy_simplex.proofs.ends.multipliers.Goals as goal

@@ -1,7 +1,7 @@
 use Rattle.std.proofs.Common.{◌≡◌, arith, sym, subst}
 use Rattle.std.proofs.lemmas.List.{get_or_read}
 use Rattle.std.specs.Prelude.{pos}
-use Rattle.sy_forms.specs.Forms.{constant_form}
+use Rattle.sy_linear_forms.specs.Forms.{constant_form}
 use Rattle.sy_simplex.specs.Problems.{form}
 use Rattle.sy_simplex.specs.Beginnings.{CoefficientsFit, IsFullRow}
 use Rattle.sy_simplex.proofs.Begun.{begun_item}

@@ -1,7 +1,7 @@
 use Rattle.std.proofs.Common.{◌≡◌, ◌<◌, ◌+◌, ◌^◌, length, arith, sym, ap, refl, subst}
-use Rattle.sy_tableau.specs.Choices.{IsChoice}
-use Rattle.sy_tableau.specs.States.{IsMet, IsStuck, IsLeaving, IsEntering}
-use Rattle.sy_tableau.specs.Stated.{state_of}
+use Rattle.sy_simplex_tableau.specs.Choices.{IsChoice}
+use Rattle.sy_simplex_tableau.specs.States.{IsMet, IsStuck, IsLeaving, IsEntering}
+use Rattle.sy_simplex_tableau.specs.Stated.{state_of}
 use Rattle.sy_simplex.specs.Beginnings.{SomeUnfit, AllFit}
 use Rattle.sy_simplex.specs.Runs.{Ran, begun, IsInitial, IsOutOfRange, form_unfit, choice_unfit, step_unfit}
 use Rattle.sy_simplex.proofs.Answering.{ran_shaped, ran_few, point_sound, conflict_sound, ran_more}

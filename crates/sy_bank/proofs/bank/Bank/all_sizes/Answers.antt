@@ -4,11 +4,11 @@ use Rattle.sy_terms.specs.Values.{Val}
 use Rattle.sy_terms.specs.Denoted.{vals_of}
 use Rattle.sy_terms.specs.Definitions.{scope_of, bodies}
 use Rattle.sy_terms.specs.Meaning.{functions}
-use Rattle.sy_grammar.specs.Grown.{syntax_from}
-use Rattle.sy_rows.specs.Stored.{lost_of}
-use Rattle.sy_filling.specs.Task.{level_of}
-use Rattle.sy_offer.specs.Tasks.{ArePointsOf}
-use Rattle.sy_saturated.proofs.Next.{whole-covers}
+use Rattle.sy_grammar_base.specs.Grown.{syntax_from}
+use Rattle.sy_bank_rows.specs.Stored.{lost_of}
+use Rattle.sy_bank_level.specs.Task.{level_of}
+use Rattle.sy_bank_offer.specs.Tasks.{ArePointsOf}
+use Rattle.sy_bank_growth_laws.proofs.Next.{whole-covers}
 use Rattle.sy_bank.specs.Bank.{merged_of}
 use Rattle.sy_bank.specs.Promised.{Stays}
 use Rattle.sy_bank.proofs.Ends.{end-stays, handed-on, some-dropped}

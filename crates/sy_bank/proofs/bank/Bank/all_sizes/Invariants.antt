@@ -2,8 +2,8 @@ use Rattle.std.proofs.Common.{◌≡◌, ◌≤◌, length, ◌+◌, ◌-◌}
 use Rattle.sy_terms.specs.Denoted.{vals_of}
 use Rattle.sy_terms.specs.Definitions.{scope_of, bodies}
 use Rattle.sy_terms.specs.Meaning.{functions}
-use Rattle.sy_grammar.specs.Grown.{syntax_from}
-use Rattle.sy_rows.specs.Banks.{count}
+use Rattle.sy_grammar_base.specs.Grown.{syntax_from}
+use Rattle.sy_bank_rows.specs.Banks.{count}
 use Rattle.sy_bank.specs.Answers.{IsBuilt}
 use Rattle.sy_bank.specs.Bank.{merged_of}
 use Rattle.sy_bank.specs.Promised.{Stays}

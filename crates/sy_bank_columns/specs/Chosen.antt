@@ -1,0 +1,29 @@
+-- Kept terms that are chosen for nonterminals.
+use Rattle.std.specs.Prelude.{ℕ, ◌≡◌, true, List, [], ◌∷◌, All, map, slice_get, Some}
+use denote.Ref.{Bor}
+use Rattle.sy_terms.specs.Values.{Val}
+use Rattle.sy_terms.specs.Theories.{valid}
+use Rattle.sy_terms.specs.Meaning.{Function}
+use Rattle.sy_terms.specs.Fitting.{Scope}
+use Rattle.sy_grammar_base.specs.Trees as trees
+use Rattle.sy_grammar_base.specs.Trees.{Trees}
+use Rattle.sy_bank_rows.specs.Banks.{Entry}
+use Rattle.sy_bank_rows.specs.Stored.{entry_of}
+use Rattle.sy_bank_rows.specs.declared.kept.Kept.{Kept}
+use Rattle.sy_bank_rows.specs.Columns.{HasRow}
+
+abbrev pub chosen_of : {T N : Type 0} → (N → Val) → List (Bor (Kept T N)) → List Entry
+chosen_of number chosen = map (λ kept. entry_of number kept.now) chosen
+
+-- each kept term has its row
+abbrev pub AreRows : Scope → List Function → List (List Val) → List Entry → Type 0
+AreRows scope defined points entries = (i : ℕ) (entry : Entry) → slice_get entries i ≡ Some entry → HasRow scope defined points entry.term entry.row
+
+-- each point has values of their sorts
+abbrev pub ArePoints : List (List Val) → Type 0
+ArePoints points = (k : ℕ) (point : List Val) → slice_get points k ≡ Some point → All (λ value. valid value ≡ true) point
+
+-- their derivations, as children of a node
+abbrev pub children : List Entry → Trees
+children [] = trees.none
+children (entry ∷ entries) = trees.more entry.tree (children entries)

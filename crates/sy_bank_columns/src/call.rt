@@ -1,0 +1,64 @@
+// Rows of definitions at rows.
+ghost use Rattle.std.specs.Prelude.{◌≡◌, ℕ, ◌<◌, false, [], IfOk, IfErr, length, map};
+ghost use Rattle.sy_terms.specs.Denoted.{vals_of, expr_of};
+ghost use Rattle.sy_terms.specs.Definitions.{DefinitionsFit};
+ghost use Rattle.sy_terms.specs.Expr.{Invoke};
+ghost use Rattle.sy_terms.specs.Meaning.{value_at_position};
+ghost use Rattle.sy_terms.specs.declared.term.Fun.TheVariants.{Defined};
+ghost use Rattle.sy_terms_laws.specs.Evaluation.{FitsWith, Gives, can_compute};
+ghost use Rattle.sy_bank_rows.specs.Columns.{column, constants, AreSized};
+ghost use Rattle.sy_bank_columns.specs.Lent.{values_of};
+ghost use Rattle.sy_bank_columns.specs.Found.{WhereLost};
+
+use crate::ends::{RowEnd, lost_at};
+use crate::lent::Row;
+use std::alloc::{AllocError, Global};
+use sy_meaning::{Eval, evaluate};
+use sy_terms::{Defs, Fun, Term, Terms, Theory, Value};
+
+/// The call of the definition at constants, which are what the rows have at the place of this number.
+fn call_at<T: Theory>(
+    alloc: Global,
+    definition: u32,
+    rows: &[Row<'_, Value<T::Num>>],
+    number: usize,
+    count: usize,
+) -> Result<Term<T>, AllocError>
+    requires sized { AreSized count (map (λ row. vals_of T.denotes (values_of row)) rows.now) }
+    requires within { number < count }
+    ensures { IfOk result (λ term. expr_of T.denotes term ≡ Invoke (Defined definition) (constants (column (map (λ row. vals_of T.denotes (values_of row)) rows.now) number))) }
+{
+    let mut arguments = Terms::with_capacity(alloc, rows.len())?;
+    for row in rows {
+        arguments.push(Term::Const(row.as_slice()[number]))?;
+    }
+    Ok(Term::Call(Fun::Defined(definition), arguments))
+}
+
+/// The definition's values at the columns of the rows, of which each has `count` values.
+pub fn called_row<T: Theory>(
+    alloc: Global,
+    defs: &Defs<T>,
+    definition: u32,
+    rows: &[Row<'_, Value<T::Num>>],
+    count: usize,
+) -> Result<Vec<Value<T::Num>>, RowEnd>
+    requires definitions { DefinitionsFit T.owned T.denotes defs.now }
+    requires sized { AreSized count (map (λ row. vals_of T.denotes (values_of row)) rows.now) }
+    requires fit { (k : ℕ) → k < count → FitsWith T.owned T.denotes defs.now [] [] (Invoke (Defined definition) (constants (column (map (λ row. vals_of T.denotes (values_of row)) rows.now) k))) }
+    ensures sized { IfOk result (λ found. length found.items ≡ count) }
+    ensures ok { IfOk result (λ found. (k : ℕ) → k < count → Gives T.owned T.denotes defs.now [] [] (Invoke (Defined definition) (constants (column (map (λ row. vals_of T.denotes (values_of row)) rows.now) k))) (value_at_position (vals_of T.denotes found.items) k)) }
+    ensures lost { IfErr result (λ end. WhereLost end (λ k. (k < count) × (can_compute T.denotes defs.now [] [] (Invoke (Defined definition) (constants (column (map (λ row. vals_of T.denotes (values_of row)) rows.now) k))) ≡ false))) }
+{
+    let mut found = Vec::with_capacity(alloc, count)?;
+    let nothing = Vec::new(alloc);
+    for number in 0..count {
+        let term = call_at::<T>(alloc, definition, rows, number, count)?;
+        match evaluate(alloc, defs, nothing.as_slice(), &term) {
+            Ok(value) => found.push(value)?,
+            Err(Eval::Range) => return Err(lost_at(number)),
+            Err(Eval::Want) => return Err(RowEnd::Want),
+        }
+    }
+    Ok(found)
+}

@@ -1,0 +1,13 @@
+use Rattle.std.proofs.Common.{arith, refl}
+use Rattle.std.proofs.lemmas.List.{take_more}
+use Rattle.sy_grammar_base.specs.Grown.{tree_of-Node}
+use Rattle.sy_bank_rows.proofs.Copies.{trees_of-last}
+use Rattle.sy_bank_rows.proofs.build.+copied.Goals as goal
+
+pub copied_derivation-returns-in_ok-copies-in-Node : goal.copied_derivation-returns-in_ok-copies-in-Node
+copied_derivation-returns-in_ok-copies-in-Node g t c = rw (c.in-Node.is, tree_of-Node, tree_of-Node, c.in_ok-copies-in-Node.ensures) refl
+
+pub copied_derivations-loop-derivation-preserved : goal.copied_derivations-loop-derivation-preserved
+copied_derivations-loop-derivation-preserved g t c =
+    let more = take_more c.as_slice-derivation-items.result.now c.loop-derivation.derivation-index c.derivation-item.result (grind arith) in
+    rw (more, ← c.derivation-item.is, c.in_ok-push.ensures.ok, trees_of-last, trees_of-last, c.loop-derivation.invariant, c.in_ok-copy.ensures) refl

@@ -1,0 +1,17 @@
+use Rattle.std.proofs.Common.{arith, refl}
+use Rattle.std.proofs.lemmas.List.{take_more}
+use Rattle.sy_grammar_base.specs.Grown.{tree_of-Node}
+use Rattle.sy_bank_rows.specs.Shared.{tree_from-Leaf, tree_from-Filled}
+use Rattle.sy_bank_rows.proofs.Copies.{trees_of-last, trees_from-last}
+use Rattle.sy_bank_rows.proofs.grown.+derivation.Goals as goal
+
+pub Grown::derivation-returns-in_ok-copy-in-Leaf : goal.Grown::derivation-returns-in_ok-copy-in-Leaf
+Grown::derivation-returns-in_ok-copy-in-Leaf g t c = rw (c.in-Leaf.is, tree_from-Leaf) c.in_ok-copy-in-Leaf.ensures
+
+pub Grown::derivation-returns-in_ok-children-in-Filled : goal.Grown::derivation-returns-in_ok-children-in-Filled
+Grown::derivation-returns-in_ok-children-in-Filled g t c = rw (c.in-Filled.is, tree_of-Node, tree_from-Filled, c.in_ok-children-in-Filled.ensures) refl
+
+pub Growns::derivations-loop-grown-preserved : goal.Growns::derivations-loop-grown-preserved
+Growns::derivations-loop-grown-preserved g t c =
+    let more = take_more c.as_slice-all.result.now c.loop-grown.grown-index c.grown-item.result (grind arith) in
+    rw (more, ← c.grown-item.is, c.in_ok-push.ensures.ok, trees_of-last, trees_from-last, c.loop-grown.invariant, c.in_ok-derivation.ensures, c.deref.ensures) refl

@@ -1,0 +1,17 @@
+use Rattle.std.proofs.Common.{arith, refl}
+use Rattle.std.proofs.lemmas.List.{take_more, map-append}
+use Rattle.sy_bank_rows.specs.Shared.{term_from-Leaf, term_from-Filled}
+use Rattle.sy_bank_rows.proofs.Copies.{terms_from-last}
+use Rattle.sy_bank_rows.proofs.grown.+term.Goals as goal
+
+pub Grown::term-returns-in_ok-copy-in-Leaf : goal.Grown::term-returns-in_ok-copy-in-Leaf
+Grown::term-returns-in_ok-copy-in-Leaf g t c = rw (c.in-Leaf.is, term_from-Leaf) c.in_ok-copy-in-Leaf.ensures
+
+pub Grown::term-returns-in_ok-filled-in-Filled : goal.Grown::term-returns-in_ok-filled-in-Filled
+Grown::term-returns-in_ok-filled-in-Filled g t c =
+    rw (c.in-Filled.is, term_from-Filled, c.in_ok-filled-in-Filled.ensures, c.deref.ensures, c.deref-in-Filled.ensures.value, c.in_ok-terms-in-Filled.ensures) refl
+
+pub Growns::terms-loop-grown-preserved : goal.Growns::terms-loop-grown-preserved
+Growns::terms-loop-grown-preserved g t c =
+    let more = take_more c.as_slice-all.result.now c.loop-grown.grown-index c.grown-item.result (grind arith) in
+    rw (more, ← c.grown-item.is, c.in_ok-push.ensures.items, map-append, terms_from-last, c.loop-grown.invariant, c.in_ok-term.ensures, c.deref.ensures) refl

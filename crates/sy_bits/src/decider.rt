@@ -1,0 +1,105 @@
+// The solver.
+ghost use Rattle.std.specs.Prelude.{◌≡◌, min, IfOk};
+ghost use Rattle.sy_query_decide.specs.Answers.{Answers};
+ghost use Rattle.sy_query_decide.specs.Asked.{query_of};
+ghost use Rattle.sy_meaning_words.specs.Vectors.{vector};
+ghost use Rattle.sy_bits_laws.specs.Clauses.{HasCircuitClauses};
+ghost use Rattle.sy_cdcl.specs.Answer.{IsAnswer};
+ghost use Rattle.sy_bits.specs.Proofs as proofs;
+ghost use Rattle.sy_bits.specs.Soundness.{sound};
+
+use crate::answers::{BvProof, BvSpent};
+use crate::room::is_countable;
+use std::alloc::{AllocError, Global};
+use sy_bits_circuit::{Circuit, blast};
+use sy_cdcl::{Solved, solve};
+use sy_meaning_words::BvTheory;
+use sy_query_base::Query;
+use sy_query_decide::{Decide, Verdict};
+use sy_query_limits::{FailName, Limits};
+use sy_terms::Want;
+
+/// The most clauses that a log can have learned.
+const MOST_LEARNED: u32 = 2_147_483_647;
+
+/// A solver of queries over bit vectors: it makes the circuit clauses of a query, and searches a model or a refutation
+/// of them that learns at most as many clauses as the limit `clauses`.
+///
+/// A query whose variables and clauses may be 2^31 or more is answered as want of memory, and so is a search that
+/// learns 2^31 - 1 clauses below its limit.
+#[derive(Clone, Copy, Debug, PartialEq, Eq)]
+pub struct BvDecide;
+
+impl BvDecide {
+    /// The solver. It keeps nothing from one query to the next.
+    pub fn new() -> BvDecide {
+        BvDecide
+    }
+}
+
+impl Decide<BvTheory> for BvDecide {
+    type Proof = BvProof;
+
+    type Spent = BvSpent;
+
+    ghost accepted = { proofs.Accepted };
+
+    ghost budget = { proofs.budget };
+
+    ghost shows = { proofs.Shows };
+
+    fn decide(
+        &mut self,
+        alloc: Global,
+        query: &Query<BvTheory>,
+        limits: &Limits,
+    ) -> Result<Verdict<BvTheory, BvProof, BvSpent>, Want> {
+        if !is_countable(alloc, query)? {
+            return Err(AllocError);
+        }
+        let circuit = blast(alloc, query)?;
+        let fuel = limits.clauses.min(MOST_LEARNED);
+        let solved = solve(alloc, circuit.cnf(), fuel)?;
+        let verdict = answer(alloc, query, limits, circuit, solved)?;
+        Ok(verdict)
+    }
+
+    fn name_of(spent: &BvSpent) -> FailName {
+        match spent {
+            BvSpent::Clauses(_, _) => FailName::Clauses,
+        }
+    }
+
+    ghost sound = { sound };
+}
+
+/// What the end of a search on the query's circuit clauses says of the query.
+fn answer(
+    alloc: Global,
+    query: &Query<BvTheory>,
+    limits: &Limits,
+    circuit: Circuit,
+    solved: Solved,
+) -> Result<Verdict<BvTheory, BvProof, BvSpent>, Want>
+    requires variables { circuit.variables ≡ query.now.vars }
+    requires clauses { HasCircuitClauses (query_of vector query.now) circuit.clauses }
+    requires solved { IsAnswer circuit.clauses (min limits.now.clauses 2147483647) solved }
+    ensures { IfOk result (Answers vector proofs.Accepted proofs.budget proofs.Shows (query_of vector query.now) limits.now) }
+{
+    match solved {
+        Solved::Refuted(log) => Ok(Verdict::Never(BvProof {
+            cnf: circuit.into_cnf(),
+            log,
+        })),
+        Solved::Model(bits) => {
+            let values = circuit.read(alloc, &bits)?;
+            Ok(Verdict::Model(values))
+        }
+        Solved::Fuel(log) => {
+            if limits.clauses > MOST_LEARNED {
+                return Err(AllocError);
+            }
+            Ok(Verdict::Spent(BvSpent::Clauses(circuit.into_cnf(), log)))
+        }
+    }
+}

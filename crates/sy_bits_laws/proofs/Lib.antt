@@ -1,0 +1,5 @@
+pub mod Bounded
+pub mod Terms
+pub mod Rows
+pub mod Reading
+pub mod Laws

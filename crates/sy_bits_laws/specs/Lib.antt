@@ -1,0 +1,3 @@
+pub mod Assignments
+pub mod Clauses
+pub mod Fitting

@@ -1,5 +1,0 @@
-use Rattle.sy_bland.proofs.Returning.{no_basis_twice}
-use Rattle.sy_bland.proofs.law.no_basis_comes_twice.Goals as goal
-
-pub returns : goal.returns
-returns c = no_basis_twice

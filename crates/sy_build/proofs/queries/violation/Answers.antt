@@ -1,8 +1,0 @@
-use Rattle.std.proofs.Common.{ap, ◌∙◌, ◌++◌, ◌∷◌, []}
-use Rattle.sy_build.proofs.Parts.{violation-is}
-use Rattle.sy_build.proofs.queries.violation.Goals as goal
-
-pub returns : goal.returns
-returns g c =
-    violation-is g.T.Theory.denotes c.args.assumptions.items.items c.args.constraints.items.items c.push-2.new.self c.push.new.self c.conjunction.result c.conjunction.ensures
-    (c.in_ok-push.ensures.ok ∙ ap (λ front. front ++ c.conjunction.result ∷ []) c.new-negated.ensures) c.in_ok-push-2.ensures.ok

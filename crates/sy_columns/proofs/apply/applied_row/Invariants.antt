@@ -1,8 +1,0 @@
-use Rattle.std.proofs.Common.{map}
-use Rattle.sy_terms.specs.Denoted.{vals_of}
-use Rattle.sy_columns.specs.Lent.{values_of}
-use Rattle.sy_columns.specs.Found.{IsApplied}
-use Rattle.sy_columns.proofs.apply.applied_row.Given as goal
-
-abbrev pub invariant-loop-number : goal.invariant-loop-number
-invariant-loop-number g l = IsApplied l.operator (map (λ row. vals_of g.T.Theory.denotes (values_of row)) l.rows) l.number (vals_of g.T.Theory.denotes l.found.items)

@@ -1,6 +1,0 @@
--- Parts that are nonterminals.
-use Rattle.std.specs.Prelude.{ℕ}
-use Rattle.sy_grammar.specs.declared.part.Part.{Part, Non}
-
-abbrev pub occurrence : {T N : Type 0} → ℕ → Part T N
-occurrence nonterminal = Non nonterminal

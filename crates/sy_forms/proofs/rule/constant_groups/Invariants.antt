@@ -1,0 +1,10 @@
+use Rattle.std.proofs.Common.{◌≡◌, ◌++◌, drop}
+use Rattle.sy_text.specs.Items.{listed}
+use Rattle.sy_forms.specs.Rules as spec
+use Rattle.sy_forms.specs.Seen.{environment_of}
+use Rattle.sy_forms.specs.Views.{items_in}
+use Rattle.sy_forms.proofs.rule.constant_groups.Given as goal
+
+abbrev pub invariant-loop-named : goal.invariant-loop-named
+invariant-loop-named l =
+    l.flags ++ spec.constant_groups (environment_of l.env) (drop l.named-index l.nonterminals) (listed (items_in l.left)) ≡ spec.constant_groups (environment_of l.env) l.nonterminals (listed l.groups)

@@ -1,0 +1,58 @@
+use Rattle.std.proofs.Common.{◌≡◌, ◌≤◌, ◌+◌, ◌*◌, length}
+use Rattle.sy_text.specs.Items.{item_size, items_size, listed}
+use Rattle.sy_text.specs.Views.{item_of}
+use Rattle.sy_forms.specs.Gathered.{several_of, bounds_of}
+use Rattle.sy_forms.specs.Phrases.{nothing}
+use Rattle.sy_forms.specs.Seen.{environment_of}
+use Rattle.sy_forms.specs.Terms as spec
+use Rattle.sy_forms.specs.Views.{items_in}
+use Rattle.sy_forms.proofs.term.+reading.Given as goal
+
+abbrev pub decreases-read_term : goal.decreases-read_term
+decreases-read_term g l = 2 * item_size (item_of l.item.now)
+
+abbrev pub decreases-read_list : goal.decreases-read_list
+decreases-read_list g l = 2 * items_size (items_in l.items) + 1
+
+abbrev pub decreases-read_terms : goal.decreases-read_terms
+decreases-read_terms g l = 2 * items_size (items_in l.items) + 1
+
+abbrev pub decreases-read_let : goal.decreases-read_let
+decreases-read_let g l = 2 * items_size (items_in l.items) + 1
+
+abbrev pub decreases-read_inner : goal.decreases-read_inner
+decreases-read_inner g l = 2 * item_size (item_of l.inner.now) + 1
+
+abbrev pub decreases-read_binding_list : goal.decreases-read_binding_list
+decreases-read_binding_list g l = 2 * item_size (item_of l.item.now)
+
+abbrev pub decreases-read_bindings : goal.decreases-read_bindings
+decreases-read_bindings g l = 2 * items_size (items_in l.items) + 1
+
+abbrev pub decreases-read_binding : goal.decreases-read_binding
+decreases-read_binding g l = 2 * item_size (item_of l.item.now)
+
+abbrev pub decreases-read_pair : goal.decreases-read_pair
+decreases-read_pair g l = 2 * items_size (items_in l.items) + 1
+
+abbrev pub invariant-read_terms-loop-item : goal.invariant-read_terms-loop-item
+invariant-read_terms-loop-item g l =
+    record {
+      reads : spec.read_terms (environment_of l.env) l.fn.locals.items (several_of g.T.Theory.denotes l.done) (items_in l.left) ≡ spec.read_terms (environment_of l.env) l.fn.locals.items nothing (items_in l.fn.items);
+      kept : l.locals.items ≡ l.fn.locals.items;
+      size : items_size (items_in l.left) ≤ items_size (items_in l.fn.items);
+    }
+
+abbrev pub decreases-read_terms-loop-item : goal.decreases-read_terms-loop-item
+decreases-read_terms-loop-item g l = length (listed (items_in l.left))
+
+abbrev pub invariant-read_bindings-loop-item : goal.invariant-read_bindings-loop-item
+invariant-read_bindings-loop-item g l =
+    record {
+      reads : spec.read_bindings (environment_of l.env) l.fn.locals.items (bounds_of g.T.Theory.denotes l.bound) (items_in l.left) ≡ spec.read_bindings (environment_of l.env) l.fn.locals.items spec.unbound (items_in l.fn.items);
+      kept : l.locals.items ≡ l.fn.locals.items;
+      size : items_size (items_in l.left) ≤ items_size (items_in l.fn.items);
+    }
+
+abbrev pub decreases-read_bindings-loop-item : goal.decreases-read_bindings-loop-item
+decreases-read_bindings-loop-item g l = length (listed (items_in l.left))

@@ -1,0 +1,6 @@
+use Rattle.std.proofs.Common.{◌≡◌, refl}
+use Rattle.sy_forms.specs.Meant.{phrases_of-append}
+use Rattle.sy_forms.proofs.term.Bounds.push.Goals as goal
+
+pub returns : goal.returns
+returns g c = rw (c.in_ok-push.ensures.items, c.in_ok-push-2.ensures.ok, phrases_of-append) refl

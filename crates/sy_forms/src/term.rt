@@ -1,0 +1,335 @@
+// Terms.
+ghost use Rattle.std.specs.Prelude.{◌≡◌, OnOk, IfOk};
+ghost use Rattle.sy_text.specs.Views.{item_of};
+ghost use Rattle.sy_forms.specs.Gathered.{several_of, bounds_of, bound_of};
+ghost use Rattle.sy_forms.specs.Meant.{phrase_of, typed_of};
+ghost use Rattle.sy_forms.specs.Parts as parts;
+ghost use Rattle.sy_forms.specs.Phrases as phrases;
+ghost use Rattle.sy_forms.specs.Readings.{Gives};
+ghost use Rattle.sy_forms.specs.Seen.{environment_of};
+ghost use Rattle.sy_forms.specs.Serving.{Serves};
+ghost use Rattle.sy_forms.specs.Terms as spec;
+ghost use Rattle.sy_forms.specs.Views.{items_in};
+
+use crate::apply::{Several, applied};
+use crate::environment::{Environment, place_among};
+use crate::fault::ReadEnd;
+use crate::head::{atom_term, read_head};
+use crate::literal::indexed_term;
+use crate::names::{Named, Role};
+use crate::operators::is_reserved;
+use crate::parts::{Rest, indexed_name, is_symbol, place_of, symbol};
+use crate::phrase::{Phrase, Phrases, Typed, binding};
+use std::alloc::Global;
+use sy_scope_causes::Cause;
+use sy_terms::{Logic, Seq, Theory, Want};
+use sy_text::{Name, Place, Sexp};
+
+/// A binding: the name with its term's sort, and the term.
+#[derive(Drop)]
+struct Bound<T: Theory> {
+    named: Named,
+    phrase: Phrase<T>,
+}
+
+/// The bindings of a `let`.
+#[derive(Drop)]
+struct Bounds<T: Theory> {
+    names: Vec<Named>,
+    terms: Phrases<T>,
+}
+
+impl<T: Theory> Bounds<T> {
+    /// None. It takes no memory.
+    fn new(alloc: Global) -> Self
+        ensures { bounds_of T.denotes result ≡ spec.unbound }
+    {
+        Bounds {
+            names: Vec::new(alloc),
+            terms: Phrases::new(alloc),
+        }
+    }
+
+    /// Appends the binding.
+    fn push(&mut self, last: Bound<T>) -> Result<(), Want>
+        ensures { OnOk result (bounds_of T.denotes self.new ≡ spec.bound_behind (bounds_of T.denotes self.old) (bound_of T.denotes last)) }
+    {
+        self.names.push(last.named)?;
+        self.terms.push(last.phrase)?;
+        Ok(())
+    }
+}
+
+/// Whether a `let` may stand there.
+fn let_may_stand(role: Role) -> bool
+    ensures { result ≡ spec.let_may_stand role }
+{
+    match role {
+        Role::Grammar => false,
+        Role::Body => true,
+        Role::Assumption => true,
+        Role::Constraint => true,
+    }
+}
+
+/// A copy of a name.
+pub fn copied(alloc: Global, name: &Name) -> Result<Name, Want>
+    ensures { IfOk result (λ copy. copy ≡ name.now) }
+{
+    let mut copy = Seq::new(alloc);
+    for byte in name.as_slice() {
+        copy.push(*byte)?;
+    }
+    Ok(copy)
+}
+
+/// The name of the binding that stands at a place: it isn't reserved and is none of the names that are taken.
+fn new_name<'a>(
+    logic: Logic,
+    taken: &[Named],
+    place: Place,
+    item: &'a Sexp,
+) -> Result<&'a Name, ReadEnd>
+    ensures { Gives (λ name. name.now) result (spec.new_name logic taken.now place (item_of item.now)) }
+{
+    let Some(name) = symbol(item) else {
+        return Err(ReadEnd::Refused(place, Cause::Shape));
+    };
+    if is_reserved(logic, name.as_slice()) {
+        return Err(ReadEnd::Refused(place_of(item), Cause::NameTaken));
+    }
+    match place_among(taken, name.as_slice())? {
+        Some(_) => Err(ReadEnd::Refused(place_of(item), Cause::NameTaken)),
+        None => Ok(name),
+    }
+}
+
+/// The term that the item is, where these `let` names are in force, from the outermost.
+#[tactic(none)]
+#[cycle(reading)]
+pub(crate) fn read_term<T: Theory>(
+    alloc: Global,
+    env: &Environment<'_>,
+    locals: &mut Vec<Named>,
+    item: &Sexp,
+) -> Result<Typed<T>, ReadEnd>
+    requires { Serves T.numeric env.now.logic }
+    ensures read { Gives (typed_of T.denotes) result (spec.read_term (environment_of env.now) locals.old.items (item_of item.now)) }
+    ensures locals { OnOk result (locals.new.items ≡ locals.old.items) }
+{
+    match item {
+        Sexp::Atom(atom, place) => atom_term(alloc, env, locals.as_slice(), *place, atom),
+        Sexp::List(items, place) => read_list(alloc, env, locals, *place, Rest::all(items)),
+    }
+}
+
+/// The term that a list is.
+#[tactic(none)]
+#[cycle(reading)]
+fn read_list<T: Theory>(
+    alloc: Global,
+    env: &Environment<'_>,
+    locals: &mut Vec<Named>,
+    place: Place,
+    items: Rest<'_>,
+) -> Result<Typed<T>, ReadEnd>
+    requires { Serves T.numeric env.now.logic }
+    ensures read { Gives (typed_of T.denotes) result (spec.read_list (environment_of env.now) locals.old.items place (items_in items.entry)) }
+    ensures locals { OnOk result (locals.new.items ≡ locals.old.items) }
+{
+    let Some((head, rest)) = items.split() else {
+        return Err(ReadEnd::Refused(place, Cause::Shape));
+    };
+    if is_symbol(head, b"let") {
+        if !let_may_stand(env.role) {
+            return Err(ReadEnd::Refused(place, Cause::Shape));
+        }
+        return read_let(alloc, env, locals, place, rest);
+    }
+    if is_symbol(head, b"_") {
+        return indexed_term(env.logic, place, indexed_name(rest));
+    }
+    let head = read_head(env, locals.as_slice(), head)?;
+    let arguments = read_terms(alloc, env, locals, rest)?;
+    applied(env.constants, place, head, arguments)
+}
+
+/// Terms from left to right.
+#[tactic(none)]
+#[cycle(reading)]
+fn read_terms<T: Theory>(
+    alloc: Global,
+    env: &Environment<'_>,
+    locals: &mut Vec<Named>,
+    items: Rest<'_>,
+) -> Result<Several<T>, ReadEnd>
+    requires { Serves T.numeric env.now.logic }
+    ensures read { Gives (several_of T.denotes) result (spec.read_terms (environment_of env.now) locals.old.items phrases.nothing (items_in items.entry)) }
+    ensures locals { OnOk result (locals.new.items ≡ locals.old.items) }
+{
+    let mut done = Several::new(alloc);
+    let mut left = items;
+    while let Some((item, rest)) = left.split() {
+        let term = read_term(alloc, env, locals, item)?;
+        done.push(term)?;
+        left = rest;
+    }
+    Ok(done)
+}
+
+/// Behind `let`: a list of one binding or more, and the inner term.
+#[tactic(none)]
+#[cycle(reading)]
+fn read_let<T: Theory>(
+    alloc: Global,
+    env: &Environment<'_>,
+    locals: &mut Vec<Named>,
+    place: Place,
+    items: Rest<'_>,
+) -> Result<Typed<T>, ReadEnd>
+    requires { Serves T.numeric env.now.logic }
+    ensures read { Gives (typed_of T.denotes) result (spec.read_let (environment_of env.now) locals.old.items place (items_in items.entry)) }
+    ensures locals { OnOk result (locals.new.items ≡ locals.old.items) }
+{
+    let Some((bindings, rest)) = items.split() else {
+        return Err(ReadEnd::Refused(place, Cause::Shape));
+    };
+    let Some((inner, rest)) = rest.split() else {
+        return Err(ReadEnd::Refused(place, Cause::Shape));
+    };
+    if !rest.is_empty() {
+        return Err(ReadEnd::Refused(place, Cause::Shape));
+    }
+    let bound = read_binding_list(alloc, env, locals, place, bindings)?;
+    read_inner(alloc, env, locals, bound, inner)
+}
+
+/// The inner term under bindings.
+#[tactic(none)]
+#[cycle(reading)]
+fn read_inner<T: Theory>(
+    alloc: Global,
+    env: &Environment<'_>,
+    locals: &mut Vec<Named>,
+    bound: Bounds<T>,
+    inner: &Sexp,
+) -> Result<Typed<T>, ReadEnd>
+    requires { Serves T.numeric env.now.logic }
+    ensures read { Gives (typed_of T.denotes) result (spec.read_inner (environment_of env.now) locals.old.items (bounds_of T.denotes bound) (item_of inner.now)) }
+    ensures locals { OnOk result (locals.new.items ≡ locals.old.items) }
+{
+    let outside = locals.len();
+    let Bounds { mut names, terms } = bound;
+    locals.append(&mut names)?;
+    let inner = read_term(alloc, env, locals, inner)?;
+    locals.truncate(outside);
+    let term = binding(alloc, terms, inner)?;
+    Ok(term)
+}
+
+/// A list of one binding or more.
+#[tactic(none)]
+#[cycle(reading)]
+fn read_binding_list<T: Theory>(
+    alloc: Global,
+    env: &Environment<'_>,
+    locals: &mut Vec<Named>,
+    place: Place,
+    item: &Sexp,
+) -> Result<Bounds<T>, ReadEnd>
+    requires { Serves T.numeric env.now.logic }
+    ensures read { Gives (bounds_of T.denotes) result (spec.read_binding_list (environment_of env.now) locals.old.items place (item_of item.now)) }
+    ensures locals { OnOk result (locals.new.items ≡ locals.old.items) }
+{
+    match item {
+        Sexp::Atom(_, _) => Err(ReadEnd::Refused(place, Cause::Shape)),
+        Sexp::List(bindings, _) => {
+            let bindings = Rest::all(bindings);
+            if bindings.is_empty() {
+                return Err(ReadEnd::Refused(place, Cause::Shape));
+            }
+            read_bindings(alloc, env, locals, bindings)
+        }
+    }
+}
+
+/// Bindings from left to right.
+#[tactic(none)]
+#[cycle(reading)]
+fn read_bindings<T: Theory>(
+    alloc: Global,
+    env: &Environment<'_>,
+    locals: &mut Vec<Named>,
+    items: Rest<'_>,
+) -> Result<Bounds<T>, ReadEnd>
+    requires { Serves T.numeric env.now.logic }
+    ensures read { Gives (bounds_of T.denotes) result (spec.read_bindings (environment_of env.now) locals.old.items spec.unbound (items_in items.entry)) }
+    ensures locals { OnOk result (locals.new.items ≡ locals.old.items) }
+{
+    let mut bound = Bounds::new(alloc);
+    let mut left = items;
+    while let Some((item, rest)) = left.split() {
+        let binding = read_binding(alloc, env, locals, bound.names.as_slice(), item)?;
+        bound.push(binding)?;
+        left = rest;
+    }
+    Ok(bound)
+}
+
+/// The binding `(x t)`, where these names are taken.
+#[tactic(none)]
+#[cycle(reading)]
+fn read_binding<T: Theory>(
+    alloc: Global,
+    env: &Environment<'_>,
+    locals: &mut Vec<Named>,
+    taken: &[Named],
+    item: &Sexp,
+) -> Result<Bound<T>, ReadEnd>
+    requires { Serves T.numeric env.now.logic }
+    ensures read { Gives (bound_of T.denotes) result (spec.read_binding (environment_of env.now) locals.old.items taken.now (item_of item.now)) }
+    ensures locals { OnOk result (locals.new.items ≡ locals.old.items) }
+{
+    match item {
+        Sexp::Atom(_, place) => Err(ReadEnd::Refused(*place, Cause::Shape)),
+        Sexp::List(items, place) => {
+            read_pair(alloc, env, locals, taken, *place, Rest::all(items))
+        }
+    }
+}
+
+/// The name and the term of a binding.
+#[tactic(none)]
+#[cycle(reading)]
+fn read_pair<T: Theory>(
+    alloc: Global,
+    env: &Environment<'_>,
+    locals: &mut Vec<Named>,
+    taken: &[Named],
+    place: Place,
+    items: Rest<'_>,
+) -> Result<Bound<T>, ReadEnd>
+    requires { Serves T.numeric env.now.logic }
+    ensures read { Gives (bound_of T.denotes) result (spec.read_pair (environment_of env.now) locals.old.items taken.now place (items_in items.entry)) }
+    ensures locals { OnOk result (locals.new.items ≡ locals.old.items) }
+{
+    let Some((name, rest)) = items.split() else {
+        return Err(ReadEnd::Refused(place, Cause::Shape));
+    };
+    let Some((term, rest)) = rest.split() else {
+        return Err(ReadEnd::Refused(place, Cause::Shape));
+    };
+    if !rest.is_empty() {
+        return Err(ReadEnd::Refused(place, Cause::Shape));
+    }
+    let name = new_name(env.logic, taken, place, name)?;
+    let term = read_term(alloc, env, locals, term)?;
+    let name = copied(alloc, name)?;
+    Ok(Bound {
+        named: Named {
+            name,
+            sort: term.sort,
+        },
+        phrase: term.phrase,
+    })
+}

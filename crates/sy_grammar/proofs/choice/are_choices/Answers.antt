@@ -1,6 +1,0 @@
-use Rattle.std.proofs.Common.{◌≡◌, ◌∙◌, sym, refl, arith}
-use Rattle.sy_grammar.proofs.Choices.{not_three, three}
-use Rattle.sy_grammar.proofs.choice.are_choices.Goals as goal
-
-pub returns-then-len-ne3 : goal.returns-then-len-ne3
-returns-then-len-ne3 g c = sym (not_three g.T.Theory.denotes c.args.parts.now.items.items (λ long. c.if-len-ne3.true (c.len.ensures ∙ long)))

@@ -1,0 +1,10 @@
+use Rattle.std.proofs.Common.{map}
+use Rattle.sy_terms.specs.Denoted.{val_of}
+use Rattle.sy_grammar_chains.proofs.Magnitudes.{greatest_truth}
+use Rattle.sy_grammar_chains.proofs.constants.largest_constant.Goals as goal
+
+pub returns-in-Bool : goal.returns-in-Bool
+returns-in-Bool g c = rw (c.in-Bool.is) (greatest_truth (map (val_of g.T.Theory.denotes) c.args.pool.now))
+
+pub returns-in_ok-size-in-Bits : goal.returns-in_ok-size-in-Bits
+returns-in_ok-size-in-Bits g c = rw (c.in-Bits.is) c.in_ok-size-in-Bits.ensures

@@ -1,0 +1,6 @@
+use Rattle.std.proofs.Common.{◌≡◌, sym}
+use Rattle.sy_grammar_derive.specs.Noted.{note_of-out}
+use Rattle.sy_grammar_derive.proofs.note.Note.row.Goals as goal
+
+pub returns : goal.returns
+returns c = rw (note_of-out) (c.as_slice.ensures.value)

@@ -1,0 +1,162 @@
+// The checker of refutation trees.
+ghost use Rattle.std.specs.Prelude.{◌≡◌, ◌+◌, ◌<◌, ◌^◌, ◌++◌, ◌∷◌, [], Ok, true, length, IfOk, OnOk};
+ghost use Rattle.sy_terms.specs.Expr.{nodes};
+ghost use Rattle.sy_linear_known.specs.Stored.{query_of, shape_of};
+ghost use Rattle.sy_linear.specs.Judging.{Tells, both, judged, size};
+ghost use Rattle.sy_linear.specs.Unsatisfied.{NoneSatisfies};
+
+use crate::nodes::{branch, contradicts, cut, shows, split};
+use crate::size::count_nodes;
+use std::alloc::Global;
+use sy_linear_known::{CheckEnd, Fact, Tree, is_numbered};
+use sy_meaning_integers::IntTheory;
+use sy_query_base::Query;
+
+/// The number that is referred to.
+fn referred(number: &i128) -> i128
+    ensures { result ≡ number.now }
+{
+    *number
+}
+
+/// Whether the tree refutes the query under the facts; `next` is the number of its root, and then of the node after
+/// it.
+#[cycle(judge)]
+fn judge(
+    alloc: Global,
+    query: &Query<IntTheory>,
+    facts: &mut Vec<Fact>,
+    tree: &Tree,
+    next: &mut u32,
+) -> Result<bool, CheckEnd>
+    requires nodes { nodes (query_of query.now).body < 2 ^ 31 }
+    requires vars { length query.now.vars < 2 ^ 31 }
+    requires room { next.old + size (shape_of tree.now) < 2 ^ 32 }
+    ensures judged { Tells result (judged (query_of query.now) facts.old.items next.old (shape_of tree.now)) }
+    ensures facts { OnOk result (facts.new.items ≡ facts.old.items) }
+    ensures next { result ≡ Ok true → next.new ≡ next.old + size (shape_of tree.now) }
+{
+    let node = *next;
+    *next += 1;
+    match tree {
+        Tree::Split(test, _, left, right) => {
+            match split(alloc, query.vars.as_slice(), test, node) {
+                Ok(Some(added)) => judge_both(alloc, query, facts, added, left, right, next),
+                Ok(None) => Ok(false),
+                Err(end) => Err(end),
+            }
+        }
+        Tree::Branch(variable, bound, _, left, right) => {
+            let bound = referred(bound);
+            match branch(alloc, query.vars.as_slice(), *variable, bound, node) {
+                Ok(Some(added)) => judge_both(alloc, query, facts, added, left, right, next),
+                Ok(None) => Ok(false),
+                Err(end) => Err(end),
+            }
+        }
+        Tree::Cut(multipliers, divisor, _, inner) => {
+            let divisor = referred(divisor);
+            match cut(
+                alloc,
+                facts.as_slice(),
+                multipliers.as_slice(),
+                divisor,
+                node,
+            ) {
+                Ok(Some(added)) => judge_under(alloc, query, facts, added, inner, next),
+                Ok(None) => Ok(false),
+                Err(end) => Err(end),
+            }
+        }
+        Tree::Farkas(multipliers) => {
+            contradicts(alloc, facts.as_slice(), multipliers.as_slice(), node)
+        }
+        Tree::Shown => shows(alloc, query, facts.as_slice(), node),
+        Tree::Unfinished => Ok(false),
+    }
+}
+
+/// Whether the tree refutes the query under the facts with one more.
+#[cycle(judge)]
+fn judge_under(
+    alloc: Global,
+    query: &Query<IntTheory>,
+    facts: &mut Vec<Fact>,
+    added: Fact,
+    tree: &Tree,
+    next: &mut u32,
+) -> Result<bool, CheckEnd>
+    requires nodes { nodes (query_of query.now).body < 2 ^ 31 }
+    requires vars { length query.now.vars < 2 ^ 31 }
+    requires room { next.old + size (shape_of tree.now) < 2 ^ 32 }
+    ensures judged { Tells result (judged (query_of query.now) (facts.old.items ++ added ∷ []) next.old (shape_of tree.now)) }
+    ensures facts { OnOk result (facts.new.items ≡ facts.old.items) }
+    ensures next { result ≡ Ok true → next.new ≡ next.old + size (shape_of tree.now) }
+{
+    let outer = facts.len();
+    facts.push(added)?;
+    let accepted = match judge(alloc, query, facts, tree, next) {
+        Ok(accepted) => accepted,
+        Err(end) => return Err(end),
+    };
+    facts.truncate(outer);
+    Ok(accepted)
+}
+
+/// Whether both trees refute the query, each under the facts with one more.
+#[cycle(judge)]
+fn judge_both(
+    alloc: Global,
+    query: &Query<IntTheory>,
+    facts: &mut Vec<Fact>,
+    added: (Fact, Fact),
+    left: &Tree,
+    right: &Tree,
+    next: &mut u32,
+) -> Result<bool, CheckEnd>
+    requires nodes { nodes (query_of query.now).body < 2 ^ 31 }
+    requires vars { length query.now.vars < 2 ^ 31 }
+    requires room { next.old + (size (shape_of left.now) + size (shape_of right.now)) < 2 ^ 32 }
+    ensures judged { Tells result (both (judged (query_of query.now) (facts.old.items ++ added.0 ∷ []) next.old (shape_of left.now)) (judged (query_of query.now) (facts.old.items ++ added.1 ∷ []) (next.old + size (shape_of left.now)) (shape_of right.now))) }
+    ensures facts { OnOk result (facts.new.items ≡ facts.old.items) }
+    ensures next { result ≡ Ok true → next.new ≡ next.old + (size (shape_of left.now) + size (shape_of right.now)) }
+{
+    let (below, above) = added;
+    match judge_under(alloc, query, facts, below, left, next) {
+        Ok(true) => judge_under(alloc, query, facts, above, right, next),
+        Ok(false) => Ok(false),
+        Err(end) => Err(end),
+    }
+}
+
+/// Whether the tree, whose nodes numbers of 32 bits count, refutes the query.
+fn checked(alloc: Global, q: &Query<IntTheory>, t: &Tree) -> Result<bool, CheckEnd>
+    requires nodes { nodes (query_of q.now).body < 2 ^ 31 }
+    requires vars { length q.now.vars < 2 ^ 31 }
+    requires tree { size (shape_of t.now) < 2 ^ 32 }
+    ensures judged { Tells result (judged (query_of q.now) [] 0 (shape_of t.now)) }
+    ensures law { result ≡ Ok true → NoneSatisfies (query_of q.now) }
+{
+    let mut facts = Vec::new(alloc);
+    let mut next = 0u32;
+    judge(alloc, q, &mut facts, t, &mut next)
+}
+
+/// How many nodes a tree may have, so that numbers of 32 bits count them.
+const MOST: u64 = 1 << 32;
+
+/// Whether the tree refutes the query. Its nodes are judged in preorder, and the first that fails decides. A node
+/// fails with false where it isn't as a refutation tree's is, as an `Unfinished` one always does, and with `Range` and
+/// its number where a number of it leaves 128 bits. At one node first the variables, the number and signs of the
+/// multipliers and the divisor are judged, then whether the numbers fit, and then the rest. A query of which a tree is
+/// accepted is satisfied by no assignment of whole numbers and truth values. A query or a tree of which numbers of 32
+/// bits don't count the nodes is answered as want of memory.
+pub fn check_tree(alloc: Global, q: &Query<IntTheory>, t: &Tree) -> Result<bool, CheckEnd>
+    ensures judged { Tells result (judged (query_of q.now) [] 0 (shape_of t.now)) }
+    ensures law { result ≡ Ok true → NoneSatisfies (query_of q.now) }
+{
+    if !is_numbered(q) || count_nodes(t, MOST) >= MOST {
+        return Err(CheckEnd::Want);
+    }
+    checked(alloc, q, t)
+}

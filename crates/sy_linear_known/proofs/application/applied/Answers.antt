@@ -1,0 +1,7 @@
+use Rattle.std.proofs.Common.{ap, ◌∙◌}
+use Rattle.sy_linear_known.specs.Fitting.{sight_fits}
+use Rattle.sy_linear_known.proofs.Fitting.{fits-applied}
+use Rattle.sy_linear_known.proofs.application.applied.Goals as goal
+
+pub returns-clause-fits : goal.returns-clause-fits
+returns-clause-fits c = ap (λ n. sight_fits n.sight) c.in_ok-node.ensures ∙ fits-applied c.args.path.now c.args.operator.now c.args.sights.now c.requires

@@ -1,0 +1,7 @@
+use Rattle.std.proofs.Common.{sym, ◌∙◌, arith}
+use Rattle.sy_linear_known.specs.Operations.{comparison}
+use Rattle.sy_linear_known.proofs.Steps.{in_row_end}
+use Rattle.sy_linear_known.proofs.comparisons.Comparison.in_row.Goals as goal
+
+pub returns : goal.returns
+returns c = sym (in_row_end (comparison c.args.self c.args.path.now) c.loop-left.node c.loop-left.left.now (omega (arith, c.in_default.len_below))) ∙ c.loop-left.invariant.kept

@@ -1,0 +1,164 @@
+// Forms of sums, differences and products.
+ghost use Rattle.std.specs.Prelude.{◌≡◌, ◌∷◌, IfOk, true};
+ghost use Rattle.sy_linear_forms.specs.Forms.{fits, is_constant};
+ghost use Rattle.sy_linear_known.specs.Sights as spec;
+ghost use Rattle.sy_linear_known.specs.Fitting.{form_fits, sight_fits, all_fit};
+ghost use Rattle.sy_linear_known.specs.Operations.{operation};
+
+use crate::sight::{Node, Sight};
+use std::alloc::{AllocError, Global};
+use sy_linear_forms::{Form, FormEnd};
+use sy_seq::Want;
+
+/// An operation on two whole numbers.
+#[derive(Clone, Copy)]
+pub(crate) enum Operation {
+    Sum,
+    Difference,
+    Product,
+}
+
+/// The sum; none where it doesn't fit.
+pub(crate) fn sum(alloc: Global, f: &Form, g: &Form) -> Result<Option<Form>, Want>
+    requires left { fits f.now ≡ true }
+    requires right { fits g.now ≡ true }
+    ensures ok { IfOk result (λ form. form ≡ spec.sum f.now g.now) }
+    ensures fits { IfOk result (λ form. form_fits form ≡ true) }
+{
+    match f.plus(alloc, g) {
+        Ok(form) => Ok(Some(form)),
+        Err(FormEnd::OutOfRange) => Ok(None),
+        Err(FormEnd::Want) => Err(AllocError),
+    }
+}
+
+/// The multiple; none where it doesn't fit.
+pub(crate) fn multiple(alloc: Global, factor: i128, f: &Form) -> Result<Option<Form>, Want>
+    requires { fits f.now ≡ true }
+    ensures ok { IfOk result (λ form. form ≡ spec.multiple factor f.now) }
+    ensures fits { IfOk result (λ form. form_fits form ≡ true) }
+{
+    match f.times(alloc, factor) {
+        Ok(form) => Ok(Some(form)),
+        Err(FormEnd::OutOfRange) => Ok(None),
+        Err(FormEnd::Want) => Err(AllocError),
+    }
+}
+
+/// The sum with the opposite; none where one of them doesn't fit.
+pub(crate) fn difference(alloc: Global, f: &Form, g: &Form) -> Result<Option<Form>, Want>
+    requires left { fits f.now ≡ true }
+    requires right { fits g.now ≡ true }
+    ensures ok { IfOk result (λ form. form ≡ spec.difference f.now g.now) }
+    ensures fits { IfOk result (λ form. form_fits form ≡ true) }
+{
+    let opposite = multiple(alloc, -1, g)?;
+    match opposite {
+        Some(opposite) => sum(alloc, f, &opposite),
+        None => Ok(None),
+    }
+}
+
+/// Whether no variable has a coefficient.
+pub(crate) fn is_constant(f: &Form) -> bool
+    ensures { result ≡ is_constant f.now }
+{
+    f.coefs.len() == 0
+}
+
+/// The product, one factor of which is constant; none where it doesn't fit or both factors vary.
+pub(crate) fn product(alloc: Global, f: &Form, g: &Form) -> Result<Option<Form>, Want>
+    requires left { fits f.now ≡ true }
+    requires right { fits g.now ≡ true }
+    ensures ok { IfOk result (λ form. form ≡ spec.product f.now g.now) }
+    ensures fits { IfOk result (λ form. form_fits form ≡ true) }
+{
+    if is_constant(f) {
+        multiple(alloc, f.constant, g)
+    } else if is_constant(g) {
+        multiple(alloc, g.constant, f)
+    } else {
+        Ok(None)
+    }
+}
+
+impl Operation {
+    /// The operation on two forms; none where it doesn't fit.
+    fn apply(self, alloc: Global, f: &Form, g: &Form) -> Result<Option<Form>, Want>
+        requires left { fits f.now ≡ true }
+        requires right { fits g.now ≡ true }
+        ensures ok { IfOk result (λ form. form ≡ operation self f.now g.now) }
+        ensures fits { IfOk result (λ form. form_fits form ≡ true) }
+    {
+        match self {
+            Operation::Sum => sum(alloc, f, g),
+            Operation::Difference => difference(alloc, f, g),
+            Operation::Product => product(alloc, f, g),
+        }
+    }
+
+    /// The operation on what is told of two terms.
+    fn combined(self, alloc: Global, node: &Node, sight: &Sight) -> Result<Node, Want>
+        requires node { sight_fits node.now.sight ≡ true }
+        requires sight { sight_fits sight.now ≡ true }
+        ensures { IfOk result (λ n. n ≡ spec.combined (operation self) node.now sight.now) }
+    {
+        match (&node.sight, sight) {
+            (Sight::Linear(f), Sight::Linear(g)) => {
+                let form = self.apply(alloc, f, g)?;
+                Ok(Node::of_form(form))
+            }
+            _ => Ok(Node {
+                sight: Sight::Open,
+                unknown: None,
+                fits: node.fits,
+            }),
+        }
+    }
+
+    /// The operation taken from the left over what is told of terms.
+    pub(crate) fn folded(self, alloc: Global, sights: &[Sight]) -> Result<Node, Want>
+        requires { all_fit sights.now ≡ true }
+        ensures { IfOk result (λ n. n ≡ spec.folded (operation self) sights.now) }
+    {
+        let Some((first, rest)) = sights.split_first() else {
+            return Ok(Node::told(Sight::Open));
+        };
+        let mut node = Node::told(first.copy(alloc)?);
+        for sight in rest {
+            node = self.combined(alloc, &node, sight)?;
+        }
+        Ok(node)
+    }
+}
+
+/// What is told of the opposite of a number.
+pub(crate) fn negated(alloc: Global, sights: &[Sight]) -> Result<Node, Want>
+    requires { all_fit sights.now ≡ true }
+    ensures { IfOk result (λ n. n ≡ spec.negated sights.now) }
+{
+    match sights {
+        [Sight::Linear(f)] => {
+            let form = multiple(alloc, -1, f)?;
+            Ok(Node::of_form(form))
+        }
+        _ => Ok(Node::told(Sight::Open)),
+    }
+}
+
+/// What is told of the branch that a known condition chooses.
+pub(crate) fn chosen(alloc: Global, sights: &[Sight]) -> Result<Node, Want>
+    ensures { IfOk result (λ n. n ≡ spec.chosen sights.now) }
+{
+    match sights {
+        [Sight::Settled(true), first, _] => {
+            let sight = first.copy(alloc)?;
+            Ok(Node::told(sight))
+        }
+        [Sight::Settled(false), _, second] => {
+            let sight = second.copy(alloc)?;
+            Ok(Node::told(sight))
+        }
+        _ => Ok(Node::told(Sight::Open)),
+    }
+}

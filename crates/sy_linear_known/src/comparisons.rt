@@ -1,0 +1,215 @@
+// Comparisons of terms under a path.
+ghost use Rattle.std.specs.Prelude.{◌≡◌, IfOk, true, negsuc};
+ghost use Rattle.sy_linear_forms.specs.Forms.{fits, constant_form};
+ghost use Rattle.sy_linear_known.specs.Sights as spec;
+ghost use Rattle.sy_linear_known.specs.Fitting.{form_fits, sight_fits, all_fit};
+ghost use Rattle.sy_linear_known.specs.Operations.{comparison};
+
+use crate::arithmetic::{difference, is_constant, sum};
+use crate::path::{Fact, Test, has_form};
+use crate::sight::{Node, Sight};
+use std::alloc::{AllocError, Global};
+use sy_linear_forms::{Form, FormEnd};
+use sy_seq::Want;
+
+/// A comparison of two whole numbers.
+#[derive(Clone, Copy)]
+pub(crate) enum Comparison {
+    AtMost,
+    Less,
+    AtLeast,
+    Greater,
+    Equal,
+    Distinct,
+}
+
+/// Whether the form is a constant of at least 0, or stands in the path.
+fn known_true(path: &[Fact], form: &Form) -> bool
+    ensures { result ≡ spec.known_true path.now form.now }
+{
+    is_constant(form) && form.constant >= 0 || has_form(form, path)
+}
+
+/// Whether the form is a negative constant, or its negation stands in the path.
+fn known_false(path: &[Fact], form: &Form, negation: &Form) -> bool
+    ensures { result ≡ spec.known_false path.now form.now negation.now }
+{
+    is_constant(form) && form.constant < 0 || has_form(negation, path)
+}
+
+/// What the path tells of the form's being at least 0.
+fn answered(path: &[Fact], form: Form, negation: &Form) -> Node
+    ensures { result ≡ spec.answered path.now form negation.now }
+{
+    if known_true(path, &form) {
+        Node::told(Sight::Settled(true))
+    } else if known_false(path, &form, negation) {
+        Node::told(Sight::Settled(false))
+    } else {
+        Node {
+            sight: Sight::Open,
+            unknown: Some(Test::AtLeast(form)),
+            fits: true,
+        }
+    }
+}
+
+/// The test whether the form is at least 0, for which its negation is built too.
+fn tested(alloc: Global, path: &[Fact], form: Option<Form>) -> Result<Node, Want>
+    requires { form_fits form ≡ true }
+    ensures { IfOk result (λ n. n ≡ spec.tested path.now form) }
+{
+    let Some(form) = form else {
+        return Ok(Node::unfit());
+    };
+    match form.negation(alloc) {
+        Ok(negation) => Ok(answered(path, form, &negation)),
+        Err(FormEnd::OutOfRange) => Ok(Node::unfit()),
+        Err(FormEnd::Want) => Err(AllocError),
+    }
+}
+
+/// Whether the first is at most the second.
+fn at_most(alloc: Global, path: &[Fact], f: &Form, g: &Form) -> Result<Node, Want>
+    requires left { fits f.now ≡ true }
+    requires right { fits g.now ≡ true }
+    ensures { IfOk result (λ n. n ≡ spec.at_most path.now f.now g.now) }
+{
+    let form = difference(alloc, g, f)?;
+    tested(alloc, path, form)
+}
+
+/// The form less 1; none where there is none or it doesn't fit.
+fn less_one(alloc: Global, form: Option<Form>) -> Result<Option<Form>, Want>
+    requires { form_fits form ≡ true }
+    ensures ok { IfOk result (λ o. o ≡ spec.and_then form (λ f. spec.sum f (constant_form (negsuc 0)))) }
+    ensures fits { IfOk result (λ o. form_fits o ≡ true) }
+{
+    match form {
+        Some(form) => sum(alloc, &form, &Form::number(alloc, -1)),
+        None => Ok(None),
+    }
+}
+
+/// Whether the first is less than the second.
+fn less(alloc: Global, path: &[Fact], f: &Form, g: &Form) -> Result<Node, Want>
+    requires left { fits f.now ≡ true }
+    requires right { fits g.now ≡ true }
+    ensures { IfOk result (λ n. n ≡ spec.less path.now f.now g.now) }
+{
+    let difference = difference(alloc, g, f)?;
+    let form = less_one(alloc, difference)?;
+    tested(alloc, path, form)
+}
+
+/// Whether the two are equal.
+fn equal(alloc: Global, path: &[Fact], f: &Form, g: &Form) -> Result<Node, Want>
+    requires left { fits f.now ≡ true }
+    requires right { fits g.now ≡ true }
+    ensures { IfOk result (λ n. n ≡ spec.equal path.now f.now g.now) }
+{
+    let first = at_most(alloc, path, g, f)?;
+    let second = at_most(alloc, path, f, g)?;
+    Ok(first.both(second))
+}
+
+/// Whether the two differ.
+fn distinct(alloc: Global, path: &[Fact], f: &Form, g: &Form) -> Result<Node, Want>
+    requires left { fits f.now ≡ true }
+    requires right { fits g.now ≡ true }
+    ensures { IfOk result (λ n. n ≡ spec.distinct path.now f.now g.now) }
+{
+    let node = equal(alloc, path, f, g)?;
+    Ok(node.turned())
+}
+
+impl Comparison {
+    /// The comparison of two forms.
+    fn compare(self, alloc: Global, path: &[Fact], f: &Form, g: &Form) -> Result<Node, Want>
+        requires left { fits f.now ≡ true }
+        requires right { fits g.now ≡ true }
+        ensures { IfOk result (λ n. n ≡ comparison self path.now f.now g.now) }
+    {
+        match self {
+            Comparison::AtMost => at_most(alloc, path, f, g),
+            Comparison::Less => less(alloc, path, f, g),
+            Comparison::AtLeast => at_most(alloc, path, g, f),
+            Comparison::Greater => less(alloc, path, g, f),
+            Comparison::Equal => equal(alloc, path, f, g),
+            Comparison::Distinct => distinct(alloc, path, f, g),
+        }
+    }
+
+    /// The comparison of two terms.
+    fn compared(
+        self,
+        alloc: Global,
+        path: &[Fact],
+        first: &Sight,
+        second: &Sight,
+    ) -> Result<Node, Want>
+        requires left { sight_fits first.now ≡ true }
+        requires right { sight_fits second.now ≡ true }
+        ensures { IfOk result (λ n. n ≡ spec.compared (comparison self path.now) first.now second.now) }
+    {
+        match (first, second) {
+            (Sight::Linear(f), Sight::Linear(g)) => self.compare(alloc, path, f, g),
+            _ => Ok(Node::told(Sight::Open)),
+        }
+    }
+
+    /// The comparison of each term with the one after it.
+    pub(crate) fn in_row(self, alloc: Global, path: &[Fact], sights: &[Sight]) -> Result<Node, Want>
+        requires { all_fit sights.now ≡ true }
+        ensures { IfOk result (λ n. n ≡ spec.in_row (comparison self path.now) spec.none_yet sights.now) }
+    {
+        let mut node = Node::told(Sight::Settled(true));
+        let mut left = sights;
+        while let [first, second, ..] = left {
+            let next = self.compared(alloc, path, first, second)?;
+            node = node.both(next);
+            left = &left[1..];
+        }
+        Ok(node)
+    }
+
+    /// The comparison of a term with each of the others, after those before.
+    fn with_each(
+        self,
+        alloc: Global,
+        path: &[Fact],
+        before: Node,
+        first: &Sight,
+        others: &[Sight],
+    ) -> Result<Node, Want>
+        requires first { sight_fits first.now ≡ true }
+        requires others { all_fit others.now ≡ true }
+        ensures { IfOk result (λ n. n ≡ spec.with_each (comparison self path.now) before first.now others.now) }
+    {
+        let mut node = before;
+        for other in others {
+            let next = self.compared(alloc, path, first, other)?;
+            node = node.both(next);
+        }
+        Ok(node)
+    }
+
+    /// The comparison of each pair of terms.
+    pub(crate) fn in_pairs(
+        self,
+        alloc: Global,
+        path: &[Fact],
+        sights: &[Sight],
+    ) -> Result<Node, Want>
+        requires { all_fit sights.now ≡ true }
+        ensures { IfOk result (λ n. n ≡ spec.in_pairs (comparison self path.now) spec.none_yet sights.now) }
+    {
+        let mut node = Node::told(Sight::Settled(true));
+        let mut left = sights;
+        while let Some((first, rest)) = left.split_first() {
+            node = self.with_each(alloc, path, node, first, rest)?;
+            left = rest;
+        }
+        Ok(node)
+    }
+}

@@ -1,0 +1,19 @@
+// What facts on linear forms and truth values tell of a query, and trees that refute one.
+#![tactic(auto)]
+
+mod answer;
+mod application;
+mod arithmetic;
+mod comparisons;
+mod path;
+mod queries;
+mod sight;
+mod tree;
+mod truths;
+mod walk;
+
+pub use answer::Known;
+pub use path::{Fact, Path, Test};
+pub use queries::{is_numbered, known, known_under};
+pub use sy_linear_forms::{Form, FormEnd};
+pub use tree::{CheckEnd, Tree};

@@ -1,0 +1,86 @@
+-- All bodies of one size together.
+use Rattle.std.specs.Prelude.{ℕ, Bool, ◌+◌, ◌≡◌, ◌<◌, ◌≤◌, List, [], ◌∷◌, ◌++◌, slice_get, Some, length, All}
+use Rattle.sy_terms.specs.Values.{Val}
+use Rattle.sy_terms.specs.Expr.{Expr}
+use Rattle.sy_terms.specs.Fitting.{Scope}
+use Rattle.sy_terms.specs.Meaning.{functions}
+use Rattle.sy_terms.specs.declared.op.Op.{Op}
+use Rattle.sy_grammar_base.specs.Trees.{Tree, Derives, tree_size}
+use Rattle.sy_grammar_base.specs.Questions.{Goal, Question}
+use Rattle.sy_query_limits.specs.declared.FailName.{FailName}
+use Rattle.sy_query_limits.specs.declared.Limits.{Limits}
+use Rattle.sy_query_decide.specs.Asked.{Query}
+use Rattle.sy_points.specs.Asked.{Asked, of_function}
+use Rattle.sy_bank_rows.specs.Banks.{Entry, Merged, IsHonest, IsKept, kept_at}
+use Rattle.sy_bank_rows.specs.Columns.{HasRow}
+use Rattle.sy_bank_rows.specs.Covering.{terms}
+use Rattle.sy_loop_history.specs.Histories.{Counterexample}
+use Rattle.sy_loop_candidate.specs.Known.{left}
+use Rattle.sy_loop_candidate.specs.Steps.{IsEnd}
+use Rattle.sy_loop_candidate.specs.Trials.{IsRefuted}
+use Rattle.sy_loop_laws.specs.Refuting.{Grows}
+use Rattle.sy_loop_candidate.specs.declared.step.Step.{Step}
+use Rattle.sy_loop_candidate.specs.declared.step.Step.TheVariants.{Next, Again}
+use Rattle.sy_loop_candidate.specs.declared.step.Step.TheVariants as steps
+
+-- the bank of the function's grammar is honest, over the function's tuples, and its rows are of values that terms fit with
+pub record IsHonestOf (scope : Scope) (question : Question) (asked : Asked) (function : ℕ) (bank : Merged) : Type 0 where
+  pub goal : Goal
+  pub at : slice_get question.goals function ≡ Some goal
+  pub over : bank.points ≡ of_function asked function
+  pub honest : IsHonest goal.grammar (functions question.definitions) question.pool bank
+  pub rows : (entry : Entry) → IsKept bank.levels 0 entry → HasRow scope (functions question.definitions) bank.points entry.term entry.row
+
+-- an honest bank for each function to be found
+pub record AreHonest (scope : Scope) (question : Question) (asked : Asked) (banks : List Merged) : Type 0 where
+  pub each : (function : ℕ) (bank : Merged) → slice_get banks function ≡ Some bank → IsHonestOf scope question asked function bank
+  pub all : length banks ≡ length question.goals
+
+-- bodies of the first functions have derivations whose sizes sum to this
+abbrev pub SumTo : List Val → List Goal → List Expr → ℕ → Type 0
+SumTo pool goals [] total = total ≡ 0
+SumTo pool [] (body ∷ bodies) total = ⊥
+SumTo pool (goal ∷ goals) (body ∷ bodies) total =
+    (tree : Tree) × (rest : ℕ) × Derives goal.grammar 0 tree body × SumTo pool goals bodies rest × (total ≡ tree_size goal.grammar pool 0 tree + rest)
+
+-- each of the terms has its row over the tuples of the function of its place
+abbrev pub HaveRows : Scope → Question → Asked → List Entry → Type 0
+HaveRows scope question asked entries =
+    (function : ℕ) (entry : Entry) → slice_get entries function ≡ Some entry → HasRow scope (functions question.definitions) (of_function asked function) entry.term entry.row
+
+-- kept terms are bodies of the first functions, and their sizes leave this much of the greatest size
+pub record IsBegun (scope : Scope) (question : Question) (asked : Asked) (size : ℕ) (chosen : List Entry) (rest : ℕ) : Type 0 where
+  pub total : ℕ
+  pub sum : SumTo question.pool question.goals (terms chosen) total
+  pub within : total + rest ≤ size
+  pub rows : HaveRows scope question asked chosen
+
+-- with each of the kept terms as the next body
+abbrev pub AreChoices : Scope → Question → Asked → ℕ → List Entry → List Entry → ℕ → Type 0
+AreChoices scope question asked size chosen kept rest = All (λ (entry : Entry). IsBegun scope question asked size (chosen ++ entry ∷ []) rest) kept
+
+-- kept terms of the banks' start symbols, one of each, whose sizes sum to this
+abbrev pub AreKept : List Merged → List Expr → ℕ → Type 0
+AreKept [] [] total = total ≡ 0
+AreKept [] (body ∷ bodies) total = ⊥
+AreKept (bank ∷ banks) [] total = ⊥
+AreKept (bank ∷ banks) (body ∷ bodies) total =
+    (size rest place : ℕ) × (entry : Entry) × (slice_get (kept_at bank.levels 0 size) place ≡ Some entry) × (entry.term ≡ body) × AreKept banks bodies rest × (size + rest ≡ total)
+
+-- the bodies that begin with these, and go on with kept terms of the banks whose sizes sum to this, are refuted
+pub record AllAreRefuted (question : Question) (history : List Counterexample) (asked : Asked) (chosen : List Expr) (banks : List Merged) (total : ℕ) : Type 0 where
+  pub each : (bodies : List Expr) → AreKept banks bodies total → IsRefuted question history asked (chosen ++ bodies)
+
+-- a fact where nothing new is learned
+abbrev pub OnNext : {T P S N : Type 0} → Type 0 → Step T P S N → Type 0
+OnNext fact Next = fact
+OnNext fact Again = Unit {0}
+OnNext fact (steps.End end) = Unit {0}
+
+-- what comes of bodies that are tried, by what is known before and after
+abbrev pub Goes : {T P S N : Type 0} → (Op → Bool) → (N → Val) → (Query → P → Type 0) → (S → FailName) → (Query → Limits → FailName → S → Type 0) → Question → Limits → List Counterexample → Asked → List Counterexample → Asked → Step T P S N → Type 0
+Goes owned number accepted budget shows question limits history asked history' asked' Next = (history' ≡ history) × (asked' ≡ asked)
+Goes owned number accepted budget shows question limits history asked history' asked' Again =
+    (left limits history' asked' < left limits history asked) × Grows history asked history' asked'
+Goes owned number accepted budget shows question limits history asked history' asked' (steps.End end) =
+    IsEnd owned number accepted budget shows question limits history' asked' end

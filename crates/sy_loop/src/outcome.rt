@@ -1,0 +1,55 @@
+// The outcomes of a search that ends.
+ghost use Rattle.std.specs.Prelude.{◌≡◌, IfOk};
+ghost use Rattle.sy_grammar_base.specs.Questions.{question_of};
+ghost use Rattle.sy_loop_history.specs.Stored.{history_of};
+ghost use Rattle.sy_loop_outcome.specs.Right.{IsRight};
+ghost use Rattle.sy_loop_candidate.specs.Steps.{IsEnd};
+
+use std::alloc::Global;
+use sy_grammar_base::Problem;
+use sy_loop_candidate::{End, Known};
+use sy_loop_outcome::{FailCause, LoopRange, Outcome};
+use sy_query_decide::Decide;
+use sy_query_limits::Limits;
+use sy_terms::{Seq, Theory, Values, Want, copied_values};
+
+/// The outcome of a search that ends by a candidate.
+pub(crate) fn ended<T: Theory, D: Decide<T>>(
+    alloc: Global,
+    _problem: &Problem<T>,
+    _limits: &Limits,
+    end: End<T, D::Proof, D::Spent>,
+    known: Known<T>,
+) -> Result<Outcome<T, D::Proof, D::Spent>, Want>
+    requires { IsEnd T.owned T.denotes D.accepted D.budget D.shows (question_of T.denotes _problem.now) _limits.now (history_of T.denotes known.stored) known.points end }
+    ensures { IfOk result (IsRight T.owned T.denotes D.accepted D.budget D.shows (question_of T.denotes _problem.now) _limits.now) }
+{
+    match end {
+        End::Found(bodies, proof) => Ok(Outcome::Found(bodies, proof)),
+        End::Points(function, bodies, assignment) => {
+            let tuples = copied_tuples::<T>(alloc, known.points.of(function))?;
+            let cause = FailCause::Points(known.stored, function, bodies, assignment, tuples);
+            Ok(Outcome::Fail(cause))
+        }
+        End::Weight(bodies) => Ok(Outcome::Fail(FailCause::Weight(known.stored, bodies))),
+        End::Decide(bodies, spent) => {
+            Ok(Outcome::Fail(FailCause::Decide(known.stored, bodies, spent)))
+        }
+        End::Checked(bodies, assignment) => {
+            let left = LoopRange::Checked(bodies, assignment);
+            Ok(Outcome::Fail(FailCause::Range(known.stored, left)))
+        }
+    }
+}
+
+/// The same tuples, in memory of their own.
+fn copied_tuples<T: Theory>(alloc: Global, tuples: &Seq<Values<T>>) -> Result<Seq<Values<T>>, Want>
+    ensures { IfOk result (λ copy. copy ≡ tuples.now) }
+{
+    let mut copy = Seq::new(alloc);
+    for tuple in tuples.as_slice() {
+        let values = copied_values::<T>(alloc, tuple.as_slice())?;
+        copy.push(values)?;
+    }
+    Ok(copy)
+}

@@ -1,0 +1,75 @@
+-- Candidates at the assignments of a history.
+use Rattle.std.proofs.Common.{◌≡◌, ◌<◌, ◌++◌, ⊎_elim, ap, sym, subst, ◌∙◌, ℕ, List, [], ◌∷◌, length, map, slice_get, Some}
+use Rattle.std.specs.Option.{option_map}
+use Rattle.std.specs.List.{Contains}
+use Rattle.std.proofs.lemmas.Option.{slice_get-map}
+use Rattle.std.proofs.lemmas.List.Elements.{Contains-append_left, Contains-append_right}
+use Rattle.sy_terms.specs.Values.{Val}
+use Rattle.sy_terms.specs.Expr.{Expr}
+use Rattle.sy_terms.specs.Meaning.{functions, function_from, asked}
+use Rattle.sy_terms.specs.declared.sort.Value.{Value}
+use Rattle.sy_terms.specs.declared.term.Term.{Term}
+use Rattle.sy_query_limits.specs.declared.Limits.{Limits}
+use Rattle.sy_grammar_base.specs.Questions.{Question}
+use Rattle.sy_grammar_base.specs.Solving.{AreValues}
+use Rattle.sy_points.specs.Asked.{Asked}
+use Rattle.sy_points.specs.declared.stored.Stored.{Stored}
+use Rattle.sy_loop_history.specs.Histories.{Counterexample, IsCandidate, IsHonest, all_asked_by, trace}
+use Rattle.sy_loop_history.specs.Stored.{counterexample_of, history_of}
+use Rattle.sy_loop_candidate.specs.Truths.{IsViolated, OneLeaves}
+use Rattle.sy_loop_candidate.specs.Adding.{Gains, Adds}
+use Rattle.sy_loop_candidate.specs.Known.{IsKnown}
+use Rattle.sy_loop_candidate.specs.Traces.{LeavesAt}
+use Rattle.sy_loop_candidate.specs.Trials.{Tries, trial_of}
+use Rattle.sy_loop_candidate.specs.declared.calls.Adding.{Adding}
+use Rattle.sy_loop_candidate.specs.declared.calls.Adding.TheVariants.{There, New, Full}
+use Rattle.sy_loop_candidate.proofs.Traced.{no_element, first_or_later}
+use Rattle.sy_loop_candidate.proofs.Items.{has_place}
+use Rattle.sy_loop_candidate.proofs.Asking.{within_known, known_with}
+
+-- the counterexample of this place
+pub place_of : {T N : Type 0} (number : N → Val) (stored : Stored T N) (place : ℕ) (pair : List (Value N) × List (Term T N)) → slice_get stored.items place ≡ Some pair → slice_get (history_of number stored) place ≡ Some (counterexample_of number pair)
+place_of number stored place pair at = slice_get-map (counterexample_of number) stored.items place ∙ ap (option_map (counterexample_of number)) at
+
+-- its values are those of the variables
+pub values_at : (question : Question) (size rounds : ℕ) (history : List Counterexample) (place : ℕ) (c : Counterexample) → IsHonest question size rounds history → slice_get history place ≡ Some c → AreValues question.variables c.assignment
+values_at question size rounds history place c honest at = (honest.each place c at).values
+
+-- what a constraint asks, all constraints ask
+asked_of : (definitions : List Expr) (bodies : List Expr) (values : List Val) (terms : List Expr) (term : Expr) (call : ℕ × List Val) → Contains terms term →
+    Contains (asked (functions definitions) (map (function_from (functions definitions)) bodies) values term) call →
+    Contains (all_asked_by (functions definitions) (map (function_from (functions definitions)) bodies) values terms) call
+asked_of definitions bodies values [] term call of asks = absurd (no_element term of)
+asked_of definitions bodies values (first ∷ terms) term call of asks =
+    let wanted = map (function_from (functions definitions)) bodies in
+    ⊎_elim
+    (λ (same : first ≡ term). Contains-append_left (asked (functions definitions) wanted values first) (all_asked_by (functions definitions) wanted values terms) call
+    (subst (λ t. Contains (asked (functions definitions) wanted values t) call) (sym same) asks))
+    (λ (later : Contains terms term). Contains-append_right (asked (functions definitions) wanted values first) (all_asked_by (functions definitions) wanted values terms) call
+    (asked_of definitions bodies values terms term call later asks))
+    (first_or_later first terms term of)
+
+module _ (question : Question) (limits : Limits) (history : List Counterexample) (bodies : List Expr) (c : Counterexample) (calls : List (ℕ × List Val)) (violated : IsViolated question bodies c.assignment calls) where
+  traced_at : (call : ℕ × List Val) → Contains calls call → Contains (trace question bodies c.assignment) call
+  traced_at call at = asked_of question.definitions bodies c.assignment question.constraints violated.constraint.term call violated.constraint.of (violated.constraint.is.only call at)
+
+  -- the calls are of functions to be found
+  pub calls_within : (before : Asked) → IsKnown question limits history before → (function : ℕ) (tuple : List Val) → Contains calls (function, tuple) → function < length before.tuples
+  calls_within before known function tuple at =
+      within_known question limits history bodies c calls violated.constraint.is.taken traced_at before known function tuple at
+
+  -- what is known after they were added
+  pub knows : (before after : Asked) (place : ℕ) → slice_get history place ≡ Some c → IsCandidate question limits.size bodies → IsKnown question limits history before → Gains calls before after → IsKnown question limits history after
+  knows before after place at candidate known gains =
+      known_with question limits history bodies c calls violated.constraint.is.taken traced_at before after place at candidate known gains
+
+  -- what became of the bodies
+  pub tried : (before after : Asked) (place : ℕ) (adding : Adding) → slice_get history place ≡ Some c → Adds calls before after adding → Tries question limits history bodies before after (trial_of adding place)
+  tried before after place There at adds =
+      (record { counterexample = c; stored = has_place history place c at; calls = calls; violated = violated; there = adds.0 }, adds.1)
+  tried before after place New at adds = adds.1
+  tried before after place (Full function) at adds =
+      record { counterexample = c; at = at; tuple = adds.tuple; asks = traced_at (function, adds.tuple) adds.of; within = adds.within; new = adds.new; full = adds.full }
+
+pub leaves_at : (question : Question) (history : List Counterexample) (bodies : List Expr) (place : ℕ) (c : Counterexample) → slice_get history place ≡ Some c → OneLeaves question bodies c.assignment (question.assumptions ++ question.constraints) → LeavesAt question history bodies place
+leaves_at question history bodies place c at leaves = record { counterexample = c; at = at; leaves = leaves }

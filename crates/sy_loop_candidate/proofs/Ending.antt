@@ -1,0 +1,243 @@
+-- What comes of a candidate.
+use Rattle.std.proofs.Common.{◌≡◌, ◌<◌, ◌≤◌, ◌+◌, ◌-◌, ◌++◌, ⊎_elim, inl, inr, refl, ap, sym, subst, ◌∙◌, ℕ, zero, suc, Bool, true, false, List, [], ◌∷◌, length, map, take, arith, slice_get, Some, slice_index_or}
+use Rattle.std.specs.Prelude.{◌⊎◌}
+use Rattle.std.specs.Option.{option_map}
+use Rattle.std.specs.List.{All, Contains}
+use Rattle.std.proofs.lemmas.List.{length-append, length-map, map_push}
+use Rattle.std.proofs.lemmas.List.Elements.{All-nil, All-cons, All-head, All-tail, All-weaker, All-contains_itself, Contains-append_left}
+use Rattle.sy_terms.specs.Values.{Val, Truth, Whole, Bits}
+use Rattle.sy_terms.specs.Expr.{Expr}
+use Rattle.sy_terms.specs.Denoted.{expr_of, vals_of}
+use Rattle.sy_terms.specs.Meaning.{meaning, functions, function_from}
+use Rattle.sy_terms.specs.declared.op.Op.{Op}
+use Rattle.sy_terms.specs.declared.sort.Value.{Value}
+use Rattle.sy_terms.specs.declared.term.Term.{Term}
+use Rattle.sy_query_limits.specs.declared.FailName.{FailName}
+use Rattle.sy_query_limits.specs.declared.Limits.{Limits}
+use Rattle.sy_grammar_base.specs.Trees.{tree_size}
+use Rattle.sy_grammar_base.specs.Questions.{Goal, Question}
+use Rattle.sy_grammar_base.specs.Solving.{IsTrueUnder, Meets, AreMembers, AreWithin}
+use Rattle.sy_query_base.specs.Queries.{Violates}
+use Rattle.sy_query_decide.specs.Asked.{Query, Satisfies, IsNever}
+use Rattle.sy_query_build.specs.Violating.{violating, IsViolation}
+use Rattle.sy_points.specs.Asked.{Asked, of_function, AreDistinct}
+use Rattle.sy_points.specs.declared.stored.Stored.{Stored}
+use Rattle.sy_loop_history.specs.Histories.{Counterexample, IsCandidate, IsDue, IsNext, IsHonest, IsMet, trace}
+use Rattle.sy_loop_history.specs.Budgets as budgets
+use Rattle.sy_loop_history.specs.Budgets.{PointsMet, CheckedLeaves}
+use Rattle.sy_loop_history.specs.Solutions.{IsSolution}
+use Rattle.sy_loop_history.specs.Stored.{counterexample_of, history_of}
+use Rattle.sy_loop_candidate.specs.Adding.{room}
+use Rattle.sy_loop_candidate.specs.Known.{IsKnown}
+use Rattle.sy_loop_candidate.specs.Traces.{AsksMore, LeavesAt, IsTraced, IsTracedAt}
+use Rattle.sy_loop_candidate.specs.Truths.{OneLeaves}
+use Rattle.sy_loop_candidate.specs.Steps.{Steps, Follows, IsFollowed, IsTracedOrLeaves}
+use Rattle.sy_terms_laws.specs.Evaluation.{BodiesFit}
+use Rattle.sy_query_build.specs.Problems.{signatures}
+use Rattle.sy_grammar_base.specs.declared.problem.Problem.{Problem}
+use Rattle.sy_loop_candidate.specs.declared.step.Step.{Step}
+use Rattle.sy_loop_candidate.specs.declared.step.Step.TheVariants.{Next, Again}
+use Rattle.sy_loop_candidate.specs.declared.step.Step.TheVariants as steps
+use Rattle.sy_loop_candidate.proofs.Items.{has_place}
+
+-- bodies within a size are members
+pub members : (pool : List Val) (n : ℕ) (goals : List Goal) (bodies : List Expr) → AreWithin pool n goals bodies → AreMembers goals bodies
+members pool n [] [] within = tt
+members pool n [] (body ∷ bodies) within = within
+members pool n (goal ∷ goals) [] within = within
+members pool n (goal ∷ goals) (body ∷ bodies) within =
+    (record { tree = within.0; derives = within.1 }, members pool (n - tree_size goal.grammar pool 0 within.0) goals bodies within.3)
+
+-- a value is true or isn't
+true_or_not : (value : Val) → (value ≡ Truth true) ⊎ (value ≡ Truth true → ⊥)
+true_or_not (Truth true) = inl refl
+true_or_not (Truth false) = inr (λ e. cc)
+true_or_not (Whole z) = inr (λ e. cc)
+true_or_not (Bits w n) = inr (λ e. cc)
+
+all_true_or_not : (question : Question) (bodies : List Expr) (values : List Val) (terms : List Expr) → All (IsTrueUnder question bodies values) terms ⊎ (All (IsTrueUnder question bodies values) terms → ⊥)
+all_true_or_not question bodies values [] = inl (All-nil (IsTrueUnder question bodies values))
+all_true_or_not question bodies values (term ∷ terms) =
+    let P : Expr → Type 0 = IsTrueUnder question bodies values in
+    ⊎_elim
+    (λ (first : P term). ⊎_elim
+    (λ (rest : All P terms). inl (All-cons P term terms first rest))
+    (λ (not : All P terms → ⊥). inr (λ (all : All P (term ∷ terms)). not (All-tail P term terms all)))
+    (all_true_or_not question bodies values terms))
+    (λ (not : P term → ⊥). inr (λ (all : All P (term ∷ terms)). not (All-head P term terms all)))
+    (true_or_not (meaning (functions question.definitions) (map (function_from (functions question.definitions)) bodies) values term))
+
+meets_unless : (question : Question) (bodies : List Expr) (values : List Val) → (Violates question bodies values → ⊥) → Meets question bodies values
+meets_unless question bodies values none assumed = ⊎_elim
+    (λ (all : All (IsTrueUnder question bodies values) question.constraints). all)
+    (λ (not : All (IsTrueUnder question bodies values) question.constraints → ⊥). absurd (none (assumed, not)))
+    (all_true_or_not question bodies values question.constraints)
+
+-- bodies whose query is never satisfied solve the problem
+pub solved : {P : Type 0} (accepted : Query → P → Type 0) (question : Question) (size : ℕ) (bodies : List Expr) (query : Query) (proof : P) → query ≡ violating question bodies → IsViolation question bodies query → IsNever query →
+    accepted query proof → IsCandidate question size bodies → IsSolution accepted question bodies proof
+solved accepted question size bodies query proof is says never accepts candidate =
+    let never' : IsNever (violating question bodies) = subst IsNever is never in
+    let says' : IsViolation question bodies (violating question bodies) = subst (IsViolation question bodies) is says in
+    record {
+      members = members question.pool size question.goals bodies candidate;
+      solves = λ values are. meets_unless question bodies values (λ violates. never' values are ((says' values are).1 violates).true);
+      proved = subst (λ q. accepted q proof) is accepts;
+    }
+
+before_or_last : {X : Type 0} (xs : List X) (x : X) (place : ℕ) (k : X) → slice_get (xs ++ x ∷ []) place ≡ Some k →
+    ((slice_get xs place ≡ Some k) × (take place (xs ++ x ∷ []) ≡ take place xs)) ⊎ ((x ≡ k) × (take place (xs ++ x ∷ []) ≡ xs))
+before_or_last [] x zero k e = inr ((cc), refl)
+before_or_last [] x (suc place) k e = absurd (cc)
+before_or_last (y ∷ xs) x zero k e = inl (e, refl)
+before_or_last {X} (y ∷ xs) x (suc place) k e = ⊎_elim
+    (λ (old : (slice_get xs place ≡ Some k) × (take place (xs ++ x ∷ []) ≡ take place xs)). inl (old.0, ap (λ (rest : List X). y ∷ rest) old.1))
+    (λ (last : (x ≡ k) × (take place (xs ++ x ∷ []) ≡ xs)). inr (last.0, ap (λ (rest : List X). y ∷ rest) last.1))
+    (before_or_last xs x place k e)
+
+-- the history is honest and has one counterexample more, to these bodies
+pub record HasMore (question : Question) (limits : Limits) (bodies : List Expr) (before after : List Counterexample) : Type 0 where
+  pub honest : IsHonest question limits.size limits.rounds after
+  pub counterexample : Counterexample
+  pub is : after ≡ before ++ counterexample ∷ []
+  pub refutes : counterexample.bodies ≡ bodies
+
+-- one counterexample more
+honest_more : (question : Question) (size rounds : ℕ) (history : List Counterexample) (c : Counterexample) → IsHonest question size rounds history → length history < rounds → IsNext question size history c → IsHonest question size rounds (history ++ c ∷ [])
+honest_more question size rounds history c honest room next = record {
+  few = omega (arith, room, length-append history (c ∷ []));
+  each = λ place k at. ⊎_elim
+      (λ (old : (slice_get history place ≡ Some k) × (take place (history ++ c ∷ []) ≡ take place history)). subst (λ before. IsNext question size before k) (sym old.1) (honest.each place k old.0))
+      (λ (last : (c ≡ k) × (take place (history ++ c ∷ []) ≡ history)). subst (λ before. IsNext question size before k) (sym last.1) (subst (IsNext question size history) last.0 next))
+      (before_or_last history c place k at);
+}
+
+pub stored_more : {T N : Type 0} (number : N → Val) (question : Question) (limits : Limits) (before after : Stored T N) (values : List (Value N)) (terms : List (Term T N)) (query : Query) →
+    after.items ≡ before.items ++ (values, terms) ∷ [] → query ≡ violating question (map (expr_of number) terms) → IsViolation question (map (expr_of number) terms) query → Satisfies query (vals_of number values) →
+    IsHonest question limits.size limits.rounds (history_of number before) → length before.items < limits.rounds → IsDue question limits.size (history_of number before) (map (expr_of number) terms) →
+    HasMore question limits (map (expr_of number) terms) (history_of number before) (history_of number after)
+stored_more {T} {N} number question limits before after values terms query is query_is says satisfies honest room due =
+    let bodies = map (expr_of number) terms in
+    let pair : List (Value N) × List (Term T N) = (values, terms) in
+    let satisfies' : Satisfies (violating question bodies) (vals_of number values) = subst (λ q. Satisfies q (vals_of number values)) query_is satisfies in
+    let says' : IsViolation question bodies (violating question bodies) = subst (IsViolation question bodies) query_is says in
+    let history_is : history_of number after ≡ history_of number before ++ counterexample_of number pair ∷ [] =
+    ap (map (counterexample_of number)) is ∙ map_push (counterexample_of number) before.items pair in
+    let next : IsNext question limits.size (history_of number before) (counterexample_of number pair) =
+    record { values = satisfies'.sorted; due = due; violates = (says' (vals_of number values) satisfies'.sorted).0 satisfies' } in
+    let few : length (history_of number before) < limits.rounds = omega (arith, room, length-map before.items (counterexample_of number)) in
+    record {
+      honest = subst (IsHonest question limits.size limits.rounds) (sym history_is) (honest_more question limits.size limits.rounds (history_of number before) (counterexample_of number pair) honest few next);
+      counterexample = counterexample_of number pair;
+      is = history_is;
+      refutes = refl;
+    }
+
+pub known_more : (question : Question) (limits : Limits) (bodies : List Expr) (history history' : List Counterexample) (asked : Asked) → HasMore question limits bodies history history' → IsKnown question limits history asked → IsKnown question limits history' asked
+known_more question limits bodies history history' asked more known = record {
+  honest = more.honest;
+  limit = known.limit;
+  functions = known.functions;
+  bounded = known.bounded;
+  taken = known.taken;
+  met = λ function tuple is.
+      let met = known.met function tuple is in
+      record {
+        bodies = met.bodies;
+        candidate = met.candidate;
+        counterexample = met.counterexample;
+        stored = subst (λ h. Contains h met.counterexample) (sym more.is) (Contains-append_left history (more.counterexample ∷ []) met.counterexample met.stored);
+        asks = met.asks;
+      };
+}
+
+-- the last item
+pub at_last : {X : Type 0} (xs : List X) (x : X) → slice_get (xs ++ x ∷ []) (length xs) ≡ Some x
+at_last [] x = refl
+at_last (y ∷ xs) x = at_last xs x
+
+-- the bodies stored last
+pub last_fits : {T N : Type 0} (owned : Op → Bool) (number : N → Val) (problem : Problem T N) (before after : Stored T N) (values : List (Value N)) (terms : List (Term T N)) (place : ℕ) (pair : List (Value N) × List (Term T N)) →
+    after.items ≡ before.items ++ (values, terms) ∷ [] → place ≡ length before.items → BodiesFit owned number problem.defs terms (signatures problem) → slice_get after.items place ≡ Some pair → BodiesFit owned number problem.defs pair.1 (signatures problem)
+last_fits {T} {N} owned number problem before after values terms place pair is last fit at =
+    let first : List (Value N) × List (Term T N) = (values, terms) in
+    let found : Some first ≡ Some pair = sym (at_last before.items first) ∙ ap (λ k. slice_get (before.items ++ first ∷ []) k) (sym last) ∙ ap (λ all. slice_get all place) (sym is) ∙ at in
+    let same : first ≡ pair = cc in
+    subst (λ (p : List (Value N) × List (Term T N)). BodiesFit owned number problem.defs p.1 (signatures problem)) same fit
+
+module _ {T P S N : Type 0} (owned : Op → Bool) (number : N → Val) (accepted : Query → P → Type 0) (budget : S → FailName) (shows : Query → Limits → FailName → S → Type 0) (question : Question) (limits : Limits)
+    (bodies : List Expr) (history history' : List Counterexample) (asked asked' : Asked) where
+  -- what comes of a candidate that was stored
+  pub followed : (place : ℕ) (step : Step T P S N) → HasMore question limits bodies history history' → place ≡ length history → length history < limits.rounds → Follows owned number accepted budget shows question limits place history' asked asked' step →
+      Steps owned number accepted budget shows question limits bodies history asked history' asked' step
+  followed place Next more last few follows = absurd follows
+  followed place Again more last few follows =
+      let long : length history' ≡ length history + 1 = ap length more.is ∙ length-append history (more.counterexample ∷ []) in
+      let it = follows.0 in
+      let found : Some more.counterexample ≡ Some it.counterexample =
+      sym (at_last history more.counterexample) ∙ ap (λ k. slice_get (history ++ more.counterexample ∷ []) k) (sym last) ∙ ap (λ h. slice_get h place) (sym more.is) ∙ it.at in
+      let same : more.counterexample ≡ it.counterexample = cc in
+      (omega (arith, long, few, follows.1), inr (record { counterexample = it.counterexample; is = more.is ∙ ap (λ c. history ++ c ∷ []) same; refutes = ap (λ (c : Counterexample). c.bodies) (sym same) ∙ more.refutes; followed = subst (λ b. IsTracedOrLeaves question asked' b it.counterexample.assignment) (ap (λ (c : Counterexample). c.bodies) (sym same) ∙ more.refutes) it.followed }))
+  followed place (steps.End end) more last few follows = follows
+
+-- what a function has
+bounded_at : (limit : ℕ) (lists : List (List (List Val))) (function : ℕ) → All (λ tuples. AreDistinct tuples × (length tuples ≤ limit)) lists → AreDistinct (slice_index_or lists function []) × (length (slice_index_or lists function []) ≤ limit)
+bounded_at limit [] function bounded = (tt, omega arith)
+bounded_at limit (l ∷ lists) zero bounded = All-head (λ tuples. AreDistinct tuples × (length tuples ≤ limit)) l lists bounded
+bounded_at limit (l ∷ lists) (suc function) bounded = bounded_at limit lists function (All-tail (λ tuples. AreDistinct tuples × (length tuples ≤ limit)) l lists bounded)
+
+assignment_is : (history : List Counterexample) (place : ℕ) (c : Counterexample) (assignment : List Val) → slice_get history place ≡ Some c → option_map (λ (k : Counterexample). k.assignment) (slice_get history place) ≡ Some assignment → c.assignment ≡ assignment
+assignment_is history place c assignment at is = let same : Some c.assignment ≡ Some assignment = rw at at is in cc
+
+-- no room for a tuple
+pub points_met : (question : Question) (limits : Limits) (history : List Counterexample) (asked : Asked) (bodies : List Expr) (function place : ℕ) (assignment : List Val) → IsKnown question limits history asked → IsCandidate question limits.size bodies →
+    AsksMore question history asked bodies function place → option_map (λ (k : Counterexample). k.assignment) (slice_get history place) ≡ Some assignment →
+    PointsMet question limits.size limits.rounds limits.points history function bodies assignment (of_function asked function) × (function < length asked.tuples)
+points_met question limits history asked bodies function place assignment known candidate more is =
+    let both = bounded_at asked.limit asked.tuples function known.bounded in
+    let same = assignment_is history place more.counterexample assignment more.at is in (
+      record {
+        honest = known.honest;
+        distinct = both.0;
+        met = All-weaker (Contains (of_function asked function)) (IsMet question limits.size history function) (λ tuple at. known.met function tuple at) (of_function asked function) (All-contains_itself (of_function asked function));
+        all = omega (arith, both.1, more.full, known.limit);
+        candidate = candidate;
+        stored = (more.counterexample, has_place history place more.counterexample more.at, same);
+        more = (more.tuple, subst (λ values. Contains (trace question bodies values) (function, more.tuple)) same more.asks, more.new);
+      },
+      more.within,
+    )
+
+-- an assumption or a constraint leaves the range
+pub checked_leaves : (question : Question) (limits : Limits) (history : List Counterexample) (bodies : List Expr) (place : ℕ) (assignment : List Val) → IsHonest question limits.size limits.rounds history → IsCandidate question limits.size bodies →
+    LeavesAt question history bodies place → option_map (λ (k : Counterexample). k.assignment) (slice_get history place) ≡ Some assignment →
+    CheckedLeaves question limits.size limits.rounds history bodies assignment
+checked_leaves question limits history bodies place assignment honest candidate at is =
+    let same = assignment_is history place at.counterexample assignment at.at is in
+    record {
+      honest = honest;
+      candidate = candidate;
+      stored = (at.counterexample, has_place history place at.counterexample at.at, same);
+      term = at.leaves.term;
+      asked = at.leaves.of;
+      leaves = subst (λ values. budgets.Leaves question bodies values at.leaves.term) same at.leaves.leaves;
+    }
+
+same_place : (history : List Counterexample) (place : ℕ) (c k : Counterexample) → slice_get history place ≡ Some c → slice_get history place ≡ Some k → c ≡ k
+same_place history place c k at at' = let found : Some c ≡ Some k = sym at ∙ at' in cc
+
+-- what the stored bodies of a place ask is known
+pub followed_at : (question : Question) (history : List Counterexample) (asked : Asked) (place : ℕ) (c : Counterexample) → slice_get history place ≡ Some c → IsTracedAt question history asked c.bodies place → IsFollowed question history asked place
+followed_at question history asked place c at it = record {
+  counterexample = it.counterexample;
+  at = it.at;
+  followed = inl (subst (λ b. IsTraced question asked b it.counterexample.assignment) (ap (λ (k : Counterexample). k.bodies) (same_place history place c it.counterexample at it.at)) it.there);
+}
+
+-- they leave the range there
+pub followed_leaves : (question : Question) (history : List Counterexample) (asked : Asked) (place : ℕ) (c : Counterexample) → slice_get history place ≡ Some c → LeavesAt question history c.bodies place → IsFollowed question history asked place
+followed_leaves question history asked place c at it = record {
+  counterexample = it.counterexample;
+  at = it.at;
+  followed = inr (subst (λ b. OneLeaves question b it.counterexample.assignment (question.assumptions ++ question.constraints)) (ap (λ (k : Counterexample). k.bodies) (same_place history place c it.counterexample at it.at)) it.leaves);
+}

@@ -1,0 +1,35 @@
+use Rattle.std.proofs.Common.{map, arith, sym}
+use Rattle.std.proofs.lemmas.List.{length-map}
+use Rattle.sy_terms.specs.Denoted.{expr_of}
+use Rattle.sy_grammar_base.specs.Questions.{question_of}
+use Rattle.sy_query_decide.specs.Asked.{query_of}
+use Rattle.sy_loop_history.specs.Stored.{counterexample_of, history_of}
+use Rattle.sy_loop_candidate.proofs.Ending.{solved, stored_more, known_more, last_fits, followed}
+use Rattle.sy_loop_candidate.proofs.due.decide_due.Goals as goal
+
+pub returns-in-Never-clause-step : goal.returns-in-Never-clause-step
+returns-in-Never-clause-step g c =
+    let accepts = rw c.in-Never.is at c.in_ok-proof.ensures in
+    let query = query_of g.T.Theory.denotes c.in-Ok.query in (
+      solved g.D.Decide.accepted (question_of g.T.Theory.denotes c.args.problem.now) c.args.limits.now.size (map (expr_of g.T.Theory.denotes) c.args.bodies) query c.in-Never.proof c.in-Ok.ensures.query c.in-Ok.ensures.violations
+          (g.met.D.Decide.sound query c.in-Never.proof c.in-Ok.ensures.fits accepts) accepts c.requires.due.candidate,
+      c.requires.traced,
+    )
+
+pub follow-requires-clause-bodies : goal.follow-requires-clause-bodies
+follow-requires-clause-bodies g c pair at =
+    last_fits g.T.Theory.owned g.T.Theory.denotes c.args.problem.now c.args.known.now.stored c.push.new.self c.in-Model.values c.args.bodies c.len-place.result pair c.in_ok-push-in-Model.ensures.ok c.len-place.ensures c.requires.bodies at
+
+pub follow-requires-clause-known : goal.follow-requires-clause-known
+follow-requires-clause-known g c =
+    let more = stored_more g.T.Theory.denotes (question_of g.T.Theory.denotes c.args.problem.now) c.args.limits.now c.args.known.now.stored c.push.new.self c.in-Model.values c.args.bodies (query_of g.T.Theory.denotes c.in-Ok.query) c.in_ok-push-in-Model.ensures.ok
+    c.in-Ok.ensures.query c.in-Ok.ensures.violations (rw c.in-Model.is at c.in_ok-proof.ensures) c.requires.known.honest c.requires.room c.requires.due in
+    known_more (question_of g.T.Theory.denotes c.args.problem.now) c.args.limits.now (map (expr_of g.T.Theory.denotes) c.args.bodies) (history_of g.T.Theory.denotes c.args.known.now.stored) (history_of g.T.Theory.denotes c.push.new.self) c.args.known.now.points more c.requires.known
+
+pub returns-in-Model-clause-step : goal.returns-in-Model-clause-step
+returns-in-Model-clause-step g c =
+    let more = stored_more g.T.Theory.denotes (question_of g.T.Theory.denotes c.args.problem.now) c.args.limits.now c.args.known.now.stored c.push.new.self c.in-Model.values c.args.bodies (query_of g.T.Theory.denotes c.in-Ok.query) c.in_ok-push-in-Model.ensures.ok
+    c.in-Ok.ensures.query c.in-Ok.ensures.violations (rw c.in-Model.is at c.in_ok-proof.ensures) c.requires.known.honest c.requires.room c.requires.due in
+    followed g.T.Theory.owned g.T.Theory.denotes g.D.Decide.accepted g.D.Decide.budget g.D.Decide.shows (question_of g.T.Theory.denotes c.args.problem.now) c.args.limits.now (map (expr_of g.T.Theory.denotes) c.args.bodies) (history_of g.T.Theory.denotes c.args.known.now.stored) (history_of g.T.Theory.denotes c.follow.new.known.stored)
+    c.args.known.now.points c.follow.new.known.points c.len-place.result c.in_ok-step-in-Model.step (rw (sym c.in_ok-step-in-Model.ensures.stored) at more)
+    (omega (arith, c.len-place.ensures, length-map c.args.known.now.stored.items (counterexample_of g.T.Theory.denotes))) (omega (arith, c.requires.room, length-map c.args.known.now.stored.items (counterexample_of g.T.Theory.denotes))) c.in_ok-step-in-Model.ensures.step

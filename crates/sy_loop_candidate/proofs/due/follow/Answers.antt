@@ -1,0 +1,55 @@
+use Rattle.std.proofs.Common.{List, map}
+use Rattle.sy_terms.specs.Denoted.{expr_of, vals_of}
+use Rattle.sy_terms.specs.declared.sort.Value.{Value}
+use Rattle.sy_terms.specs.declared.term.Term.{Term}
+use Rattle.sy_grammar_base.specs.Questions.{question_of}
+use Rattle.sy_loop_history.specs.Stored.{counterexample_of, history_of}
+use Rattle.sy_loop_candidate.proofs.Assignments.{place_of}
+use Rattle.sy_loop_candidate.proofs.Ending.{points_met, followed_at, followed_leaves}
+use Rattle.sy_loop_candidate.proofs.due.follow.Goals as goal
+
+pub ask_at-requires-clause-bodies : goal.ask_at-requires-clause-bodies
+ask_at-requires-clause-bodies g c =
+    let pair : List (Value g.row.T-Num.Denot) × List (Term g.row.T.Denot g.row.T-Num.Denot) = (c.in-Some.field-0-0.now, c.in-Some.bodies.now) in
+    c.requires.bodies pair c.in-Some.ensures
+
+pub ask_at-requires-clause-candidate : goal.ask_at-requires-clause-candidate
+ask_at-requires-clause-candidate g c =
+    let pair : List (Value g.row.T-Num.Denot) × List (Term g.row.T.Denot g.row.T-Num.Denot) = (c.in-Some.field-0-0.now, c.in-Some.bodies.now) in
+    (c.requires.known.honest.each c.args.place (counterexample_of g.T.Theory.denotes pair) (place_of g.T.Theory.denotes c.args.known.now.stored c.args.place pair c.in-Some.ensures)).due.candidate
+
+pub returns-in_ok-assignment-in-Full-clause-step : goal.returns-in_ok-assignment-in-Full-clause-step
+returns-in_ok-assignment-in-Full-clause-step g c =
+    let pair : List (Value g.row.T-Num.Denot) × List (Term g.row.T.Denot g.row.T-Num.Denot) = (c.in-Some.field-0-0.now, c.in-Some.bodies.now) in
+    let at = place_of g.T.Theory.denotes c.args.known.now.stored c.args.place pair c.in-Some.ensures in
+    let met = points_met (question_of g.T.Theory.denotes c.args.problem.now) c.args.limits.now (history_of g.T.Theory.denotes c.args.known.now.stored) c.ask_at.new.points (map (expr_of g.T.Theory.denotes) c.in-Some.bodies.now) c.in-Full.function c.args.place
+    (vals_of g.T.Theory.denotes c.in_ok-assignment-in-Full.assignment) c.in_ok-asked.ensures.known (c.requires.known.honest.each c.args.place (counterexample_of g.T.Theory.denotes pair) at).due.candidate
+    (rw (c.in-Some-asked.is, c.in-Full.is) at c.in_ok-asked.ensures.answer) c.in_ok-assignment-in-Full.ensures in
+    (rw c.in_ok-copy-in-Full.ensures met, tt)
+
+pub returns-in-There-clause-step : goal.returns-in-There-clause-step
+returns-in-There-clause-step g c =
+    let pair : List (Value g.row.T-Num.Denot) × List (Term g.row.T.Denot g.row.T-Num.Denot) = (c.in-Some.field-0-0.now, c.in-Some.bodies.now) in
+    let at = place_of g.T.Theory.denotes c.args.known.now.stored c.args.place pair c.in-Some.ensures in (
+      followed_at (question_of g.T.Theory.denotes c.args.problem.now) (history_of g.T.Theory.denotes c.args.known.now.stored) c.ask_at.new.points c.args.place (counterexample_of g.T.Theory.denotes pair) at
+          (let answer = rw (c.in-Some-asked.is, c.in-There.is) at c.in_ok-asked.ensures.answer in answer.0),
+      c.in_ok-asked.ensures.grows.less,
+    )
+
+pub returns-in-New-clause-step : goal.returns-in-New-clause-step
+returns-in-New-clause-step g c =
+    let pair : List (Value g.row.T-Num.Denot) × List (Term g.row.T.Denot g.row.T-Num.Denot) = (c.in-Some.field-0-0.now, c.in-Some.bodies.now) in
+    let at = place_of g.T.Theory.denotes c.args.known.now.stored c.args.place pair c.in-Some.ensures in (
+      followed_at (question_of g.T.Theory.denotes c.args.problem.now) (history_of g.T.Theory.denotes c.args.known.now.stored) c.ask_at.new.points c.args.place (counterexample_of g.T.Theory.denotes pair) at
+          (let answer = rw (c.in-Some-asked.is, c.in-New.is) at c.in_ok-asked.ensures.answer in answer.0),
+      c.in_ok-asked.ensures.grows.less,
+    )
+
+pub returns-in_default-asked-clause-step : goal.returns-in_default-asked-clause-step
+returns-in_default-asked-clause-step g c =
+    let pair : List (Value g.row.T-Num.Denot) × List (Term g.row.T.Denot g.row.T-Num.Denot) = (c.in-Some.field-0-0.now, c.in-Some.bodies.now) in
+    let at = place_of g.T.Theory.denotes c.args.known.now.stored c.args.place pair c.in-Some.ensures in (
+      followed_leaves (question_of g.T.Theory.denotes c.args.problem.now) (history_of g.T.Theory.denotes c.args.known.now.stored) c.ask_at.new.points c.args.place (counterexample_of g.T.Theory.denotes pair) at
+          (rw c.in_default-asked.is at c.in_ok-asked.ensures.answer),
+      c.in_ok-asked.ensures.grows.less,
+    )

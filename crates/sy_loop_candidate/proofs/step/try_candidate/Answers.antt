@@ -1,0 +1,36 @@
+use Rattle.std.proofs.Common.{map}
+use Rattle.sy_terms.specs.Denoted.{expr_of, vals_of}
+use Rattle.sy_grammar_base.specs.Questions.{question_of}
+use Rattle.sy_loop_history.specs.Stored.{history_of}
+use Rattle.sy_loop_candidate.proofs.Asking.{grows_then}
+use Rattle.sy_loop_candidate.proofs.Ending.{points_met, checked_leaves}
+use Rattle.sy_loop_candidate.proofs.step.try_candidate.Goals as goal
+
+pub decide_due-requires-clause-due : goal.decide_due-requires-clause-due
+decide_due-requires-clause-due g c =
+    let answer = rw c.in-Due.is at c.in_ok-try_bodies.ensures.answer in answer.0
+
+pub decide_due-requires-clause-traced : goal.decide_due-requires-clause-traced
+decide_due-requires-clause-traced g c =
+    let answer = rw c.in-Due.is at c.in_ok-try_bodies.ensures.answer in answer.1
+
+pub returns-in_ok-step-in-Due-clause-step : goal.returns-in_ok-step-in-Due-clause-step
+returns-in_ok-step-in-Due-clause-step g c =
+    let answer = rw c.in-Due.is at c.in_ok-try_bodies.ensures.answer in
+    rw answer.2 at c.in_ok-step-in-Due.ensures.step
+
+pub returns-in_ok-assignment-in-Full-clause-step : goal.returns-in_ok-assignment-in-Full-clause-step
+returns-in_ok-assignment-in-Full-clause-step g c =
+    let met = points_met (question_of g.T.Theory.denotes c.args.problem.now) c.args.limits.now (history_of g.T.Theory.denotes c.args.known.now.stored) c.try_bodies.new.points (map (expr_of g.T.Theory.denotes) c.args.bodies) c.in-Full.function c.in-Full.place (vals_of g.T.Theory.denotes c.in_ok-assignment-in-Full.assignment)
+    c.in_ok-try_bodies.ensures.known c.requires.candidate (rw c.in-Full.is at c.in_ok-try_bodies.ensures.answer) c.in_ok-assignment-in-Full.ensures in
+    (met, tt)
+
+pub returns-in_ok-assignment-in-Leaves-clause-step : goal.returns-in_ok-assignment-in-Leaves-clause-step
+returns-in_ok-assignment-in-Leaves-clause-step g c =
+    let leaves = checked_leaves (question_of g.T.Theory.denotes c.args.problem.now) c.args.limits.now (history_of g.T.Theory.denotes c.args.known.now.stored) (map (expr_of g.T.Theory.denotes) c.args.bodies) c.in-Leaves.place (vals_of g.T.Theory.denotes c.in_ok-assignment-in-Leaves.assignment)
+    c.requires.known.honest c.requires.candidate (rw c.in-Leaves.is at c.in_ok-try_bodies.ensures.answer) c.in_ok-assignment-in-Leaves.ensures in
+    (leaves, tt)
+
+pub returns-in_ok-step-in-Due-clause-grows : goal.returns-in_ok-step-in-Due-clause-grows
+returns-in_ok-step-in-Due-clause-grows g c =
+    grows_then c.args.known.now.points c.try_bodies.new.points c.decide_due.new.known.points c.in_ok-try_bodies.ensures.grows c.in_ok-step-in-Due.ensures.grows

@@ -1,0 +1,21 @@
+use Rattle.std.proofs.Common.{map}
+use Rattle.sy_terms.specs.Denoted.{expr_of, vals_of}
+use Rattle.sy_grammar_base.specs.Questions.{question_of}
+use Rattle.sy_loop_candidate.proofs.Saying.{judged, unassumed, assumption_leaves}
+use Rattle.sy_loop_candidate.proofs.truth.judge.Goals as goal
+
+pub returns-in-False : goal.returns-in-False
+returns-in-False g c =
+    unassumed (question_of g.T.Theory.denotes c.args.problem.now) (map (expr_of g.T.Theory.denotes) c.args.bodies.now) (vals_of g.T.Theory.denotes c.args.values.now) c.in-False.field-0
+    (rw (c.in-False.is, c.as_slice.ensures) at c.in_ok-all_true.ensures)
+
+pub returns-in-Leaves : goal.returns-in-Leaves
+returns-in-Leaves g c =
+    assumption_leaves (question_of g.T.Theory.denotes c.args.problem.now) (map (expr_of g.T.Theory.denotes) c.args.bodies.now) (vals_of g.T.Theory.denotes c.args.values.now)
+    (rw (c.in-Leaves.is, c.as_slice.ensures) at c.in_ok-all_true.ensures)
+
+pub returns : goal.returns
+returns g c =
+    judged (question_of g.T.Theory.denotes c.args.problem.now) (map (expr_of g.T.Theory.denotes) c.args.bodies.now) (vals_of g.T.Theory.denotes c.args.values.now) c.in_ok-judged.judged
+    (rw (c.in-True.is, c.as_slice.ensures) at c.in_ok-all_true.ensures)
+    (rw c.as_slice-2.ensures at c.in_ok-judged.ensures)

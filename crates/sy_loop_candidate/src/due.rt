@@ -1,0 +1,103 @@
+// Candidates that meet the problem at every stored assignment, where all that they ask is among the points.
+ghost use Rattle.std.specs.Prelude.{◌≡◌, ◌<◌, length, map, IfOk, OnOk, slice_get, Some};
+ghost use Rattle.sy_terms.specs.Denoted.{expr_of};
+ghost use Rattle.sy_terms_laws.specs.Evaluation.{BodiesFit};
+ghost use Rattle.sy_grammar_base.specs.Questions.{question_of};
+ghost use Rattle.sy_query_build.specs.Problems.{ProblemFits, signatures};
+ghost use Rattle.sy_loop_history.specs.Histories.{IsDue};
+ghost use Rattle.sy_loop_history.specs.Stored.{history_of};
+ghost use Rattle.sy_loop_candidate.specs.Known.{IsKnown};
+ghost use Rattle.sy_loop_candidate.specs.Steps.{Steps, Follows};
+ghost use Rattle.sy_loop_candidate.specs.Traces.{AreTraced, Grows};
+
+use crate::asks::ask_at;
+use crate::calls::Adding;
+use crate::copies::{assignment_at, copied_bodies};
+use crate::step::{End, Known, Step};
+use std::alloc::Global;
+use sy_grammar_base::Problem;
+use sy_query_base::Limits;
+use sy_query_build::{Built, build};
+use sy_query_decide::{Decide, Verdict};
+use sy_terms::{Bodies, Theory, Want};
+
+/// Decides the query of the bodies. An assignment that violates the problem is stored, and what the bodies ask there is
+/// added to the points.
+pub(crate) fn decide_due<T: Theory, D: Decide<T>>(
+    alloc: Global,
+    problem: &Problem<T>,
+    limits: &Limits,
+    decide: &mut D,
+    bodies: Bodies<T>,
+    known: &mut Known<T>,
+) -> Result<Step<T, D::Proof, D::Spent>, Want>
+    requires problem { ProblemFits T.owned T.numeric T.denotes problem.now }
+    requires bodies { BodiesFit T.owned T.denotes problem.now.defs bodies (signatures problem.now) }
+    requires known { IsKnown (question_of T.denotes problem.now) limits.now (history_of T.denotes known.old.stored) known.old.points }
+    requires room { length known.old.stored.items < limits.now.rounds }
+    requires due { IsDue (question_of T.denotes problem.now) limits.now.size (history_of T.denotes known.old.stored) (map (expr_of T.denotes) bodies) }
+    requires traced { AreTraced (question_of T.denotes problem.now) (history_of T.denotes known.old.stored) known.old.points (map (expr_of T.denotes) bodies) }
+    ensures known { OnOk result (IsKnown (question_of T.denotes problem.now) limits.now (history_of T.denotes known.new.stored) known.new.points) }
+    ensures grows { OnOk result (Grows known.old.points known.new.points) }
+    ensures step { IfOk result (Steps T.owned T.denotes D.accepted D.budget D.shows (question_of T.denotes problem.now) limits.now (map (expr_of T.denotes) bodies)
+        (history_of T.denotes known.old.stored) known.old.points (history_of T.denotes known.new.stored) known.new.points) }
+{
+    let query = match build(alloc, problem, &bodies, limits.weight) {
+        Ok(query) => query,
+        Err(Built::Heavy) => return Ok(Step::End(End::Weight(bodies))),
+        Err(Built::Want) => return Err(Want {}),
+    };
+    match decide.decide(alloc, &query, limits)? {
+        Verdict::Never(proof) => Ok(Step::End(End::Found(bodies, proof))),
+        Verdict::Model(values) => {
+            let place = known.stored.len();
+            known.stored.push(values, bodies)?;
+            let step = follow::<T, D>(alloc, problem, limits, place, known)?;
+            Ok(step)
+        }
+        Verdict::Spent(spent) => Ok(Step::End(End::Decide(bodies, spent))),
+    }
+}
+
+/// Adds what the stored bodies of this place ask at their assignment to the points.
+fn follow<T: Theory, D: Decide<T>>(
+    alloc: Global,
+    problem: &Problem<T>,
+    limits: &Limits,
+    place: usize,
+    known: &mut Known<T>,
+) -> Result<Step<T, D::Proof, D::Spent>, Want>
+    requires problem { ProblemFits T.owned T.numeric T.denotes problem.now }
+    requires bodies { (pair : _) → slice_get known.old.stored.items place ≡ Some pair → BodiesFit T.owned T.denotes problem.now.defs pair.1 (signatures problem.now) }
+    requires place { place < length known.old.stored.items }
+    requires known { IsKnown (question_of T.denotes problem.now) limits.now (history_of T.denotes known.old.stored) known.old.points }
+    ensures stored { OnOk result (known.new.stored ≡ known.old.stored) }
+    ensures known { OnOk result (IsKnown (question_of T.denotes problem.now) limits.now (history_of T.denotes known.new.stored) known.new.points) }
+    ensures grows { OnOk result (Grows known.old.points known.new.points) }
+    ensures step { IfOk result (Follows T.owned T.denotes D.accepted D.budget D.shows (question_of T.denotes problem.now) limits.now place (history_of T.denotes known.new.stored) known.old.points known.new.points) }
+{
+    let Some((_, bodies)) = known.stored.get(place) else {
+        unreachable!();
+    };
+    let asked = ask_at(
+        alloc,
+        problem,
+        limits,
+        bodies,
+        &known.stored,
+        place,
+        &mut known.points,
+    )?;
+    let Some(adding) = asked else {
+        return Ok(Step::Again);
+    };
+    match adding {
+        Adding::There => Ok(Step::Again),
+        Adding::New => Ok(Step::Again),
+        Adding::Full(function) => {
+            let copy = copied_bodies(alloc, bodies)?;
+            let assignment = assignment_at(alloc, &known.stored, place)?;
+            Ok(Step::End(End::Points(function, copy, assignment)))
+        }
+    }
+}

@@ -1,0 +1,99 @@
+// One step of a search: what comes of a candidate.
+ghost use Rattle.std.specs.Prelude.{◌≡◌, ◌<◌, length, map, IfOk, OnOk};
+ghost use Rattle.sy_terms.specs.Denoted.{expr_of};
+ghost use Rattle.sy_terms_laws.specs.Evaluation.{BodiesFit};
+ghost use Rattle.sy_grammar_base.specs.Questions.{question_of};
+ghost use Rattle.sy_query_build.specs.Problems.{ProblemFits, signatures};
+ghost use Rattle.sy_loop_history.specs.Histories.{IsCandidate};
+ghost use Rattle.sy_loop_history.specs.Stored.{history_of};
+ghost use Rattle.sy_loop_candidate.specs.Known.{IsKnown};
+ghost use Rattle.sy_loop_candidate.specs.Steps.{Steps};
+ghost use Rattle.sy_loop_candidate.specs.Traces.{Grows};
+
+use crate::copies::assignment_at;
+use crate::due::decide_due;
+use crate::trial::{Trial, try_bodies};
+use std::alloc::Global;
+use sy_grammar_base::Problem;
+use sy_points::{Points, Stored};
+use sy_query_base::Limits;
+use sy_query_decide::Decide;
+use sy_terms::{Bodies, Theory, Values, Want};
+
+/// What a search knows: the assignments that refuted candidates, and the tuples that candidates ask for.
+#[derive(Drop)]
+pub struct Known<T: Theory> {
+    pub stored: Stored<T>,
+    pub points: Points<T>,
+}
+
+/// How a search ends by a candidate. What the search knows then shows it.
+#[derive(Drop)]
+pub enum End<T: Theory, P: Drop, S: Drop> {
+    /// The bodies solve the problem: the proof of this.
+    Found(Bodies<T>, P),
+    /// The function of this number has as many tuples as it may, and the bodies ask for one more at the assignment.
+    Points(u32, Bodies<T>, Values<T>),
+    /// The bodies' query weighs more than it may.
+    Weight(Bodies<T>),
+    /// A budget of the solver ran out on the bodies' query.
+    Decide(Bodies<T>, S),
+    /// An assumption or a constraint under the bodies leaves the 128 bits at the assignment.
+    Checked(Bodies<T>, Values<T>),
+}
+
+/// What comes of a candidate.
+#[derive(Drop)]
+pub enum Step<T: Theory, P: Drop, S: Drop> {
+    /// The bodies are refuted by what was known, and nothing changed.
+    Next,
+    /// There is a stored assignment or a tuple more.
+    Again,
+    /// The search ends.
+    End(End<T, P, S>),
+}
+
+/// Tries the bodies at the stored assignments. Where they meet the problem at each of them, and all that they ask there is
+/// among the points, their query is decided.
+pub fn try_candidate<T: Theory, D: Decide<T>>(
+    alloc: Global,
+    problem: &Problem<T>,
+    limits: &Limits,
+    decide: &mut D,
+    bodies: Bodies<T>,
+    known: &mut Known<T>,
+) -> Result<Step<T, D::Proof, D::Spent>, Want>
+    requires problem { ProblemFits T.owned T.numeric T.denotes problem.now }
+    requires bodies { BodiesFit T.owned T.denotes problem.now.defs bodies (signatures problem.now) }
+    requires candidate { IsCandidate (question_of T.denotes problem.now) limits.now.size (map (expr_of T.denotes) bodies) }
+    requires known { IsKnown (question_of T.denotes problem.now) limits.now (history_of T.denotes known.old.stored) known.old.points }
+    requires room { length known.old.stored.items < limits.now.rounds }
+    ensures known { OnOk result (IsKnown (question_of T.denotes problem.now) limits.now (history_of T.denotes known.new.stored) known.new.points) }
+    ensures grows { OnOk result (Grows known.old.points known.new.points) }
+    ensures step { IfOk result (Steps T.owned T.denotes D.accepted D.budget D.shows (question_of T.denotes problem.now) limits.now (map (expr_of T.denotes) bodies)
+        (history_of T.denotes known.old.stored) known.old.points (history_of T.denotes known.new.stored) known.new.points) }
+{
+    match try_bodies(
+        alloc,
+        problem,
+        limits,
+        &bodies,
+        &known.stored,
+        &mut known.points,
+    )? {
+        Trial::Due => {
+            let step = decide_due(alloc, problem, limits, decide, bodies, known)?;
+            Ok(step)
+        }
+        Trial::Refuted => Ok(Step::Next),
+        Trial::Asks => Ok(Step::Again),
+        Trial::Full(function, place) => {
+            let assignment = assignment_at(alloc, &known.stored, place)?;
+            Ok(Step::End(End::Points(function, bodies, assignment)))
+        }
+        Trial::Leaves(place) => {
+            let assignment = assignment_at(alloc, &known.stored, place)?;
+            Ok(Step::End(End::Checked(bodies, assignment)))
+        }
+    }
+}

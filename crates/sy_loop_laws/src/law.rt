@@ -1,0 +1,81 @@
+// The laws of agreeing bodies, of kept terms that stand for members, and of members that are all refuted.
+ghost use Rattle.std.specs.Prelude.{ℕ, Bool, List, ◌+◌, ◌≡◌, ◌<◌, ◌≤◌};
+ghost use Rattle.sy_terms.specs.Values.{Val};
+ghost use Rattle.sy_terms.specs.Expr.{Expr};
+ghost use Rattle.sy_terms.specs.declared.op.Op.{Op};
+ghost use Rattle.sy_grammar_base.specs.Questions.{Question};
+ghost use Rattle.sy_query_base.specs.Queries.{Violates};
+ghost use Rattle.sy_points.specs.Asked.{Asked};
+ghost use Rattle.sy_bank_rows.specs.Banks.{Entry, Merged};
+ghost use Rattle.sy_bank_rows.specs.Covering.{sizes, terms};
+ghost use Rattle.sy_loop_history.specs.Histories.{Counterexample, IsCandidate, IsHonest};
+ghost use Rattle.sy_loop_outcome.specs.Sizes.{AreAtMost};
+ghost use Rattle.sy_loop_outcome.specs.Unsolved.{NoSolution, NoSolutionWithin};
+ghost use Rattle.sy_loop_candidate.specs.Adding.{AreAsked};
+ghost use Rattle.sy_loop_candidate.specs.Trials.{IsRefuted};
+ghost use Rattle.sy_loop_candidate.specs.Truths.{IsViolated};
+ghost use Rattle.sy_loop_laws.specs.Agreeing.{Agree, AssumptionsAskNothing, AssumptionsFit};
+ghost use Rattle.sy_loop_laws.specs.Merging.{AreChosen, AreCovering, AreMerged};
+ghost use Rattle.sy_loop_laws.specs.Refuting.{AllRefuted, AllViolate, AreDoneBelow, AreInRange, Grows};
+
+/// Where bodies violate the problem by a constraint whose calls are among the tuples, all bodies that agree with them at
+/// the tuples violate it at that assignment, by the same calls.
+pub fn agreeing_bodies_are_refuted()
+    ensures at { (question : Question) (asked : Asked) (bodies others : List Expr) (values : List Val) (calls : List (ℕ × List Val)) → AssumptionsAskNothing question → Agree question asked bodies others →
+        AreAsked calls asked → IsViolated question bodies values calls → IsViolated question others values calls }
+    ensures violates { (question : Question) (bodies : List Expr) (values : List Val) (calls : List (ℕ × List Val)) → IsViolated question bodies values calls → Violates question bodies values }
+    ensures stored { (question : Question) (history : List Counterexample) (asked : Asked) (bodies others : List Expr) → AssumptionsAskNothing question → Agree question asked bodies others →
+        IsRefuted question history asked bodies → IsRefuted question history asked others }
+{}
+
+/// Where each function has an honest bank over its tuples that covers derivations up to a size, kept terms agree with any
+/// members whose sizes sum to at most that.
+pub fn members_are_merged()
+    ensures { (question : Question) (asked : Asked) (n : ℕ) (banks : List Merged) (bodies : List Expr) → AreCovering question asked n banks → IsCandidate question n bodies →
+        AreMerged question asked n banks bodies }
+{}
+
+/// Where moreover all kept terms whose sizes sum to at most that size are refuted, so are all members of such sizes
+/// (`whole`); kept terms whose sizes sum to just that size will do where all members of lesser sizes are refuted (`next`).
+pub fn members_are_refuted()
+    ensures whole { (question : Question) (history : List Counterexample) (asked : Asked) (n : ℕ) (banks : List Merged) → AssumptionsAskNothing question → AreCovering question asked n banks →
+        ((chosen : List Entry) → AreChosen banks chosen → sizes chosen ≤ n → IsRefuted question history asked (terms chosen)) → AllRefuted question history asked n }
+    ensures next { (question : Question) (history : List Counterexample) (asked : Asked) (n : ℕ) (banks : List Merged) → AssumptionsAskNothing question → AreCovering question asked n banks →
+        ((m : ℕ) → m < n → AllRefuted question history asked m) →
+        ((chosen : List Entry) → AreChosen banks chosen → sizes chosen ≡ n → IsRefuted question history asked (terms chosen)) → AllRefuted question history asked n }
+{}
+
+/// What is refuted stays so when the history and the tuples grow.
+pub fn what_is_refuted_stays_so()
+    ensures { (question : Question) (history history' : List Counterexample) (asked asked' : Asked) (bodies : List Expr) → Grows history asked history' asked' →
+        IsRefuted question history asked bodies → IsRefuted question history' asked' bodies }
+{}
+
+/// Where all members up to a size are refuted, each violates the problem at an assignment of the history, and none solves
+/// it; where no grammar has larger members, none at all does.
+pub fn nothing_refuted_solves()
+    ensures violated { (question : Question) (history : List Counterexample) (asked : Asked) (n : ℕ) → AllRefuted question history asked n → AllViolate question history n }
+    ensures unsolved { (question : Question) (size rounds n : ℕ) (history : List Counterexample) → IsHonest question size rounds history → AllViolate question history n → NoSolutionWithin question n }
+    ensures exhausted { (question : Question) (n : ℕ) → AreAtMost question n → NoSolutionWithin question n → NoSolution question }
+{}
+
+/// What a search that ascends by sizes does: nothing is to be done below 0 (`begins`); a size is done where kept terms
+/// of just this size together are refuted (`next`); and what is done stays so (`stays`). Where banks cover all up to a
+/// size, nothing up to it leaves the range (`covered`), and if it is done, nothing within it solves the problem (`ends`).
+pub fn sizes_are_done()
+    ensures begins { (question : Question) (history : List Counterexample) (asked : Asked) → AreDoneBelow question history asked 0 }
+    ensures next { (question : Question) (history : List Counterexample) (asked : Asked) (n : ℕ) (banks : List Merged) → AssumptionsAskNothing question →
+        (AreInRange question asked n → AreCovering question asked n banks) →
+        ((chosen : List Entry) → AreChosen banks chosen → sizes chosen ≡ n → IsRefuted question history asked (terms chosen)) →
+        AreDoneBelow question history asked n → AreDoneBelow question history asked (n + 1) }
+    ensures stays { (question : Question) (history history' : List Counterexample) (asked asked' : Asked) (n : ℕ) → Grows history asked history' asked' →
+        AreDoneBelow question history asked n → AreDoneBelow question history' asked' n }
+    ensures covered { (question : Question) (asked : Asked) (n : ℕ) (banks : List Merged) → AreCovering question asked n banks → AreInRange question asked n }
+    ensures ends { (question : Question) (size rounds n : ℕ) (history : List Counterexample) (asked : Asked) (banks : List Merged) → IsHonest question size rounds history →
+        AreCovering question asked n banks → AreDoneBelow question history asked (n + 1) → NoSolutionWithin question n }
+{}
+
+/// Assumptions that fit where no function is to be found ask nothing of those that are.
+pub fn assumptions_ask_nothing()
+    ensures { (owned : Op → Bool) (question : Question) → AssumptionsFit owned question → AssumptionsAskNothing question }
+{}

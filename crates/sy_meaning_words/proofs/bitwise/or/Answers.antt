@@ -1,0 +1,5 @@
+use Rattle.sy_meaning_words.proofs.Numbers.{or_fits}
+use Rattle.sy_meaning_words.proofs.bitwise.or.Goals as goal
+
+pub made-requires : goal.made-requires
+made-requires c = rw (c.width.ensures, c.bits.ensures, c.bits-2.ensures) (or_fits c.args.s.width c.args.s.bits c.args.t.bits c.args.s.is_valid (rw (← c.requires) at c.args.t.is_valid))

@@ -1,5 +1,0 @@
-use Rattle.sy_merging.proofs.Covered.{are_merged}
-use Rattle.sy_merging.proofs.law.members_are_merged.Goals as goal
-
-pub returns : goal.returns
-returns c = are_merged

@@ -1,0 +1,81 @@
+use Rattle.std.proofs.Common.{arith, ap, ◌∙◌, sym, subst, refl, Err, map}
+use Rattle.sy_terms.specs.Denoted.{expr_of}
+use Rattle.sy_terms.specs.declared.op.Op.TheVariants as ops
+use Rattle.sy_grammar_base.specs.Questions.{question_of}
+use Rattle.sy_query_decide.specs.Asked.{Query, Fits, query_weight}
+use Rattle.sy_query_build.specs.Violating.{IsViolation}
+use Rattle.sy_query_build.proofs.Problem as problem
+use Rattle.sy_query_build.proofs.Violation.{says}
+use Rattle.sy_query_build.proofs.Walking.{kept-error}
+use Rattle.sy_query_build.proofs.queries.build.Goals as goal
+
+pub place_all-requires-clause-terms : goal.place_all-requires-clause-terms
+place_all-requires-clause-terms g c =
+    let same = (λ k. (c.new-room.ensures.sorts k).items) ∙ (c.in_ok-to_vec.ensures.items_if_clones_equal (λ x y h. h) ∙ c.as_slice-vars.ensures) in
+    rw (c.as_slice-defs.ensures, c.as_slice-bodies.ensures, c.as_slice-assumptions.ensures, same) (problem.terms-fit g.T.Theory.owned g.T.Theory.denotes c.args.problem.now c.args.bodies.now c.args.problem.now.assumptions c.requires.bodies c.requires.problem.assumptions)
+
+pub returns-in_err-assumptions-clause-heavy : goal.returns-in_err-assumptions-clause-heavy
+returns-in_err-assumptions-clause-heavy g c h =
+    let same = (λ k. (c.new-room.ensures.sorts k).items) ∙ (c.in_ok-to_vec.ensures.items_if_clones_equal (λ x y h. h) ∙ c.as_slice-vars.ensures) in
+    let heavy = c.in_err-assumptions.ensures.heavy (ap Err (kept-error c.from_residual-in_err-assumptions.result _ _ c.from_residual-in_err-assumptions.ensures.1 h)) in
+    let taken = problem.taken-heavy g.T.Theory.owned g.T.Theory.denotes c.args.problem.now c.args.bodies.now c.args.problem.now.assumptions c.new-room.result.sorts.items c.new-room.result.left.weight same (rw (c.as_slice-defs.ensures, c.as_slice-bodies.ensures, c.as_slice-assumptions.ensures) at heavy) in
+    let whole = problem.query-weight g.T.Theory.owned g.T.Theory.numeric g.T.Theory.denotes c.args.problem.now c.args.bodies.now (g.met.T.Theory.core ops.And refl) (g.met.T.Theory.core ops.Not refl) c.requires.problem c.requires.bodies in
+    omega (arith, whole, taken, c.new-room.ensures.weight)
+
+pub place_all-requires-2-clause-sized : goal.place_all-requires-2-clause-sized
+place_all-requires-2-clause-sized g c =
+    let same = c.in_ok-assumptions.ensures.kept ∙ ((λ k. (c.new-room.ensures.sorts k).items) ∙ (c.in_ok-to_vec.ensures.items_if_clones_equal (λ x y h. h) ∙ c.as_slice-vars.ensures)) in
+    rw same (problem.variables-sized g.T.Theory.numeric c.args.problem.now.vars c.requires.problem.variables)
+
+pub place_all-requires-2-clause-terms : goal.place_all-requires-2-clause-terms
+place_all-requires-2-clause-terms g c =
+    let same = c.in_ok-assumptions.ensures.kept ∙ ((λ k. (c.new-room.ensures.sorts k).items) ∙ (c.in_ok-to_vec.ensures.items_if_clones_equal (λ x y h. h) ∙ c.as_slice-vars.ensures)) in
+    rw (c.as_slice-defs.ensures, c.as_slice-bodies.ensures, c.as_slice-constraints.ensures, same) (problem.terms-fit g.T.Theory.owned g.T.Theory.denotes c.args.problem.now c.args.bodies.now c.args.problem.now.constraints c.requires.bodies c.requires.problem.constraints)
+
+pub returns-in_err-constraints-clause-heavy : goal.returns-in_err-constraints-clause-heavy
+returns-in_err-constraints-clause-heavy g c h =
+    let first = (λ k. (c.new-room.ensures.sorts k).items) ∙ (c.in_ok-to_vec.ensures.items_if_clones_equal (λ x y h. h) ∙ c.as_slice-vars.ensures) in
+    let same = c.in_ok-assumptions.ensures.kept ∙ first in
+    let before = problem.taken g.T.Theory.owned g.T.Theory.denotes c.args.problem.now c.args.bodies.now c.args.problem.now.assumptions c.new-room.result.sorts.items c.new-room.result.left c.place_all.new.room.left _ _ first (rw (c.as_slice-defs.ensures, c.as_slice-bodies.ensures, c.as_slice-assumptions.ensures) at c.in_ok-assumptions.ensures.ok) in
+    let heavy = c.in_err-constraints.ensures.heavy (ap Err (kept-error c.from_residual-in_err-constraints.result _ _ c.from_residual-in_err-constraints.ensures.1 h)) in
+    let taken = problem.taken-heavy g.T.Theory.owned g.T.Theory.denotes c.args.problem.now c.args.bodies.now c.args.problem.now.constraints c.place_all.new.room.sorts.items c.place_all.new.room.left.weight same (rw (c.as_slice-defs.ensures, c.as_slice-bodies.ensures, c.as_slice-constraints.ensures) at heavy) in
+    let whole = problem.query-weight g.T.Theory.owned g.T.Theory.numeric g.T.Theory.denotes c.args.problem.now c.args.bodies.now (g.met.T.Theory.core ops.And refl) (g.met.T.Theory.core ops.Not refl) c.requires.problem c.requires.bodies in
+    omega (arith, whole, before, taken, c.new-room.ensures.weight)
+
+pub returns-in_err-take-clause-heavy : goal.returns-in_err-take-clause-heavy
+returns-in_err-take-clause-heavy g c h =
+    let first = (λ k. (c.new-room.ensures.sorts k).items) ∙ (c.in_ok-to_vec.ensures.items_if_clones_equal (λ x y h. h) ∙ c.as_slice-vars.ensures) in
+    let same = c.in_ok-assumptions.ensures.kept ∙ first in
+    let before = problem.taken g.T.Theory.owned g.T.Theory.denotes c.args.problem.now c.args.bodies.now c.args.problem.now.assumptions c.new-room.result.sorts.items c.new-room.result.left c.place_all.new.room.left _ _ first (rw (c.as_slice-defs.ensures, c.as_slice-bodies.ensures, c.as_slice-assumptions.ensures) at c.in_ok-assumptions.ensures.ok) in
+    let after = problem.taken g.T.Theory.owned g.T.Theory.denotes c.args.problem.now c.args.bodies.now c.args.problem.now.constraints c.place_all.new.room.sorts.items c.place_all.new.room.left c.place_all-2.new.room.left _ _ same (rw (c.as_slice-defs.ensures, c.as_slice-bodies.ensures, c.as_slice-constraints.ensures) at c.in_ok-constraints.ensures.ok) in
+    let heavy = c.in_err-take.ensures.heavy in
+    let whole = problem.query-weight g.T.Theory.owned g.T.Theory.numeric g.T.Theory.denotes c.args.problem.now c.args.bodies.now (g.met.T.Theory.core ops.And refl) (g.met.T.Theory.core ops.Not refl) c.requires.problem c.requires.bodies in
+    omega (arith, whole, before, after, heavy, c.new-room.ensures.weight)
+
+pub returns-clause-query : goal.returns-clause-query
+returns-clause-query g c =
+    let first = (λ k. (c.new-room.ensures.sorts k).items) ∙ (c.in_ok-to_vec.ensures.items_if_clones_equal (λ x y h. h) ∙ c.as_slice-vars.ensures) in
+    let are = rw (c.as_slice-defs.ensures, c.as_slice-bodies.ensures, c.as_slice-assumptions.ensures) at c.in_ok-assumptions.ensures.ok in
+    let also = rw (c.as_slice-defs.ensures, c.as_slice-bodies.ensures, c.as_slice-constraints.ensures) at c.in_ok-constraints.ensures.ok in
+    problem.query-is c.args.problem.now.vars c.in_ok-vars.vars _ _ (c.in_ok-vars.ensures ∙ c.as_slice-vars.ensures)
+    (problem.body-built g.T.Theory.owned g.T.Theory.denotes c.args.problem.now c.args.bodies.now c.new-room.result.sorts.items c.place_all.new.room.sorts.items _ _ _ _ _ _ _ _ first c.in_ok-assumptions.ensures.kept are also (sym c.take.ensures.counted ∙ c.if-not-room.false) c.in_ok-body.ensures)
+
+pub returns-clause-fits : goal.returns-clause-fits
+returns-clause-fits g c =
+    subst (λ (q : Query). Fits g.T.Theory.owned g.T.Theory.numeric q) (sym (returns-clause-query g c))
+    (problem.query-fits g.T.Theory.owned g.T.Theory.numeric g.T.Theory.denotes c.args.problem.now c.args.bodies.now (g.met.T.Theory.core ops.And refl) (g.met.T.Theory.core ops.Not refl) c.requires.problem c.requires.bodies)
+
+pub returns-clause-violations : goal.returns-clause-violations
+returns-clause-violations g c =
+    subst (λ (q : Query). IsViolation (question_of g.T.Theory.denotes c.args.problem.now) (map (expr_of g.T.Theory.denotes) c.args.bodies.now) q) (sym (returns-clause-query g c))
+    (says (question_of g.T.Theory.denotes c.args.problem.now) (map (expr_of g.T.Theory.denotes) c.args.bodies.now))
+
+pub returns-clause-light : goal.returns-clause-light
+returns-clause-light g c =
+    let first = (λ k. (c.new-room.ensures.sorts k).items) ∙ (c.in_ok-to_vec.ensures.items_if_clones_equal (λ x y h. h) ∙ c.as_slice-vars.ensures) in
+    let same = c.in_ok-assumptions.ensures.kept ∙ first in
+    let before = problem.taken g.T.Theory.owned g.T.Theory.denotes c.args.problem.now c.args.bodies.now c.args.problem.now.assumptions c.new-room.result.sorts.items c.new-room.result.left c.place_all.new.room.left _ _ first (rw (c.as_slice-defs.ensures, c.as_slice-bodies.ensures, c.as_slice-assumptions.ensures) at c.in_ok-assumptions.ensures.ok) in
+    let after = problem.taken g.T.Theory.owned g.T.Theory.denotes c.args.problem.now c.args.bodies.now c.args.problem.now.constraints c.place_all.new.room.sorts.items c.place_all.new.room.left c.place_all-2.new.room.left _ _ same (rw (c.as_slice-defs.ensures, c.as_slice-bodies.ensures, c.as_slice-constraints.ensures) at c.in_ok-constraints.ensures.ok) in
+    let last = c.in_ok-take.ensures.ok in
+    let whole = ap (query_weight g.T.Theory.owned) (returns-clause-query g c) ∙ problem.query-weight g.T.Theory.owned g.T.Theory.numeric g.T.Theory.denotes c.args.problem.now c.args.bodies.now (g.met.T.Theory.core ops.And refl) (g.met.T.Theory.core ops.Not refl) c.requires.problem c.requires.bodies in
+    omega (arith, whole, before, after, last, c.new-room.ensures.weight)

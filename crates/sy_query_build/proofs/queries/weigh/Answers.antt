@@ -1,0 +1,23 @@
+use Rattle.std.proofs.Common.{arith, ap, ◌∙◌, Err}
+use Rattle.sy_query_build.proofs.Itself as itself
+use Rattle.sy_query_build.proofs.Walking.{kept-error}
+use Rattle.sy_query_build.proofs.queries.weigh.Goals as goal
+
+pub place-requires-clause-term : goal.place-requires-clause-term
+place-requires-clause-term g c =
+    let same = (λ k. (c.new-room.ensures.sorts k).items) ∙ (c.in_ok-to_vec.ensures.items_if_clones_equal (λ x y h. h) ∙ c.as_slice.ensures) in
+    itself.body-fits g.T.Theory.owned g.T.Theory.denotes _ _ _ _ c.args.query.now.body (c.as_slice-2.ensures ∙ c.new-defs.ensures) (c.as_slice-3.ensures ∙ c.new-bodies.ensures) same c.requires.body
+
+pub returns-in_err-_placed-clause-heavy : goal.returns-in_err-_placed-clause-heavy
+returns-in_err-_placed-clause-heavy g c h =
+    let same = (λ k. (c.new-room.ensures.sorts k).items) ∙ (c.in_ok-to_vec.ensures.items_if_clones_equal (λ x y h. h) ∙ c.as_slice.ensures) in
+    let weight = itself.body-weight g.T.Theory.owned g.T.Theory.denotes _ _ _ _ c.args.query.now.body (c.as_slice-2.ensures ∙ c.new-defs.ensures) (c.as_slice-3.ensures ∙ c.new-bodies.ensures) same c.requires.body in
+    let heavy = c.in_err-_placed.ensures.heavy (ap Err (kept-error c.from_residual-in_err-_placed.result _ _ c.from_residual-in_err-_placed.ensures.1 h)) in
+    omega (arith, weight, heavy, c.new-room.ensures.weight)
+
+pub returns-clause-weight : goal.returns-clause-weight
+returns-clause-weight g c =
+    let same = (λ k. (c.new-room.ensures.sorts k).items) ∙ (c.in_ok-to_vec.ensures.items_if_clones_equal (λ x y h. h) ∙ c.as_slice.ensures) in
+    let weight = itself.body-weight g.T.Theory.owned g.T.Theory.denotes _ _ _ _ c.args.query.now.body (c.as_slice-2.ensures ∙ c.new-defs.ensures) (c.as_slice-3.ensures ∙ c.new-bodies.ensures) same c.requires.body in
+    let taken = c.in_ok-_placed.ensures.ok.weight in
+    omega (arith, weight, taken, c.new-room.ensures.weight)

@@ -1,0 +1,110 @@
+// The query of a problem and bodies, and what a query weighs.
+ghost use Rattle.std.specs.Prelude.{◌≡◌, ◌≤◌, ◌<◌, ◌^◌, length, map, IfOk, IsErrOf};
+ghost use Rattle.sy_terms.specs.Denoted.{expr_of, exprs_of};
+ghost use Rattle.sy_terms_laws.specs.Evaluation.{BodiesFit};
+ghost use Rattle.sy_grammar_base.specs.Questions.{question_of};
+ghost use Rattle.sy_query_decide.specs.Asked.{query_of, query_weight, Fits};
+ghost use Rattle.sy_query_build.specs.Problems.{ProblemFits, signatures};
+ghost use Rattle.sy_query_build.specs.Violating.{violating, violated_by, conjoined, IsViolation};
+
+use crate::built::Built;
+use crate::place::{place, place_all};
+use crate::room::Room;
+use std::alloc::Global;
+use sy_grammar_base::Problem;
+use sy_query_base::Query;
+use sy_terms::{Bodies, Defs, Op, Seq, Sort, Term, Terms, Theory, Value, Want};
+
+/// The query of the problem and a body for each function to be found: every assumption, and not every constraint, with
+/// each call replaced by a `let` of its arguments around the called body. It is true exactly at the assignments where
+/// the bodies violate the problem. `Heavy` exactly where it weighs more than `limit`; then no more than that is built.
+/// Where 32 bits don't count one of its positions, `Want` comes, and only if it weighs no more than `limit`.
+pub fn build<T: Theory>(
+    alloc: Global,
+    problem: &Problem<T>,
+    bodies: &Bodies<T>,
+    limit: u32,
+) -> Result<Query<T>, Built>
+    requires problem { ProblemFits T.owned T.numeric T.denotes problem.now }
+    requires bodies { BodiesFit T.owned T.denotes problem.now.defs bodies.now (signatures problem.now) }
+    ensures query { IfOk result (λ query. query_of T.denotes query ≡ violating (question_of T.denotes problem.now) (map (expr_of T.denotes) bodies.now)) }
+    ensures fits { IfOk result (λ query. Fits T.owned T.numeric (query_of T.denotes query)) }
+    ensures violations { IfOk result (λ query. IsViolation (question_of T.denotes problem.now) (map (expr_of T.denotes) bodies.now) (query_of T.denotes query)) }
+    ensures light { IfOk result (λ query. query_weight T.owned (query_of T.denotes query) ≤ limit) }
+    ensures heavy { IsErrOf result Built.Heavy → limit < query_weight T.owned (violating (question_of T.denotes problem.now) (map (expr_of T.denotes) bodies.now)) }
+{
+    let vars = problem.vars.as_slice();
+    let mut room = Room::new(vars.to_vec(alloc)?, limit);
+    let defs = problem.defs.as_slice();
+    let bodies = bodies.as_slice();
+    let assumptions = problem.assumptions.as_slice();
+    let assumptions = place_all(alloc, defs, bodies, 0, assumptions, &mut room)?;
+    let constraints = problem.constraints.as_slice();
+    let constraints = place_all(alloc, defs, bodies, 0, constraints, &mut room)?;
+    room.take(3)?;
+    // The weight is within the limit, but some position is larger than a term may have.
+    if !room.left.counted {
+        return Err(Built::Want);
+    }
+    let body = violation(alloc, assumptions.terms, constraints.terms)?;
+    let vars = copied(alloc, vars)?;
+    Ok(Query { vars, body })
+}
+
+/// What the query weighs. `Heavy` exactly where that is more than `cap`.
+pub fn weigh<T: Theory>(alloc: Global, query: &Query<T>, cap: u32) -> Result<u32, Built>
+    requires { Fits T.owned T.numeric (query_of T.denotes query.now) }
+    ensures weight { IfOk result (λ weight. weight ≡ query_weight T.owned (query_of T.denotes query.now)) }
+    ensures light { IfOk result (λ weight. weight ≤ cap) }
+    ensures heavy { IsErrOf result Built.Heavy → cap < query_weight T.owned (query_of T.denotes query.now) }
+{
+    let mut room = Room::new(query.vars.as_slice().to_vec(alloc)?, cap);
+    let (defs, bodies) = (Defs::new(alloc), Bodies::new(alloc));
+    let body = &query.body;
+    let _placed = place(
+        alloc,
+        defs.as_slice(),
+        bodies.as_slice(),
+        0,
+        body,
+        &mut room,
+    )?;
+    Ok(cap - room.left.weight as u32)
+}
+
+/// Every assumption, and not every constraint.
+fn violation<T: Theory>(
+    alloc: Global,
+    assumptions: Terms<T>,
+    constraints: Terms<T>,
+) -> Result<Term<T>, Want>
+    ensures { IfOk result (λ term. expr_of T.denotes term ≡ violated_by (exprs_of T.denotes assumptions.items.items) (exprs_of T.denotes constraints.items.items)) }
+{
+    let mut negated = Terms::new(alloc);
+    negated.push(conjunction(constraints))?;
+    let mut parts = assumptions;
+    parts.push(Term::App(Op::Not, negated))?;
+    Ok(Term::App(Op::And, parts))
+}
+
+/// All of the terms; true where there is none.
+fn conjunction<T: Theory>(terms: Terms<T>) -> Term<T>
+    ensures { expr_of T.denotes result ≡ conjoined (exprs_of T.denotes terms.items.items) }
+{
+    if terms.len() == 0 {
+        Term::Const(Value::Truth(true))
+    } else {
+        Term::App(Op::And, terms)
+    }
+}
+
+/// The same sorts, in memory of their own.
+fn copied(alloc: Global, sorts: &[Sort]) -> Result<Seq<Sort>, Want>
+    ensures { IfOk result (λ copy. copy ≡ sorts.now) }
+{
+    let mut copy = Seq::new(alloc);
+    for sort in sorts {
+        copy.push(*sort)?;
+    }
+    Ok(copy)
+}

@@ -1,6 +1,0 @@
-use Rattle.std.proofs.Common.{◌≡◌, refl}
-use Rattle.sy_resolve.specs.Meant.{phrases_of-append}
-use Rattle.sy_resolve.proofs.apply.Several.push.Goals as goal
-
-pub returns : goal.returns
-returns g c = rw (c.in_ok-push.ensures.ok, phrases_of-append, c.in_ok-push-2.ensures.ok) refl

@@ -1,9 +1,0 @@
-use Rattle.std.proofs.Common.{◌≡◌, ◌+◌, ◌≤◌, drop}
-use Rattle.sy_resolve.specs.Meant.{phrases_of}
-use Rattle.sy_resolve.specs.Terms as spec
-use Rattle.sy_resolve.proofs.apply.varying.Given as goal
-
-abbrev pub invariant-loop-factor : goal.invariant-loop-factor
-invariant-loop-factor g l =
-    (l.count + spec.varying l.constants (phrases_of g.T.Theory.denotes (drop l.factor-index l.factors)) ≡ spec.varying l.constants (phrases_of g.T.Theory.denotes l.factors))
-    × (l.count ≤ l.factor-index)

@@ -1,6 +1,0 @@
-use Rattle.sy_terms.specs.Denoted.{expr_of-Var}
-use Rattle.sy_rows.proofs.Fillings.{first-missing}
-use Rattle.sy_rows.proofs.fill.first_term.Goals as goal
-
-pub returns-in-None : goal.returns-in-None
-returns-in-None g c = rw (expr_of-Var) (first-missing g.T.Theory.denotes c.args.terms.now c.in-None.ensures.value)

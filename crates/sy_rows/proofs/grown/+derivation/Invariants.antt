@@ -1,7 +1,0 @@
-use Rattle.std.proofs.Common.{◌≡◌, take}
-use Rattle.sy_grammar.specs.Grown.{trees_of}
-use Rattle.sy_rows.specs.Shared.{trees_from}
-use Rattle.sy_rows.proofs.grown.+derivation.Given as goal
-
-abbrev pub invariant-Growns::derivations-loop-grown : goal.invariant-Growns::derivations-loop-grown
-invariant-Growns::derivations-loop-grown g l = trees_of g.T.Theory.denotes l.derivations.items.items ≡ trees_from g.T.Theory.denotes (take l.grown-index l.all)

@@ -1,0 +1,218 @@
+// Files.
+ghost use Rattle.std.specs.Prelude.{◌≡◌, ◌≤◌, ◌<◌, length, IfOk, IfSome};
+ghost use Rattle.sy_text.specs.Views.{command_of};
+ghost use Rattle.sy_grammar_defaults.specs.Defaults.{IsOf};
+ghost use Rattle.sy_text.specs.Views.{item_of};
+ghost use Rattle.sy_scope_commands.specs.Asked.{request_in};
+ghost use Rattle.sy_forms.specs.Readings.{Gives};
+ghost use Rattle.sy_forms.specs.Serving.{Serves};
+ghost use Rattle.sy_scope_steps.specs.Contexts as contexts;
+ghost use Rattle.sy_scope_steps.specs.Files as spec;
+ghost use Rattle.sy_scope_steps.specs.Jobs.{wished};
+ghost use Rattle.sy_scope.specs.Read.{Reads, LeadsTo, OpensAs, ended_as, opened_by, wish_in, wish_over};
+ghost use Rattle.sy_scope.specs.Fit.{ProblemsFit, JobFits};
+ghost use Rattle.sy_scope.specs.Seen.{context_of};
+ghost use Rattle.sy_scope_steps.specs.Steps as steps;
+
+use crate::context::Context;
+use crate::job::{Job, ScopeEnd};
+use crate::step::{Asked, check_feature, read_request};
+use std::alloc::Global;
+use sy_forms::{ReadEnd, is};
+use sy_grammar_base::Problem;
+use sy_meaning_integers::IntTheory;
+use sy_meaning_words::BvTheory;
+use sy_scope_causes::{Cause, Refused, Titles};
+use sy_scope_commands::Request;
+use sy_terms::{Logic, Seq, Theory};
+use sy_text::{Place, Sexp, TextEnd, TextFault, next_command};
+
+/// The commands up to the one that sets the logic are done: the logic, and the offset and the number of the next one.
+#[derive(Clone, Copy)]
+struct Opened {
+    logic: Logic,
+    at: usize,
+    command: u32,
+}
+
+/// The offset of a fault of the text.
+fn offset_of(fault: TextFault) -> usize
+    ensures { result ≡ spec.offset_of fault }
+{
+    match fault {
+        TextFault::BadByte(at) => at,
+        TextFault::Unclosed(at) => at,
+        TextFault::Stray(at) => at,
+        TextFault::LiteralRange(at) => at,
+        TextFault::TooDeep(at) => at,
+    }
+}
+
+/// Why the command of this number gives nothing.
+fn ended(command: u32, end: ReadEnd) -> ScopeEnd
+    ensures { result ≡ ended_as command end }
+{
+    match end {
+        ReadEnd::Refused(place, cause) => ScopeEnd::Refused(Refused {
+            command,
+            place,
+            cause,
+        }),
+        ReadEnd::Want => ScopeEnd::Want,
+    }
+}
+
+/// The command of this number, from an offset on, and the offset behind it.
+fn next(
+    alloc: Global,
+    bytes: &[u8],
+    at: usize,
+    command: u32,
+) -> Result<Option<(Sexp, usize)>, ScopeEnd>
+    requires { at ≤ length bytes.now }
+    ensures read { Reads command_of result (spec.command_read bytes.now command at) }
+    ensures forward { IfOk result (λ answer. IfSome answer (λ x. (at < x.1) × (x.1 ≤ length bytes.now))) }
+{
+    match next_command(alloc, bytes, at) {
+        Ok(found) => Ok(found),
+        Err(TextEnd::Fault(fault)) => Err(ScopeEnd::Refused(Refused {
+            command,
+            place: Place {
+                at: offset_of(fault),
+            },
+            cause: Cause::Text(fault),
+        })),
+        Err(TextEnd::Want) => Err(ScopeEnd::Want),
+    }
+}
+
+/// The logic of this name.
+fn logic_named(name: &[u8]) -> Option<Logic>
+    ensures { result ≡ steps.logic_named name.now }
+{
+    if is(name, b"BV") {
+        Some(Logic::Bv)
+    } else if is(name, b"LIA") {
+        Some(Logic::Lia)
+    } else {
+        None
+    }
+}
+
+/// The logic that is set by a command before which none was.
+#[tactic(auto, unfolding(sy_scope_steps::specs::Steps::perform_first))]
+fn first_logic(asked: Asked<'_>) -> Result<Option<Logic>, ReadEnd>
+    ensures { Gives opened_by result (steps.perform_first contexts.beginning asked.entry.at (request_in asked.entry.request)) }
+{
+    match asked.request {
+        Request::SetLogic(name) => match logic_named(name.name.as_slice()) {
+            Some(logic) => Ok(Some(logic)),
+            None => Err(ReadEnd::Refused(name.place, Cause::Logic)),
+        },
+        Request::SetFeature(feature, on) => {
+            check_feature(feature, on)?;
+            Ok(None)
+        }
+        Request::Note => Ok(None),
+        _ => Err(ReadEnd::Refused(asked.at, Cause::Logic)),
+    }
+}
+
+/// The logic that is set by the command that the item is, before which none was.
+#[tactic(auto, unfolding(sy_scope_steps::specs::Steps::step))]
+fn open_with(item: &Sexp) -> Result<Option<Logic>, ReadEnd>
+    ensures { Gives opened_by result (steps.step contexts.beginning (item_of item.now)) }
+{
+    let asked = read_request(item)?;
+    let logic = first_logic(asked)?;
+    Ok(logic)
+}
+
+/// The commands up to the one that sets the logic; `None` where the file sets none.
+fn read_opening(alloc: Global, bytes: &[u8]) -> Result<Option<Opened>, ScopeEnd>
+    requires { length bytes.now ≤ 4194304 }
+    ensures { OpensAs bytes.now result (spec.file_read bytes.now) }
+{
+    let mut at = 0;
+    let mut command = 1;
+    while let Some((item, after)) = next(alloc, bytes, at, command)? {
+        let logic = match open_with(&item) {
+            Ok(logic) => logic,
+            Err(end) => return Err(ended(command, end)),
+        };
+        at = after;
+        command += 1;
+        if let Some(logic) = logic {
+            return Ok(Some(Opened { logic, at, command }));
+        }
+    }
+    Ok(None)
+}
+
+/// The context after the commands behind those that set the logic.
+fn read_commands<T: Theory>(
+    alloc: Global,
+    bytes: &[u8],
+    opened: Opened,
+) -> Result<Context<T>, ScopeEnd>
+    requires short { length bytes.now ≤ 4194304 }
+    requires serves { Serves T.numeric opened.logic }
+    requires theory { IsOf opened.logic T.owned T.numeric }
+    requires opened { LeadsTo bytes.now opened.at opened.command (contexts.with_logic opened.logic contexts.beginning) (spec.file_read bytes.now) }
+    ensures read { Reads (context_of T.denotes) result (spec.file_read bytes.now) }
+    ensures logic { IfOk result (λ context. context.logic ≡ opened.logic) }
+{
+    let mut context = Context::new(alloc, opened.logic);
+    let mut at = opened.at;
+    let mut command = opened.command;
+    while let Some((item, after)) = next(alloc, bytes, at, command)? {
+        match context.step(alloc, &item) {
+            Ok(()) => {}
+            Err(end) => return Err(ended(command, end)),
+        }
+        at = after;
+        command += 1;
+    }
+    Ok(context)
+}
+
+/// What a file of a theory's logic asks, and the names of its functions.
+fn read_in<T: Theory>(
+    alloc: Global,
+    bytes: &[u8],
+    opened: Opened,
+) -> Result<(Seq<Problem<T>>, Titles), ScopeEnd>
+    requires short { length bytes.now ≤ 4194304 }
+    requires serves { Serves T.numeric opened.logic }
+    requires theory { IsOf opened.logic T.owned T.numeric }
+    requires opened { LeadsTo bytes.now opened.at opened.command (contexts.with_logic opened.logic contexts.beginning) (spec.file_read bytes.now) }
+    ensures read { Reads (wish_over T.denotes opened.logic) result (wished (spec.file_read bytes.now)) }
+    ensures fit { IfOk result (λ x. ProblemsFit T.owned T.numeric T.denotes x.0) }
+{
+    let context = read_commands(alloc, bytes, opened)?;
+    let titles = context.titles(alloc)?;
+    Ok((context.questions, titles))
+}
+
+/// Reads a file of at most 4,194,304 bytes. `Ok` comes exactly where it is in the profile, with a problem for each
+/// `check-synth`, in order, and the names of its functions; `Idle` where no logic was set. Else the first faulty command is
+/// told, counted from 1, with its first condition that doesn't hold. All terms and grammars of the problems fit.
+pub fn read_file(alloc: Global, bytes: &[u8]) -> Result<Job, ScopeEnd>
+    requires { length bytes.now ≤ 4194304 }
+    ensures read { Reads wish_in result (wished (spec.file_read bytes.now)) }
+    ensures fit { IfOk result JobFits }
+{
+    let Some(opened) = read_opening(alloc, bytes)? else {
+        return Ok(Job::Idle);
+    };
+    match opened.logic {
+        Logic::Lia => {
+            let (problems, titles) = read_in::<IntTheory>(alloc, bytes, opened)?;
+            Ok(Job::Ints(problems, titles))
+        }
+        Logic::Bv => {
+            let (problems, titles) = read_in::<BvTheory>(alloc, bytes, opened)?;
+            Ok(Job::Bits(problems, titles))
+        }
+    }
+}

@@ -1,0 +1,185 @@
+-- Commands that declare keep contexts sound.
+use Rattle.std.specs.Prelude.{ℕ, Bool, true, false, ◌||◌, nat_lt, List, [], ◌∷◌, ◌++◌, length, Some, Ok, is_some, ◌≡◌, refl, All, ⊤, IfOk}
+use Rattle.std.proofs.lemmas.List.Elements.{All-push, All-weaker}
+use Rattle.sy_text.specs.Items.{Item, Items}
+use Rattle.sy_text.specs.declared.atom.Place.{Place}
+use Rattle.sy_scope_causes.specs.declared.cause.Cause.TheVariants as cause
+use Rattle.sy_terms.specs.Fitting.{Signature}
+use Rattle.sy_terms.specs.Values.{Val}
+use Rattle.sy_terms.specs.declared.sort.Logic.{Logic}
+use Rattle.sy_terms.specs.declared.sort.Sort.{Sort}
+use Rattle.sy_terms.specs.declared.sort.Sort.TheVariants as sorts
+use Rattle.sy_terms.specs.declared.term.Fun.TheVariants as funs
+use Rattle.sy_grammar_base.specs.Formed.{is_known}
+use Rattle.sy_grammar_defaults.specs.Defaults as defaults
+use Rattle.sy_grammar_defaults.specs.Defaults.{operators_of}
+use Rattle.sy_forms.specs.declared.names.Entity.{Entity}
+use Rattle.sy_forms.specs.declared.names.Entity.TheVariants as entity
+use Rattle.sy_forms.specs.declared.names.Role.TheVariants as role
+use Rattle.sy_forms.specs.Environments.{entry}
+use Rattle.sy_forms.specs.Operators.{is_reserved}
+use Rattle.sy_forms.specs.Phrases.{Phrase}
+use Rattle.sy_forms.specs.Sorts.{read_sort}
+use Rattle.sy_scope_commands.specs.Requests.{Spelled}
+use Rattle.sy_scope_rules.specs.Lists.{sorts_of, read_named}
+use Rattle.sy_forms_laws.specs.Fitting.{phrase_sort}
+use Rattle.sy_forms_laws.specs.Questions.{GoalFits}
+use Rattle.sy_forms_laws.specs.Right.{Extends}
+use Rattle.sy_forms_laws.proofs.Readings.{chained, unless_refused, where_not_refused, any_read}
+use Rattle.sy_forms_laws.proofs.Sorts.{Known, sort_known}
+use Rattle.sy_forms_laws.proofs.Terms.{whole_fits}
+use Rattle.sy_scope_steps.specs.Contexts.{Context, Definition, Sought, new_name, new_sought, new_sort_name, has_room, goal_of}
+use Rattle.sy_scope_steps.specs.Steps.{with_variable, declare_variable, define_sort, read_in, with_definition, define, with_sought, environment}
+use Rattle.sy_scope_laws.specs.Sound.{defined_in, wanted_in, setting_with, IsDeclared, ConditionFits, IsSound}
+use Rattle.sy_scope_laws.proofs.Extending.{extends_itself, extends_last, last_at, extends_defined, extends_wanted, defined_at, wanted_at, declared_wider, condition_wider, goal_wider, phrase_wider, fit_after-last, list_all-append}
+use Rattle.sy_scope_laws.proofs.Rightly.{body_right}
+
+-- a new name isn't reserved
+abbrev pub IsFree : Logic → List ℕ → Type 0
+IsFree logic name = is_reserved logic name ≡ false
+
+either_false : (a b : Bool) → (a || b) ≡ false → a ≡ false
+either_false false b e = refl
+either_false true b e = absurd cc
+
+new_name_free : (context : Context) (logic : Logic) (at : Place) (name : List ℕ) → IfOk (new_name context logic at name) (IsFree logic)
+new_name_free context logic at name =
+    where_not_refused (IsFree logic) (is_reserved logic name || is_some (entry name context.entities)) at cause.NameTaken _ (λ e.
+    unless_refused (IsFree logic) (has_room context 1) at cause.TooMany (Ok name) (λ f. either_false _ _ e))
+
+pub new_sought_free : (context : Context) (logic : Logic) (at : Place) (name : List ℕ) → IfOk (new_sought context logic at name) (IsFree logic)
+new_sought_free context logic at name =
+    where_not_refused (IsFree logic) (is_reserved logic name || is_some (entry name context.entities)) at cause.NameTaken _ (λ e.
+    unless_refused (IsFree logic) (has_room context 1) at cause.TooMany _ (λ f.
+    unless_refused (IsFree logic) (nat_lt (length context.sought) 4) at cause.TooMany (Ok name) (λ g. either_false _ _ e)))
+
+-- a new entity under a new name
+abbrev NewName : Logic → List ℕ × Entity → Type 0
+NewName logic x = is_reserved logic x.0 ≡ false
+
+pub declared_all : (defined wanted : List Signature) (variables : List Sort) (later_defined later_wanted : List Signature) (later_variables : List Sort) → Extends defined later_defined → Extends wanted later_wanted → Extends variables later_variables
+    → (entities : List (List ℕ × Entity)) → All (λ (x : List ℕ × Entity). IsDeclared defined wanted variables x.1) entities → All (λ (x : List ℕ × Entity). IsDeclared later_defined later_wanted later_variables x.1) entities
+declared_all defined wanted variables ld lw lv d w v entities all =
+    All-weaker (λ (x : List ℕ × Entity). IsDeclared defined wanted variables x.1) (λ (x : List ℕ × Entity). IsDeclared ld lw lv x.1) (λ x e. declared_wider defined wanted variables ld lw lv d w v x.1 e) entities all
+
+-- a variable more
+variable_sound : (logic : Logic) (context : Context) (name : List ℕ) (sort : Sort) → IsSound logic context → IsFree logic name → Known (defaults.sorts_of logic) sort → IsSound logic (with_variable context name sort)
+variable_sound logic context name sort sound free known =
+    let owned = operators_of logic in
+    let defined = defined_in context.definitions in
+    let wanted = wanted_in context.sought in
+    let variables = context.variables ++ sort ∷ [] in
+    let d = extends_itself defined in
+    let w = extends_itself wanted in
+    let v = extends_last context.variables (sort ∷ []) in
+    let x : List ℕ × Entity = (name, entity.Variable (length context.variables) sort) in
+    record {
+      set = sound.set;
+      abbreviations = sound.abbreviations;
+      names = All-push (λ (x : List ℕ × Entity). is_reserved logic x.0 ≡ false) context.entities x sound.names free;
+      entities = All-push (λ (x : List ℕ × Entity). IsDeclared defined wanted variables x.1) context.entities x
+          (declared_all defined wanted context.variables defined wanted variables d w v context.entities sound.entities) (last_at context.variables sort);
+      variables = list_all-append (is_known (defaults.sorts_of logic)) context.variables (sort ∷ []) sound.variables (rw known refl);
+      definitions = sound.definitions;
+      sought = sound.sought;
+      assumptions = All-weaker (λ (p : Phrase). phrase_sort (setting_with owned defined [] context.variables) [] p ≡ Some sorts.Bool) _
+          (λ p e. phrase_wider owned defined [] context.variables defined [] variables d (extends_itself []) v p sorts.Bool e) context.assumptions sound.assumptions;
+      constraints = All-weaker (ConditionFits owned defined wanted context.variables) (ConditionFits owned defined wanted variables)
+          (λ c fit. condition_wider owned defined wanted context.variables defined wanted variables d w v c fit) context.constraints sound.constraints;
+      questions = sound.questions;
+    }
+
+pub declare_sound : (logic : Logic) (context : Context) (name : Spelled) (sort : Item) → IsSound logic context → IfOk (declare_variable context logic name sort) (IsSound logic)
+declare_sound logic context name sort sound =
+    chained (IsFree logic) (IsSound logic) (new_name context logic name.place name.name) _ (new_name_free context logic name.place name.name) (λ new is free.
+    chained (Known (defaults.sorts_of logic)) (IsSound logic) (read_sort logic context.sorts sort) _ (sort_known (operators_of logic) (defaults.sorts_of logic) logic context.sorts sort (record { operators = λ operator. refl; sorts = λ s. refl }) sound.abbreviations) (λ found found_is known.
+    variable_sound logic context new found sound free known))
+
+-- an abbreviation more
+abbreviation_sound : (logic : Logic) (context : Context) (name : List ℕ) (sort : Sort) → IsSound logic context → Known (defaults.sorts_of logic) sort → IsSound logic (record context { sorts = context.sorts ++ (name, sort) ∷ [] })
+abbreviation_sound logic context name sort sound known =
+    let x : List ℕ × Sort = (name, sort) in
+    record {
+      set = sound.set;
+      abbreviations = All-push (λ (x : List ℕ × Sort). is_known (defaults.sorts_of logic) x.1 ≡ true) context.sorts x sound.abbreviations known;
+      names = sound.names;
+      entities = sound.entities;
+      variables = sound.variables;
+      definitions = sound.definitions;
+      sought = sound.sought;
+      assumptions = sound.assumptions;
+      constraints = sound.constraints;
+      questions = sound.questions;
+    }
+
+pub define_sort_sound : (logic : Logic) (context : Context) (name : Spelled) (sort : Item) → IsSound logic context → IfOk (define_sort context logic name sort) (IsSound logic)
+define_sort_sound logic context name sort sound =
+    chained (λ x. ⊤) (IsSound logic) (new_sort_name context logic name.place name.name) _ (any_read (new_sort_name context logic name.place name.name)) (λ new is any.
+    chained (Known (defaults.sorts_of logic)) (IsSound logic) (read_sort logic context.sorts sort) _ (sort_known (operators_of logic) (defaults.sorts_of logic) logic context.sorts sort (record { operators = λ operator. refl; sorts = λ s. refl }) sound.abbreviations) (λ found found_is known.
+    abbreviation_sound logic context new found sound known))
+
+-- a definition more
+definition_sound : (logic : Logic) (context : Context) (d : Definition) → IsSound logic context → IsFree logic d.name → phrase_sort (setting_with (operators_of logic) (defined_in context.definitions) [] (sorts_of d.arguments)) [] d.body ≡ Some d.sort
+    → IsSound logic (with_definition context d)
+definition_sound logic context d sound free fit =
+    let owned = operators_of logic in
+    let numeric = defaults.sorts_of logic in
+    let defined = defined_in context.definitions in
+    let wanted = wanted_in context.sought in
+    let later = defined_in (context.definitions ++ d ∷ []) in
+    let more = extends_defined context.definitions d in
+    let w = extends_itself wanted in
+    let v = extends_itself context.variables in
+    let x : List ℕ × Entity = (d.name, entity.Function (funs.Defined (length context.definitions)) (sorts_of d.arguments) d.sort) in
+    record {
+      set = sound.set;
+      abbreviations = sound.abbreviations;
+      names = All-push (λ (x : List ℕ × Entity). is_reserved logic x.0 ≡ false) context.entities x sound.names free;
+      entities = All-push (λ (x : List ℕ × Entity). IsDeclared later wanted context.variables x.1) context.entities x
+          (declared_all defined wanted context.variables later wanted context.variables more w v context.entities sound.entities) (defined_at context.definitions d);
+      variables = sound.variables;
+      definitions = fit_after-last owned [] context.definitions d sound.definitions fit;
+      sought = All-weaker (λ (f : Sought). GoalFits owned numeric defined (goal_of f)) (λ (f : Sought). GoalFits owned numeric later (goal_of f)) (λ f fits. goal_wider owned numeric defined later more (goal_of f) fits) context.sought sound.sought;
+      assumptions = All-weaker (λ (p : Phrase). phrase_sort (setting_with owned defined [] context.variables) [] p ≡ Some sorts.Bool) _
+          (λ p e. phrase_wider owned defined [] context.variables later [] context.variables more (extends_itself []) v p sorts.Bool e) context.assumptions sound.assumptions;
+      constraints = All-weaker (ConditionFits owned defined wanted context.variables) (ConditionFits owned later wanted context.variables)
+          (λ c fits. condition_wider owned defined wanted context.variables later wanted context.variables more w v c fits) context.constraints sound.constraints;
+      questions = sound.questions;
+    }
+
+pub define_sound : (logic : Logic) (context : Context) (name : Spelled) (arguments : Items) (sort body : Item) → IsSound logic context → IfOk (define context logic name arguments sort body) (IsSound logic)
+define_sound logic context name arguments sort body sound =
+    chained (IsFree logic) (IsSound logic) (new_name context logic name.place name.name) _ (new_name_free context logic name.place name.name) (λ new is free.
+    chained (λ x. ⊤) (IsSound logic) (read_named context.sorts logic [] [] arguments) _ (any_read (read_named context.sorts logic [] [] arguments)) (λ named named_is any.
+    chained (λ x. ⊤) (IsSound logic) (read_sort logic context.sorts sort) _ (any_read (read_sort logic context.sorts sort)) (λ found found_is known.
+    chained (λ p. phrase_sort (setting_with (operators_of logic) (defined_in context.definitions) [] (sorts_of named)) [] p ≡ Some found) (IsSound logic) (read_in context logic role.Body named found body) _
+    (whole_fits (defaults.sorts_of logic) (setting_with (operators_of logic) (defined_in context.definitions) [] (sorts_of named)) (environment context logic role.Body named) (body_right logic context sound named) context.measures found body) (λ p p_is fit.
+    definition_sound logic context (record { name = new; arguments = named; sort = found; body = p }) sound free fit))))
+
+-- a function to be found more
+pub sought_sound : (logic : Logic) (context : Context) (f : Sought) (values : List Val) → IsSound logic context → IsFree logic f.name → GoalFits (operators_of logic) (defaults.sorts_of logic) (defined_in context.definitions) (goal_of f)
+    → IsSound logic (with_sought context f values)
+sought_sound logic context f values sound free fit =
+    let owned = operators_of logic in
+    let numeric = defaults.sorts_of logic in
+    let defined = defined_in context.definitions in
+    let wanted = wanted_in context.sought in
+    let later = wanted_in (context.sought ++ f ∷ []) in
+    let more = extends_wanted context.sought f in
+    let d = extends_itself defined in
+    let v = extends_itself context.variables in
+    let x : List ℕ × Entity = (f.name, entity.Function (funs.Wanted (length context.sought)) (sorts_of f.arguments) f.sort) in
+    record {
+      set = sound.set;
+      abbreviations = sound.abbreviations;
+      names = All-push (λ (x : List ℕ × Entity). is_reserved logic x.0 ≡ false) context.entities x sound.names free;
+      entities = All-push (λ (x : List ℕ × Entity). IsDeclared defined later context.variables x.1) context.entities x
+          (declared_all defined wanted context.variables defined later context.variables d more v context.entities sound.entities) (wanted_at context.sought f);
+      variables = sound.variables;
+      definitions = sound.definitions;
+      sought = All-push (λ (g : Sought). GoalFits owned numeric defined (goal_of g)) context.sought f sound.sought fit;
+      assumptions = sound.assumptions;
+      constraints = All-weaker (ConditionFits owned defined wanted context.variables) (ConditionFits owned defined later context.variables)
+          (λ c fits. condition_wider owned defined wanted context.variables defined later context.variables d more v c fits) context.constraints sound.constraints;
+      questions = sound.questions;
+    }

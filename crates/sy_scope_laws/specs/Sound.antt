@@ -1,0 +1,75 @@
+-- Contexts in which all that is declared and asked fits.
+use Rattle.std.specs.Prelude.{ℕ, Bool, true, false, List, [], ◌∷◌, ◌++◌, map, length, Option, Some, None, ◌≡◌, All, ⊤, slice_get}
+use Rattle.std.specs.List.{list_all}
+use Rattle.sy_terms.specs.Fitting.{Signature, signature_of, sort_in}
+use Rattle.sy_terms.specs.declared.op.Op.{Op}
+use Rattle.sy_terms.specs.declared.sort.Logic.{Logic}
+use Rattle.sy_terms.specs.declared.sort.Sort.{Sort}
+use Rattle.sy_terms.specs.declared.sort.Sort.TheVariants as sorts
+use Rattle.sy_grammar_base.specs.Formed.{is_known}
+use Rattle.sy_forms.specs.Operators.{is_reserved}
+use Rattle.sy_forms.specs.Phrases.{Phrase}
+use Rattle.sy_forms.specs.declared.names.Entity.{Entity}
+use Rattle.sy_forms.specs.declared.names.Entity.TheVariants as entity
+use Rattle.sy_grammar_defaults.specs.Defaults as defaults
+use Rattle.sy_grammar_defaults.specs.Defaults.{operators_of}
+use Rattle.sy_forms_laws.specs.Fitting.{Setting, phrase_sort}
+use Rattle.sy_forms_laws.specs.Questions.{with_functions, GoalFits, QuestionFits}
+use Rattle.sy_forms_laws.specs.Right.{Extends}
+use Rattle.sy_scope_rules.specs.Lists.{sorts_of}
+use Rattle.sy_scope_steps.specs.Contexts as contexts
+use Rattle.sy_scope_steps.specs.Contexts.{Context, Definition, Sought, Condition, beginning, condition_at, goal_of}
+
+-- the signatures of the definitions and of the functions to be found
+abbrev pub defined_in : List Definition → List Signature
+defined_in definitions = map contexts.signature_of definitions
+
+abbrev pub signature_of_sought : Sought → Signature
+signature_of_sought f = record { takes = sorts_of f.arguments; gives = f.sort }
+
+abbrev pub wanted_in : List Sought → List Signature
+wanted_in sought = map signature_of_sought sought
+
+-- what terms may name that use values of these sorts
+abbrev pub setting_with : (Op → Bool) → List Signature → List Signature → List Sort → Setting
+setting_with owned defined wanted values = record { scope = with_functions owned defined wanted; values = values; nonterminals = []; constants = []; lets = true }
+
+-- a declared name stands for a variable or a function that is there
+abbrev pub IsDeclared : List Signature → List Signature → List Sort → Entity → Type 0
+IsDeclared defined wanted variables (entity.Variable position sort) = slice_get variables position ≡ Some sort
+IsDeclared defined wanted variables (entity.Function function takes gives) =
+    signature_of (with_functions (λ operator. true) defined wanted) function ≡ Some (record { takes = takes; gives = gives })
+
+-- each body fits under the definitions before it
+abbrev pub FitAfter : (Op → Bool) → List Signature → List Definition → Type 0
+FitAfter owned earlier [] = ⊤
+FitAfter owned earlier (d ∷ definitions) =
+    (phrase_sort (setting_with owned earlier [] (sorts_of d.arguments)) [] d.body ≡ Some d.sort) × FitAfter owned (earlier ++ contexts.signature_of d ∷ []) definitions
+
+-- a truth value, also where more is declared
+abbrev pub ConditionFits : (Op → Bool) → List Signature → List Signature → List Sort → Condition → Type 0
+ConditionFits owned defined wanted variables condition =
+    (later_defined later_wanted : List Signature) (later_variables : List Sort) →
+    Extends defined later_defined → Extends wanted later_wanted → Extends variables later_variables →
+    sort_in (with_functions owned later_defined later_wanted) later_variables (condition_at (length later_variables) condition) ≡ Some sorts.Bool
+
+-- a context of the logic in which all fits
+pub record IsSound (logic : Logic) (context : Context) : Type 0 where
+  pub set : context.logic ≡ Some logic
+  pub abbreviations : All (λ (x : List ℕ × Sort). is_known (defaults.sorts_of logic) x.1 ≡ true) context.sorts
+  pub names : All (λ (x : List ℕ × Entity). is_reserved logic x.0 ≡ false) context.entities
+  pub entities : All (λ (x : List ℕ × Entity). IsDeclared (defined_in context.definitions) (wanted_in context.sought) context.variables x.1) context.entities
+  pub variables : list_all (is_known (defaults.sorts_of logic)) context.variables ≡ true
+  pub definitions : FitAfter (operators_of logic) [] context.definitions
+  pub sought : All (λ (f : Sought). GoalFits (operators_of logic) (defaults.sorts_of logic) (defined_in context.definitions) (goal_of f)) context.sought
+  pub assumptions : All (λ (p : Phrase). phrase_sort (setting_with (operators_of logic) (defined_in context.definitions) [] context.variables) [] p ≡ Some sorts.Bool) context.assumptions
+  pub constraints : All (ConditionFits (operators_of logic) (defined_in context.definitions) (wanted_in context.sought) context.variables) context.constraints
+  pub questions : All (QuestionFits (operators_of logic) (defaults.sorts_of logic)) context.questions
+
+-- before a logic is set there is nothing
+abbrev pub SoundBy : Option Logic → Context → Type 0
+SoundBy None context = context ≡ beginning
+SoundBy (Some logic) context = IsSound logic context
+
+abbrev pub Sound : Context → Type 0
+Sound context = SoundBy context.logic context

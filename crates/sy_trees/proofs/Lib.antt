@@ -1,6 +1,0 @@
-pub mod Lowest
-pub mod Folding
-pub mod Accepting
-pub mod Refuting
-pub mod Judged
-pub mod Bounds

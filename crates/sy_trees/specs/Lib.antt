@@ -1,4 +1,0 @@
-pub mod Exact
-pub mod Combining
-pub mod Judging
-pub mod Unsatisfied

@@ -1,0 +1,73 @@
+-- The command line of the program: `sygus [--mode solve] [--size N] [--rounds N] [--points N] [--bank N]
+-- [--weight N] [--clauses N] [--nodes N] [--pivots N] FILE`.
+use Rattle.std.specs.Prelude.{◌≡◌, ◌≤◌, ℕ, true, List, [], ◌∷◌, Option, Some, None, codes}
+use Rattle.std.specs.Fmt.{decimal}
+use Rattle.clap.specs.Words.{App, Rule, Text, fault_of, first_of, matches_of, new_rule}
+use Rattle.clap.specs.Simple.{new_shape}
+use Rattle.clap.specs.declared.builder.ArgAction.TheVariants.{Set}
+use Rattle.sy_query_limits.specs.declared.Limits.{Limits}
+use Rattle.sygus_words.specs.declared.settings.Mode.{Mode}
+use Rattle.sygus_words.specs.declared.settings.Mode.TheVariants.{Solve}
+use Rattle.sygus_words.specs.declared.settings.Settings.{Settings}
+use Rattle.sygus_words.specs.declared.settings.WordFault.{WordFault}
+use Rattle.sygus_words.specs.declared.settings.WordFault.TheVariants.{Refused, Want}
+
+-- an option that takes one value
+abbrev pub option_rule : Text → Rule
+option_rule name = record (new_rule name) { long = Some name; action = Some Set }
+
+-- the one word that is no option
+abbrev pub file_rule : Rule
+file_rule = record (new_rule (codes "FILE")) { action = Some Set; required = true }
+
+-- the command, as clap reads it, without the built-in flags for help and version
+abbrev pub sygus : App
+sygus = record {
+  top = record (new_shape (codes "sygus")) {
+    rules = option_rule (codes "mode") ∷ option_rule (codes "size") ∷ option_rule (codes "rounds") ∷ option_rule (codes "points") ∷ option_rule (codes "bank")
+        ∷ option_rule (codes "weight") ∷ option_rule (codes "clauses") ∷ option_rule (codes "nodes") ∷ option_rule (codes "pivots") ∷ file_rule ∷ [];
+    disable_help_flag = true;
+    disable_version_flag = true;
+  };
+  subs = [];
+}
+
+-- n is the default where the option isn't there, and otherwise the number of which the text is the decimal spelling, from 1 to greatest
+abbrev pub LimitIs : ℕ → ℕ → Option Text → ℕ → Type 0
+LimitIs default greatest None n = n ≡ default
+LimitIs default greatest (Some text) n = (text ≡ decimal n) × (1 ≤ n) × (n ≤ greatest)
+
+abbrev pub ModeIs : Option Text → Mode → Type 0
+ModeIs None mode = mode ≡ Solve
+ModeIs (Some text) mode = (text ≡ codes "solve") × (mode ≡ Solve)
+
+-- the limits, with their defaults and greatest values
+pub record AreLimits (value : Text → Option Text) (limits : Limits) : Type 0 where
+  pub size : LimitIs 12 64 (value (codes "size")) limits.size
+  pub rounds : LimitIs 256 1024 (value (codes "rounds")) limits.rounds
+  pub points : LimitIs 512 1024 (value (codes "points")) limits.points
+  pub bank : LimitIs 20000 40000 (value (codes "bank")) limits.bank
+  pub weight : LimitIs 400000 1000000 (value (codes "weight")) limits.weight
+  pub clauses : LimitIs 100000 400000 (value (codes "clauses")) limits.clauses
+  pub nodes : LimitIs 4000 8000 (value (codes "nodes")) limits.nodes
+  pub pivots : LimitIs 10000 100000 (value (codes "pivots")) limits.pivots
+
+-- the settings that values of options and FILE give
+pub record AreSettings (value : Text → Option Text) (settings : Settings) : Type 0 where
+  pub mode : ModeIs (value (codes "mode")) settings.mode
+  pub limits : AreLimits value settings.limits
+  pub file : value (codes "FILE") ≡ Some settings.file
+
+-- the value that clap's matches of the words have for an option or for FILE
+abbrev pub value_of : List Text → Text → Option Text
+value_of words name = first_of name (matches_of sygus words)
+
+-- clap refuses nothing, and its matches give the settings
+pub record IsReading (words : List Text) (settings : Settings) : Type 0 where
+  pub accepted : fault_of sygus words ≡ []
+  pub given : AreSettings (value_of words) settings
+
+-- words are refused only where they have no reading
+abbrev pub IsRefused : List Text → WordFault → Type 0
+IsRefused words Refused = (settings : Settings) → IsReading words settings → ⊥
+IsRefused words Want = Unit {0}
