@@ -5,6 +5,7 @@ use Rattle.std.proofs.Common.{ap}
 use Rattle.std.proofs.lemmas.Bool.Decides.{Decides-int_eq}
 use Rattle.sy_terms.specs.Values.{Truth, Whole}
 use Rattle.sy_terms.specs.declared.op.Op.{Op}
+use Rattle.sy_terms.specs.declared.op.Op.TheVariants as ops
 use Rattle.sy_terms.specs.Theories.{in_core, in_ints, sort_of_value}
 use Rattle.sy_terms.specs.declared.sort.Sort.{Sort}
 use Rattle.sy_terms.specs.declared.sort.Sort.TheVariants as sorts
@@ -35,3 +36,6 @@ or-left false b e = cc
 
 pub core : (operator : Op) → in_core operator ≡ true → owned operator ≡ true
 core operator e = or-left (in_core operator) (in_ints operator) e
+
+pub negation : numeric sorts.Int ≡ true → owned ops.Neg ≡ true
+negation e = refl

@@ -37,6 +37,8 @@ impl Theory for IntTheory {
 
     ghost core = { lia.core };
 
+    ghost negation = { lia.negation };
+
     fn owns(op: &Op) -> bool {
         in_core(op) || in_ints(op)
     }

@@ -6,6 +6,7 @@ use Rattle.sy_terms.specs.Values.{Bits, Truth, width, number}
 use Rattle.sy_terms.specs.Theories.{valid, sort_of_value, in_core}
 use Rattle.sy_terms.specs.declared.op.Op.{Op}
 use Rattle.sy_terms.specs.declared.op.Op.TheVariants as ops
+use Rattle.sy_terms.specs.declared.sort.Sort.TheVariants as sorts
 use Rattle.sy_meaning_words.specs.Vectors.{vector, owned, is_bits}
 use Rattle.sy_meaning_words.specs.declared.word.Word.{Word}
 
@@ -47,3 +48,6 @@ core ops.Equal h = refl
 core ops.Distinct h = refl
 core ops.Ite h = refl
 core _ h = cc
+
+pub negation : is_bits sorts.Int ≡ true → owned ops.Neg ≡ true
+negation e = cc

@@ -80,6 +80,8 @@ impl Theory for BvTheory {
     ghost sorted = { law.sorted };
 
     ghost core = { law.core };
+
+    ghost negation = { law.negation };
 }
 
 /// Whether the operator is one of Ints'.

@@ -6,6 +6,7 @@ pub mod Operators
 pub mod Values
 pub mod Sorts
 pub mod Theories
+pub mod Logics
 pub mod Meaning
 pub mod Fitting
 pub mod Definitions

@@ -27,7 +27,9 @@ pub trait Theory {
     ghost use Rattle.sy_terms.specs.Denoted.{val_of, vals_of, IsSorted, Applies};
     ghost use Rattle.sy_terms.specs.Pairs.{ArePairsSorted, ArePairsApplied, IsFirstUnfit};
     ghost use Rattle.sy_terms.specs.declared.op.Op.{Op};
+    ghost use Rattle.sy_terms.specs.declared.op.Op.TheVariants as ops;
     ghost use Rattle.sy_terms.specs.declared.sort.Sort.{Sort};
+    ghost use Rattle.sy_terms.specs.declared.sort.Sort.TheVariants as sorts;
 
     /// What a number stands for.
     ghost denotes: { Self.Num → Val };
@@ -91,4 +93,7 @@ pub trait Theory {
 
     /// The operators of Core belong to every logic.
     ghost core: { (op : Op) → in_core op ≡ true → owned op ≡ true };
+
+    /// A logic with integers has their negation.
+    ghost negation: { numeric sorts.Int ≡ true → owned ops.Neg ≡ true };
 }
