@@ -10,6 +10,7 @@ ghost use Rattle.sy_terms.specs.declared.op.Op.TheVariants as ops;
 ghost use Rattle.sy_terms.specs.declared.sort.Sort.TheVariants as sorts;
 ghost use Rattle.sy_bank_offer.specs.Tasks.{ArePointsOf};
 
+use bench_words::{next, number};
 use std::alloc::Global;
 use std::env;
 use std::process::ExitCode;
@@ -17,13 +18,6 @@ use sy_bank::{Bank, BankEnd, build};
 use sy_grammar_base::{Grammar, Non, Part, Parts, Rule, well_formed};
 use sy_meaning_words::BvTheory;
 use sy_terms::{Op, Seq, Sort, Theory, Value, Values, Want};
-
-/// The state of a random source after this one.
-fn next(state: u64) -> u64 {
-    state
-        .wrapping_mul(6364136223846793005)
-        .wrapping_add(1442695040888963407)
-}
 
 /// A random value of the sort, from the upper half of the state.
 fn value<T: Theory>(sort: Sort, state: u64) -> Option<Value<T::Num>>
@@ -178,14 +172,6 @@ fn measured_vectors(
     ];
     let found = measured::<BvTheory>(alloc, Sort::Bits(32), &operators, count, upto, cap)?;
     Ok(found)
-}
-
-/// The number that a word is, or 0.
-fn number(words: &[String], place: usize) -> u32 {
-    match words.get(place) {
-        Some(word) => word.parse::<u32>().unwrap_or(0),
-        None => 0,
-    }
 }
 
 fn main(rt: HostRuntime) -> ExitCode {

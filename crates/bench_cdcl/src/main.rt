@@ -9,6 +9,7 @@ ghost use Rattle.std.specs.Prelude.{◌<◌, ◌^◌, length};
 ghost use Rattle.sy_cdcl.specs.Answer.{VarsFit};
 
 use crate::dimacs::read_formula;
+use bench_words::word;
 use std::alloc::Global;
 use std::process::ExitCode;
 use std::time::CpuClock;
@@ -99,14 +100,6 @@ fn run(rt: &HostRuntime, name: &str, fuel: u32, timed: bool) -> Result<u8, Want>
     };
     measure(rt, &cnf, fuel, timed)?;
     Ok(0)
-}
-
-/// The word at a place, or an empty one.
-fn word(words: &[String], place: usize) -> &str {
-    match words.get(place) {
-        Some(word) => word.as_str(),
-        None => "",
-    }
 }
 
 fn main(rt: HostRuntime) -> ExitCode {

@@ -5,11 +5,11 @@
 
 ghost use Rattle.std.specs.Prelude.{◌<◌};
 
+use bench_words::number;
 use std::alloc::Global;
 use std::env;
 use std::process::ExitCode;
-use sy_grammar_base::{Grammar, Non, Part, Parts, Rule, well_formed};
-use sy_grammar_derive::derive;
+use sy_grammar::{Grammar, Non, Part, Parts, Rule, derive, well_formed};
 use sy_meaning_integers::IntTheory;
 use sy_terms::{Op, Seq, Sort, Term, Terms, Value, Want};
 
@@ -96,14 +96,6 @@ fn measured(
     let second = body(alloc, nodes, 1)?;
     let found = derived(alloc, nons, &first, &second)?;
     Ok(found)
-}
-
-/// The number that a word is, or 0.
-fn number(words: &[String], place: usize) -> u32 {
-    match words.get(place) {
-        Some(word) => word.parse::<u32>().unwrap_or(0),
-        None => 0,
-    }
 }
 
 fn main(rt: HostRuntime) -> ExitCode {

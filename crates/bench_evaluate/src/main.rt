@@ -9,6 +9,7 @@ ghost use Rattle.sy_terms.specs.Denoted.{val_of, vals_of, AreValid};
 ghost use Rattle.sy_terms.specs.Theories.{valid, sort_of_value};
 
 use crate::random::{Kit, random_term};
+use bench_words::number;
 use std::alloc::Global;
 use std::env;
 use std::process::ExitCode;
@@ -109,14 +110,6 @@ fn measured_in(
             less: Op::BvUlt,
         };
         measured::<BvTheory>(alloc, &kit, leaves, rounds)
-    }
-}
-
-/// The number that a word is, or 0.
-fn number(words: &[String], place: usize) -> u32 {
-    match words.get(place) {
-        Some(word) => word.parse::<u32>().unwrap_or(0),
-        None => 0,
     }
 }
 

@@ -1,4 +1,5 @@
 // Terms that look random.
+use bench_words::next;
 use std::alloc::Global;
 use sy_terms::{Op, Sort, Term, Terms, Theory, Value, Want};
 
@@ -8,13 +9,6 @@ pub(crate) struct Kit {
     pub sort: Sort,
     pub binary: &'static [Op],
     pub less: Op,
-}
-
-/// The next number of a sequence that looks random.
-fn next(state: u64) -> u64 {
-    state
-        .wrapping_mul(6364136223846793005)
-        .wrapping_add(1442695040888963407)
 }
 
 /// A variable or a small number.

@@ -6,6 +6,7 @@
 
 ghost use Rattle.std.specs.Prelude.{◌≤◌, length};
 
+use bench_words::word;
 use std::alloc::Global;
 use std::env;
 use std::process::ExitCode;
@@ -127,14 +128,6 @@ fn run(rt: &HostRuntime, name: &str, clauses: u32) -> Result<u8, Want> {
     };
     let fitted = measure(rt, &query, clauses)?;
     Ok(if fitted { 0 } else { REFUSED })
-}
-
-/// The word at a place, or an empty one.
-fn word(words: &[String], place: usize) -> &str {
-    match words.get(place) {
-        Some(word) => word.as_str(),
-        None => "",
-    }
 }
 
 fn main(rt: HostRuntime) -> ExitCode {

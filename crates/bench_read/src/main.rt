@@ -5,6 +5,7 @@
 
 ghost use Rattle.std.specs.Prelude.{◌<◌, ◌≤◌, length};
 
+use bench_words::number;
 use std::alloc::{AllocError, Global};
 use std::env;
 use std::process::ExitCode;
@@ -54,14 +55,6 @@ fn constraints_in(alloc: Global, bytes: &[u8]) -> usize
         }
     }
     count
-}
-
-/// The number that a word is, or 0.
-fn number(words: &[String], place: usize) -> u32 {
-    match words.get(place) {
-        Some(word) => word.parse::<u32>().unwrap_or(0),
-        None => 0,
-    }
 }
 
 /// Whether the first word asks for the whole reading.

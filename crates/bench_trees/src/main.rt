@@ -5,6 +5,7 @@
 // accepted, and nothing else.
 #![tactic(auto)]
 
+use bench_words::number;
 use std::alloc::Global;
 use std::env;
 use std::process::ExitCode;
@@ -133,14 +134,6 @@ fn measured(
     let open = matches!(known_under(alloc, &large, &path)?, Known::Undecided(_));
     let accepted = check_tree(alloc, &small, &tree)?;
     Ok(Some((open, accepted)))
-}
-
-/// The number that a word is, or 0.
-fn number(words: &[String], place: usize) -> u32 {
-    match words.get(place) {
-        Some(word) => word.parse::<u32>().unwrap_or(0),
-        None => 0,
-    }
 }
 
 fn main(rt: HostRuntime) -> ExitCode {

@@ -4,18 +4,12 @@
 
 ghost use Rattle.std.specs.Prelude.{◌<◌};
 
+use bench_words::{next, number};
 use std::alloc::Global;
 use std::env;
 use std::process::ExitCode;
 use sy_seq::{Seq, Want};
 use sy_unify::{Choice, Joined, unify};
-
-/// The next number of a sequence that looks random.
-fn next(state: u64) -> u64 {
-    state
-        .wrapping_mul(6364136223846793005)
-        .wrapping_add(1442695040888963407)
-}
 
 /// So many rows of so many truth values, one in `sparse` of which is true.
 fn rows(
@@ -58,14 +52,6 @@ fn joined(alloc: Global, points: u32, count: u32, tests: u32) -> Result<Option<u
     match unify(alloc, points, &goods, &conditions)? {
         Joined::Tree(tree) => Ok(Some(leaves(&tree))),
         Joined::Uncovered(_) => Ok(None),
-    }
-}
-
-/// The number that a word is, or 0.
-fn number(words: &[String], place: usize) -> u32 {
-    match words.get(place) {
-        Some(word) => word.parse::<u32>().unwrap_or(0),
-        None => 0,
     }
 }
 

@@ -1,3 +1,4 @@
 pub mod Steps
 pub mod Ends
 pub mod Places
+pub use Rattle.sy_bank_offer.proofs.Points

@@ -6,7 +6,7 @@ ghost use Rattle.sy_terms.specs.Meaning.{functions};
 ghost use Rattle.sy_grammar_base.specs.Formed.{is_formed};
 ghost use Rattle.sy_grammar_base.specs.Grown.{syntax_from};
 ghost use Rattle.sy_bank_rows.specs.Banks.{count};
-ghost use Rattle.sy_bank_offer.specs.Tasks.{HasNegation, ArePointsOf};
+ghost use Rattle.sy_bank_rows.specs.Rows.{ArePointsOf};
 ghost use Rattle.sy_bank.specs.Answers.{OnBank, IfFull, IsBuilt};
 ghost use Rattle.sy_bank.specs.Bank.{merged_of};
 ghost use Rattle.sy_bank.specs.Promised.{IsBank, IsWhole, IsFull, Stays};
@@ -41,7 +41,6 @@ pub fn build<T: Theory>(
     cap: u32,
 ) -> Result<Bank<T>, BankEnd<T>>
     requires definitions { DefinitionsFit T.owned T.denotes defs.now }
-    requires negation { HasNegation T.numeric (scope_of T.owned defs.now) }
     requires formed { is_formed T.numeric (scope_of T.owned defs.now) (syntax_from T.denotes grammar.now) ≡ true }
     requires points { ArePointsOf grammar.now.args (map (vals_of T.denotes) points.now) }
     ensures bank { OnBank T.denotes result (IsBank (syntax_from T.denotes grammar.now) (functions (bodies T.denotes defs.now)) (vals_of T.denotes pool.now) (map (vals_of T.denotes) points.now) upto cap) }
@@ -73,7 +72,6 @@ impl<T: Theory> Bank<T> {
         cap: u32,
     ) -> Result<Bank<T>, BankEnd<T>>
         requires definitions { DefinitionsFit T.owned T.denotes defs.now }
-        requires negation { HasNegation T.numeric (scope_of T.owned defs.now) }
         requires formed { is_formed T.numeric (scope_of T.owned defs.now) (syntax_from T.denotes grammar.now) ≡ true }
         requires points { ArePointsOf grammar.now.args (merged_of T.denotes self).points }
         requires built { IsBuilt T.denotes (scope_of T.owned defs.now) (syntax_from T.denotes grammar.now) (functions (bodies T.denotes defs.now)) (vals_of T.denotes pool.now) self }

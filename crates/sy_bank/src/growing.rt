@@ -9,7 +9,7 @@ ghost use Rattle.sy_grammar_base.specs.Grown.{syntax_from};
 ghost use Rattle.sy_bank_rows.specs.Banks.{count};
 ghost use Rattle.sy_bank_rows.specs.Stored.{lost_of};
 ghost use Rattle.sy_bank_level.specs.Task.{level_of, levels_of};
-ghost use Rattle.sy_bank_offer.specs.Tasks.{HasNegation, ArePointsOf};
+ghost use Rattle.sy_bank_rows.specs.Rows.{ArePointsOf};
 ghost use Rattle.sy_bank.specs.Answers.{OnBank, IfFull, IsBuilt};
 ghost use Rattle.sy_bank.specs.Bank.{merged_of};
 ghost use Rattle.sy_bank.specs.Promised.{IsBank, IsWhole, IsFull, IsNext, Stays};
@@ -55,7 +55,6 @@ impl<T: Theory> Bank<T> {
         cap: u32,
     ) -> Result<Bank<T>, BankEnd<T>>
         requires definitions { DefinitionsFit T.owned T.denotes defs.now }
-        requires negation { HasNegation T.numeric (scope_of T.owned defs.now) }
         requires formed { is_formed T.numeric (scope_of T.owned defs.now) (syntax_from T.denotes grammar.now) ≡ true }
         requires points { ArePointsOf grammar.now.args (merged_of T.denotes self).points }
         requires built { IsBuilt T.denotes (scope_of T.owned defs.now) (syntax_from T.denotes grammar.now) (functions (bodies T.denotes defs.now)) (vals_of T.denotes pool.now) self }
@@ -119,7 +118,6 @@ impl<T: Theory> Bank<T> {
         cap: u32,
     ) -> Result<Bank<T>, BankEnd<T>>
         requires definitions { DefinitionsFit T.owned T.denotes defs.now }
-        requires negation { HasNegation T.numeric (scope_of T.owned defs.now) }
         requires formed { is_formed T.numeric (scope_of T.owned defs.now) (syntax_from T.denotes grammar.now) ≡ true }
         requires points { ArePointsOf grammar.now.args (merged_of T.denotes self).points }
         requires built { IsBuilt T.denotes (scope_of T.owned defs.now) (syntax_from T.denotes grammar.now) (functions (bodies T.denotes defs.now)) (vals_of T.denotes pool.now) self }

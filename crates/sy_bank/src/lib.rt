@@ -5,8 +5,7 @@ mod bank;
 mod building;
 mod growing;
 mod rules;
-#[cfg(test)]
-mod tests;
 
 pub use bank::{Bank, BankEnd};
 pub use building::build;
+pub use sy_bank_rows::{Dropped, Kept};

@@ -1,5 +1,5 @@
 -- Kept terms of the size along chain rules, while nothing new is kept.
-use Rattle.std.proofs.Common.{◌≡◌, ℕ, ◌+◌, ◌<◌, ◌≤◌, List, [], ◌∷◌, length, refl, ap, sym, ◌∙◌, Option, Some, None, slice_get, arith, subst, Bool, map, inl, inr, ◌⊎◌}
+use Rattle.std.proofs.Common.{◌≡◌, ℕ, ◌+◌, ◌<◌, ◌≤◌, List, [], ◌∷◌, length, refl, ap, sym, ◌∙◌, Option, Some, None, slice_get, arith, subst, Bool, map, inl, inr}
 use Rattle.std.specs.Prelude.{◌^◌, slice_index_or}
 use Rattle.std.specs.Option.{option_map}
 use Rattle.std.proofs.lemmas.Option.{same_Some, slice_get_within, slice_get-map}
@@ -17,7 +17,7 @@ use Rattle.std.proofs.lemmas.List.{length-map}
 use Rattle.sy_bank_rows.specs.Banks.{Entry, kept_at, IsKept}
 use Rattle.sy_bank_rows.specs.Covering.{terms}
 use Rattle.sy_bank_level.specs.Filling.{World, State, all, IsRight, IsSteady, Grows, IsDone}
-use Rattle.sy_bank_level.proofs.Kept.{kept_at-last}
+use Rattle.sy_bank_level.proofs.Kept.{below-or-last, kept_at-last}
 use Rattle.sy_bank_level.proofs.Keeping.{done-on}
 use Rattle.sy_bank_offer.specs.Tasks.{IsSet}
 use Rattle.sy_bank_offer.proofs.Given.{found-done}
@@ -86,9 +86,6 @@ passed-found w s n to place size here steady is at found entry same =
 abbrev pub AreDoneBelow : World → List Entry → State → ℕ → ℕ → ℕ → Type 0
 AreDoneBelow w entries s n size count = (i : ℕ) (entry : Entry) → i < count → slice_get entries i ≡ Some entry → IsDone w s n size entry.term
 
-split : (i j : ℕ) → i < j + 1 → (i < j) ⊎ (i ≡ j)
-split i j below = grind arith
-
 -- where nothing new is kept in two steps, none is in the first and the second
 pub unchanged : (w : World) (r s t : State) → Grows w r s → Grows w s t → r.count ≡ t.count → (r.count ≡ s.count) × (s.count ≡ t.count)
 unchanged w r s t one two same = (omega (arith, one.counted, two.counted, same), omega (arith, one.counted, two.counted, same))
@@ -99,7 +96,7 @@ pub below-next : (w : World) (r s t : State) (n to size count : ℕ) → Grows w
     r.count ≡ t.count → AreDoneBelow w (slice_index_or r.fresh to []) t n size (count + 1)
 below-next w r s t n to size count one two before done same i entry below at =
     let still = unchanged w r s t one two same in
-    elim (split i count below) [
+    elim (below-or-last i count below) [
       | inl less ↦ done-on w s t n size entry.term two (before still.0 i entry less at)
       | inr last ↦ done entry (ap (λ (fresh : List (List Entry)). slice_get (slice_index_or fresh to []) count) (sym (one.same still.0)) ∙ ap (slice_get (slice_index_or r.fresh to [])) (sym last) ∙ at)
     ]
@@ -133,7 +130,7 @@ pub rules-next : (w : World) (r s t : State) (n size count : ℕ) → Grows w r 
     r.count ≡ t.count → ArePassedBelow w t n size (count + 1)
 rules-next w r s t n size count one two before done same rule to below at =
     let still = unchanged w r s t one two same in
-    elim (split rule count below) [
+    elim (below-or-last rule count below) [
       | inl less ↦ passed-on w s t n to size two still.1 (before still.0 rule to less at)
       | inr last ↦ done still.1 to (ap (rule_at w.syntax n) (sym last) ∙ at)
     ]
@@ -158,7 +155,7 @@ pub nonterminals-next : (w : World) (r s t : State) (size count : ℕ) → Grows
     r.count ≡ t.count → AllPassedBelow w t size (count + 1)
 nonterminals-next w r s t size count one two before done same n rule to below at =
     let still = unchanged w r s t one two same in
-    elim (split n count below) [
+    elim (below-or-last n count below) [
       | inl less ↦ passed-on w s t n to size two still.1 (before still.0 n rule to less at)
       | inr last ↦ subst (λ k. IsPassed w t k to size) (sym last) (done still.1 rule to (ap (λ k. rule_at w.syntax k rule) (sym last) ∙ at))
     ]

@@ -3,7 +3,5 @@
 
 mod chained;
 mod passing;
-#[cfg(test)]
-mod tests;
 
 pub use passing::pass_chains;

@@ -16,7 +16,7 @@ use Rattle.sy_bank_rows.specs.Covering as covering
 use Rattle.sy_bank_rows.specs.Shared.{term_from}
 use Rattle.sy_bank_rows.specs.declared.kept.Kept.{Kept}
 use Rattle.sy_bank_rows.proofs.Fillings.{filled-take, occurring-next}
-use Rattle.sy_bank_columns.specs.Chosen.{chosen_of}
+use Rattle.sy_bank_rows.specs.Stored.{chosen_of}
 
 -- one pattern of a list fits where the list does
 pub fits-at : {T N : Type 0} (number : N → Val) (scope : Scope) (ss : List Sort) (parts : List (Part T N)) (i : ℕ) (part : Part T N) (terms : List Expr) (sorts : List Sort) →

@@ -28,10 +28,10 @@ use Rattle.sy_grammar_base.specs.declared.part.Parts.{Parts}
 use denote.Ref.{Bor}
 use Rattle.sy_bank_rows.specs.Rows.{IsLostAt}
 use Rattle.sy_bank_rows.specs.Covering as covering
-use Rattle.sy_bank_rows.specs.Stored.{entry_of}
+use Rattle.sy_bank_rows.specs.Stored.{entry_of, chosen_of}
 use Rattle.sy_bank_rows.specs.declared.kept.Kept.{Kept}
 use Rattle.sy_bank_rows.specs.Columns.{column, constants, FitsAt, FitAt, HasRow, HaveRows}
-use Rattle.sy_bank_columns.specs.Chosen.{ArePoints, AreRows, chosen_of}
+use Rattle.sy_bank_columns.specs.Chosen.{ArePoints, AreRows}
 use Rattle.sy_bank_columns.specs.declared.ends.RowEnd.{RowEnd}
 use Rattle.sy_bank_columns.specs.declared.ends.RowEnd.TheVariants.{Lost, Want}
 use Rattle.sy_bank_rows.proofs.Fillings.{filled-Constant, filled-Variable, filled-Occurrence, filled-Apply, filled-Invoke}

@@ -9,12 +9,12 @@ use Rattle.sy_terms.specs.Denoted.{expr_of}
 use Rattle.sy_terms.specs.declared.term.Term.{Term}
 use Rattle.sy_grammar_base.specs.Trees as trees
 use Rattle.sy_bank_rows.specs.Covering.{terms}
-use Rattle.sy_bank_rows.specs.Stored.{entry_of}
+use Rattle.sy_bank_rows.specs.Stored.{entry_of, chosen_of}
 use Rattle.sy_bank_rows.specs.Shared.{term_from, tree_from, terms_from, trees_from}
 use Rattle.sy_bank_rows.proofs.Copies.{with_last, terms_from-last, trees_from-last}
 use Rattle.sy_bank_rows.specs.declared.grown.Grown.{Grown}
 use Rattle.sy_bank_rows.specs.declared.kept.Kept.{Kept}
-use Rattle.sy_bank_columns.specs.Chosen.{chosen_of, children}
+use Rattle.sy_bank_columns.specs.Chosen.{children}
 
 exprs-last : {T N : Type 0} (number : N → Val) (xs : List (Term T N)) (last : Term T N) → map (expr_of number) (xs ++ last ∷ []) ≡ map (expr_of number) xs ++ expr_of number last ∷ []
 exprs-last number [] last = refl

@@ -19,7 +19,7 @@ use Rattle.sy_bank_rows.specs.Covering.{terms}
 use Rattle.sy_bank_rows.specs.Columns.{FitsAt, HasRow, HaveRows}
 use Rattle.sy_bank_rows.specs.declared.kept.Kept.{Kept}
 use Rattle.sy_bank_rows.proofs.Fillings.{all_filled-none}
-use Rattle.sy_bank_columns.specs.Chosen.{chosen_of}
+use Rattle.sy_bank_rows.specs.Stored.{chosen_of}
 use Rattle.sy_bank_columns.proofs.Forms.{apply-sorted, apply-row, apply-lost}
 use Rattle.sy_bank_columns.proofs.Pieces.{rows-none, rows-next}
 

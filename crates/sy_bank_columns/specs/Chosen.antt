@@ -1,6 +1,5 @@
 -- Kept terms that are chosen for nonterminals.
-use Rattle.std.specs.Prelude.{ℕ, ◌≡◌, true, List, [], ◌∷◌, All, map, slice_get, Some}
-use denote.Ref.{Bor}
+use Rattle.std.specs.Prelude.{ℕ, ◌≡◌, true, List, [], ◌∷◌, All, slice_get, Some}
 use Rattle.sy_terms.specs.Values.{Val}
 use Rattle.sy_terms.specs.Theories.{valid}
 use Rattle.sy_terms.specs.Meaning.{Function}
@@ -8,12 +7,8 @@ use Rattle.sy_terms.specs.Fitting.{Scope}
 use Rattle.sy_grammar_base.specs.Trees as trees
 use Rattle.sy_grammar_base.specs.Trees.{Trees}
 use Rattle.sy_bank_rows.specs.Banks.{Entry}
-use Rattle.sy_bank_rows.specs.Stored.{entry_of}
-use Rattle.sy_bank_rows.specs.declared.kept.Kept.{Kept}
+pub use Rattle.sy_bank_rows.specs.Stored.{chosen_of}
 use Rattle.sy_bank_rows.specs.Columns.{HasRow}
-
-abbrev pub chosen_of : {T N : Type 0} → (N → Val) → List (Bor (Kept T N)) → List Entry
-chosen_of number chosen = map (λ kept. entry_of number kept.now) chosen
 
 -- each kept term has its row
 abbrev pub AreRows : Scope → List Function → List (List Val) → List Entry → Type 0

@@ -6,7 +6,8 @@ ghost use Rattle.sy_grammar_base.specs.Written.{pattern_of};
 ghost use Rattle.sy_grammar_base.specs.Trees.{Node};
 ghost use Rattle.sy_bank_rows.specs.Covering.{terms};
 ghost use Rattle.sy_bank_rows.specs.Shared.{term_from, tree_from};
-ghost use Rattle.sy_bank_columns.specs.Chosen.{chosen_of, children};
+ghost use Rattle.sy_bank_rows.specs.Stored.{chosen_of};
+ghost use Rattle.sy_bank_columns.specs.Chosen.{children};
 
 use std::alloc::Global;
 use std::rc::Rc;

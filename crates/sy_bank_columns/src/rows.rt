@@ -12,7 +12,8 @@ ghost use Rattle.sy_grammar_base.specs.Written.{pattern_of, patterns_of};
 ghost use Rattle.sy_bank_rows.specs.Rows.{IsLostAt};
 ghost use Rattle.sy_bank_rows.specs.Covering.{terms};
 ghost use Rattle.sy_bank_rows.specs.Columns.{FitsAt, FitAt, HasRow, HaveRows};
-ghost use Rattle.sy_bank_columns.specs.Chosen.{chosen_of, AreRows, ArePoints};
+ghost use Rattle.sy_bank_rows.specs.Stored.{chosen_of};
+ghost use Rattle.sy_bank_columns.specs.Chosen.{AreRows, ArePoints};
 ghost use Rattle.sy_bank_columns.specs.Lent.{values_of};
 ghost use Rattle.sy_bank_columns.specs.Found.{WhereLost, IsOneLostAt};
 

@@ -1,5 +1,5 @@
 -- What rules have given while the kept terms of a size are found, and what is filled once all rules have.
-use Rattle.std.proofs.Common.{◌≡◌, ℕ, zero, suc, ◌+◌, ◌<◌, List, [], ◌∷◌, length, refl, ap, sym, ◌∙◌, Some, None, Option, slice_get, arith, subst, ◌⊎◌, inl, inr}
+use Rattle.std.proofs.Common.{◌≡◌, ℕ, zero, suc, ◌+◌, ◌<◌, List, [], ◌∷◌, length, refl, ap, sym, ◌∙◌, Some, None, Option, slice_get, arith, subst, inl, inr}
 use Rattle.std.proofs.lemmas.Option.{none-some}
 use Rattle.sy_terms.specs.Expr.{Expr}
 use Rattle.sy_grammar_base.specs.Patterns.{Pattern, Constant, Variable, Occurrence, Apply, Invoke, occurring, filled, own_size}
@@ -7,7 +7,7 @@ use Rattle.sy_grammar_base.specs.Trees.{Production, Template, EachConstant, Each
 use Rattle.sy_bank_rows.specs.Banks.{Entry, IsKept}
 use Rattle.sy_bank_rows.specs.Covering.{AreKept, sizes, terms, Offers}
 use Rattle.sy_bank_level.specs.Filling.{World, State, all, IsSteady, Grows, IsDone}
-use Rattle.sy_bank_level.proofs.Kept.{kept_at-before}
+use Rattle.sy_bank_level.proofs.Kept.{below-or-last, kept_at-before}
 use Rattle.sy_bank_level.proofs.Keeping.{done-on}
 use Rattle.sy_bank_growth_laws.specs.Tried.{IsTried, AreTried, AllAreTried, IsFilled}
 
@@ -102,22 +102,14 @@ pub filled-all : (w : World) (s : State) (size : ℕ) → IsSteady w s → size 
 filled-all w s size steady sized tried passed n r term offers = filled-by w s size n r (rule_at w.syntax n r) term steady sized tried passed refl offers
 
 -- one more nonterminal, and one more rule
-less_or_last : (n bound : ℕ) → n < bound + 1 → (n < bound) ⊎ (n ≡ bound)
-less_or_last n zero below = inr (omega (arith, below))
-less_or_last zero (suc bound) below = inl (omega arith)
-less_or_last (suc n) (suc bound) below = elim (less_or_last n bound (omega (arith, below))) [
-  | inl h ↦ inl (omega (arith, h))
-  | inr h ↦ inr (omega (arith, h))
-]
-
 pub all-tried-more : (w : World) (s t : State) (size count : ℕ) → Grows w s t → AllAreTried w s size count → ((rule : ℕ) → IsTried w t size count rule) → AllAreTried w t size (count + 1)
-all-tried-more w s t size count grows tried last n r within = elim (less_or_last n count within) [
+all-tried-more w s t size count grows tried last n r within = elim (below-or-last n count within) [
   | inl less ↦ tried-on w s t size n r grows (tried n r less)
   | inr same ↦ subst (λ (k : ℕ). IsTried w t size k r) (sym same) (last r)
 ]
 
 pub rules-tried-more : (w : World) (s t : State) (size n count : ℕ) → Grows w s t → AreTried w s size n count → IsTried w t size n count → AreTried w t size n (count + 1)
-rules-tried-more w s t size n count grows tried last r within = elim (less_or_last r count within) [
+rules-tried-more w s t size n count grows tried last r within = elim (below-or-last r count within) [
   | inl less ↦ tried-on w s t size n r grows (tried r less)
   | inr same ↦ subst (λ (k : ℕ). IsTried w t size n k) (sym same) last
 ]

@@ -1,4 +1,3 @@
 pub mod ConstantSizes
 pub mod Digits
 pub mod Offered
-pub mod Rules

@@ -1,5 +1,5 @@
 -- What holds of leaves: of the tree and the term of one, and of all that a rule gives.
-use Rattle.std.proofs.Common.{◌≡◌, ◌≢◌, ℕ, zero, suc, ◌+◌, ◌<◌, ◌≤◌, List, [], ◌∷◌, length, refl, ap, sym, ◌∙◌, Option, Some, None, slice_get, arith, subst, Bool, true, false, map, pos, inl, inr, ◌⊎◌}
+use Rattle.std.proofs.Common.{◌≡◌, ◌≢◌, ℕ, zero, suc, ◌+◌, ◌<◌, ◌≤◌, List, [], ◌∷◌, length, refl, ap, sym, ◌∙◌, Option, Some, None, slice_get, arith, subst, Bool, true, false, map, pos, inl, inr}
 use Rattle.std.specs.Prelude.{ℤ, neg_ℤ, ◌&&◌, ◌==◌, MatchBool, if◌then◌else◌}
 use Rattle.std.proofs.lemmas.Option.{none-some, same_Some, slice_get_within}
 use Rattle.sy_terms.specs.Values.{Val, Truth}
@@ -18,6 +18,7 @@ use Rattle.sy_grammar_base.specs.Trees.{Nonterminal, rule_of, magnitude, Tree, D
 use Rattle.sy_bank_rows.specs.Banks.{Entry, IsKept}
 use Rattle.sy_bank_rows.specs.Columns.{HasRow}
 use Rattle.sy_bank_level.specs.Filling.{World, State, all, IsRight, IsSteady, Grows, IsDone}
+use Rattle.sy_bank_level.proofs.Kept.{below-or-last}
 use Rattle.sy_bank_level.proofs.Keeping.{done-on}
 use Rattle.sy_bank_offer.proofs.Given.{has-row, found-done}
 use Rattle.sy_bank_leaves.specs.Leaves.{IsLeafRule, GivesDone, IsGiven, IsDoneFor, IsDoneAt}
@@ -65,12 +66,9 @@ gives w s n sort size done term offers =
 abbrev pub ArePooled : {N : Type 0} → (N → Val) → World → State → ℕ → Sort → ℕ → List (Value N) → ℕ → Type 0
 ArePooled {N} number w s n sort size pool count = (i : ℕ) (item : Value N) → i < count → slice_get pool i ≡ Some item → IsDoneAt w s n sort size (whole_number (val_of number item))
 
-split : (i j : ℕ) → i < j + 1 → (i < j) ⊎ (i ≡ j)
-split i j below = grind arith
-
 pub pooled-next : {N : Type 0} (number : N → Val) (w : World) (s t : State) (n : ℕ) (sort : Sort) (size : ℕ) (pool : List (Value N)) (count : ℕ) (last : Value N) → Grows w s t →
     ArePooled number w s n sort size pool count → slice_get pool count ≡ Some last → IsDoneAt w t n sort size (whole_number (val_of number last)) → ArePooled number w t n sort size pool (count + 1)
-pooled-next number w s t n sort size pool count last grows before at done i item below here = elim (split i count below) [
+pooled-next number w s t n sort size pool count last grows before at done i item below here = elim (below-or-last i count below) [
   | inl less ↦ done-at w s t n sort size (whole_number (val_of number item)) grows (before i item less here)
   | inr same ↦
       let equal : last ≡ item = same_Some last item (sym at ∙ ap (slice_get pool) (sym same) ∙ here) in
@@ -102,7 +100,7 @@ AreArgued w s n sort size count = (position : ℕ) (found : Sort) → position <
 
 pub argued-next : (w : World) (s t : State) (n : ℕ) (sort : Sort) (size count : ℕ) (last : Sort) → Grows w s t → AreArgued w s n sort size count → slice_get w.syntax.arguments count ≡ Some last →
     (same_sort sort last ≡ true → IsDone w t n size (expr.Variable count)) → AreArgued w t n sort size (count + 1)
-argued-next w s t n sort size count last grows before at done position found below here is = elim (split position count below) [
+argued-next w s t n sort size count last grows before at done position found below here is = elim (below-or-last position count below) [
   | inl less ↦ done-on w s t n size (expr.Variable position) grows (before position found less here is)
   | inr same ↦
       let equal : found ≡ last = same_Some found last (sym here ∙ ap (slice_get w.syntax.arguments) same ∙ at) in

@@ -7,8 +7,6 @@ mod numbers;
 mod offering;
 mod positions;
 mod rule;
-#[cfg(test)]
-mod tests;
 
 pub use numbers::constants;
 pub use positions::variables;

@@ -8,6 +8,10 @@ use Rattle.sy_bank_rows.specs.Banks.{kept_at, count, count_of}
 abbrev pub pushed : {X : Type 0} → List (List X) → ℕ → X → List (List X)
 pushed lists m x = slice_set lists m (slice_index_or lists m [] ++ x ∷ [])
 
+-- one less than the next number is less than this one, or this one
+pub below-or-last : (i j : ℕ) → i < j + 1 → (i < j) ⊎ (i ≡ j)
+below-or-last i j below = grind arith
+
 pub at-end : {X : Type 0} (xs : List X) (i : ℕ) (x y : X) → slice_get (xs ++ x ∷ []) i ≡ Some y → (slice_get xs i ≡ Some y) ⊎ ((i ≡ length xs) × (y ≡ x))
 at-end [] zero x y at = inr (refl, cc)
 at-end [] (suc i) x y at = absurd (none-some y at)

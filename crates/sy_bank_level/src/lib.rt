@@ -7,8 +7,6 @@ mod level;
 mod rows;
 mod table;
 mod task;
-#[cfg(test)]
-mod tests;
 
 pub use filling::{Filling, Stop};
 pub use hash::row_hash;

@@ -1,11 +1,13 @@
 -- What holds of a term that a rule gives of kept terms of lesser sizes.
-use Rattle.std.proofs.Common.{◌≡◌, ℕ, zero, suc, ◌+◌, ◌≤◌, List, [], ◌∷◌, length, refl, ap, sym, ◌∙◌, Some, slice_get, map, arith, subst, Bool, length-append}
+use Rattle.std.proofs.Common.{◌≡◌, ℕ, zero, suc, ◌+◌, ◌≤◌, List, [], ◌∷◌, length, refl, ap, sym, ◌∙◌, Some, slice_get, map, arith, subst, Bool, true, length-append}
 use Rattle.std.specs.Prelude.{slice_index_or}
 use Rattle.std.proofs.lemmas.Option.{none-some, slice_get-get_or}
 use Rattle.sy_terms.specs.Values.{Val}
 use Rattle.sy_terms.specs.Expr.{Expr}
 use Rattle.sy_terms.specs.Meaning.{meaning, value_at_position}
+use Rattle.sy_terms.specs.declared.op.Op.TheVariants as ops
 use Rattle.sy_terms.specs.declared.sort.Sort.{Sort}
+use Rattle.sy_terms.specs.declared.sort.Sort.TheVariants as sorts
 use Rattle.sy_grammar_base.specs.Patterns.{Pattern, occurring, filled, own_size}
 use Rattle.sy_grammar_base.specs.Trees.{Node}
 use Rattle.sy_bank_rows.specs.Banks.{Entry, IsKept, IsDropped}
@@ -43,6 +45,7 @@ rows-below w s (n ∷ ns) (first ∷ entries) steady kept (suc i) entry at = row
 
 -- the rule of a nonterminal that gives the pattern, and the terms chosen for it
 pub record IsGiven (numeric : Sort → Bool) (w : World) (n rule : ℕ) (pattern : Pattern) (entries : List Entry) : Type 0 where
+  pub negation : numeric sorts.Int ≡ true → w.scope.owned ops.Neg ≡ true
   pub set : IsSet numeric w
   pub rule_is : IsRule w.syntax n rule pattern
   pub kept : AreKept w.levels (occurring pattern) entries
@@ -50,7 +53,7 @@ pub record IsGiven (numeric : Sort → Bool) (w : World) (n rule : ℕ) (pattern
 
 pub given-fits : (numeric : Sort → Bool) (w : World) (s : State) (n rule : ℕ) (pattern : Pattern) (entries : List Entry) → IsSteady w s → IsGiven numeric w n rule pattern entries → FitsAt w.scope w.points (filled pattern (terms entries))
 given-fits numeric w s n rule pattern entries steady given =
-    derived-fits numeric w.scope w.syntax w.points n (Node rule (children entries)) (filled pattern (terms entries)) given.set.negation given.set.formed given.set.points given.rule_is.known
+    derived-fits numeric w.scope w.syntax w.points n (Node rule (children entries)) (filled pattern (terms entries)) given.negation given.set.formed given.set.points given.rule_is.known
     (node-derives w.syntax w.defined w.pool w.points n rule pattern entries given.rule_is.at (sound-below w s (occurring pattern) entries steady given.kept))
 
 pub given-enough : (numeric : Sort → Bool) (w : World) (s : State) (n rule : ℕ) (pattern : Pattern) (entries : List Entry) → IsSteady w s → IsGiven numeric w n rule pattern entries → length (occurring pattern) ≤ length entries

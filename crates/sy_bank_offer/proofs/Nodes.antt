@@ -5,7 +5,9 @@ use Rattle.sy_terms.specs.Values.{Val}
 use Rattle.sy_terms.specs.Expr.{Expr}
 use Rattle.sy_terms.specs.Meaning.{Function}
 use Rattle.sy_terms.specs.Fitting.{Scope}
+use Rattle.sy_terms.specs.declared.op.Op.TheVariants as ops
 use Rattle.sy_terms.specs.declared.sort.Sort.{Sort}
+use Rattle.sy_terms.specs.declared.sort.Sort.TheVariants as sorts
 use Rattle.sy_grammar_base.specs.Patterns.{Pattern, occurring, filled, own_size}
 use Rattle.sy_grammar_base.specs.Trees.{Syntax, Nonterminal, Template, Tree, Node, Derives, rule_at, yield_from, yields_from, tree_size, tree_sizes}
 use Rattle.sy_grammar_base.specs.Formed.{is_formed}
@@ -15,7 +17,7 @@ use Rattle.sy_bank_rows.specs.Banks.{Entry, IsSound}
 use Rattle.sy_bank_rows.specs.Covering.{sizes, terms}
 use Rattle.sy_bank_rows.specs.Columns.{FitsAt}
 use Rattle.sy_bank_columns.specs.Chosen.{children}
-use Rattle.sy_bank_offer.specs.Tasks.{ArePointsOf, HasNegation}
+use Rattle.sy_bank_rows.specs.Rows.{ArePointsOf}
 
 -- each is sound for its nonterminal
 abbrev pub AreSound : Syntax → List Function → List Val → List (List Val) → List ℕ → List Entry → Type 0
@@ -64,7 +66,7 @@ nonterminal-at (first ∷ rest) zero within = (first, refl)
 nonterminal-at (first ∷ rest) (suc n) within = nonterminal-at rest n (omega arith)
 
 -- what is derived fits at each point
-pub derived-fits : (numeric : Sort → Bool) (scope : Scope) (syntax : Syntax) (points : List (List Val)) (n : ℕ) (tree : Tree) (term : Expr) → HasNegation numeric scope → is_formed numeric scope syntax ≡ true →
+pub derived-fits : (numeric : Sort → Bool) (scope : Scope) (syntax : Syntax) (points : List (List Val)) (n : ℕ) (tree : Tree) (term : Expr) → (numeric sorts.Int ≡ true → scope.owned ops.Neg ≡ true) → is_formed numeric scope syntax ≡ true →
     ArePointsOf syntax.arguments points → n < length syntax.nonterminals → Derives syntax n tree term → FitsAt scope points term
 derived-fits numeric scope syntax points n tree term negation formed sorted within derives k point at =
     let found = nonterminal-at syntax.nonterminals n within in

@@ -4,7 +4,7 @@ use Rattle.sy_terms.specs.Values.{Val}
 use Rattle.sy_terms.specs.Theories.{sort_of_value, valid}
 use Rattle.sy_terms.specs.declared.sort.Sort.{Sort}
 use Rattle.sy_bank_level.proofs.Kept.{at-end}
-use Rattle.sy_bank_offer.specs.Tasks.{ArePointsOf}
+use Rattle.sy_bank_rows.specs.Rows.{ArePointsOf}
 
 -- one point more
 pub points-more : (sorts : List Sort) (points : List (List Val)) (point : List Val) → All (λ value. valid value ≡ true) point → map sort_of_value point ≡ sorts → ArePointsOf sorts points → ArePointsOf sorts (points ++ point ∷ [])

@@ -1,31 +1,19 @@
 -- When a task is one that may be done.
-use Rattle.std.specs.Prelude.{ℕ, ◌≡◌, ◌<◌, Bool, true, List, All, length, map, slice_get, Some}
+use Rattle.std.specs.Prelude.{ℕ, ◌≡◌, ◌<◌, Bool, true, length, Some}
 use Rattle.sy_terms.specs.Values.{Val}
-use Rattle.sy_terms.specs.Fitting.{Scope}
 use Rattle.sy_terms.specs.Definitions.{DefinitionsFit}
-use Rattle.sy_terms.specs.Theories.{sort_of_value, valid}
 use Rattle.sy_terms.specs.declared.op.Op.{Op}
-use Rattle.sy_terms.specs.declared.op.Op.TheVariants as ops
 use Rattle.sy_terms.specs.declared.sort.Sort.{Sort}
-use Rattle.sy_terms.specs.declared.sort.Sort.TheVariants as sorts
 use Rattle.sy_grammar_base.specs.Patterns.{Pattern}
 use Rattle.sy_grammar_base.specs.Trees.{Syntax, Template, rule_at}
 use Rattle.sy_grammar_base.specs.Formed.{is_formed}
+pub use Rattle.sy_bank_rows.specs.Rows.{ArePointsOf}
 use Rattle.sy_bank_level.specs.Filling.{World}
 use Rattle.sy_bank_level.specs.Task.{world}
 use Rattle.sy_bank_level.specs.declared.task.Task.{Task}
 
--- where there are integers, negation belongs to the logic
-abbrev pub HasNegation : (Sort → Bool) → Scope → Type 0
-HasNegation numeric scope = numeric sorts.Int ≡ true → scope.owned ops.Neg ≡ true
-
--- each point is a tuple of values of these sorts
-abbrev pub ArePointsOf : List Sort → List (List Val) → Type 0
-ArePointsOf sorts points = (k : ℕ) (point : List Val) → slice_get points k ≡ Some point → All (λ value. valid value ≡ true) point × (map sort_of_value point ≡ sorts)
-
--- the grammar is well formed, a logic with integers has negation, and points have values of the arguments' sorts
+-- the grammar is well formed, and points have values of the arguments' sorts
 pub record IsSet (numeric : Sort → Bool) (w : World) : Type 0 where
-  pub negation : HasNegation numeric w.scope
   pub formed : is_formed numeric w.scope w.syntax ≡ true
   pub points : ArePointsOf w.syntax.arguments w.points
 

@@ -3,8 +3,6 @@
 
 mod offering;
 mod template;
-#[cfg(test)]
-mod tests;
 
 pub use offering::offer;
 pub use template::Template;

@@ -3,7 +3,7 @@ ghost use Rattle.std.specs.Prelude.{◌≡◌, ◌+◌, IfErr, OnOk};
 ghost use Rattle.sy_grammar_base.specs.Patterns.{occurring, filled, own_size};
 ghost use Rattle.sy_grammar_base.specs.Written.{pattern_of};
 ghost use Rattle.sy_bank_rows.specs.Covering.{AreKept, sizes, terms};
-ghost use Rattle.sy_bank_columns.specs.Chosen.{chosen_of};
+ghost use Rattle.sy_bank_rows.specs.Stored.{chosen_of};
 ghost use Rattle.sy_bank_level.specs.Filling.{IsSteady, Grows, IsDone};
 ghost use Rattle.sy_bank_level.specs.Task.{world, IsStop, state_of, levels_of};
 ghost use Rattle.sy_bank_offer.specs.Tasks.{IsTask, IsRule};

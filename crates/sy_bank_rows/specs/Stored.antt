@@ -1,5 +1,6 @@
 -- What kept and dropped terms stand for.
 use Rattle.std.specs.Prelude.{List, map}
+use denote.Ref.{Bor}
 use Rattle.sy_terms.specs.Values.{Val}
 use Rattle.sy_terms.specs.Denoted.{expr_of, vals_of}
 use Rattle.sy_bank_rows.specs.Banks.{Entry, Lost}
@@ -15,3 +16,7 @@ entries_of number all = map (entry_of number) all
 
 abbrev pub lost_of : {T N : Type 0} → (N → Val) → Dropped T N → Lost
 lost_of number dropped = record { term = expr_of number dropped.term; point = dropped.point }
+
+-- kept terms that are chosen for nonterminals
+abbrev pub chosen_of : {T N : Type 0} → (N → Val) → List (Bor (Kept T N)) → List Entry
+chosen_of number chosen = map (λ kept. entry_of number kept.now) chosen

@@ -7,9 +7,8 @@ use denote.Ref.{Bor}
 use Rattle.sy_terms.specs.Values.{Val}
 use Rattle.sy_grammar_base.specs.Patterns.{Pattern}
 use Rattle.sy_bank_rows.specs.Banks.{Entry, kept_at}
-use Rattle.sy_bank_rows.specs.Stored.{entry_of, entries_of}
+use Rattle.sy_bank_rows.specs.Stored.{entry_of, entries_of, chosen_of}
 use Rattle.sy_bank_rows.specs.declared.kept.Kept.{Kept}
-use Rattle.sy_bank_columns.specs.Chosen.{chosen_of}
 use Rattle.sy_bank_level.specs.Filling.{World, State, IsSteady, Grows}
 use Rattle.sy_bank_rules.specs.Choosing.{IsBegun, AreDoneFrom}
 use Rattle.sy_bank_rules.proofs.Begun.{AreDoneBelow, from-on, all-at, begun-next, below-some}

@@ -1,8 +1,7 @@
 // Choosing kept terms for the places of a rule.
 ghost use Rattle.std.specs.Prelude.{◌≡◌, [], ◌∷◌, ◌++◌, All, IfErr, OnOk};
 ghost use Rattle.sy_grammar_base.specs.Written.{pattern_of};
-ghost use Rattle.sy_bank_rows.specs.Stored.{entry_of};
-ghost use Rattle.sy_bank_columns.specs.Chosen.{chosen_of};
+ghost use Rattle.sy_bank_rows.specs.Stored.{entry_of, chosen_of};
 ghost use Rattle.sy_bank_level.specs.Filling.{IsSteady, Grows};
 ghost use Rattle.sy_bank_level.specs.Task.{world, IsStop, state_of};
 ghost use Rattle.sy_bank_offer.specs.Tasks.{IsTask, IsRule};

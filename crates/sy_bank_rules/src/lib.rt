@@ -3,7 +3,5 @@
 
 mod choosing;
 mod measure;
-#[cfg(test)]
-mod tests;
 
 pub use choosing::choose;

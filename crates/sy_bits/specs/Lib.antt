@@ -1,2 +1,3 @@
 pub mod Proofs
 pub mod Soundness
+pub use Rattle.sy_bits_laws.specs.Clauses

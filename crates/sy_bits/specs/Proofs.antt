@@ -2,7 +2,7 @@
 use Rattle.sy_query_limits.specs.declared.FailName.{FailName}
 use Rattle.sy_query_limits.specs.declared.FailName.TheVariants as names
 use Rattle.sy_query_limits.specs.declared.Limits.{Limits}
-use Rattle.sy_query_decide.specs.Asked.{Query}
+use Rattle.sy_query_base.specs.Asked.{Query}
 use Rattle.sy_bits_laws.specs.Clauses.{Proves, IsSpent}
 use Rattle.sy_bits.specs.declared.answers.BvProof.{BvProof}
 use Rattle.sy_bits.specs.declared.answers.BvSpent.{BvSpent}

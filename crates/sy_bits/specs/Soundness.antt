@@ -1,5 +1,5 @@
 -- A query for which a proof is accepted is never satisfied.
-use Rattle.sy_query_decide.specs.Asked.{Query, Fits, IsNever}
+use Rattle.sy_query_base.specs.Asked.{Query, Fits, IsNever}
 use Rattle.sy_meaning_words.specs.Vectors.{owned, is_bits}
 use Rattle.sy_clauses.proofs.Law.{refuted_has_no_model}
 use Rattle.sy_bits_laws.proofs.Laws.{never}

@@ -1,7 +1,7 @@
 // The solver.
 ghost use Rattle.std.specs.Prelude.{◌≡◌, min, IfOk};
 ghost use Rattle.sy_query_decide.specs.Answers.{Answers};
-ghost use Rattle.sy_query_decide.specs.Asked.{query_of};
+ghost use Rattle.sy_query_base.specs.Asked.{query_of};
 ghost use Rattle.sy_meaning_words.specs.Vectors.{vector};
 ghost use Rattle.sy_bits_laws.specs.Clauses.{HasCircuitClauses};
 ghost use Rattle.sy_cdcl.specs.Answer.{IsAnswer};

@@ -1,6 +1,7 @@
 // Whether a query is one that the solver takes.
 ghost use Rattle.std.specs.Prelude.{◌≡◌, ◌↔◌, IfOk, IsTrue};
-ghost use Rattle.sy_query_decide.specs.Asked.{query_of, Fits, is_sort_with};
+ghost use Rattle.sy_grammar_base.specs.Formed.{is_known};
+ghost use Rattle.sy_query_base.specs.Asked.{query_of, Fits};
 ghost use Rattle.sy_meaning_words.specs.Vectors.{vector, owned, is_bits};
 
 use std::alloc::Global;
@@ -11,7 +12,7 @@ use sy_terms::{Sort, Want};
 
 /// Whether variables may have the sort: truth values, and vectors of 1 to 64 bits.
 fn is_sort(sort: Sort) -> bool
-    ensures { result ≡ is_sort_with is_bits sort }
+    ensures { result ≡ is_known is_bits sort }
 {
     match sort {
         Sort::Bool => true,

@@ -5,9 +5,8 @@ mod answers;
 mod decider;
 mod fitting;
 mod room;
-#[cfg(test)]
-mod tests;
 
 pub use answers::{BvProof, BvSpent};
 pub use decider::BvDecide;
 pub use fitting::fits;
+pub use sy_bits_circuit::{Circuit, blast};

@@ -1,6 +1,6 @@
 // Whether the clauses of a query can be counted.
 ghost use Rattle.std.specs.Prelude.{◌≡◌, ◌+◌, ◌*◌, ◌<◌, ◌^◌, ◌↔◌, IfOk, IsTrue, MatchOption};
-ghost use Rattle.sy_query_decide.specs.Asked.{query_of, Fits};
+ghost use Rattle.sy_query_base.specs.Asked.{query_of, Fits};
 ghost use Rattle.sy_meaning_words.specs.Vectors.{vector, owned, is_bits};
 ghost use Rattle.sy_bits_operators.specs.Signals as signals;
 ghost use Rattle.sy_bits_laws.specs.Clauses.{query_size};

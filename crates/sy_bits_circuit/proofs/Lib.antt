@@ -1,4 +1,3 @@
 pub mod Entering
-pub mod Examples
 pub mod Reading
 pub mod Saying

@@ -16,7 +16,7 @@ use Rattle.sy_meaning_words.specs.Vectors.{vector}
 use Rattle.sy_clauses.specs.declared.Cnf.{Cnf}
 use Rattle.sy_clauses.specs.Clauses.{IsModel}
 use Rattle.sy_gates.specs.Models.{values_of}
-use Rattle.sy_query_decide.specs.Asked.{Query, Satisfies}
+use Rattle.sy_query_base.specs.Asked.{Query, Satisfies}
 use Rattle.sy_bits_operators.specs.Signals.{has_signals, sort_width}
 use Rattle.sy_bits_laws.specs.Assignments.{number_of, value_of, assignment}
 use Rattle.sy_bits_laws.specs.Clauses.{HasCircuitClauses}

@@ -11,7 +11,7 @@ use Rattle.sy_clauses.specs.Clauses.{IsModel}
 use Rattle.sy_gates.specs.declared.gate.Bit.{Bit}
 use Rattle.sy_gates.specs.Circuits.{Plan, variables, Follows, Grown, lit_value, bit_value, lit_bound, clause_bound, clauses_bound}
 use Rattle.sy_gates.specs.Models.{values_of, but_last, ExtendsInOneWay}
-use Rattle.sy_query_decide.specs.Asked.{Query, Fits, Satisfies}
+use Rattle.sy_query_base.specs.Asked.{Query, Fits, Satisfies}
 use Rattle.sy_meaning_words.specs.Vectors.{owned, is_bits}
 use Rattle.sy_bits_operators.specs.declared.signal.Signal.{Signal}
 use Rattle.sy_bits_operators.specs.declared.signal.Signal.TheVariants as signals

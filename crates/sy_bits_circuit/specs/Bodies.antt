@@ -4,7 +4,7 @@ use Rattle.sy_terms.specs.Meaning.{meaning}
 use Rattle.sy_terms.specs.declared.sort.Sort.TheVariants as sorts
 use Rattle.sy_gates.specs.Circuits.{Plan, variables, Follows}
 use Rattle.sy_gates.specs.Models.{values_of}
-use Rattle.sy_query_decide.specs.Asked.{Query}
+use Rattle.sy_query_base.specs.Asked.{Query}
 use Rattle.sy_bits_operators.specs.declared.signal.Signal.{Signal}
 use Rattle.sy_bits_operators.specs.Signals.{signal_value, signal_sort, signal_bound, total_width}
 use Rattle.sy_bits_laws.specs.Assignments.{assignment}

@@ -3,8 +3,6 @@
 
 mod circuit;
 mod inputs;
-#[cfg(test)]
-mod tests;
 mod values;
 mod width;
 

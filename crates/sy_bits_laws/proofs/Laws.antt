@@ -11,7 +11,8 @@ use Rattle.sy_clauses.specs.Clauses.{IsModel, IsTrueUnder, HasNoModel, literals}
 use Rattle.sy_gates.specs.Circuits.{lit_value}
 use Rattle.sy_gates.specs.Models.{values_of, but_last, clause_value}
 use Rattle.sy_gates.proofs.Holding.{value-true, true-value}
-use Rattle.sy_query_decide.specs.Asked.{Query, Fits, Satisfies, IsNever, is_sort_with}
+use Rattle.sy_grammar_base.specs.Formed.{is_known}
+use Rattle.sy_query_base.specs.Asked.{Query, Fits, Satisfies, IsNever}
 use Rattle.sy_terms.specs.declared.sort.Sort.{Sort}
 use Rattle.sy_terms.specs.declared.sort.Sort.TheVariants as sorts
 use Rattle.sy_meaning_words.specs.Vectors.{owned, is_bits}
@@ -51,15 +52,15 @@ reads query cnf m has long model =
 
 -- the variables of a query that fits have signals
 
-sort-has : (s : Sort) → is_sort_with is_bits s ≡ true → has_signals s ≡ true
+sort-has : (s : Sort) → is_known is_bits s ≡ true → has_signals s ≡ true
 sort-has sorts.Bool h = refl
 sort-has sorts.Int h = cc
 sort-has (sorts.Bits w) h = h
 
-all-have : (ss : List Sort) → All (λ sort. is_sort_with is_bits sort ≡ true) ss → AllHaveSignals ss
+all-have : (ss : List Sort) → All (λ sort. is_known is_bits sort ≡ true) ss → AllHaveSignals ss
 all-have [] all = All-nil (λ sort. has_signals sort ≡ true)
 all-have (s ∷ ss) all =
-    All-cons (λ sort. has_signals sort ≡ true) s ss (sort-has s (All-head (λ sort. is_sort_with is_bits sort ≡ true) s ss all)) (all-have ss (All-tail (λ sort. is_sort_with is_bits sort ≡ true) s ss all))
+    All-cons (λ sort. has_signals sort ≡ true) s ss (sort-has s (All-head (λ sort. is_known is_bits sort ≡ true) s ss all)) (all-have ss (All-tail (λ sort. is_known is_bits sort ≡ true) s ss all))
 
 pub variables-have : (query : Query) → Fits owned is_bits query → AllHaveSignals query.variables
 variables-have query fits = all-have query.variables fits.variables

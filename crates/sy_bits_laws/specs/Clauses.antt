@@ -7,7 +7,7 @@ use Rattle.sy_clauses.specs.Clauses.{IsModel, Refutes}
 use Rattle.sy_clauses.specs.New.{LearnsNew}
 use Rattle.sy_gates.specs.Circuits.{lit_value}
 use Rattle.sy_gates.specs.Models.{values_of, but_last, ExtendsInOneWay}
-use Rattle.sy_query_decide.specs.Asked.{Query, Satisfies, query_weight}
+use Rattle.sy_query_base.specs.Asked.{Query, Satisfies, query_weight}
 use Rattle.sy_terms.specs.declared.sort.Sort.{Sort}
 use Rattle.sy_meaning_words.specs.Vectors.{owned}
 use Rattle.sy_bits_operators.specs.Signals.{total_width}

@@ -1,4 +1,3 @@
 pub mod Encoded
 pub mod Words
 pub mod Arguments
-pub mod Squares

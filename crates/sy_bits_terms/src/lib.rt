@@ -3,7 +3,5 @@
 
 mod leaves;
 mod terms;
-#[cfg(test)]
-mod tests;
 
 pub use terms::{signal_of, signals_of};

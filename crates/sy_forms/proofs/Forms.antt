@@ -5,13 +5,13 @@ use Rattle.sy_text.specs.Items.{Item, leaf, group, Items, none, more}
 use Rattle.sy_text.specs.declared.atom.Atom.{Atom}
 use Rattle.sy_text.specs.declared.atom.Place.{Place}
 use Rattle.sy_scope_causes.specs.declared.cause.Cause.TheVariants as cause
-use Rattle.sy_forms.specs.declared.fault.ReadEnd.{ReadEnd}
-use Rattle.sy_forms.specs.declared.fault.ReadEnd.TheVariants as ends
-use Rattle.sy_forms.specs.declared.names.Named.{Named}
-use Rattle.sy_forms.specs.Environments.{Environment}
-use Rattle.sy_forms.specs.Parts.{is_symbol, is_empty, indexed_name}
-use Rattle.sy_forms.specs.Phrases.{Several, Typed, nothing, behind}
-use Rattle.sy_forms.specs.Readings.{Reading, Gives, Fails, refuse, ◌>>=◌}
+use Rattle.sy_forms_items.specs.declared.fault.ReadEnd.{ReadEnd}
+use Rattle.sy_forms_items.specs.declared.fault.ReadEnd.TheVariants as ends
+use Rattle.sy_forms_names.specs.declared.names.Named.{Named}
+use Rattle.sy_forms_names.specs.Environments.{Environment}
+use Rattle.sy_forms_items.specs.Parts.{is_symbol, is_empty, indexed_name}
+use Rattle.sy_forms_phrases.specs.Phrases.{Several, Typed, nothing, behind}
+use Rattle.sy_forms_items.specs.Readings.{Reading, Gives, Fails, refuse, ◌>>=◌}
 use Rattle.sy_forms.specs.Terms.{Bounds, Bound, unbound, bound_behind, bound_to, new_name, let_may_stand, indexed_term, atom_term, read_head, applied, read_term, read_list, read_terms, read_let, read_let_in, read_inner, read_binding_list, read_bindings, read_binding, read_pair, read_bound}
 
 -- what is returned gives what is read, where that is another way to read

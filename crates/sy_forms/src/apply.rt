@@ -1,20 +1,19 @@
 // Heads at arguments.
 ghost use Rattle.std.specs.Prelude.{◌≡◌, ◌≤◌, OnOk};
 ghost use Rattle.sy_terms.specs.Fitting as fitting;
-ghost use Rattle.sy_terms.specs.Sorts as sorts;
-ghost use Rattle.sy_forms.specs.Meant.{phrase_of, phrases_of, typed_of};
+ghost use Rattle.sy_forms_phrases.specs.Meant.{phrase_of, phrases_of, typed_of};
 ghost use Rattle.sy_forms.specs.Gathered.{several_of};
-ghost use Rattle.sy_forms.specs.Operators as operators;
-ghost use Rattle.sy_forms.specs.Phrases as phrases;
-ghost use Rattle.sy_forms.specs.Readings.{Gives};
-ghost use Rattle.sy_forms.specs.Seen.{head_in};
+ghost use Rattle.sy_forms_names.specs.Operators as operators;
+ghost use Rattle.sy_forms_phrases.specs.Phrases as phrases;
+ghost use Rattle.sy_forms_items.specs.Readings.{Gives};
+ghost use Rattle.sy_forms.specs.Heads.{head_in};
 ghost use Rattle.sy_forms.specs.Terms as spec;
 
-use crate::fault::ReadEnd;
 use crate::head::Head;
-use crate::operators::at_count;
-use crate::phrase::{Phrase, Phrases, Typed, invocation, operation};
 use std::alloc::Global;
+use sy_forms_items::ReadEnd;
+use sy_forms_names::{at_count, same_sorts};
+use sy_forms_phrases::{Phrase, Phrases, Typed, invocation, is_neg, operation};
 use sy_scope_causes::Cause;
 use sy_terms::{Op, Seq, Sort, Sorted, Theory, Want, operator_sort};
 use sy_text::Place;
@@ -70,15 +69,6 @@ fn is_written<T: Theory>(phrase: &Phrase<T>) -> bool
         Phrase::Operation(_, _) => false,
         Phrase::Invocation(_, _) => false,
         Phrase::Let(_, _) => false,
-    }
-}
-
-pub(crate) fn is_neg(operator: &Op) -> bool
-    ensures { result ≡ operators.is_neg operator.now }
-{
-    match operator {
-        Op::Neg => true,
-        _ => false,
     }
 }
 
@@ -163,29 +153,6 @@ fn operator_term<T: Theory>(
         }
         Sorted::Mismatch => Err(ReadEnd::Refused(place, Cause::SortMismatch)),
         Sorted::BadWidth => Err(ReadEnd::Refused(place, Cause::Width)),
-    }
-}
-
-pub(crate) fn same_sort(a: &Sort, b: &Sort) -> bool
-    ensures { result ≡ sorts.same_sort a.now b.now }
-{
-    match (a, b) {
-        (Sort::Bool, Sort::Bool) => true,
-        (Sort::Int, Sort::Int) => true,
-        (Sort::Bits(v), Sort::Bits(w)) => *v == *w,
-        _ => false,
-    }
-}
-
-fn same_sorts(a: &[Sort], b: &[Sort]) -> bool
-    ensures { result ≡ fitting.same_sorts a.now b.now }
-{
-    match a {
-        [] => b.is_empty(),
-        [x, xs @ ..] => match b {
-            [] => false,
-            [y, ys @ ..] => same_sort(x, y) && same_sorts(xs, ys),
-        },
     }
 }
 

@@ -2,22 +2,22 @@
 ghost use Rattle.std.specs.Prelude.{◌≡◌};
 ghost use Rattle.std.specs.Option.{option_map};
 ghost use Rattle.sy_text.specs.Views.{item_of};
-ghost use Rattle.sy_forms.specs.Meant.{typed_of};
-ghost use Rattle.sy_forms.specs.Readings.{Gives};
-ghost use Rattle.sy_forms.specs.Seen.{environment_of, sense_in, head_in};
-ghost use Rattle.sy_forms.specs.Serving.{Serves};
+ghost use Rattle.sy_forms_phrases.specs.Meant.{typed_of};
+ghost use Rattle.sy_forms_items.specs.Readings.{Gives};
+ghost use Rattle.sy_forms_names.specs.Seen.{environment_of, sense_in};
+ghost use Rattle.sy_forms.specs.Heads.{head_in};
+ghost use Rattle.sy_terms.specs.Logics.{Serves};
 ghost use Rattle.sy_forms.specs.Terms as spec;
-ghost use Rattle.sy_forms.specs.Operators as operators;
-ghost use Rattle.sy_forms.specs.Views.{indexed_of, items_in};
+ghost use Rattle.sy_forms_names.specs.Operators as operators;
+ghost use Rattle.sy_forms_items.specs.Views.{indexed_of, items_in};
 
-use crate::environment::{Environment, Sense, sense_of};
-use crate::fault::ReadEnd;
 use crate::literal::{numeral_term, vector_term};
-use crate::names::Named;
-use crate::operators::{are_small, indexed_operator, is_indexed, operator_named};
-use crate::parts::{Indices, Rest, indexed_name, is, is_symbol, symbol_in};
-use crate::phrase::{Phrases, Typed, invocation, literal, local, nonterminal, position};
 use std::alloc::Global;
+use sy_forms_items::{Indices, ReadEnd, Rest, indexed_name, is, is_symbol, symbol_in};
+use sy_forms_names::{
+    Environment, Named, Sense, are_small, indexed_operator, is_indexed, operator_named, sense_of,
+};
+use sy_forms_phrases::{Phrases, Typed, invocation, literal, local, nonterminal, position};
 use sy_scope_causes::Cause;
 use sy_terms::{Fun, Logic, Op, Sort, Theory, Value};
 use sy_text::{Atom, Name, Place, Sexp};

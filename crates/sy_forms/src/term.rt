@@ -2,25 +2,22 @@
 ghost use Rattle.std.specs.Prelude.{◌≡◌, OnOk, IfOk};
 ghost use Rattle.sy_text.specs.Views.{item_of};
 ghost use Rattle.sy_forms.specs.Gathered.{several_of, bounds_of, bound_of};
-ghost use Rattle.sy_forms.specs.Meant.{phrase_of, typed_of};
-ghost use Rattle.sy_forms.specs.Parts as parts;
-ghost use Rattle.sy_forms.specs.Phrases as phrases;
-ghost use Rattle.sy_forms.specs.Readings.{Gives};
-ghost use Rattle.sy_forms.specs.Seen.{environment_of};
-ghost use Rattle.sy_forms.specs.Serving.{Serves};
+ghost use Rattle.sy_forms_phrases.specs.Meant.{phrase_of, typed_of};
+ghost use Rattle.sy_forms_items.specs.Parts as parts;
+ghost use Rattle.sy_forms_phrases.specs.Phrases as phrases;
+ghost use Rattle.sy_forms_items.specs.Readings.{Gives};
+ghost use Rattle.sy_forms_names.specs.Seen.{environment_of};
+ghost use Rattle.sy_terms.specs.Logics.{Serves};
 ghost use Rattle.sy_forms.specs.Terms as spec;
-ghost use Rattle.sy_forms.specs.Views.{items_in};
+ghost use Rattle.sy_forms_items.specs.Views.{items_in};
 
 use crate::apply::{Several, applied};
-use crate::environment::{Environment, place_among};
-use crate::fault::ReadEnd;
 use crate::head::{atom_term, read_head};
 use crate::literal::indexed_term;
-use crate::names::{Named, Role};
-use crate::operators::is_reserved;
-use crate::parts::{Rest, indexed_name, is_symbol, place_of, symbol};
-use crate::phrase::{Phrase, Phrases, Typed, binding};
 use std::alloc::Global;
+use sy_forms_items::{ReadEnd, Rest, copied, indexed_name, is_symbol, place_of, symbol};
+use sy_forms_names::{Environment, Named, Role, is_reserved, place_among};
+use sy_forms_phrases::{Phrase, Phrases, Typed, binding};
 use sy_scope_causes::Cause;
 use sy_terms::{Logic, Seq, Theory, Want};
 use sy_text::{Name, Place, Sexp};
@@ -70,17 +67,6 @@ fn let_may_stand(role: Role) -> bool
         Role::Assumption => true,
         Role::Constraint => true,
     }
-}
-
-/// A copy of a name.
-pub fn copied(alloc: Global, name: &Name) -> Result<Name, Want>
-    ensures { IfOk result (λ copy. copy ≡ name.now) }
-{
-    let mut copy = Seq::new(alloc);
-    for byte in name.as_slice() {
-        copy.push(*byte)?;
-    }
-    Ok(copy)
 }
 
 /// The name of the binding that stands at a place: it isn't reserved and is none of the names that are taken.

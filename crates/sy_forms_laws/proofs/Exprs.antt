@@ -9,8 +9,8 @@ use Rattle.sy_terms.specs.declared.sort.Sort.{Sort}
 use Rattle.sy_terms_laws.proofs.Equations.{if_Some, both_true, with_sort_Some, after_Some}
 use Rattle.sy_grammar_base.specs.Formed.{is_plain}
 use Rattle.sy_grammar_base.specs.Trees.{is_negative}
-use Rattle.sy_forms.specs.Phrases as phrase
-use Rattle.sy_forms.specs.Phrases.{Phrase, Phrases, expr_at, exprs_at}
+use Rattle.sy_forms_phrases.specs.Phrases as phrase
+use Rattle.sy_forms_phrases.specs.Phrases.{Phrase, Phrases, expr_at, exprs_at}
 use Rattle.sy_forms.specs.Terms.{is_linear}
 use Rattle.sy_forms_laws.specs.Fitting.{Setting, phrase_sort, phrase_sorts}
 

@@ -10,7 +10,7 @@ use Rattle.sy_grammar_base.specs.Formed.{is_linear, is_known, is_formed, fits, p
 use Rattle.sy_grammar_base.specs.Patterns as pattern
 use Rattle.sy_grammar_base.specs.Patterns.{Pattern, Patterns}
 use Rattle.sy_grammar_base.specs.Trees.{Production, Template, EachConstant, EachVariable, Nonterminal, Syntax, is_sort}
-use Rattle.sy_forms_laws.specs.Questions.{with_functions}
+use Rattle.sy_grammar_base.specs.Fits.{with_functions}
 use Rattle.sy_forms_laws.specs.Right.{Extends}
 use Rattle.sy_forms_laws.proofs.Exprs.{where_true, applied_as}
 use Rattle.sy_forms_laws.proofs.Widening.{called_wider}

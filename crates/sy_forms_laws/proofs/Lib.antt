@@ -9,4 +9,3 @@ pub mod Rules
 pub mod Sorts
 pub mod Growing
 pub mod Whole
-pub mod Problems

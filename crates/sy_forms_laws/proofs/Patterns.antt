@@ -13,9 +13,9 @@ use Rattle.sy_grammar_base.specs.Formed as formed
 use Rattle.sy_grammar_base.specs.Formed.{is_fixed, is_signed, is_one_constant, all_give_constants, pattern_sort, pattern_sorts}
 use Rattle.sy_grammar_base.specs.Patterns as pattern
 use Rattle.sy_grammar_base.specs.Trees.{Nonterminal, Syntax}
-use Rattle.sy_forms.specs.Operators.{is_neg}
-use Rattle.sy_forms.specs.Phrases as phrase
-use Rattle.sy_forms.specs.Phrases.{Phrase, Phrases, pattern_at, patterns_at}
+use Rattle.sy_forms_phrases.specs.Measures.{is_neg}
+use Rattle.sy_forms_phrases.specs.Phrases as phrase
+use Rattle.sy_forms_phrases.specs.Phrases.{Phrase, Phrases, pattern_at, patterns_at}
 use Rattle.sy_forms.specs.Terms.{is_constant, is_literal, is_written, flag_at, varying, is_linear}
 use Rattle.sy_forms_laws.specs.Fitting.{Setting, phrase_sort, phrase_sorts}
 use Rattle.sy_forms_laws.specs.Right.{IsOfGrammar}

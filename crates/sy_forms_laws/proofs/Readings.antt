@@ -3,7 +3,7 @@ use Rattle.std.specs.Prelude.{Bool, true, false, Option, Some, None, Ok, Err, �
 use Rattle.std.proofs.Common.{subst}
 use Rattle.sy_text.specs.declared.atom.Place.{Place}
 use Rattle.sy_scope_causes.specs.declared.cause.Cause.{Cause}
-use Rattle.sy_forms.specs.Readings.{Reading, refuse, found_or, ◌>>=◌}
+use Rattle.sy_forms_items.specs.Readings.{Reading, refuse, found_or, ◌>>=◌}
 
 -- of the one, and then of the other
 pub chained : {A B : Type 0} (P : A → Type 0) (Q : B → Type 0) (read : Reading A) (next : A → Reading B) → IfOk read P → ((x : A) → read ≡ Ok x → P x → IfOk (next x) Q) → IfOk (read >>= next) Q

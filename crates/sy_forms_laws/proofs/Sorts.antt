@@ -11,12 +11,12 @@ use Rattle.sy_terms.specs.declared.sort.Sort.{Sort}
 use Rattle.sy_terms.specs.declared.sort.Sort.TheVariants as sorts
 use Rattle.sy_scope_causes.specs.declared.cause.Cause.TheVariants as cause
 use Rattle.sy_grammar_base.specs.Formed.{is_known}
-use Rattle.sy_grammar_defaults.specs.Defaults.{IsOf}
-use Rattle.sy_forms.specs.Environments.{entry}
-use Rattle.sy_forms.specs.Parts.{symbol_in, is_symbol, indexed_name}
-use Rattle.sy_forms.specs.Sorts.{int_in, sort_named, is_width, vector_sort, indexed_sort, sort_by_name, read_sort}
-use Rattle.sy_forms.specs.declared.parts.Indices.{Indices}
-use Rattle.sy_forms.specs.declared.parts.Indices.TheVariants.{One, Two, More}
+use Rattle.sy_terms.specs.Logics.{IsTheoryOf}
+use Rattle.sy_forms_names.specs.Environments.{entry}
+use Rattle.sy_forms_items.specs.Parts.{symbol_in, is_symbol, indexed_name}
+use Rattle.sy_forms_names.specs.Sorts.{int_in, sort_named, is_width, vector_sort, indexed_sort, sort_by_name, read_sort}
+use Rattle.sy_forms_items.specs.declared.parts.Indices.{Indices}
+use Rattle.sy_forms_items.specs.declared.parts.Indices.TheVariants.{One, Two, More}
 use Rattle.sy_forms_laws.proofs.Readings.{unless_refused, where_found}
 
 abbrev pub Known : (Sort → Bool) → Sort → Type 0
@@ -35,7 +35,7 @@ entry_has P name [] x all e = absurd cc
 entry_has {A} P name (y ∷ entries) x all e =
     found_has P (bytes_eq name y.0) y.1 x (entry name entries) (All-head (λ (e : List ℕ × A). P e.1) y entries all) (λ f. entry_has P name entries x (All-tail (λ (e : List ℕ × A). P e.1) y entries all) f) e
 
-int_known : (owned : Op → Bool) (numeric : Sort → Bool) (logic : Logic) (found : Sort) → IsOf logic owned numeric → int_in logic ≡ Some found → Known numeric found
+int_known : (owned : Op → Bool) (numeric : Sort → Bool) (logic : Logic) (found : Sort) → IsTheoryOf logic owned numeric → int_in logic ≡ Some found → Known numeric found
 int_known owned numeric Lia found of e = let same : sorts.Int ≡ found = cc in subst (Known numeric) same (of.sorts sorts.Int)
 int_known owned numeric Bv found of e = absurd cc
 
@@ -43,13 +43,13 @@ int_by : (numeric : Sort → Bool) (b : Bool) (int other : Option Sort) (found :
 int_by numeric true int other found here later e = here e
 int_by numeric false int other found here later e = later e
 
-named_known : (owned : Op → Bool) (numeric : Sort → Bool) (logic : Logic) (abbreviations : List (List ℕ × Sort)) (name : List ℕ) (found : Sort) → IsOf logic owned numeric → All (KnownEntry numeric) abbreviations
+named_known : (owned : Op → Bool) (numeric : Sort → Bool) (logic : Logic) (abbreviations : List (List ℕ × Sort)) (name : List ℕ) (found : Sort) → IsTheoryOf logic owned numeric → All (KnownEntry numeric) abbreviations
     → sort_named logic abbreviations name ≡ Some found → Known numeric found
 named_known owned numeric logic abbreviations name found of all e =
     found_has (Known numeric) (bytes_eq name (codes "Bool")) sorts.Bool found _ refl
     (λ f. int_by numeric (bytes_eq name (codes "Int")) (int_in logic) (entry name abbreviations) found (int_known owned numeric logic found of) (entry_has (Known numeric) name abbreviations found all) f) e
 
-by_name_known : (owned : Op → Bool) (numeric : Sort → Bool) (logic : Logic) (abbreviations : List (List ℕ × Sort)) (place : Place) (name : Option (List ℕ)) → IsOf logic owned numeric → All (KnownEntry numeric) abbreviations
+by_name_known : (owned : Op → Bool) (numeric : Sort → Bool) (logic : Logic) (abbreviations : List (List ℕ × Sort)) (place : Place) (name : Option (List ℕ)) → IsTheoryOf logic owned numeric → All (KnownEntry numeric) abbreviations
     → IfOk (sort_by_name logic abbreviations place name) (Known numeric)
 by_name_known owned numeric logic abbreviations place None of all = tt
 by_name_known owned numeric logic abbreviations place (Some name) of all =
@@ -60,7 +60,7 @@ both true true e f = refl
 both true false e f = f
 both false b e f = e
 
-vector_known : (owned : Op → Bool) (numeric : Sort → Bool) (place : Place) (parts : Option (List ℕ × Indices)) → IsOf Bv owned numeric → IfOk (vector_sort place parts) (Known numeric)
+vector_known : (owned : Op → Bool) (numeric : Sort → Bool) (place : Place) (parts : Option (List ℕ × Indices)) → IsTheoryOf Bv owned numeric → IfOk (vector_sort place parts) (Known numeric)
 vector_known owned numeric place None of = tt
 vector_known owned numeric place (Some (name, One w)) of =
     unless_refused (Known numeric) (bytes_eq name (codes "BitVec")) place cause.UnknownSort _ (λ e.
@@ -68,13 +68,13 @@ vector_known owned numeric place (Some (name, One w)) of =
 vector_known owned numeric place (Some (name, Two i j)) of = tt
 vector_known owned numeric place (Some (name, More)) of = tt
 
-indexed_known : (owned : Op → Bool) (numeric : Sort → Bool) (logic : Logic) (place : Place) (parts : Items) → IsOf logic owned numeric → IfOk (indexed_sort logic place parts) (Known numeric)
+indexed_known : (owned : Op → Bool) (numeric : Sort → Bool) (logic : Logic) (place : Place) (parts : Items) → IsTheoryOf logic owned numeric → IfOk (indexed_sort logic place parts) (Known numeric)
 indexed_known owned numeric Lia place parts of = tt
 indexed_known owned numeric Bv place none of = tt
 indexed_known owned numeric Bv place (more head rest) of =
     unless_refused (Known numeric) (is_symbol (codes "_") head) place cause.UnknownSort (vector_sort place (indexed_name rest)) (λ e. vector_known owned numeric place (indexed_name rest) of)
 
-pub sort_known : (owned : Op → Bool) (numeric : Sort → Bool) (logic : Logic) (abbreviations : List (List ℕ × Sort)) (item : Item) → IsOf logic owned numeric → All (λ (x : List ℕ × Sort). is_known numeric x.1 ≡ true) abbreviations
+pub sort_known : (owned : Op → Bool) (numeric : Sort → Bool) (logic : Logic) (abbreviations : List (List ℕ × Sort)) (item : Item) → IsTheoryOf logic owned numeric → All (λ (x : List ℕ × Sort). is_known numeric x.1 ≡ true) abbreviations
     → IfOk (read_sort logic abbreviations item) (λ sort. is_known numeric sort ≡ true)
 unfolding read_sort
 sort_known owned numeric logic abbreviations (leaf atom place) of all = by_name_known owned numeric logic abbreviations place (symbol_in atom) of all

@@ -4,9 +4,9 @@ use Rattle.std.proofs.Common.{ap, subst}
 use Rattle.sy_text.specs.Items.{Item}
 use Rattle.sy_terms.specs.Fitting.{sort_in}
 use Rattle.sy_terms.specs.declared.sort.Sort.{Sort}
-use Rattle.sy_forms.specs.Environments.{Environment}
-use Rattle.sy_forms.specs.Measures.{Measures}
-use Rattle.sy_forms.specs.Phrases.{Phrase, expr_at}
+use Rattle.sy_forms_names.specs.Environments.{Environment}
+use Rattle.sy_forms_phrases.specs.Measures.{Measures}
+use Rattle.sy_forms_phrases.specs.Phrases.{Phrase, expr_at}
 use Rattle.sy_forms.specs.Terms.{read_whole}
 use Rattle.sy_forms_laws.specs.Fitting.{Setting, phrase_sort}
 use Rattle.sy_forms_laws.specs.Laws.{FitsLater}

@@ -1,21 +1,18 @@
 -- What fits goes on to fit where more is declared.
-use Rattle.std.specs.Prelude.{Bool, ◌++◌, List, Option, Some, None, ◌≡◌, refl}
+use Rattle.std.specs.Prelude.{◌++◌, List, Option, Some, None, ◌≡◌, refl}
 use Rattle.std.proofs.Common.{ap, sym, ◌∙◌}
-use Rattle.sy_terms.specs.Expr as expr
-use Rattle.sy_terms.specs.Expr.{Expr, Exprs}
-use Rattle.sy_terms.specs.Fitting.{Signature, applied_sort, called_sort, signature_of, sort_in, sorts_in}
+use Rattle.sy_terms.specs.Fitting.{Signature, applied_sort, called_sort, signature_of}
 use Rattle.sy_terms.specs.declared.op.Op.{Op}
 use Rattle.sy_terms.specs.declared.sort.Sort.{Sort}
 use Rattle.sy_terms.specs.declared.term.Fun.{Fun}
 use Rattle.sy_terms.specs.declared.term.Fun.TheVariants.{Defined, Wanted}
 use Rattle.sy_terms_laws.proofs.Equations.{with_sort_Some, after_Some, applied_sort_Some}
-use Rattle.sy_forms.specs.Phrases as phrase
-use Rattle.sy_forms.specs.Phrases.{Phrase, Phrases}
+use Rattle.sy_forms_phrases.specs.Phrases as phrase
+use Rattle.sy_forms_phrases.specs.Phrases.{Phrase, Phrases}
 use Rattle.sy_forms.specs.Terms.{is_linear}
 use Rattle.sy_forms_laws.specs.Fitting.{Setting, phrase_sort, phrase_sorts}
-use Rattle.sy_forms_laws.specs.Questions.{with_functions}
-use Rattle.sy_forms_laws.specs.Right.{Extends, Widens}
-use Rattle.sy_forms_laws.proofs.Exprs.{where_true, where_allowed, applied_as, called_as, after_as, with_as}
+use Rattle.sy_forms_laws.specs.Right.{Widens}
+use Rattle.sy_forms_laws.proofs.Exprs.{where_true, where_allowed, called_as, after_as, with_as}
 
 wider_signature : (earlier later : Setting) → Widens earlier later → (function : Fun) (found : Signature) → signature_of earlier.scope function ≡ Some found → signature_of later.scope function ≡ Some found
 wider_signature earlier later wider (Defined f) found e = wider.defined f found e
@@ -54,31 +51,3 @@ mutual
   fit_wider earlier later wider locals (phrase.more first rest) sorts e =
       let found = with_sort_Some (phrase_sort earlier locals first) (phrase_sorts earlier locals rest) sorts e in
       with_as (phrase_sort later locals first) (phrase_sorts later locals rest) found.sort found.sorts sorts (fits_wider earlier later wider locals first found.sort found.first_is) (fit_wider earlier later wider locals rest found.sorts found.rest_is) found.whole_is
-
--- the same of terms, over the same values
-scope_signature : (owned : Op → Bool) (defined wanted later_defined later_wanted : List Signature) → Extends defined later_defined → Extends wanted later_wanted → (function : Fun) (found : Signature)
-    → signature_of (with_functions owned defined wanted) function ≡ Some found → signature_of (with_functions owned later_defined later_wanted) function ≡ Some found
-scope_signature owned defined wanted ld lw d w (Defined f) found e = d f found e
-scope_signature owned defined wanted ld lw d w (Wanted f) found e = w f found e
-
-module _ (owned : Op → Bool) (defined wanted later_defined later_wanted : List Signature) (d : Extends defined later_defined) (w : Extends wanted later_wanted) where
-  mutual
-    unfolding sort_in sorts_in
-
-    pub term_wider : (values : List Sort) (term : Expr) (sort : Sort) → sort_in (with_functions owned defined wanted) values term ≡ Some sort → sort_in (with_functions owned later_defined later_wanted) values term ≡ Some sort
-    term_wider values (expr.Constant value) sort e = e
-    term_wider values (expr.Variable position) sort e = e
-    term_wider values (expr.Apply operator arguments) sort e =
-        applied_as (with_functions owned later_defined later_wanted) operator (sorts_in (with_functions owned defined wanted) values arguments) _ sort (λ sorts is. terms_wider values arguments sorts is) e
-    term_wider values (expr.Invoke function arguments) sort e =
-        called_wider (signature_of (with_functions owned defined wanted) function) _ (sorts_in (with_functions owned defined wanted) values arguments) _ sort
-        (scope_signature owned defined wanted later_defined later_wanted d w function) (λ sorts is. terms_wider values arguments sorts is) e
-    term_wider values (expr.Bind bound inner) sort e =
-        let found = after_Some (sorts_in (with_functions owned defined wanted) values bound) _ sort e in
-        after_as _ found.sorts (λ all. sort_in (with_functions owned later_defined later_wanted) (values ++ all) inner) sort (terms_wider values bound found.sorts found.is) (term_wider (values ++ found.sorts) inner sort found.next_is)
-
-    terms_wider : (values : List Sort) (terms : Exprs) (sorts : List Sort) → sorts_in (with_functions owned defined wanted) values terms ≡ Some sorts → sorts_in (with_functions owned later_defined later_wanted) values terms ≡ Some sorts
-    terms_wider values expr.none sorts e = e
-    terms_wider values (expr.more first rest) sorts e =
-        let found = with_sort_Some (sort_in (with_functions owned defined wanted) values first) (sorts_in (with_functions owned defined wanted) values rest) sorts e in
-        with_as _ _ found.sort found.sorts sorts (term_wider values first found.sort found.first_is) (terms_wider values rest found.sorts found.rest_is) found.whole_is

@@ -4,7 +4,7 @@ use Rattle.sy_terms.specs.Theories.{sort_of_value}
 use Rattle.sy_terms.specs.Fitting.{Scope, applied_sort, called_sort, signature_of, with_sort, after}
 use Rattle.sy_terms.specs.declared.sort.Sort.{Sort}
 use Rattle.sy_grammar_base.specs.Formed.{is_plain}
-use Rattle.sy_forms.specs.Phrases.{Phrase, Phrases, Literal, Position, Local, Nonterminal, Operation, Invocation, Let, none, more}
+use Rattle.sy_forms_phrases.specs.Phrases.{Phrase, Phrases, Literal, Position, Local, Nonterminal, Operation, Invocation, Let, none, more}
 use Rattle.sy_forms.specs.Terms.{is_linear}
 
 -- What a phrase may name: operators and functions, the sorts of the variables or arguments in force and of the

@@ -1,4 +1,3 @@
 pub mod Fitting
 pub mod Right
-pub mod Questions
 pub mod Laws

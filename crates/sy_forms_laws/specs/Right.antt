@@ -5,9 +5,9 @@ use Rattle.sy_terms.specs.declared.op.Op.{Op}
 use Rattle.sy_terms.specs.declared.sort.Sort.{Sort}
 use Rattle.sy_grammar_base.specs.Formed.{is_known, all_give_constants}
 use Rattle.sy_grammar_base.specs.Trees.{Syntax, Nonterminal}
-use Rattle.sy_grammar_defaults.specs.Defaults.{IsOf}
-use Rattle.sy_forms.specs.Environments as env
-use Rattle.sy_forms.specs.Environments.{Environment, Sense, sense_of}
+use Rattle.sy_terms.specs.Logics.{IsTheoryOf}
+use Rattle.sy_forms_names.specs.Environments as env
+use Rattle.sy_forms_names.specs.Environments.{Environment, Sense, sense_of}
 use Rattle.sy_forms.specs.Terms.{let_may_stand, flag_at}
 use Rattle.sy_forms_laws.specs.Fitting.{Setting}
 
@@ -23,7 +23,7 @@ IsThere setting locals env.Withheld = ⊤
 -- the operators and the sorts of numbers are the logic's, abbreviations stand for sorts of the logic, and names for what
 -- is there
 pub record IsRight (numeric : Sort → Bool) (setting : Setting) (env : Environment) : Type 0 where
-  pub theory : IsOf env.logic setting.scope.owned numeric
+  pub theory : IsTheoryOf env.logic setting.scope.owned numeric
   pub sorts : All (λ (x : List ℕ × Sort). is_known numeric x.1 ≡ true) env.sorts
   pub names : (name : List ℕ) (sense : Sense) → sense_of env [] name ≡ Some sense → IsThere setting [] sense
   pub constants : env.constants ≡ setting.constants

@@ -1,5 +1,5 @@
 -- The first item that a test accepts, and the rule that is a choice.
-use Rattle.std.proofs.Common.{◌≡◌, ℕ, zero, suc, ◌+◌, ◌<◌, ◌≤◌, List, [], ◌∷◌, ◌++◌, length, take, map, get_or, refl, ap, sym, subst, ◌∙◌, arith, Option, Some, None, slice_get, Bool, true, false, ◌&&◌}
+use Rattle.std.proofs.Common.{◌≡◌, ℕ, zero, suc, ◌+◌, ◌<◌, ◌≤◌, List, [], ◌∷◌, ◌++◌, length, take, map, get_or, refl, ap, sym, subst, ◌∙◌, arith, Option, Some, slice_get, Bool, true, false, ◌&&◌}
 use Rattle.std.specs.Prelude.{All, ◌^◌}
 use Rattle.std.specs.Option.{option_map}
 use Rattle.std.proofs.lemmas.List.Elements.{All-nil, All-push}
@@ -9,7 +9,7 @@ use Rattle.sy_terms.specs.Values.{Val}
 use Rattle.sy_terms.specs.declared.op.Op.{Op}
 use Rattle.sy_terms.specs.declared.op.Op.TheVariants as ops
 use Rattle.sy_grammar_base.specs.Patterns.{Patterns, Apply}
-use Rattle.sy_grammar_base.specs.Trees.{Syntax, IsNumbered, IsFirst, Template, start_rules, is_choice, are_choices, is_place, is_start}
+use Rattle.sy_grammar_base.specs.Trees.{IsNumbered, IsFirst, Template, start_rules, is_choice, are_choices, is_place, is_start}
 use Rattle.sy_grammar_base.specs.Written.{pattern_of, patterns_of}
 use Rattle.sy_grammar_base.specs.Grown.{nonterminal_of, production_of}
 use Rattle.sy_grammar_base.specs.Formed.{syntax_with}

@@ -1,5 +1,5 @@
 -- Which factors vary.
-use Rattle.std.proofs.Common.{◌≡◌, ℕ, zero, suc, ◌+◌, List, [], ◌∷◌, ◌++◌, length, map, refl, ap, sym, ◌∙◌, arith, Option, Some, None, slice_get, Bool, true, false, nat_le, take, get_or, ◌<◌}
+use Rattle.std.proofs.Common.{◌≡◌, ℕ, ◌+◌, List, [], ◌∷◌, ◌++◌, length, map, refl, ap, sym, ◌∙◌, arith, Option, Some, slice_get, Bool, true, false, take, get_or, ◌<◌}
 use Rattle.std.proofs.lemmas.List.{take_more}
 use Rattle.std.specs.Prelude.{if◌then◌else◌, ◌≤◌}
 use Rattle.std.specs.Option.{option_map}

@@ -1,12 +1,12 @@
 -- The sorts of parts, one after the other.
-use Rattle.std.proofs.Common.{◌≡◌, ℕ, zero, suc, ◌+◌, ◌≤◌, List, [], ◌∷◌, length, drop, map, refl, ap, sym, ◌∙◌, arith, subst, add-one, Option, Some, None, slice_get, Bool, true, false, ◌&&◌, nat_le}
+use Rattle.std.proofs.Common.{◌≡◌, ℕ, zero, suc, ◌+◌, ◌≤◌, List, [], ◌∷◌, length, drop, refl, ap, sym, ◌∙◌, arith, Option, Some, None, slice_get, Bool, true, false, ◌&&◌, nat_le}
 use Rattle.std.specs.Prelude.{if◌then◌else◌}
 use Rattle.std.specs.Option.{option_map}
 use Rattle.std.proofs.lemmas.Option.{slice_get_within}
 use Rattle.std.proofs.lemmas.Bool.{le-leb}
 use Rattle.sy_terms.specs.Values.{Val}
-use Rattle.sy_terms.specs.Sorts.{sort_of, same_sort}
-use Rattle.sy_terms.specs.Fitting.{Scope, Signature, given_by, applied_sort, called_sort, with_sort, same_sorts}
+use Rattle.sy_terms.specs.Sorts.{same_sort}
+use Rattle.sy_terms.specs.Fitting.{Scope, Signature, applied_sort, called_sort, with_sort, same_sorts}
 use Rattle.sy_terms.specs.declared.op.Op.{Op}
 use Rattle.sy_terms.specs.declared.sort.Sort.{Sort}
 use Rattle.sy_grammar_base.specs.Trees.{Syntax}

@@ -1,20 +1,18 @@
 -- An operator's sort rests on what was seen of the arguments' sorts.
-use Rattle.std.proofs.Common.{◌≡◌, ℕ, zero, suc, ◌+◌, ◌≤◌, List, [], ◌∷◌, length, refl, ap, sym, ◌∙◌, arith, subst, Option, Some, None, Bool, true, false, ◌&&◌, nat_le, nat_eq}
+use Rattle.std.proofs.Common.{◌≡◌, ℕ, suc, ◌≤◌, List, [], ◌∷◌, length, refl, ap, sym, ◌∙◌, arith, Option, None, Bool, true, false, ◌&&◌, nat_le, nat_eq}
 use Rattle.std.specs.Prelude.{if◌then◌else◌}
 use Rattle.std.specs.List.{list_all}
 use Rattle.std.proofs.lemmas.Bool.{eqb-true, le-leb}
-use Rattle.sy_terms.specs.Sorts.{sort_of, same_sort, each_is, all_alike, vectors, choice, one_int, two_ints, one_width, two_widths, two_joined, by_width, one_vector, two_vectors, extracted, repeated, extended}
+use Rattle.sy_terms.specs.Sorts.{sort_of, same_sort, each_is, all_alike, vectors, choice, one_int, two_ints, one_width, two_widths, two_joined, by_width, one_vector, two_vectors}
 use Rattle.sy_terms.specs.Fitting.{given_by}
 use Rattle.sy_terms.specs.declared.op.Op.{Op}
 use Rattle.sy_terms.specs.declared.op.Op.TheVariants as ops
 use Rattle.sy_terms.specs.declared.sort.Sort.{Sort}
 use Rattle.sy_terms.specs.declared.sort.Sort.TheVariants.{Bool as Truths, Int, Bits}
 use Rattle.sy_terms.specs.declared.sorts.Sorted.{Sorted}
-use Rattle.sy_terms.specs.declared.sorts.Sorted.TheVariants.{Is, Mismatch, BadWidth}
-use Rattle.sy_grammar_base.specs.Seen as seen
+use Rattle.sy_terms.specs.declared.sorts.Sorted.TheVariants.{Is, Mismatch}
 use Rattle.sy_grammar_base.specs.Seen.{after_all, sort_by}
-use Rattle.sy_grammar_base.specs.declared.seen.Seen.{Seen}
-use Rattle.sy_grammar_base.specs.declared.seen.Seen.TheVariants.{Nothing, One, Two, Three, Alike, Mixed}
+use Rattle.sy_grammar_base.specs.declared.seen.Seen.TheVariants.{Nothing, Alike, Mixed}
 
 pub same_sort_is : (s t : Sort) → same_sort s t ≡ true → s ≡ t
 same_sort_is Truths Truths e = refl

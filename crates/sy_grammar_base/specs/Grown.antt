@@ -1,6 +1,6 @@
 -- What grammars and derivations stand for.
-use Rattle.std.specs.Prelude.{ℕ, List, [], ◌∷◌, ◌≡◌, refl, ◌++◌, map}
-use Rattle.std.proofs.Common.{ap, ◌∙◌, arith}
+use Rattle.std.specs.Prelude.{ℕ, List, [], ◌∷◌, ◌≡◌, refl, map}
+use Rattle.std.proofs.Common.{ap, ◌∙◌}
 use Rattle.sy_terms.specs.Values.{Val}
 use Rattle.sy_terms.specs.Denoted.{val_of}
 use Rattle.sy_terms.specs.declared.sort.Value.{Value}

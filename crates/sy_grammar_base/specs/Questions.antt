@@ -27,8 +27,16 @@ pub record Question : Type 0 where
   pub constraints : List Expr
   pub pool : List Val
 
+-- what a function to be found takes and gives
+abbrev pub wanted_signature : {T N : Type 0} → Wanted T N → Signature
+wanted_signature wanted = record { takes = wanted.args; gives = wanted.sort }
+
+-- what the functions to be found take and give
+abbrev pub signatures : {T N : Type 0} → Problem T N → List Signature
+signatures problem = map wanted_signature problem.wanted
+
 abbrev pub goal_of : {T N : Type 0} → (N → Val) → Wanted T N → Goal
-goal_of number wanted = record { signature = record { takes = wanted.args; gives = wanted.sort }; grammar = syntax_from number wanted.grammar }
+goal_of number wanted = record { signature = wanted_signature wanted; grammar = syntax_from number wanted.grammar }
 
 -- what a problem asks
 abbrev pub question_of : {T N : Type 0} → (N → Val) → Problem T N → Question

@@ -2,7 +2,7 @@
 use Rattle.std.specs.Prelude.{ℕ, ◌-◌, ◌≤◌, ◌≡◌, true, List, [], ◌∷◌, map, All, ⊤}
 use Rattle.sy_terms.specs.Values.{Val, Truth}
 use Rattle.sy_terms.specs.Expr.{Expr}
-use Rattle.sy_terms.specs.Meaning.{Function, meaning, function_from, functions}
+use Rattle.sy_terms.specs.Meaning.{meaning, function_from, functions}
 use Rattle.sy_terms.specs.Theories.{sort_of_value, valid}
 use Rattle.sy_terms.specs.declared.sort.Sort.{Sort}
 use Rattle.sy_grammar_base.specs.Trees.{Tree, Derives, IsMember, tree_size}

@@ -1,5 +1,5 @@
 -- Grammars and derivation trees.
-use Rattle.std.specs.Prelude.{ℕ, zero, suc, ◌+◌, ◌-◌, ◌^◌, ◌/◌, not, ◌≤◌, ◌≡◌, ◌<◌, Bool, true, false, ◌&&◌, ◌||◌, ◌==◌, nat_le, nat_lt, ℤ, pos, negsuc, neg_ℤ, List, [], ◌∷◌, ◌++◌, length, slice_get, map, Option, Some, None, if◌then◌else◌, min, take, All}
+use Rattle.std.specs.Prelude.{ℕ, zero, suc, ◌+◌, ◌^◌, ◌/◌, not, ◌≤◌, ◌≡◌, ◌<◌, Bool, true, false, ◌&&◌, ◌||◌, ◌==◌, nat_le, nat_lt, pos, negsuc, List, [], ◌∷◌, length, slice_get, Option, Some, None, if◌then◌else◌, take, All}
 use Rattle.std.specs.Option.{option_map}
 use Rattle.std.specs.List.{list_any}
 use Rattle.sy_terms.specs.Values.{Val, Truth, Whole, Bits, same}

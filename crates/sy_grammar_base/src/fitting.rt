@@ -14,8 +14,8 @@ ghost use Rattle.sy_grammar_base.specs.Written.{pattern_of, patterns_of};
 use crate::grammar::Non;
 use crate::linear::is_linear;
 use crate::part::{Part, Parts};
-use crate::seen::{Seen, same_sort};
-use sy_terms::{Def, Sort, Theory, Value};
+use crate::seen::Seen;
+use sy_terms::{Def, Sort, Theory, Value, same_sort};
 
 /// The sort of the terms that the part gives; `None` exactly where it doesn't fit.
 #[cycle(part_sort)]

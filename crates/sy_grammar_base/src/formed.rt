@@ -9,8 +9,7 @@ ghost use Rattle.sy_grammar_base.specs.Grown.{nonterminal_of, production_of};
 
 use crate::fitting::part_sort;
 use crate::grammar::{Non, Rule};
-use crate::seen::same_sort;
-use sy_terms::{Def, Defs, Seq, Sort, Theory};
+use sy_terms::{Def, Defs, Seq, Sort, Theory, same_sort};
 
 /// Whether these nonterminals are a well-formed grammar over arguments of these sorts, under these definitions: true
 /// exactly where there is a start symbol, there are fewer than 2^31 nonterminals, each with fewer than 2^31 rules,

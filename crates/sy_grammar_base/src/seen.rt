@@ -4,7 +4,7 @@ ghost use Rattle.sy_terms.specs.Sorts as spec;
 ghost use Rattle.sy_terms.specs.Fitting.{given_by};
 ghost use Rattle.sy_grammar_base.specs.Seen.{extended, sort_by};
 
-use sy_terms::{Op, Sort, Sorted, Theory};
+use sy_terms::{Op, Sort, Sorted, Theory, same_sort};
 
 /// The sorts of up to three arguments; of more, whether all are one sort. No operator takes four or more arguments
 /// of different sorts.
@@ -70,17 +70,5 @@ fn given(sorted: Sorted) -> Option<Sort>
     match sorted {
         Sorted::Is(sort) => Some(sort),
         Sorted::Mismatch | Sorted::BadWidth => None,
-    }
-}
-
-/// Whether two sorts are the same.
-pub fn same_sort(a: &Sort, b: &Sort) -> bool
-    ensures { result ≡ spec.same_sort a.now b.now }
-{
-    match (a, b) {
-        (Sort::Bool, Sort::Bool) => true,
-        (Sort::Int, Sort::Int) => true,
-        (Sort::Bits(v), Sort::Bits(w)) => *v == *w,
-        _ => false,
     }
 }

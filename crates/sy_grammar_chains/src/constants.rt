@@ -2,7 +2,6 @@
 ghost use Rattle.std.specs.Prelude.{◌≡◌, ℕ, map, nat_eq, IfOk, Some};
 ghost use Rattle.std.specs.List.{list_any};
 ghost use Rattle.std.specs.HashSet.{contains};
-ghost use Rattle.sy_terms.specs.Sorts as sorts;
 ghost use Rattle.sy_terms.specs.Denoted.{val_of};
 ghost use Rattle.sy_grammar_chains.specs.Constants as spec;
 ghost use Rattle.sy_grammar_chains.specs.Constants.{IsGreatest, IsConstantSize, IsTop};
@@ -10,7 +9,7 @@ ghost use Rattle.sy_grammar_chains.specs.Constants.{IsGreatest, IsConstantSize, 
 use std::alloc::{AllocError, Global};
 use std::collections::HashSet;
 use sy_grammar_sizes::{digits, number_of};
-use sy_terms::{Sort, Theory, Value};
+use sy_terms::{Sort, Theory, Value, same_sort};
 
 /// The largest size of a constant that a rule for all of the sort gives; `None` exactly where it gives none.
 pub fn largest_constant<T: Theory>(
@@ -98,16 +97,4 @@ fn is_signed<T: Theory>(value: &Value<T::Num>, sort: Sort, negative: bool) -> bo
 {
     let below = number_of::<T>(value) < 0;
     same_sort(&sort, &T::value_sort(value)) && below == negative
-}
-
-/// Whether two sorts are the same.
-pub fn same_sort(a: &Sort, b: &Sort) -> bool
-    ensures { result ≡ sorts.same_sort a.now b.now }
-{
-    match (a, b) {
-        (Sort::Bool, Sort::Bool) => true,
-        (Sort::Int, Sort::Int) => true,
-        (Sort::Bits(v), Sort::Bits(w)) => *v == *w,
-        _ => false,
-    }
 }

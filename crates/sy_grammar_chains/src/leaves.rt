@@ -6,10 +6,10 @@ ghost use Rattle.sy_grammar_base.specs.Grown.{production_of, syntax_from};
 ghost use Rattle.sy_grammar_chains.specs.Tables as spec;
 ghost use Rattle.sy_grammar_chains.specs.Tables.{GivesLeaf, GivesLeaves, IsBest, IsTable};
 
-use crate::constants::{largest_constant, same_sort};
+use crate::constants::largest_constant;
 use std::alloc::{AllocError, Global};
 use sy_grammar_base::{Grammar, Rule};
-use sy_terms::{Sort, Theory, Value};
+use sy_terms::{Sort, Theory, Value, same_sort};
 
 /// Per nonterminal the largest size that its rules for all of a sort give, at most `limit`.
 pub fn leaf_table<T: Theory>(

@@ -1,13 +1,14 @@
 -- The default grammars are well formed.
-use Rattle.std.proofs.Common.{◌≡◌, ℕ, zero, suc, ◌+◌, ◌<◌, ◌≤◌, List, [], ◌∷◌, ◌++◌, append_assoc, length, map, refl, ap, sym, subst, ◌∙◌, arith, Option, Some, None, slice_get, Bool, true, false, ◌&&◌, nat_le, nat_eq, length-append}
-use Rattle.std.specs.Prelude.{◌^◌, ◌*◌, cond, nat_lt}
+use Rattle.std.proofs.Common.{◌≡◌, ℕ, suc, ◌+◌, ◌<◌, ◌≤◌, List, [], ◌∷◌, ◌++◌, append_assoc, length, refl, ap, sym, subst, ◌∙◌, arith, Option, Some, slice_get, Bool, true, false, ◌&&◌, nat_le, nat_eq, length-append}
+use Rattle.std.specs.Prelude.{◌^◌, ◌*◌, cond}
 use Rattle.std.specs.Option.{option_map}
 use Rattle.std.specs.List.{list_all, range_with_len, filter}
 use Rattle.std.proofs.lemmas.List.FromFn.{length-range_with_len}
 use Rattle.std.proofs.lemmas.Bool.{le-leb, lt-ltb}
 use Rattle.std.proofs.lemmas.List.Folds.{list_all-append}
 use Rattle.sy_terms.specs.Fitting.{Scope, Signature}
-use Rattle.sy_terms.specs.Sorts.{sort_of, same_sort}
+use Rattle.sy_terms.specs.Logics.{IsTheoryOf, number_sorts, operators_of}
+use Rattle.sy_terms.specs.Sorts.{sort_of}
 use Rattle.sy_terms.specs.declared.op.Op.{Op}
 use Rattle.sy_terms.specs.declared.op.Op.TheVariants as ops
 use Rattle.sy_terms.specs.declared.sort.Logic.{Logic}
@@ -16,7 +17,7 @@ use Rattle.sy_terms.specs.declared.sort.Sort.{Sort}
 use Rattle.sy_terms.specs.declared.sort.Sort.TheVariants as sorts
 use Rattle.sy_grammar_base.specs.Trees.{Production, Nonterminal, Syntax, is_sort}
 use Rattle.sy_grammar_base.specs.Formed.{is_known, is_formed, fits, pattern_sort, pattern_sorts, rule_sort}
-use Rattle.sy_grammar_defaults.specs.Defaults.{default_syntax, of_integers, integers, tests, constants, of_vectors, vectors_from, vector_rules, vector_tests, vector_truths, comparisons, connectives, ordered, others, is_other, operators_of, sorts_of, IsOf, two, one, three}
+use Rattle.sy_grammar_defaults.specs.Defaults.{default_syntax, integers, tests, constants, of_vectors, vectors_from, vector_rules, vector_tests, vector_truths, comparisons, connectives, ordered, others, is_other, two}
 
 both_are : (a b : Bool) → a ≡ true → b ≡ true → (a && b) ≡ true
 both_are true true e f = refl
@@ -36,23 +37,23 @@ abbrev scope : List Signature → Logic → Scope
 scope defined logic = record { owned = operators_of logic; defined = defined; wanted = [] }
 
 abbrev Formed : List Signature → Logic → Syntax → Type 0
-Formed defined logic syntax = is_formed (sorts_of logic) (scope defined logic) syntax ≡ true
+Formed defined logic syntax = is_formed (number_sorts logic) (scope defined logic) syntax ≡ true
 
-formed : (defined : List Signature) (logic : Logic) (arguments : List Sort) (nonterminals : List Nonterminal) → 1 ≤ length nonterminals → length nonterminals < 2 ^ 31 → list_all (is_known (sorts_of logic)) arguments ≡ true →
-    list_all (fits (sorts_of logic) (scope defined logic) (record { arguments = arguments; nonterminals = nonterminals })) nonterminals ≡ true → Formed defined logic (record { arguments = arguments; nonterminals = nonterminals })
+formed : (defined : List Signature) (logic : Logic) (arguments : List Sort) (nonterminals : List Nonterminal) → 1 ≤ length nonterminals → length nonterminals < 2 ^ 31 → list_all (is_known (number_sorts logic)) arguments ≡ true →
+    list_all (fits (number_sorts logic) (scope defined logic) (record { arguments = arguments; nonterminals = nonterminals })) nonterminals ≡ true → Formed defined logic (record { arguments = arguments; nonterminals = nonterminals })
 formed defined logic arguments nonterminals least most known fit =
     both_are _ _ (both_are _ _ (le-leb 1 (length nonterminals) least) (lt-ltb (length nonterminals) (2 ^ 31) most)) (both_are _ _ known fit)
 
 -- integers
-integers_formed : (defined : List Signature) (arguments : List Sort) → list_all (is_known (sorts_of Lia)) arguments ≡ true → Formed defined Lia (record { arguments = arguments; nonterminals = integers 0 1 2 ∷ tests 0 1 ∷ constants ∷ [] })
+integers_formed : (defined : List Signature) (arguments : List Sort) → list_all (is_known (number_sorts Lia)) arguments ≡ true → Formed defined Lia (record { arguments = arguments; nonterminals = integers 0 1 2 ∷ tests 0 1 ∷ constants ∷ [] })
 unfolding pattern_sort pattern_sorts sort_of
 integers_formed defined arguments known = formed defined Lia arguments (integers 0 1 2 ∷ tests 0 1 ∷ constants ∷ []) (omega arith) (omega arith) known refl
 
-truths_formed : (defined : List Signature) (arguments : List Sort) → list_all (is_known (sorts_of Lia)) arguments ≡ true → Formed defined Lia (record { arguments = arguments; nonterminals = tests 1 0 ∷ integers 1 0 2 ∷ constants ∷ [] })
+truths_formed : (defined : List Signature) (arguments : List Sort) → list_all (is_known (number_sorts Lia)) arguments ≡ true → Formed defined Lia (record { arguments = arguments; nonterminals = tests 1 0 ∷ integers 1 0 2 ∷ constants ∷ [] })
 unfolding pattern_sort pattern_sorts sort_of
 truths_formed defined arguments known = formed defined Lia arguments (tests 1 0 ∷ integers 1 0 2 ∷ constants ∷ []) (omega arith) (omega arith) known refl
 
-pub lia_formed : (defined : List Signature) (arguments : List Sort) (sort : Sort) → list_all (is_known (sorts_of Lia)) arguments ≡ true → Formed defined Lia (default_syntax Lia arguments sort)
+pub lia_formed : (defined : List Signature) (arguments : List Sort) (sort : Sort) → list_all (is_known (number_sorts Lia)) arguments ≡ true → Formed defined Lia (default_syntax Lia arguments sort)
 lia_formed defined arguments sorts.Bool known = truths_formed defined arguments known
 lia_formed defined arguments sorts.Int known = integers_formed defined arguments known
 lia_formed defined arguments (sorts.Bits w) known = integers_formed defined arguments known
@@ -104,11 +105,11 @@ comparisons_count (v ∷ rest) = omega (arith, comparisons_count rest)
 abbrev pub HasWidth : ℕ → Bool
 HasWidth w = nat_le 1 w && nat_le w 64
 
-truths_fits : (defined : List Signature) (syntax : Syntax) (vectors : List ℕ) (b : ℕ) → length vectors ≤ 65 → AreVectors syntax vectors → sort_at syntax b ≡ Some sorts.Bool → fits (sorts_of Bv) (scope defined Bv) syntax (vector_truths vectors b) ≡ true
+truths_fits : (defined : List Signature) (syntax : Syntax) (vectors : List ℕ) (b : ℕ) → length vectors ≤ 65 → AreVectors syntax vectors → sort_at syntax b ≡ Some sorts.Bool → fits (number_sorts Bv) (scope defined Bv) syntax (vector_truths vectors b) ≡ true
 truths_fits defined syntax vectors b few are at =
     both_are _ _ refl (both_are _ _ (lt-ltb (length (vector_tests vectors b)) (2 ^ 31) (omega (arith, few, comparisons_count vectors, length-append (comparisons vectors) (connectives b)))) (tests_fit defined syntax vectors b are at))
 
-vector_fits : (defined : List Signature) (syntax : Syntax) (w v b : ℕ) → HasWidth w ≡ true → sort_at syntax v ≡ Some (sorts.Bits w) → sort_at syntax b ≡ Some sorts.Bool → fits (sorts_of Bv) (scope defined Bv) syntax (record { sort = sorts.Bits w; rules = vector_rules w v b }) ≡ true
+vector_fits : (defined : List Signature) (syntax : Syntax) (w v b : ℕ) → HasWidth w ≡ true → sort_at syntax v ≡ Some (sorts.Bits w) → sort_at syntax b ≡ Some sorts.Bool → fits (number_sorts Bv) (scope defined Bv) syntax (record { sort = sorts.Bits w; rules = vector_rules w v b }) ≡ true
 vector_fits defined syntax w v b known at truths = both_are _ _ known (both_are _ _ refl (width_rules defined syntax w v b at truths))
 
 -- the nonterminals from the first on have these widths
@@ -116,7 +117,7 @@ abbrev Numbered : Syntax → ℕ → List ℕ → Type 0
 Numbered syntax v [] = Unit {0}
 Numbered syntax v (w ∷ rest) = (sort_at syntax v ≡ Some (sorts.Bits w)) × Numbered syntax (v + 1) rest
 
-vectors_fit : (defined : List Signature) (syntax : Syntax) (v b : ℕ) (widths : List ℕ) → list_all HasWidth widths ≡ true → Numbered syntax v widths → sort_at syntax b ≡ Some sorts.Bool → list_all (fits (sorts_of Bv) (scope defined Bv) syntax) (vectors_from v b widths) ≡ true
+vectors_fit : (defined : List Signature) (syntax : Syntax) (v b : ℕ) (widths : List ℕ) → list_all HasWidth widths ≡ true → Numbered syntax v widths → sort_at syntax b ≡ Some sorts.Bool → list_all (fits (number_sorts Bv) (scope defined Bv) syntax) (vectors_from v b widths) ≡ true
 vectors_fit defined syntax v b [] known at truths = refl
 vectors_fit defined syntax v b (w ∷ rest) known at truths =
     let both = both_true (HasWidth w) (list_all HasWidth rest) known in
@@ -154,7 +155,7 @@ append_none [] = refl
 append_none (x ∷ all) = ap (λ (rest : List Nonterminal). x ∷ rest) (append_none all)
 
 -- where the result is a vector
-bits_formed : (defined : List Signature) (arguments : List Sort) (widths : List ℕ) → list_all (is_known (sorts_of Bv)) arguments ≡ true → list_all HasWidth widths ≡ true → length widths ≤ 65 →
+bits_formed : (defined : List Signature) (arguments : List Sort) (widths : List ℕ) → list_all (is_known (number_sorts Bv)) arguments ≡ true → list_all HasWidth widths ≡ true → length widths ≤ 65 →
     Formed defined Bv (record { arguments = arguments; nonterminals = vectors_from 0 (length widths) widths ++ vector_truths (range_with_len 0 (length widths)) (length widths) ∷ [] })
 bits_formed defined arguments widths known wide few =
     let n = length widths in
@@ -168,10 +169,10 @@ bits_formed defined arguments widths known wide few =
     let last = truths_fits defined syntax (range_with_len 0 n) n (omega (arith, few, length-range_with_len 0 n)) (numbered_vectors syntax 0 widths numbered) at in
     let size = length-append (vectors_from 0 n widths) (truths ∷ []) in
     formed defined Bv arguments all (omega (arith, size)) (omega (arith, size, count, few)) known
-    (list_all-append (fits (sorts_of Bv) (scope defined Bv) syntax) (vectors_from 0 n widths) (truths ∷ []) ∙ both_are _ _ first (both_are _ true last refl))
+    (list_all-append (fits (number_sorts Bv) (scope defined Bv) syntax) (vectors_from 0 n widths) (truths ∷ []) ∙ both_are _ _ first (both_are _ true last refl))
 
 -- where it is a truth value
-bool_formed : (defined : List Signature) (arguments : List Sort) (widths : List ℕ) → list_all (is_known (sorts_of Bv)) arguments ≡ true → list_all HasWidth widths ≡ true → length widths ≤ 65 →
+bool_formed : (defined : List Signature) (arguments : List Sort) (widths : List ℕ) → list_all (is_known (number_sorts Bv)) arguments ≡ true → list_all HasWidth widths ≡ true → length widths ≤ 65 →
     Formed defined Bv (record { arguments = arguments; nonterminals = vector_truths (range_with_len 1 (length widths)) 0 ∷ vectors_from 1 0 widths })
 bool_formed defined arguments widths known wide few =
     let n = length widths in
@@ -182,7 +183,7 @@ bool_formed defined arguments widths known wide few =
     let rest = vectors_fit defined syntax 1 0 widths wide numbered refl in
     formed defined Bv arguments (truths ∷ vectors_from 1 0 widths) (omega arith) (omega (arith, vectors_count 1 0 widths, few)) known (both_are _ _ first rest)
 
-of_vectors_formed : (defined : List Signature) (arguments : List Sort) (sort : Sort) (widths : List ℕ) → list_all (is_known (sorts_of Bv)) arguments ≡ true → list_all HasWidth widths ≡ true → length widths ≤ 65 → Formed defined Bv (record { arguments = arguments; nonterminals = of_vectors sort widths })
+of_vectors_formed : (defined : List Signature) (arguments : List Sort) (sort : Sort) (widths : List ℕ) → list_all (is_known (number_sorts Bv)) arguments ≡ true → list_all HasWidth widths ≡ true → length widths ≤ 65 → Formed defined Bv (record { arguments = arguments; nonterminals = of_vectors sort widths })
 of_vectors_formed defined arguments sorts.Bool widths known wide few = bool_formed defined arguments widths known wide few
 of_vectors_formed defined arguments sorts.Int widths known wide few = bool_formed defined arguments widths known wide few
 of_vectors_formed defined arguments (sorts.Bits w) widths known wide few = bits_formed defined arguments widths known wide few
@@ -212,7 +213,7 @@ others_wide sort arguments = filter_passes (is_other sort arguments) HasWidth (r
 pub others_few : (sort : Sort) (arguments : List Sort) → length (others sort arguments) ≤ 64
 others_few sort arguments = filter_few (is_other sort arguments) (range_with_len 1 64)
 
-ordered_wide : (sort : Sort) (arguments : List Sort) → is_known (sorts_of Bv) sort ≡ true → list_all HasWidth (ordered sort arguments) ≡ true
+ordered_wide : (sort : Sort) (arguments : List Sort) → is_known (number_sorts Bv) sort ≡ true → list_all HasWidth (ordered sort arguments) ≡ true
 ordered_wide sorts.Bool arguments known = others_wide sorts.Bool arguments
 ordered_wide sorts.Int arguments known = others_wide sorts.Int arguments
 ordered_wide (sorts.Bits w) arguments known = both_are _ _ known (others_wide (sorts.Bits w) arguments)
@@ -222,17 +223,17 @@ ordered_few sorts.Bool arguments = omega (arith, others_few sorts.Bool arguments
 ordered_few sorts.Int arguments = omega (arith, others_few sorts.Int arguments)
 ordered_few (sorts.Bits w) arguments = omega (arith, others_few (sorts.Bits w) arguments)
 
-logic_formed : (defined : List Signature) (logic : Logic) (arguments : List Sort) (sort : Sort) → list_all (is_known (sorts_of logic)) arguments ≡ true → is_known (sorts_of logic) sort ≡ true → Formed defined logic (default_syntax logic arguments sort)
+logic_formed : (defined : List Signature) (logic : Logic) (arguments : List Sort) (sort : Sort) → list_all (is_known (number_sorts logic)) arguments ≡ true → is_known (number_sorts logic) sort ≡ true → Formed defined logic (default_syntax logic arguments sort)
 logic_formed defined Lia arguments sort known value = lia_formed defined arguments sort known
 logic_formed defined Bv arguments sort known value = of_vectors_formed defined arguments sort (ordered sort arguments) known (ordered_wide sort arguments value) (ordered_few sort arguments)
 
 -- under the theory of the logic
-pub default_formed : (defined : List Signature) (logic : Logic) (owned : Op → Bool) (numeric : Sort → Bool) → IsOf logic owned numeric → (arguments : List Sort) (sort : Sort) → list_all (is_known numeric) arguments ≡ true → is_known numeric sort ≡ true →
+pub default_formed : (defined : List Signature) (logic : Logic) (owned : Op → Bool) (numeric : Sort → Bool) → IsTheoryOf logic owned numeric → (arguments : List Sort) (sort : Sort) → list_all (is_known numeric) arguments ≡ true → is_known numeric sort ≡ true →
     is_formed numeric (record { owned = owned; defined = defined; wanted = [] }) (default_syntax logic arguments sort) ≡ true
 default_formed defined logic owned numeric is arguments sort known value =
     let operators : owned ≡ operators_of logic = λ i. λ operator. is.operators operator i in
-    let numbers : numeric ≡ sorts_of logic = λ i. λ s. is.sorts s i in
+    let numbers : numeric ≡ number_sorts logic = λ i. λ s. is.sorts s i in
     let plain = logic_formed defined logic arguments sort (ap (λ (n : Sort → Bool). list_all (is_known n) arguments) (sym numbers) ∙ known) (ap (λ (n : Sort → Bool). is_known n sort) (sym numbers) ∙ value) in
     ap (λ (n : Sort → Bool). is_formed n (record { owned = owned; defined = defined; wanted = [] }) (default_syntax logic arguments sort)) numbers
-    ∙ ap (λ (o : Op → Bool). is_formed (sorts_of logic) (record { owned = o; defined = defined; wanted = [] }) (default_syntax logic arguments sort)) operators
+    ∙ ap (λ (o : Op → Bool). is_formed (number_sorts logic) (record { owned = o; defined = defined; wanted = [] }) (default_syntax logic arguments sort)) operators
     ∙ plain

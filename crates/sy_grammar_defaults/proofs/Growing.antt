@@ -1,23 +1,22 @@
 -- Lists of rules, nonterminals and widths that grow.
-use Rattle.std.proofs.Common.{◌≡◌, ℕ, zero, suc, ◌+◌, ◌-◌, ◌<◌, ◌≤◌, List, [], ◌∷◌, ◌++◌, append_assoc, length, drop, take, map, get_or, refl, ap, sym, subst, ◌∙◌, arith, Bool, true, false, Some, slice_get}
+use Rattle.std.proofs.Common.{◌≡◌, ℕ, zero, suc, ◌+◌, ◌-◌, ◌<◌, ◌≤◌, List, [], ◌∷◌, ◌++◌, append_assoc, length, drop, map, get_or, refl, ap, sym, ◌∙◌, arith, Bool, true, false}
 use Rattle.std.specs.Prelude.{cond}
 use Rattle.std.specs.List.{filter, range_with_len}
 use Rattle.std.proofs.lemmas.List.{map-append, drop_more, append-nil}
 use Rattle.sy_terms.specs.Values.{Val}
 use Rattle.sy_terms.specs.declared.op.Op.{Op}
-use Rattle.sy_terms.specs.declared.sort.Sort.{Sort}
 use Rattle.sy_terms.specs.declared.sort.Sort.TheVariants as sorts
-use Rattle.sy_grammar_base.specs.Patterns.{Apply, Patterns, more, Occurrence}
+use Rattle.sy_grammar_base.specs.Patterns.{Apply, more, Occurrence}
 use Rattle.sy_grammar_base.specs.Trees.{Production, Template, Nonterminal}
-use Rattle.sy_grammar_base.specs.Written.{pattern_of, patterns_of, pattern_of-App, pattern_of-Non}
+use Rattle.sy_grammar_base.specs.Written.{patterns_of, pattern_of-App, pattern_of-Non}
 use Rattle.sy_grammar_base.specs.Grown.{production_of, nonterminal_of}
-use Rattle.sy_grammar_base.specs.declared.part.Part.{Part, App}
+use Rattle.sy_grammar_base.specs.declared.part.Part.{App}
 use Rattle.sy_grammar_base.specs.declared.part.Parts.{Parts}
 use Rattle.sy_grammar_base.specs.declared.grammar.Rule.{Rule}
 use Rattle.sy_grammar_base.specs.declared.grammar.Rule.TheVariants.{Term}
 use Rattle.sy_grammar_base.specs.declared.grammar.Non.{Non}
 use Rattle.sy_grammar_defaults.specs.Occurrences.{occurrence}
-use Rattle.sy_grammar_defaults.specs.Defaults.{places, applied, comparisons, vectors_from, vector_rules, is_other}
+use Rattle.sy_grammar_defaults.specs.Defaults.{places, applied, comparisons, vectors_from, vector_rules}
 
 places_is : (T : Type 0) {N : Type 0} (number : N → Val) (nonterminals : List ℕ) → patterns_of {T = T} number (map occurrence nonterminals) ≡ places nonterminals
 places_is T number [] = refl

@@ -1,9 +1,8 @@
 -- The grammar of a function that is declared without one.
-use Rattle.std.specs.Prelude.{ℕ, ◌+◌, ◌≡◌, Bool, true, false, not, ◌&&◌, ◌||◌, List, [], ◌∷◌, ◌++◌, length, map}
+use Rattle.std.specs.Prelude.{ℕ, ◌+◌, ◌≡◌, Bool, true, not, ◌&&◌, List, [], ◌∷◌, ◌++◌, length, map}
 use Rattle.std.specs.List.{filter, list_any, range_with_len}
 use Rattle.sy_terms.specs.Fitting.{Signature}
 use Rattle.sy_terms.specs.Sorts.{same_sort}
-use Rattle.sy_terms.specs.Theories.{in_core, in_ints}
 use Rattle.sy_terms.specs.declared.op.Op.{Op}
 use Rattle.sy_terms.specs.declared.op.Op.TheVariants as ops
 use Rattle.sy_terms.specs.declared.sort.Logic.{Logic}
@@ -116,21 +115,6 @@ nonterminals Bv arguments sort = of_vectors sort (ordered sort arguments)
 -- the grammar of a function with arguments of these sorts and a value of this sort
 abbrev pub default_syntax : Logic → List Sort → Sort → Syntax
 default_syntax logic arguments sort = record { arguments = arguments; nonterminals = nonterminals logic arguments sort }
-
--- the operators of a logic, and the sorts of its numbers
-abbrev pub operators_of : Logic → Op → Bool
-operators_of Lia operator = in_core operator || in_ints operator
-operators_of Bv operator = not (in_ints operator)
-
-abbrev pub sorts_of : Logic → Sort → Bool
-sorts_of Lia sorts.Int = true
-sorts_of Bv (sorts.Bits width) = true
-sorts_of _ _ = false
-
--- a theory with these operators and sorts of numbers is the logic's
-pub record IsOf (logic : Logic) (owned : Op → Bool) (numeric : Sort → Bool) : Type 0 where
-  pub operators : (operator : Op) → owned operator ≡ operators_of logic operator
-  pub sorts : (sort : Sort) → numeric sort ≡ sorts_of logic sort
 
 -- the grammar is well formed under any definitions
 abbrev pub IsFormed : (Op → Bool) → (Sort → Bool) → Syntax → Type 0

@@ -1,10 +1,11 @@
 // Default grammars.
 ghost use Rattle.std.specs.Prelude.{◌≡◌, true, map, IfOk};
 ghost use Rattle.std.specs.List.{list_all};
+ghost use Rattle.sy_terms.specs.Logics.{IsTheoryOf};
 ghost use Rattle.sy_grammar_base.specs.Formed.{is_known};
 ghost use Rattle.sy_grammar_base.specs.Grown.{syntax_from, nonterminal_of};
 ghost use Rattle.sy_grammar_defaults.specs.Defaults as spec;
-ghost use Rattle.sy_grammar_defaults.specs.Defaults.{IsFormed, IsOf, default_syntax};
+ghost use Rattle.sy_grammar_defaults.specs.Defaults.{IsFormed, default_syntax};
 ghost use Rattle.sy_grammar_base.specs.Trees.{IsNumbered};
 
 use crate::integers::integer_nons;
@@ -22,7 +23,7 @@ pub fn default_grammar<T: Theory>(
     args: &[Sort],
     sort: Sort,
 ) -> Result<Grammar<T>, Want>
-    requires theory { IsOf logic T.owned T.numeric }
+    requires theory { IsTheoryOf logic T.owned T.numeric }
     requires arguments { list_all (is_known T.numeric) args.now ≡ true }
     requires value { is_known T.numeric sort ≡ true }
     ensures is { IfOk result (λ grammar. syntax_from T.denotes grammar ≡ default_syntax logic args.now sort) }

@@ -4,8 +4,6 @@
 mod grammar;
 mod integers;
 mod rules;
-#[cfg(test)]
-mod tests;
 mod vectors;
 mod widths;
 

@@ -1,18 +1,15 @@
 -- Rows that are filled step by step, until no rule makes another one.
-use Rattle.std.proofs.Common.{◌≡◌, ℕ, zero, suc, ◌+◌, ◌<◌, ◌≤◌, ◌≢◌, List, [], ◌∷◌, ◌++◌, length, length-append, map, refl, ap, sym, ◌∙◌, arith, Option, Some, None, slice_get, subst, ◌⊎◌, inl, inr, set, append_assoc}
-use Rattle.std.specs.Prelude.{◌^◌}
-use Rattle.std.proofs.lemmas.Option.{slice_get-map, slice_get_within, slice_get_past, slice_get_cases}
+use Rattle.std.proofs.Common.{◌≡◌, ℕ, zero, suc, ◌<◌, List, [], ◌∷◌, ◌++◌, length, length-append, refl, ap, sym, ◌∙◌, arith, Option, Some, None, slice_get, subst, ◌⊎◌, inl, inr, set, append_assoc}
+use Rattle.std.proofs.lemmas.Option.{slice_get_within}
 use Rattle.sy_terms.specs.Values.{Val}
 use Rattle.sy_terms.specs.Expr as expr
 use Rattle.sy_terms.specs.Expr.{Expr, Exprs}
-use Rattle.sy_terms.specs.declared.sort.Sort.{Sort}
 use Rattle.sy_grammar_base.specs.Patterns.{occurring, filled}
 use Rattle.sy_grammar_base.specs.Trees as trees
 use Rattle.sy_grammar_base.specs.Trees.{Syntax, Tree, Trees, Production, Nonterminal, Template, EachConstant, EachVariable, Derives, rule_at, rule_of, node_yield, constant_yield, variable_yield, yield_from, yields_from}
 use Rattle.sy_grammar_derive.specs.Notes.{Notes, Note, Noted}
-use Rattle.sy_grammar_derive.specs.Filled.{Filled}
-use Rattle.sy_grammar_derive.specs.Steps.{tree_at, picked, tree_by, trees_from, AreBelow, IsAfter, AreInOrder}
-use Rattle.sy_grammar_derive.specs.Rows.{Makes, MakesNone, IsMade, IsMadeBy, IsMadeByNone, IsClosed, IsSound, IsWhole, IsRight, AreRight, IsGrown, IsBlank, IsFilling, IsRow, IsNoted, AreNoted, missing, arguments_of}
+use Rattle.sy_grammar_derive.specs.Steps.{tree_at, picked, tree_by, trees_from, IsAfter, AreInOrder}
+use Rattle.sy_grammar_derive.specs.Rows.{Makes, IsMade, IsClosed, IsSound, IsRight, AreRight, IsGrown, IsBlank, IsFilling, IsRow, IsNoted, AreNoted, missing, arguments_of}
 use Rattle.sy_grammar_derive.specs.declared.step.Step.{Step}
 use Rattle.sy_grammar_derive.specs.declared.step.Step.TheVariants.{Node, Constant, Variable}
 use Rattle.sy_grammar_derive.proofs.Sound.{fills_yield}

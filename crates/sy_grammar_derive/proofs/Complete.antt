@@ -1,5 +1,5 @@
 -- What a nonterminal derives has a step where no rule makes another one.
-use Rattle.std.proofs.Common.{◌≡◌, ℕ, ◌<◌, ◌≤◌, List, [], ◌∷◌, ◌++◌, length, take, drop, refl, ap, sym, ◌∙◌, arith, Option, Some, None, slice_get, subst, ◌⊎◌, inl, inr}
+use Rattle.std.proofs.Common.{◌≡◌, ℕ, ◌≤◌, List, [], ◌∷◌, ◌++◌, length, take, drop, refl, ap, sym, ◌∙◌, arith, Option, Some, None, slice_get, subst, ◌⊎◌, inl, inr}
 use Rattle.std.proofs.lemmas.Option.{slice_get_past, slice_get_cases}
 use Rattle.sy_terms.specs.Expr as expr
 use Rattle.sy_terms.specs.Expr.{Expr, Exprs}
@@ -10,7 +10,7 @@ use Rattle.sy_grammar_base.specs.Trees.{Syntax, Tree, Trees, Production, Templat
 use Rattle.sy_grammar_derive.specs.Notes as notes
 use Rattle.sy_grammar_derive.specs.Notes.{Notes, Note, Noted}
 use Rattle.sy_grammar_derive.specs.Filled.{Filled, AllFilled}
-use Rattle.sy_grammar_derive.specs.Rows.{IsFound, IsSound, IsWhole, IsRight, AreRight, IsClosed, MakesNone, arguments_of}
+use Rattle.sy_grammar_derive.specs.Rows.{IsFound, IsWhole, IsRight, AreRight, IsClosed, MakesNone, arguments_of}
 use Rattle.sy_grammar_derive.proofs.Pieces.{take_front, drop_front, joined_Some, yields_length, yields_split, node_yield_Some}
 
 -- the row has a step for the nonterminal that a chain rule goes to

@@ -1,6 +1,6 @@
 -- Terms that write constants and name arguments.
-use Rattle.std.proofs.Common.{◌≡◌, ℕ, zero, suc, ◌+◌, ◌<◌, ◌≤◌, List, [], ◌∷◌, length, refl, ap, sym, ◌∙◌, arith, Option, Some, None, slice_get, subst, add-one, Bool, true, false, ◌&&◌, ◌⊎◌, inl, inr, ℤ, pos, negsuc}
-use Rattle.std.specs.Prelude.{if◌then◌else◌, neg_ℤ, ◌^◌, nat_lt}
+use Rattle.std.proofs.Common.{◌≡◌, ℕ, zero, suc, ◌+◌, ◌<◌, ◌≤◌, List, [], ◌∷◌, length, refl, ap, sym, ◌∙◌, arith, Option, Some, None, slice_get, add-one, Bool, true, false, ◌&&◌, ◌⊎◌, inl, inr, ℤ, pos, negsuc}
+use Rattle.std.specs.Prelude.{if◌then◌else◌, ◌^◌, nat_lt}
 use Rattle.std.specs.Option.{option_map, MatchOption}
 use Rattle.std.specs.Cmp.{first_so, second_so}
 use Rattle.std.proofs.lemmas.Bool.{eqb-true, lt-ltb, ltb-true}
@@ -10,7 +10,7 @@ use Rattle.sy_terms.specs.Values.{Val, Truth, Whole, Bits}
 use Rattle.sy_terms.specs.Expr as expr
 use Rattle.sy_terms.specs.Expr.{Expr, Exprs}
 use Rattle.sy_terms.specs.Sorts.{same_sort}
-use Rattle.sy_terms.specs.Theories.{sort_of_value, whole_number, value_at, valid}
+use Rattle.sy_terms.specs.Theories.{sort_of_value, whole_number, value_at}
 use Rattle.sy_terms.specs.Denoted.{expr_of, exprs_of}
 use Rattle.sy_terms.specs.declared.op.Op.TheVariants as ops
 use Rattle.sy_terms.specs.declared.sort.Sort.{Sort}

@@ -1,16 +1,15 @@
 -- Steps that fill a pattern derive the term.
-use Rattle.std.proofs.Common.{◌≡◌, ℕ, ◌<◌, List, [], ◌∷◌, ◌++◌, length, take, drop, refl, ap, sym, ◌∙◌, arith, Option, Some, None, slice_get, subst}
-use Rattle.sy_terms.specs.Values.{Val}
+use Rattle.std.proofs.Common.{◌≡◌, ℕ, List, [], ◌∷◌, ◌++◌, length, refl, ap, sym, ◌∙◌, Option, Some, subst}
 use Rattle.sy_terms.specs.Expr as expr
 use Rattle.sy_terms.specs.Expr.{Expr, Exprs}
 use Rattle.sy_grammar_base.specs.Patterns as patterns
 use Rattle.sy_grammar_base.specs.Patterns.{Pattern, Patterns, Constant, Variable, Occurrence, Apply, Invoke, occurring, all_occurring, filled, all_filled}
-use Rattle.sy_grammar_base.specs.Trees.{Syntax, Tree, Trees, yield_from, yields_from}
+use Rattle.sy_grammar_base.specs.Trees.{Syntax, Tree, yield_from, yields_from}
 use Rattle.sy_grammar_derive.specs.Notes as notes
 use Rattle.sy_grammar_derive.specs.Notes.{Notes, Note, Noted}
 use Rattle.sy_grammar_derive.specs.Filled.{Filled, AllFilled}
 use Rattle.sy_grammar_derive.specs.Steps.{tree_at, picked, AreBelow}
-use Rattle.sy_grammar_derive.specs.Rows.{IsSound, IsWhole, IsRight, AreRight, arguments_of}
+use Rattle.sy_grammar_derive.specs.Rows.{IsSound, IsRight, AreRight, arguments_of}
 use Rattle.sy_grammar_derive.proofs.Pieces.{take_front, drop_front, joined_with, yields_length, yields_join}
 
 -- the steps' trees derive terms from the nonterminals, and the term is rebuilt of these

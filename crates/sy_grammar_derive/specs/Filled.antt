@@ -1,5 +1,5 @@
 -- How the steps of notes fill a pattern's occurrences.
-use Rattle.std.specs.Prelude.{ℕ, List, [], ◌∷◌, ◌++◌, ◌≡◌, slice_get, Option, Some, None, Bool, true, false}
+use Rattle.std.specs.Prelude.{ℕ, List, [], ◌∷◌, ◌++◌, ◌≡◌, slice_get, Option, Some, Bool, true, false}
 use Rattle.sy_terms.specs.Expr as expr
 use Rattle.sy_terms.specs.Expr.{Expr, Exprs}
 use Rattle.sy_terms.specs.declared.term.Fun.TheVariants.{Defined}

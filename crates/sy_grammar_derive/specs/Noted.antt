@@ -1,5 +1,5 @@
 -- What notes stand for.
-use Rattle.std.specs.Prelude.{ℕ, List, [], ◌∷◌, ◌≡◌, refl, Option}
+use Rattle.std.specs.Prelude.{List, [], ◌∷◌, ◌≡◌, refl}
 use Rattle.std.proofs.Common.{ap, ◌∙◌, sym}
 use Rattle.sy_grammar_derive.specs.Notes as notes
 use Rattle.sy_grammar_derive.specs.Notes.{Noted, none, more}

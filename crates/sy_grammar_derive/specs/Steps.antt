@@ -1,5 +1,5 @@
 -- Steps that each derive a term by a rule, from what earlier steps derive.
-use Rattle.std.specs.Prelude.{ℕ, zero, suc, List, [], ◌∷◌, ◌++◌, ◌≡◌, ◌<◌, length, slice_get, Some}
+use Rattle.std.specs.Prelude.{ℕ, zero, suc, List, [], ◌∷◌, ◌++◌, ◌≡◌, ◌<◌, slice_get, Some}
 use Rattle.sy_terms.specs.Values.{Val}
 use Rattle.sy_terms.specs.Denoted.{val_of}
 use Rattle.sy_grammar_base.specs.Trees as trees

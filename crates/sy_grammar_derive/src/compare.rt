@@ -1,24 +1,11 @@
 // Comparisons of terms with what rules are made of.
 ghost use Rattle.std.specs.Prelude.{◌≡◌, ◌==◌, ◌↔◌, IsTrue, MatchOption};
-ghost use Rattle.sy_terms.specs.Sorts as spec;
 ghost use Rattle.sy_terms.specs.Denoted.{val_of, expr_of, exprs_of};
 ghost use Rattle.sy_terms.specs.Expr as expr;
 ghost use Rattle.sy_terms.specs.Expr.{Exprs};
 ghost use Rattle.sy_terms.specs.declared.term.Fun.TheVariants.{Defined};
 
-use sy_terms::{Fun, Op, Sort, Term, Terms, Theory, Value, same_value};
-
-/// Whether two sorts are the same.
-pub fn same_sort(a: &Sort, b: &Sort) -> bool
-    ensures { result ≡ spec.same_sort a.now b.now }
-{
-    match (a, b) {
-        (Sort::Bool, Sort::Bool) => true,
-        (Sort::Int, Sort::Int) => true,
-        (Sort::Bits(v), Sort::Bits(w)) => *v == *w,
-        _ => false,
-    }
-}
+use sy_terms::{Fun, Op, Term, Terms, Theory, Value, same_value};
 
 /// Whether the term is this constant.
 pub fn is_constant<T: Theory>(term: &Term<T>, value: &Value<T::Num>) -> bool

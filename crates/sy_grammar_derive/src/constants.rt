@@ -7,8 +7,7 @@ ghost use Rattle.sy_terms.specs.declared.op.Op.TheVariants as ops;
 ghost use Rattle.sy_terms.specs.declared.sort.Sort.TheVariants as sorts;
 ghost use Rattle.sy_grammar_derive.specs.Rows.{IsConstant, IsVariable, IsOpposite};
 
-use crate::compare::same_sort;
-use sy_terms::{Op, Sort, Term, Terms, Theory, Value};
+use sy_terms::{Op, Sort, Term, Terms, Theory, Value, same_sort};
 
 /// The constant of the sort that the term writes; `None` exactly where it writes none.
 pub fn constant_of<T: Theory>(term: &Term<T>, sort: Sort) -> Option<Value<T::Num>>

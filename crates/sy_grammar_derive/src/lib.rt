@@ -10,7 +10,5 @@ mod note;
 mod rows;
 mod rules;
 mod step;
-#[cfg(test)]
-mod tests;
 
 pub use derivations::derive;

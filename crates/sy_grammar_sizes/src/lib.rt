@@ -3,8 +3,6 @@
 
 mod constants;
 mod sizes;
-#[cfg(test)]
-mod tests;
 
 pub use constants::{constant_size, digits, number_of};
 pub use sizes::derivation_size;

@@ -3,8 +3,6 @@
 
 mod evaluation;
 mod fitting;
-#[cfg(test)]
-mod tests;
 mod trace;
 
 pub use evaluation::{Eval, evaluate, evaluate_with};

@@ -1,4 +1,3 @@
 mod Folds
 mod Ordered
 mod Single
-mod Sorted

@@ -3,8 +3,6 @@
 
 mod order;
 mod steps;
-#[cfg(test)]
-mod tests;
 mod theory;
 mod unary;
 

@@ -1,12 +1,6 @@
 -- Pairs of values at which an operator on vectors has a value.
-use Rattle.std.specs.Prelude.{Bool, true, false, not, ◌||◌, ◌≡◌, ◌≢◌, ◌∷◌, [], refl, ℕ, zero, suc, ◌<◌, slice_index_or}
-use Rattle.std.proofs.Common.{ap, arith}
-use Rattle.sy_terms.specs.Values.{Val}
-use Rattle.sy_terms.specs.Pairs.{ArePairsSorted}
-use Rattle.sy_terms.specs.Sorts.{sort_of}
-use Rattle.sy_terms.specs.declared.sort.Sort.{Sort}
-use Rattle.sy_terms.specs.declared.sort.Sort.TheVariants as sorts
-use Rattle.sy_terms.specs.declared.sorts.Sorted.TheVariants.{Is}
+use Rattle.std.specs.Prelude.{Bool, true, false, not, ◌||◌, ◌≡◌, ◌≢◌, ◌∷◌, [], refl}
+use Rattle.std.proofs.Common.{ap}
 use Rattle.sy_terms.specs.Operators.{op_value}
 use Rattle.sy_terms.specs.Theories.{sort_of_value, valid, fits, in_core, in_ints}
 use Rattle.sy_terms.specs.Denoted.{val_of, IsSorted}
@@ -38,18 +32,3 @@ neither false false h = refl
 pub word-found : (op : Op) (s t word : Word) (a b : Value Word) → in_vectors op ≡ true → vector s ≡ val_of vector a → vector t ≡ val_of vector b → vector word ≡ op_value op (vector s ∷ vector t ∷ []) →
     (valid (vector word) ≡ true) × (fits op (val_of vector a ∷ val_of vector b ∷ []) ≡ true) × (vector word ≡ op_value op (val_of vector a ∷ val_of vector b ∷ []))
 word-found op s t word a b ours s_is t_is is = (word.is_valid, fits_always op (val_of vector a ∷ val_of vector b ∷ []) (neither (in_core op) (in_ints op) ours), rw (← s_is, ← t_is) is)
-
-valid-two : (s t : Word) (k : ℕ) (d : Val) → k < 2 → valid (slice_index_or (vector s ∷ vector t ∷ []) k d) ≡ true
-valid-two s t zero d within = s.is_valid
-valid-two s t (suc zero) d within = t.is_valid
-valid-two s t (suc (suc k)) d within = absurd (omega arith)
-
--- two words of sorts that the operator takes
-pub sorted-words : (op : Op) (s t : Word) (sort : Sort) → sort_of op (sorts.Bits s.width ∷ sorts.Bits t.width ∷ []) ≡ Is sort → IsSorted op (vector s ∷ vector t ∷ [])
-sorted-words op s t sort is = record { sort = sort; fits = is; each = λ k d within. valid-two s t k d within }
-
--- two pairs of words
-pub two-pairs : (op : Op) (s t u v : Word) → IsSorted op (vector s ∷ vector t ∷ []) → IsSorted op (vector u ∷ vector v ∷ []) → ArePairsSorted op (vector s ∷ vector u ∷ []) (vector t ∷ vector v ∷ [])
-two-pairs op s t u v first second zero within = first
-two-pairs op s t u v first second (suc zero) within = second
-two-pairs op s t u v first second (suc (suc place)) within = absurd (omega arith)

@@ -9,8 +9,6 @@ mod orders;
 mod pairs;
 mod shifts;
 mod structure;
-#[cfg(test)]
-mod tests;
 mod theory;
 mod word;
 

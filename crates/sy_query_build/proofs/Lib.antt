@@ -10,4 +10,3 @@ pub mod Walking
 pub mod Problem
 pub mod Parts
 pub mod Itself
-pub mod Examples

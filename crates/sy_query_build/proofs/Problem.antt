@@ -14,14 +14,16 @@ use Rattle.sy_terms.specs.declared.sort.Sort.TheVariants as sorts
 use Rattle.sy_terms.specs.declared.term.Term.{Term}
 use Rattle.sy_terms_laws.specs.Evaluation.{BodiesFit, scope_with}
 use Rattle.sy_terms_laws.proofs.Equations.{both_true}
-use Rattle.sy_grammar_base.specs.Questions.{question_of}
+use Rattle.sy_grammar_base.specs.Fits.{QuestionFits, IsTruth}
+use Rattle.sy_grammar_base.specs.Formed.{is_known}
+use Rattle.sy_grammar_base.specs.Questions.{question_of, signatures}
 use Rattle.sy_grammar_base.specs.declared.problem.Problem.{Problem}
+use Rattle.sy_grammar_laws.proofs.Problems.{problem_definitions, problem_variables, problem_assumptions, problem_constraints}
 use Rattle.sy_query_base.specs.Queries as queries
 use Rattle.sy_query_base.specs.Weights.{weight, weights, query_scope}
-use Rattle.sy_query_decide.specs.Asked.{Query, Fits, query_weight, is_sort_with}
+use Rattle.sy_query_base.specs.Asked.{Query, Fits, query_weight}
 use Rattle.sy_query_build.specs.declared.room.Left.{Left}
 use Rattle.sy_query_build.specs.Placing.{all_placed_with, AllFitOver, AreBuilt}
-use Rattle.sy_query_build.specs.Problems.{ProblemFits, IsTruth, signatures}
 use Rattle.sy_query_build.specs.Sized.{IsSized}
 use Rattle.sy_query_build.specs.Violating.{violating, violated_by}
 use Rattle.sy_query_build.proofs.Forms.{wholes-sort}
@@ -40,25 +42,25 @@ pub terms-fit : {T N : Type 0} (owned : Op → Bool) (number : N → Val) (probl
 terms-fit owned number problem terms items fit all =
     record { wanted = signatures problem; bodies = fit; found = truths items; are = all-truths number (scope_with owned problem.defs (signatures problem)) problem.vars items all }
 
-pub row-sorts : {T N : Type 0} (owned : Op → Bool) (numeric : Sort → Bool) (number : N → Val) (problem : Problem T N) (terms items : List (Term T N)) → ProblemFits owned numeric number problem → BodiesFit owned number problem.defs terms (signatures problem) → All (IsTruth owned number problem) items → sorts_in (query_scope owned) problem.vars (row number problem terms items) ≡ Some (truths items)
+pub row-sorts : {T N : Type 0} (owned : Op → Bool) (numeric : Sort → Bool) (number : N → Val) (problem : Problem T N) (terms items : List (Term T N)) → QuestionFits owned numeric (question_of number problem) → BodiesFit owned number problem.defs terms (signatures problem) → All (IsTruth owned number problem) items → sorts_in (query_scope owned) problem.vars (row number problem terms items) ≡ Some (truths items)
 row-sorts owned numeric number problem terms items problem_fits fit all =
-    wholes-sort owned number problem.defs terms 0 problem.vars (exprs_of number items) problem_fits.definitions (omega arith)
+    wholes-sort owned number problem.defs terms 0 problem.vars (exprs_of number items) (problem_definitions owned numeric number problem problem_fits) (omega arith)
     (record { wanted = signatures problem; bodies = fit; found = truths items; are = all-truths number (scope_with owned problem.defs (signatures problem)) problem.vars items all })
 
-pub query-fits : {T N : Type 0} (owned : Op → Bool) (numeric : Sort → Bool) (number : N → Val) (problem : Problem T N) (terms : List (Term T N)) → owned ops.And ≡ true → owned ops.Not ≡ true → ProblemFits owned numeric number problem → BodiesFit owned number problem.defs terms (signatures problem) → Fits owned numeric (violating (question_of number problem) (map (expr_of number) terms))
+pub query-fits : {T N : Type 0} (owned : Op → Bool) (numeric : Sort → Bool) (number : N → Val) (problem : Problem T N) (terms : List (Term T N)) → owned ops.And ≡ true → owned ops.Not ≡ true → QuestionFits owned numeric (question_of number problem) → BodiesFit owned number problem.defs terms (signatures problem) → Fits owned numeric (violating (question_of number problem) (map (expr_of number) terms))
 query-fits owned numeric number problem terms and not problem_fits fit = record {
-  variables = problem_fits.variables;
+  variables = (problem_variables owned numeric number problem problem_fits);
   body = ap (sort_in (query_scope owned) problem.vars) (body-is number problem terms) ∙ violated-sort owned problem.vars (row number problem terms problem.assumptions) (row number problem terms problem.constraints) problem.assumptions problem.constraints and not
-      (row-sorts owned numeric number problem terms problem.assumptions problem_fits fit problem_fits.assumptions) (row-sorts owned numeric number problem terms problem.constraints problem_fits fit problem_fits.constraints);
+      (row-sorts owned numeric number problem terms problem.assumptions problem_fits fit (problem_assumptions owned numeric number problem problem_fits)) (row-sorts owned numeric number problem terms problem.constraints problem_fits fit (problem_constraints owned numeric number problem problem_fits));
 }
 
-pub query-weight : {T N : Type 0} (owned : Op → Bool) (numeric : Sort → Bool) (number : N → Val) (problem : Problem T N) (terms : List (Term T N)) → owned ops.And ≡ true → owned ops.Not ≡ true → ProblemFits owned numeric number problem → BodiesFit owned number problem.defs terms (signatures problem) → query_weight owned (violating (question_of number problem) (map (expr_of number) terms)) ≡ weights (query_scope owned) problem.vars (row number problem terms problem.assumptions) + weights (query_scope owned) problem.vars (row number problem terms problem.constraints) + 3
+pub query-weight : {T N : Type 0} (owned : Op → Bool) (numeric : Sort → Bool) (number : N → Val) (problem : Problem T N) (terms : List (Term T N)) → owned ops.And ≡ true → owned ops.Not ≡ true → QuestionFits owned numeric (question_of number problem) → BodiesFit owned number problem.defs terms (signatures problem) → query_weight owned (violating (question_of number problem) (map (expr_of number) terms)) ≡ weights (query_scope owned) problem.vars (row number problem terms problem.assumptions) + weights (query_scope owned) problem.vars (row number problem terms problem.constraints) + 3
 query-weight owned numeric number problem terms and not problem_fits fit =
     ap (weight (query_scope owned) problem.vars) (body-is number problem terms) ∙ violated-weight owned problem.vars (row number problem terms problem.assumptions) (row number problem terms problem.constraints) problem.assumptions problem.constraints and not
-    (row-sorts owned numeric number problem terms problem.assumptions problem_fits fit problem_fits.assumptions) (row-sorts owned numeric number problem terms problem.constraints problem_fits fit problem_fits.constraints)
+    (row-sorts owned numeric number problem terms problem.assumptions problem_fits fit (problem_assumptions owned numeric number problem problem_fits)) (row-sorts owned numeric number problem terms problem.constraints problem_fits fit (problem_constraints owned numeric number problem problem_fits))
 
 -- the variables' sorts are of the kind that terms are built over
-is_sort-sized : (numeric : Sort → Bool) (s : Sort) → is_sort_with numeric s ≡ true → IsSized s
+is_sort-sized : (numeric : Sort → Bool) (s : Sort) → is_known numeric s ≡ true → IsSized s
 is_sort-sized numeric sorts.Bool e = tt
 is_sort-sized numeric sorts.Int e = tt
 is_sort-sized numeric (sorts.Bits w) e =
@@ -66,8 +68,8 @@ is_sort-sized numeric (sorts.Bits w) e =
     let widths = both_true _ _ both.1 in
     (leb-true 1 w widths.0, leb-true w 64 widths.1)
 
-pub variables-sized : (numeric : Sort → Bool) (ss : List Sort) → All (λ sort. is_sort_with numeric sort ≡ true) ss → All IsSized ss
-variables-sized numeric ss all = All-weaker (λ (sort : Sort). is_sort_with numeric sort ≡ true) IsSized (is_sort-sized numeric) ss all
+pub variables-sized : (numeric : Sort → Bool) (ss : List Sort) → All (λ sort. is_known numeric sort ≡ true) ss → All IsSized ss
+variables-sized numeric ss all = All-weaker (λ (sort : Sort). is_known numeric sort ≡ true) IsSized (is_sort-sized numeric) ss all
 
 -- ---- what the code has built
 pub body-built : {T N : Type 0} (owned : Op → Bool) (number : N → Val) (problem : Problem T N) (terms : List (Term T N)) (first second : List Sort) (before mid after : Left) (assumptions constraints : Exprs) (found more_found : List Sort) (body : Expr) → first ≡ problem.vars → second ≡ first → AreBuilt (query_scope owned) first (all_placed_with number problem.defs terms 0 (length first) (exprs_of number problem.assumptions)) before mid assumptions found → AreBuilt (query_scope owned) second (all_placed_with number problem.defs terms 0 (length second) (exprs_of number problem.constraints)) mid after constraints more_found → after.counted ≡ true → body ≡ violated_by assumptions constraints → body ≡ queries.query_of (question_of number problem) (map (expr_of number) terms)

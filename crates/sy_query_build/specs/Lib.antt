@@ -1,4 +1,3 @@
-pub mod Problems
 pub mod Placing
 pub mod Sized
 pub mod Violating

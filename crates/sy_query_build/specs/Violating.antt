@@ -7,7 +7,7 @@ use Rattle.sy_grammar_base.specs.Questions.{Question}
 use Rattle.sy_grammar_base.specs.Solving.{AreValues}
 use Rattle.sy_query_base.specs.Queries as queries
 use Rattle.sy_query_base.specs.Queries.{Violates}
-use Rattle.sy_query_decide.specs.Asked.{Query, Satisfies}
+use Rattle.sy_query_base.specs.Asked.{Query, Satisfies}
 
 -- the query that is true exactly where the bodies violate the problem
 abbrev pub violating : Question → List Expr → Query

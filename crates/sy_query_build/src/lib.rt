@@ -6,8 +6,6 @@ mod leaf;
 mod place;
 mod queries;
 mod room;
-#[cfg(test)]
-mod tests;
 mod weight;
 
 pub use built::Built;

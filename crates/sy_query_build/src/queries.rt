@@ -2,9 +2,9 @@
 ghost use Rattle.std.specs.Prelude.{◌≡◌, ◌≤◌, ◌<◌, ◌^◌, length, map, IfOk, IsErrOf};
 ghost use Rattle.sy_terms.specs.Denoted.{expr_of, exprs_of};
 ghost use Rattle.sy_terms_laws.specs.Evaluation.{BodiesFit};
-ghost use Rattle.sy_grammar_base.specs.Questions.{question_of};
-ghost use Rattle.sy_query_decide.specs.Asked.{query_of, query_weight, Fits};
-ghost use Rattle.sy_query_build.specs.Problems.{ProblemFits, signatures};
+ghost use Rattle.sy_grammar_base.specs.Fits.{ProblemFits};
+ghost use Rattle.sy_grammar_base.specs.Questions.{question_of, signatures};
+ghost use Rattle.sy_query_base.specs.Asked.{query_of, query_weight, Fits};
 ghost use Rattle.sy_query_build.specs.Violating.{violating, violated_by, conjoined, IsViolation};
 
 use crate::built::Built;
@@ -25,7 +25,7 @@ pub fn build<T: Theory>(
     bodies: &Bodies<T>,
     limit: u32,
 ) -> Result<Query<T>, Built>
-    requires problem { ProblemFits T.owned T.numeric T.denotes problem.now }
+    requires problem { ProblemFits T.Theory problem.now }
     requires bodies { BodiesFit T.owned T.denotes problem.now.defs bodies.now (signatures problem.now) }
     ensures query { IfOk result (λ query. query_of T.denotes query ≡ violating (question_of T.denotes problem.now) (map (expr_of T.denotes) bodies.now)) }
     ensures fits { IfOk result (λ query. Fits T.owned T.numeric (query_of T.denotes query)) }

@@ -3,7 +3,7 @@ use Rattle.sy_terms.specs.Values.{Val}
 use Rattle.sy_terms.specs.Denoted.{vals_of}
 use Rattle.sy_query_limits.specs.declared.FailName.{FailName}
 use Rattle.sy_query_limits.specs.declared.Limits.{Limits}
-use Rattle.sy_query_decide.specs.Asked.{Query, Satisfies}
+use Rattle.sy_query_base.specs.Asked.{Query, Satisfies}
 use Rattle.sy_query_decide.specs.declared.verdict.Verdict.{Verdict}
 use Rattle.sy_query_decide.specs.declared.verdict.Verdict.TheVariants.{Never, Model, Spent}
 

@@ -1,3 +1,3 @@
+pub use Rattle.sy_query_base.specs.Asked
 pub mod Answers
-pub mod Asked
 pub mod Budgets

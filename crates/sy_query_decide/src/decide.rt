@@ -17,7 +17,7 @@ pub trait Decide<T: Theory> {
     ghost use Rattle.sy_terms.specs.Denoted.{vals_of};
     ghost use Rattle.sy_query_limits.specs.declared.FailName.{FailName};
     ghost use Rattle.sy_query_limits.specs.declared.Limits.{Limits};
-    ghost use Rattle.sy_query_decide.specs.Asked.{Query, query_of, Fits, IsNever};
+    ghost use Rattle.sy_query_base.specs.Asked.{Query, query_of, Fits, IsNever};
     ghost use Rattle.sy_query_decide.specs.Budgets.{is_solver_budget};
     ghost use Rattle.sy_query_decide.specs.Answers.{Answers};
 

@@ -2,8 +2,6 @@
 #![tactic(auto)]
 
 mod decide;
-#[cfg(test)]
-mod tests;
 mod verdict;
 
 pub use decide::Decide;

@@ -1,4 +1,3 @@
-pub mod Checks
 pub mod Fitting
 pub mod Members
 pub mod Written

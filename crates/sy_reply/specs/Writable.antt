@@ -1,13 +1,14 @@
 -- What can be written: titles with enough names, and bodies that use nothing else.
-use Rattle.std.specs.Prelude.{ℕ, ◌≡◌, ◌<◌, Bool, true, false, List, length, take, pos, negsuc}
+use Rattle.std.specs.Prelude.{ℕ, ◌≡◌, ◌<◌, ◌≤◌, Bool, true, false, List, length, take, pos, negsuc}
 use Rattle.std.specs.List.{AllZip}
-use Rattle.sy_scope_causes.specs.declared.titles.Title.{Title}
+use Rattle.sy_scope_titles.specs.declared.Title.{Title}
+use Rattle.sy_scope_titles.specs.declared.Titles.{Titles}
 use Rattle.sy_terms.specs.Values.{Val, Truth, Whole, Bits}
 use Rattle.sy_terms.specs.Expr.{Expr, Exprs, Constant, Variable, Apply, Invoke, Bind, none, more}
 use Rattle.sy_terms.specs.Theories.{valid}
 use Rattle.sy_terms.specs.declared.term.Fun.{Fun}
 use Rattle.sy_terms.specs.declared.term.Fun.TheVariants.{Defined, Wanted}
-use Rattle.sy_grammar_base.specs.Questions.{Goal}
+use Rattle.sy_grammar_base.specs.Questions.{Goal, Question}
 
 -- a value of its sort that isn't negative
 abbrev pub is_literal : Val → Bool
@@ -41,3 +42,8 @@ AreTitled titles goals = AllZip (λ title goal. length title.args ≡ length goa
 -- there is a body for each function, over its arguments and so many definitions
 abbrev pub HaveBodies : ℕ → List Goal → List Expr → Type 0
 HaveBodies definitions goals bodies = AllZip (λ goal body. IsWritable (length goal.signature.takes) definitions body) goals bodies
+
+-- each function to be found has a name, and one for each argument; each definition has a name
+pub record IsTitled (titles : Titles) (question : Question) : Type 0 where
+  pub wanted : AreTitled titles.wanted question.goals
+  pub defined : length question.definitions ≤ length titles.defined

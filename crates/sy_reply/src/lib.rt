@@ -6,6 +6,4 @@ mod symbols;
 mod terms;
 
 pub use reply::reply_text;
-
-#[cfg(test)]
-mod tests;
+pub use sy_reply_lines::{fail_line, refusal_text};

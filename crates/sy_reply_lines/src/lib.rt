@@ -7,6 +7,3 @@ mod text;
 
 pub use fail::fail_line;
 pub use refusal::refusal_text;
-
-#[cfg(test)]
-mod tests;

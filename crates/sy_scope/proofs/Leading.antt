@@ -2,13 +2,13 @@
 use Rattle.std.proofs.Common.{ℕ, zero, suc, ◌+◌, ◌<◌, ◌≤◌, ◌≡◌, refl, sym, ap, ◌∙◌, List, length, Option, Some, None, Result, Ok, Err, arith}
 use Rattle.sy_text.specs.Items.{Item}
 use Rattle.sy_scope_causes.specs.declared.cause.Refused.{Refused}
-use Rattle.sy_forms.specs.declared.fault.Fault.{Fault}
+use Rattle.sy_forms_items.specs.declared.fault.Fault.{Fault}
 use Rattle.sy_scope_steps.specs.Contexts.{Context, beginning}
 use Rattle.sy_scope_steps.specs.Steps.{step}
 use Rattle.sy_scope_steps.specs.Files.{Outcome, command_read, after_command, then_next, refused_at, file_from, file_read}
-use Rattle.sy_forms.specs.Readings.{Fails}
-use Rattle.sy_forms.specs.declared.fault.ReadEnd.{ReadEnd}
-use Rattle.sy_forms.specs.declared.fault.ReadEnd.TheVariants as read_ends
+use Rattle.sy_forms_items.specs.Readings.{Fails}
+use Rattle.sy_forms_items.specs.declared.fault.ReadEnd.{ReadEnd}
+use Rattle.sy_forms_items.specs.declared.fault.ReadEnd.TheVariants as read_ends
 use Rattle.sy_scope.specs.declared.job.ScopeEnd.{ScopeEnd}
 use Rattle.sy_scope.specs.declared.job.ScopeEnd.TheVariants as ends
 use Rattle.sy_scope.specs.Read.{LeadsTo, EndsAs, ended_as}

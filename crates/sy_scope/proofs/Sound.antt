@@ -14,10 +14,9 @@ use Rattle.sy_terms_laws.proofs.Equations.{both_true}
 use Rattle.sy_grammar_base.specs.Formed.{is_known, fits}
 use Rattle.sy_grammar_base.specs.Questions.{Goal}
 use Rattle.sy_grammar_base.specs.Trees.{Nonterminal, Syntax}
-use Rattle.sy_grammar_defaults.specs.Defaults as defaults
-use Rattle.sy_grammar_defaults.specs.Defaults.{IsOf, operators_of}
-use Rattle.sy_forms_laws.specs.Questions.{with_functions, GoalFits}
-use Rattle.sy_forms.specs.Readings.{Reading}
+use Rattle.sy_terms.specs.Logics.{IsTheoryOf, number_sorts, operators_of}
+use Rattle.sy_grammar_base.specs.Fits.{with_functions, GoalFits}
+use Rattle.sy_forms_items.specs.Readings.{Reading}
 use Rattle.sy_scope_steps.specs.Contexts.{Context, beginning, with_logic, goal_of}
 use Rattle.sy_scope_steps.specs.Steps.{step}
 use Rattle.sy_scope_laws.specs.Sound.{defined_in, IsSound, SoundBy, Sound}
@@ -32,48 +31,13 @@ pub stays_sound : (context later : Context) (item : Item) → Sound context → 
 stays_sound context later item sound is = subst (λ (read : Reading Context). IfOk read Sound) is (step_sound context item sound)
 
 -- the functions to be found fit under the theory of the logic
-pub goals_fit : (logic : Logic) (owned : Op → Bool) (numeric : Sort → Bool) (context : Context) (signatures : List Signature) → IsOf logic owned numeric → context.logic ≡ Some logic → Sound context → signatures ≡ defined_in context.definitions
+pub goals_fit : (logic : Logic) (owned : Op → Bool) (numeric : Sort → Bool) (context : Context) (signatures : List Signature) → IsTheoryOf logic owned numeric → context.logic ≡ Some logic → Sound context → signatures ≡ defined_in context.definitions
     → All (GoalFits owned numeric signatures) (map goal_of context.sought)
 goals_fit logic owned numeric context signatures of set sound same =
     let fit : IsSound logic context = subst (λ l. SoundBy l context) set sound in
     let operators : operators_of logic ≡ owned = λ i. λ operator. sym (of.operators operator) i in
-    let numbers : defaults.sorts_of logic ≡ numeric = λ i. λ s. sym (of.sorts s) i in
-    let goals = All-map (GoalFits (operators_of logic) (defaults.sorts_of logic) (defined_in context.definitions)) goal_of context.sought fit.sought in
+    let numbers : number_sorts logic ≡ numeric = λ i. λ s. sym (of.sorts s) i in
+    let goals = All-map (GoalFits (operators_of logic) (number_sorts logic) (defined_in context.definitions)) goal_of context.sought fit.sought in
     subst (λ (o : Op → Bool). All (GoalFits o numeric signatures) (map goal_of context.sought)) operators
     (subst (λ (n : Sort → Bool). All (GoalFits (operators_of logic) n signatures) (map goal_of context.sought)) numbers
-    (subst (λ (ss : List Signature). All (GoalFits (operators_of logic) (defaults.sorts_of logic) ss) (map goal_of context.sought)) (sym same) goals))
-
--- the start symbol of a well-formed grammar, and so the value of its function, has a sort of the theory
-first_known : (numeric : Sort → Bool) (scope : Scope) (syntax : Syntax) (nonterminals : List Nonterminal) (sort : Sort) → list_all (fits numeric scope syntax) nonterminals ≡ true → option_map (λ (n : Nonterminal). n.sort) (slice_get nonterminals 0) ≡ Some sort
-    → is_known numeric sort ≡ true
-first_known numeric scope syntax [] sort fit at = absurd cc
-first_known numeric scope syntax (n ∷ nonterminals) sort fit at =
-    let same : n.sort ≡ sort = cc in
-    let both = both_true (fits numeric scope syntax n) (list_all (fits numeric scope syntax) nonterminals) fit in
-    let known = both_true (is_known numeric n.sort) _ both.0 in
-    subst (λ s. is_known numeric s ≡ true) same known.0
-
-pub value_known : (owned : Op → Bool) (numeric : Sort → Bool) (signatures : List Signature) (goal : Goal) → GoalFits owned numeric signatures goal → is_known numeric goal.signature.gives ≡ true
-value_known owned numeric signatures goal fit =
-    let scope = with_functions owned signatures [] in
-    let syntax = goal.grammar in
-    let all = both_true (nat_le 1 (length syntax.nonterminals) && nat_lt (length syntax.nonterminals) (2 ^ 31)) (list_all (is_known numeric) syntax.arguments && list_all (fits numeric scope syntax) syntax.nonterminals) fit.formed in
-    first_known numeric scope syntax syntax.nonterminals goal.signature.gives (both_true (list_all (is_known numeric) syntax.arguments) (list_all (fits numeric scope syntax) syntax.nonterminals) all.1).1 fit.start
-
--- what holds of each that is seen so holds of one
-pub holds_at : {A B C : Type 0} (P : C → Type 0) (f : B → C) (g : A → B) (xs : List A) (i : ℕ) (x : A) → i < length xs → x ≡ get_or xs i x → All P (map f (map g xs)) → P (f (g x))
-holds_at P f g [] i x within read all = absurd (omega arith)
-holds_at P f g (y ∷ xs) zero x within read all = subst (λ z. P (f (g z))) (sym read) (All-head P (f (g y)) (map f (map g xs)) all)
-holds_at P f g (y ∷ xs) (suc i) x within read all = holds_at P f g xs i x (omega arith) read (All-tail P (f (g y)) (map f (map g xs)) all)
-
-map_last : {A B : Type 0} (f : A → B) (xs : List A) (x : A) → map f (xs ++ x ∷ []) ≡ map f xs ++ f x ∷ []
-map_last f [] x = refl
-map_last f (y ∷ xs) x = ap (λ rest. f y ∷ rest) (map_last f xs x)
-
--- lists that are seen alike, with one more each
-pub more_alike : {A B C D : Type 0} (h : D → C) (f : B → C) (g : A → B) (now done : List D) (d : D) (xs : List A) (i : ℕ) (x : A) → now ≡ done ++ d ∷ [] → i < length xs → x ≡ get_or xs i x → map h done ≡ map f (map g (take i xs)) → h d ≡ f (g x)
-    → map h now ≡ map f (map g (take (i + 1) xs))
-more_alike h f g now done d xs i x is within read same alike =
-    let longer : take (i + 1) xs ≡ take i xs ++ x ∷ [] = take_more xs i x within ∙ ap (λ y. take i xs ++ y ∷ []) (sym read) in
-    let right : map f (map g (take (i + 1) xs)) ≡ map f (map g (take i xs)) ++ f (g x) ∷ [] = ap (λ ys. map f (map g ys)) longer ∙ ap (map f) (map_last g (take i xs) x) ∙ map_last f (map g (take i xs)) (g x) in
-    ap (map h) is ∙ map_last h done d ∙ (λ k. same k ++ alike k ∷ []) ∙ sym right
+    (subst (λ (ss : List Signature). All (GoalFits (operators_of logic) (number_sorts logic) ss) (map goal_of context.sought)) (sym same) goals))

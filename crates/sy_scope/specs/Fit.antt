@@ -7,7 +7,7 @@ use Rattle.sy_grammar_base.specs.Questions.{question_of}
 use Rattle.sy_grammar_base.specs.declared.problem.Problem.{Problem}
 use Rattle.sy_meaning_integers.specs.Lia as lia
 use Rattle.sy_meaning_words.specs.Vectors as vectors
-use Rattle.sy_forms_laws.specs.Questions.{QuestionFits}
+use Rattle.sy_grammar_base.specs.Fits.{QuestionFits}
 use Rattle.sy_scope.specs.declared.job.Job.{Job}
 use Rattle.sy_scope.specs.declared.job.Job.TheVariants as jobs
 

@@ -1,4 +1,2 @@
-pub mod Seen
-pub mod Calls
 pub mod Read
 pub mod Fit

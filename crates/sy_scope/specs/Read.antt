@@ -5,11 +5,11 @@ use Rattle.sy_terms.specs.declared.sort.Logic.TheVariants.{Lia, Bv}
 use Rattle.sy_scope_causes.specs.declared.cause.Refused.{Refused}
 use Rattle.sy_grammar_base.specs.Questions.{question_of}
 use Rattle.sy_terms.specs.Values.{Val, Whole}
-use Rattle.sy_scope_causes.specs.declared.titles.Titles.{Titles}
+use Rattle.sy_scope_titles.specs.declared.Titles.{Titles}
 use Rattle.sy_grammar_base.specs.declared.problem.Problem.{Problem}
 use Rattle.sy_meaning_words.specs.Vectors.{vector}
-use Rattle.sy_forms.specs.declared.fault.ReadEnd.{ReadEnd}
-use Rattle.sy_forms.specs.declared.fault.ReadEnd.TheVariants as read_ends
+use Rattle.sy_forms_items.specs.declared.fault.ReadEnd.{ReadEnd}
+use Rattle.sy_forms_items.specs.declared.fault.ReadEnd.TheVariants as read_ends
 use Rattle.sy_scope_steps.specs.Contexts.{Context, beginning, with_logic}
 use Rattle.sy_scope_steps.specs.Files.{Outcome, file_from}
 use Rattle.sy_scope_steps.specs.Jobs.{Wish}

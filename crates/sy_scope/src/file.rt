@@ -1,29 +1,28 @@
 // Files.
 ghost use Rattle.std.specs.Prelude.{◌≡◌, ◌≤◌, ◌<◌, length, IfOk, IfSome};
 ghost use Rattle.sy_text.specs.Views.{command_of};
-ghost use Rattle.sy_grammar_defaults.specs.Defaults.{IsOf};
+ghost use Rattle.sy_terms.specs.Logics.{IsTheoryOf, Serves};
 ghost use Rattle.sy_text.specs.Views.{item_of};
 ghost use Rattle.sy_scope_commands.specs.Asked.{request_in};
-ghost use Rattle.sy_forms.specs.Readings.{Gives};
-ghost use Rattle.sy_forms.specs.Serving.{Serves};
+ghost use Rattle.sy_forms_items.specs.Readings.{Gives};
 ghost use Rattle.sy_scope_steps.specs.Contexts as contexts;
 ghost use Rattle.sy_scope_steps.specs.Files as spec;
 ghost use Rattle.sy_scope_steps.specs.Jobs.{wished};
 ghost use Rattle.sy_scope.specs.Read.{Reads, LeadsTo, OpensAs, ended_as, opened_by, wish_in, wish_over};
 ghost use Rattle.sy_scope.specs.Fit.{ProblemsFit, JobFits};
-ghost use Rattle.sy_scope.specs.Seen.{context_of};
+ghost use Rattle.sy_scope_context.specs.Seen.{context_of};
 ghost use Rattle.sy_scope_steps.specs.Steps as steps;
 
-use crate::context::Context;
 use crate::job::{Job, ScopeEnd};
-use crate::step::{Asked, check_feature, read_request};
 use std::alloc::Global;
 use sy_forms::{ReadEnd, is};
 use sy_grammar_base::Problem;
 use sy_meaning_integers::IntTheory;
 use sy_meaning_words::BvTheory;
-use sy_scope_causes::{Cause, Refused, Titles};
+use sy_scope_causes::{Cause, Refused};
 use sy_scope_commands::Request;
+use sy_scope_context::{Asked, Context, check_feature, read_request};
+use sy_scope_titles::Titles;
 use sy_terms::{Logic, Seq, Theory};
 use sy_text::{Place, Sexp, TextEnd, TextFault, next_command};
 
@@ -157,7 +156,7 @@ fn read_commands<T: Theory>(
 ) -> Result<Context<T>, ScopeEnd>
     requires short { length bytes.now ≤ 4194304 }
     requires serves { Serves T.numeric opened.logic }
-    requires theory { IsOf opened.logic T.owned T.numeric }
+    requires theory { IsTheoryOf opened.logic T.owned T.numeric }
     requires opened { LeadsTo bytes.now opened.at opened.command (contexts.with_logic opened.logic contexts.beginning) (spec.file_read bytes.now) }
     ensures read { Reads (context_of T.denotes) result (spec.file_read bytes.now) }
     ensures logic { IfOk result (λ context. context.logic ≡ opened.logic) }
@@ -184,7 +183,7 @@ fn read_in<T: Theory>(
 ) -> Result<(Seq<Problem<T>>, Titles), ScopeEnd>
     requires short { length bytes.now ≤ 4194304 }
     requires serves { Serves T.numeric opened.logic }
-    requires theory { IsOf opened.logic T.owned T.numeric }
+    requires theory { IsTheoryOf opened.logic T.owned T.numeric }
     requires opened { LeadsTo bytes.now opened.at opened.command (contexts.with_logic opened.logic contexts.beginning) (spec.file_read bytes.now) }
     ensures read { Reads (wish_over T.denotes opened.logic) result (wished (spec.file_read bytes.now)) }
     ensures fit { IfOk result (λ x. ProblemsFit T.owned T.numeric T.denotes x.0) }

@@ -1,8 +1,6 @@
-// Why a file is refused, and the names that a file declares.
+// Why a file is refused.
 #![tactic(auto)]
 
 mod cause;
-mod titles;
 
 pub use cause::{Cause, Refused, cause_number};
-pub use titles::{Title, Titles};

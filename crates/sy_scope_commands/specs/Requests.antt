@@ -5,7 +5,7 @@ use Rattle.sy_text.specs.Items.{Item, leaf, group, Items, none, more}
 use Rattle.sy_text.specs.declared.atom.Atom.{Atom}
 use Rattle.sy_text.specs.declared.atom.Atom.TheVariants as atoms
 use Rattle.sy_text.specs.declared.atom.Place.{Place}
-use Rattle.sy_forms.specs.Parts.{symbol, place_of, is_empty}
+use Rattle.sy_forms_items.specs.Parts.{symbol, place_of, is_empty}
 use Rattle.sy_scope_commands.specs.declared.commands.Command.{Command}
 use Rattle.sy_scope_commands.specs.declared.commands.Command.TheVariants.{SetLogic, SetFeature, SetInfo, SetOption, DeclareVar, DefineSort, DefineFun, SynthFun, SynthInv, Constraint, Assume, InvConstraint, CheckSynth}
 

@@ -2,7 +2,7 @@
 ghost use Rattle.std.specs.Prelude.{◌≡◌};
 ghost use Rattle.sy_scope_commands.specs.Requests as spec;
 
-use sy_forms::is;
+use sy_forms_items::is;
 
 /// A command of the profile.
 #[derive(Clone, Copy, Debug, PartialEq, Eq)]

@@ -4,8 +4,6 @@
 mod commands;
 mod read;
 mod request;
-#[cfg(test)]
-mod tests;
 
 pub use commands::{Command, command_named};
 pub use read::request_of;

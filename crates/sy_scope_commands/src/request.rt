@@ -5,7 +5,7 @@ ghost use Rattle.sy_text.specs.Views.{item_of};
 ghost use Rattle.sy_scope_commands.specs.Asked.{spelled_of, listed_of, rulebook_of};
 ghost use Rattle.sy_scope_commands.specs.Requests as spec;
 
-use sy_forms::{Rest, is, place_of, symbol};
+use sy_forms_items::{Rest, is, place_of, symbol};
 use sy_text::{Atom, Name, Place, Sexp, Sexps};
 
 /// A symbol or a keyword of the file, and where it stands.

@@ -18,17 +18,16 @@ use Rattle.sy_terms.specs.declared.term.Fun.{Fun}
 use Rattle.sy_terms.specs.declared.term.Fun.TheVariants.{Defined, Wanted}
 use Rattle.sy_terms_laws.proofs.Equations.{both_true, same_sort_is, same_sorts_is}
 use Rattle.sy_grammar_base.specs.Formed.{is_known, is_formed}
-use Rattle.sy_grammar_defaults.specs.Defaults as defaults
-use Rattle.sy_grammar_defaults.specs.Defaults.{operators_of}
+use Rattle.sy_terms.specs.Logics.{number_sorts, operators_of}
 use Rattle.sy_inv.specs.Conditions.{starts, keeps, ends}
-use Rattle.sy_forms.specs.declared.names.Entity.{Entity}
-use Rattle.sy_forms.specs.declared.names.Entity.TheVariants as entity
-use Rattle.sy_forms.specs.declared.names.Role.TheVariants as role
-use Rattle.sy_forms.specs.Environments.{entry}
-use Rattle.sy_forms.specs.Phrases.{Phrase}
+use Rattle.sy_forms_names.specs.declared.names.Entity.{Entity}
+use Rattle.sy_forms_names.specs.declared.names.Entity.TheVariants as entity
+use Rattle.sy_forms_names.specs.declared.names.Role.TheVariants as role
+use Rattle.sy_forms_names.specs.Environments.{entry}
+use Rattle.sy_forms_phrases.specs.Phrases.{Phrase}
 use Rattle.sy_scope_commands.specs.Requests.{Spelled}
 use Rattle.sy_forms_laws.specs.Fitting.{phrase_sort}
-use Rattle.sy_forms_laws.specs.Questions.{with_functions, GoalFits, QuestionFits}
+use Rattle.sy_grammar_base.specs.Fits.{with_functions, GoalFits, QuestionFits}
 use Rattle.sy_forms_laws.specs.Right.{Extends}
 use Rattle.sy_forms_laws.proofs.Exprs.{back_at}
 use Rattle.sy_forms_laws.proofs.Readings.{chained, unless_refused, where_found}
@@ -71,7 +70,7 @@ constrain_sound logic context term sound =
     let defined = defined_in context.definitions in
     let wanted = wanted_in context.sought in
     chained (λ p. phrase_sort (setting_with owned defined wanted context.variables) [] p ≡ Some sorts.Bool) (IsSound logic) (read_in context logic role.Constraint [] sorts.Bool term) _
-    (whole_fits (defaults.sorts_of logic) (setting_with owned defined wanted context.variables) (environment context logic role.Constraint []) (constraint_right logic context sound) context.measures sorts.Bool term) (λ p is fit.
+    (whole_fits (number_sorts logic) (setting_with owned defined wanted context.variables) (environment context logic role.Constraint []) (constraint_right logic context sound) context.measures sorts.Bool term) (λ p is fit.
     constraint_more logic context (contexts.Written p ∷ []) _ sound
     (All-cons (ConditionFits owned defined wanted context.variables) (contexts.Written p) [] (written_condition owned defined wanted context.variables p fit) (All-nil (ConditionFits owned defined wanted context.variables))))
 
@@ -95,7 +94,7 @@ assume_sound logic context term sound =
     let owned = operators_of logic in
     let defined = defined_in context.definitions in
     chained (λ p. phrase_sort (setting_with owned defined [] context.variables) [] p ≡ Some sorts.Bool) (IsSound logic) (read_in context logic role.Assumption [] sorts.Bool term) _
-    (whole_fits (defaults.sorts_of logic) (setting_with owned defined [] context.variables) (environment context logic role.Assumption []) (assumption_right logic context sound) context.measures sorts.Bool term) (λ p is fit.
+    (whole_fits (number_sorts logic) (setting_with owned defined [] context.variables) (environment context logic role.Assumption []) (assumption_right logic context sound) context.measures sorts.Bool term) (λ p is fit.
     assumption_more logic context p _ sound fit)
 
 -- Invariants
@@ -170,11 +169,11 @@ mapped P f (x ∷ xs) (suc n) y all e = mapped P f xs n y (All-tail P x xs all) 
 formed_arguments : (numeric : Sort → Bool) (scope : Scope) (syntax : _) → is_formed numeric scope syntax ≡ true → list_all (is_known numeric) syntax.arguments ≡ true
 formed_arguments numeric scope syntax e = (both_true (list_all (is_known numeric) syntax.arguments) _ (both_true _ _ e).1).0
 
-state_known : (logic : Logic) (context : Context) → IsSound logic context → (n : ℕ) (state : List Sort) → slice_get (wanted_in context.sought) n ≡ Some (record { takes = state; gives = sorts.Bool }) → list_all (is_known (defaults.sorts_of logic)) state ≡ true
+state_known : (logic : Logic) (context : Context) → IsSound logic context → (n : ℕ) (state : List Sort) → slice_get (wanted_in context.sought) n ≡ Some (record { takes = state; gives = sorts.Bool }) → list_all (is_known (number_sorts logic)) state ≡ true
 state_known logic context sound n state there =
-    let it = mapped (λ (f : Sought). GoalFits (operators_of logic) (defaults.sorts_of logic) (defined_in context.definitions) (goal_of f)) signature_of_sought context.sought n (record { takes = state; gives = sorts.Bool }) sound.sought there in
-    let known = formed_arguments (defaults.sorts_of logic) (with_functions (operators_of logic) (defined_in context.definitions) []) it.0.grammar it.1.formed in
-    ap (list_all (is_known (defaults.sorts_of logic))) (sym (it.1.arguments ∙ ap (λ (s : Signature). s.takes) it.2)) ∙ known
+    let it = mapped (λ (f : Sought). GoalFits (operators_of logic) (number_sorts logic) (defined_in context.definitions) (goal_of f)) signature_of_sought context.sought n (record { takes = state; gives = sorts.Bool }) sound.sought there in
+    let known = formed_arguments (number_sorts logic) (with_functions (operators_of logic) (defined_in context.definitions) []) it.0.grammar it.1.formed in
+    ap (list_all (is_known (number_sorts logic))) (sym (it.1.arguments ∙ ap (λ (s : Signature). s.takes) it.2)) ∙ known
 
 -- the fresh variables stand behind all others
 fresh_from : (variables state later : List Sort) → Extends (variables ++ state) later → AreFrom later (length variables) state
@@ -222,7 +221,7 @@ invariant_sound logic context state parts sound is =
       abbreviations = sound.abbreviations;
       names = sound.names;
       entities = declared_all defined wanted context.variables defined wanted variables d w v context.entities sound.entities;
-      variables = list_all-append (is_known (defaults.sorts_of logic)) context.variables (state ++ state) sound.variables (list_all-append (is_known (defaults.sorts_of logic)) state state known known);
+      variables = list_all-append (is_known (number_sorts logic)) context.variables (state ++ state) sound.variables (list_all-append (is_known (number_sorts logic)) state state known known);
       definitions = sound.definitions;
       sought = sound.sought;
       assumptions = All-weaker (λ (p : Phrase). phrase_sort (setting_with owned defined [] context.variables) [] p ≡ Some sorts.Bool) _
@@ -261,7 +260,7 @@ question_more logic context sound = record {
   sought = sound.sought;
   assumptions = sound.assumptions;
   constraints = sound.constraints;
-  questions = All-push (QuestionFits (operators_of logic) (defaults.sorts_of logic)) context.questions (question_at context) sound.questions (question_fits logic context sound);
+  questions = All-push (QuestionFits (operators_of logic) (number_sorts logic)) context.questions (question_at context) sound.questions (question_fits logic context sound);
 }
 
 answered_sound : (logic : Logic) (context : Context) (at : Place) → IsSound logic context → IfOk (answered_yet context logic at) (IsSound logic)

@@ -11,19 +11,18 @@ use Rattle.sy_terms.specs.declared.sort.Sort.{Sort}
 use Rattle.sy_terms.specs.declared.sort.Sort.TheVariants as sorts
 use Rattle.sy_terms.specs.declared.term.Fun.TheVariants as funs
 use Rattle.sy_grammar_base.specs.Formed.{is_known}
-use Rattle.sy_grammar_defaults.specs.Defaults as defaults
-use Rattle.sy_grammar_defaults.specs.Defaults.{operators_of}
-use Rattle.sy_forms.specs.declared.names.Entity.{Entity}
-use Rattle.sy_forms.specs.declared.names.Entity.TheVariants as entity
-use Rattle.sy_forms.specs.declared.names.Role.TheVariants as role
-use Rattle.sy_forms.specs.Environments.{entry}
-use Rattle.sy_forms.specs.Operators.{is_reserved}
-use Rattle.sy_forms.specs.Phrases.{Phrase}
-use Rattle.sy_forms.specs.Sorts.{read_sort}
+use Rattle.sy_terms.specs.Logics.{number_sorts, operators_of}
+use Rattle.sy_forms_names.specs.declared.names.Entity.{Entity}
+use Rattle.sy_forms_names.specs.declared.names.Entity.TheVariants as entity
+use Rattle.sy_forms_names.specs.declared.names.Role.TheVariants as role
+use Rattle.sy_forms_names.specs.Environments.{entry}
+use Rattle.sy_forms_names.specs.Operators.{is_reserved}
+use Rattle.sy_forms_phrases.specs.Phrases.{Phrase}
+use Rattle.sy_forms_names.specs.Sorts.{read_sort}
 use Rattle.sy_scope_commands.specs.Requests.{Spelled}
 use Rattle.sy_scope_rules.specs.Lists.{sorts_of, read_named}
 use Rattle.sy_forms_laws.specs.Fitting.{phrase_sort}
-use Rattle.sy_forms_laws.specs.Questions.{GoalFits}
+use Rattle.sy_grammar_base.specs.Fits.{GoalFits}
 use Rattle.sy_forms_laws.specs.Right.{Extends}
 use Rattle.sy_forms_laws.proofs.Readings.{chained, unless_refused, where_not_refused, any_read}
 use Rattle.sy_forms_laws.proofs.Sorts.{Known, sort_known}
@@ -63,7 +62,7 @@ declared_all defined wanted variables ld lw lv d w v entities all =
     All-weaker (λ (x : List ℕ × Entity). IsDeclared defined wanted variables x.1) (λ (x : List ℕ × Entity). IsDeclared ld lw lv x.1) (λ x e. declared_wider defined wanted variables ld lw lv d w v x.1 e) entities all
 
 -- a variable more
-variable_sound : (logic : Logic) (context : Context) (name : List ℕ) (sort : Sort) → IsSound logic context → IsFree logic name → Known (defaults.sorts_of logic) sort → IsSound logic (with_variable context name sort)
+variable_sound : (logic : Logic) (context : Context) (name : List ℕ) (sort : Sort) → IsSound logic context → IsFree logic name → Known (number_sorts logic) sort → IsSound logic (with_variable context name sort)
 variable_sound logic context name sort sound free known =
     let owned = operators_of logic in
     let defined = defined_in context.definitions in
@@ -79,7 +78,7 @@ variable_sound logic context name sort sound free known =
       names = All-push (λ (x : List ℕ × Entity). is_reserved logic x.0 ≡ false) context.entities x sound.names free;
       entities = All-push (λ (x : List ℕ × Entity). IsDeclared defined wanted variables x.1) context.entities x
           (declared_all defined wanted context.variables defined wanted variables d w v context.entities sound.entities) (last_at context.variables sort);
-      variables = list_all-append (is_known (defaults.sorts_of logic)) context.variables (sort ∷ []) sound.variables (rw known refl);
+      variables = list_all-append (is_known (number_sorts logic)) context.variables (sort ∷ []) sound.variables (rw known refl);
       definitions = sound.definitions;
       sought = sound.sought;
       assumptions = All-weaker (λ (p : Phrase). phrase_sort (setting_with owned defined [] context.variables) [] p ≡ Some sorts.Bool) _
@@ -92,16 +91,16 @@ variable_sound logic context name sort sound free known =
 pub declare_sound : (logic : Logic) (context : Context) (name : Spelled) (sort : Item) → IsSound logic context → IfOk (declare_variable context logic name sort) (IsSound logic)
 declare_sound logic context name sort sound =
     chained (IsFree logic) (IsSound logic) (new_name context logic name.place name.name) _ (new_name_free context logic name.place name.name) (λ new is free.
-    chained (Known (defaults.sorts_of logic)) (IsSound logic) (read_sort logic context.sorts sort) _ (sort_known (operators_of logic) (defaults.sorts_of logic) logic context.sorts sort (record { operators = λ operator. refl; sorts = λ s. refl }) sound.abbreviations) (λ found found_is known.
+    chained (Known (number_sorts logic)) (IsSound logic) (read_sort logic context.sorts sort) _ (sort_known (operators_of logic) (number_sorts logic) logic context.sorts sort (record { operators = λ operator. refl; sorts = λ s. refl }) sound.abbreviations) (λ found found_is known.
     variable_sound logic context new found sound free known))
 
 -- an abbreviation more
-abbreviation_sound : (logic : Logic) (context : Context) (name : List ℕ) (sort : Sort) → IsSound logic context → Known (defaults.sorts_of logic) sort → IsSound logic (record context { sorts = context.sorts ++ (name, sort) ∷ [] })
+abbreviation_sound : (logic : Logic) (context : Context) (name : List ℕ) (sort : Sort) → IsSound logic context → Known (number_sorts logic) sort → IsSound logic (record context { sorts = context.sorts ++ (name, sort) ∷ [] })
 abbreviation_sound logic context name sort sound known =
     let x : List ℕ × Sort = (name, sort) in
     record {
       set = sound.set;
-      abbreviations = All-push (λ (x : List ℕ × Sort). is_known (defaults.sorts_of logic) x.1 ≡ true) context.sorts x sound.abbreviations known;
+      abbreviations = All-push (λ (x : List ℕ × Sort). is_known (number_sorts logic) x.1 ≡ true) context.sorts x sound.abbreviations known;
       names = sound.names;
       entities = sound.entities;
       variables = sound.variables;
@@ -115,7 +114,7 @@ abbreviation_sound logic context name sort sound known =
 pub define_sort_sound : (logic : Logic) (context : Context) (name : Spelled) (sort : Item) → IsSound logic context → IfOk (define_sort context logic name sort) (IsSound logic)
 define_sort_sound logic context name sort sound =
     chained (λ x. ⊤) (IsSound logic) (new_sort_name context logic name.place name.name) _ (any_read (new_sort_name context logic name.place name.name)) (λ new is any.
-    chained (Known (defaults.sorts_of logic)) (IsSound logic) (read_sort logic context.sorts sort) _ (sort_known (operators_of logic) (defaults.sorts_of logic) logic context.sorts sort (record { operators = λ operator. refl; sorts = λ s. refl }) sound.abbreviations) (λ found found_is known.
+    chained (Known (number_sorts logic)) (IsSound logic) (read_sort logic context.sorts sort) _ (sort_known (operators_of logic) (number_sorts logic) logic context.sorts sort (record { operators = λ operator. refl; sorts = λ s. refl }) sound.abbreviations) (λ found found_is known.
     abbreviation_sound logic context new found sound known))
 
 -- a definition more
@@ -123,7 +122,7 @@ definition_sound : (logic : Logic) (context : Context) (d : Definition) → IsSo
     → IsSound logic (with_definition context d)
 definition_sound logic context d sound free fit =
     let owned = operators_of logic in
-    let numeric = defaults.sorts_of logic in
+    let numeric = number_sorts logic in
     let defined = defined_in context.definitions in
     let wanted = wanted_in context.sought in
     let later = defined_in (context.definitions ++ d ∷ []) in
@@ -153,15 +152,15 @@ define_sound logic context name arguments sort body sound =
     chained (λ x. ⊤) (IsSound logic) (read_named context.sorts logic [] [] arguments) _ (any_read (read_named context.sorts logic [] [] arguments)) (λ named named_is any.
     chained (λ x. ⊤) (IsSound logic) (read_sort logic context.sorts sort) _ (any_read (read_sort logic context.sorts sort)) (λ found found_is known.
     chained (λ p. phrase_sort (setting_with (operators_of logic) (defined_in context.definitions) [] (sorts_of named)) [] p ≡ Some found) (IsSound logic) (read_in context logic role.Body named found body) _
-    (whole_fits (defaults.sorts_of logic) (setting_with (operators_of logic) (defined_in context.definitions) [] (sorts_of named)) (environment context logic role.Body named) (body_right logic context sound named) context.measures found body) (λ p p_is fit.
+    (whole_fits (number_sorts logic) (setting_with (operators_of logic) (defined_in context.definitions) [] (sorts_of named)) (environment context logic role.Body named) (body_right logic context sound named) context.measures found body) (λ p p_is fit.
     definition_sound logic context (record { name = new; arguments = named; sort = found; body = p }) sound free fit))))
 
 -- a function to be found more
-pub sought_sound : (logic : Logic) (context : Context) (f : Sought) (values : List Val) → IsSound logic context → IsFree logic f.name → GoalFits (operators_of logic) (defaults.sorts_of logic) (defined_in context.definitions) (goal_of f)
+pub sought_sound : (logic : Logic) (context : Context) (f : Sought) (values : List Val) → IsSound logic context → IsFree logic f.name → GoalFits (operators_of logic) (number_sorts logic) (defined_in context.definitions) (goal_of f)
     → IsSound logic (with_sought context f values)
 sought_sound logic context f values sound free fit =
     let owned = operators_of logic in
-    let numeric = defaults.sorts_of logic in
+    let numeric = number_sorts logic in
     let defined = defined_in context.definitions in
     let wanted = wanted_in context.sought in
     let later = wanted_in (context.sought ++ f ∷ []) in

@@ -6,16 +6,16 @@ use Rattle.sy_terms.specs.Fitting.{Signature}
 use Rattle.sy_terms.specs.declared.op.Op.{Op}
 use Rattle.sy_terms.specs.declared.sort.Sort.{Sort}
 use Rattle.sy_terms.specs.declared.term.Fun.TheVariants.{Defined, Wanted}
-use Rattle.sy_forms.specs.declared.names.Entity.{Entity}
-use Rattle.sy_forms.specs.declared.names.Entity.TheVariants as entity
+use Rattle.sy_forms_names.specs.declared.names.Entity.{Entity}
+use Rattle.sy_forms_names.specs.declared.names.Entity.TheVariants as entity
 use Rattle.sy_terms_laws.proofs.Equations.{both_true}
 use Rattle.sy_forms_laws.specs.Fitting.{phrase_sort}
-use Rattle.sy_forms_laws.specs.Questions.{GoalFits}
+use Rattle.sy_grammar_base.specs.Fits.{GoalFits}
 use Rattle.sy_forms_laws.specs.Right.{Extends, Widens}
 use Rattle.sy_forms_laws.proofs.Exprs.{front_at}
 use Rattle.sy_forms_laws.proofs.Growing.{formed_wider}
 use Rattle.sy_forms_laws.proofs.Widening.{fits_wider}
-use Rattle.sy_forms.specs.Phrases.{Phrase}
+use Rattle.sy_forms_phrases.specs.Phrases.{Phrase}
 use Rattle.sy_grammar_base.specs.Questions.{Goal}
 use Rattle.sy_scope_rules.specs.Lists.{sorts_of}
 use Rattle.sy_scope_steps.specs.Contexts as contexts

@@ -10,16 +10,15 @@ use Rattle.sy_terms.specs.declared.op.Op.{Op}
 use Rattle.sy_terms.specs.declared.sort.Logic.{Logic}
 use Rattle.sy_terms.specs.declared.sort.Sort.{Sort}
 use Rattle.sy_terms.specs.declared.sort.Sort.TheVariants as sorts
-use Rattle.sy_grammar_defaults.specs.Defaults as defaults
-use Rattle.sy_grammar_defaults.specs.Defaults.{IsOf, operators_of}
-use Rattle.sy_forms.specs.declared.names.Entity.{Entity}
-use Rattle.sy_forms.specs.Operators.{is_reserved}
-use Rattle.sy_forms.specs.Phrases.{Phrase}
-use Rattle.sy_forms.specs.Readings.{Reading, found_or}
+use Rattle.sy_terms.specs.Logics.{IsTheoryOf, number_sorts, operators_of}
+use Rattle.sy_forms_names.specs.declared.names.Entity.{Entity}
+use Rattle.sy_forms_names.specs.Operators.{is_reserved}
+use Rattle.sy_forms_phrases.specs.Phrases.{Phrase}
+use Rattle.sy_forms_items.specs.Readings.{Reading, found_or}
 use Rattle.sy_scope_commands.specs.Requests as requests
 use Rattle.sy_scope_commands.specs.Requests.{Request, Spelled}
 use Rattle.sy_forms_laws.specs.Fitting.{phrase_sort}
-use Rattle.sy_forms_laws.specs.Questions.{GoalFits, QuestionFits}
+use Rattle.sy_grammar_base.specs.Fits.{GoalFits, QuestionFits}
 use Rattle.sy_forms_laws.proofs.Readings.{chained, weaker, any_read}
 use Rattle.sy_grammar_base.specs.Formed.{is_known}
 use Rattle.sy_scope_steps.specs.Contexts.{Context, Sought, beginning, with_logic, goal_of}
@@ -37,15 +36,15 @@ sound_of logic context sound = subst (λ l. SoundBy l context) (sym sound.set) s
 pub begun_sound : (logic : Logic) → IsSound logic (with_logic logic beginning)
 begun_sound logic = record {
   set = refl;
-  abbreviations = All-nil (λ (x : List ℕ × Sort). is_known (defaults.sorts_of logic) x.1 ≡ true);
+  abbreviations = All-nil (λ (x : List ℕ × Sort). is_known (number_sorts logic) x.1 ≡ true);
   names = All-nil (λ (x : List ℕ × Entity). is_reserved logic x.0 ≡ false);
   entities = All-nil (λ (x : List ℕ × Entity). IsDeclared [] [] [] x.1);
   variables = refl;
   definitions = tt;
-  sought = All-nil (λ (f : Sought). GoalFits (operators_of logic) (defaults.sorts_of logic) [] (goal_of f));
+  sought = All-nil (λ (f : Sought). GoalFits (operators_of logic) (number_sorts logic) [] (goal_of f));
   assumptions = All-nil (λ (p : Phrase). phrase_sort (setting_with (operators_of logic) [] [] []) [] p ≡ Some sorts.Bool);
   constraints = All-nil (ConditionFits (operators_of logic) [] [] []);
-  questions = All-nil (QuestionFits (operators_of logic) (defaults.sorts_of logic));
+  questions = All-nil (QuestionFits (operators_of logic) (number_sorts logic));
 }
 
 set_first : (name : Spelled) → IfOk (set_logic beginning name) Sound
@@ -123,14 +122,14 @@ file_sound (suc most) command file at context sound =
     after_sound command context (command_read file command at) _ sound (λ after later later_sound. file_sound most (command + 1) file after later later_sound)
 
 -- what a sound context asks fits under the theory of its logic
-asked_fit : (context : Context) (logic : Logic) (owned : Op → Bool) (numeric : Sort → Bool) → IsOf logic owned numeric → Sound context → context.logic ≡ Some logic → All (QuestionFits owned numeric) context.questions
+asked_fit : (context : Context) (logic : Logic) (owned : Op → Bool) (numeric : Sort → Bool) → IsTheoryOf logic owned numeric → Sound context → context.logic ≡ Some logic → All (QuestionFits owned numeric) context.questions
 asked_fit context logic owned numeric of sound e =
     let same : IsSound logic context = subst (λ l. SoundBy l context) e sound in
     let operators : operators_of logic ≡ owned = λ i. λ operator. sym (of.operators operator) i in
-    let numbers : defaults.sorts_of logic ≡ numeric = λ i. λ s. sym (of.sorts s) i in
+    let numbers : number_sorts logic ≡ numeric = λ i. λ s. sym (of.sorts s) i in
     subst (λ (o : Op → Bool). All (QuestionFits o numeric) context.questions) operators (subst (λ (n : Sort → Bool). All (QuestionFits (operators_of logic) n) context.questions) numbers same.questions)
 
-pub file_fits : (file : List ℕ) (logic : Logic) (owned : Op → Bool) (numeric : Sort → Bool) → IsOf logic owned numeric → IfOk (file_read file) (λ context. context.logic ≡ Some logic → All (QuestionFits owned numeric) context.questions)
+pub file_fits : (file : List ℕ) (logic : Logic) (owned : Op → Bool) (numeric : Sort → Bool) → IsTheoryOf logic owned numeric → IfOk (file_read file) (λ context. context.logic ≡ Some logic → All (QuestionFits owned numeric) context.questions)
 file_fits file logic owned numeric of = result_weaker (file_read file) (file_sound (length file + 1) 1 file 0 beginning refl)
   where
     result_weaker : (read : Outcome) → IfOk read Sound → IfOk read (λ context. context.logic ≡ Some logic → All (QuestionFits owned numeric) context.questions)

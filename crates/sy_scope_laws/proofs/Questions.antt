@@ -7,13 +7,12 @@ use Rattle.sy_terms.specs.declared.op.Op.{Op}
 use Rattle.sy_terms.specs.declared.sort.Logic.{Logic}
 use Rattle.sy_terms.specs.declared.sort.Sort.{Sort}
 use Rattle.sy_terms.specs.declared.sort.Sort.TheVariants as sorts
-use Rattle.sy_grammar_defaults.specs.Defaults as defaults
-use Rattle.sy_grammar_defaults.specs.Defaults.{operators_of}
+use Rattle.sy_terms.specs.Logics.{number_sorts, operators_of}
 use Rattle.sy_grammar_base.specs.Questions.{Goal}
-use Rattle.sy_forms.specs.Phrases.{Phrase, expr_at}
-use Rattle.sy_forms.specs.declared.names.Named.{Named}
+use Rattle.sy_forms_phrases.specs.Phrases.{Phrase, expr_at}
+use Rattle.sy_forms_names.specs.declared.names.Named.{Named}
 use Rattle.sy_forms_laws.specs.Fitting.{phrase_sort}
-use Rattle.sy_forms_laws.specs.Questions.{with_functions, FitInTurn, GoalFits, QuestionFits}
+use Rattle.sy_grammar_base.specs.Fits.{with_functions, FitInTurn, GoalFits, QuestionFits}
 use Rattle.sy_forms_laws.proofs.Whole.{term_fits}
 use Rattle.sy_scope_rules.specs.Lists.{sorts_of}
 use Rattle.sy_scope_steps.specs.Contexts as contexts
@@ -35,14 +34,14 @@ wanted_goals : (sought : List Sought) → wanted_in sought ≡ map (λ (g : Goal
 wanted_goals [] = refl
 wanted_goals (f ∷ sought) = ap (λ (all : List Signature). signature_of_sought f ∷ all) (wanted_goals sought)
 
-pub question_fits : (logic : Logic) (context : Context) → IsSound logic context → QuestionFits (operators_of logic) (defaults.sorts_of logic) (question_at context)
+pub question_fits : (logic : Logic) (context : Context) → IsSound logic context → QuestionFits (operators_of logic) (number_sorts logic) (question_at context)
 question_fits logic context sound =
     let owned = operators_of logic in
     let defined = defined_in context.definitions in
     record {
       definitions = definitions_fit owned [] context.definitions sound.definitions;
       variables = sound.variables;
-      goals = All-map (GoalFits owned (defaults.sorts_of logic) defined) goal_of context.sought sound.sought;
+      goals = All-map (GoalFits owned (number_sorts logic) defined) goal_of context.sought sound.sought;
       assumptions = All-map (λ term. sort_in (with_functions owned defined []) context.variables term ≡ Some sorts.Bool) (expr_at (length context.variables)) context.assumptions
           (All-weaker (λ (p : Phrase). phrase_sort (setting_with owned defined [] context.variables) [] p ≡ Some sorts.Bool) _ (λ p e. term_fits (setting_with owned defined [] context.variables) p sorts.Bool refl e) context.assumptions sound.assumptions);
       constraints = All-map (λ term. sort_in (with_functions owned defined (map (λ (g : Goal). g.signature) (map goal_of context.sought))) context.variables term ≡ Some sorts.Bool) (condition_at (length context.variables)) context.constraints

@@ -6,14 +6,13 @@ use Rattle.sy_terms.specs.declared.op.Op.{Op}
 use Rattle.sy_terms.specs.declared.sort.Logic.{Logic}
 use Rattle.sy_terms.specs.declared.sort.Sort.{Sort}
 use Rattle.sy_terms.specs.declared.term.Fun.TheVariants.{Defined, Wanted}
-use Rattle.sy_grammar_defaults.specs.Defaults as defaults
-use Rattle.sy_grammar_defaults.specs.Defaults.{operators_of}
-use Rattle.sy_forms.specs.declared.names.Entity.{Entity}
-use Rattle.sy_forms.specs.declared.names.Entity.TheVariants as entity
-use Rattle.sy_forms.specs.declared.names.Named.{Named}
-use Rattle.sy_forms.specs.declared.names.Role.TheVariants as role
-use Rattle.sy_forms.specs.Environments as env
-use Rattle.sy_forms.specs.Environments.{Sense, entry, or_else, place_among, sense_as, declared_in, sense_of}
+use Rattle.sy_terms.specs.Logics.{number_sorts, operators_of}
+use Rattle.sy_forms_names.specs.declared.names.Entity.{Entity}
+use Rattle.sy_forms_names.specs.declared.names.Entity.TheVariants as entity
+use Rattle.sy_forms_names.specs.declared.names.Named.{Named}
+use Rattle.sy_forms_names.specs.declared.names.Role.TheVariants as role
+use Rattle.sy_forms_names.specs.Environments as env
+use Rattle.sy_forms_names.specs.Environments.{Sense, entry, or_else, place_among, sense_as, declared_in, sense_of}
 use Rattle.sy_forms_laws.specs.Right.{IsThere, IsRight}
 use Rattle.sy_forms_laws.proofs.Names.{place_among_at}
 use Rattle.sy_forms_laws.proofs.Sorts.{entry_has}
@@ -55,7 +54,7 @@ argument_or owned defined arguments (Some x) outer sense inside outside e = let 
 declared_of : (logic : Logic) (context : Context) → IsSound logic context → (name : List ℕ) (it : Entity) → entry name context.entities ≡ Some it → IsDeclared (defined_in context.definitions) (wanted_in context.sought) context.variables it
 declared_of logic context sound name it e = entry_has (IsDeclared (defined_in context.definitions) (wanted_in context.sought) context.variables) name context.entities it sound.entities e
 
-pub constraint_right : (logic : Logic) (context : Context) → IsSound logic context → IsRight (defaults.sorts_of logic) (setting_with (operators_of logic) (defined_in context.definitions) (wanted_in context.sought) context.variables) (environment context logic role.Constraint [])
+pub constraint_right : (logic : Logic) (context : Context) → IsSound logic context → IsRight (number_sorts logic) (setting_with (operators_of logic) (defined_in context.definitions) (wanted_in context.sought) context.variables) (environment context logic role.Constraint [])
 constraint_right logic context sound = record {
   theory = record { operators = λ operator. refl; sorts = λ sort. refl };
   sorts = sound.abbreviations;
@@ -64,7 +63,7 @@ constraint_right logic context sound = record {
   lets = refl;
 }
 
-pub assumption_right : (logic : Logic) (context : Context) → IsSound logic context → IsRight (defaults.sorts_of logic) (setting_with (operators_of logic) (defined_in context.definitions) [] context.variables) (environment context logic role.Assumption [])
+pub assumption_right : (logic : Logic) (context : Context) → IsSound logic context → IsRight (number_sorts logic) (setting_with (operators_of logic) (defined_in context.definitions) [] context.variables) (environment context logic role.Assumption [])
 assumption_right logic context sound = record {
   theory = record { operators = λ operator. refl; sorts = λ sort. refl };
   sorts = sound.abbreviations;
@@ -73,7 +72,7 @@ assumption_right logic context sound = record {
   lets = refl;
 }
 
-pub body_right : (logic : Logic) (context : Context) → IsSound logic context → (arguments : List Named) → IsRight (defaults.sorts_of logic) (setting_with (operators_of logic) (defined_in context.definitions) [] (sorts_of arguments)) (environment context logic role.Body arguments)
+pub body_right : (logic : Logic) (context : Context) → IsSound logic context → (arguments : List Named) → IsRight (number_sorts logic) (setting_with (operators_of logic) (defined_in context.definitions) [] (sorts_of arguments)) (environment context logic role.Body arguments)
 body_right logic context sound arguments = record {
   theory = record { operators = λ operator. refl; sorts = λ sort. refl };
   sorts = sound.abbreviations;

@@ -14,21 +14,21 @@ use Rattle.sy_terms.specs.declared.sort.Sort.TheVariants as sorts
 use Rattle.sy_terms.specs.declared.term.Fun.TheVariants.{Defined, Wanted}
 use Rattle.sy_grammar_base.specs.Formed.{is_known}
 use Rattle.sy_grammar_base.specs.Trees.{Nonterminal}
-use Rattle.sy_grammar_defaults.specs.Defaults as defaults
-use Rattle.sy_grammar_defaults.specs.Defaults.{IsOf, operators_of, nonterminals, default_syntax}
+use Rattle.sy_terms.specs.Logics.{IsTheoryOf, number_sorts, operators_of}
+use Rattle.sy_grammar_defaults.specs.Defaults.{nonterminals, default_syntax}
 use Rattle.sy_grammar_defaults.proofs.Fitting.{default_formed}
-use Rattle.sy_forms.specs.declared.names.Entity.{Entity}
-use Rattle.sy_forms.specs.declared.names.Entity.TheVariants as entity
-use Rattle.sy_forms.specs.declared.names.Named.{Named}
-use Rattle.sy_forms.specs.declared.names.Role.TheVariants as role
-use Rattle.sy_forms.specs.Environments as env
-use Rattle.sy_forms.specs.Environments.{Sense, entry, or_else, place_among, sense_as, declared_in, sense_of}
-use Rattle.sy_forms.specs.Operators.{is_reserved}
+use Rattle.sy_forms_names.specs.declared.names.Entity.{Entity}
+use Rattle.sy_forms_names.specs.declared.names.Entity.TheVariants as entity
+use Rattle.sy_forms_names.specs.declared.names.Named.{Named}
+use Rattle.sy_forms_names.specs.declared.names.Role.TheVariants as role
+use Rattle.sy_forms_names.specs.Environments as env
+use Rattle.sy_forms_names.specs.Environments.{Sense, entry, or_else, place_among, sense_as, declared_in, sense_of}
+use Rattle.sy_forms_names.specs.Operators.{is_reserved}
 use Rattle.sy_scope_commands.specs.Requests.{Spelled, Rulebook}
 use Rattle.sy_scope_rules.specs.Lists.{sorts_of, read_named}
 use Rattle.sy_scope_rules.specs.Grammars.{Written, read_rulebook}
 use Rattle.sy_scope_rules.proofs.Named.{IsNamed, named_read}
-use Rattle.sy_forms_laws.specs.Questions.{with_functions, GoalFits}
+use Rattle.sy_grammar_base.specs.Fits.{with_functions, GoalFits}
 use Rattle.sy_forms_laws.specs.Right.{IsThere}
 use Rattle.sy_forms_laws.proofs.Names.{place_among_at}
 use Rattle.sy_forms_laws.proofs.Readings.{chained, any_read, at_read, where_read}
@@ -70,12 +70,12 @@ none_declared logic word (x ∷ entities) free e =
 nothing_or : (place : Option (ℕ × Sort)) (found : Option Entity) → place ≡ None → found ≡ None → or_else (sense_as env.Argument place) (declared_in role.Grammar found) ≡ None
 nothing_or place found e f = rw (e, f) refl
 
-own : (logic : Logic) → IsOf logic (operators_of logic) (defaults.sorts_of logic)
+own : (logic : Logic) → IsTheoryOf logic (operators_of logic) (number_sorts logic)
 own logic = record { operators = λ operator. refl; sorts = λ s. refl }
 
 -- a grammar is read rightly
-grammar_right : (logic : Logic) (context : Context) → IsSound logic context → (arguments : List Named) → All (IsNamed context.sorts logic) arguments → All (λ (x : Named). is_known (defaults.sorts_of logic) x.sort ≡ true) arguments
-    → ReadsRightly (defaults.sorts_of logic) (with_functions (operators_of logic) (defined_in context.definitions) []) context.sorts context.entities logic arguments
+grammar_right : (logic : Logic) (context : Context) → IsSound logic context → (arguments : List Named) → All (IsNamed context.sorts logic) arguments → All (λ (x : Named). is_known (number_sorts logic) x.sort ≡ true) arguments
+    → ReadsRightly (number_sorts logic) (with_functions (operators_of logic) (defined_in context.definitions) []) context.sorts context.entities logic arguments
 grammar_right logic context sound arguments named known = record {
   right = record {
     theory = own logic;
@@ -93,7 +93,7 @@ grammar_right logic context sound arguments named known = record {
 }
 
 -- the start symbol of a default grammar
-default_start : (logic : Logic) (arguments : List Sort) (sort : Sort) → is_known (defaults.sorts_of logic) sort ≡ true → option_map (λ (n : Nonterminal). n.sort) (slice_get (nonterminals logic arguments sort) 0) ≡ Some sort
+default_start : (logic : Logic) (arguments : List Sort) (sort : Sort) → is_known (number_sorts logic) sort ≡ true → option_map (λ (n : Nonterminal). n.sort) (slice_get (nonterminals logic arguments sort) 0) ≡ Some sort
 default_start Lia arguments sorts.Bool known = refl
 default_start Lia arguments sorts.Int known = refl
 default_start Lia arguments (sorts.Bits w) known = absurd cc
@@ -104,30 +104,30 @@ default_start Bv arguments (sorts.Bits w) known = refl
 -- a grammar that is written, or that of a function without one
 abbrev WrittenFits : Logic → Context → List Named → Sort → Written → Type 0
 WrittenFits logic context arguments sort written =
-    GoalFits (operators_of logic) (defaults.sorts_of logic) (defined_in context.definitions) (record { signature = record { takes = sorts_of arguments; gives = sort }; grammar = written.grammar })
+    GoalFits (operators_of logic) (number_sorts logic) (defined_in context.definitions) (record { signature = record { takes = sorts_of arguments; gives = sort }; grammar = written.grammar })
 
-written_fits : (logic : Logic) (context : Context) → IsSound logic context → (arguments : List Named) (sort : Sort) (rules : Option Rulebook) → All (IsNamed context.sorts logic) arguments → All (λ (x : Named). is_known (defaults.sorts_of logic) x.sort ≡ true) arguments
-    → is_known (defaults.sorts_of logic) sort ≡ true → IfOk (read_grammar context logic arguments sort rules) (WrittenFits logic context arguments sort)
+written_fits : (logic : Logic) (context : Context) → IsSound logic context → (arguments : List Named) (sort : Sort) (rules : Option Rulebook) → All (IsNamed context.sorts logic) arguments → All (λ (x : Named). is_known (number_sorts logic) x.sort ≡ true) arguments
+    → is_known (number_sorts logic) sort ≡ true → IfOk (read_grammar context logic arguments sort rules) (WrittenFits logic context arguments sort)
 written_fits logic context sound arguments sort None named known sort_is = record {
-  formed = default_formed (defined_in context.definitions) logic (operators_of logic) (defaults.sorts_of logic) (own logic) (sorts_of arguments) sort (sorts_pass (is_known (defaults.sorts_of logic)) arguments known) sort_is;
+  formed = default_formed (defined_in context.definitions) logic (operators_of logic) (number_sorts logic) (own logic) (sorts_of arguments) sort (sorts_pass (is_known (number_sorts logic)) arguments known) sort_is;
   arguments = refl;
   start = default_start logic (sorts_of arguments) sort sort_is;
 }
 written_fits logic context sound arguments sort (Some book) named known sort_is =
     where_read (read_rulebook context.sorts context.entities logic arguments sort book) (λ written e.
-    grammar_fits (operators_of logic) (defaults.sorts_of logic) (defined_in context.definitions) context.sorts context.entities logic arguments sort book written (grammar_right logic context sound arguments named known) e)
+    grammar_fits (operators_of logic) (number_sorts logic) (defined_in context.definitions) context.sorts context.entities logic arguments sort book written (grammar_right logic context sound arguments named known) e)
 
-value_known : (logic : Logic) (context : Context) → IsSound logic context → (sort : Option Item) → IfOk (value_sort context logic sort) (Known (defaults.sorts_of logic))
+value_known : (logic : Logic) (context : Context) → IsSound logic context → (sort : Option Item) → IfOk (value_sort context logic sort) (Known (number_sorts logic))
 value_known logic context sound None = refl
-value_known logic context sound (Some sort) = sort_known (operators_of logic) (defaults.sorts_of logic) logic context.sorts sort (own logic) sound.abbreviations
+value_known logic context sound (Some sort) = sort_known (operators_of logic) (number_sorts logic) logic context.sorts sort (own logic) sound.abbreviations
 
 pub synthesise_sound : (logic : Logic) (context : Context) (name : Spelled) (arguments : Items) (sort : Option Item) (rules : Option Rulebook) → IsSound logic context → IfOk (synthesise context logic name arguments sort rules) (IsSound logic)
 synthesise_sound logic context name arguments sort rules sound =
     chained (IsFree logic) (IsSound logic) (new_sought context logic name.place name.name) _ (new_sought_free context logic name.place name.name) (λ new is free.
     chained (λ x. ⊤) (IsSound logic) (read_named context.sorts logic [] [] arguments) _ (any_read (read_named context.sorts logic [] [] arguments)) (λ named named_is any.
     let are = (named_read context.sorts logic [] [] arguments named (All-nil (IsNamed context.sorts logic)) (omega arith) named_is).all in
-    let known = All-weaker (IsNamed context.sorts logic) (λ (x : Named). is_known (defaults.sorts_of logic) x.sort ≡ true)
-    (λ x it. at_read (Known (defaults.sorts_of logic)) _ x.sort (sort_known (operators_of logic) (defaults.sorts_of logic) logic context.sorts it.item (own logic) sound.abbreviations) it.sort) named are in
-    chained (Known (defaults.sorts_of logic)) (IsSound logic) (value_sort context logic sort) _ (value_known logic context sound sort) (λ found found_is found_known.
+    let known = All-weaker (IsNamed context.sorts logic) (λ (x : Named). is_known (number_sorts logic) x.sort ≡ true)
+    (λ x it. at_read (Known (number_sorts logic)) _ x.sort (sort_known (operators_of logic) (number_sorts logic) logic context.sorts it.item (own logic) sound.abbreviations) it.sort) named are in
+    chained (Known (number_sorts logic)) (IsSound logic) (value_sort context logic sort) _ (value_known logic context sound sort) (λ found found_is found_known.
     chained (WrittenFits logic context named found) (IsSound logic) (read_grammar context logic named found rules) _ (written_fits logic context sound named found rules are known found_known) (λ written written_is fit.
     sought_sound logic context (record { name = new; arguments = named; sort = found; grammar = written.grammar }) written.values sound free fit))))

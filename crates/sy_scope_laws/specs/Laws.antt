@@ -4,8 +4,8 @@ use Rattle.sy_text.specs.Items.{Item}
 use Rattle.sy_terms.specs.declared.op.Op.{Op}
 use Rattle.sy_terms.specs.declared.sort.Logic.{Logic}
 use Rattle.sy_terms.specs.declared.sort.Sort.{Sort}
-use Rattle.sy_grammar_defaults.specs.Defaults.{IsOf}
-use Rattle.sy_forms_laws.specs.Questions.{QuestionFits}
+use Rattle.sy_terms.specs.Logics.{IsTheoryOf}
+use Rattle.sy_grammar_base.specs.Fits.{QuestionFits}
 use Rattle.sy_scope_steps.specs.Contexts.{Context}
 use Rattle.sy_scope_steps.specs.Files.{file_read}
 use Rattle.sy_scope_steps.specs.Steps.{step}
@@ -17,5 +17,5 @@ StepsKeepSound = (context : Context) (item : Item) → Sound context → IfOk (s
 
 -- all terms and grammars of a file's questions fit, under the theory of the file's logic
 abbrev pub FilesFit : Type 0
-FilesFit = (file : List ℕ) (logic : Logic) (owned : Op → Bool) (numeric : Sort → Bool) → IsOf logic owned numeric →
+FilesFit = (file : List ℕ) (logic : Logic) (owned : Op → Bool) (numeric : Sort → Bool) → IsTheoryOf logic owned numeric →
     IfOk (file_read file) (λ (context : Context). context.logic ≡ Some logic → All (QuestionFits owned numeric) context.questions)

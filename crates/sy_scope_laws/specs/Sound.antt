@@ -7,14 +7,13 @@ use Rattle.sy_terms.specs.declared.sort.Logic.{Logic}
 use Rattle.sy_terms.specs.declared.sort.Sort.{Sort}
 use Rattle.sy_terms.specs.declared.sort.Sort.TheVariants as sorts
 use Rattle.sy_grammar_base.specs.Formed.{is_known}
-use Rattle.sy_forms.specs.Operators.{is_reserved}
-use Rattle.sy_forms.specs.Phrases.{Phrase}
-use Rattle.sy_forms.specs.declared.names.Entity.{Entity}
-use Rattle.sy_forms.specs.declared.names.Entity.TheVariants as entity
-use Rattle.sy_grammar_defaults.specs.Defaults as defaults
-use Rattle.sy_grammar_defaults.specs.Defaults.{operators_of}
+use Rattle.sy_forms_names.specs.Operators.{is_reserved}
+use Rattle.sy_forms_phrases.specs.Phrases.{Phrase}
+use Rattle.sy_forms_names.specs.declared.names.Entity.{Entity}
+use Rattle.sy_forms_names.specs.declared.names.Entity.TheVariants as entity
+use Rattle.sy_terms.specs.Logics.{number_sorts, operators_of}
 use Rattle.sy_forms_laws.specs.Fitting.{Setting, phrase_sort}
-use Rattle.sy_forms_laws.specs.Questions.{with_functions, GoalFits, QuestionFits}
+use Rattle.sy_grammar_base.specs.Fits.{with_functions, GoalFits, QuestionFits}
 use Rattle.sy_forms_laws.specs.Right.{Extends}
 use Rattle.sy_scope_rules.specs.Lists.{sorts_of}
 use Rattle.sy_scope_steps.specs.Contexts as contexts
@@ -56,15 +55,15 @@ ConditionFits owned defined wanted variables condition =
 -- a context of the logic in which all fits
 pub record IsSound (logic : Logic) (context : Context) : Type 0 where
   pub set : context.logic ≡ Some logic
-  pub abbreviations : All (λ (x : List ℕ × Sort). is_known (defaults.sorts_of logic) x.1 ≡ true) context.sorts
+  pub abbreviations : All (λ (x : List ℕ × Sort). is_known (number_sorts logic) x.1 ≡ true) context.sorts
   pub names : All (λ (x : List ℕ × Entity). is_reserved logic x.0 ≡ false) context.entities
   pub entities : All (λ (x : List ℕ × Entity). IsDeclared (defined_in context.definitions) (wanted_in context.sought) context.variables x.1) context.entities
-  pub variables : list_all (is_known (defaults.sorts_of logic)) context.variables ≡ true
+  pub variables : list_all (is_known (number_sorts logic)) context.variables ≡ true
   pub definitions : FitAfter (operators_of logic) [] context.definitions
-  pub sought : All (λ (f : Sought). GoalFits (operators_of logic) (defaults.sorts_of logic) (defined_in context.definitions) (goal_of f)) context.sought
+  pub sought : All (λ (f : Sought). GoalFits (operators_of logic) (number_sorts logic) (defined_in context.definitions) (goal_of f)) context.sought
   pub assumptions : All (λ (p : Phrase). phrase_sort (setting_with (operators_of logic) (defined_in context.definitions) [] context.variables) [] p ≡ Some sorts.Bool) context.assumptions
   pub constraints : All (ConditionFits (operators_of logic) (defined_in context.definitions) (wanted_in context.sought) context.variables) context.constraints
-  pub questions : All (QuestionFits (operators_of logic) (defaults.sorts_of logic)) context.questions
+  pub questions : All (QuestionFits (operators_of logic) (number_sorts logic)) context.questions
 
 -- before a logic is set there is nothing
 abbrev pub SoundBy : Option Logic → Context → Type 0

@@ -6,9 +6,6 @@ ghost use Rattle.sy_terms.specs.Denoted.{val_of, vals_of};
 ghost use Rattle.sy_scope_pool.specs.Pools as spec;
 ghost use Rattle.sy_scope_pool.specs.Kept.{pool_of};
 
-#[cfg(test)]
-mod tests;
-
 use indexmap::IndexSet;
 use std::alloc::Global;
 use sy_terms::{Theory, Value, Values, Want, copied_values};

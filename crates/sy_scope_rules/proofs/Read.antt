@@ -8,10 +8,10 @@ use Rattle.sy_terms.specs.declared.sort.Sort.{Sort}
 use Rattle.sy_scope_causes.specs.declared.cause.Cause.{Cause}
 use Rattle.sy_scope_causes.specs.declared.cause.Cause.TheVariants as cause
 use Rattle.sy_grammar_base.specs.Trees.{Production, Nonterminal}
-use Rattle.sy_forms.specs.declared.names.Named.{Named}
-use Rattle.sy_forms.specs.Environments.{Environment}
-use Rattle.sy_forms.specs.Parts.{place_of}
-use Rattle.sy_forms.specs.Readings.{Reading, refuse, ◌>>=◌}
+use Rattle.sy_forms_names.specs.declared.names.Named.{Named}
+use Rattle.sy_forms_names.specs.Environments.{Environment}
+use Rattle.sy_forms_items.specs.Parts.{place_of}
+use Rattle.sy_forms_items.specs.Readings.{Reading, refuse, ◌>>=◌}
 use Rattle.sy_forms.specs.Rules.{Ruling, production_at, read_rule}
 use Rattle.sy_scope_rules.specs.Grammars.{Collected, Grouped, Grown, with_rule, read_rules, grouped, is_group_of, opened, with_group, extended, read_grouped, read_group, read_groups}
 

@@ -6,10 +6,10 @@ use Rattle.sy_text.specs.declared.atom.Place.{Place}
 use Rattle.sy_terms.specs.declared.sort.Logic.{Logic}
 use Rattle.sy_terms.specs.declared.sort.Sort.{Sort}
 use Rattle.sy_scope_causes.specs.declared.cause.Cause.TheVariants as cause
-use Rattle.sy_forms.specs.declared.names.Named.{Named}
-use Rattle.sy_forms.specs.Environments.{Environment}
-use Rattle.sy_forms.specs.Parts.{place_of, is_empty}
-use Rattle.sy_forms.specs.Readings.{refuse, ◌>>=◌}
+use Rattle.sy_forms_names.specs.declared.names.Named.{Named}
+use Rattle.sy_forms_names.specs.Environments.{Environment}
+use Rattle.sy_forms_items.specs.Parts.{place_of, is_empty}
+use Rattle.sy_forms_items.specs.Readings.{refuse, ◌>>=◌}
 use Rattle.sy_forms.specs.Rules.{read_rule}
 use Rattle.sy_scope_commands.specs.Requests.{spelled}
 use Rattle.sy_scope_rules.specs.Lists.{read_named, named_item, named_pair, named_by, counted}

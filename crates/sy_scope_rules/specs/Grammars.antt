@@ -7,13 +7,13 @@ use Rattle.sy_terms.specs.declared.sort.Logic.{Logic}
 use Rattle.sy_terms.specs.declared.sort.Sort.{Sort}
 use Rattle.sy_scope_causes.specs.declared.cause.Cause.TheVariants as cause
 use Rattle.sy_grammar_base.specs.Trees.{Production, Syntax, Nonterminal}
-use Rattle.sy_forms.specs.declared.names.Entity.{Entity}
-use Rattle.sy_forms.specs.declared.names.Named.{Named}
-use Rattle.sy_forms.specs.declared.names.Role.TheVariants as role
-use Rattle.sy_forms.specs.Environments.{Environment}
-use Rattle.sy_forms.specs.Measures.{literals}
-use Rattle.sy_forms.specs.Parts.{symbol, place_of, is_empty, is_symbol}
-use Rattle.sy_forms.specs.Readings.{Reading, refuse, ◌>>=◌}
+use Rattle.sy_forms_names.specs.declared.names.Entity.{Entity}
+use Rattle.sy_forms_names.specs.declared.names.Named.{Named}
+use Rattle.sy_forms_names.specs.declared.names.Role.TheVariants as role
+use Rattle.sy_forms_names.specs.Environments.{Environment}
+use Rattle.sy_forms_phrases.specs.Measures.{literals}
+use Rattle.sy_forms_items.specs.Parts.{symbol, place_of, is_empty, is_symbol}
+use Rattle.sy_forms_items.specs.Readings.{Reading, refuse, ◌>>=◌}
 use Rattle.sy_forms.specs.Rules.{Ruling, Template, EachConstant, EachVariable, production_at, read_rule, constant_groups, has_sort}
 use Rattle.sy_scope_commands.specs.Requests.{Listed, Rulebook}
 use Rattle.sy_scope_rules.specs.Lists.{sorts_of, read_predeclared}

@@ -4,9 +4,9 @@ use Rattle.sy_text.specs.Views.{item_of}
 use Rattle.sy_terms.specs.Values.{Val}
 use Rattle.sy_terms.specs.Denoted.{vals_of}
 use Rattle.sy_grammar_base.specs.Trees.{Production, Nonterminal}
-use Rattle.sy_forms.specs.Measured.{ruling_of}
+use Rattle.sy_forms.specs.Rulings.{ruling_of}
 use Rattle.sy_forms.specs.Rules.{production_at}
-use Rattle.sy_forms.specs.declared.names.Named.{Named}
+use Rattle.sy_forms_names.specs.declared.names.Named.{Named}
 use Rattle.sy_forms.specs.declared.rule.Ruling.{Ruling}
 use Rattle.sy_scope_rules.specs.Grammars as spec
 use Rattle.sy_scope_rules.specs.Lists.{sorts_of}

@@ -1,7 +1,7 @@
 // Rules that were read, as rules of grammars.
 ghost use Rattle.std.specs.Prelude.{◌≡◌, IfOk, map};
 ghost use Rattle.sy_grammar_base.specs.Grown.{nonterminal_of, production_of};
-ghost use Rattle.sy_forms.specs.Measured.{ruling_of};
+ghost use Rattle.sy_forms.specs.Rulings.{ruling_of};
 ghost use Rattle.sy_forms.specs.Rules.{production_at};
 ghost use Rattle.sy_scope_rules.specs.Seen.{group_of, production_in};
 

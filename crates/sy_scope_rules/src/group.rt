@@ -3,11 +3,11 @@ ghost use Rattle.std.specs.Prelude.{◌≡◌, ◌<◌, ◌++◌, OnOk};
 ghost use Rattle.std.specs.Option.{option_map};
 ghost use Rattle.sy_text.specs.Views.{item_of};
 ghost use Rattle.sy_terms.specs.Denoted.{vals_of};
-ghost use Rattle.sy_forms.specs.Measured.{ruling_of};
-ghost use Rattle.sy_forms.specs.Readings.{Gives};
-ghost use Rattle.sy_forms.specs.Seen.{environment_of};
-ghost use Rattle.sy_forms.specs.Serving.{Serves};
-ghost use Rattle.sy_forms.specs.Views.{items_in};
+ghost use Rattle.sy_forms.specs.Rulings.{ruling_of};
+ghost use Rattle.sy_forms_items.specs.Readings.{Gives};
+ghost use Rattle.sy_forms_names.specs.Seen.{environment_of};
+ghost use Rattle.sy_terms.specs.Logics.{Serves};
+ghost use Rattle.sy_forms_items.specs.Views.{items_in};
 ghost use Rattle.sy_scope_rules.specs.Grammars as spec;
 ghost use Rattle.sy_scope_rules.specs.Seen.{collected_of, grouped_of};
 

@@ -2,21 +2,20 @@
 ghost use Rattle.std.specs.Prelude.{◌≡◌, OnOk};
 ghost use Rattle.std.specs.Option.{option_map};
 ghost use Rattle.sy_text.specs.Views.{item_of};
-ghost use Rattle.sy_forms.specs.Readings.{Gives};
+ghost use Rattle.sy_forms_items.specs.Readings.{Gives};
 ghost use Rattle.sy_forms.specs.Rules as rules;
-ghost use Rattle.sy_forms.specs.Seen.{environment_of};
-ghost use Rattle.sy_forms.specs.Serving.{Serves};
-ghost use Rattle.sy_forms.specs.Views.{items_in};
+ghost use Rattle.sy_forms_names.specs.Seen.{environment_of};
+ghost use Rattle.sy_terms.specs.Logics.{Serves};
+ghost use Rattle.sy_forms_items.specs.Views.{items_in};
 ghost use Rattle.sy_scope_rules.specs.Grammars as spec;
 ghost use Rattle.sy_scope_rules.specs.Seen.{collected_of, grouped_of, grown_of};
 
 use crate::group::{Collected, Grouped, group_parts, read_rules};
-use crate::predeclared::same_sort;
 use std::alloc::Global;
 use sy_forms::{Environment, Named, ReadEnd, Rest, Ruling, is_symbol, place_of, read_sort};
 use sy_scope_causes::Cause;
 use sy_seq::{Seq, Want};
-use sy_terms::{Sort, Theory, Values};
+use sy_terms::{Sort, Theory, Values, same_sort};
 use sy_text::{Place, Sexp, Sexps};
 
 /// A nonterminal: the sort of what it derives, and its rules as they are read.

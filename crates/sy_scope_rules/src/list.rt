@@ -3,9 +3,9 @@ ghost use Rattle.std.specs.Prelude.{◌≡◌, List, [], IfOk};
 ghost use Rattle.std.specs.Option.{option_map};
 ghost use Rattle.sy_text.specs.Views.{item_of};
 ghost use Rattle.sy_scope_commands.specs.Requests.{spelled};
-ghost use Rattle.sy_forms.specs.Readings.{Gives};
-ghost use Rattle.sy_forms.specs.Views.{items_in};
-ghost use Rattle.sy_forms.specs.declared.names.Named.{Named};
+ghost use Rattle.sy_forms_items.specs.Readings.{Gives};
+ghost use Rattle.sy_forms_items.specs.Views.{items_in};
+ghost use Rattle.sy_forms_names.specs.declared.names.Named.{Named};
 ghost use Rattle.sy_scope_rules.specs.Lists as spec;
 
 use std::alloc::Global;

@@ -2,9 +2,8 @@
 ghost use Rattle.std.specs.Prelude.{◌≡◌};
 ghost use Rattle.std.specs.Option.{option_map};
 ghost use Rattle.sy_text.specs.Views.{item_of};
-ghost use Rattle.sy_terms.specs.Sorts as sorts;
-ghost use Rattle.sy_forms.specs.Readings.{Gives};
-ghost use Rattle.sy_forms.specs.Views.{items_in};
+ghost use Rattle.sy_forms_items.specs.Readings.{Gives};
+ghost use Rattle.sy_forms_items.specs.Views.{items_in};
 ghost use Rattle.sy_scope_rules.specs.Lists as spec;
 
 use crate::list::{Naming, read_named};
@@ -12,20 +11,8 @@ use std::alloc::Global;
 use sy_forms::{Named, ReadEnd, Rest, place_of};
 use sy_scope_causes::Cause;
 use sy_seq::Seq;
-use sy_terms::Sort;
+use sy_terms::{Sort, same_sort};
 use sy_text::{Place, Sexp, Sexps};
-
-/// Whether two sorts are the same.
-pub(crate) fn same_sort(a: &Sort, b: &Sort) -> bool
-    ensures { result ≡ sorts.same_sort a.now b.now }
-{
-    match (a, b) {
-        (Sort::Bool, Sort::Bool) => true,
-        (Sort::Int, Sort::Int) => true,
-        (Sort::Bits(v), Sort::Bits(w)) => *v == *w,
-        _ => false,
-    }
-}
 
 /// The sort of a list of a name and a sort.
 fn sort_of_pair(item: &Sexp) -> Option<&Sexp>

@@ -1,8 +1,8 @@
 // Written grammars.
 ghost use Rattle.std.specs.Prelude.{◌≡◌};
-ghost use Rattle.sy_forms.specs.Readings.{Gives};
-ghost use Rattle.sy_forms.specs.Seen.{environment_of};
-ghost use Rattle.sy_forms.specs.Serving.{Serves};
+ghost use Rattle.sy_forms_items.specs.Readings.{Gives};
+ghost use Rattle.sy_forms_names.specs.Seen.{environment_of};
+ghost use Rattle.sy_terms.specs.Logics.{Serves};
 ghost use Rattle.sy_scope_rules.specs.Grammars as spec;
 ghost use Rattle.sy_scope_rules.specs.Seen.{written_of};
 ghost use Rattle.sy_scope_commands.specs.Asked.{rulebook_of};

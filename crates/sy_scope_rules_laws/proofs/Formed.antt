@@ -19,12 +19,12 @@ use Rattle.sy_terms_laws.proofs.Equations.{same_sort_is}
 use Rattle.sy_grammar_base.proofs.Sorting.{same_sort_self}
 use Rattle.sy_grammar_base.specs.Formed.{is_known, fits, is_formed, rule_sort}
 use Rattle.sy_grammar_base.specs.Trees.{Production, Nonterminal, Syntax, is_sort}
-use Rattle.sy_forms.specs.declared.names.Entity.{Entity}
-use Rattle.sy_forms.specs.declared.names.Named.{Named}
-use Rattle.sy_forms.specs.Environments.{Environment}
-use Rattle.sy_forms.specs.Operators.{is_reserved}
-use Rattle.sy_forms.specs.Parts.{is_empty, place_of}
-use Rattle.sy_forms.specs.Readings.{refuse, ◌>>=◌}
+use Rattle.sy_forms_names.specs.declared.names.Entity.{Entity}
+use Rattle.sy_forms_names.specs.declared.names.Named.{Named}
+use Rattle.sy_forms_names.specs.Environments.{Environment}
+use Rattle.sy_forms_names.specs.Operators.{is_reserved}
+use Rattle.sy_forms_items.specs.Parts.{is_empty, place_of}
+use Rattle.sy_forms_items.specs.Readings.{refuse, ◌>>=◌}
 use Rattle.sy_forms.specs.Rules.{constant_groups}
 use Rattle.sy_scope_commands.specs.Requests.{Listed, Rulebook}
 use Rattle.sy_scope_rules.specs.Lists.{sorts_of, named_item, counted, sort_of_pair, first_sort, starts_with, read_named, read_predeclared}
@@ -36,7 +36,7 @@ use Rattle.sy_forms_laws.specs.Right.{IsRight, IsOfGrammar}
 use Rattle.sy_forms_laws.proofs.Readings.{at_read}
 use Rattle.sy_forms_laws.proofs.Rules.{RuleFits, rule_fits}
 use Rattle.sy_forms_laws.proofs.Sorts.{sort_known}
-use Rattle.sy_forms_laws.specs.Questions.{with_functions, GoalFits}
+use Rattle.sy_grammar_base.specs.Fits.{with_functions, GoalFits}
 use Rattle.sy_scope_rules_laws.specs.Rightly.{ReadsRightly}
 use Rattle.sy_scope_rules_laws.proofs.Flags.{flags_right}
 use Rattle.sy_scope_rules_laws.proofs.Placing.{grammar_setting, right_among, reserved_among}

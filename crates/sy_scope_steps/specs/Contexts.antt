@@ -9,13 +9,13 @@ use Rattle.sy_terms.specs.declared.sort.Sort.{Sort}
 use Rattle.sy_scope_causes.specs.declared.cause.Cause.TheVariants as cause
 use Rattle.sy_grammar_base.specs.Trees.{Syntax}
 use Rattle.sy_grammar_base.specs.Questions.{Goal, Question}
-use Rattle.sy_forms.specs.declared.names.Entity.{Entity}
-use Rattle.sy_forms.specs.declared.names.Named.{Named}
-use Rattle.sy_forms.specs.Environments.{entry}
-use Rattle.sy_forms.specs.Measures.{Measures}
-use Rattle.sy_forms.specs.Operators.{is_reserved}
-use Rattle.sy_forms.specs.Phrases.{Phrase, expr_at}
-use Rattle.sy_forms.specs.Readings.{Reading, refuse}
+use Rattle.sy_forms_names.specs.declared.names.Entity.{Entity}
+use Rattle.sy_forms_names.specs.declared.names.Named.{Named}
+use Rattle.sy_forms_names.specs.Environments.{entry}
+use Rattle.sy_forms_phrases.specs.Measures.{Measures}
+use Rattle.sy_forms_names.specs.Operators.{is_reserved}
+use Rattle.sy_forms_phrases.specs.Phrases.{Phrase, expr_at}
+use Rattle.sy_forms_items.specs.Readings.{Reading, refuse}
 use Rattle.sy_scope_rules.specs.Lists.{sorts_of}
 
 -- a definition: its name, its arguments, its value's sort, and its body

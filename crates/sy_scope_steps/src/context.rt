@@ -1,7 +1,7 @@
 // Room for names, and new names.
 ghost use Rattle.std.specs.Prelude.{◌≡◌, None, IfOk};
-ghost use Rattle.sy_forms.specs.Environments.{entry};
-ghost use Rattle.sy_forms.specs.Readings.{Gives};
+ghost use Rattle.sy_forms_names.specs.Environments.{entry};
+ghost use Rattle.sy_forms_items.specs.Readings.{Gives};
 ghost use Rattle.sy_scope_steps.specs.Contexts as spec;
 ghost use Rattle.sy_scope_steps.specs.Known.{declared};
 

@@ -12,9 +12,9 @@ use Rattle.sy_terms.specs.declared.sort.Sort.TheVariants as sorts
 use Rattle.sy_scope_causes.specs.declared.cause.Cause.TheVariants as cause
 use Rattle.sy_scope_causes.specs.declared.cause.Refused.{Refused}
 use Rattle.sy_grammar_base.specs.Questions.{Question}
-use Rattle.sy_forms.specs.declared.names.Role.TheVariants as role
-use Rattle.sy_forms.specs.Readings.{Reading, found_or, refuse, ◌>>=◌}
-use Rattle.sy_forms.specs.Sorts.{read_sort}
+use Rattle.sy_forms_names.specs.declared.names.Role.TheVariants as role
+use Rattle.sy_forms_items.specs.Readings.{Reading, found_or, refuse, ◌>>=◌}
+use Rattle.sy_forms_names.specs.Sorts.{read_sort}
 use Rattle.sy_scope_rules.specs.Lists.{read_named}
 use Rattle.sy_scope_commands.specs.Requests as requests
 use Rattle.sy_scope_commands.specs.Requests.{Request, Rulebook, Spelled}
@@ -23,7 +23,8 @@ use Rattle.sy_scope_steps.specs.Contexts.{Context, Definition, Sought, beginning
 use Rattle.sy_scope_steps.specs.Files.{Outcome, command_read, then_next, after_command, file_from, file_read}
 use Rattle.sy_scope_steps.specs.Jobs.{title_of, titles_of}
 use Rattle.sy_scope_steps.specs.Steps.{Asked, Called, Parts, logic_named, first_logic, set_logic, feature_set, set_feature, declare_variable, define_sort, read_in, with_definition, define, value_sort, read_grammar, with_sought, synthesise, constrain, assume, function_named, invariant_parts, with_invariant, add_invariant, constrain_invariant, answered_yet, check_synth, asked, perform_in, perform_first, perform, step}
-use Rattle.sy_scope_titles_laws.specs.Titled.{IsTitled, AreNamed}
+use Rattle.sy_scope_titles_laws.specs.Titled.{AreNamed}
+use Rattle.sy_reply.specs.Writable.{IsTitled}
 use Rattle.sy_scope_titles_laws.proofs.Titles.{function_more, definition_more, titled_now}
 
 -- whatever is read first

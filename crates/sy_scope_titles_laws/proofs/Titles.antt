@@ -4,14 +4,15 @@ use Rattle.std.specs.List.{AllZip}
 use Rattle.std.proofs.Common.{arith, ap, sym, ◌∙◌, subst, take}
 use Rattle.std.proofs.lemmas.List.{length-map, length-append, map-append}
 use Rattle.std.proofs.lemmas.List.Elements.{All-weaker, All-push}
-use Rattle.sy_scope_causes.specs.declared.titles.Title.{Title}
-use Rattle.sy_scope_causes.specs.declared.titles.Titles.{Titles}
+use Rattle.sy_scope_titles.specs.declared.Title.{Title}
+use Rattle.sy_scope_titles.specs.declared.Titles.{Titles}
 use Rattle.sy_grammar_base.specs.Questions.{Goal, Question}
-use Rattle.sy_forms.specs.declared.names.Named.{Named}
+use Rattle.sy_forms_names.specs.declared.names.Named.{Named}
 use Rattle.sy_reply.specs.Writable.{AreTitled}
 use Rattle.sy_scope_steps.specs.Contexts.{Context, Definition, Sought, goal_of, body_of, question_at}
 use Rattle.sy_scope_steps.specs.Jobs.{title_of, titles_of}
-use Rattle.sy_scope_titles_laws.specs.Titled.{IsTitled, AreNamed}
+use Rattle.sy_scope_titles_laws.specs.Titled.{AreNamed}
+use Rattle.sy_reply.specs.Writable.{IsTitled}
 
 abbrev Names : Title → Goal → Type 0
 Names title goal = length title.args ≡ length goal.signature.takes

@@ -1,17 +1,10 @@
 -- Questions whose functions and definitions have names.
 use Rattle.std.specs.Prelude.{ℕ, ◌≤◌, ◌≡◌, ◌⊎◌, List, [], length, Some, All, IfOk}
 use Rattle.sy_terms.specs.declared.sort.Logic.TheVariants.{Bv}
-use Rattle.sy_scope_causes.specs.declared.titles.Titles.{Titles}
-use Rattle.sy_grammar_base.specs.Questions.{Question}
-use Rattle.sy_reply.specs.Writable.{AreTitled}
+use Rattle.sy_reply.specs.Writable.{IsTitled}
 use Rattle.sy_scope_steps.specs.Contexts.{Context}
 use Rattle.sy_scope_steps.specs.Files.{file_read}
 use Rattle.sy_scope_steps.specs.Jobs.{titles_of}
-
--- each function to be found has a name, and one for each argument; each definition has a name
-pub record IsTitled (titles : Titles) (question : Question) : Type 0 where
-  pub wanted : AreTitled titles.wanted question.goals
-  pub defined : length question.definitions ≤ length titles.defined
 
 -- at most 16 questions, each titled by the names that are declared; only files over bit vectors ask any
 pub record AreNamed (context : Context) : Type 0 where

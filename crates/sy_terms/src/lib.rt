@@ -5,14 +5,12 @@ mod op;
 mod sort;
 mod sorts;
 mod term;
-#[cfg(test)]
-mod tests;
 mod theory;
 mod values;
 
 pub use op::{Op, spell};
 pub use sort::{Logic, Sort, Value};
-pub use sorts::{Sorted, operator_sort};
+pub use sorts::{Sorted, operator_sort, same_sort};
 pub use sy_seq::{Seq, Want};
 pub use term::{Bodies, Def, Defs, Fun, Term, Terms};
 pub use theory::{Applied, Theory};

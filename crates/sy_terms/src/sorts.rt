@@ -17,7 +17,8 @@ pub enum Sorted {
     BadWidth,
 }
 
-fn same_sort(a: &Sort, b: &Sort) -> bool
+/// Whether two sorts are the same.
+pub fn same_sort(a: &Sort, b: &Sort) -> bool
     ensures { result ≡ spec.same_sort a.now b.now }
 {
     match (a, b) {

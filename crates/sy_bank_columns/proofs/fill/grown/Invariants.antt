@@ -1,7 +1,8 @@
 use Rattle.std.proofs.Common.{◌≡◌, take}
 use Rattle.sy_bank_rows.specs.Covering.{terms}
 use Rattle.sy_bank_rows.specs.Shared.{terms_from, trees_from}
-use Rattle.sy_bank_columns.specs.Chosen.{chosen_of, children}
+use Rattle.sy_bank_rows.specs.Stored.{chosen_of}
+use Rattle.sy_bank_columns.specs.Chosen.{children}
 use Rattle.sy_bank_columns.proofs.fill.grown.Given as goal
 
 abbrev pub invariant-loop-kept : goal.invariant-loop-kept

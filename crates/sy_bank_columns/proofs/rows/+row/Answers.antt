@@ -11,7 +11,7 @@ use Rattle.sy_bank_rows.specs.Rows.{IsLostAt}
 use Rattle.sy_bank_rows.specs.Columns.{AreSized, FitsAt, HasRow}
 use Rattle.sy_bank_rows.specs.Covering.{terms}
 use Rattle.sy_bank_columns.specs.Lent.{values_of}
-use Rattle.sy_bank_columns.specs.Chosen.{chosen_of}
+use Rattle.sy_bank_rows.specs.Stored.{chosen_of}
 use Rattle.sy_bank_columns.specs.Found.{IsApplied}
 use Rattle.sy_bank_columns.proofs.Pieces.{apply-owned, rows-none, rows-from, part-fits, part-lost, rows-next}
 use Rattle.sy_bank_columns.proofs.Paired.{pair-items, pair-used, pair-rows, pair-sorted, pair-applied, pair-lost, row-long}

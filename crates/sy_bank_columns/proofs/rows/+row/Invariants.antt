@@ -7,7 +7,7 @@ use Rattle.sy_grammar_base.specs.Written.{patterns_of}
 use Rattle.sy_bank_rows.specs.Covering.{terms}
 use Rattle.sy_bank_rows.specs.Columns.{HaveRows}
 use Rattle.sy_bank_columns.specs.Lent.{values_of}
-use Rattle.sy_bank_columns.specs.Chosen.{chosen_of}
+use Rattle.sy_bank_rows.specs.Stored.{chosen_of}
 use Rattle.sy_bank_columns.proofs.Weights.{weight, all_weight}
 use Rattle.sy_grammar_base.specs.Written.{pattern_of}
 use Rattle.sy_bank_columns.proofs.rows.+row.Given as goal

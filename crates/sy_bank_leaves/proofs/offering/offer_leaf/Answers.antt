@@ -17,7 +17,7 @@ term_row-requires-clause-fits g c =
     let number = g.T.Theory.denotes in
     let w = world g.T.Theory.owned number c.args.task.now in
     let set = c.requires.task.set in
-    derived-fits g.T.Theory.numeric w.scope w.syntax w.points c.args.nonterminal (tree_of number c.args.derivation) (expr_of number c.args.term) set.negation set.formed set.points c.requires.known c.requires.derives
+    derived-fits g.T.Theory.numeric w.scope w.syntax w.points c.args.nonterminal (tree_of number c.args.derivation) (expr_of number c.args.term) g.met.T.Theory.negation set.formed set.points c.requires.known c.requires.derives
 
 pub returns-then-has_row-clause-done : goal.returns-then-has_row-clause-done
 returns-then-has_row-clause-done g c =

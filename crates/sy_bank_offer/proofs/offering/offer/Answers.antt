@@ -4,8 +4,7 @@ use Rattle.sy_terms.specs.Denoted.{vals_of}
 use Rattle.sy_grammar_base.specs.Patterns.{occurring, filled}
 use Rattle.sy_grammar_base.specs.Written.{pattern_of}
 use Rattle.sy_bank_rows.specs.Covering.{terms}
-use Rattle.sy_bank_rows.specs.Stored.{entry_of}
-use Rattle.sy_bank_columns.specs.Chosen.{chosen_of}
+use Rattle.sy_bank_rows.specs.Stored.{entry_of, chosen_of}
 use Rattle.sy_bank_columns.specs.Lent.{values_of}
 use Rattle.sy_bank_level.specs.Task.{world, state_of, level_of}
 use Rattle.sy_bank_offer.proofs.Given.{IsGiven, rows-below, given-fits, given-enough, given-right, given-dropped, new-row, found-done}
@@ -22,7 +21,7 @@ part_row-requires-clause-enough g c =
     let w = world g.T.Theory.owned number c.args.task.now in
     let sized : c.args.task.now.size ≡ length w.levels = c.requires.task.sized ∙ sym (length-map c.args.task.now.levels.now (level_of number)) in
     let given : IsGiven g.T.Theory.numeric w c.args.template.now.nonterminal c.args.template.now.number (pattern_of number c.args.template.now.part.now.value) (chosen_of number c.args.chosen.now) =
-    record { set = c.requires.task.set; rule_is = c.requires.rule; kept = c.requires.chosen; sized = c.requires.sized ∙ sized } in
+    record { negation = g.met.T.Theory.negation; set = c.requires.task.set; rule_is = c.requires.rule; kept = c.requires.chosen; sized = c.requires.sized ∙ sized } in
     rw c.deref.ensures (omega (arith, given-enough g.T.Theory.numeric w (state_of number c.args.filling.now) c.args.template.now.nonterminal c.args.template.now.number (pattern_of number c.args.template.now.part.now.value) (chosen_of number c.args.chosen.now) c.requires.steady given, length-map c.args.chosen.now (λ kept. entry_of number kept.now)))
 
 pub part_row-requires-clause-fits : goal.part_row-requires-clause-fits
@@ -31,7 +30,7 @@ part_row-requires-clause-fits g c =
     let w = world g.T.Theory.owned number c.args.task.now in
     let sized : c.args.task.now.size ≡ length w.levels = c.requires.task.sized ∙ sym (length-map c.args.task.now.levels.now (level_of number)) in
     let given : IsGiven g.T.Theory.numeric w c.args.template.now.nonterminal c.args.template.now.number (pattern_of number c.args.template.now.part.now.value) (chosen_of number c.args.chosen.now) =
-    record { set = c.requires.task.set; rule_is = c.requires.rule; kept = c.requires.chosen; sized = c.requires.sized ∙ sized } in
+    record { negation = g.met.T.Theory.negation; set = c.requires.task.set; rule_is = c.requires.rule; kept = c.requires.chosen; sized = c.requires.sized ∙ sized } in
     rw c.deref.ensures (given-fits g.T.Theory.numeric w (state_of number c.args.filling.now) c.args.template.now.nonterminal c.args.template.now.number (pattern_of number c.args.template.now.part.now.value) (chosen_of number c.args.chosen.now) c.requires.steady given)
 
 pub lose-requires-clause-lost : goal.lose-requires-clause-lost
@@ -40,7 +39,7 @@ lose-requires-clause-lost g c =
     let w = world g.T.Theory.owned number c.args.task.now in
     let sized : c.args.task.now.size ≡ length w.levels = c.requires.task.sized ∙ sym (length-map c.args.task.now.levels.now (level_of number)) in
     let given : IsGiven g.T.Theory.numeric w c.args.template.now.nonterminal c.args.template.now.number (pattern_of number c.args.template.now.part.now.value) (chosen_of number c.args.chosen.now) =
-    record { set = c.requires.task.set; rule_is = c.requires.rule; kept = c.requires.chosen; sized = c.requires.sized ∙ sized } in
+    record { negation = g.met.T.Theory.negation; set = c.requires.task.set; rule_is = c.requires.rule; kept = c.requires.chosen; sized = c.requires.sized ∙ sized } in
     let lost = rw (c.in-Err-Lost.field-0-is, c.deref.ensures) at c.in-Err-Lost.ensures.lost in
     rw (c.in_ok-term-in-Err-Lost.ensures, c.deref-in-Err-Lost.ensures, sized) (given-dropped g.T.Theory.numeric w (state_of number c.args.filling.now) c.args.template.now.nonterminal c.args.template.now.number (pattern_of number c.args.template.now.part.now.value) (chosen_of number c.args.chosen.now) c.in-Err-Lost.point c.requires.steady given lost)
 
@@ -58,7 +57,7 @@ keep-requires-clause-right g c =
     let w = world g.T.Theory.owned number c.args.task.now in
     let sized : c.args.task.now.size ≡ length w.levels = c.requires.task.sized ∙ sym (length-map c.args.task.now.levels.now (level_of number)) in
     let given : IsGiven g.T.Theory.numeric w c.args.template.now.nonterminal c.args.template.now.number (pattern_of number c.args.template.now.part.now.value) (chosen_of number c.args.chosen.now) =
-    record { set = c.requires.task.set; rule_is = c.requires.rule; kept = c.requires.chosen; sized = c.requires.sized ∙ sized } in
+    record { negation = g.met.T.Theory.negation; set = c.requires.task.set; rule_is = c.requires.rule; kept = c.requires.chosen; sized = c.requires.sized ∙ sized } in
     rw (c.in_ok-grown.ensures.term, c.in_ok-grown.ensures.tree, c.in_ok-into_values.ensures, sized)
     (given-right g.T.Theory.numeric w (state_of number c.args.filling.now) c.args.template.now.nonterminal c.args.template.now.number (pattern_of number c.args.template.now.part.now.value) (chosen_of number c.args.chosen.now) (vals_of number (values_of c.in-Ok.row)) c.requires.steady given (rw c.deref.ensures at c.in-Ok.ensures.ok))
 

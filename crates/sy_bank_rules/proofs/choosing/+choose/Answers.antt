@@ -1,7 +1,7 @@
 use Rattle.std.proofs.Common.{arith, ◌≡◌, ◌+◌, ◌≤◌, ◌<◌, length, ap, sym, ◌∙◌, ◌⊎◌, inl, inr}
 use Rattle.std.proofs.lemmas.Bool.Decides.{nat_tests}
 use Rattle.std.proofs.lemmas.List.{length-map}
-use Rattle.sy_bank_columns.specs.Chosen.{chosen_of}
+use Rattle.sy_bank_rows.specs.Stored.{chosen_of}
 use Rattle.sy_bank_level.proofs.Keeping.{grows-on}
 use Rattle.sy_bank_rules.proofs.Begun.{chosen-done, left-over, left-short, below-none, below-whole}
 use Rattle.sy_bank_rules.proofs.Items.{chosen-popped, begun-item, done-items, done-all, begun-terms, done-terms}

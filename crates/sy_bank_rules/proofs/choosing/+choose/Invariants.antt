@@ -1,8 +1,7 @@
 use Rattle.std.proofs.Common.{◌≡◌, ◌*◌, ◌+◌, length, take, [], ◌∷◌, ◌++◌}
 use Rattle.std.specs.Prelude.{All}
 use Rattle.sy_grammar_base.specs.Written.{pattern_of}
-use Rattle.sy_bank_rows.specs.Stored.{entry_of}
-use Rattle.sy_bank_columns.specs.Chosen.{chosen_of}
+use Rattle.sy_bank_rows.specs.Stored.{entry_of, chosen_of}
 use Rattle.sy_bank_level.specs.Filling.{IsSteady, Grows}
 use Rattle.sy_bank_level.specs.Task.{world, state_of}
 use Rattle.sy_bank_rules.specs.Choosing.{AreDoneFrom}

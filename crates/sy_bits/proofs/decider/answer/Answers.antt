@@ -1,5 +1,5 @@
 use Rattle.std.proofs.Common.{sym, min, subst}
-use Rattle.sy_query_decide.specs.Asked.{query_of}
+use Rattle.sy_query_base.specs.Asked.{query_of}
 use Rattle.sy_meaning_words.specs.Vectors.{vector}
 use Rattle.sy_cdcl.specs.Answer.{IsAnswer}
 use Rattle.sy_bits.proofs.decider.answer.Goals as goal

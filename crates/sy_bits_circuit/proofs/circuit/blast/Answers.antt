@@ -1,5 +1,5 @@
 use Rattle.sy_meaning_words.specs.Vectors.{vector}
-use Rattle.sy_query_decide.specs.Asked.{query_of}
+use Rattle.sy_query_base.specs.Asked.{query_of}
 use Rattle.sy_bits_circuit.proofs.Saying.{circuit-clauses, below}
 use Rattle.sy_bits_circuit.proofs.circuit.blast.Goals as goal
 

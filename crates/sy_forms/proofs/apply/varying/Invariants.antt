@@ -1,5 +1,5 @@
 use Rattle.std.proofs.Common.{◌≡◌, ◌+◌, ◌≤◌, drop}
-use Rattle.sy_forms.specs.Meant.{phrases_of}
+use Rattle.sy_forms_phrases.specs.Meant.{phrases_of}
 use Rattle.sy_forms.specs.Terms as spec
 use Rattle.sy_forms.proofs.apply.varying.Given as goal
 

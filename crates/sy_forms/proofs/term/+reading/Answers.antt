@@ -4,11 +4,12 @@ use Rattle.std.proofs.lemmas.Result.{err_from_is_err_and}
 use Rattle.sy_text.specs.Items.{Items, item_size, items_size, listed}
 use Rattle.sy_text.specs.Views.{item_of}
 use Rattle.sy_forms.specs.Gathered.{several_of, bounds_of, bound_of}
-use Rattle.sy_forms.specs.Meant.{phrase_of, typed_of}
-use Rattle.sy_forms.specs.Phrases.{nothing, behind, Typed}
-use Rattle.sy_forms.specs.Seen.{environment_of, head_in}
+use Rattle.sy_forms_phrases.specs.Meant.{phrase_of, typed_of}
+use Rattle.sy_forms_phrases.specs.Phrases.{nothing, behind, Typed}
+use Rattle.sy_forms_names.specs.Seen.{environment_of}
+use Rattle.sy_forms.specs.Heads.{head_in}
 use Rattle.sy_forms.specs.Terms as spec
-use Rattle.sy_forms.specs.Views.{items_in}
+use Rattle.sy_forms_items.specs.Views.{items_in}
 use Rattle.sy_forms.proofs.Forms as form
 use Rattle.sy_forms.proofs.Sizes.{item_size-pos, split_size, inside}
 use Rattle.sy_forms.proofs.term.+reading.Goals as goal

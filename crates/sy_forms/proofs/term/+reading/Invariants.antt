@@ -2,10 +2,10 @@ use Rattle.std.proofs.Common.{◌≡◌, ◌≤◌, ◌+◌, ◌*◌, length}
 use Rattle.sy_text.specs.Items.{item_size, items_size, listed}
 use Rattle.sy_text.specs.Views.{item_of}
 use Rattle.sy_forms.specs.Gathered.{several_of, bounds_of}
-use Rattle.sy_forms.specs.Phrases.{nothing}
-use Rattle.sy_forms.specs.Seen.{environment_of}
+use Rattle.sy_forms_phrases.specs.Phrases.{nothing}
+use Rattle.sy_forms_names.specs.Seen.{environment_of}
 use Rattle.sy_forms.specs.Terms as spec
-use Rattle.sy_forms.specs.Views.{items_in}
+use Rattle.sy_forms_items.specs.Views.{items_in}
 use Rattle.sy_forms.proofs.term.+reading.Given as goal
 
 abbrev pub decreases-read_term : goal.decreases-read_term

@@ -1,5 +1,5 @@
-use Rattle.std.proofs.Common.{◌≡◌, ◌∙◌, sym, refl, arith}
-use Rattle.sy_grammar_base.proofs.Choices.{not_three, three}
+use Rattle.std.proofs.Common.{◌∙◌, sym}
+use Rattle.sy_grammar_base.proofs.Choices.{not_three}
 use Rattle.sy_grammar_base.proofs.choice.are_choices.Goals as goal
 
 pub returns-then-len-ne3 : goal.returns-then-len-ne3

@@ -1,4 +1,4 @@
-use Rattle.std.proofs.Common.{◌≡◌, ◌∙◌, sym, map, refl, arith}
+use Rattle.std.proofs.Common.{◌∙◌, sym, map, refl}
 use Rattle.std.proofs.lemmas.Option.{slice_get_read}
 use Rattle.sy_grammar_base.specs.Trees.{is_choice}
 use Rattle.sy_grammar_base.specs.Grown.{production_of}

@@ -1,5 +1,5 @@
-use Rattle.std.proofs.Common.{◌≡◌, ◌<◌, ◌∙◌, ap, sym, subst, refl, arith, false, map, length, List, Some, slice_get}
-use Rattle.std.specs.Prelude.{All, MatchOption, ◌^◌}
+use Rattle.std.proofs.Common.{◌≡◌, ◌∙◌, ap, sym, subst, arith, false, map, length, List, Some, slice_get}
+use Rattle.std.specs.Prelude.{All, MatchOption}
 use Rattle.sy_grammar_base.specs.Trees.{Production, IsFirst, is_choice}
 use Rattle.sy_grammar_base.specs.Grown.{production_of}
 use Rattle.sy_grammar_base.specs.declared.grammar.Non.{Non}

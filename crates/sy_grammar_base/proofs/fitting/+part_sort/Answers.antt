@@ -1,8 +1,7 @@
 use Rattle.std.proofs.Common.{◌≡◌, ◌∙◌, ap, sym, refl, arith, length}
 use Rattle.std.proofs.lemmas.Option.{slice_get_read}
 use Rattle.sy_terms.specs.Definitions.{scope_of, signature}
-use Rattle.sy_grammar_base.specs.Formed.{pattern_sort, pattern_sorts, syntax_with}
-use Rattle.sy_grammar_base.specs.Seen.{taken}
+use Rattle.sy_grammar_base.specs.Formed.{pattern_sort, syntax_with}
 use Rattle.sy_grammar_base.specs.declared.seen.Seen.TheVariants.{Nothing}
 use Rattle.sy_grammar_base.specs.Written.{pattern_of-Const, pattern_of-Var, pattern_of-Non, pattern_of-App, pattern_of-Call}
 use Rattle.sy_grammar_base.proofs.Fitted.{where_true, where_false, applied_found, applied_missing, called_found, called_amiss, called_missing, seen_first, seen_next, seen_none, seen_all, taken_first, taken_next, taken_other, taken_none, taken_past, taken_all}

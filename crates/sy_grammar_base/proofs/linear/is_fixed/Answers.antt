@@ -1,4 +1,4 @@
-use Rattle.std.proofs.Common.{◌≡◌, refl, sym, ◌∙◌, true, false, ap, List, map}
+use Rattle.std.proofs.Common.{refl, sym, ◌∙◌, ap, List, map}
 use Rattle.std.specs.List.{list_all}
 use Rattle.sy_grammar_base.specs.Formed.{gives_constants}
 use Rattle.sy_grammar_base.specs.Grown.{production_of}

@@ -1,4 +1,4 @@
-use Rattle.std.proofs.Common.{◌≡◌, refl, sym, ◌∙◌, ap, true, false, nat_le}
+use Rattle.std.proofs.Common.{refl, sym}
 use Rattle.sy_grammar_base.proofs.Factors.{linear_other}
 use Rattle.sy_grammar_base.proofs.linear.is_linear.Goals as goal
 

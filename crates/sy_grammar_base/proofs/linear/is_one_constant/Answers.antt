@@ -1,4 +1,4 @@
-use Rattle.std.proofs.Common.{◌≡◌, refl, sym, ◌∙◌, arith}
+use Rattle.std.proofs.Common.{sym, ◌∙◌, arith}
 use Rattle.sy_grammar_base.proofs.Factors.{not_one, only_one}
 use Rattle.sy_grammar_base.proofs.linear.is_one_constant.Goals as goal
 

@@ -1,4 +1,4 @@
-use Rattle.std.proofs.Common.{◌≡◌, refl, sym, ◌∙◌, true, false}
+use Rattle.std.proofs.Common.{refl, sym, ◌∙◌}
 use Rattle.sy_grammar_base.specs.Written.{pattern_of-Const, pattern_of-Var, pattern_of-Non, pattern_of-App, pattern_of-Call}
 use Rattle.sy_grammar_base.proofs.Factors.{signed_other}
 use Rattle.sy_grammar_base.proofs.linear.is_signed.Goals as goal

@@ -1,4 +1,4 @@
-use Rattle.std.proofs.Common.{◌≡◌, ◌+◌, ◌∙◌, sym, ap, map, arith}
+use Rattle.std.proofs.Common.{◌+◌, ◌∙◌, sym, ap, map, arith}
 use Rattle.sy_grammar_base.specs.Grown.{nonterminal_of}
 use Rattle.sy_grammar_base.proofs.Factors.{varying_fixed, varying_free}
 use Rattle.sy_grammar_base.proofs.linear.varying.Goals as goal

@@ -1,4 +1,4 @@
-use Rattle.std.proofs.Common.{arith, ◌≡◌, length, take, refl, ℕ, ◌+◌}
+use Rattle.std.proofs.Common.{arith, refl}
 use Rattle.std.proofs.lemmas.List.{take_more}
 use Rattle.std.proofs.lemmas.Option.{slice_get-get_or}
 use Rattle.sy_grammar_base.specs.Written.{pattern_of-Const, pattern_of-Var, pattern_of-Non, pattern_of-App, pattern_of-Call, all_occurring-at, all_occurring-last}

@@ -1,7 +1,6 @@
-use Rattle.std.proofs.Common.{arith, ◌≡◌, length, take, min, ℕ, ◌+◌}
+use Rattle.std.proofs.Common.{arith}
 use Rattle.std.proofs.lemmas.List.{take_more}
-use Rattle.sy_grammar_base.specs.Patterns.{own_size, own_sizes}
-use Rattle.sy_grammar_base.specs.Written.{pattern_of, patterns_of, pattern_of-Const, pattern_of-Var, pattern_of-Non, pattern_of-App, pattern_of-Call, own_sizes-last}
+use Rattle.sy_grammar_base.specs.Written.{pattern_of-Const, pattern_of-Var, pattern_of-Non, pattern_of-App, pattern_of-Call, own_sizes-last}
 use Rattle.sy_grammar_base.proofs.part.+own_size.Goals as goal
 use Rattle.sy_grammar_base.proofs.part.+own_size.Goals.{Part::own_size-in-Const, Part::own_size-in-Var, Part::own_size-in-App, Part::own_size-in-Call}
 

@@ -1,4 +1,4 @@
-use Rattle.std.proofs.Common.{◌≡◌, ◌≤◌, min, take}
+use Rattle.std.proofs.Common.{◌≡◌, min, take}
 use Rattle.sy_grammar_base.specs.Patterns.{own_sizes}
 use Rattle.sy_grammar_base.specs.Written.{patterns_of}
 use Rattle.sy_grammar_base.proofs.part.+own_size.Given as goal

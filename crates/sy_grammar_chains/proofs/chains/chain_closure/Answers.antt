@@ -1,4 +1,4 @@
-use Rattle.std.proofs.Common.{◌≡◌, arith}
+use Rattle.std.proofs.Common.{arith}
 use Rattle.std.proofs.lemmas.List.{length-map}
 use Rattle.sy_grammar_base.specs.Grown.{nonterminal_of, syntax_from}
 use Rattle.sy_grammar_chains.proofs.Marks.{first_more, closure_of}

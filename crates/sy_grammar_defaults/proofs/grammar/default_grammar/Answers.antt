@@ -1,10 +1,10 @@
-use Rattle.std.proofs.Common.{◌≡◌, ◌∙◌, ap, map, List, []}
+use Rattle.std.proofs.Common.{◌≡◌, ◌∙◌, ap, List, []}
 use Rattle.sy_terms.specs.Definitions.{scope_of}
 use Rattle.sy_terms.specs.declared.sort.Sort.{Sort}
 use Rattle.sy_terms.specs.declared.term.Def.{Def}
 use Rattle.sy_grammar_base.specs.Trees.{Nonterminal, Syntax}
 use Rattle.sy_grammar_base.specs.Formed.{is_formed, syntax_with}
-use Rattle.sy_grammar_base.specs.Grown.{nonterminal_of, syntax_from}
+use Rattle.sy_grammar_base.specs.Grown.{syntax_from}
 use Rattle.sy_grammar_base.specs.declared.grammar.Non.{Non}
 use Rattle.sy_grammar_defaults.specs.Defaults.{default_syntax}
 use Rattle.sy_grammar_defaults.proofs.Fitting.{default_formed}

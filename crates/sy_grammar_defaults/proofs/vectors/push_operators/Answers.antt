@@ -1,4 +1,4 @@
-use Rattle.std.proofs.Common.{◌≡◌, ◌++◌, ◌∷◌, [], List, map}
+use Rattle.std.proofs.Common.{◌++◌, ◌∷◌, [], List, map}
 use Rattle.sy_terms.specs.declared.op.Op.TheVariants as ops
 use Rattle.sy_grammar_base.specs.Trees.{Production}
 use Rattle.sy_grammar_base.specs.Grown.{production_of}

@@ -1,4 +1,4 @@
-use Rattle.std.proofs.Common.{◌≡◌, arith, refl, get_or}
+use Rattle.std.proofs.Common.{arith, refl, get_or}
 use Rattle.sy_grammar_defaults.proofs.Growing.{numbered}
 use Rattle.sy_grammar_defaults.proofs.vectors.push_vectors.Goals as goal
 

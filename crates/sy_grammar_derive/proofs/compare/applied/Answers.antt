@@ -1,4 +1,4 @@
-use Rattle.std.proofs.Common.{◌≡◌, ap, refl, true, false, IsTrue}
+use Rattle.std.proofs.Common.{ap}
 use Rattle.sy_terms.specs.Denoted.{expr_of-Const, expr_of-Var, expr_of-App, expr_of-Call, expr_of-Let, exprs_of}
 use Rattle.sy_terms.specs.Expr as expr
 use Rattle.sy_grammar_derive.proofs.compare.applied.Goals as goal

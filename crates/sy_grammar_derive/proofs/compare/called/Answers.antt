@@ -1,7 +1,5 @@
-use Rattle.std.proofs.Common.{◌≡◌, ap, refl, arith}
-use Rattle.sy_terms.specs.Denoted.{expr_of-Const, expr_of-Var, expr_of-App, expr_of-Call, expr_of-Let, exprs_of}
-use Rattle.sy_terms.specs.Expr as expr
-use Rattle.sy_terms.specs.declared.term.Fun.TheVariants.{Defined}
+use Rattle.std.proofs.Common.{refl}
+use Rattle.sy_terms.specs.Denoted.{expr_of-Const, expr_of-Var, expr_of-App, expr_of-Call, expr_of-Let}
 use Rattle.sy_grammar_derive.proofs.compare.called.Goals as goal
 
 pub returns-then-other-definition : goal.returns-then-other-definition

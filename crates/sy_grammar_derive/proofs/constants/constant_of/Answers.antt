@@ -1,4 +1,4 @@
-use Rattle.std.proofs.Common.{◌≡◌, refl, ap, ◌∙◌, true, sym, inl, inr}
+use Rattle.std.proofs.Common.{inl, inr}
 use Rattle.sy_terms.specs.Denoted.{expr_of-Const, expr_of-Var, expr_of-App, expr_of-Call, expr_of-Let}
 use Rattle.sy_grammar_derive.proofs.Literals.{chosen, literal_form}
 use Rattle.sy_grammar_derive.proofs.constants.constant_of.Goals as goal

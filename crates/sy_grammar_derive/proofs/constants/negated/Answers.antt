@@ -1,12 +1,11 @@
-use Rattle.std.proofs.Common.{◌≡◌, refl, ap, ◌∙◌, true, sym, subst}
+use Rattle.std.proofs.Common.{ap, ◌∙◌, sym, subst}
 use Rattle.std.proofs.lemmas.Int.{to_z-of_z}
-use Rattle.std.proofs.Common.{rules, ℤ, pos}
+use Rattle.std.proofs.Common.{rules}
 use mir.Syntax.{w128}
 use mir.Val.{SFits}
 use Rattle.sy_grammar_derive.specs.Rows.{IsOpposite}
 use Rattle.sy_terms.specs.Expr as expr
-use Rattle.sy_terms.specs.Values as values
-use Rattle.sy_grammar_derive.proofs.Literals.{negated, negated_made, one_term, first_term, only_term, same_sort_is, whole_constant}
+use Rattle.sy_grammar_derive.proofs.Literals.{negated, negated_made, one_term, first_term, only_term, whole_constant}
 use Rattle.sy_grammar_derive.proofs.constants.negated.Goals as goal
 
 pub returns-then-not-same_sort : goal.returns-then-not-same_sort

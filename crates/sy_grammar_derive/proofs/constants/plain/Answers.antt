@@ -1,6 +1,6 @@
-use Rattle.std.proofs.Common.{◌≡◌, refl, ap, ◌∙◌, true, sym, None}
+use Rattle.std.proofs.Common.{◌≡◌, ap, ◌∙◌, true, sym, None}
 use Rattle.std.specs.Prelude.{if◌then◌else◌}
-use Rattle.std.proofs.lemmas.Int.{to_z-of_z, ints}
+use Rattle.std.proofs.lemmas.Int.{to_z-of_z}
 use Rattle.std.proofs.Common.{rules}
 use mir.Syntax.{w128}
 use mir.Val.{SFits}

@@ -1,5 +1,5 @@
-use Rattle.std.proofs.Common.{◌≡◌, refl, ap, ◌∙◌, true, false, sym}
-use Rattle.std.proofs.lemmas.Int.{to_z-of_z, ints}
+use Rattle.std.proofs.Common.{◌≡◌, ap, ◌∙◌, true, false, sym}
+use Rattle.std.proofs.lemmas.Int.{to_z-of_z}
 use Rattle.std.proofs.Common.{rules}
 use mir.Syntax.{w128}
 use mir.Val.{SFits}

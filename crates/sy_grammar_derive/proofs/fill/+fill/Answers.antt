@@ -1,10 +1,7 @@
-use Rattle.std.proofs.Common.{◌≡◌, refl, sym, arith, length, ap}
+use Rattle.std.proofs.Common.{◌≡◌, refl, arith, length, ap}
 use Rattle.std.proofs.lemmas.Bool.{leb-true, le-leb}
 use Rattle.std.proofs.lemmas.Option.{slice_get_read}
-use Rattle.sy_terms.specs.Denoted.{exprs_of}
-use Rattle.sy_grammar_base.specs.Written.{patterns_of, pattern_of-Const, pattern_of-Var, pattern_of-Non, pattern_of-App, pattern_of-Call}
-use Rattle.sy_grammar_derive.specs.Filled.{AllFilled}
-use Rattle.sy_grammar_derive.specs.Noted.{notes_of}
+use Rattle.sy_grammar_base.specs.Written.{pattern_of-Const, pattern_of-Var, pattern_of-Non, pattern_of-App, pattern_of-Call}
 use Rattle.sy_grammar_derive.proofs.Filling.{fills_constant, fills_variable, fills_occurrence, fills_application, fills_call, no_application, no_call, rest_at_first, rest_at_next, none_at, none_without_term, none_without_note, rest_at_end}
 use Rattle.sy_grammar_derive.proofs.fill.+fill.Goals as goal
 

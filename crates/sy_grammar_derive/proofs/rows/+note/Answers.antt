@@ -1,4 +1,4 @@
-use Rattle.std.proofs.Common.{◌≡◌, sym, ap, ◌∙◌, arith, length, take, ◌++◌, ◌∷◌, []}
+use Rattle.std.proofs.Common.{sym, ap, ◌∙◌, take, ◌++◌, ◌∷◌, []}
 use Rattle.std.proofs.lemmas.List.{take_more}
 use Rattle.sy_terms.specs.Denoted.{expr_of, expr_of-Const, expr_of-Var, expr_of-App, expr_of-Call, expr_of-Let}
 use Rattle.sy_grammar_base.specs.Grown.{syntax_from}

@@ -1,5 +1,4 @@
-use Rattle.std.proofs.Common.{◌≡◌, ◌≤◌, ◌∷◌, [], ◌++◌, length, length-append, arith, ap, subst, sym, None, Option, ℕ, List}
-use Rattle.sy_grammar_derive.specs.Rows.{IsBlank}
+use Rattle.std.proofs.Common.{◌∷◌, [], length, length-append, arith, ap, None}
 use Rattle.sy_grammar_derive.proofs.Closing.{blank_more}
 use Rattle.sy_grammar_derive.proofs.rows.blank_row.Goals as goal
 

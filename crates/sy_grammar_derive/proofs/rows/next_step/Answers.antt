@@ -1,4 +1,4 @@
-use Rattle.std.proofs.Common.{◌≡◌, refl, sym, ap, ◌∙◌, arith, length, slice_get, Some}
+use Rattle.std.proofs.Common.{refl, sym, ap, ◌∙◌, arith, length, slice_get}
 use Rattle.std.proofs.lemmas.Option.{slice_get_read}
 use Rattle.sy_grammar_derive.proofs.Grammars.{rules_numbered, no_rules_more, full_more, closed, made}
 use Rattle.sy_grammar_derive.proofs.rows.next_step.Goals as goal

@@ -1,4 +1,4 @@
-use Rattle.std.proofs.Common.{◌≡◌, refl, sym, ap, ◌∙◌, arith, length, slice_get, Some}
+use Rattle.std.proofs.Common.{◌≡◌, arith, length}
 use Rattle.sy_grammar_derive.proofs.Closing.{filling_more, missing_less, row_done}
 use Rattle.sy_grammar_derive.proofs.rows.row_of.Goals as goal
 

@@ -2,17 +2,21 @@ use Rattle.std.proofs.Common.{arith, ap, ◌∙◌, sym, subst, refl, Err, map}
 use Rattle.sy_terms.specs.Denoted.{expr_of}
 use Rattle.sy_terms.specs.declared.op.Op.TheVariants as ops
 use Rattle.sy_grammar_base.specs.Questions.{question_of}
-use Rattle.sy_query_decide.specs.Asked.{Query, Fits, query_weight}
+use Rattle.sy_grammar_laws.proofs.Problems.{problem_definitions, problem_variables, problem_assumptions, problem_constraints}
+use Rattle.sy_query_base.specs.Asked.{Query, Fits, query_weight}
 use Rattle.sy_query_build.specs.Violating.{IsViolation}
 use Rattle.sy_query_build.proofs.Problem as problem
 use Rattle.sy_query_build.proofs.Violation.{says}
 use Rattle.sy_query_build.proofs.Walking.{kept-error}
 use Rattle.sy_query_build.proofs.queries.build.Goals as goal
 
+pub place_all-requires-clause-definitions : goal.place_all-requires-clause-definitions
+place_all-requires-clause-definitions g c = rw c.as_slice-defs.ensures (problem_definitions g.T.Theory.owned g.T.Theory.numeric g.T.Theory.denotes c.args.problem.now c.requires.problem)
+
 pub place_all-requires-clause-terms : goal.place_all-requires-clause-terms
 place_all-requires-clause-terms g c =
     let same = (λ k. (c.new-room.ensures.sorts k).items) ∙ (c.in_ok-to_vec.ensures.items_if_clones_equal (λ x y h. h) ∙ c.as_slice-vars.ensures) in
-    rw (c.as_slice-defs.ensures, c.as_slice-bodies.ensures, c.as_slice-assumptions.ensures, same) (problem.terms-fit g.T.Theory.owned g.T.Theory.denotes c.args.problem.now c.args.bodies.now c.args.problem.now.assumptions c.requires.bodies c.requires.problem.assumptions)
+    rw (c.as_slice-defs.ensures, c.as_slice-bodies.ensures, c.as_slice-assumptions.ensures, same) (problem.terms-fit g.T.Theory.owned g.T.Theory.denotes c.args.problem.now c.args.bodies.now c.args.problem.now.assumptions c.requires.bodies (problem_assumptions g.T.Theory.owned g.T.Theory.numeric g.T.Theory.denotes c.args.problem.now c.requires.problem))
 
 pub returns-in_err-assumptions-clause-heavy : goal.returns-in_err-assumptions-clause-heavy
 returns-in_err-assumptions-clause-heavy g c h =
@@ -22,15 +26,18 @@ returns-in_err-assumptions-clause-heavy g c h =
     let whole = problem.query-weight g.T.Theory.owned g.T.Theory.numeric g.T.Theory.denotes c.args.problem.now c.args.bodies.now (g.met.T.Theory.core ops.And refl) (g.met.T.Theory.core ops.Not refl) c.requires.problem c.requires.bodies in
     omega (arith, whole, taken, c.new-room.ensures.weight)
 
+pub place_all-requires-2-clause-definitions : goal.place_all-requires-2-clause-definitions
+place_all-requires-2-clause-definitions g c = rw c.as_slice-defs.ensures (problem_definitions g.T.Theory.owned g.T.Theory.numeric g.T.Theory.denotes c.args.problem.now c.requires.problem)
+
 pub place_all-requires-2-clause-sized : goal.place_all-requires-2-clause-sized
 place_all-requires-2-clause-sized g c =
     let same = c.in_ok-assumptions.ensures.kept ∙ ((λ k. (c.new-room.ensures.sorts k).items) ∙ (c.in_ok-to_vec.ensures.items_if_clones_equal (λ x y h. h) ∙ c.as_slice-vars.ensures)) in
-    rw same (problem.variables-sized g.T.Theory.numeric c.args.problem.now.vars c.requires.problem.variables)
+    rw same (problem.variables-sized g.T.Theory.numeric c.args.problem.now.vars (problem_variables g.T.Theory.owned g.T.Theory.numeric g.T.Theory.denotes c.args.problem.now c.requires.problem))
 
 pub place_all-requires-2-clause-terms : goal.place_all-requires-2-clause-terms
 place_all-requires-2-clause-terms g c =
     let same = c.in_ok-assumptions.ensures.kept ∙ ((λ k. (c.new-room.ensures.sorts k).items) ∙ (c.in_ok-to_vec.ensures.items_if_clones_equal (λ x y h. h) ∙ c.as_slice-vars.ensures)) in
-    rw (c.as_slice-defs.ensures, c.as_slice-bodies.ensures, c.as_slice-constraints.ensures, same) (problem.terms-fit g.T.Theory.owned g.T.Theory.denotes c.args.problem.now c.args.bodies.now c.args.problem.now.constraints c.requires.bodies c.requires.problem.constraints)
+    rw (c.as_slice-defs.ensures, c.as_slice-bodies.ensures, c.as_slice-constraints.ensures, same) (problem.terms-fit g.T.Theory.owned g.T.Theory.denotes c.args.problem.now c.args.bodies.now c.args.problem.now.constraints c.requires.bodies (problem_constraints g.T.Theory.owned g.T.Theory.numeric g.T.Theory.denotes c.args.problem.now c.requires.problem))
 
 pub returns-in_err-constraints-clause-heavy : goal.returns-in_err-constraints-clause-heavy
 returns-in_err-constraints-clause-heavy g c h =

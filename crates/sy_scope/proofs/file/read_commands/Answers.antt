@@ -1,12 +1,12 @@
-use Rattle.std.proofs.Common.{◌<◌, ◌≤◌, ◌∙◌, ap, sym, subst, length, Ok}
+use Rattle.std.proofs.Common.{◌<◌, ◌≤◌, ◌∙◌, ap, sym, subst, length, refl, Some, Ok}
 use Rattle.std.specs.Prelude.{IfSome}
 use Rattle.std.proofs.lemmas.Result.{err_from_is_err_and}
 use Rattle.sy_text.specs.Views.{item_of, command_of}
 use Rattle.sy_scope_steps.specs.Files.{file_read}
 use Rattle.sy_scope.specs.Read.{LeadsTo}
-use Rattle.sy_scope.specs.Seen.{context_of}
+use Rattle.sy_scope_context.specs.Seen.{context_of}
 use Rattle.sy_scope.proofs.Leading.{leads_on, leads_to_end, ends_unread, ends_fault}
-use Rattle.sy_scope.proofs.Sound.{stays_sound, sound_from}
+use Rattle.sy_scope.proofs.Sound.{goals_fit, stays_sound, sound_from}
 use Rattle.sy_scope.proofs.file.read_commands.Goals as goal
 
 pub loop-context-init : goal.loop-context-init
@@ -90,3 +90,8 @@ pub returns-clause-read : goal.returns-clause-read
 returns-clause-read g c =
     let read = c.in_ok-item.ensures.read ∙ ap (λ f. Ok (command_of f)) c.in_default.is in
     leads_to_end c.args.bytes.now c.loop-context.at c.loop-context.command (context_of g.T.Theory.denotes c.loop-context.context) (file_read c.args.bytes.now) c.loop-context.invariant.leads read
+
+pub step-requires-clause-fit : goal.step-requires-clause-fit
+step-requires-clause-fit g c =
+    goals_fit c.args.opened.logic g.T.Theory.owned g.T.Theory.numeric (context_of g.T.Theory.denotes c.loop-context.context) _
+    c.requires.theory (ap Some c.loop-context.invariant.logic) c.loop-context.invariant.sound refl

@@ -1,6 +1,6 @@
 use Rattle.std.proofs.Common.{◌∙◌, sym, ap}
 use Rattle.sy_text.specs.Views.{item_of}
-use Rattle.sy_forms.specs.Views.{items_in}
+use Rattle.sy_forms_items.specs.Views.{items_in}
 use Rattle.sy_scope_rules.specs.Grammars as spec
 use Rattle.sy_scope_rules.proofs.Walking.{group_three, group_many}
 use Rattle.sy_scope_rules.proofs.group.grouped_in.Goals as goal

@@ -3,11 +3,11 @@ use Rattle.std.proofs.lemmas.Bool.{le-ltb, lt-ltb}
 use Rattle.std.proofs.lemmas.Result.{err_from_is_err_and}
 use Rattle.sy_text.specs.Views.{item_of}
 use Rattle.sy_scope_causes.specs.declared.cause.Cause.TheVariants as cause
-use Rattle.sy_forms.specs.Measured.{ruling_of}
-use Rattle.sy_forms.specs.Readings.{refuse}
+use Rattle.sy_forms.specs.Rulings.{ruling_of}
+use Rattle.sy_forms_items.specs.Readings.{refuse}
 use Rattle.sy_forms.specs.Rules.{read_rule}
-use Rattle.sy_forms.specs.Seen.{environment_of}
-use Rattle.sy_forms.specs.Views.{items_in}
+use Rattle.sy_forms_names.specs.Seen.{environment_of}
+use Rattle.sy_forms_items.specs.Views.{items_in}
 use Rattle.sy_forms.proofs.Forms as form
 use Rattle.sy_scope_rules.specs.Grammars as spec
 use Rattle.sy_scope_rules.specs.Seen.{collected_of}

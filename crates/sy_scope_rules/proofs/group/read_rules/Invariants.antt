@@ -1,7 +1,7 @@
 use Rattle.std.proofs.Common.{◌≡◌, length}
 use Rattle.sy_text.specs.Items.{listed}
-use Rattle.sy_forms.specs.Seen.{environment_of}
-use Rattle.sy_forms.specs.Views.{items_in}
+use Rattle.sy_forms_names.specs.Seen.{environment_of}
+use Rattle.sy_forms_items.specs.Views.{items_in}
 use Rattle.sy_scope_rules.specs.Grammars as spec
 use Rattle.sy_scope_rules.specs.Seen.{collected_of}
 use Rattle.sy_scope_rules.proofs.group.read_rules.Given as goal

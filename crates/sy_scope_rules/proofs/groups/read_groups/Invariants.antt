@@ -1,6 +1,6 @@
 use Rattle.std.proofs.Common.{◌≡◌, drop}
-use Rattle.sy_forms.specs.Seen.{environment_of}
-use Rattle.sy_forms.specs.Views.{items_in}
+use Rattle.sy_forms_names.specs.Seen.{environment_of}
+use Rattle.sy_forms_items.specs.Views.{items_in}
 use Rattle.sy_scope_rules.specs.Grammars as spec
 use Rattle.sy_scope_rules.specs.Seen.{grown_of}
 use Rattle.sy_scope_rules.proofs.groups.read_groups.Given as goal

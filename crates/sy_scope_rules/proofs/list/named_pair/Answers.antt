@@ -1,6 +1,6 @@
 use Rattle.std.proofs.Common.{◌∙◌, sym}
 use Rattle.sy_text.specs.Views.{item_of}
-use Rattle.sy_forms.specs.Views.{items_in}
+use Rattle.sy_forms_items.specs.Views.{items_in}
 use Rattle.sy_forms.proofs.Forms as form
 use Rattle.sy_scope_rules.proofs.Walking.{pair_two}
 use Rattle.sy_scope_rules.proofs.list.named_pair.Goals as goal

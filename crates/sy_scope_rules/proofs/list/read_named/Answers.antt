@@ -3,10 +3,10 @@ use Rattle.std.proofs.lemmas.Bool.{le-ltb, lt-ltb}
 use Rattle.std.proofs.lemmas.Result.{err_from_is_err_and}
 use Rattle.sy_text.specs.Views.{item_of}
 use Rattle.sy_scope_causes.specs.declared.cause.Cause.TheVariants as cause
-use Rattle.sy_forms.specs.declared.names.Named.{Named}
-use Rattle.sy_forms.specs.Parts.{place_of}
-use Rattle.sy_forms.specs.Readings.{refuse}
-use Rattle.sy_forms.specs.Views.{items_in}
+use Rattle.sy_forms_names.specs.declared.names.Named.{Named}
+use Rattle.sy_forms_items.specs.Parts.{place_of}
+use Rattle.sy_forms_items.specs.Readings.{refuse}
+use Rattle.sy_forms_items.specs.Views.{items_in}
 use Rattle.sy_forms.proofs.Forms as form
 use Rattle.sy_scope_rules.specs.Lists as spec
 use Rattle.sy_scope_rules.proofs.Walking.{named_none, named_more, named_full, named_room}

@@ -1,6 +1,6 @@
 use Rattle.std.proofs.Common.{◌≡◌, [], length}
 use Rattle.sy_text.specs.Items.{listed}
-use Rattle.sy_forms.specs.Views.{items_in}
+use Rattle.sy_forms_items.specs.Views.{items_in}
 use Rattle.sy_scope_rules.specs.Lists as spec
 use Rattle.sy_scope_rules.proofs.list.read_named.Given as goal
 

@@ -7,7 +7,7 @@ use Rattle.sy_terms.specs.Meaning.{functions}
 use Rattle.sy_grammar_base.specs.Grown.{syntax_from}
 use Rattle.sy_bank_rows.specs.Stored.{lost_of}
 use Rattle.sy_bank_level.specs.Task.{level_of}
-use Rattle.sy_bank_offer.specs.Tasks.{ArePointsOf}
+use Rattle.sy_bank_rows.specs.Rows.{ArePointsOf}
 use Rattle.sy_bank_growth_laws.proofs.Next.{whole-covers}
 use Rattle.sy_bank.specs.Bank.{merged_of}
 use Rattle.sy_bank.specs.Promised.{Stays}

@@ -18,7 +18,7 @@ fill-requires-clause-task g c =
     let points = rw (← c.as_slice.ensures) at c.requires.points in
     record {
       definitions = c.requires.definitions;
-      set = record { negation = c.requires.negation; formed = c.requires.formed; points = points };
+      set = record { formed = c.requires.formed; points = points };
       sized = c.len-2.ensures ∙ sym c.as_slice-2.ensures.len;
     }
 

@@ -1,4 +1,4 @@
-use Rattle.std.proofs.Common.{◌≡◌, ap}
+use Rattle.std.proofs.Common.{ap}
 use Rattle.sy_grammar_derive.specs.Noted.{note_of-out, notes_of}
 use Rattle.sy_grammar_derive.proofs.note.Note.below.Goals as goal
 

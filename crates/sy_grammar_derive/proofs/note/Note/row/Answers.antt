@@ -1,4 +1,3 @@
-use Rattle.std.proofs.Common.{◌≡◌, sym}
 use Rattle.sy_grammar_derive.specs.Noted.{note_of-out}
 use Rattle.sy_grammar_derive.proofs.note.Note.row.Goals as goal
 

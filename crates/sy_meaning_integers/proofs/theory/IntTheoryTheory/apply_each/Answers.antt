@@ -1,4 +1,4 @@
-use Rattle.std.proofs.Common.{◌≡◌, ◌<◌, length, arith, slice_index_or, false}
+use Rattle.std.proofs.Common.{◌<◌, length, arith, slice_index_or, false}
 use Rattle.std.proofs.lemmas.List.{get_or_default}
 use Rattle.sy_terms.specs.Values.{Whole}
 use Rattle.sy_terms.specs.declared.sort.Value.TheVariants.{Truth}

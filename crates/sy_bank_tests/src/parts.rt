@@ -1,0 +1,112 @@
+// Parts and grammars as texts, a character for each node, in postfix.
+use std::alloc::Global;
+use sy_grammar_base::{Non, Part, Parts, Rule};
+use sy_terms::{Op, Seq, Sort, Theory, Value, Want};
+
+/// The number as a part; the argument where the sort has no such number.
+fn number<T: Theory>(sort: Sort, number: i128) -> Part<T> {
+    match T::of_number(sort, number) {
+        Some(number) => Part::Const(Value::Num(number)),
+        None => Part::Var(0),
+    }
+}
+
+/// Takes so many of the last parts.
+fn last<T: Theory>(
+    alloc: Global,
+    stack: &mut Vec<Part<T>>,
+    count: usize,
+) -> Result<Parts<T>, Want> {
+    let mut turned = Vec::new(alloc);
+    for _ in 0..count {
+        if let Some(part) = stack.pop() {
+            turned.push(part)?;
+        }
+    }
+    let mut parts = Parts::new(alloc);
+    for _ in 0..count {
+        if let Some(part) = turned.pop() {
+            parts.push(part)?;
+        }
+    }
+    Ok(parts)
+}
+
+/// The operator of this sign, and how many arguments it takes.
+fn operator(sign: u8) -> Option<(Op, usize)> {
+    match sign {
+        b'!' => Some((Op::Neg, 1)),
+        b'+' => Some((Op::Add, 2)),
+        b'#' => Some((Op::Add, 3)),
+        b'-' => Some((Op::Sub, 2)),
+        b'*' => Some((Op::BvMul, 2)),
+        b'&' => Some((Op::BvAnd, 2)),
+        b'~' => Some((Op::BvNot, 1)),
+        _ => None,
+    }
+}
+
+/// The part that ends with this sign: `A`, `B` and `C` are the nonterminals, `x` is the argument, `D` calls the first
+/// definition, `M` is the greatest number of 128 bits, and a digit is itself.
+fn ended<T: Theory>(
+    alloc: Global,
+    sort: Sort,
+    sign: u8,
+    stack: &mut Vec<Part<T>>,
+) -> Result<Part<T>, Want> {
+    if let Some((op, count)) = operator(sign) {
+        return Ok(Part::App(op, last(alloc, stack, count)?));
+    }
+    match sign {
+        b'A' => Ok(Part::Non(0)),
+        b'B' => Ok(Part::Non(1)),
+        b'C' => Ok(Part::Non(2)),
+        b'D' => Ok(Part::Call(0, last(alloc, stack, 1)?)),
+        b'x' => Ok(Part::Var(0)),
+        b'M' => Ok(number(sort, i128::MAX)),
+        digit => Ok(number(sort, i128::from(digit.wrapping_sub(b'0')))),
+    }
+}
+
+/// The part of this text.
+pub fn part<T: Theory>(alloc: Global, sort: Sort, text: &str) -> Result<Part<T>, Want> {
+    let mut stack = Vec::new(alloc);
+    for sign in text.as_bytes() {
+        let part = ended(alloc, sort, *sign, &mut stack)?;
+        stack.push(part)?;
+    }
+    Ok(stack.pop().unwrap_or(Part::Var(0)))
+}
+
+/// The nonterminals of this text, all of one sort: a semicolon ends each, spaces stand between its rules, `k` is the rule
+/// for all constants and `v` that for all arguments.
+pub fn nonterminals<T: Theory>(alloc: Global, sort: Sort, text: &str) -> Result<Seq<Non<T>>, Want> {
+    let mut nons = Seq::new(alloc);
+    let mut rules = Seq::new(alloc);
+    let mut stack = Vec::new(alloc);
+    for sign in text.as_bytes() {
+        match *sign {
+            b'k' => rules.push(Rule::AnyConstant(sort))?,
+            b'v' => rules.push(Rule::AnyVariable(sort))?,
+            b' ' => end_rule(&mut stack, &mut rules)?,
+            b';' => {
+                end_rule(&mut stack, &mut rules)?;
+                nons.push(Non { sort, rules })?;
+                rules = Seq::new(alloc);
+            }
+            other => {
+                let part = ended(alloc, sort, other, &mut stack)?;
+                stack.push(part)?;
+            }
+        }
+    }
+    Ok(nons)
+}
+
+/// Makes a rule of the last part, if there is one.
+fn end_rule<T: Theory>(stack: &mut Vec<Part<T>>, rules: &mut Seq<Rule<T>>) -> Result<(), Want> {
+    if let Some(part) = stack.pop() {
+        rules.push(Rule::Term(part))?;
+    }
+    Ok(())
+}

@@ -1,6 +1,0 @@
-use Rattle.std.proofs.Common.{refl}
-use Rattle.sy_terms.specs.Denoted.{expr_of-App}
-use Rattle.sy_bits_circuit.proofs.tests.binary.Goals as goal
-
-pub returns : goal.returns
-returns c = rw (expr_of-App, c.in_ok-push-2.ensures.ok, c.in_ok-push.ensures.ok, c.new-terms.ensures) refl

@@ -1,0 +1,11 @@
+use Rattle.std.proofs.Common.{◌≡◌, length}
+use Rattle.sy_text.specs.Items.{listed}
+use Rattle.sy_forms_items.specs.Parts as spec
+use Rattle.sy_forms_items.specs.Views.{items_in}
+use Rattle.sy_forms_items.proofs.parts.are_numerals.Given as goal
+
+abbrev pub invariant-loop-item : goal.invariant-loop-item
+invariant-loop-item l = spec.are_numerals (items_in l.left) ≡ spec.are_numerals (items_in l.fn.items)
+
+abbrev pub decreases-loop-item : goal.decreases-loop-item
+decreases-loop-item l = length (listed (items_in l.left))

@@ -1,0 +1,5 @@
+pub mod Environments
+pub mod Table
+pub mod Operators
+pub mod Sorts
+pub mod Seen

@@ -1,0 +1,4 @@
+pub mod Phrases
+pub mod Meant
+pub mod Measures
+pub mod Measured

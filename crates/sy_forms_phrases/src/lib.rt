@@ -1,0 +1,14 @@
+// Terms as they are written, before it is known how many variables there are: their sizes, their literals, and the terms
+// and bodies of rules that they become.
+#![tactic(auto)]
+
+mod convert;
+mod measure;
+mod phrase;
+mod written;
+
+pub use measure::{Measures, is_small};
+pub use phrase::{
+    Phrase, Phrases, Typed, binding, invocation, literal, local, nonterminal, operation, position,
+};
+pub use written::is_neg;

@@ -1,0 +1,9 @@
+pub use Rattle.sy_grammar_base.specs.Fits
+pub use Rattle.sy_grammar_base.specs.Formed
+pub use Rattle.sy_grammar_base.specs.Grown
+pub use Rattle.sy_grammar_base.specs.Questions
+pub use Rattle.sy_grammar_base.specs.Solving
+pub use Rattle.sy_grammar_base.specs.Trees
+pub use Rattle.sy_grammar_chains.specs.Chains
+pub use Rattle.sy_grammar_chains.specs.Greatest
+pub use Rattle.sy_grammar_defaults.specs.Defaults

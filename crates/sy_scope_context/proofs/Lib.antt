@@ -1,0 +1,3 @@
+pub mod Small
+pub mod Names
+pub mod Alike

@@ -1,0 +1,86 @@
+// Variables, abbreviations of sorts, and terms in a context.
+ghost use Rattle.std.specs.Prelude.{◌≡◌, None, true, OnOk, IfOk};
+ghost use Rattle.sy_text.specs.Views.{item_of};
+ghost use Rattle.sy_forms_names.specs.Environments.{entry};
+ghost use Rattle.sy_forms_phrases.specs.Meant.{phrase_of};
+ghost use Rattle.sy_forms_phrases.specs.Measured.{measures_of};
+ghost use Rattle.sy_forms_phrases.specs.Measures.{is_small};
+ghost use Rattle.sy_forms_items.specs.Readings.{Gives};
+ghost use Rattle.sy_terms.specs.Logics.{Serves};
+ghost use Rattle.sy_scope_commands.specs.Asked.{spelled_of};
+ghost use Rattle.sy_scope_context.specs.Seen.{context_of};
+ghost use Rattle.sy_scope_steps.specs.Steps as spec;
+
+use crate::context::Context;
+use std::alloc::Global;
+use sy_forms::{Entity, Environment, Named, Phrase, ReadEnd, Role, read_sort, read_whole};
+use sy_scope_commands::Spelled;
+use sy_scope_steps::{new_name, new_sort_name};
+use sy_terms::{Sort, Theory, Want};
+use sy_text::Sexp;
+
+impl<T: Theory> Context<T> {
+    /// Declares a variable that has a new name.
+    fn add_variable(&mut self, name: &[u8], sort: Sort) -> Result<(), Want>
+        requires { entry name.now self.old.names.entities ≡ None }
+        ensures step { OnOk result (context_of T.denotes self.new ≡ spec.with_variable (context_of T.denotes self.old) name.now sort) }
+        ensures logic { OnOk result (self.new.logic ≡ self.old.logic) }
+    {
+        let Ok(position) = u32::try_from(self.variables.len()) else {
+            return Err(Want {});
+        };
+        self.names
+            .add_entity(name, Entity::Variable(position, sort))?;
+        self.variables.push(sort)?;
+        Ok(())
+    }
+
+    /// `declare-var`: a new name and a sort.
+    pub(crate) fn declare_variable(&mut self, name: Spelled<'_>, sort: &Sexp) -> Result<(), ReadEnd>
+        ensures step { Gives (λ _. context_of T.denotes self.new) result (spec.declare_variable (context_of T.denotes self.old) self.old.logic (spelled_of name.entry) (item_of sort.now)) }
+        ensures logic { OnOk result (self.new.logic ≡ self.old.logic) }
+    {
+        let bytes = name.name.as_slice();
+        new_name(&self.names, self.fresh, self.logic, name.place, bytes)?;
+        let sort = read_sort(self.logic, &self.names, sort)?;
+        self.add_variable(bytes, sort)?;
+        Ok(())
+    }
+
+    /// `define-sort`: a new name and a sort.
+    pub(crate) fn define_sort(&mut self, name: Spelled<'_>, sort: &Sexp) -> Result<(), ReadEnd>
+        ensures step { Gives (λ _. context_of T.denotes self.new) result (spec.define_sort (context_of T.denotes self.old) self.old.logic (spelled_of name.entry) (item_of sort.now)) }
+        ensures logic { OnOk result (self.new.logic ≡ self.old.logic) }
+    {
+        let bytes = name.name.as_slice();
+        new_sort_name(&self.names, self.fresh, self.logic, name.place, bytes)?;
+        let sort = read_sort(self.logic, &self.names, sort)?;
+        self.names.add_sort(bytes, sort)?;
+        Ok(())
+    }
+
+    /// The whole term of the sort that the item is, over these arguments.
+    pub(crate) fn read_in(
+        &self,
+        alloc: Global,
+        role: Role,
+        arguments: &[Named],
+        sort: Sort,
+        item: &Sexp,
+    ) -> Result<Phrase<T>, ReadEnd>
+        requires { Serves T.numeric self.now.logic }
+        ensures read { Gives (phrase_of T.denotes) result (spec.read_in (context_of T.denotes self.now) self.now.logic role arguments.now sort (item_of item.now)) }
+        ensures small { IfOk result (λ phrase. is_small (measures_of self.now.measures) (phrase_of T.denotes phrase) ≡ true) }
+    {
+        let env = Environment {
+            logic: self.logic,
+            role,
+            names: &self.names,
+            arguments,
+            nonterminals: &[],
+            constants: &[],
+        };
+        let phrase = read_whole(alloc, &env, &self.measures, sort, item)?;
+        Ok(phrase)
+    }
+}

@@ -1,0 +1,107 @@
+// Definitions.
+ghost use Rattle.std.specs.Prelude.{◌≡◌, None, true, OnOk};
+ghost use Rattle.sy_text.specs.Views.{item_of};
+ghost use Rattle.sy_forms_names.specs.Environments.{entry};
+ghost use Rattle.sy_forms_phrases.specs.Meant.{phrase_of};
+ghost use Rattle.sy_forms_phrases.specs.Measured.{measures_of};
+ghost use Rattle.sy_forms_phrases.specs.Measures.{is_small, literals};
+ghost use Rattle.sy_forms_items.specs.Readings.{Gives};
+ghost use Rattle.sy_terms.specs.Logics.{Serves};
+ghost use Rattle.sy_scope_pool.specs.Kept.{pool_of};
+ghost use Rattle.sy_scope_pool.specs.Pools.{pooled};
+ghost use Rattle.sy_scope_commands.specs.Asked.{spelled_of};
+ghost use Rattle.sy_scope_context.specs.Seen.{context_of, definition_of};
+ghost use Rattle.sy_scope_steps.specs.Steps as spec;
+
+use crate::context::{Context, Definition};
+use std::alloc::Global;
+use sy_forms::{Entity, Measures, Phrase, ReadEnd, Role, copied, read_sort};
+use sy_scope_commands::Spelled;
+use sy_scope_pool::Pool;
+use sy_scope_rules::{Naming, read_named, sorts_of};
+use sy_scope_steps::new_name;
+use sy_terms::{Fun, Seq, Theory, Want};
+use sy_text::{Sexp, Sexps};
+
+/// Adds the values that are written in a phrase.
+pub(crate) fn note_literals<T: Theory>(
+    alloc: Global,
+    pool: &mut Pool<T>,
+    phrase: &Phrase<T>,
+) -> Result<(), Want>
+    ensures { OnOk result (pool_of T.denotes pool.new ≡ pooled (pool_of T.denotes pool.old) (literals (phrase_of T.denotes phrase.now))) }
+{
+    let mut values = Seq::new(alloc);
+    phrase.literals(&mut values)?;
+    pool.add(values.as_slice())?;
+    Ok(())
+}
+
+/// Adds the measures of a definition's body, which are small.
+fn measure<T: Theory>(measures: &mut Measures, body: &Phrase<T>) -> Result<(), Want>
+    requires { is_small (measures_of measures.old) (phrase_of T.denotes body.now) ≡ true }
+    ensures { OnOk result (measures_of measures.new ≡ spec.measured (measures_of measures.old) (phrase_of T.denotes body.now)) }
+{
+    let size = body.unfolded_size(measures.sizes.as_slice(), u64::MAX);
+    let depth = body.unfolded_depth(measures.depths.as_slice(), u64::MAX);
+    measures.sizes.push(size)?;
+    measures.depths.push(depth)?;
+    Ok(())
+}
+
+impl<T: Theory> Context<T> {
+    /// Adds a definition that has a new name and a small body.
+    fn add_definition(&mut self, alloc: Global, definition: Definition<T>) -> Result<(), Want>
+        requires new { entry definition.name self.old.names.entities ≡ None }
+        requires small { is_small (measures_of self.old.measures) (phrase_of T.denotes definition.body) ≡ true }
+        ensures step { OnOk result (context_of T.denotes self.new ≡ spec.with_definition (context_of T.denotes self.old) (definition_of T.denotes definition)) }
+        ensures logic { OnOk result (self.new.logic ≡ self.old.logic) }
+    {
+        let Ok(number) = u32::try_from(self.definitions.len()) else {
+            return Err(Want {});
+        };
+        let takes = sorts_of(alloc, definition.arguments.as_slice())?;
+        let entity = Entity::Function(Fun::Defined(number), takes, definition.sort);
+        self.names.add_entity(definition.name.as_slice(), entity)?;
+        measure(&mut self.measures, &definition.body)?;
+        note_literals(alloc, &mut self.pool, &definition.body)?;
+        self.definitions.push(definition)?;
+        Ok(())
+    }
+
+    /// `define-fun`: a new name, arguments, a sort, and a body of it over the arguments and earlier definitions.
+    pub(crate) fn define(
+        &mut self,
+        alloc: Global,
+        name: Spelled<'_>,
+        arguments: &Sexps,
+        sort: &Sexp,
+        body: &Sexp,
+    ) -> Result<(), ReadEnd>
+        requires { Serves T.numeric self.old.logic }
+        ensures step { Gives (λ _. context_of T.denotes self.new) result (spec.define (context_of T.denotes self.old) self.old.logic (spelled_of name.entry) arguments.now (item_of sort.now) (item_of body.now)) }
+        ensures logic { OnOk result (self.new.logic ≡ self.old.logic) }
+    {
+        let bytes = name.name.as_slice();
+        new_name(&self.names, self.fresh, self.logic, name.place, bytes)?;
+        let naming = Naming {
+            logic: self.logic,
+            names: &self.names,
+            taken: &[],
+        };
+        let arguments = read_named(alloc, &naming, arguments)?;
+        let sort = read_sort(self.logic, &self.names, sort)?;
+        let body = self.read_in(alloc, Role::Body, arguments.as_slice(), sort, body)?;
+        let name = copied(alloc, name.name)?;
+        self.add_definition(
+            alloc,
+            Definition {
+                name,
+                arguments,
+                sort,
+                body,
+            },
+        )?;
+        Ok(())
+    }
+}

@@ -1,0 +1,15 @@
+// Worked examples of public calls of several areas; `sy_vectors_..` have those of one area.
+#![tactic(auto)]
+
+#[cfg(test)]
+mod answers;
+#[cfg(test)]
+mod conditions;
+#[cfg(test)]
+mod joins;
+#[cfg(test)]
+mod points;
+#[cfg(test)]
+mod queries;
+#[cfg(test)]
+mod weights;

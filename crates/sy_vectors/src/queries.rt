@@ -1,0 +1,128 @@
+// Queries as texts, a character for each node, in postfix.
+use std::alloc::Global;
+use sy_meaning::{BvTheory, Word};
+use sy_query::Query;
+use sy_terms::{Op, Seq, Sort, Term, Terms, Value, Want};
+
+/// The sort of this sign: `b` for truth values, a digit for vectors of so many bits.
+fn sort_of(sign: u8) -> Sort {
+    match sign {
+        b'b' => Sort::Bool,
+        digit => Sort::Bits(digit.wrapping_sub(b'0')),
+    }
+}
+
+/// The vector of four bits.
+fn vector(bits: u64) -> Term<BvTheory> {
+    match Word::new(4, bits) {
+        Some(word) => Term::Const(Value::Num(word)),
+        None => Term::Const(Value::Truth(false)),
+    }
+}
+
+/// Takes so many of the last terms.
+fn last(
+    alloc: Global,
+    stack: &mut Vec<Term<BvTheory>>,
+    count: usize,
+) -> Result<Terms<BvTheory>, Want> {
+    let mut turned = Vec::new(alloc);
+    for _ in 0..count {
+        if let Some(term) = stack.pop() {
+            turned.push(term)?;
+        }
+    }
+    let mut terms = Terms::new(alloc);
+    for _ in 0..count {
+        if let Some(term) = turned.pop() {
+            terms.push(term)?;
+        }
+    }
+    Ok(terms)
+}
+
+/// The operator of this sign, and how many arguments it takes.
+fn operator(sign: u8) -> Option<(Op, usize)> {
+    match sign {
+        b'!' => Some((Op::Not, 1)),
+        b'&' => Some((Op::And, 2)),
+        b'|' => Some((Op::Or, 2)),
+        b'^' => Some((Op::Xor, 2)),
+        b'i' => Some((Op::Implies, 2)),
+        b'?' => Some((Op::Ite, 3)),
+        b'=' => Some((Op::Equal, 2)),
+        b'#' => Some((Op::Distinct, 2)),
+        b'~' => Some((Op::BvNot, 1)),
+        b'n' => Some((Op::BvNeg, 1)),
+        b'w' => Some((Op::BvAnd, 2)),
+        b'o' => Some((Op::BvOr, 2)),
+        b'x' => Some((Op::BvXor, 2)),
+        b'W' => Some((Op::BvNand, 2)),
+        b'O' => Some((Op::BvNor, 2)),
+        b'X' => Some((Op::BvXnor, 2)),
+        b'+' => Some((Op::BvAdd, 2)),
+        b'-' => Some((Op::BvSub, 2)),
+        b'*' => Some((Op::BvMul, 2)),
+        b'/' => Some((Op::BvUdiv, 2)),
+        b'%' => Some((Op::BvUrem, 2)),
+        b'd' => Some((Op::BvSdiv, 2)),
+        b'r' => Some((Op::BvSrem, 2)),
+        b'm' => Some((Op::BvSmod, 2)),
+        b'l' => Some((Op::BvShl, 2)),
+        b'g' => Some((Op::BvLshr, 2)),
+        b'a' => Some((Op::BvAshr, 2)),
+        b'<' => Some((Op::BvUlt, 2)),
+        b'>' => Some((Op::BvUgt, 2)),
+        b'u' => Some((Op::BvUle, 2)),
+        b'U' => Some((Op::BvUge, 2)),
+        b's' => Some((Op::BvSlt, 2)),
+        b'S' => Some((Op::BvSgt, 2)),
+        b't' => Some((Op::BvSle, 2)),
+        b'G' => Some((Op::BvSge, 2)),
+        b'p' => Some((Op::BvComp, 2)),
+        b'c' => Some((Op::Concat, 2)),
+        b'e' => Some((Op::Extract(6, 3), 1)),
+        b'z' => Some((Op::RotateLeft(1), 1)),
+        b'y' => Some((Op::RotateRight(3), 1)),
+        b'Z' => Some((Op::ZeroExtend(4), 1)),
+        b'N' => Some((Op::SignExtend(4), 1)),
+        b'R' => Some((Op::Repeat(2), 1)),
+        _ => None,
+    }
+}
+
+/// The term that ends with this sign: `A`, `B` and `C` are variables, `T` is true, `L` binds the term before the last in
+/// the last, `F` is the greatest vector of four bits, and a digit the vector of its number.
+fn term(alloc: Global, sign: u8, stack: &mut Vec<Term<BvTheory>>) -> Result<Term<BvTheory>, Want> {
+    if let Some((op, count)) = operator(sign) {
+        return Ok(Term::App(op, last(alloc, stack, count)?));
+    }
+    match sign {
+        b'A' => Ok(Term::Var(0)),
+        b'B' => Ok(Term::Var(1)),
+        b'C' => Ok(Term::Var(2)),
+        b'T' => Ok(Term::Const(Value::Truth(true))),
+        b'F' => Ok(vector(15)),
+        b'L' => {
+            let inner = stack.pop().unwrap_or(Term::Var(0));
+            let bound = last(alloc, stack, 1)?;
+            Ok(Term::Let(bound, Box::new(alloc, inner)?))
+        }
+        digit => Ok(vector(u64::from(digit.wrapping_sub(b'0')))),
+    }
+}
+
+/// The query of these variables' sorts and this body.
+pub fn query(alloc: Global, sorts: &str, body: &str) -> Result<Query<BvTheory>, Want> {
+    let mut vars = Seq::new(alloc);
+    for sign in sorts.as_bytes() {
+        vars.push(sort_of(*sign))?;
+    }
+    let mut stack = Vec::new(alloc);
+    for sign in body.as_bytes() {
+        let term = term(alloc, *sign, &mut stack)?;
+        stack.push(term)?;
+    }
+    let body = stack.pop().unwrap_or(Term::Var(0));
+    Ok(Query { vars, body })
+}

@@ -1,0 +1,2 @@
+mod Paired
+mod Sorted

@@ -1,0 +1,336 @@
+// One-line files, and large ones, with what is read of them.
+use std::alloc::{AllocError, Global};
+use sy_scope::{Cause, Job, ScopeEnd, read_file};
+
+/// What is read: so many problems in a logic, or the first fault, by its command, its offset and its cause.
+#[derive(Debug, Drop)]
+enum Outcome {
+    Idle,
+    Ints(usize),
+    Bits(usize),
+    Refused(u32, usize, Cause),
+    TooLong,
+}
+
+fn reading_of(alloc: Global, text: &[u8]) -> Result<Outcome, AllocError> {
+    if text.len() > 4_194_304 {
+        return Ok(Outcome::TooLong);
+    }
+    match read_file(alloc, text) {
+        Ok(Job::Idle) => Ok(Outcome::Idle),
+        Ok(Job::Ints(problems, _)) => Ok(Outcome::Ints(problems.len())),
+        Ok(Job::Bits(problems, _)) => Ok(Outcome::Bits(problems.len())),
+        Err(ScopeEnd::Refused(refused)) => Ok(Outcome::Refused(
+            refused.command,
+            refused.place.at,
+            refused.cause,
+        )),
+        Err(ScopeEnd::Want) => Err(AllocError {}),
+    }
+}
+
+/// Whether the text is read as a table tells.
+fn reads_as(alloc: Global, text: &[u8], outcome: &str) -> Result<bool, AllocError> {
+    let found = reading_of(alloc, text)?;
+    Ok(format!(in alloc; "{found:?}")?.as_str() == outcome)
+}
+
+/// The first line whose file is read otherwise than it tells.
+fn first_other<'a>(alloc: Global, table: &'a str) -> Result<Option<&'a str>, AllocError> {
+    for line in table.lines() {
+        let Some((outcome, text)) = line.split_once(": ") else {
+            return Ok(Some(line));
+        };
+        if !reads_as(alloc, text.as_bytes(), outcome)? {
+            return Ok(Some(line));
+        }
+    }
+    Ok(None)
+}
+
+/// Commands without a logic, behind what becomes of each file.
+const COMMANDS: &str = "\
+Refused(1, 0, Shape): 5
+Refused(1, 0, Shape): ()
+Refused(1, 0, Shape): (5 x)
+Refused(1, 0, Shape): ((a) b)
+Refused(1, 1, CommandNotInProfile): (pop)
+Refused(1, 1, CommandNotInProfile): (declare-fun f () Bool)
+Refused(1, 1, CommandNotInProfile): (Set-logic BV)
+Refused(1, 0, Shape): (set-logic)
+Refused(1, 0, Shape): (set-logic 5)
+Refused(1, 0, Shape): (set-logic BV BV)
+Refused(1, 11, Logic): (set-logic QF_BV)
+Refused(1, 11, Logic): (set-logic bv)
+Refused(2, 25, Logic): (set-logic BV)(set-logic BV)
+Refused(2, 26, Logic): (set-logic LIA)(set-logic BV)
+Refused(1, 0, Shape): (set-feature :grammars)
+Refused(1, 0, Shape): (set-feature grammars true)
+Refused(1, 0, Shape): (set-feature :grammars 1)
+Refused(1, 0, Shape): (set-feature :grammars yes)
+Refused(1, 13, Feature): (set-feature :fwd-decls true)
+Refused(1, 13, Feature): (set-feature :recursion true)
+Refused(2, 27, Feature): (set-logic BV)(set-feature :recursion true)
+Refused(1, 0, Shape): (set-info)
+Refused(1, 0, Shape): (set-info a)
+Refused(1, 0, Shape): (set-option :a 5 6)
+Refused(1, 1, Logic): (declare-var x Int)
+Refused(1, 1, Logic): (define-sort A Int)
+Refused(1, 1, Logic): (check-synth)
+Refused(1, 1, Logic): (constraint true)
+Refused(1, 1, Logic): (assume true)
+Refused(1, 1, Logic): (inv-constraint a b c d)
+Refused(1, 1, Logic): (synth-inv f ())
+Refused(1, 0, Shape): (declare-var x)
+Refused(1, 0, Shape): (define-sort A (x) Int)
+Refused(1, 0, Shape): (define-sort A 5 Int)
+";
+
+#[test]
+fn commands_before_a_logic(rt: HostRuntime) -> Result<(), AllocError> {
+    assert_eq!(rt; first_other(rt.alloc(), COMMANDS)?, None);
+    Ok(())
+}
+
+/// New names, and sorts.
+const NAMES: &str = "\
+Refused(2, 27, NameTaken): (set-logic BV)(declare-var ite Bool)
+Refused(2, 27, NameTaken): (set-logic BV)(declare-var bvadd Bool)
+Refused(2, 27, NameTaken): (set-logic BV)(declare-var Constant Bool)
+Refused(2, 27, NameTaken): (set-logic BV)(define-sort Bool Bool)
+Refused(2, 27, NameTaken): (set-logic BV)(define-sort Int Bool)
+Refused(2, 27, NameTaken): (set-logic BV)(define-sort BitVec Bool)
+Refused(2, 27, NameTaken): (set-logic BV)(define-sort let Bool)
+Refused(2, 29, UnknownSort): (set-logic BV)(declare-var x Int)
+Refused(2, 29, UnknownSort): (set-logic BV)(declare-var x Real)
+Refused(2, 29, UnknownSort): (set-logic BV)(declare-var x (_ BitVec 8 8))
+Refused(2, 29, UnknownSort): (set-logic BV)(declare-var x (BitVec 8))
+Refused(2, 29, UnknownSort): (set-logic BV)(define-sort A B)
+Refused(2, 31, UnknownSort): (set-logic BV)(define-fun f () Int true)
+Refused(2, 32, UnknownSort): (set-logic BV)(define-fun f ((x Int)) Bool true)
+Refused(2, 29, Width): (set-logic BV)(declare-var x (_ BitVec 65))
+Refused(2, 29, Width): (set-logic BV)(declare-var x (_ BitVec 0))
+Refused(2, 29, Shape): (set-logic BV)(declare-var x 5)
+Refused(3, 47, NameTaken): (set-logic BV)(declare-var x Bool)(declare-var x Bool)
+Refused(2, 30, UnknownSort): (set-logic LIA)(declare-var x (_ BitVec 8))
+Refused(2, 28, NameTaken): (set-logic LIA)(declare-var div Int)
+Refused(2, 28, NameTaken): (set-logic LIA)(declare-var abs Int)
+Refused(3, 47, NameTaken): (set-logic BV)(define-sort A Bool)(define-sort A Bool)
+";
+
+#[test]
+fn names_and_sorts(rt: HostRuntime) -> Result<(), AllocError> {
+    assert_eq!(rt; first_other(rt.alloc(), NAMES)?, None);
+    Ok(())
+}
+
+/// Bodies of definitions, and terms of constraints and assumptions.
+const TERMS: &str = "\
+Refused(2, 14, Shape): (set-logic BV)(define-fun f () Bool)
+Refused(2, 14, Shape): (set-logic BV)(define-fun f x Bool true)
+Refused(2, 29, Shape): (set-logic BV)(define-fun f (x) Bool true)
+Refused(2, 29, Shape): (set-logic BV)(define-fun f ((x)) Bool true)
+Refused(2, 30, NameTaken): (set-logic BV)(define-fun f ((true Bool)) Bool true)
+Refused(2, 39, NameTaken): (set-logic BV)(define-fun f ((x Bool) (x Bool)) Bool true)
+Refused(2, 36, SortMismatch): (set-logic BV)(define-fun f () Bool #b1)
+Refused(2, 36, UnknownName): (set-logic BV)(define-fun f () Bool f)
+Refused(3, 56, UnknownName): (set-logic BV)(declare-var x Bool)(define-fun f () Bool x)
+Refused(3, 57, FunctionNotHere): (set-logic BV)(synth-fun g () Bool)(define-fun f () Bool g)
+Refused(3, 58, SortMismatch): (set-logic BV)(define-fun f ((x Bool)) Bool x)(constraint f)
+Refused(3, 58, SortMismatch): (set-logic BV)(define-fun f ((x Bool)) Bool x)(constraint (f))
+Refused(3, 59, NameTaken): (set-logic BV)(define-fun f ((x Bool)) Bool x)(declare-var f Bool)
+Refused(2, 14, Shape): (set-logic BV)(constraint)
+Refused(2, 14, Shape): (set-logic BV)(constraint true true)
+Refused(2, 26, Shape): (set-logic BV)(constraint ())
+Refused(2, 26, Shape): (set-logic BV)(constraint (let () true))
+Refused(2, 32, Shape): (set-logic BV)(constraint (let (x) true))
+Refused(2, 14, Shape): (set-logic BV)(assume)
+Refused(2, 26, SortMismatch): (set-logic BV)(constraint #b1)
+Refused(2, 26, SortMismatch): (set-logic BV)(constraint 5)
+Refused(2, 26, SortMismatch): (set-logic BV)(constraint (= #b1 #b01))
+Refused(2, 22, SortMismatch): (set-logic BV)(assume #b1)
+Refused(2, 26, UnknownName): (set-logic BV)(constraint y)
+Refused(2, 27, UnknownName): (set-logic BV)(constraint (g true))
+Refused(2, 33, LiteralRange): (set-logic BV)(constraint (= #b1 (_ bv2 1)))
+Refused(2, 33, Width): (set-logic BV)(constraint (= #b1 (_ bv0 0)))
+Refused(2, 42, NameTaken): (set-logic BV)(constraint (let ((x true) (x true)) x))
+Refused(2, 27, SortMismatch): (set-logic LIA)(constraint 5)
+Refused(2, 27, SortMismatch): (set-logic LIA)(constraint #b1)
+Refused(3, 51, Nonlinear): (set-logic LIA)(declare-var x Int)(constraint (= 0 (* x x)))
+Refused(2, 33, UnknownName): (set-logic LIA)(constraint (= 0 (div 1 1)))
+Refused(2, 33, UnknownName): (set-logic LIA)(constraint (= 0 (mod 1 1)))
+Refused(2, 33, UnknownName): (set-logic LIA)(constraint (= 0 (abs 1)))
+Refused(3, 43, FunctionNotHere): (set-logic BV)(synth-fun g () Bool)(assume g)
+";
+
+#[test]
+fn bodies_and_terms(rt: HostRuntime) -> Result<(), AllocError> {
+    assert_eq!(rt; first_other(rt.alloc(), TERMS)?, None);
+    Ok(())
+}
+
+/// Functions to be found, with and without grammars.
+const FUNCTIONS: &str = "\
+Refused(2, 14, Shape): (set-logic BV)(synth-fun f ())
+Refused(2, 14, Shape): (set-logic BV)(synth-fun f () Bool ())
+Refused(2, 14, Shape): (set-logic BV)(synth-fun f () Bool x ())
+Refused(2, 35, Shape): (set-logic BV)(synth-fun f () Bool () ())
+Refused(2, 46, Shape): (set-logic BV)(synth-fun f () Bool ((S Bool)) ())
+Refused(2, 47, Shape): (set-logic BV)(synth-fun f () Bool ((S Bool)) ((S Bool ())))
+Refused(2, 56, Shape): (set-logic BV)(synth-fun f () Bool ((S Bool)) ((S Bool ((let ((x true)) x)))))
+Refused(2, 14, Shape): (set-logic BV)(synth-inv f)
+Refused(2, 25, NameTaken): (set-logic BV)(synth-fun ite () Bool)
+Refused(2, 45, NameTaken): (set-logic BV)(synth-fun f ((x Bool)) Bool ((x Bool)) ((x Bool (true))))
+Refused(2, 39, UnknownSort): (set-logic BV)(synth-fun f () Bool ((S Int)) ((S Int (0))))
+Refused(2, 39, SortMismatch): (set-logic BV)(synth-fun f () Bool ((S (_ BitVec 8))) ((S (_ BitVec 8) (#x00))))
+Refused(2, 56, SortMismatch): (set-logic BV)(synth-fun f () Bool ((S Bool)) ((S Bool (#b1))))
+Refused(2, 56, SortMismatch): (set-logic BV)(synth-fun f () Bool ((S Bool)) ((S Bool ((Constant (_ BitVec 1))))))
+Refused(2, 34, SortMismatch): (set-logic BV)(synth-inv f () ((S (_ BitVec 8))) ((S (_ BitVec 8) (#x00))))
+Refused(2, 47, Predeclared): (set-logic BV)(synth-fun f () Bool ((S Bool)) ((T Bool (true))))
+Refused(2, 46, Predeclared): (set-logic BV)(synth-fun f () Bool ((S Bool)) ((S Bool (true)) (S Bool (true))))
+Refused(2, 56, UnknownName): (set-logic BV)(synth-fun f () Bool ((S Bool)) ((S Bool (z))))
+Refused(2, 56, UnknownName): (set-logic BV)(synth-fun f () Bool ((S Bool)) ((S Bool (f))))
+Refused(6, 109, TooMany): (set-logic BV)(synth-fun a () Bool)(synth-fun b () Bool)(synth-fun c () Bool)(synth-fun d () Bool)(synth-fun e () Bool)
+Refused(3, 46, NameTaken): (set-logic BV)(synth-fun a () Bool)(synth-fun a () Bool)
+";
+
+#[test]
+fn functions_to_be_found(rt: HostRuntime) -> Result<(), AllocError> {
+    assert_eq!(rt; first_other(rt.alloc(), FUNCTIONS)?, None);
+    Ok(())
+}
+
+/// Conditions of invariants, and whole files.
+const FILES: &str = "\
+Refused(5, 111, Shape): (set-logic BV)(synth-inv i ((x Bool)))(define-fun p ((x Bool)) Bool x)(define-fun t ((x Bool) (y Bool)) Bool x)(inv-constraint i p t)
+Refused(5, 127, UnknownName): (set-logic BV)(synth-inv i ((x Bool)))(define-fun p ((x Bool)) Bool x)(define-fun t ((x Bool) (y Bool)) Bool x)(inv-constraint z p t p)
+Refused(5, 133, UnknownName): (set-logic BV)(synth-inv i ((x Bool)))(define-fun p ((x Bool)) Bool x)(define-fun t ((x Bool) (y Bool)) Bool x)(inv-constraint i p t z)
+Refused(5, 131, UnknownName): (set-logic BV)(synth-inv i ((x Bool)))(define-fun p ((x Bool)) Bool x)(define-fun t ((x Bool) (y Bool)) Bool x)(inv-constraint p p z p)
+Refused(5, 127, InvShape): (set-logic BV)(synth-inv i ((x Bool)))(define-fun p ((x Bool)) Bool x)(define-fun t ((x Bool) (y Bool)) Bool x)(inv-constraint p p t p)
+Refused(5, 129, InvShape): (set-logic BV)(synth-inv i ((x Bool)))(define-fun p ((x Bool)) Bool x)(define-fun t ((x Bool) (y Bool)) Bool x)(inv-constraint i t t p)
+Refused(5, 131, InvShape): (set-logic BV)(synth-inv i ((x Bool)))(define-fun p ((x Bool)) Bool x)(define-fun t ((x Bool) (y Bool)) Bool x)(inv-constraint i p p p)
+Refused(5, 133, InvShape): (set-logic BV)(synth-inv i ((x Bool)))(define-fun p ((x Bool)) Bool x)(define-fun t ((x Bool) (y Bool)) Bool x)(inv-constraint i p t t)
+Refused(5, 129, InvShape): (set-logic BV)(synth-inv i ((x Bool)))(define-fun p ((x Bool)) Bool x)(define-fun t ((x Bool) (y Bool)) Bool x)(inv-constraint i i t p)
+Refused(2, 14, Shape): (set-logic BV)(check-synth x)
+Refused(2, 16, NotBuilt): (set-logic LIA)(check-synth)
+Refused(18, 223, TooMany): (set-logic BV)(check-synth)(check-synth)(check-synth)(check-synth)(check-synth)(check-synth)(check-synth)(check-synth)(check-synth)(check-synth)(check-synth)(check-synth)(check-synth)(check-synth)(check-synth)(check-synth)(check-synth)
+Refused(2, 15, CommandNotInProfile): (set-logic BV)(pop)(
+Idle: ; (
+Idle: (set-feature :fwd-decls false)(set-feature :grammars true)(set-info :a)(set-info :a (b 5))(set-option :a 5)
+Ints(0): (set-logic LIA)
+Ints(0): (set-logic LIA)(declare-var bvadd Int)(declare-var x Bool)(constraint (= bvadd 0))
+Bits(0): (set-logic BV)(define-sort A () (_ BitVec 8))(define-sort C A)(declare-var x C)(declare-var A Bool)(constraint (and A (= x #x00)))
+Bits(2): (set-logic BV)(synth-fun f ((x (_ BitVec 8))) (_ BitVec 8))(declare-var y (_ BitVec 8))(constraint (= (f y) y))(check-synth)(constraint (= y y))(check-synth)
+Bits(1): (set-logic BV)(synth-fun f ((x Bool)) Bool ((S Bool) (C Bool)) ((S Bool (x (not S) C)) (C Bool ((Constant Bool) (Variable Bool)))))(constraint (f true))(check-synth)
+Bits(1): (set-logic BV)(synth-inv i ((x Bool)))(define-fun p ((x Bool)) Bool x)(define-fun t ((x Bool) (y Bool)) Bool x)(inv-constraint i p t p)(check-synth)
+Bits(2): (set-logic BV)(define-fun f ((x Bool)) Bool x)(define-fun g () Bool (f true))(assume g)(constraint (let ((x true)) (f x)))(check-synth)(set-info :status)(check-synth)
+Refused(2, 15, Text(Stray(15))): (set-logic BV) )
+Refused(2, 17, Text(Unclosed(17))): (set-logic BV)(5 (
+";
+
+#[test]
+fn invariants_and_whole_files(rt: HostRuntime) -> Result<(), AllocError> {
+    assert_eq!(rt; first_other(rt.alloc(), FILES)?, None);
+    Ok(())
+}
+
+/// Files of many equal pieces, a line each: what becomes of the file; how many pieces; and its beginning, the piece, its
+/// middle, what closes each piece, and its end. In a piece `#` is its number from 0, and `@` its number from 1.
+const LARGE: &str = "\
+Idle|0|||||
+Ints(0)|4096|(set-logic LIA)|(declare-var v# Int)|||
+Refused(4098, 93126, TooMany)|4097|(set-logic LIA)|(declare-var v# Int)|||
+Ints(0)|1199|(set-logic LIA)(define-fun g () Bool |(not |true|)|)
+Refused(3, 7248, TooMany)|1199|(set-logic LIA)(define-fun g () Bool |(not |true|)|)(constraint g)
+Ints(0)|17|(set-logic LIA)(define-fun d0 () Bool true)|(define-fun d@ () Bool (and d# d#))|||
+Refused(20, 684, TooMany)|18|(set-logic LIA)(define-fun d0 () Bool true)|(define-fun d@ () Bool (and d# d#))|||
+Ints(0)|64|(set-logic LIA)(synth-fun f (|(x# Int)|) Int)||
+Refused(2, 595, TooMany)|65|(set-logic LIA)(synth-fun f (|(x# Int)|) Int)||
+Refused(2, 602, TooMany)|65|(set-logic LIA)(synth-fun f () Int (|(N# Int)|) ((N0 Int (0))))||
+Ints(0)|1024|(set-logic LIA)(synth-fun f () Int ((S Int)) ((S Int (|0 |))))||
+Refused(2, 2102, TooMany)|1025|(set-logic LIA)(synth-fun f () Int ((S Int)) ((S Int (|0 |))))||
+Idle|131072||                                |||
+TooLong|131072| |                                |||
+Refused(1, 1199, Text(Unclosed(1199)))|1200||(|||
+Refused(1, 1200, Text(TooDeep(1200)))|1201||(|||
+";
+
+/// The parts of a line.
+#[derive(Drop)]
+struct Large<'a> {
+    outcome: &'a str,
+    count: u32,
+    head: &'a str,
+    piece: &'a str,
+    middle: &'a str,
+    closing: &'a str,
+    tail: &'a str,
+}
+
+fn large_of(line: &str) -> Option<Large<'_>> {
+    let (outcome, rest) = line.split_once('|')?;
+    let (count, rest) = rest.split_once('|')?;
+    let (head, rest) = rest.split_once('|')?;
+    let (piece, rest) = rest.split_once('|')?;
+    let (middle, rest) = rest.split_once('|')?;
+    let (closing, tail) = rest.split_once('|')?;
+    let count = count.parse().ok()?;
+    Some(Large {
+        outcome,
+        count,
+        head,
+        piece,
+        middle,
+        closing,
+        tail,
+    })
+}
+
+/// Appends the piece of this number.
+fn append_piece(text: &mut String, piece: &str, number: u32) -> Result<(), AllocError> {
+    for letter in piece.chars() {
+        match letter {
+            '#' => write!(text, "{number}")?,
+            '@' => {
+                let next = number.saturating_add(1);
+                write!(text, "{next}")?
+            }
+            _ => text.push(letter)?,
+        }
+    }
+    Ok(())
+}
+
+fn text_of(alloc: Global, file: &Large<'_>) -> Result<String, AllocError> {
+    let mut text = String::new(alloc);
+    text.push_str(file.head)?;
+    for number in 0..file.count {
+        append_piece(&mut text, file.piece, number)?;
+    }
+    text.push_str(file.middle)?;
+    for _ in 0..file.count {
+        text.push_str(file.closing)?;
+    }
+    text.push_str(file.tail)?;
+    Ok(text)
+}
+
+/// The first line whose file is read otherwise than it tells.
+fn first_other_large<'a>(alloc: Global, table: &'a str) -> Result<Option<&'a str>, AllocError> {
+    for line in table.lines() {
+        let Some(file) = large_of(line) else {
+            return Ok(Some(line));
+        };
+        let text = text_of(alloc, &file)?;
+        if !reads_as(alloc, text.as_bytes(), file.outcome)? {
+            return Ok(Some(line));
+        }
+    }
+    Ok(None)
+}
+
+#[test]
+fn the_largest_files(rt: HostRuntime) -> Result<(), AllocError> {
+    assert_eq!(rt; first_other_large(rt.alloc(), LARGE)?, None);
+    Ok(())
+}

@@ -1,0 +1,7 @@
+// Texts of the lexicon with what is read of them, and the same by a second reading.
+#![tactic(auto)]
+
+#[cfg(test)]
+mod second;
+#[cfg(test)]
+mod tables;
