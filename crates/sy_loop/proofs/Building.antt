@@ -13,16 +13,18 @@ use Rattle.sy_terms.specs.Fitting.{Signature}
 use Rattle.sy_terms.specs.Meaning.{Function, functions, computable}
 use Rattle.sy_terms.specs.declared.op.Op.{Op}
 use Rattle.sy_terms.specs.declared.sort.Sort.{Sort}
+use Rattle.sy_grammar_base.specs.Fits.{wanted_of, GrammarFits, QuestionFits}
 use Rattle.sy_grammar_base.specs.Grown.{syntax_from}
-use Rattle.sy_grammar_base.specs.Trees.{Syntax}
+use Rattle.sy_grammar_base.specs.Trees.{Syntax, tree_size}
 use Rattle.sy_grammar_base.specs.Questions.{Goal, Question, goal_of, question_of}
 use Rattle.sy_grammar_base.specs.declared.problem.Problem.{Problem}
 use Rattle.sy_grammar_base.specs.declared.problem.Wanted.{Wanted}
+use Rattle.sy_grammar_laws.proofs.Problems.{problem_grammars}
 use Rattle.sy_query_limits.specs.declared.Limits.{Limits}
 use Rattle.sy_points.specs.Asked.{Asked, of_function}
 use Rattle.sy_bank_rows.specs.Banks.{Entry, Lost, Merged, IsDropped, IsKept}
 use Rattle.sy_bank_rows.specs.Columns.{HasRow}
-use Rattle.sy_bank_offer.specs.Tasks.{ArePointsOf}
+use Rattle.sy_bank_rows.specs.Rows.{ArePointsOf}
 use Rattle.sy_bank.specs.Bank.{merged_of}
 use Rattle.sy_bank.specs.Promised.{IsBank, IsWhole, IsFull}
 use Rattle.sy_bank.specs.declared.bank.Bank.{Bank}
@@ -31,10 +33,10 @@ use Rattle.sy_bank.specs.declared.bank.BankEnd.TheVariants as ends
 use Rattle.sy_bank.specs.Answers.{OnBank, IfFull}
 use Rattle.sy_bank_rows.specs.Stored.{entry_of}
 use Rattle.sy_loop.specs.declared.banks.Banks.{Banks}
-use Rattle.sy_grammar_bodies_laws.specs.Grammars.{GrammarFits, GrammarsFit}
-use Rattle.sy_loop_history.specs.Histories.{Counterexample, IsMet}
+use Rattle.sy_loop_history.specs.Histories.{Counterexample, IsMet, IsOpenNumber}
+use Rattle.sy_loop_history.proofs.Staying.{open_down}
+use Rattle.sy_loop_bounds.specs.declared.reach.Reach.{Reach}
 use Rattle.sy_loop_history.specs.Budgets.{BankMet, MemberLeaves}
-use Rattle.sy_loop_candidate.specs.Truths.{wanted_of}
 use Rattle.sy_loop_candidate.specs.Known.{IsKnown}
 use Rattle.sy_loop_candidate.proofs.Items.{has_place}
 use Rattle.sy_loop.specs.Banks.{IsBankOf, IsWholeOf, IsFullOf, AreBanks, AreBuilt, IsFullBank, AreCarried}
@@ -50,19 +52,19 @@ use Rattle.sy_loop.specs.Levels.{AreHonest}
 use Rattle.sy_loop.proofs.Choosing.{bank_at, before_or_last}
 
 -- a function's grammar fits
-pub grammar_fits : {T N : Type 0} (owned : Op → Bool) (numeric : Sort → Bool) (number : N → Val) (problem : Problem T N) (function : ℕ) (wanted : Wanted T N) → GrammarsFit owned numeric number problem → slice_get problem.wanted function ≡ Some wanted → GrammarFits owned numeric number problem wanted
+pub grammar_fits : {T N : Type 0} (owned : Op → Bool) (numeric : Sort → Bool) (number : N → Val) (problem : Problem T N) (function : ℕ) (wanted : Wanted T N) → QuestionFits owned numeric (question_of number problem) → slice_get problem.wanted function ≡ Some wanted → GrammarFits owned numeric number problem wanted
 grammar_fits owned numeric number problem function wanted fit at =
-    All-contains (GrammarFits owned numeric number problem) problem.wanted wanted fit (has_place problem.wanted function wanted at)
+    All-contains (GrammarFits owned numeric number problem) problem.wanted wanted (problem_grammars owned numeric number problem fit) (has_place problem.wanted function wanted at)
 
 -- a function's goal
 pub goal_at : {T N : Type 0} (number : N → Val) (problem : Problem T N) (function : ℕ) (wanted : Wanted T N) → slice_get problem.wanted function ≡ Some wanted → slice_get (question_of number problem).goals function ≡ Some (goal_of number wanted)
 goal_at number problem function wanted at = slice_get-map (goal_of number) problem.wanted function ∙ ap (option_map (goal_of number)) at
 
 -- a function's tuples are of its arguments
-pub points_fit : {T N : Type 0} (owned : Op → Bool) (numeric : Sort → Bool) (number : N → Val) (problem : Problem T N) (limits : Limits) (history : List Counterexample) (asked : Asked) (function : ℕ) (wanted : Wanted T N) (tuples : List (List Val)) →
-    GrammarsFit owned numeric number problem → IsKnown (question_of number problem) limits history asked → slice_get problem.wanted function ≡ Some wanted → of_function asked function ≡ tuples → ArePointsOf wanted.grammar.args tuples
-points_fit owned numeric number problem limits history asked function wanted tuples fit known at is k point place =
-    let it = known.taken function point (subst (λ ts. Contains ts point) (sym is) (has_place tuples k point place)) in
+pub points_fit : {T N : Type 0} (owned : Op → Bool) (numeric : Sort → Bool) (number : N → Val) (reach : Reach) (problem : Problem T N) (limits : Limits) (history : List Counterexample) (asked : Asked) (function : ℕ) (wanted : Wanted T N) (tuples : List (List Val)) →
+    QuestionFits owned numeric (question_of number problem) → IsKnown reach (question_of number problem) limits history asked → slice_get problem.wanted function ≡ Some wanted → of_function asked function ≡ tuples → ArePointsOf wanted.grammar.args tuples
+points_fit owned numeric number reach problem limits history asked function wanted tuples fit known at is k point place =
+    let it = known.held.taken function point (subst (λ ts. Contains ts point) (sym is) (has_place tuples k point place)) in
     let fits = grammar_fits owned numeric number problem function wanted fit at in
     let found : slice_get (wanted_of (question_of number problem)) function ≡ Some (goal_of number wanted).signature =
     slice_get-map (λ (goal : Goal). goal.signature) (question_of number problem).goals function ∙ ap (option_map (λ (goal : Goal). goal.signature)) (goal_at number problem function wanted at) in
@@ -147,24 +149,25 @@ honest_banks {T} {N} owned number problem limits asked level banks are carried =
 }
 
 -- all tuples of a function were met
-points_met : (question : Question) (limits : Limits) (history : List Counterexample) (asked : Asked) (function : ℕ) (tuples : List (List Val)) → IsKnown question limits history asked → tuples ≡ of_function asked function → All (IsMet question limits.size history function) tuples
-points_met question limits history asked function tuples known is =
-    All-weaker (Contains tuples) (IsMet question limits.size history function) (λ tuple at. known.met function tuple (subst (λ ts. Contains ts tuple) is at)) tuples (All-contains_itself tuples)
+points_met : (reach : Reach) (question : Question) (limits : Limits) (history : List Counterexample) (asked : Asked) (function : ℕ) (tuples : List (List Val)) → IsKnown reach question limits history asked → tuples ≡ of_function asked function → All (IsMet reach question limits.size history function) tuples
+points_met reach question limits history asked function tuples known is =
+    All-weaker (Contains tuples) (IsMet reach question limits.size history function) (λ tuple at. known.met function tuple (subst (λ ts. Contains ts tuple) is at)) tuples (All-contains_itself tuples)
 
 -- a full bank is the cause
-pub bank_met : (question : Question) (limits : Limits) (history : List Counterexample) (asked : Asked) (level function : ℕ) (bank : Merged) (nonterminal : ℕ) (next : Entry) → IsKnown question limits history asked → level ≤ limits.size →
-    IsBankOf question limits asked level function bank → IsFullOf question limits function bank nonterminal next → BankMet question limits.size limits.rounds limits.bank history function bank nonterminal next
-bank_met question limits history asked level function bank nonterminal next known small of full =
+pub bank_met : (reach : Reach) (question : Question) (limits : Limits) (history : List Counterexample) (asked : Asked) (level function : ℕ) (bank : Merged) (nonterminal : ℕ) (next : Entry) → IsKnown reach question limits history asked → length history < limits.rounds → IsOpenNumber reach question limits.size history level →
+    IsBankOf question limits asked level function bank → IsFullOf question limits function bank nonterminal next → BankMet reach question limits.size limits.rounds limits.bank history function bank nonterminal next
+bank_met reach question limits history asked level function bank nonterminal next known room opened of full =
     let same_goal : Some full.goal ≡ Some of.goal = sym full.at ∙ of.at in
     let goal : full.goal ≡ of.goal = cc in
     let is : IsFull of.goal.grammar (functions question.definitions) question.pool limits.bank bank nonterminal next = subst (λ (g : Goal). IsFull g.grammar (functions question.definitions) question.pool limits.bank bank nonterminal next) goal full.full in
     record {
       honest = known.honest;
+      room = room;
       goal = of.goal;
       at = of.at;
       sound = of.is.honest;
-      within = omega (arith, small, of.is.up);
-      met = points_met question limits history asked function bank.points known of.is.over;
+      size_open = subst (IsOpenNumber reach question limits.size history) (sym of.is.up) opened;
+      met = points_met reach question limits history asked function bank.points known of.is.over;
       all = is.full;
       none = is.none_lost;
       new = is.new;
@@ -174,21 +177,22 @@ lost_at : (syntax : Syntax) (defined : List Function) (pool : List Val) (points 
 lost_at syntax defined pool points upto dropped lost is if_some = let at = subst (λ d. IfSome d (IsDropped syntax defined pool points upto)) is if_some in at
 
 -- a dropped term is the cause
-pub member_leaves : (question : Question) (limits : Limits) (history : List Counterexample) (asked : Asked) (function : ℕ) (bank : Merged) (lost : Lost) (tuple : List Val) → IsKnown question limits history asked →
-    IsBankOf question limits asked limits.size function bank → bank.dropped ≡ Some lost → slice_get bank.points lost.point ≡ Some tuple → MemberLeaves question limits.size limits.rounds history function lost.term tuple
-member_leaves question limits history asked function bank lost tuple known of is at =
+pub member_leaves : (reach : Reach) (question : Question) (limits : Limits) (history : List Counterexample) (asked : Asked) (level function : ℕ) (bank : Merged) (lost : Lost) (tuple : List Val) → IsKnown reach question limits history asked → length history < limits.rounds → IsOpenNumber reach question limits.size history level →
+    IsBankOf question limits asked level function bank → bank.dropped ≡ Some lost → slice_get bank.points lost.point ≡ Some tuple → MemberLeaves reach question limits.size limits.rounds history function lost.term tuple
+member_leaves reach question limits history asked level function bank lost tuple known room opened of is at =
     let dropped = lost_at of.goal.grammar (functions question.definitions) question.pool bank.points bank.upto bank.dropped lost is of.is.lost in
     let same_point : Some dropped.is.point ≡ Some tuple = sym dropped.is.at ∙ at in
     let point : dropped.is.point ≡ tuple = cc in
     record {
       honest = known.honest;
+      room = room;
       goal = of.goal;
       at = of.at;
       nonterminal = dropped.nonterminal;
       tree = dropped.tree;
       derives = dropped.derives;
-      small = omega (arith, dropped.small, of.is.up);
-      met = All-contains (IsMet question limits.size history function) bank.points tuple (points_met question limits history asked function bank.points known of.is.over) (has_place bank.points lost.point tuple at);
+      size_open = open_down reach question limits.size history (tree_size of.goal.grammar question.pool dropped.nonterminal dropped.tree) level (omega (arith, dropped.small, of.is.up)) opened;
+      met = All-contains (IsMet reach question limits.size history function) bank.points tuple (points_met reach question limits history asked function bank.points known of.is.over) (has_place bank.points lost.point tuple at);
       leaves = subst (λ p. computable (functions question.definitions) [] p lost.term ≡ false) point dropped.is.lost;
     }
 
@@ -211,13 +215,13 @@ placed question limits asked level function bank of = at bank.dropped of.is.lost
     at (Some lost) is = slice_get_within bank.points lost.point is.is.point is.is.at
 
 -- it is the cause
-pub dropped_leaves : {T N : Type 0} (number : N → Val) (question : Question) (limits : Limits) (history : List Counterexample) (asked : Asked) (function : ℕ) (bank : Merged) (left : LoopRange T N) → IsKnown question limits history asked →
-    IsBankOf question limits asked limits.size function bank → IsDroppedBy number function bank left → Leaves number question limits history left
-dropped_leaves number question limits history asked function bank (Checked bodies assignment) known of by = absurd by
-dropped_leaves number question limits history asked function bank (Member other term tuple) known of by =
-    let leaves = member_leaves question limits history asked function bank by.0 (vals_of number tuple) known of by.1 by.4 in
-    subst (λ f. MemberLeaves question limits.size limits.rounds history f (expr_of number term) (vals_of number tuple)) (sym by.2)
-    (subst (λ t. MemberLeaves question limits.size limits.rounds history function t (vals_of number tuple)) (sym by.3) leaves)
+pub dropped_leaves : {T N : Type 0} (number : N → Val) (reach : Reach) (question : Question) (limits : Limits) (history : List Counterexample) (asked : Asked) (level function : ℕ) (bank : Merged) (left : LoopRange T N) → IsKnown reach question limits history asked → length history < limits.rounds →
+    IsOpenNumber reach question limits.size history level → IsBankOf question limits asked level function bank → IsDroppedBy number function bank left → Leaves number reach question limits history left
+dropped_leaves number reach question limits history asked level function bank (Checked bodies assignment) known room opened of by = absurd by
+dropped_leaves number reach question limits history asked level function bank (Member other term tuple) known room opened of by =
+    let leaves = member_leaves reach question limits history asked level function bank by.0 (vals_of number tuple) known room opened of by.1 by.4 in
+    subst (λ f. MemberLeaves reach question limits.size limits.rounds history f (expr_of number term) (vals_of number tuple)) (sym by.2)
+    (subst (λ t. MemberLeaves reach question limits.size limits.rounds history function t (vals_of number tuple)) (sym by.3) leaves)
 
 -- what a bank dropped
 pub dropped_by : {T N : Type 0} (number : N → Val) (function : ℕ) (bank : Bank T N) (points : List (List (Value N))) (dropped : Dropped T N) (tuple copy : List (Value N)) (term : Term T N) → map (vals_of number) points ≡ (merged_of number bank).points → Some (lost_of number dropped) ≡ (merged_of number bank).dropped →

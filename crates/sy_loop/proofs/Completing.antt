@@ -1,5 +1,5 @@
 -- Rounds at ascending sizes: what they have done, and what follows at the greatest size.
-use Rattle.std.proofs.Common.{◌≡◌, ◌+◌, refl, sym, subst, ◌∙◌, ℕ, suc, true, true≢false, List, [], ◌∷◌, arith, slice_get, Option, Some, None}
+use Rattle.std.proofs.Common.{◌≡◌, ◌≤◌, ◌+◌, refl, sym, subst, ◌∙◌, ℕ, suc, true, true≢false, List, [], ◌∷◌, arith, slice_get, Option, Some, None}
 use Rattle.std.specs.Prelude.{IfSome}
 use Rattle.std.specs.List.{Contains}
 use Rattle.std.proofs.lemmas.List.Elements.{All-contains}
@@ -9,13 +9,15 @@ use Rattle.sy_query_limits.specs.declared.Limits.{Limits}
 use Rattle.sy_points.specs.Asked.{Asked}
 use Rattle.sy_bank_rows.specs.Banks.{Entry, Lost, Merged, IsDropped, kept_at}
 use Rattle.sy_bank_rows.specs.Covering.{Covers, sizes, terms}
-use Rattle.sy_loop_history.specs.Histories.{Counterexample}
-use Rattle.sy_loop_outcome.specs.Unsolved.{NoSolutionWithin}
+use Rattle.sy_loop_bounds.specs.declared.reach.Reach.{Reach}
+use Rattle.sy_loop_bounds.specs.declared.reach.Reach.TheVariants.{Sizes}
+use Rattle.sy_loop_history.specs.Histories.{Counterexample, IsHonest, IsOpenNumber}
+use Rattle.sy_loop_history.specs.Unsolved.{NoSolutionWithin}
 use Rattle.sy_loop_candidate.specs.Known.{IsKnown}
 use Rattle.sy_loop_candidate.proofs.Items.{has_place}
 use Rattle.sy_loop_laws.specs.Agreeing.{AssumptionsAskNothing}
 use Rattle.sy_loop_laws.specs.Merging.{AreChosen, AreCovering}
-use Rattle.sy_loop_laws.specs.Refuting.{AreDoneBelow, AreInRange}
+use Rattle.sy_loop_laws.specs.Refuting.{AreDoneBelow}
 use Rattle.sy_loop_laws.proofs.Done as done
 use Rattle.sy_loop.specs.Banks.{AreBanks, IsBankOf}
 use Rattle.sy_loop.specs.Dropping.{AreWhole}
@@ -59,31 +61,25 @@ module _ (question : Question) (limits : Limits) (history : List Counterexample)
     all = are.all;
   }
 
-  -- where nothing up to their size leaves the range, they dropped nothing
-  none_dropped : AreBanks question limits asked level banks → AreInRange question asked level → (function : ℕ) (bank : Merged) → slice_get banks function ≡ Some bank → bank.dropped ≡ None
-  none_dropped are in_range function bank at = is_none bank.dropped of.is.lost
-    where
-      of : IsBankOf question limits asked level function bank
-      of = are.each function bank at
-
-      is_none : (dropped : Option Lost) → IfSome dropped (IsDropped of.goal.grammar (functions question.definitions) question.pool bank.points bank.upto) → dropped ≡ None
-      is_none None lost = refl
-      is_none (Some lost) is =
-          let fits : computable (functions question.definitions) [] is.is.point lost.term ≡ true =
-          in_range.each function of.goal is.nonterminal is.tree lost.term is.is.point of.at is.derives (omega (arith, is.small, of.is.up)) (subst (λ points. Contains points is.is.point) of.is.over (has_place bank.points lost.point is.is.point is.is.at)) in
-          absurd (true≢false (sym fits ∙ is.is.lost))
-
   sized : AreBanks question limits asked level banks → AreSized banks
   sized are function size place bank entry at found = ((are.each function bank at).is.honest.each 0 size place entry found).0
 
-  -- the size is done
-  pub next_done : AssumptionsAskNothing question → AreBanks question limits asked level banks → AllAreRefuted question history asked [] banks level → AreDoneBelow question history asked level → AreDoneBelow question history asked (level + 1)
-  next_done assumes are refuted below =
-      done.next question history asked level banks assumes (λ in_range. are_covering are (none_dropped are in_range))
-      (λ chosen kept same. refuted.each (terms chosen) (chosen_kept banks chosen level (sized are) kept same)) below
+  none_dropped : AreWhole banks → (function : ℕ) (bank : Merged) → slice_get banks function ≡ Some bank → bank.dropped ≡ None
+  none_dropped whole function bank at = All-contains (λ (b : Merged). b.dropped ≡ None) banks bank whole (has_place banks function bank at)
 
-  -- no bodies of sizes up to this solve the problem
-  pub nothing_within : IsKnown question limits history asked → AreBanks question limits asked level banks → AreWhole banks → AreDoneBelow question history asked (level + 1) → NoSolutionWithin question level
-  nothing_within known are whole below =
-      done.ends question limits.size limits.rounds level history asked banks known.honest
-      (are_covering are (λ function bank at. All-contains (λ (b : Merged). b.dropped ≡ None) banks bank whole (has_place banks function bank at))) below
+  -- the size is done
+  pub next_done : AssumptionsAskNothing question → AreBanks question limits asked level banks → AreWhole banks → AllAreRefuted question history asked [] banks level → AreDoneBelow question history asked level → AreDoneBelow question history asked (level + 1)
+  next_done assumes are whole refuted below =
+      done.next question history asked level banks assumes (are_covering are (none_dropped whole)) (λ chosen kept same. refuted.each (terms chosen) (chosen_kept banks chosen level (sized are) kept same)) below
+
+-- no bodies in bound solve the problem
+pub nothing_within : (reach : Reach) (question : Question) (limits : Limits) (history : List Counterexample) (asked : Asked) → reach ≡ Sizes → IsKnown reach question limits history asked → AreDoneBelow question history asked (limits.size + 1) →
+    NoSolutionWithin reach question limits.size
+nothing_within reach question limits history asked same known below =
+    subst (λ r. NoSolutionWithin r question limits.size) (sym same)
+    (done.ends question limits.size limits.rounds limits.size history asked (subst (λ r. IsHonest r question limits.size limits.rounds history) same known.honest) below)
+
+-- the size is open
+pub level_open : (reach : Reach) (question : Question) (limits : Limits) (history : List Counterexample) (asked : Asked) (level : ℕ) → reach ≡ Sizes → level ≤ limits.size → AreDoneBelow question history asked level → IsOpenNumber reach question limits.size history level
+level_open reach question limits history asked level same small below =
+    subst (λ r. IsOpenNumber r question limits.size history level) (sym same) (done.opens question limits.size level history asked small below)

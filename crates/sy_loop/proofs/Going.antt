@@ -10,9 +10,10 @@ use Rattle.sy_terms.specs.declared.op.Op.{Op}
 use Rattle.sy_grammar_base.specs.Questions.{Question}
 use Rattle.sy_query_limits.specs.declared.FailName.{FailName}
 use Rattle.sy_query_limits.specs.declared.Limits.{Limits}
-use Rattle.sy_query_decide.specs.Asked.{Query}
+use Rattle.sy_query_base.specs.Asked.{Query}
 use Rattle.sy_points.specs.Asked.{Asked}
 use Rattle.sy_points.specs.declared.stored.Stored.{Stored}
+use Rattle.sy_loop_bounds.specs.declared.reach.Reach.{Reach}
 use Rattle.sy_loop_history.specs.Histories.{Counterexample}
 use Rattle.sy_loop_history.specs.Stored.{counterexample_of, history_of}
 use Rattle.sy_loop_candidate.specs.Known.{left}
@@ -21,7 +22,7 @@ use Rattle.sy_loop_candidate.specs.Traces as traces
 use Rattle.sy_loop_candidate.specs.declared.step.Step.{Step}
 use Rattle.sy_loop_candidate.specs.declared.step.Step.TheVariants.{Next, Again}
 use Rattle.sy_loop_candidate.specs.declared.step.Step.TheVariants as steps
-use Rattle.sy_loop_candidate.specs.Trials.{IsRefuted}
+use Rattle.sy_loop_history.specs.Trials.{IsRefuted}
 use Rattle.sy_loop_laws.specs.Refuting.{Grows}
 use Rattle.sy_loop.specs.Levels.{Goes, OnNext}
 
@@ -40,24 +41,24 @@ grown question bodies history history' asked asked' stored grows = record {
   tuples = grows.keeps;
 }
 
-module _ {T P S N : Type 0} (owned : Op → Bool) (number : N → Val) (accepted : Query → P → Type 0) (budget : S → FailName) (shows : Query → Limits → FailName → S → Type 0) (question : Question) (limits : Limits) where
+module _ {T P S N : Type 0} (owned : Op → Bool) (number : N → Val) (accepted : Query → P → Type 0) (budget : S → FailName) (shows : Query → Limits → FailName → S → Type 0) (reach : Reach) (question : Question) (limits : Limits) where
   -- one candidate
-  pub goes_by : (bodies : List Expr) (history history' : List Counterexample) (asked asked' : Asked) (step : Step T P S N) → Steps owned number accepted budget shows question limits bodies history asked history' asked' step → traces.Grows asked asked' →
-      Goes owned number accepted budget shows question limits history asked history' asked' step
+  pub goes_by : (bodies : List Expr) (history history' : List Counterexample) (asked asked' : Asked) (step : Step T P S N) → Steps owned number accepted budget shows reach question limits bodies history asked history' asked' step → traces.Grows asked asked' →
+      Goes owned number accepted budget shows reach question limits history asked history' asked' step
   goes_by bodies history history' asked asked' Next came grows = (came.1, came.2)
-  goes_by bodies history history' asked asked' Again came grows = (came.0, grown question bodies history history' asked asked' came.1 grows)
+  goes_by bodies history history' asked asked' Again came grows = (came.0, grown question bodies history history' asked asked' came.1 grows, came.2)
   goes_by bodies history history' asked asked' (steps.End end) came grows = came.0
 
   -- after others by which nothing changed
-  pub goes_after : (first history history' : List Counterexample) (initial asked asked' : Asked) (step : Step T P S N) → history ≡ first → asked ≡ initial → Goes owned number accepted budget shows question limits history asked history' asked' step →
-      Goes owned number accepted budget shows question limits first initial history' asked' step
+  pub goes_after : (first history history' : List Counterexample) (initial asked asked' : Asked) (step : Step T P S N) → history ≡ first → asked ≡ initial → Goes owned number accepted budget shows reach question limits history asked history' asked' step →
+      Goes owned number accepted budget shows reach question limits first initial history' asked' step
   goes_after first history history' initial asked asked' Next same same' came = (came.0 ∙ same, came.1 ∙ same')
   goes_after first history history' initial asked asked' Again same same' came =
-      (subst (λ h. left limits history' asked' < left limits h initial) same (subst (λ a. left limits history' asked' < left limits history a) same' came.0), subst (λ h. Grows h initial history' asked') same (subst (λ a. Grows history a history' asked') same' came.1))
+      (subst (λ h. left limits history' asked' < left limits h initial) same (subst (λ a. left limits history' asked' < left limits history a) same' came.0), subst (λ h. Grows h initial history' asked') same (subst (λ a. Grows history a history' asked') same' came.1), came.2)
   goes_after first history history' initial asked asked' (steps.End end) same same' came = came
 
   -- where nothing new is learned, it is refuted
-  pub refuted_by : (A : Type 0) (bodies : List Expr) (history history' : List Counterexample) (asked asked' : Asked) (step : Step T P S N) → Steps owned number accepted budget shows question limits bodies history asked history' asked' step →
+  pub refuted_by : (A : Type 0) (bodies : List Expr) (history history' : List Counterexample) (asked asked' : Asked) (step : Step T P S N) → Steps owned number accepted budget shows reach question limits bodies history asked history' asked' step →
       (IsRefuted question history asked bodies → A) → OnNext A step
   refuted_by A bodies history history' asked asked' Next came then = then came.0
   refuted_by A bodies history history' asked asked' Again came then = tt

@@ -12,13 +12,12 @@ use Rattle.sy_grammar_base.specs.Questions.{Question}
 use Rattle.sy_points.specs.Asked.{Asked}
 use Rattle.sy_bank_rows.specs.Banks.{Entry, Merged, kept_at}
 use Rattle.sy_bank_rows.specs.Covering.{terms}
-use Rattle.sy_bank_rows.specs.Stored.{entry_of, entries_of}
+use Rattle.sy_bank_rows.specs.Stored.{entry_of, entries_of, chosen_of}
 use Rattle.sy_bank_rows.specs.declared.kept.Kept.{Kept}
-use Rattle.sy_bank_columns.specs.Chosen.{chosen_of}
 use Rattle.sy_bank.specs.Bank.{merged_of}
 use Rattle.sy_bank.specs.declared.bank.Bank.{Bank}
 use Rattle.sy_loop_history.specs.Histories.{Counterexample}
-use Rattle.sy_loop_candidate.specs.Trials.{IsRefuted}
+use Rattle.sy_loop_history.specs.Trials.{IsRefuted}
 use Rattle.sy_loop.specs.Levels.{AreKept, AllAreRefuted}
 use Rattle.sy_loop.proofs.Choosing.{terms_push, chosen_pushed, next_length, bank_at}
 

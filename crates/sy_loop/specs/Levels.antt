@@ -9,15 +9,16 @@ use Rattle.sy_grammar_base.specs.Trees.{Tree, Derives, tree_size}
 use Rattle.sy_grammar_base.specs.Questions.{Goal, Question}
 use Rattle.sy_query_limits.specs.declared.FailName.{FailName}
 use Rattle.sy_query_limits.specs.declared.Limits.{Limits}
-use Rattle.sy_query_decide.specs.Asked.{Query}
+use Rattle.sy_query_base.specs.Asked.{Query}
 use Rattle.sy_points.specs.Asked.{Asked, of_function}
 use Rattle.sy_bank_rows.specs.Banks.{Entry, Merged, IsHonest, IsKept, kept_at}
 use Rattle.sy_bank_rows.specs.Columns.{HasRow}
 use Rattle.sy_bank_rows.specs.Covering.{terms}
+use Rattle.sy_loop_bounds.specs.declared.reach.Reach.{Reach}
 use Rattle.sy_loop_history.specs.Histories.{Counterexample}
 use Rattle.sy_loop_candidate.specs.Known.{left}
 use Rattle.sy_loop_candidate.specs.Steps.{IsEnd}
-use Rattle.sy_loop_candidate.specs.Trials.{IsRefuted}
+use Rattle.sy_loop_history.specs.Trials.{IsRefuted}
 use Rattle.sy_loop_laws.specs.Refuting.{Grows}
 use Rattle.sy_loop_candidate.specs.declared.step.Step.{Step}
 use Rattle.sy_loop_candidate.specs.declared.step.Step.TheVariants.{Next, Again}
@@ -48,7 +49,7 @@ abbrev pub HaveRows : Scope → Question → Asked → List Entry → Type 0
 HaveRows scope question asked entries =
     (function : ℕ) (entry : Entry) → slice_get entries function ≡ Some entry → HasRow scope (functions question.definitions) (of_function asked function) entry.term entry.row
 
--- kept terms are bodies of the first functions, and their sizes leave this much of the greatest size
+-- kept terms are bodies of the first functions, and their sizes leave this much of the size
 pub record IsBegun (scope : Scope) (question : Question) (asked : Asked) (size : ℕ) (chosen : List Entry) (rest : ℕ) : Type 0 where
   pub total : ℕ
   pub sum : SumTo question.pool question.goals (terms chosen) total
@@ -78,9 +79,9 @@ OnNext fact Again = Unit {0}
 OnNext fact (steps.End end) = Unit {0}
 
 -- what comes of bodies that are tried, by what is known before and after
-abbrev pub Goes : {T P S N : Type 0} → (Op → Bool) → (N → Val) → (Query → P → Type 0) → (S → FailName) → (Query → Limits → FailName → S → Type 0) → Question → Limits → List Counterexample → Asked → List Counterexample → Asked → Step T P S N → Type 0
-Goes owned number accepted budget shows question limits history asked history' asked' Next = (history' ≡ history) × (asked' ≡ asked)
-Goes owned number accepted budget shows question limits history asked history' asked' Again =
-    (left limits history' asked' < left limits history asked) × Grows history asked history' asked'
-Goes owned number accepted budget shows question limits history asked history' asked' (steps.End end) =
-    IsEnd owned number accepted budget shows question limits history' asked' end
+abbrev pub Goes : {T P S N : Type 0} → (Op → Bool) → (N → Val) → (Query → P → Type 0) → (S → FailName) → (Query → Limits → FailName → S → Type 0) → Reach → Question → Limits → List Counterexample → Asked → List Counterexample → Asked → Step T P S N → Type 0
+Goes owned number accepted budget shows reach question limits history asked history' asked' Next = (history' ≡ history) × (asked' ≡ asked)
+Goes owned number accepted budget shows reach question limits history asked history' asked' Again =
+    (left limits history' asked' < left limits history asked) × Grows history asked history' asked' × (length history' < limits.rounds)
+Goes owned number accepted budget shows reach question limits history asked history' asked' (steps.End end) =
+    IsEnd owned number accepted budget shows reach question limits history' asked' end

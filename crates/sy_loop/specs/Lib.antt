@@ -1,4 +1,5 @@
 pub mod Banks
+pub mod Clauses
 pub mod Dropping
 pub mod Levels
 pub mod Rounds

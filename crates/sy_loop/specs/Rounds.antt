@@ -1,21 +1,23 @@
 -- Rounds of a search.
-use Rattle.std.specs.Prelude.{ℕ, Bool, ◌≡◌, ◌⊎◌, ◌+◌, ◌-◌, ◌*◌, ◌<◌, ◌≤◌, List, [], map}
+use Rattle.std.specs.Prelude.{ℕ, Bool, ◌≡◌, ◌⊎◌, ◌+◌, ◌-◌, ◌*◌, ◌<◌, ◌≤◌, List, [], length, map}
 use Rattle.sy_terms.specs.Values.{Val}
 use Rattle.sy_terms.specs.declared.op.Op.{Op}
 use Rattle.sy_grammar_base.specs.Questions.{Question}
 use Rattle.sy_grammar_base.specs.declared.problem.Problem.{Problem}
 use Rattle.sy_query_limits.specs.declared.FailName.{FailName}
 use Rattle.sy_query_limits.specs.declared.Limits.{Limits}
-use Rattle.sy_query_decide.specs.Asked.{Query}
+use Rattle.sy_query_base.specs.Asked.{Query}
 use Rattle.sy_points.specs.Asked.{Asked}
 use Rattle.sy_bank_rows.specs.Banks.{Merged}
 use Rattle.sy_bank.specs.Bank.{merged_of}
+use Rattle.sy_loop_bounds.specs.declared.reach.Reach.{Reach}
 use Rattle.sy_loop_history.specs.Histories.{Counterexample}
 use Rattle.sy_loop_history.specs.Stored.{history_of}
 use Rattle.sy_loop_outcome.specs.Right.{IsRight}
 use Rattle.sy_loop_candidate.specs.Known.{IsKnown, left}
 use Rattle.sy_loop_laws.specs.Refuting.{AreDoneBelow}
 use Rattle.sy_loop.specs.Banks.{AreBanks, AreCarried}
+use Rattle.sy_loop.specs.Dropping.{AreWhole}
 use Rattle.sy_loop.specs.Levels.{AllAreRefuted}
 use Rattle.sy_loop.specs.declared.round.Round.{Round}
 use Rattle.sy_loop.specs.declared.round.Round.TheVariants.{Goes, Ends}
@@ -25,17 +27,19 @@ abbrev pub work : Limits → List Counterexample → Asked → ℕ → ℕ
 work limits history asked level = left limits history asked * (limits.size + 1) + (limits.size - level)
 
 -- the search goes on with less to do, or its outcome is right
-abbrev pub Rounds : {T P S N : Type 0} → (Op → Bool) → (N → Val) → (Query → P → Type 0) → (S → FailName) → (Query → Limits → FailName → S → Type 0) → Question → Limits → List Counterexample → Asked → ℕ → Round T P S N → Type 0
-Rounds owned number accepted budget shows question limits history asked level (Goes known banks next) =
-    IsKnown question limits (history_of number known.stored) known.points × (next ≤ limits.size)
+abbrev pub Rounds : {T P S N : Type 0} → (Op → Bool) → (N → Val) → (Query → P → Type 0) → (S → FailName) → (Query → Limits → FailName → S → Type 0) → Reach → Question → Limits → List Counterexample → Asked → ℕ → Round T P S N → Type 0
+Rounds owned number accepted budget shows reach question limits history asked level (Goes known banks next) =
+    IsKnown reach question limits (history_of number known.stored) known.points × (length known.stored.items < limits.rounds) × (next ≤ limits.size)
     × (work limits (history_of number known.stored) known.points next < work limits history asked level)
-Rounds owned number accepted budget shows question limits history asked level (Ends outcome) =
-    IsRight owned number accepted budget shows question limits outcome
+Rounds owned number accepted budget shows reach question limits history asked level (Ends outcome) =
+    IsRight owned number accepted budget shows reach question limits outcome
 
--- the next size follows, and what is known refutes all bodies of kept terms of the banks whose sizes sum to this one
+-- the next size follows: the banks dropped nothing, and what is known refutes all bodies of kept terms of them whose sizes
+-- sum to this one
 pub record IsDone (question : Question) (limits : Limits) (history : List Counterexample) (asked : Asked) (level : ℕ) (banks : List Merged) (next : ℕ) : Type 0 where
   pub one_more : next ≡ level + 1
   pub are : AreBanks question limits asked level banks
+  pub whole : AreWhole banks
   pub refuted : AllAreRefuted question history asked [] banks level
 
 -- the banks with which the search goes on may be carried on

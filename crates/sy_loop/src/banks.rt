@@ -1,25 +1,24 @@
 // The banks of all functions to be found.
-ghost use Rattle.std.specs.Prelude.{◌≡◌, ◌↔◌, IsTrue, true, Some, length, map, IfOk, IfSome, slice_get};
+ghost use Rattle.std.specs.Prelude.{◌≡◌, ◌↔◌, IsTrue, true, Some, length, map, IfOk, IfSome};
 ghost use Rattle.sy_terms.specs.Denoted.{vals_of};
 ghost use Rattle.sy_terms.specs.Definitions.{DefinitionsFit, scope_of, bodies};
 ghost use Rattle.sy_terms.specs.Meaning.{functions};
 ghost use Rattle.sy_grammar_base.specs.Formed.{is_formed};
 ghost use Rattle.sy_grammar_base.specs.Grown.{syntax_from};
-ghost use Rattle.sy_grammar_base.specs.Questions.{question_of};
-ghost use Rattle.sy_bank_offer.specs.Tasks.{ArePointsOf};
+ghost use Rattle.sy_bank_rows.specs.Rows.{ArePointsOf};
 ghost use Rattle.sy_bank.specs.Answers.{OnBank, IfFull, IsBuilt};
 ghost use Rattle.sy_bank.specs.Bank.{merged_of};
 ghost use Rattle.sy_bank.specs.Promised.{IsBank, IsWhole, IsFull};
-ghost use Rattle.sy_query_build.specs.Problems.{ProblemFits};
-ghost use Rattle.sy_grammar_bodies_laws.specs.Grammars.{GrammarsFit, HasNegation};
-ghost use Rattle.sy_loop_history.specs.Stored.{history_of};
-ghost use Rattle.sy_loop_candidate.specs.Known.{IsKnown};
-ghost use Rattle.sy_loop.specs.Banks.{AreBuilt, IsFullBank, IsCarried, AreCarried, OnBanks};
+ghost use Rattle.sy_loop.specs.Banks.{IsFullBank, OnBanks};
+ghost use Rattle.sy_grammar_base.specs.Fits.{ProblemFits};
+ghost use Rattle.sy_loop_candidate.specs.Clauses.{IsKnownFor};
+ghost use Rattle.sy_loop.specs.Clauses.{AreBuiltFor, AreCarriedFor, IsCarriedFor};
 
 use std::alloc::{AllocError, Global};
 use sy_bank::{Bank, BankEnd, build};
 use sy_bank_rows::Kept;
 use sy_grammar_base::{Problem, Wanted};
+use sy_loop_bounds::Reach;
 use sy_loop_candidate::Known;
 use sy_query_limits::Limits;
 use sy_terms::{Seq, Theory, Values, Want, same_values};
@@ -39,19 +38,18 @@ pub(crate) fn take_banks<T: Theory>(
     alloc: Global,
     problem: &Problem<T>,
     limits: &Limits,
+    reach: Reach,
     functions: u32,
     known: &Known<T>,
     carried: Vec<Bank<T>>,
     level: u32,
 ) -> Result<Banks<T>, Want>
-    requires problem { ProblemFits T.owned T.numeric T.denotes problem.now }
-    requires grammars { GrammarsFit T.owned T.numeric T.denotes problem.now }
-    requires negation { HasNegation T.numeric T.owned }
+    requires problem { ProblemFits T.Theory problem.now }
     requires functions { functions ≡ length problem.now.wanted }
-    requires known { IsKnown (question_of T.denotes problem.now) limits.now (history_of T.denotes known.now.stored) known.now.points }
-    requires carried { AreCarried T.owned T.denotes problem.now limits.now level carried.items }
-    ensures built { IfOk result (AreBuilt T.denotes (question_of T.denotes problem.now) limits.now known.now.points level) }
-    ensures carried { IfOk result (OnBanks (AreCarried T.owned T.denotes problem.now limits.now level)) }
+    requires known { IsKnownFor T.Theory reach problem.now limits.now known.now }
+    requires carried { AreCarriedFor T.Theory problem.now limits.now level carried.items }
+    ensures built { IfOk result (AreBuiltFor T.Theory problem.now limits.now known.now.points level) }
+    ensures carried { IfOk result (OnBanks (AreCarriedFor T.Theory problem.now limits.now level)) }
 {
     let mut rest = carried.into_iter();
     let mut banks = Vec::new(alloc);
@@ -83,10 +81,9 @@ fn take_bank<T: Theory>(
     level: u32,
 ) -> Result<Bank<T>, BankEnd<T>>
     requires definitions { DefinitionsFit T.owned T.denotes problem.now.defs }
-    requires negation { HasNegation T.numeric T.owned }
     requires formed { is_formed T.numeric (scope_of T.owned problem.now.defs) (syntax_from T.denotes wanted.now.grammar) ≡ true }
     requires points { ArePointsOf wanted.now.grammar.args (map (vals_of T.denotes) points.now) }
-    requires carried { IfSome carried (IsCarried T.owned T.denotes problem.now wanted.now limits.now level) }
+    requires carried { IfSome carried (IsCarriedFor T.Theory problem.now wanted.now limits.now level) }
     ensures bank { OnBank T.denotes result (IsBank (syntax_from T.denotes wanted.now.grammar) (functions (bodies T.denotes problem.now.defs)) (vals_of T.denotes problem.now.pool) (map (vals_of T.denotes) points.now) level limits.now.bank) }
     ensures whole { IfOk result (λ bank. IsWhole (syntax_from T.denotes wanted.now.grammar) (functions (bodies T.denotes problem.now.defs)) (vals_of T.denotes problem.now.pool) (merged_of T.denotes bank)) }
     ensures full { IfFull T.denotes result (IsFull (syntax_from T.denotes wanted.now.grammar) (functions (bodies T.denotes problem.now.defs)) (vals_of T.denotes problem.now.pool) limits.now.bank) }

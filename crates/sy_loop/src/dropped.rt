@@ -1,16 +1,15 @@
 // Terms that banks dropped.
-ghost use Rattle.std.specs.Prelude.{◌≡◌, length, map, IfOk, MatchOption, None};
-ghost use Rattle.sy_grammar_base.specs.Questions.{question_of};
+ghost use Rattle.std.specs.Prelude.{◌≡◌, ◌<◌, length, map, IfOk, MatchOption, None};
 ghost use Rattle.sy_bank.specs.Bank.{merged_of};
-ghost use Rattle.sy_loop_history.specs.Stored.{history_of};
-ghost use Rattle.sy_loop_outcome.specs.Right.{Leaves};
-ghost use Rattle.sy_loop_candidate.specs.Known.{IsKnown};
-ghost use Rattle.sy_loop.specs.Banks.{AreBanks};
 ghost use Rattle.sy_loop.specs.Dropping.{AreWhole, IsPlaced, IsDroppedBy};
+ghost use Rattle.sy_loop_candidate.specs.Clauses.{IsKnownFor};
+ghost use Rattle.sy_loop_outcome.specs.Right.{LeavesFor};
+ghost use Rattle.sy_loop.specs.Clauses.{AreBanksFor, IsOpenFor};
 
 use std::alloc::Global;
 use sy_bank::Bank;
 use sy_grammar_base::Problem;
+use sy_loop_bounds::Reach;
 use sy_loop_candidate::Known;
 use sy_loop_outcome::LoopRange;
 use sy_query_limits::Limits;
@@ -21,14 +20,18 @@ pub(crate) fn dropped_term<T: Theory>(
     alloc: Global,
     problem: &Problem<T>,
     limits: &Limits,
+    reach: Reach,
     functions: u32,
     banks: &[Bank<T>],
+    level: u32,
     known: &Known<T>,
 ) -> Result<Option<LoopRange<T>>, Want>
     requires functions { functions ≡ length banks.now }
-    requires banks { AreBanks (question_of T.denotes problem.now) limits.now known.now.points limits.now.size (map (merged_of T.denotes) banks.now) }
-    requires known { IsKnown (question_of T.denotes problem.now) limits.now (history_of T.denotes known.now.stored) known.now.points }
-    ensures { IfOk result (λ found. MatchOption found (AreWhole (map (merged_of T.denotes) banks.now)) (Leaves T.denotes (question_of T.denotes problem.now) limits.now (history_of T.denotes known.now.stored))) }
+    requires banks { AreBanksFor T.Theory problem.now limits.now known.now.points level banks.now }
+    requires room { length known.now.stored.items < limits.now.rounds }
+    requires opened { IsOpenFor T.Theory reach problem.now limits.now known.now level }
+    requires known { IsKnownFor T.Theory reach problem.now limits.now known.now }
+    ensures { IfOk result (λ found. MatchOption found (AreWhole (map (merged_of T.denotes) banks.now)) (LeavesFor T.Theory reach problem.now limits.now known.now.stored)) }
 {
     for function in 0..functions {
         let Some(bank) = banks.get(function as usize) else {

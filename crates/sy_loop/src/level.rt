@@ -1,37 +1,35 @@
 // All bodies of one size together.
 ghost use Rattle.std.specs.Prelude.{◌≡◌, ◌≤◌, ◌<◌, ◌+◌, ◌++◌, ◌∷◌, [], length, map, drop, All, IfOk, OnOk};
-ghost use Rattle.sy_terms.specs.Definitions.{scope_of};
 ghost use Rattle.sy_terms.specs.Denoted.{expr_of};
-ghost use Rattle.sy_grammar_base.specs.Questions.{question_of};
-ghost use Rattle.sy_query_build.specs.Problems.{ProblemFits};
 ghost use Rattle.sy_bank.specs.Bank.{merged_of};
-ghost use Rattle.sy_grammar_bodies_laws.specs.Grammars.{GrammarsFit, HasNegation};
-ghost use Rattle.sy_bank_columns.specs.Chosen.{chosen_of};
-ghost use Rattle.sy_loop_history.specs.Histories.{IsCandidate};
-ghost use Rattle.sy_loop_history.specs.Stored.{history_of};
 ghost use Rattle.sy_bank_rows.specs.Covering.{terms};
-ghost use Rattle.sy_bank_rows.specs.Stored.{entry_of, entries_of};
-ghost use Rattle.sy_loop_candidate.specs.Known.{IsKnown};
-ghost use Rattle.sy_loop_candidate.specs.Steps.{Steps};
+ghost use Rattle.sy_bank_rows.specs.Stored.{entry_of, entries_of, chosen_of};
 ghost use Rattle.sy_loop_candidate.specs.Traces.{Grows};
-ghost use Rattle.sy_loop.specs.Levels.{AreHonest, IsBegun, AreChoices, HaveRows, Goes, OnNext, AllAreRefuted};
+ghost use Rattle.sy_loop.specs.Levels.{OnNext};
+ghost use Rattle.sy_grammar_base.specs.Fits.{ProblemFits};
+ghost use Rattle.sy_loop_candidate.specs.Clauses.{IsKnownFor, StepsFor};
+ghost use Rattle.sy_loop.specs.Clauses.{AreHonestFor, HaveRowsFor, IsBegunFor, AreChoicesFor, AllAreRefutedFor, GoesFor, IsOpenFor, AreWithinFor};
 
 use std::alloc::Global;
 use sy_bank::Bank;
 use sy_bank_rows::Kept;
 use sy_grammar_base::Problem;
+use sy_loop_bounds::Reach;
 use sy_loop_candidate::{Known, Step, try_candidate};
 use sy_loop_refutation::are_refuted;
 use sy_query_decide::Decide;
 use sy_query_limits::Limits;
 use sy_terms::{Bodies, Seq, Theory, Want};
 
-/// What stays the same while bodies are tried: the problem, the limits, and a bank for each function to be found.
+/// What stays the same while bodies are tried: the problem, the limits, which bodies count as candidates, the size that
+/// the bodies' sizes sum to, and a bank for each function to be found.
 #[derive(Drop)]
 struct Task<'a, T: Theory> {
     alloc: Global,
     problem: &'a Problem<T>,
     limits: &'a Limits,
+    reach: Reach,
+    level: u32,
     banks: &'a [Bank<T>],
 }
 
@@ -40,27 +38,27 @@ pub(crate) fn try_level<T: Theory, D: Decide<T>>(
     alloc: Global,
     problem: &Problem<T>,
     limits: &Limits,
+    reach: Reach,
     decide: &mut D,
     banks: &[Bank<T>],
     level: u32,
     known: &mut Known<T>,
 ) -> Result<Step<T, D::Proof, D::Spent>, Want>
-    requires problem { ProblemFits T.owned T.numeric T.denotes problem.now }
-    requires grammars { GrammarsFit T.owned T.numeric T.denotes problem.now }
-    requires negation { HasNegation T.numeric T.owned }
-    requires banks { AreHonest (scope_of T.owned problem.now.defs) (question_of T.denotes problem.now) known.old.points (map (merged_of T.denotes) banks.now) }
-    requires level { level ≤ limits.now.size }
-    requires known { IsKnown (question_of T.denotes problem.now) limits.now (history_of T.denotes known.old.stored) known.old.points }
+    requires problem { ProblemFits T.Theory problem.now }
+    requires banks { AreHonestFor T.Theory problem.now known.old.points banks.now }
+    requires opened { IsOpenFor T.Theory reach problem.now limits.now known.old level }
+    requires known { IsKnownFor T.Theory reach problem.now limits.now known.old }
     requires room { length known.old.stored.items < limits.now.rounds }
-    ensures known { OnOk result (IsKnown (question_of T.denotes problem.now) limits.now (history_of T.denotes known.new.stored) known.new.points) }
-    ensures step { IfOk result (Goes T.owned T.denotes D.accepted D.budget D.shows (question_of T.denotes problem.now) limits.now
-        (history_of T.denotes known.old.stored) known.old.points (history_of T.denotes known.new.stored) known.new.points) }
-    ensures refuted { IfOk result (OnNext (AllAreRefuted (question_of T.denotes problem.now) (history_of T.denotes known.old.stored) known.old.points [] (map (merged_of T.denotes) banks.now) level)) }
+    ensures known { OnOk result (IsKnownFor T.Theory reach problem.now limits.now known.new) }
+    ensures step { IfOk result (GoesFor T.Theory D.Decide reach problem.now limits.now known.old known.new) }
+    ensures refuted { IfOk result (OnNext (AllAreRefutedFor T.Theory problem.now known.old [] (map (merged_of T.denotes) banks.now) level)) }
 {
     let task = Task {
         alloc,
         problem,
         limits,
+        reach,
+        level,
         banks,
     };
     let mut chosen = Vec::with_capacity(alloc, banks.len())?;
@@ -77,19 +75,17 @@ fn try_rest<'a, T: Theory, D: Decide<T>>(
     left: u32,
     known: &mut Known<T>,
 ) -> Result<Step<T, D::Proof, D::Spent>, Want>
-    requires problem { ProblemFits T.owned T.numeric T.denotes task.now.problem.now }
-    requires grammars { GrammarsFit T.owned T.numeric T.denotes task.now.problem.now }
-    requires negation { HasNegation T.numeric T.owned }
-    requires banks { AreHonest (scope_of T.owned task.now.problem.now.defs) (question_of T.denotes task.now.problem.now) known.old.points (map (merged_of T.denotes) task.now.banks.now) }
-    requires begun { IsBegun (scope_of T.owned task.now.problem.now.defs) (question_of T.denotes task.now.problem.now) known.old.points task.now.limits.now.size (chosen_of T.denotes chosen.old.items) left }
+    requires problem { ProblemFits T.Theory task.now.problem.now }
+    requires banks { AreHonestFor T.Theory task.now.problem.now known.old.points task.now.banks.now }
+    requires begun { IsBegunFor T.Theory task.now.problem.now known.old.points task.now.level (chosen_of T.denotes chosen.old.items) left }
     requires few { length chosen.old.items ≤ length task.now.banks.now }
-    requires known { IsKnown (question_of T.denotes task.now.problem.now) task.now.limits.now (history_of T.denotes known.old.stored) known.old.points }
+    requires opened { IsOpenFor T.Theory task.now.reach task.now.problem.now task.now.limits.now known.old task.now.level }
+    requires known { IsKnownFor T.Theory task.now.reach task.now.problem.now task.now.limits.now known.old }
     requires room { length known.old.stored.items < task.now.limits.now.rounds }
     ensures chosen { OnOk result (chosen.new.items ≡ chosen.old.items) }
-    ensures known { OnOk result (IsKnown (question_of T.denotes task.now.problem.now) task.now.limits.now (history_of T.denotes known.new.stored) known.new.points) }
-    ensures step { IfOk result (Goes T.owned T.denotes D.accepted D.budget D.shows (question_of T.denotes task.now.problem.now) task.now.limits.now
-        (history_of T.denotes known.old.stored) known.old.points (history_of T.denotes known.new.stored) known.new.points) }
-    ensures refuted { IfOk result (OnNext (AllAreRefuted (question_of T.denotes task.now.problem.now) (history_of T.denotes known.old.stored) known.old.points (terms (chosen_of T.denotes chosen.old.items))
+    ensures known { OnOk result (IsKnownFor T.Theory task.now.reach task.now.problem.now task.now.limits.now known.new) }
+    ensures step { IfOk result (GoesFor T.Theory D.Decide task.now.reach task.now.problem.now task.now.limits.now known.old known.new) }
+    ensures refuted { IfOk result (OnNext (AllAreRefutedFor T.Theory task.now.problem.now known.old (terms (chosen_of T.denotes chosen.old.items))
         (drop (length chosen.old.items) (map (merged_of T.denotes) task.now.banks.now)) left)) }
 {
     let function = chosen.len();
@@ -128,19 +124,17 @@ fn try_kept<'a, T: Theory, D: Decide<T>>(
     left: u32,
     known: &mut Known<T>,
 ) -> Result<Step<T, D::Proof, D::Spent>, Want>
-    requires problem { ProblemFits T.owned T.numeric T.denotes task.now.problem.now }
-    requires grammars { GrammarsFit T.owned T.numeric T.denotes task.now.problem.now }
-    requires negation { HasNegation T.numeric T.owned }
-    requires banks { AreHonest (scope_of T.owned task.now.problem.now.defs) (question_of T.denotes task.now.problem.now) known.old.points (map (merged_of T.denotes) task.now.banks.now) }
+    requires problem { ProblemFits T.Theory task.now.problem.now }
+    requires banks { AreHonestFor T.Theory task.now.problem.now known.old.points task.now.banks.now }
     requires few { length chosen.old.items < length task.now.banks.now }
-    requires choices { AreChoices (scope_of T.owned task.now.problem.now.defs) (question_of T.denotes task.now.problem.now) known.old.points task.now.limits.now.size (chosen_of T.denotes chosen.old.items) (entries_of T.denotes kept.now) left }
-    requires known { IsKnown (question_of T.denotes task.now.problem.now) task.now.limits.now (history_of T.denotes known.old.stored) known.old.points }
+    requires choices { AreChoicesFor T.Theory task.now.problem.now known.old.points task.now.level (chosen_of T.denotes chosen.old.items) (entries_of T.denotes kept.now) left }
+    requires opened { IsOpenFor T.Theory task.now.reach task.now.problem.now task.now.limits.now known.old task.now.level }
+    requires known { IsKnownFor T.Theory task.now.reach task.now.problem.now task.now.limits.now known.old }
     requires room { length known.old.stored.items < task.now.limits.now.rounds }
     ensures chosen { OnOk result (chosen.new.items ≡ chosen.old.items) }
-    ensures known { OnOk result (IsKnown (question_of T.denotes task.now.problem.now) task.now.limits.now (history_of T.denotes known.new.stored) known.new.points) }
-    ensures step { IfOk result (Goes T.owned T.denotes D.accepted D.budget D.shows (question_of T.denotes task.now.problem.now) task.now.limits.now
-        (history_of T.denotes known.old.stored) known.old.points (history_of T.denotes known.new.stored) known.new.points) }
-    ensures refuted { IfOk result (OnNext (All (λ term. AllAreRefuted (question_of T.denotes task.now.problem.now) (history_of T.denotes known.old.stored) known.old.points (terms (chosen_of T.denotes chosen.old.items ++ entry_of T.denotes term ∷ []))
+    ensures known { OnOk result (IsKnownFor T.Theory task.now.reach task.now.problem.now task.now.limits.now known.new) }
+    ensures step { IfOk result (GoesFor T.Theory D.Decide task.now.reach task.now.problem.now task.now.limits.now known.old known.new) }
+    ensures refuted { IfOk result (OnNext (All (λ term. AllAreRefutedFor T.Theory task.now.problem.now known.old (terms (chosen_of T.denotes chosen.old.items ++ entry_of T.denotes term ∷ []))
         (drop (length chosen.old.items + 1) (map (merged_of T.denotes) task.now.banks.now)) left) kept.now)) }
 {
     for choice in kept {
@@ -164,17 +158,15 @@ fn try_chosen<T: Theory, D: Decide<T>>(
     chosen: &[&Kept<T>],
     known: &mut Known<T>,
 ) -> Result<Step<T, D::Proof, D::Spent>, Want>
-    requires problem { ProblemFits T.owned T.numeric T.denotes task.now.problem.now }
-    requires grammars { GrammarsFit T.owned T.numeric T.denotes task.now.problem.now }
-    requires negation { HasNegation T.numeric T.owned }
-    requires candidate { IsCandidate (question_of T.denotes task.now.problem.now) task.now.limits.now.size (terms (chosen_of T.denotes chosen.now)) }
-    requires rows { HaveRows (scope_of T.owned task.now.problem.now.defs) (question_of T.denotes task.now.problem.now) known.old.points (chosen_of T.denotes chosen.now) }
-    requires known { IsKnown (question_of T.denotes task.now.problem.now) task.now.limits.now (history_of T.denotes known.old.stored) known.old.points }
+    requires problem { ProblemFits T.Theory task.now.problem.now }
+    requires within { AreWithinFor T.Theory task.now.problem.now task.now.level (terms (chosen_of T.denotes chosen.now)) }
+    requires rows { HaveRowsFor T.Theory task.now.problem.now known.old.points (chosen_of T.denotes chosen.now) }
+    requires opened { IsOpenFor T.Theory task.now.reach task.now.problem.now task.now.limits.now known.old task.now.level }
+    requires known { IsKnownFor T.Theory task.now.reach task.now.problem.now task.now.limits.now known.old }
     requires room { length known.old.stored.items < task.now.limits.now.rounds }
-    ensures known { OnOk result (IsKnown (question_of T.denotes task.now.problem.now) task.now.limits.now (history_of T.denotes known.new.stored) known.new.points) }
+    ensures known { OnOk result (IsKnownFor T.Theory task.now.reach task.now.problem.now task.now.limits.now known.new) }
     ensures grows { OnOk result (Grows known.old.points known.new.points) }
-    ensures step { IfOk result (Steps T.owned T.denotes D.accepted D.budget D.shows (question_of T.denotes task.now.problem.now) task.now.limits.now (terms (chosen_of T.denotes chosen.now))
-        (history_of T.denotes known.old.stored) known.old.points (history_of T.denotes known.new.stored) known.new.points) }
+    ensures step { IfOk result (StepsFor T.Theory D.Decide task.now.reach task.now.problem.now task.now.limits.now (terms (chosen_of T.denotes chosen.now)) known.old known.new) }
 {
     let refuted = are_refuted(
         task.alloc,
@@ -187,7 +179,15 @@ fn try_chosen<T: Theory, D: Decide<T>>(
         return Ok(Step::Next);
     }
     let bodies = copied_bodies(task.alloc, chosen)?;
-    let step = try_candidate(task.alloc, task.problem, task.limits, decide, bodies, known)?;
+    let step = try_candidate(
+        task.alloc,
+        task.problem,
+        task.limits,
+        task.reach,
+        decide,
+        bodies,
+        known,
+    )?;
     Ok(step)
 }
 

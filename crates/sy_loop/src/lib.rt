@@ -8,7 +8,5 @@ mod outcome;
 mod round;
 mod search;
 mod sizes;
-#[cfg(test)]
-mod tests;
 
 pub use search::synthesise;

@@ -1,12 +1,11 @@
 // The outcomes of a search that ends.
 ghost use Rattle.std.specs.Prelude.{◌≡◌, IfOk};
-ghost use Rattle.sy_grammar_base.specs.Questions.{question_of};
-ghost use Rattle.sy_loop_history.specs.Stored.{history_of};
-ghost use Rattle.sy_loop_outcome.specs.Right.{IsRight};
-ghost use Rattle.sy_loop_candidate.specs.Steps.{IsEnd};
+ghost use Rattle.sy_loop_candidate.specs.Clauses.{IsEndFor};
+ghost use Rattle.sy_loop_outcome.specs.Right.{IsRightFor};
 
 use std::alloc::Global;
 use sy_grammar_base::Problem;
+use sy_loop_bounds::Reach;
 use sy_loop_candidate::{End, Known};
 use sy_loop_outcome::{FailCause, LoopRange, Outcome};
 use sy_query_decide::Decide;
@@ -18,14 +17,16 @@ pub(crate) fn ended<T: Theory, D: Decide<T>>(
     alloc: Global,
     _problem: &Problem<T>,
     _limits: &Limits,
+    _reach: Reach,
     end: End<T, D::Proof, D::Spent>,
     known: Known<T>,
 ) -> Result<Outcome<T, D::Proof, D::Spent>, Want>
-    requires { IsEnd T.owned T.denotes D.accepted D.budget D.shows (question_of T.denotes _problem.now) _limits.now (history_of T.denotes known.stored) known.points end }
-    ensures { IfOk result (IsRight T.owned T.denotes D.accepted D.budget D.shows (question_of T.denotes _problem.now) _limits.now) }
+    requires { IsEndFor T.Theory D.Decide _reach _problem.now _limits.now known end }
+    ensures { IfOk result (IsRightFor T.Theory D.Decide _reach _problem.now _limits.now) }
 {
     match end {
         End::Found(bodies, proof) => Ok(Outcome::Found(bodies, proof)),
+        End::Rounds => Ok(Outcome::Fail(FailCause::Rounds(known.stored))),
         End::Points(function, bodies, assignment) => {
             let tuples = copied_tuples::<T>(alloc, known.points.of(function))?;
             let cause = FailCause::Points(known.stored, function, bodies, assignment, tuples);

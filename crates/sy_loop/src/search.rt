@@ -1,16 +1,15 @@
 // The search.
 ghost use Rattle.std.specs.Prelude.{IfOk};
-ghost use Rattle.sy_grammar_base.specs.Questions.{question_of};
-ghost use Rattle.sy_query_build.specs.Problems.{ProblemFits};
-ghost use Rattle.sy_grammar_bodies_laws.specs.Grammars.{GrammarsFit, HasNegation};
-ghost use Rattle.sy_loop_outcome.specs.Right.{IsRight};
-ghost use Rattle.sy_loop_laws.specs.Agreeing.{AssumptionsFit};
+ghost use Rattle.sy_grammar_base.specs.Fits.{ProblemFits};
+ghost use Rattle.sy_loop_outcome.specs.Right.{IsRightFor};
+ghost use Rattle.sy_loop_bounds.specs.declared.reach.Reach.TheVariants.{Sizes};
 
 use crate::round::{Round, run_round};
 use std::alloc::{AllocError, Global};
 use sy_grammar_base::Problem;
+use sy_loop_bounds::Reach;
 use sy_loop_candidate::Known;
-use sy_loop_outcome::Outcome;
+use sy_loop_outcome::{FailCause, Outcome};
 use sy_points::{Points, Stored};
 use sy_query_decide::Decide;
 use sy_query_limits::Limits;
@@ -18,18 +17,16 @@ use sy_terms::{Theory, Want};
 
 /// Bodies that solve the problem, with the solver's proof; or why the search ended without them. Sizes ascend from 0 to
 /// the greatest. At each the bodies of kept terms whose sizes sum to it are tried; where something new is learned, the
-/// size begins anew. `Want` comes also where there are more functions to be found than numbers of 32 bits.
+/// size begins anew. The search ends after a size at which a bank dropped a term. `Want` comes also where there are more
+/// functions to be found than numbers of 32 bits.
 pub fn synthesise<T: Theory, D: Decide<T>>(
     alloc: Global,
     problem: &Problem<T>,
     limits: &Limits,
     decide: &mut D,
 ) -> Result<Outcome<T, D::Proof, D::Spent>, Want>
-    requires problem { ProblemFits T.owned T.numeric T.denotes problem.now }
-    requires grammars { GrammarsFit T.owned T.numeric T.denotes problem.now }
-    requires negation { HasNegation T.numeric T.owned }
-    requires assumptions { AssumptionsFit T.owned (question_of T.denotes problem.now) }
-    ensures { IfOk result (IsRight T.owned T.denotes D.accepted D.budget D.shows (question_of T.denotes problem.now) limits.now) }
+    requires problem { ProblemFits T.Theory problem.now }
+    ensures { IfOk result (IsRightFor T.Theory D.Decide Sizes problem.now limits.now) }
 {
     if problem.wanted.len() > u32::MAX as usize {
         return Err(AllocError);
@@ -39,11 +36,22 @@ pub fn synthesise<T: Theory, D: Decide<T>>(
         stored: Stored::new(alloc),
         points: Points::new(alloc, functions, limits.points)?,
     };
+    if limits.rounds == 0 {
+        return Ok(Outcome::Fail(FailCause::Rounds(known.stored)));
+    }
     let mut banks = Vec::new(alloc);
     let mut level = 0;
     'rounds: loop {
         match run_round(
-            alloc, problem, limits, functions, decide, known, banks, level,
+            alloc,
+            problem,
+            limits,
+            Reach::Sizes,
+            functions,
+            decide,
+            known,
+            banks,
+            level,
         )? {
             Round::Goes(more, carried, next) => {
                 known = more;

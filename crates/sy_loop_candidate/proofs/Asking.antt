@@ -1,5 +1,5 @@
 -- What candidates ask at assignments.
-use Rattle.std.proofs.Common.{◌≡◌, ◌<◌, ◌≤◌, ◌+◌, ◌++◌, ⊎_elim, refl, ap, sym, subst, ◌∙◌, ℕ, Bool, false, List, [], ◌∷◌, Some, length, map, take, get_or, arith, append_assoc, slice_get}
+use Rattle.std.proofs.Common.{◌≡◌, ◌<◌, ◌≤◌, ◌+◌, ◌++◌, ⊎_elim, inl, inr, refl, ap, sym, subst, ◌∙◌, ℕ, Bool, false, List, [], ◌∷◌, Some, length, map, take, get_or, arith, append_assoc, slice_get}
 use Rattle.std.specs.List.{All, Contains}
 use Rattle.std.proofs.lemmas.List.{append-nil, take_more, take_all, map_push, length-map}
 use Rattle.std.proofs.lemmas.Option.{slice_get_within, get_or_from_slice_get}
@@ -17,17 +17,19 @@ use Rattle.sy_terms_laws.specs.Tracing.{traced_all}
 use Rattle.sy_terms_laws.specs.Tracing as tracing
 use Rattle.sy_terms_laws.proofs.Asked.{traced_all-append}
 use Rattle.sy_meaning.specs.Calls.{IsCallOf, AsksRightly}
-use Rattle.sy_grammar_base.specs.Questions.{Goal, Question, question_of}
+use Rattle.sy_grammar_base.specs.Questions.{Goal, Question, question_of, signatures}
 use Rattle.sy_grammar_base.specs.Solving.{AreValues}
 use Rattle.sy_grammar_base.specs.declared.problem.Problem.{Problem}
-use Rattle.sy_query_build.specs.Problems.{IsTruth, signatures}
 use Rattle.sy_points.specs.Asked.{Asked}
-use Rattle.sy_loop_history.specs.Histories.{Counterexample, IsCandidate, IsDue, all_asked_by, trace}
-use Rattle.sy_loop_candidate.specs.Truths.{asked_by, wanted_of, OneLeaves}
-use Rattle.sy_loop_candidate.specs.Adding.{IsAsked, Gains, Adds, room}
-use Rattle.sy_loop_candidate.specs.Known.{IsKnown}
-use Rattle.sy_loop_candidate.specs.Traces.{AreCalls, Grows, AsksAt, IsTraced, AreTraced, IsTracedAt, LeavesAt}
-use Rattle.sy_loop_candidate.specs.Trials.{Tries}
+use Rattle.sy_loop_bounds.specs.declared.reach.Reach.{Reach}
+use Rattle.sy_loop_history.specs.Histories.{Counterexample, IsCandidate, all_asked_by, trace}
+use Rattle.sy_loop_history.proofs.Staying.{tried_in_bound}
+use Rattle.sy_loop_history.specs.Truths.{asked_by, OneLeaves}
+use Rattle.sy_loop_history.specs.Adding.{IsAsked, Gains, room}
+use Rattle.sy_loop_candidate.specs.Answers.{Adds}
+use Rattle.sy_loop_candidate.specs.Known.{IsHeld, IsKnown}
+use Rattle.sy_loop_candidate.specs.Traces.{AreCalls, Grows, Widens, IsAskedBy, MeetAll, AsksAt, IsTraced, AreTraced, IsTracedAt, LeavesAt}
+use Rattle.sy_loop_candidate.specs.Answers.{Tries}
 use Rattle.sy_loop_candidate.specs.declared.calls.Adding.{Adding}
 use Rattle.sy_loop_candidate.specs.declared.calls.Adding.TheVariants.{There, New, Full}
 use Rattle.sy_loop_candidate.specs.declared.trial.Trial.{Trial}
@@ -36,6 +38,7 @@ use Rattle.sy_loop_candidate.specs.declared.trial.Trial.TheVariants.{Due, Refute
 use Rattle.sy_loop_candidate.proofs.Traced.{gained_all, gained_only}
 use Rattle.sy_loop_candidate.proofs.Items.{has_place, has_at}
 use Rattle.sy_loop_candidate.proofs.Saying.{asks_are, call_taken, says_leaves, one_leaves}
+use Rattle.sy_grammar_base.specs.Fits.{IsTruth, wanted_of}
 
 -- what all terms of a list ask
 abbrev pub asked_by_all : Question → List Expr → List Val → List Expr → List (ℕ × List Val)
@@ -128,30 +131,70 @@ module _ (question : Question) (limits : Limits) (history : List Counterexample)
   taken_at function tuple at = All-contains (IsCallOf (wanted_of question)) calls (function, tuple) taken at
 
   -- they are of functions to be found
-  pub within_known : (before : Asked) → IsKnown question limits history before → (function : ℕ) (tuple : List Val) → Contains calls (function, tuple) → function < length before.tuples
-  within_known before known function tuple at =
+  pub within_held : (before : Asked) → IsHeld question limits history before → (function : ℕ) (tuple : List Val) → Contains calls (function, tuple) → function < length before.tuples
+  within_held before held function tuple at =
       let it = taken_at function tuple at in
-      omega (arith, slice_get_within (wanted_of question) function it.signature it.at, known.functions, length-map question.goals (λ (goal : Goal). goal.signature))
+      omega (arith, slice_get_within (wanted_of question) function it.signature it.at, held.functions, length-map question.goals (λ (goal : Goal). goal.signature))
 
-  -- what is known after they were added
-  pub known_with : (before after : Asked) (place : ℕ) → slice_get history place ≡ Some c → IsCandidate question limits.size bodies → IsKnown question limits history before → Gains calls before after → IsKnown question limits history after
-  known_with before after place at candidate known gains = record {
-    honest = known.honest;
-    limit = gains.limit ∙ known.limit;
-    functions = gains.functions ∙ known.functions;
-    bounded = gains.bounded known.bounded;
+  -- what is held after they were added
+  pub held_with : (before after : Asked) → IsHeld question limits history before → Gains calls before after → IsHeld question limits history after
+  held_with before after held gains = record {
+    assigned = held.assigned;
+    limit = gains.limit ∙ held.limit;
+    functions = gains.functions ∙ held.functions;
+    bounded = gains.bounded held.bounded;
     taken = λ function tuple is. ⊎_elim
-        (λ (old : IsAsked before function tuple). known.taken function tuple old)
+        (λ (old : IsAsked before function tuple). held.taken function tuple old)
         (λ (new : Contains calls (function, tuple)). taken_at function tuple new)
-        (gains.only function tuple is);
-    met = λ function tuple is. ⊎_elim
-        (λ (old : IsAsked before function tuple). known.met function tuple old)
-        (λ (new : Contains calls (function, tuple)). record { bodies = bodies; candidate = candidate; counterexample = c; stored = has_place history place c at; asks = traced (function, tuple) new })
         (gains.only function tuple is);
   }
 
-pub grows_by : (calls : List (ℕ × List Val)) (before after : Asked) → Gains calls before after → Grows before after
-grows_by calls before after gains = record { keeps = gains.keeps; less = gains.less }
+  pub widened : (before after : Asked) (place : ℕ) → slice_get history place ≡ Some c → Gains calls before after → Widens question history bodies before after
+  widened before after place at gains = record {
+    keeps = gains.keeps;
+    only = λ function tuple is. ⊎_elim
+        (λ (old : IsAsked before function tuple). inl old)
+        (λ (new : Contains calls (function, tuple)). inr (record { counterexample = c; stored = has_place history place c at; asks = traced (function, tuple) new }))
+        (gains.only function tuple is);
+    less = gains.less;
+  }
+
+module _ (question : Question) (history : List Counterexample) (bodies : List Expr) where
+  pub widens_not : (asked : Asked) → Widens question history bodies asked asked
+  widens_not asked = record { keeps = λ function tuple at. at; only = λ function tuple at. inl at; less = omega arith }
+
+  pub widens_then : (before now after : Asked) → Widens question history bodies before now → Widens question history bodies now after → Widens question history bodies before after
+  widens_then before now after first second = record {
+    keeps = λ function tuple at. second.keeps function tuple (first.keeps function tuple at);
+    only = λ function tuple at. ⊎_elim
+        (λ (old : IsAsked now function tuple). first.only function tuple old)
+        (λ (new : IsAskedBy question history bodies function tuple). inr new)
+        (second.only function tuple at);
+    less = omega (arith, first.less, second.less);
+  }
+
+  pub grows_by : (before after : Asked) → Widens question history bodies before after → Grows before after
+  grows_by before after widens = record { keeps = widens.keeps; less = widens.less }
+
+  -- what is known after a candidate asked
+  pub known_wider : (reach : Reach) (limits : Limits) (before after : Asked) → IsCandidate reach question limits.size history bodies → IsKnown reach question limits history before → IsHeld question limits history after →
+      Widens question history bodies before after → IsKnown reach question limits history after
+  known_wider reach limits before after candidate known held widens = record {
+    held = held;
+    honest = known.honest;
+    met = λ function tuple is. ⊎_elim
+        (λ (old : IsAsked before function tuple). known.met function tuple old)
+        (λ (new : IsAskedBy question history bodies function tuple). record {
+          number = candidate.number;
+          number_open = candidate.number_open;
+          bodies = bodies;
+          bound = tried_in_bound reach question limits.size history candidate.number bodies candidate.by;
+          counterexample = new.counterexample;
+          stored = new.stored;
+          asks = new.asks;
+        })
+        (widens.only function tuple is);
+  }
 
 pub grows_not : (asked : Asked) → Grows asked asked
 grows_not asked = record { keeps = λ function tuple at. at; less = omega arith }
@@ -199,19 +242,19 @@ so_far_new before now after trial so_far less = omega (arith, less, so_far_less 
 
 -- the assignments so far
 module _ (question : Question) (history : List Counterexample) (bodies : List Expr) where
-  pub traced_next : (now after : Asked) (place : ℕ) → AreTraced question (take place history) now bodies → Grows now after → IsTracedAt question history after bodies place → AreTraced question (take (place + 1) history) after bodies
-  traced_next now after place traced grows it =
+  pub traced_next : (now after : Asked) (place : ℕ) → AreTraced question (take place history) now bodies → Widens question history bodies now after → IsTracedAt question history after bodies place → AreTraced question (take (place + 1) history) after bodies
+  traced_next now after place traced widens it =
       let P : Counterexample → Type 0 = λ c. IsTraced question after bodies c.assignment in
-      let kept : All P (take place history) = All-weaker (λ (c : Counterexample). IsTraced question now bodies c.assignment) P (λ c was function tuple at. grows.keeps function tuple (was function tuple at)) (take place history) traced in
+      let kept : All P (take place history) = All-weaker (λ (c : Counterexample). IsTraced question now bodies c.assignment) P (λ c was function tuple at. widens.keeps function tuple (was function tuple at)) (take place history) traced in
       let c = it.counterexample in
       rw (take_more history place c (slice_get_within history place c it.at), get_or_from_slice_get history place c c it.at)
       (All-push P (take place history) c kept it.there)
 
-  pub tries_all : (limits : Limits) (before after : Asked) (place : ℕ) (trial : Trial) → length history ≤ place → IsDue question limits.size history bodies → AreTraced question (take place history) after bodies → SoFar before after trial →
-      Tries question limits history bodies before after trial
-  tries_all limits before after place Due done due traced so_far =
-      (due, subst (λ all. AreTraced question all after bodies) (take_all place history done) traced, so_far)
-  tries_all limits before after place Refuted done due traced so_far = absurd so_far
-  tries_all limits before after place Asks done due traced so_far = so_far
-  tries_all limits before after place (trials.Full function at) done due traced so_far = absurd so_far
-  tries_all limits before after place (Leaves at) done due traced so_far = absurd so_far
+  pub tries_all : (before after : Asked) (place : ℕ) (trial : Trial) → length history ≤ place → MeetAll question history bodies → AreTraced question (take place history) after bodies → SoFar before after trial →
+      Tries question history bodies before after trial
+  tries_all before after place Due done meets traced so_far =
+      (meets, subst (λ all. AreTraced question all after bodies) (take_all place history done) traced, so_far)
+  tries_all before after place Refuted done meets traced so_far = absurd so_far
+  tries_all before after place Asks done meets traced so_far = so_far
+  tries_all before after place (trials.Full function at) done meets traced so_far = absurd so_far
+  tries_all before after place (Leaves at) done meets traced so_far = absurd so_far

@@ -11,29 +11,25 @@ use Rattle.sy_terms.specs.declared.sort.Value.{Value}
 use Rattle.sy_terms.specs.declared.term.Term.{Term}
 use Rattle.sy_query_limits.specs.declared.Limits.{Limits}
 use Rattle.sy_grammar_base.specs.Questions.{Question}
-use Rattle.sy_grammar_base.specs.Solving.{AreValues}
 use Rattle.sy_points.specs.Asked.{Asked}
 use Rattle.sy_points.specs.declared.stored.Stored.{Stored}
-use Rattle.sy_loop_history.specs.Histories.{Counterexample, IsCandidate, IsHonest, all_asked_by, trace}
+use Rattle.sy_loop_history.specs.Histories.{Counterexample, all_asked_by, trace}
 use Rattle.sy_loop_history.specs.Stored.{counterexample_of, history_of}
-use Rattle.sy_loop_candidate.specs.Truths.{IsViolated, OneLeaves}
-use Rattle.sy_loop_candidate.specs.Adding.{Gains, Adds}
-use Rattle.sy_loop_candidate.specs.Known.{IsKnown}
-use Rattle.sy_loop_candidate.specs.Traces.{LeavesAt}
-use Rattle.sy_loop_candidate.specs.Trials.{Tries, trial_of}
+use Rattle.sy_loop_history.specs.Truths.{IsViolated, OneLeaves}
+use Rattle.sy_loop_history.specs.Adding.{Gains}
+use Rattle.sy_loop_candidate.specs.Answers.{Adds}
+use Rattle.sy_loop_candidate.specs.Known.{IsHeld}
+use Rattle.sy_loop_candidate.specs.Traces.{LeavesAt, Widens}
+use Rattle.sy_loop_candidate.specs.Answers.{Tries, trial_of}
 use Rattle.sy_loop_candidate.specs.declared.calls.Adding.{Adding}
 use Rattle.sy_loop_candidate.specs.declared.calls.Adding.TheVariants.{There, New, Full}
 use Rattle.sy_loop_candidate.proofs.Traced.{no_element, first_or_later}
 use Rattle.sy_loop_candidate.proofs.Items.{has_place}
-use Rattle.sy_loop_candidate.proofs.Asking.{within_known, known_with}
+use Rattle.sy_loop_candidate.proofs.Asking.{within_held, held_with, widened}
 
 -- the counterexample of this place
 pub place_of : {T N : Type 0} (number : N → Val) (stored : Stored T N) (place : ℕ) (pair : List (Value N) × List (Term T N)) → slice_get stored.items place ≡ Some pair → slice_get (history_of number stored) place ≡ Some (counterexample_of number pair)
 place_of number stored place pair at = slice_get-map (counterexample_of number) stored.items place ∙ ap (option_map (counterexample_of number)) at
-
--- its values are those of the variables
-pub values_at : (question : Question) (size rounds : ℕ) (history : List Counterexample) (place : ℕ) (c : Counterexample) → IsHonest question size rounds history → slice_get history place ≡ Some c → AreValues question.variables c.assignment
-values_at question size rounds history place c honest at = (honest.each place c at).values
 
 -- what a constraint asks, all constraints ask
 asked_of : (definitions : List Expr) (bodies : List Expr) (values : List Val) (terms : List Expr) (term : Expr) (call : ℕ × List Val) → Contains terms term →
@@ -54,17 +50,19 @@ module _ (question : Question) (limits : Limits) (history : List Counterexample)
   traced_at call at = asked_of question.definitions bodies c.assignment question.constraints violated.constraint.term call violated.constraint.of (violated.constraint.is.only call at)
 
   -- the calls are of functions to be found
-  pub calls_within : (before : Asked) → IsKnown question limits history before → (function : ℕ) (tuple : List Val) → Contains calls (function, tuple) → function < length before.tuples
-  calls_within before known function tuple at =
-      within_known question limits history bodies c calls violated.constraint.is.taken traced_at before known function tuple at
+  pub calls_within : (before : Asked) → IsHeld question limits history before → (function : ℕ) (tuple : List Val) → Contains calls (function, tuple) → function < length before.tuples
+  calls_within before held function tuple at =
+      within_held question limits history bodies c calls violated.constraint.is.taken traced_at before held function tuple at
 
-  -- what is known after they were added
-  pub knows : (before after : Asked) (place : ℕ) → slice_get history place ≡ Some c → IsCandidate question limits.size bodies → IsKnown question limits history before → Gains calls before after → IsKnown question limits history after
-  knows before after place at candidate known gains =
-      known_with question limits history bodies c calls violated.constraint.is.taken traced_at before after place at candidate known gains
+  -- what is held after they were added
+  pub holds : (before after : Asked) → IsHeld question limits history before → Gains calls before after → IsHeld question limits history after
+  holds before after held gains = held_with question limits history bodies c calls violated.constraint.is.taken traced_at before after held gains
+
+  pub widens : (before after : Asked) (place : ℕ) → slice_get history place ≡ Some c → Gains calls before after → Widens question history bodies before after
+  widens before after place at gains = widened question limits history bodies c calls violated.constraint.is.taken traced_at before after place at gains
 
   -- what became of the bodies
-  pub tried : (before after : Asked) (place : ℕ) (adding : Adding) → slice_get history place ≡ Some c → Adds calls before after adding → Tries question limits history bodies before after (trial_of adding place)
+  pub tried : (before after : Asked) (place : ℕ) (adding : Adding) → slice_get history place ≡ Some c → Adds calls before after adding → Tries question history bodies before after (trial_of adding place)
   tried before after place There at adds =
       (record { counterexample = c; stored = has_place history place c at; calls = calls; violated = violated; there = adds.0 }, adds.1)
   tried before after place New at adds = adds.1

@@ -3,7 +3,7 @@ use Rattle.std.proofs.Common.{◌≡◌, ◌<◌, ◌≤◌, ◌+◌, ◌++◌, 
 use Rattle.std.specs.List.{All, Contains}
 use Rattle.std.proofs.lemmas.List.{take_more, take_all, map-append, map_push}
 use Rattle.std.proofs.lemmas.Option.{slice_get_within, get_or_from_slice_get}
-use Rattle.std.proofs.lemmas.List.Elements.{All-head, All-tail, All-push}
+use Rattle.std.proofs.lemmas.List.Elements.{All-head, All-tail, All-push, All-get_or}
 use Rattle.sy_loop_candidate.proofs.Traced.{here, there}
 
 pub all_at : {A B : Type 0} (P : B → Type 0) (f : A → B) (xs : List A) (k : ℕ) (x : A) → k < length xs → x ≡ get_or xs k x → All P (map f xs) → P (f x)
@@ -17,6 +17,10 @@ all_more P f xs k x lt at all has =
 
 pub all_done : {A B : Type 0} (P : B → Type 0) (f : A → B) (xs : List A) (k : ℕ) → length xs ≤ k → All P (map f (take k xs)) → All P (map f xs)
 all_done P f xs k le all = rw (take_all k xs le) at all
+
+-- an item of a list that is this one
+pub item_of : {A : Type 0} (P : A → Type 0) (xs ys : List A) (k : ℕ) (x : A) → xs ≡ ys → k < length xs → x ≡ get_or xs k x → All P ys → P x
+item_of P xs ys k x same lt at all = subst P (sym at) (All-get_or P xs k x lt (subst (All P) (sym same) all))
 
 -- an item of the list is one of the mapped list
 pub has_at : {A B : Type 0} (f : A → B) (xs : List A) (k : ℕ) (x : A) → k < length xs → x ≡ get_or xs k x → Contains (map f xs) (f x)

@@ -17,24 +17,25 @@ use Rattle.sy_terms_laws.specs.Evaluation.{BodiesFit, TermFits, FitsWith, Gives,
 use Rattle.sy_terms_laws.specs.Asking.{asks}
 use Rattle.sy_terms_laws.specs.Tracing.{Gains}
 use Rattle.sy_meaning.specs.Calls.{IsCallOf, AsksRightly}
-use Rattle.sy_grammar_base.specs.Questions.{Goal, Question, goal_of, question_of}
+use Rattle.sy_grammar_base.specs.Questions.{Goal, Question, goal_of, question_of, signatures, wanted_signature}
 use Rattle.sy_grammar_base.specs.Solving.{AreValues, IsTrueUnder, Meets}
 use Rattle.sy_grammar_base.specs.declared.problem.Problem.{Problem}
 use Rattle.sy_grammar_base.specs.declared.problem.Wanted.{Wanted}
-use Rattle.sy_query_build.specs.Problems.{IsTruth, signature_of, signatures}
 use Rattle.sy_loop_history.specs.Budgets as budgets
 use Rattle.sy_loop_candidate.specs.declared.truth.Truth as answer
 use Rattle.sy_loop_candidate.specs.declared.truth.Truth.TheVariants.{True, False, Leaves}
-use Rattle.sy_loop_candidate.specs.Truths.{asked_by, wanted_of, IsFalse, IsDecided, Says, IsOneFalse, OneLeaves, SaysOfAll, Judges}
+use Rattle.sy_loop_history.specs.Truths.{asked_by, IsFalse, IsOneFalse, OneLeaves}
+use Rattle.sy_loop_candidate.specs.Answers.{IsDecided, Says, SaysOfAll, Judges}
 use Rattle.sy_loop_candidate.proofs.Traced.{gained_all, gained_only}
+use Rattle.sy_grammar_base.specs.Fits.{IsTruth, wanted_of}
 
 functions_are : {T N : Type 0} (number : N → Val) (defs : List (Def T N)) (terms : List (Term T N)) → wanted_functions number defs terms ≡ map (function_from (functions (bodies number defs))) (map (expr_of number) terms)
 functions_are number defs [] = refl
 functions_are number defs (t ∷ terms) = ap (λ (fs : List Function). function_from (functions (bodies number defs)) (expr_of number t) ∷ fs) (functions_are number defs terms)
 
-signatures_are : {T N : Type 0} (number : N → Val) (wanted : List (Wanted T N)) → map signature_of wanted ≡ map (λ (goal : Goal). goal.signature) (map (goal_of number) wanted)
+signatures_are : {T N : Type 0} (number : N → Val) (wanted : List (Wanted T N)) → map wanted_signature wanted ≡ map (λ (goal : Goal). goal.signature) (map (goal_of number) wanted)
 signatures_are number [] = refl
-signatures_are number (w ∷ wanted) = ap (λ (all : List Signature). signature_of w ∷ all) (signatures_are number wanted)
+signatures_are number (w ∷ wanted) = ap (λ (all : List Signature). wanted_signature w ∷ all) (signatures_are number wanted)
 
 module _ {T N : Type 0} (owned : Op → Bool) (number : N → Val) (problem : Problem T N) (terms : List (Term T N)) (values : List Val) (term : Term T N)
     (fit : BodiesFit owned number problem.defs terms (signatures problem)) (are : AreValues problem.vars values) (truth : IsTruth owned number problem term) where

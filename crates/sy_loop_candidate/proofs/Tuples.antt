@@ -9,7 +9,8 @@ use Rattle.sy_points.specs.Asked as points
 use Rattle.sy_points.specs.Asked.{Asked, of_function, with_tuple}
 use Rattle.sy_points.specs.declared.points.Added.TheVariants as added
 use Rattle.sy_points.proofs.Distinct.{bounded_with}
-use Rattle.sy_loop_candidate.specs.Adding.{IsAsked, room_in, room, Gains, AreAsked, IsFull, Adds}
+use Rattle.sy_loop_history.specs.Adding.{IsAsked, room_in, room, Gains, AreAsked, IsFull}
+use Rattle.sy_loop_candidate.specs.Answers.{Adds}
 use Rattle.sy_loop_candidate.specs.declared.calls.Adding.{Adding}
 use Rattle.sy_loop_candidate.specs.declared.calls.Adding.TheVariants.{There, New, Full}
 use Rattle.sy_loop_candidate.proofs.Items.{has_place}

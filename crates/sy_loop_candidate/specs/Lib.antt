@@ -1,6 +1,5 @@
-pub mod Adding
+pub mod Answers
+pub mod Clauses
 pub mod Known
 pub mod Steps
 pub mod Traces
-pub mod Trials
-pub mod Truths

@@ -9,20 +9,21 @@ use Rattle.sy_terms.specs.declared.sort.Value.{Value}
 use Rattle.sy_grammar_base.specs.Questions.{Question}
 use Rattle.sy_query_limits.specs.declared.FailName.{FailName}
 use Rattle.sy_query_limits.specs.declared.Limits.{Limits}
-use Rattle.sy_query_decide.specs.Asked.{Query}
+use Rattle.sy_query_base.specs.Asked.{Query}
 use Rattle.sy_points.specs.Asked.{Asked, of_function}
 use Rattle.sy_points.specs.declared.stored.Stored.{Stored}
-use Rattle.sy_loop_history.specs.Histories.{Counterexample}
-use Rattle.sy_loop_history.specs.Budgets.{PointsMet, WeightMet, DecideMet, CheckedLeaves}
+use Rattle.sy_loop_bounds.specs.declared.reach.Reach.{Reach}
+use Rattle.sy_loop_history.specs.Histories.{Counterexample, IsCandidate}
+use Rattle.sy_loop_history.specs.Budgets.{RoundsMet, PointsMet, WeightMet, DecideMet, CheckedLeaves}
 use Rattle.sy_loop_history.specs.Solutions.{IsSolution}
 use Rattle.sy_loop_history.specs.Stored.{history_of}
 use Rattle.sy_loop_candidate.specs.Known.{left}
-use Rattle.sy_loop_candidate.specs.Adding.{room}
+use Rattle.sy_loop_history.specs.Adding.{room}
 use Rattle.sy_loop_candidate.specs.Traces.{IsTraced, AreTraced}
-use Rattle.sy_loop_candidate.specs.Trials.{IsRefuted}
-use Rattle.sy_loop_candidate.specs.Truths.{OneLeaves}
+use Rattle.sy_loop_history.specs.Trials.{IsRefuted}
+use Rattle.sy_loop_history.specs.Truths.{OneLeaves}
 use Rattle.sy_loop_candidate.specs.declared.step.End.{End}
-use Rattle.sy_loop_candidate.specs.declared.step.End.TheVariants.{Found, Points, Weight, Decide, Checked}
+use Rattle.sy_loop_candidate.specs.declared.step.End.TheVariants.{Found, Rounds, Points, Weight, Decide, Checked}
 use Rattle.sy_loop_candidate.specs.declared.step.Step.{Step}
 use Rattle.sy_loop_candidate.specs.declared.step.Step.TheVariants.{Next, Again}
 use Rattle.sy_loop_candidate.specs.declared.step.Step.TheVariants as steps
@@ -33,21 +34,24 @@ IsAssignment number stored place values =
     option_map (λ (c : Counterexample). c.assignment) (slice_get (history_of number stored) place) ≡ Some (vals_of number values)
 
 -- what a search knows shows how it ends
-abbrev pub IsEnd : {T P S N : Type 0} → (Op → Bool) → (N → Val) → (Query → P → Type 0) → (S → FailName) → (Query → Limits → FailName → S → Type 0) → Question → Limits → List Counterexample → Asked → End T P S N → Type 0
-IsEnd owned number accepted budget shows question limits history asked (Found bodies proof) = IsSolution accepted question (map (expr_of number) bodies) proof
-IsEnd owned number accepted budget shows question limits history asked (Points function bodies assignment) =
-    PointsMet question limits.size limits.rounds limits.points history function (map (expr_of number) bodies) (vals_of number assignment) (of_function asked function)
+abbrev pub IsEnd : {T P S N : Type 0} → (Op → Bool) → (N → Val) → (Query → P → Type 0) → (S → FailName) → (Query → Limits → FailName → S → Type 0) → Reach → Question → Limits → List Counterexample → Asked → End T P S N → Type 0
+IsEnd owned number accepted budget shows reach question limits history asked (Found bodies proof) =
+    IsSolution accepted question (map (expr_of number) bodies) proof × IsCandidate reach question limits.size history (map (expr_of number) bodies)
+IsEnd owned number accepted budget shows reach question limits history asked Rounds = RoundsMet reach question limits.size limits.rounds history
+IsEnd owned number accepted budget shows reach question limits history asked (Points function bodies assignment) =
+    PointsMet reach question limits.size limits.rounds limits.points history function (map (expr_of number) bodies) (vals_of number assignment) (of_function asked function)
     × (function < length asked.tuples)
-IsEnd owned number accepted budget shows question limits history asked (Weight bodies) =
-    WeightMet owned question limits.size limits.rounds limits.weight history (map (expr_of number) bodies)
-IsEnd owned number accepted budget shows question limits history asked (Decide bodies spent) =
-    DecideMet budget shows question limits history (map (expr_of number) bodies) spent
-IsEnd owned number accepted budget shows question limits history asked (Checked bodies assignment) =
-    CheckedLeaves question limits.size limits.rounds history (map (expr_of number) bodies) (vals_of number assignment)
+IsEnd owned number accepted budget shows reach question limits history asked (Weight bodies) =
+    WeightMet owned reach question limits.size limits.rounds limits.weight history (map (expr_of number) bodies)
+IsEnd owned number accepted budget shows reach question limits history asked (Decide bodies spent) =
+    DecideMet budget shows reach question limits history (map (expr_of number) bodies) spent
+IsEnd owned number accepted budget shows reach question limits history asked (Checked bodies assignment) =
+    CheckedLeaves reach question limits.size limits.rounds history (map (expr_of number) bodies) (vals_of number assignment)
 
 -- where a solver was asked, or would have been, all that the bodies ask at the history's assignments is known
 abbrev pub IsTracedEnd : {T P S N : Type 0} → (N → Val) → Question → List Counterexample → Asked → End T P S N → Type 0
 IsTracedEnd number question history asked (Found bodies proof) = AreTraced question history asked (map (expr_of number) bodies)
+IsTracedEnd number question history asked Rounds = Unit {0}
 IsTracedEnd number question history asked (Points function bodies assignment) = Unit {0}
 IsTracedEnd number question history asked (Weight bodies) = AreTraced question history asked (map (expr_of number) bodies)
 IsTracedEnd number question history asked (Decide bodies spent) = AreTraced question history asked (map (expr_of number) bodies)
@@ -66,13 +70,13 @@ pub record IsStored (question : Question) (bodies : List Expr) (before after : L
   pub followed : IsTracedOrLeaves question asked bodies counterexample.assignment
 
 -- what comes of a candidate, by what is known before and after it
-abbrev pub Steps : {T P S N : Type 0} → (Op → Bool) → (N → Val) → (Query → P → Type 0) → (S → FailName) → (Query → Limits → FailName → S → Type 0) → Question → Limits → List Expr → List Counterexample → Asked → List Counterexample → Asked → Step T P S N → Type 0
-Steps owned number accepted budget shows question limits bodies history asked history' asked' Next =
+abbrev pub Steps : {T P S N : Type 0} → (Op → Bool) → (N → Val) → (Query → P → Type 0) → (S → FailName) → (Query → Limits → FailName → S → Type 0) → Reach → Question → Limits → List Expr → List Counterexample → Asked → List Counterexample → Asked → Step T P S N → Type 0
+Steps owned number accepted budget shows reach question limits bodies history asked history' asked' Next =
     IsRefuted question history asked bodies × (history' ≡ history) × (asked' ≡ asked)
-Steps owned number accepted budget shows question limits bodies history asked history' asked' Again =
-    (left limits history' asked' < left limits history asked) × ((history' ≡ history) ⊎ IsStored question bodies history history' asked')
-Steps owned number accepted budget shows question limits bodies history asked history' asked' (steps.End end) =
-    IsEnd owned number accepted budget shows question limits history' asked' end × IsTracedEnd number question history' asked' end
+Steps owned number accepted budget shows reach question limits bodies history asked history' asked' Again =
+    (left limits history' asked' < left limits history asked) × ((history' ≡ history) ⊎ IsStored question bodies history history' asked') × (length history' < limits.rounds)
+Steps owned number accepted budget shows reach question limits bodies history asked history' asked' (steps.End end) =
+    IsEnd owned number accepted budget shows reach question limits history' asked' end × IsTracedEnd number question history' asked' end
 
 -- the same of the stored bodies of a place, at their assignment
 pub record IsFollowed (question : Question) (history : List Counterexample) (asked : Asked) (place : ℕ) : Type 0 where
@@ -81,8 +85,8 @@ pub record IsFollowed (question : Question) (history : List Counterexample) (ask
   pub followed : IsTracedOrLeaves question asked counterexample.bodies counterexample.assignment
 
 -- what comes of the stored bodies of a place
-abbrev pub Follows : {T P S N : Type 0} → (Op → Bool) → (N → Val) → (Query → P → Type 0) → (S → FailName) → (Query → Limits → FailName → S → Type 0) → Question → Limits → ℕ → List Counterexample → Asked → Asked → Step T P S N → Type 0
-Follows owned number accepted budget shows question limits place history asked asked' Next = ⊥
-Follows owned number accepted budget shows question limits place history asked asked' Again = IsFollowed question history asked' place × (room asked' ≤ room asked)
-Follows owned number accepted budget shows question limits place history asked asked' (steps.End end) =
-    IsEnd owned number accepted budget shows question limits history asked' end × IsTracedEnd number question history asked' end
+abbrev pub Follows : {T P S N : Type 0} → (Op → Bool) → (N → Val) → (Query → P → Type 0) → (S → FailName) → (Query → Limits → FailName → S → Type 0) → Reach → Question → Limits → ℕ → List Counterexample → Asked → Asked → Step T P S N → Type 0
+Follows owned number accepted budget shows reach question limits place history asked asked' Next = ⊥
+Follows owned number accepted budget shows reach question limits place history asked asked' Again = IsFollowed question history asked' place × (room asked' ≤ room asked)
+Follows owned number accepted budget shows reach question limits place history asked asked' (steps.End end) =
+    IsEnd owned number accepted budget shows reach question limits history asked' end × IsTracedEnd number question history asked' end

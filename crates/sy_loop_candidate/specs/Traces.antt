@@ -1,15 +1,17 @@
 -- What candidates ask at assignments.
-use Rattle.std.specs.Prelude.{ℕ, ◌≡◌, ◌<◌, ◌≤◌, ◌++◌, List, Option, Some, None, All, Contains, length, slice_get}
+use Rattle.std.specs.Prelude.{ℕ, ◌≡◌, ◌<◌, ◌≤◌, ◌⊎◌, ◌++◌, List, Option, Some, None, All, Contains, length, slice_get}
 use Rattle.sy_terms.specs.Values.{Val}
 use Rattle.sy_terms.specs.Expr.{Expr}
 use Rattle.sy_grammar_base.specs.Questions.{Question}
+use Rattle.sy_grammar_base.specs.Solving.{Meets}
 use Rattle.sy_meaning.specs.Calls.{IsCallOf}
 use Rattle.sy_points.specs.Asked.{Asked, of_function}
 use Rattle.sy_loop_history.specs.Histories.{Counterexample, trace}
-use Rattle.sy_loop_candidate.specs.Adding.{IsAsked, AreAsked, room}
-use Rattle.sy_loop_candidate.specs.Truths.{wanted_of, OneLeaves}
+use Rattle.sy_loop_history.specs.Adding.{IsAsked, AreAsked, room}
+use Rattle.sy_loop_history.specs.Truths.{OneLeaves}
 use Rattle.sy_loop_candidate.specs.declared.calls.Adding.{Adding}
 use Rattle.sy_loop_candidate.specs.declared.calls.Adding.TheVariants.{There, New, Full}
+use Rattle.sy_grammar_base.specs.Fits.{wanted_of}
 
 -- the calls are those of the bodies' trace at the values, and each is at values that its function takes
 pub record AreCalls (question : Question) (bodies : List Expr) (values : List Val) (calls : List (ℕ × List Val)) : Type 0 where
@@ -22,10 +24,26 @@ abbrev pub Calls : Question → List Expr → List Val → Option (List (ℕ × 
 Calls question bodies values (Some calls) = AreCalls question bodies values calls
 Calls question bodies values None = OneLeaves question bodies values question.constraints
 
+-- at an assignment of the history the bodies ask the function for the tuple
+pub record IsAskedBy (question : Question) (history : List Counterexample) (bodies : List Expr) (function : ℕ) (tuple : List Val) : Type 0 where
+  pub counterexample : Counterexample
+  pub stored : Contains history counterexample
+  pub asks : Contains (trace question bodies counterexample.assignment) (function, tuple)
+
+-- each function has the tuples that it had, and others that the bodies ask for at assignments of the history alone
+pub record Widens (question : Question) (history : List Counterexample) (bodies : List Expr) (before after : Asked) : Type 0 where
+  pub keeps : (function : ℕ) (tuple : List Val) → IsAsked before function tuple → IsAsked after function tuple
+  pub only : (function : ℕ) (tuple : List Val) → IsAsked after function tuple → IsAsked before function tuple ⊎ IsAskedBy question history bodies function tuple
+  pub less : room after ≤ room before
+
 -- each function has the tuples that it had
 pub record Grows (before after : Asked) : Type 0 where
   pub keeps : (function : ℕ) (tuple : List Val) → IsAsked before function tuple → IsAsked after function tuple
   pub less : room after ≤ room before
+
+-- the bodies meet the problem at each assignment of the history
+abbrev pub MeetAll : Question → List Counterexample → List Expr → Type 0
+MeetAll question history bodies = All (λ (c : Counterexample). Meets question bodies c.assignment) history
 
 -- each tuple of the bodies' trace at the values is one of its function's
 abbrev pub IsTraced : Question → Asked → List Expr → List Val → Type 0

@@ -1,15 +1,13 @@
 // What candidates ask at stored assignments.
-ghost use Rattle.std.specs.Prelude.{◌≡◌, ◌<◌, length, map, IfOk, OnOk};
+ghost use Rattle.std.specs.Prelude.{◌<◌, length, map, IfOk, OnOk};
 ghost use Rattle.sy_terms.specs.Denoted.{expr_of, vals_of};
-ghost use Rattle.sy_terms_laws.specs.Evaluation.{BodiesFit};
 ghost use Rattle.sy_grammar_base.specs.Questions.{question_of};
 ghost use Rattle.sy_grammar_base.specs.Solving.{AreValues};
-ghost use Rattle.sy_query_build.specs.Problems.{ProblemFits, signatures};
-ghost use Rattle.sy_loop_history.specs.Histories.{IsCandidate, IsDue};
 ghost use Rattle.sy_loop_history.specs.Stored.{history_of};
-ghost use Rattle.sy_loop_candidate.specs.Known.{IsKnown};
-ghost use Rattle.sy_loop_candidate.specs.Traces.{Calls, Grows, AsksAt};
-ghost use Rattle.sy_loop_candidate.specs.Trials.{Tries};
+ghost use Rattle.sy_loop_candidate.specs.Traces.{Calls, AsksAt};
+ghost use Rattle.sy_loop_candidate.specs.Answers.{Tries};
+ghost use Rattle.sy_grammar_base.specs.Fits.{ProblemFits};
+ghost use Rattle.sy_loop_candidate.specs.Clauses.{FitAsBodies, IsHeldFor, WidensFor, MeetAllFor};
 
 use crate::calls::{Adding, add_calls};
 use crate::trial::Trial;
@@ -29,13 +27,13 @@ pub(crate) fn ask_all<T: Theory>(
     stored: &Stored<T>,
     points: &mut Points<T>,
 ) -> Result<Trial, Want>
-    requires problem { ProblemFits T.owned T.numeric T.denotes problem.now }
-    requires bodies { BodiesFit T.owned T.denotes problem.now.defs bodies.now (signatures problem.now) }
-    requires due { IsDue (question_of T.denotes problem.now) limits.now.size (history_of T.denotes stored.now) (map (expr_of T.denotes) bodies.now) }
-    requires known { IsKnown (question_of T.denotes problem.now) limits.now (history_of T.denotes stored.now) points.old }
-    ensures known { OnOk result (IsKnown (question_of T.denotes problem.now) limits.now (history_of T.denotes stored.now) points.new) }
-    ensures grows { OnOk result (Grows points.old points.new) }
-    ensures answer { IfOk result (Tries (question_of T.denotes problem.now) limits.now (history_of T.denotes stored.now) (map (expr_of T.denotes) bodies.now) points.old points.new) }
+    requires problem { ProblemFits T.Theory problem.now }
+    requires bodies { FitAsBodies T.Theory problem.now bodies.now }
+    requires meets { MeetAllFor T.Theory problem.now stored.now (map (expr_of T.denotes) bodies.now) }
+    requires held { IsHeldFor T.Theory problem.now limits.now stored.now points.old }
+    ensures held { OnOk result (IsHeldFor T.Theory problem.now limits.now stored.now points.new) }
+    ensures widens { OnOk result (WidensFor T.Theory problem.now stored.now (map (expr_of T.denotes) bodies.now) points.old points.new) }
+    ensures answer { IfOk result (Tries (question_of T.denotes problem.now) (history_of T.denotes stored.now) (map (expr_of T.denotes) bodies.now) points.old points.new) }
 {
     let mut trial = Trial::Due;
     for place in 0..stored.len() {
@@ -62,13 +60,12 @@ pub(crate) fn ask_at<T: Theory>(
     place: usize,
     points: &mut Points<T>,
 ) -> Result<Option<Adding>, Want>
-    requires problem { ProblemFits T.owned T.numeric T.denotes problem.now }
-    requires bodies { BodiesFit T.owned T.denotes problem.now.defs bodies.now (signatures problem.now) }
-    requires candidate { IsCandidate (question_of T.denotes problem.now) limits.now.size (map (expr_of T.denotes) bodies.now) }
+    requires problem { ProblemFits T.Theory problem.now }
+    requires bodies { FitAsBodies T.Theory problem.now bodies.now }
     requires place { place < length stored.now.items }
-    requires known { IsKnown (question_of T.denotes problem.now) limits.now (history_of T.denotes stored.now) points.old }
-    ensures known { OnOk result (IsKnown (question_of T.denotes problem.now) limits.now (history_of T.denotes stored.now) points.new) }
-    ensures grows { OnOk result (Grows points.old points.new) }
+    requires held { IsHeldFor T.Theory problem.now limits.now stored.now points.old }
+    ensures held { OnOk result (IsHeldFor T.Theory problem.now limits.now stored.now points.new) }
+    ensures widens { OnOk result (WidensFor T.Theory problem.now stored.now (map (expr_of T.denotes) bodies.now) points.old points.new) }
     ensures answer { IfOk result (AsksAt (question_of T.denotes problem.now) (history_of T.denotes stored.now) (map (expr_of T.denotes) bodies.now) place points.old points.new) }
 {
     let Some((assignment, _)) = stored.get(place) else {
@@ -90,8 +87,8 @@ fn calls_at<T: Theory>(
     bodies: &Bodies<T>,
     values: &[Value<T::Num>],
 ) -> Result<Option<Trace<T>>, Want>
-    requires problem { ProblemFits T.owned T.numeric T.denotes problem.now }
-    requires bodies { BodiesFit T.owned T.denotes problem.now.defs bodies.now (signatures problem.now) }
+    requires problem { ProblemFits T.Theory problem.now }
+    requires bodies { FitAsBodies T.Theory problem.now bodies.now }
     requires values { AreValues problem.now.vars (vals_of T.denotes values.now) }
     ensures { IfOk result (Calls (question_of T.denotes problem.now) (map (expr_of T.denotes) bodies.now) (vals_of T.denotes values.now)) }
 {

@@ -1,6 +1,7 @@
 // The tuples that candidates ask for.
-ghost use Rattle.std.specs.Prelude.{ℕ, ◌≡◌, ◌<◌, length, Contains, IfOk, OnOk};
-ghost use Rattle.sy_loop_candidate.specs.Adding.{Adds, Gains};
+ghost use Rattle.std.specs.Prelude.{ℕ, ◌<◌, length, Contains, IfOk, OnOk};
+ghost use Rattle.sy_loop_history.specs.Adding.{Gains};
+ghost use Rattle.sy_loop_candidate.specs.Answers.{Adds};
 
 use std::alloc::Global;
 use sy_meaning::Trace;

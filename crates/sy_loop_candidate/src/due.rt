@@ -1,14 +1,11 @@
 // Candidates that meet the problem at every stored assignment, where all that they ask is among the points.
 ghost use Rattle.std.specs.Prelude.{◌≡◌, ◌<◌, length, map, IfOk, OnOk, slice_get, Some};
 ghost use Rattle.sy_terms.specs.Denoted.{expr_of};
-ghost use Rattle.sy_terms_laws.specs.Evaluation.{BodiesFit};
 ghost use Rattle.sy_grammar_base.specs.Questions.{question_of};
-ghost use Rattle.sy_query_build.specs.Problems.{ProblemFits, signatures};
-ghost use Rattle.sy_loop_history.specs.Histories.{IsDue};
 ghost use Rattle.sy_loop_history.specs.Stored.{history_of};
-ghost use Rattle.sy_loop_candidate.specs.Known.{IsKnown};
-ghost use Rattle.sy_loop_candidate.specs.Steps.{Steps, Follows};
 ghost use Rattle.sy_loop_candidate.specs.Traces.{AreTraced, Grows};
+ghost use Rattle.sy_grammar_base.specs.Fits.{ProblemFits};
+ghost use Rattle.sy_loop_candidate.specs.Clauses.{FitAsBodies, IsKnownFor, StepsFor, FollowsFor, IsDueFor};
 
 use crate::asks::ask_at;
 use crate::calls::Adding;
@@ -16,31 +13,32 @@ use crate::copies::{assignment_at, copied_bodies};
 use crate::step::{End, Known, Step};
 use std::alloc::Global;
 use sy_grammar_base::Problem;
+use sy_loop_bounds::Reach;
 use sy_query_base::Limits;
 use sy_query_build::{Built, build};
 use sy_query_decide::{Decide, Verdict};
 use sy_terms::{Bodies, Theory, Want};
 
-/// Decides the query of the bodies. An assignment that violates the problem is stored, and what the bodies ask there is
-/// added to the points.
+/// Decides the query of the bodies. An assignment that violates the problem is stored. Where there may be more of them,
+/// what the bodies ask there is added to the points.
 pub(crate) fn decide_due<T: Theory, D: Decide<T>>(
     alloc: Global,
     problem: &Problem<T>,
     limits: &Limits,
+    reach: Reach,
     decide: &mut D,
     bodies: Bodies<T>,
     known: &mut Known<T>,
 ) -> Result<Step<T, D::Proof, D::Spent>, Want>
-    requires problem { ProblemFits T.owned T.numeric T.denotes problem.now }
-    requires bodies { BodiesFit T.owned T.denotes problem.now.defs bodies (signatures problem.now) }
-    requires known { IsKnown (question_of T.denotes problem.now) limits.now (history_of T.denotes known.old.stored) known.old.points }
+    requires problem { ProblemFits T.Theory problem.now }
+    requires bodies { FitAsBodies T.Theory problem.now bodies }
+    requires known { IsKnownFor T.Theory reach problem.now limits.now known.old }
     requires room { length known.old.stored.items < limits.now.rounds }
-    requires due { IsDue (question_of T.denotes problem.now) limits.now.size (history_of T.denotes known.old.stored) (map (expr_of T.denotes) bodies) }
+    requires due { IsDueFor T.Theory reach problem.now limits.now known.old (map (expr_of T.denotes) bodies) }
     requires traced { AreTraced (question_of T.denotes problem.now) (history_of T.denotes known.old.stored) known.old.points (map (expr_of T.denotes) bodies) }
-    ensures known { OnOk result (IsKnown (question_of T.denotes problem.now) limits.now (history_of T.denotes known.new.stored) known.new.points) }
+    ensures known { OnOk result (IsKnownFor T.Theory reach problem.now limits.now known.new) }
     ensures grows { OnOk result (Grows known.old.points known.new.points) }
-    ensures step { IfOk result (Steps T.owned T.denotes D.accepted D.budget D.shows (question_of T.denotes problem.now) limits.now (map (expr_of T.denotes) bodies)
-        (history_of T.denotes known.old.stored) known.old.points (history_of T.denotes known.new.stored) known.new.points) }
+    ensures step { IfOk result (StepsFor T.Theory D.Decide reach problem.now limits.now (map (expr_of T.denotes) bodies) known.old known.new) }
 {
     let query = match build(alloc, problem, &bodies, limits.weight) {
         Ok(query) => query,
@@ -52,7 +50,10 @@ pub(crate) fn decide_due<T: Theory, D: Decide<T>>(
         Verdict::Model(values) => {
             let place = known.stored.len();
             known.stored.push(values, bodies)?;
-            let step = follow::<T, D>(alloc, problem, limits, place, known)?;
+            if known.stored.len() >= limits.rounds as usize {
+                return Ok(Step::End(End::Rounds));
+            }
+            let step = follow::<T, D>(alloc, problem, limits, reach, place, known)?;
             Ok(step)
         }
         Verdict::Spent(spent) => Ok(Step::End(End::Decide(bodies, spent))),
@@ -64,17 +65,19 @@ fn follow<T: Theory, D: Decide<T>>(
     alloc: Global,
     problem: &Problem<T>,
     limits: &Limits,
+    reach: Reach,
     place: usize,
     known: &mut Known<T>,
 ) -> Result<Step<T, D::Proof, D::Spent>, Want>
-    requires problem { ProblemFits T.owned T.numeric T.denotes problem.now }
-    requires bodies { (pair : _) → slice_get known.old.stored.items place ≡ Some pair → BodiesFit T.owned T.denotes problem.now.defs pair.1 (signatures problem.now) }
+    requires problem { ProblemFits T.Theory problem.now }
+    requires bodies { (pair : _) → slice_get known.old.stored.items place ≡ Some pair → FitAsBodies T.Theory problem.now pair.1 }
     requires place { place < length known.old.stored.items }
-    requires known { IsKnown (question_of T.denotes problem.now) limits.now (history_of T.denotes known.old.stored) known.old.points }
+    requires room { length known.old.stored.items < limits.now.rounds }
+    requires known { IsKnownFor T.Theory reach problem.now limits.now known.old }
     ensures stored { OnOk result (known.new.stored ≡ known.old.stored) }
-    ensures known { OnOk result (IsKnown (question_of T.denotes problem.now) limits.now (history_of T.denotes known.new.stored) known.new.points) }
+    ensures known { OnOk result (IsKnownFor T.Theory reach problem.now limits.now known.new) }
     ensures grows { OnOk result (Grows known.old.points known.new.points) }
-    ensures step { IfOk result (Follows T.owned T.denotes D.accepted D.budget D.shows (question_of T.denotes problem.now) limits.now place (history_of T.denotes known.new.stored) known.old.points known.new.points) }
+    ensures step { IfOk result (FollowsFor T.Theory D.Decide reach problem.now limits.now place known.old.points known.new) }
 {
     let Some((_, bodies)) = known.stored.get(place) else {
         unreachable!();

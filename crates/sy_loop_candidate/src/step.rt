@@ -1,20 +1,16 @@
 // One step of a search: what comes of a candidate.
-ghost use Rattle.std.specs.Prelude.{◌≡◌, ◌<◌, length, map, IfOk, OnOk};
+ghost use Rattle.std.specs.Prelude.{◌<◌, length, map, IfOk, OnOk};
 ghost use Rattle.sy_terms.specs.Denoted.{expr_of};
-ghost use Rattle.sy_terms_laws.specs.Evaluation.{BodiesFit};
-ghost use Rattle.sy_grammar_base.specs.Questions.{question_of};
-ghost use Rattle.sy_query_build.specs.Problems.{ProblemFits, signatures};
-ghost use Rattle.sy_loop_history.specs.Histories.{IsCandidate};
-ghost use Rattle.sy_loop_history.specs.Stored.{history_of};
-ghost use Rattle.sy_loop_candidate.specs.Known.{IsKnown};
-ghost use Rattle.sy_loop_candidate.specs.Steps.{Steps};
 ghost use Rattle.sy_loop_candidate.specs.Traces.{Grows};
+ghost use Rattle.sy_grammar_base.specs.Fits.{ProblemFits};
+ghost use Rattle.sy_loop_candidate.specs.Clauses.{FitAsBodies, IsCandidateFor, IsKnownFor, StepsFor};
 
 use crate::copies::assignment_at;
 use crate::due::decide_due;
 use crate::trial::{Trial, try_bodies};
 use std::alloc::Global;
 use sy_grammar_base::Problem;
+use sy_loop_bounds::Reach;
 use sy_points::{Points, Stored};
 use sy_query_base::Limits;
 use sy_query_decide::Decide;
@@ -32,6 +28,8 @@ pub struct Known<T: Theory> {
 pub enum End<T: Theory, P: Drop, S: Drop> {
     /// The bodies solve the problem: the proof of this.
     Found(Bodies<T>, P),
+    /// There are as many assignments as there may be.
+    Rounds,
     /// The function of this number has as many tuples as it may, and the bodies ask for one more at the assignment.
     Points(u32, Bodies<T>, Values<T>),
     /// The bodies' query weighs more than it may.
@@ -54,24 +52,24 @@ pub enum Step<T: Theory, P: Drop, S: Drop> {
 }
 
 /// Tries the bodies at the stored assignments. Where they meet the problem at each of them, and all that they ask there is
-/// among the points, their query is decided.
+/// among the points, their query is decided. `reach` says which bodies count as candidates.
 pub fn try_candidate<T: Theory, D: Decide<T>>(
     alloc: Global,
     problem: &Problem<T>,
     limits: &Limits,
+    reach: Reach,
     decide: &mut D,
     bodies: Bodies<T>,
     known: &mut Known<T>,
 ) -> Result<Step<T, D::Proof, D::Spent>, Want>
-    requires problem { ProblemFits T.owned T.numeric T.denotes problem.now }
-    requires bodies { BodiesFit T.owned T.denotes problem.now.defs bodies (signatures problem.now) }
-    requires candidate { IsCandidate (question_of T.denotes problem.now) limits.now.size (map (expr_of T.denotes) bodies) }
-    requires known { IsKnown (question_of T.denotes problem.now) limits.now (history_of T.denotes known.old.stored) known.old.points }
+    requires problem { ProblemFits T.Theory problem.now }
+    requires bodies { FitAsBodies T.Theory problem.now bodies }
+    requires candidate { IsCandidateFor T.Theory reach problem.now limits.now known.old (map (expr_of T.denotes) bodies) }
+    requires known { IsKnownFor T.Theory reach problem.now limits.now known.old }
     requires room { length known.old.stored.items < limits.now.rounds }
-    ensures known { OnOk result (IsKnown (question_of T.denotes problem.now) limits.now (history_of T.denotes known.new.stored) known.new.points) }
+    ensures known { OnOk result (IsKnownFor T.Theory reach problem.now limits.now known.new) }
     ensures grows { OnOk result (Grows known.old.points known.new.points) }
-    ensures step { IfOk result (Steps T.owned T.denotes D.accepted D.budget D.shows (question_of T.denotes problem.now) limits.now (map (expr_of T.denotes) bodies)
-        (history_of T.denotes known.old.stored) known.old.points (history_of T.denotes known.new.stored) known.new.points) }
+    ensures step { IfOk result (StepsFor T.Theory D.Decide reach problem.now limits.now (map (expr_of T.denotes) bodies) known.old known.new) }
 {
     match try_bodies(
         alloc,
@@ -82,7 +80,7 @@ pub fn try_candidate<T: Theory, D: Decide<T>>(
         &mut known.points,
     )? {
         Trial::Due => {
-            let step = decide_due(alloc, problem, limits, decide, bodies, known)?;
+            let step = decide_due(alloc, problem, limits, reach, decide, bodies, known)?;
             Ok(step)
         }
         Trial::Refuted => Ok(Step::Next),

@@ -1,14 +1,11 @@
 // Candidates at the stored assignments.
 ghost use Rattle.std.specs.Prelude.{◌≡◌, map, IfOk, OnOk};
 ghost use Rattle.sy_terms.specs.Denoted.{expr_of};
-ghost use Rattle.sy_terms_laws.specs.Evaluation.{BodiesFit};
 ghost use Rattle.sy_grammar_base.specs.Questions.{question_of};
-ghost use Rattle.sy_query_build.specs.Problems.{ProblemFits, signatures};
-ghost use Rattle.sy_loop_history.specs.Histories.{IsCandidate};
 ghost use Rattle.sy_loop_history.specs.Stored.{history_of};
-ghost use Rattle.sy_loop_candidate.specs.Known.{IsKnown};
-ghost use Rattle.sy_loop_candidate.specs.Traces.{Grows};
-ghost use Rattle.sy_loop_candidate.specs.Trials.{Tries, trial_of};
+ghost use Rattle.sy_loop_candidate.specs.Answers.{Tries, trial_of};
+ghost use Rattle.sy_grammar_base.specs.Fits.{ProblemFits};
+ghost use Rattle.sy_loop_candidate.specs.Clauses.{FitAsBodies, IsHeldFor, WidensFor};
 
 use crate::asks::ask_all;
 use crate::calls::{Adding, add_calls};
@@ -45,13 +42,12 @@ pub(crate) fn try_bodies<T: Theory>(
     stored: &Stored<T>,
     points: &mut Points<T>,
 ) -> Result<Trial, Want>
-    requires problem { ProblemFits T.owned T.numeric T.denotes problem.now }
-    requires bodies { BodiesFit T.owned T.denotes problem.now.defs bodies.now (signatures problem.now) }
-    requires candidate { IsCandidate (question_of T.denotes problem.now) limits.now.size (map (expr_of T.denotes) bodies.now) }
-    requires known { IsKnown (question_of T.denotes problem.now) limits.now (history_of T.denotes stored.now) points.old }
-    ensures known { OnOk result (IsKnown (question_of T.denotes problem.now) limits.now (history_of T.denotes stored.now) points.new) }
-    ensures grows { OnOk result (Grows points.old points.new) }
-    ensures answer { IfOk result (Tries (question_of T.denotes problem.now) limits.now (history_of T.denotes stored.now) (map (expr_of T.denotes) bodies.now) points.old points.new) }
+    requires problem { ProblemFits T.Theory problem.now }
+    requires bodies { FitAsBodies T.Theory problem.now bodies.now }
+    requires held { IsHeldFor T.Theory problem.now limits.now stored.now points.old }
+    ensures held { OnOk result (IsHeldFor T.Theory problem.now limits.now stored.now points.new) }
+    ensures widens { OnOk result (WidensFor T.Theory problem.now stored.now (map (expr_of T.denotes) bodies.now) points.old points.new) }
+    ensures answer { IfOk result (Tries (question_of T.denotes problem.now) (history_of T.denotes stored.now) (map (expr_of T.denotes) bodies.now) points.old points.new) }
 {
     for place in 0..stored.len() {
         let Some((assignment, _)) = stored.get(place) else {

@@ -2,11 +2,11 @@
 ghost use Rattle.std.specs.Prelude.{◌≡◌, ◌↔◌, IsTrue, true, map, All, IfOk};
 ghost use Rattle.sy_terms.specs.Values as spec;
 ghost use Rattle.sy_terms.specs.Denoted.{val_of, expr_of, vals_of};
-ghost use Rattle.sy_terms_laws.specs.Evaluation.{BodiesFit};
 ghost use Rattle.sy_grammar_base.specs.Questions.{question_of};
 ghost use Rattle.sy_grammar_base.specs.Solving.{AreValues};
-ghost use Rattle.sy_query_build.specs.Problems.{ProblemFits, IsTruth, signatures};
-ghost use Rattle.sy_loop_candidate.specs.Truths.{Says, SaysOfAll, Judges, IsDecided};
+ghost use Rattle.sy_loop_candidate.specs.Answers.{Says, SaysOfAll, Judges, IsDecided};
+ghost use Rattle.sy_grammar_base.specs.Fits.{ProblemFits, IsTruth};
+ghost use Rattle.sy_loop_candidate.specs.Clauses.{FitAsBodies};
 
 use std::alloc::Global;
 use sy_grammar_base::Problem;
@@ -30,8 +30,8 @@ pub(crate) fn judge<T: Theory>(
     bodies: &Bodies<T>,
     values: &[Value<T::Num>],
 ) -> Result<Truth<T>, Want>
-    requires problem { ProblemFits T.owned T.numeric T.denotes problem.now }
-    requires bodies { BodiesFit T.owned T.denotes problem.now.defs bodies.now (signatures problem.now) }
+    requires problem { ProblemFits T.Theory problem.now }
+    requires bodies { FitAsBodies T.Theory problem.now bodies.now }
     requires values { AreValues problem.now.vars (vals_of T.denotes values.now) }
     ensures { IfOk result (Judges (question_of T.denotes problem.now) (map (expr_of T.denotes) bodies.now) (vals_of T.denotes values.now)) }
 {
@@ -64,8 +64,8 @@ fn all_true<T: Theory>(
     values: &[Value<T::Num>],
     terms: &[Term<T>],
 ) -> Result<Truth<T>, Want>
-    requires problem { ProblemFits T.owned T.numeric T.denotes problem.now }
-    requires bodies { BodiesFit T.owned T.denotes problem.now.defs bodies.now (signatures problem.now) }
+    requires problem { ProblemFits T.Theory problem.now }
+    requires bodies { FitAsBodies T.Theory problem.now bodies.now }
     requires values { AreValues problem.now.vars (vals_of T.denotes values.now) }
     requires terms { All (IsTruth T.owned T.denotes problem.now) terms.now }
     ensures { IfOk result (SaysOfAll (question_of T.denotes problem.now) (map (expr_of T.denotes) bodies.now) (vals_of T.denotes values.now) (map (expr_of T.denotes) terms.now)) }
@@ -88,8 +88,8 @@ fn decide_term<T: Theory>(
     values: &[Value<T::Num>],
     term: &Term<T>,
 ) -> Result<Truth<T>, Want>
-    requires problem { ProblemFits T.owned T.numeric T.denotes problem.now }
-    requires bodies { BodiesFit T.owned T.denotes problem.now.defs bodies.now (signatures problem.now) }
+    requires problem { ProblemFits T.Theory problem.now }
+    requires bodies { FitAsBodies T.Theory problem.now bodies.now }
     requires values { AreValues problem.now.vars (vals_of T.denotes values.now) }
     requires term { IsTruth T.owned T.denotes problem.now term.now }
     ensures { IfOk result (Says (question_of T.denotes problem.now) (map (expr_of T.denotes) bodies.now) (vals_of T.denotes values.now) (expr_of T.denotes term.now)) }

@@ -12,7 +12,7 @@ use Rattle.sy_terms.specs.declared.term.Def.{Def}
 use Rattle.sy_meaning_integers.specs.Lia as lia
 use Rattle.sy_terms_laws.specs.Evaluation.{Gives}
 use Rattle.sy_query_base.specs.Weights.{query_scope}
-use Rattle.sy_query_decide.specs.Asked.{Query, Fits}
+use Rattle.sy_query_base.specs.Asked.{Query, Fits}
 
 -- the value that evaluation gives
 pub given : {T : Type 0} (defs : List (Def T ℤ)) (query : Query) (truth : Bool) (value : Val) → defs ≡ [] → query.variables ≡ sorts.Bool ∷ [] → Fits lia.owned lia.numeric query

@@ -1,6 +1,6 @@
 -- The problem fits, and so do the members of its grammar.
 use Rattle.std.specs.Prelude.{ℤ, true, Bool, List, [], ◌∷◌, ◌++◌, ◌≡◌, ◌≤◌, refl, map, Option, Some, None, ℕ}
-use Rattle.std.proofs.Common.{ap, ◌∙◌}
+use Rattle.std.proofs.Common.{ap, arith, inl, ◌∙◌, subst, sym}
 use Rattle.std.proofs.lemmas.List.Elements.{All-nil, All-cons}
 use Rattle.sy_terms.specs.Values.{Val, Whole, Truth}
 use Rattle.sy_terms.specs.Expr.{Constant, Expr, Variable, Apply, Invoke, none, more}
@@ -20,13 +20,13 @@ use Rattle.sy_meaning_integers.specs.Lia as lia
 use Rattle.sy_terms_laws.specs.Evaluation.{BodiesFit}
 use Rattle.sy_grammar_base.specs.Trees.{VariableLeaf, ConstantLeaf, yield_from, tree_size}
 use Rattle.sy_grammar_base.specs.Solving.{AreWithin}
-use Rattle.sy_grammar_base.specs.Questions.{Goal, Question, goal_of, question_of}
+use Rattle.sy_grammar_base.specs.Questions.{Goal, Question, goal_of, question_of, signatures, wanted_signature}
 use Rattle.sy_grammar_base.specs.declared.problem.Problem.{Problem}
 use Rattle.sy_grammar_base.specs.declared.problem.Wanted.{Wanted}
-use Rattle.sy_query_decide.specs.Asked.{is_sort_with}
-use Rattle.sy_query_build.specs.Problems.{ProblemFits, IsTruth, signature_of, signatures}
-use Rattle.sy_loop_history.specs.Histories.{IsCandidate}
+use Rattle.sy_loop_bounds.specs.declared.reach.Reach.TheVariants.{Beyond}
+use Rattle.sy_loop_history.specs.Histories.{Counterexample, IsCandidate}
 use Rattle.sy_loop_candidate_tests.specs.Posed as posed
+use Rattle.sy_grammar_base.specs.Fits.{GoalFits, QuestionFits, with_functions}
 
 -- an operator at two and at three terms
 pub pair-is : {T N : Type 0} (number : N → Val) (operator : Op) (terms : Terms T N) (nothing one : List (Term T N)) (first second : Term T N) → nothing ≡ [] → one ≡ nothing ++ first ∷ [] → terms.items.items ≡ one ++ second ∷ []
@@ -56,17 +56,20 @@ pub negative-fits : (n : ℤ) (term sum most share call one nought nought' : Exp
 unfolding sort_in sorts_in sort_of
 negative-fits n term sum most share call one nought nought' is s sh c m o z z' = rw (is, s, sh, c, m, o, z, z') refl
 
+posed-goal : GoalFits lia.owned lia.numeric [] posed.goal
+posed-goal = record { formed = refl; arguments = refl; start = refl }
+
 module _ {T : Type 0} (problem : Problem T ℤ) (f : Wanted T ℤ) (c : Term T ℤ) (no_wanted : List (Wanted T ℤ)) (no_constraints : List (Term T ℤ)) where
   pub posed-fits : problem.defs ≡ [] → problem.vars ≡ posed.truth → no_wanted ≡ [] → problem.wanted ≡ no_wanted ++ f ∷ [] → goal_of Whole f ≡ posed.goal → problem.assumptions ≡ []
-      → no_constraints ≡ [] → problem.constraints ≡ no_constraints ++ c ∷ [] → posed.IsConstraint (expr_of Whole c) → ProblemFits lia.owned lia.numeric Whole problem
+      → no_constraints ≡ [] → problem.constraints ≡ no_constraints ++ c ∷ [] → posed.IsConstraint (expr_of Whole c) → QuestionFits lia.owned lia.numeric (question_of Whole problem)
   posed-fits defs vars w wanted is assumptions n constraints fits =
-      let signature-is : signature_of f ≡ posed.signature = ap (λ (g : Goal). g.signature) is in
-      let truth : IsTruth lia.owned Whole problem c = rw (defs, vars, wanted, w, signature-is) fits in
+      let signature-is : wanted_signature f ≡ posed.signature = ap (λ (g : Goal). g.signature) is in
       record {
         definitions = rw defs tt;
-        variables = rw vars (All-cons (λ s. is_sort_with lia.numeric s ≡ true) sorts.Bool [] refl (All-nil (λ s. is_sort_with lia.numeric s ≡ true)));
-        assumptions = rw assumptions (All-nil (IsTruth lia.owned Whole problem));
-        constraints = rw (constraints, n) (All-cons (IsTruth lia.owned Whole problem) c [] truth (All-nil (IsTruth lia.owned Whole problem)));
+        variables = rw vars refl;
+        goals = rw (defs, wanted, w) (All-cons (GoalFits lia.owned lia.numeric []) (goal_of Whole f) [] (subst (GoalFits lia.owned lia.numeric []) (sym is) posed-goal) (All-nil (GoalFits lia.owned lia.numeric [])));
+        assumptions = rw assumptions (All-nil (λ term. sort_in (with_functions lia.owned (map signature problem.defs) []) problem.vars term ≡ Some sorts.Bool));
+        constraints = rw (constraints, n, defs, vars, wanted, w, signature-is) (All-cons posed.IsConstraint (expr_of Whole c) [] fits (All-nil posed.IsConstraint));
       }
 
   pub posed-asks : problem.defs ≡ [] → no_wanted ≡ [] → problem.wanted ≡ no_wanted ++ f ∷ [] → goal_of Whole f ≡ posed.goal → problem.pool ≡ [] → posed.AsksForOne (question_of Whole problem)
@@ -88,7 +91,7 @@ member-fits defs takes gives term None d t g b = rw (d, t, g, b) refl
 member-fits defs takes gives term (Some truth) d t g b = rw (d, t, g, b) refl
 
 members-fit : {T : Type 0} (defs : List (Def T ℤ)) (terms : List (Term T ℤ)) (wanted : List (Wanted T ℤ)) (constant : Option Bool) → map signature defs ≡ [] → map (expr_of Whole) terms ≡ posed.body constant ∷ []
-    → map (goal_of Whole) wanted ≡ posed.goal ∷ [] → BodiesFit lia.owned Whole defs terms (map signature_of wanted)
+    → map (goal_of Whole) wanted ≡ posed.goal ∷ [] → BodiesFit lia.owned Whole defs terms (map wanted_signature wanted)
 members-fit {T} defs [] wanted constant d b w = cc
 members-fit {T} defs (x ∷ y ∷ rest) wanted constant d b w = cc
 members-fit {T} defs (term ∷ []) [] constant d b w = cc
@@ -108,5 +111,9 @@ unfolding yield_from tree_size
 member size None within = (VariableLeaf 0 0, refl, within, tt)
 member size (Some truth) within = (ConstantLeaf 1 (Truth truth), refl, within, tt)
 
-pub candidate : (question : Question) (size : ℕ) (terms : List Expr) (constant : Option Bool) → posed.AsksForOne question → terms ≡ posed.body constant ∷ [] → 1 ≤ size → IsCandidate question size terms
-candidate question size terms constant asks are within = rw (asks.pool, asks.goals, are) (member size constant within)
+pub candidate : (question : Question) (size : ℕ) (history : List Counterexample) (terms : List Expr) (constant : Option Bool) → posed.AsksForOne question → terms ≡ posed.body constant ∷ [] → 1 ≤ size → IsCandidate Beyond question size history terms
+candidate question size history terms constant asks are within = record {
+  number = size;
+  number_open = record { within = omega arith; below = tt };
+  by = inl (rw (asks.pool, asks.goals, are) (member size constant within));
+}

@@ -7,8 +7,9 @@ use Rattle.sy_terms.specs.Values.{Val}
 use Rattle.sy_grammar_base.specs.Questions.{Question}
 use Rattle.sy_query_limits.specs.declared.Limits.{Limits}
 use Rattle.sy_points.specs.Asked.{Asked, AreDistinct}
+use Rattle.sy_loop_bounds.specs.declared.reach.Reach.TheVariants.{Beyond}
 use Rattle.sy_loop_history.specs.Histories.{Counterexample}
-use Rattle.sy_loop_candidate.specs.Adding.{IsAsked}
+use Rattle.sy_loop_history.specs.Adding.{IsAsked}
 use Rattle.sy_loop_candidate.specs.Known.{IsKnown}
 use Rattle.sy_loop_candidate_tests.specs.Posed as posed
 
@@ -17,12 +18,15 @@ nothing-asked asked zero tuple none at = let nowhere = rw none at at in absurd (
 nothing-asked asked (suc function) tuple none at = let nowhere = rw none at at in absurd (omega (arith, nowhere.1))
 
 pub nothing-known : (question : Question) (limits : Limits) (history : List Counterexample) (asked : Asked) → posed.AsksForOne question → history ≡ [] → asked.tuples ≡ [] ∷ [] → asked.limit ≡ limits.points
-    → IsKnown question limits history asked
+    → IsKnown Beyond question limits history asked
 nothing-known question limits history asked asks empty none limit = record {
+  held = record {
+    assigned = rw empty (λ place c at. absurd (none-some c at));
+    limit = limit;
+    functions = rw (none, asks.goals) refl;
+    bounded = rw none (All-cons (λ (tuples : List (List Val)). AreDistinct tuples × (length tuples ≤ asked.limit)) [] [] (tt, omega arith) (All-nil (λ (tuples : List (List Val)). AreDistinct tuples × (length tuples ≤ asked.limit))));
+    taken = λ function tuple at. absurd (nothing-asked asked function tuple none at);
+  };
   honest = rw empty (record { few = omega arith; each = λ place c at. absurd (none-some c at) });
-  limit = limit;
-  functions = rw (none, asks.goals) refl;
-  bounded = rw none (All-cons (λ (tuples : List (List Val)). AreDistinct tuples × (length tuples ≤ asked.limit)) [] [] (tt, omega arith) (All-nil (λ (tuples : List (List Val)). AreDistinct tuples × (length tuples ≤ asked.limit))));
-  taken = λ function tuple at. absurd (nothing-asked asked function tuple none at);
   met = λ function tuple at. absurd (nothing-asked asked function tuple none at);
 }

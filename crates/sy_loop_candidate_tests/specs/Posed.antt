@@ -8,7 +8,7 @@ use Rattle.sy_terms.specs.declared.sort.Sort.TheVariants as sorts
 use Rattle.sy_terms.specs.declared.term.Fun.TheVariants.{Wanted}
 use Rattle.sy_meaning_integers.specs.Lia as lia
 use Rattle.sy_grammar_base.specs.Trees.{Syntax, EachConstant, EachVariable}
-use Rattle.sy_grammar_base.specs.Questions.{Goal, Question}
+use Rattle.sy_grammar_base.specs.Questions.{Goal, Question, signatures}
 
 -- one truth value
 abbrev pub truth : List Sort

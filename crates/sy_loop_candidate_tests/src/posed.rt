@@ -4,15 +4,14 @@ ghost use Rattle.sy_terms.specs.Values.{Whole};
 ghost use Rattle.sy_terms.specs.Denoted.{expr_of};
 ghost use Rattle.sy_terms.specs.Expr.{Constant, Variable, Apply, none, more};
 ghost use Rattle.sy_terms.specs.declared.op.Op.TheVariants as ops;
-ghost use Rattle.sy_meaning_integers.specs.Lia as lia;
 ghost use Rattle.sy_grammar_base.specs.Questions.{goal_of, question_of};
-ghost use Rattle.sy_query_build.specs.Problems.{ProblemFits};
 ghost use Rattle.sy_loop_candidate_tests.specs.Posed as posed;
+ghost use Rattle.sy_grammar_base.specs.Fits.{ProblemFits};
 
 use std::alloc::Global;
 use sy_grammar_base::{Grammar, Non, Problem, Rule, Wanted, well_formed};
 use sy_meaning_integers::IntTheory;
-use sy_terms::{Bodies, Fun, Op, Seq, Sort, Term, Terms, Value, Want};
+use sy_terms::{Bodies, Fun, Op, Seq, Sort, Term, Terms, Theory, Value, Want};
 
 /// One truth value.
 fn truth(alloc: Global) -> Result<Seq<Sort>, Want>
@@ -132,7 +131,7 @@ pub(crate) fn posed(
     constraint: Term<IntTheory>,
 ) -> Result<Option<Problem<IntTheory>>, Want>
     requires { posed.IsConstraint (expr_of Whole constraint) }
-    ensures fits { IfOk result (λ found. IfSome found (λ problem. ProblemFits lia.owned lia.numeric Whole problem)) }
+    ensures fits { IfOk result (λ found. IfSome found (ProblemFits ⟦<IntTheory as Theory>⟧)) }
     ensures asks { IfOk result (λ found. IfSome found (λ problem. posed.AsksForOne (question_of Whole problem))) }
 {
     let Some(function) = function(alloc)? else {

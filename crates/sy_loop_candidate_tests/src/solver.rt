@@ -5,7 +5,7 @@ ghost use Rattle.sy_terms.specs.Denoted.{val_of, vals_of, expr_of};
 ghost use Rattle.sy_terms.specs.Meaning.{meaning};
 ghost use Rattle.sy_terms.specs.declared.sort.Sort.TheVariants as sorts;
 ghost use Rattle.sy_meaning_integers.specs.Lia as lia;
-ghost use Rattle.sy_query_decide.specs.Asked.{Fits, query_of};
+ghost use Rattle.sy_query_base.specs.Asked.{Fits, query_of};
 
 use std::alloc::Global;
 use sy_meaning::{Eval, evaluate};
@@ -35,7 +35,7 @@ impl Decide<IntTheory> for Both {
     type Spent = Nothing;
 
     ghost use Rattle.sy_query_limits.specs.declared.FailName.TheVariants.{Nodes};
-    ghost use Rattle.sy_query_decide.specs.Asked.{IsNever};
+    ghost use Rattle.sy_query_base.specs.Asked.{IsNever};
 
     ghost accepted = { λ query _. IsNever query };
 

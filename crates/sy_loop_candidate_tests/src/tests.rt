@@ -1,24 +1,24 @@
 // What comes of candidates for a function of a truth value.
-ghost use Rattle.std.specs.Prelude.{◌≡◌, ◌≤◌, IfOk, OnOk};
+ghost use Rattle.std.specs.Prelude.{◌≤◌, IfOk, OnOk};
 ghost use Rattle.sy_terms.specs.Values.{Whole};
 ghost use Rattle.sy_terms.specs.Denoted.{expr_of};
-ghost use Rattle.sy_meaning_integers.specs.Lia as lia;
 ghost use Rattle.sy_grammar_base.specs.Questions.{question_of};
-ghost use Rattle.sy_query_build.specs.Problems.{ProblemFits};
-ghost use Rattle.sy_loop_history.specs.Stored.{history_of};
-ghost use Rattle.sy_loop_candidate.specs.Known.{IsKnown};
+ghost use Rattle.sy_loop_bounds.specs.declared.reach.Reach.TheVariants.{Beyond};
+ghost use Rattle.sy_loop_candidate.specs.Clauses.{IsKnownFor};
 ghost use Rattle.sy_loop_candidate_tests.specs.Posed.{AsksForOne, IsConstraint};
+ghost use Rattle.sy_grammar_base.specs.Fits.{ProblemFits};
 
 use crate::posed::{bodies, identity, negative, posed};
 use crate::solver::{Both, IsFalse, Nothing};
 use std::alloc::Global;
 use std::test::Fail;
 use sy_grammar_base::Problem;
+use sy_loop_bounds::Reach;
 use sy_loop_candidate::{End, Known, Step, try_candidate};
 use sy_meaning_integers::IntTheory;
 use sy_points::{Points, Stored};
 use sy_query_limits::Limits;
-use sy_terms::{Term, Want};
+use sy_terms::{Term, Theory, Want};
 
 /// What came of a candidate.
 #[derive(Clone, Copy, Debug, PartialEq, Eq)]
@@ -26,6 +26,7 @@ enum Came {
     Next,
     Again,
     Found,
+    Rounds,
     Points,
     Weight,
     Decide,
@@ -38,6 +39,7 @@ fn came_of(step: &Step<IntTheory, IsFalse, Nothing>) -> Came {
         Step::Next => Came::Next,
         Step::Again => Came::Again,
         Step::End(End::Found(_, _)) => Came::Found,
+        Step::End(End::Rounds) => Came::Rounds,
         Step::End(End::Points(_, _, _)) => Came::Points,
         Step::End(End::Weight(_)) => Came::Weight,
         Step::End(End::Decide(_, _)) => Came::Decide,
@@ -64,14 +66,15 @@ fn nothing_known(
     limits: &Limits,
 ) -> Result<Known<IntTheory>, Want>
     requires { AsksForOne (question_of Whole problem.now) }
-    ensures { IfOk result (λ known. IsKnown (question_of Whole problem.now) limits.now (history_of Whole known.stored) known.points) }
+    ensures { IfOk result (IsKnownFor ⟦<IntTheory as Theory>⟧ Beyond problem.now limits.now) }
 {
     let stored = Stored::new(alloc);
     let points = Points::new(alloc, 1, limits.points)?;
     Ok(Known { stored, points })
 }
 
-/// What comes of the constant, or of the argument where there is none; `None` where no round is left.
+/// What comes of the constant, or of the argument where there is none, whether or not its size is open; `None` where no
+/// round is left.
 fn tried(
     alloc: Global,
     problem: &Problem<IntTheory>,
@@ -80,17 +83,17 @@ fn tried(
     constant: Option<bool>,
     known: &mut Known<IntTheory>,
 ) -> Result<Option<Came>, Want>
-    requires fits { ProblemFits lia.owned lia.numeric Whole problem.now }
+    requires fits { ProblemFits ⟦<IntTheory as Theory>⟧ problem.now }
     requires asks { AsksForOne (question_of Whole problem.now) }
     requires size { 1 ≤ limits.now.size }
-    requires known { IsKnown (question_of Whole problem.now) limits.now (history_of Whole known.old.stored) known.old.points }
-    ensures known { OnOk result (IsKnown (question_of Whole problem.now) limits.now (history_of Whole known.new.stored) known.new.points) }
+    requires known { IsKnownFor ⟦<IntTheory as Theory>⟧ Beyond problem.now limits.now known.old }
+    ensures known { OnOk result (IsKnownFor ⟦<IntTheory as Theory>⟧ Beyond problem.now limits.now known.new) }
 {
     if known.stored.len() >= limits.rounds as usize {
         return Ok(None);
     }
     let bodies = bodies(alloc, constant)?;
-    let step = try_candidate(alloc, problem, limits, solver, bodies, known)?;
+    let step = try_candidate(alloc, problem, limits, Reach::Beyond, solver, bodies, known)?;
     Ok(Some(came_of(&step)))
 }
 
@@ -173,6 +176,14 @@ fn budgets_end_the_search(rt: HostRuntime) -> Result<(), Fail> {
         &[Some(true), Some(false)],
     )?;
     assert_eq!(rt; asking, Some((Came::Points, 2)));
+    // the number of rounds is reached before what the bodies ask is looked at
+    let one_round = Limits {
+        rounds: 1,
+        points: 0,
+        ..AMPLE
+    };
+    let last = last_of(alloc, identity(alloc)?, &one_round, 9, &[Some(true)])?;
+    assert_eq!(rt; last, Some((Came::Rounds, 1)));
     let light = Limits { weight: 1, ..AMPLE };
     let heavy = last_of(alloc, identity(alloc)?, &light, 9, &[None])?;
     assert_eq!(rt; heavy, Some((Came::Weight, 0)));

@@ -1,4 +1,9 @@
-pub mod Histories
+pub mod Adding
 pub mod Budgets
+pub mod Histories
+pub mod Sizes
 pub mod Solutions
 pub mod Stored
+pub mod Trials
+pub mod Truths
+pub mod Unsolved

@@ -3,7 +3,7 @@ use Rattle.std.specs.Prelude.{List}
 use Rattle.sy_terms.specs.Expr.{Expr}
 use Rattle.sy_grammar_base.specs.Questions.{Question}
 use Rattle.sy_grammar_base.specs.Solving.{AreMembers, Solves}
-use Rattle.sy_query_decide.specs.Asked.{Query}
+use Rattle.sy_query_base.specs.Asked.{Query}
 use Rattle.sy_query_build.specs.Violating.{violating}
 
 -- the bodies are members of their grammars and solve the problem together, and the proof is accepted for their query

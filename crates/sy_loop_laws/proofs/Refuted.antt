@@ -17,15 +17,18 @@ use Rattle.sy_query_base.specs.Queries.{Violates}
 use Rattle.sy_points.specs.Asked.{Asked}
 use Rattle.sy_bank_rows.specs.Banks.{Entry, Merged}
 use Rattle.sy_bank_rows.specs.Covering.{sizes, terms}
-use Rattle.sy_loop_history.specs.Histories.{Counterexample, IsHonest}
-use Rattle.sy_loop_outcome.specs.Sizes.{SumTo, AreAtMost}
-use Rattle.sy_loop_outcome.specs.Unsolved.{NoSolution, NoSolutionWithin}
-use Rattle.sy_loop_candidate.specs.Adding.{AreAsked}
-use Rattle.sy_loop_candidate.specs.Truths.{asked_by, IsFalse, IsViolated}
-use Rattle.sy_loop_candidate.specs.Trials.{IsRefuted}
+use Rattle.sy_loop_bounds.specs.declared.reach.Reach.{Reach}
+use Rattle.sy_loop_bounds.specs.declared.reach.Reach.TheVariants.{Sizes}
+use Rattle.sy_loop_history.specs.Histories.{AllViolate, Counterexample, IsHonest, IsViolatedIn}
+use Rattle.sy_loop_history.proofs.Staying.{in_bound}
+use Rattle.sy_loop_history.specs.Sizes.{SumTo, AreAtMost}
+use Rattle.sy_loop_history.specs.Unsolved.{NoSolution, NoSolutionWithin}
+use Rattle.sy_loop_history.specs.Adding.{AreAsked}
+use Rattle.sy_loop_history.specs.Truths.{asked_by, IsFalse, IsViolated}
+use Rattle.sy_loop_history.specs.Trials.{IsRefuted}
 use Rattle.sy_loop_laws.specs.Agreeing.{Agree, AssumptionsFit, AssumptionsAskNothing}
 use Rattle.sy_loop_laws.specs.Merging.{AreCovering, AreChosen, AreMerged}
-use Rattle.sy_loop_laws.specs.Refuting.{AllRefuted, IsViolatedIn, AllViolate, Grows}
+use Rattle.sy_loop_laws.specs.Refuting.{AllRefuted, Grows}
 use Rattle.sy_loop_laws.proofs.Same.{SameAt, Stands, stands, same_called}
 use Rattle.sy_loop_laws.proofs.Covered.{are_merged}
 
@@ -133,20 +136,20 @@ stays_refuted question history history' asked asked' bodies grows refuted = reco
   there = λ function tuple of. grows.tuples function tuple (refuted.there function tuple of);
 }
 
-pub all_violate : (question : Question) (history : List Counterexample) (asked : Asked) (n : ℕ) → AllRefuted question history asked n → AllViolate question history n
+pub all_violate : (question : Question) (history : List Counterexample) (asked : Asked) (n : ℕ) → AllRefuted question history asked n → AllViolate Sizes question history n
 all_violate question history asked n all bodies candidate = violated_in question history asked bodies (all bodies candidate)
 
 -- the assignments of an honest history are values of the variables
-assigned : (question : Question) (size rounds : ℕ) (history : List Counterexample) (c : Counterexample) → IsHonest question size rounds history → Contains history c → AreValues question.variables c.assignment
-assigned question size rounds history c honest of = let at = place_of history c of in (honest.each at.0 c at.1).values
+assigned : (reach : Reach) (question : Question) (size rounds : ℕ) (history : List Counterexample) (c : Counterexample) → IsHonest reach question size rounds history → Contains history c → AreValues question.variables c.assignment
+assigned reach question size rounds history c honest of = let at = place_of history c of in (honest.each at.0 c at.1).values
   where
     place_of : {X : Type 0} (xs : List X) (x : X) → Contains xs x → (place : ℕ) × (slice_get xs place ≡ Some x)
     place_of xs x of = (of.0, slice_get-get_or xs of.0 x of.1 ∙ ap Some of.2)
 
-pub no_solution_within : (question : Question) (size rounds n : ℕ) (history : List Counterexample) → IsHonest question size rounds history → AllViolate question history n → NoSolutionWithin question n
-no_solution_within question size rounds n history honest all bodies candidate solves =
-    let at = all bodies candidate in
-    at.violates.1 (solves at.counterexample.assignment (assigned question size rounds history at.counterexample honest at.stored) at.violates.0)
+pub no_solution_within : (reach : Reach) (question : Question) (size rounds n : ℕ) (history : List Counterexample) → IsHonest reach question size rounds history → AllViolate reach question history n → NoSolutionWithin reach question n
+no_solution_within reach question size rounds n history honest all bodies bound solves =
+    let at = all bodies bound in
+    at.violates.1 (solves at.counterexample.assignment (assigned reach question size rounds history at.counterexample honest at.stored) at.violates.0)
 
 -- assumptions that fit where no function is to be found ask for none
 pub assumes_nothing : (owned : Op → Bool) (question : Question) →
@@ -166,5 +169,6 @@ members_within pool (goal ∷ goals) (body ∷ bodies) total n sum small members
     let split = sum.4 in
     (members.0.tree, members.0.derives, omega (arith, less, split, small), members_within pool goals bodies sum.1 (n - size) sum.3 (omega (arith, less, split, small)) members.1)
 
-pub no_solution : (question : Question) (n : ℕ) → AreAtMost question n → NoSolutionWithin question n → NoSolution question
-no_solution question n most none bodies members solves = none bodies (members_within question.pool question.goals bodies most.0 n most.1 most.2 members) solves
+pub no_solution : (reach : Reach) (question : Question) (n : ℕ) → AreAtMost question n → NoSolutionWithin reach question n → NoSolution question
+no_solution reach question n most none bodies members solves =
+    none bodies (in_bound reach question n bodies (members_within question.pool question.goals bodies most.0 n most.1 most.2 members)) solves

@@ -8,8 +8,8 @@ use Rattle.sy_terms.specs.declared.sort.Sort.TheVariants as sorts
 use Rattle.sy_terms.specs.Meaning.{functions, meaning, computable}
 use Rattle.sy_grammar_base.specs.Questions.{Question}
 use Rattle.sy_points.specs.Asked.{Asked}
-use Rattle.sy_loop_candidate.specs.Adding.{IsAsked}
-use Rattle.sy_loop_candidate.specs.Truths.{asked_by}
+use Rattle.sy_loop_history.specs.Adding.{IsAsked}
+use Rattle.sy_loop_history.specs.Truths.{asked_by}
 
 -- as many bodies, and the two of each function have the same value at each of its tuples
 pub record Agree (question : Question) (asked : Asked) (bodies others : List Expr) : Type 0 where

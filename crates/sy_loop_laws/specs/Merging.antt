@@ -3,10 +3,10 @@ use Rattle.std.specs.Prelude.{ℕ, ◌≡◌, ◌≤◌, List, [], ◌∷◌, le
 use Rattle.sy_terms.specs.Expr.{Expr}
 use Rattle.sy_terms.specs.Meaning.{functions}
 use Rattle.sy_grammar_base.specs.Questions.{Goal, Question}
+use Rattle.sy_grammar_base.specs.Solving.{AreWithin}
 use Rattle.sy_points.specs.Asked.{Asked, of_function}
 use Rattle.sy_bank_rows.specs.Banks.{Entry, Merged, IsKept, IsHonest}
 use Rattle.sy_bank_rows.specs.Covering.{Covers, sizes, terms}
-use Rattle.sy_loop_history.specs.Histories.{IsCandidate}
 use Rattle.sy_loop_laws.specs.Agreeing.{Agree, AreComputable}
 
 -- an honest bank of the function's grammar, over the function's tuples, which covers all derivations of sizes up to n
@@ -36,7 +36,7 @@ pub record AreMerged (question : Question) (asked : Asked) (n : ℕ) (banks : Li
   pub chosen : List Entry
   pub kept : AreChosen banks chosen
   pub small : sizes chosen ≤ n
-  pub members : IsCandidate question (sizes chosen) (terms chosen)
+  pub members : AreWithin question.pool (sizes chosen) question.goals (terms chosen)
   pub agree : Agree question asked (terms chosen) bodies
   pub kept_computable : AreComputable question asked (terms chosen)
   pub computable : AreComputable question asked bodies

@@ -1,22 +1,25 @@
 // The laws of agreeing bodies, of kept terms that stand for members, and of members that are all refuted.
-ghost use Rattle.std.specs.Prelude.{ℕ, Bool, List, ◌+◌, ◌≡◌, ◌<◌, ◌≤◌};
+ghost use Rattle.std.specs.Prelude.{ℕ, Bool, List, ◌+◌, ◌≡◌, ◌<◌, ◌≤◌, map};
 ghost use Rattle.sy_terms.specs.Values.{Val};
 ghost use Rattle.sy_terms.specs.Expr.{Expr};
 ghost use Rattle.sy_terms.specs.declared.op.Op.{Op};
 ghost use Rattle.sy_grammar_base.specs.Questions.{Question};
+ghost use Rattle.sy_grammar_base.specs.Solving.{AreWithin};
 ghost use Rattle.sy_query_base.specs.Queries.{Violates};
-ghost use Rattle.sy_points.specs.Asked.{Asked};
+ghost use Rattle.sy_points.specs.Asked.{AreDistinct, Asked};
 ghost use Rattle.sy_bank_rows.specs.Banks.{Entry, Merged};
 ghost use Rattle.sy_bank_rows.specs.Covering.{sizes, terms};
-ghost use Rattle.sy_loop_history.specs.Histories.{Counterexample, IsCandidate, IsHonest};
-ghost use Rattle.sy_loop_outcome.specs.Sizes.{AreAtMost};
-ghost use Rattle.sy_loop_outcome.specs.Unsolved.{NoSolution, NoSolutionWithin};
-ghost use Rattle.sy_loop_candidate.specs.Adding.{AreAsked};
-ghost use Rattle.sy_loop_candidate.specs.Trials.{IsRefuted};
-ghost use Rattle.sy_loop_candidate.specs.Truths.{IsViolated};
+ghost use Rattle.sy_loop_bounds.specs.declared.reach.Reach.{Reach};
+ghost use Rattle.sy_loop_bounds.specs.declared.reach.Reach.TheVariants.{Sizes};
+ghost use Rattle.sy_loop_history.specs.Histories.{AllViolate, Counterexample, IsCandidate, IsHonest, IsKept, IsMet, IsOpenNumber};
+ghost use Rattle.sy_loop_history.specs.Sizes.{AreAtMost};
+ghost use Rattle.sy_loop_history.specs.Unsolved.{NoSolution, NoSolutionWithin};
+ghost use Rattle.sy_loop_history.specs.Adding.{AreAsked};
+ghost use Rattle.sy_loop_history.specs.Trials.{IsRefuted};
+ghost use Rattle.sy_loop_history.specs.Truths.{IsViolated};
 ghost use Rattle.sy_loop_laws.specs.Agreeing.{Agree, AssumptionsAskNothing, AssumptionsFit};
 ghost use Rattle.sy_loop_laws.specs.Merging.{AreChosen, AreCovering, AreMerged};
-ghost use Rattle.sy_loop_laws.specs.Refuting.{AllRefuted, AllViolate, AreDoneBelow, AreInRange, Grows};
+ghost use Rattle.sy_loop_laws.specs.Refuting.{AllRefuted, AreDoneBelow, Grows};
 
 /// Where bodies violate the problem by a constraint whose calls are among the tuples, all bodies that agree with them at
 /// the tuples violate it at that assignment, by the same calls.
@@ -31,7 +34,7 @@ pub fn agreeing_bodies_are_refuted()
 /// Where each function has an honest bank over its tuples that covers derivations up to a size, kept terms agree with any
 /// members whose sizes sum to at most that.
 pub fn members_are_merged()
-    ensures { (question : Question) (asked : Asked) (n : ℕ) (banks : List Merged) (bodies : List Expr) → AreCovering question asked n banks → IsCandidate question n bodies →
+    ensures { (question : Question) (asked : Asked) (n : ℕ) (banks : List Merged) (bodies : List Expr) → AreCovering question asked n banks → AreWithin question.pool n question.goals bodies →
         AreMerged question asked n banks bodies }
 {}
 
@@ -51,28 +54,47 @@ pub fn what_is_refuted_stays_so()
         IsRefuted question history asked bodies → IsRefuted question history' asked' bodies }
 {}
 
-/// Where all members up to a size are refuted, each violates the problem at an assignment of the history, and none solves
-/// it; where no grammar has larger members, none at all does.
+/// Where all members up to a size are refuted, each violates the problem at an assignment of the history (`violated`).
+/// Where all bodies in bound do, after an honest history, none solves it (`unsolved`); and where no grammar has larger
+/// members, no members at all do (`exhausted`).
 pub fn nothing_refuted_solves()
-    ensures violated { (question : Question) (history : List Counterexample) (asked : Asked) (n : ℕ) → AllRefuted question history asked n → AllViolate question history n }
-    ensures unsolved { (question : Question) (size rounds n : ℕ) (history : List Counterexample) → IsHonest question size rounds history → AllViolate question history n → NoSolutionWithin question n }
-    ensures exhausted { (question : Question) (n : ℕ) → AreAtMost question n → NoSolutionWithin question n → NoSolution question }
+    ensures violated { (question : Question) (history : List Counterexample) (asked : Asked) (n : ℕ) → AllRefuted question history asked n → AllViolate Sizes question history n }
+    ensures unsolved { (reach : Reach) (question : Question) (size rounds n : ℕ) (history : List Counterexample) → IsHonest reach question size rounds history → AllViolate reach question history n →
+        NoSolutionWithin reach question n }
+    ensures exhausted { (reach : Reach) (question : Question) (n : ℕ) → AreAtMost question n → NoSolutionWithin reach question n → NoSolution question }
 {}
 
-/// What a search that ascends by sizes does: nothing is to be done below 0 (`begins`); a size is done where kept terms
-/// of just this size together are refuted (`next`); and what is done stays so (`stays`). Where banks cover all up to a
-/// size, nothing up to it leaves the range (`covered`), and if it is done, nothing within it solves the problem (`ends`).
+/// What a search that ascends by sizes does: nothing is to be done below 0 (`begins`); a size is done where banks cover
+/// all derivations up to it, and kept terms of just this size together are refuted (`next`); what is done stays so
+/// (`stays`); the next size is open (`opens`); and nothing within what is done solves the problem (`ends`).
 pub fn sizes_are_done()
     ensures begins { (question : Question) (history : List Counterexample) (asked : Asked) → AreDoneBelow question history asked 0 }
-    ensures next { (question : Question) (history : List Counterexample) (asked : Asked) (n : ℕ) (banks : List Merged) → AssumptionsAskNothing question →
-        (AreInRange question asked n → AreCovering question asked n banks) →
+    ensures next { (question : Question) (history : List Counterexample) (asked : Asked) (n : ℕ) (banks : List Merged) → AssumptionsAskNothing question → AreCovering question asked n banks →
         ((chosen : List Entry) → AreChosen banks chosen → sizes chosen ≡ n → IsRefuted question history asked (terms chosen)) →
         AreDoneBelow question history asked n → AreDoneBelow question history asked (n + 1) }
     ensures stays { (question : Question) (history history' : List Counterexample) (asked asked' : Asked) (n : ℕ) → Grows history asked history' asked' →
         AreDoneBelow question history asked n → AreDoneBelow question history' asked' n }
-    ensures covered { (question : Question) (asked : Asked) (n : ℕ) (banks : List Merged) → AreCovering question asked n banks → AreInRange question asked n }
-    ensures ends { (question : Question) (size rounds n : ℕ) (history : List Counterexample) (asked : Asked) (banks : List Merged) → IsHonest question size rounds history →
-        AreCovering question asked n banks → AreDoneBelow question history asked (n + 1) → NoSolutionWithin question n }
+    ensures opens { (question : Question) (size n : ℕ) (history : List Counterexample) (asked : Asked) → n ≤ size → AreDoneBelow question history asked n → IsOpenNumber Sizes question size history n }
+    ensures ends { (question : Question) (size rounds n : ℕ) (history : List Counterexample) (asked : Asked) → IsHonest Sizes question size rounds history →
+        AreDoneBelow question history asked (n + 1) → NoSolutionWithin Sizes question n }
+{}
+
+/// A number less than an open one is open (`lesser`), and what is open after a history, a candidate after it or met by it
+/// stays so when the history grows.
+pub fn open_numbers_stay_open()
+    ensures lesser { (reach : Reach) (question : Question) (size : ℕ) (history : List Counterexample) (m n : ℕ) → m ≤ n → IsOpenNumber reach question size history n → IsOpenNumber reach question size history m }
+    ensures stays { (reach : Reach) (question : Question) (size n : ℕ) (history history' : List Counterexample) → IsKept history history' → IsOpenNumber reach question size history n →
+        IsOpenNumber reach question size history' n }
+    ensures candidate { (reach : Reach) (question : Question) (size : ℕ) (history history' : List Counterexample) (bodies : List Expr) → IsKept history history' → IsCandidate reach question size history bodies →
+        IsCandidate reach question size history' bodies }
+    ensures met { (reach : Reach) (question : Question) (size function : ℕ) (history history' : List Counterexample) (tuple : List Val) → IsKept history history' → IsMet reach question size history function tuple →
+        IsMet reach question size history' function tuple }
+{}
+
+/// The assignments of an honest history are pairwise distinct.
+pub fn honest_assignments_differ()
+    ensures { (reach : Reach) (question : Question) (size rounds : ℕ) (history : List Counterexample) → IsHonest reach question size rounds history →
+        AreDistinct (map (λ (c : Counterexample). c.assignment) history) }
 {}
 
 /// Assumptions that fit where no function is to be found ask nothing of those that are.

@@ -1,4 +1,2 @@
 pub mod Names
 pub mod Right
-pub mod Sizes
-pub mod Unsolved

@@ -3,19 +3,24 @@ use Rattle.std.specs.Prelude.{Bool, List, map}
 use Rattle.sy_terms.specs.Values.{Val}
 use Rattle.sy_terms.specs.Denoted.{expr_of, vals_of}
 use Rattle.sy_terms.specs.declared.op.Op.{Op}
-use Rattle.sy_grammar_base.specs.Questions.{Question}
+use Rattle.sy_terms.specs.declared.theory.Theory.{Ghosts as TheoryOf}
+use Rattle.sy_grammar_base.specs.Questions.{Question, question_of}
+use Rattle.sy_grammar_base.specs.declared.problem.Problem.{Problem}
 use Rattle.sy_query_limits.specs.declared.FailName.{FailName}
 use Rattle.sy_query_limits.specs.declared.Limits.{Limits}
-use Rattle.sy_query_decide.specs.Asked.{Query}
+use Rattle.sy_query_base.specs.Asked.{Query}
+use Rattle.sy_query_decide.specs.declared.decide.Decide.{Ghosts as DecideOf}
 use Rattle.sy_points.specs.Asked.{tuples_of}
+use Rattle.sy_points.specs.declared.stored.Stored.{Stored}
 use Rattle.sy_bank_rows.specs.Stored.{entry_of}
 use Rattle.sy_bank.specs.Bank.{merged_of}
+use Rattle.sy_loop_bounds.specs.declared.reach.Reach.{Reach}
 use Rattle.sy_loop_history.specs.Histories.{Counterexample}
 use Rattle.sy_loop_history.specs.Budgets.{RoundsMet, PointsMet, BankMet, WeightMet, DecideMet, CheckedLeaves, MemberLeaves}
 use Rattle.sy_loop_history.specs.Solutions.{IsSolution}
 use Rattle.sy_loop_history.specs.Stored.{history_of}
-use Rattle.sy_loop_outcome.specs.Sizes.{AreAtMost}
-use Rattle.sy_loop_outcome.specs.Unsolved.{NoSolution, NoSolutionWithin}
+use Rattle.sy_loop_history.specs.Sizes.{AreAtMost}
+use Rattle.sy_loop_history.specs.Unsolved.{NoSolution, NoSolutionWithin}
 use Rattle.sy_loop_outcome.specs.declared.outcome.LoopRange.{LoopRange}
 use Rattle.sy_loop_outcome.specs.declared.outcome.LoopRange.TheVariants.{Member, Checked}
 use Rattle.sy_loop_outcome.specs.declared.outcome.FailCause.{FailCause}
@@ -24,28 +29,36 @@ use Rattle.sy_loop_outcome.specs.declared.outcome.Outcome.{Outcome}
 use Rattle.sy_loop_outcome.specs.declared.outcome.Outcome.TheVariants.{Found, Fail}
 
 -- what left the 128 bits did so
-abbrev pub Leaves : {T N : Type 0} → (N → Val) → Question → Limits → List Counterexample → LoopRange T N → Type 0
-Leaves number question limits history (Member function term tuple) =
-    MemberLeaves question limits.size limits.rounds history function (expr_of number term) (vals_of number tuple)
-Leaves number question limits history (Checked bodies assignment) =
-    CheckedLeaves question limits.size limits.rounds history (map (expr_of number) bodies) (vals_of number assignment)
+abbrev pub Leaves : {T N : Type 0} → (N → Val) → Reach → Question → Limits → List Counterexample → LoopRange T N → Type 0
+Leaves number reach question limits history (Member function term tuple) =
+    MemberLeaves reach question limits.size limits.rounds history function (expr_of number term) (vals_of number tuple)
+Leaves number reach question limits history (Checked bodies assignment) =
+    CheckedLeaves reach question limits.size limits.rounds history (map (expr_of number) bodies) (vals_of number assignment)
 
 -- the cause holds
-abbrev pub Holds : {T S N : Type 0} → (Op → Bool) → (N → Val) → (S → FailName) → (Query → Limits → FailName → S → Type 0) → Question → Limits → FailCause T S N → Type 0
-Holds owned number budget shows question limits Size = NoSolutionWithin question limits.size × (AreAtMost question limits.size → ⊥)
-Holds owned number budget shows question limits Exhausted = NoSolution question × AreAtMost question limits.size
-Holds owned number budget shows question limits (Rounds stored) = RoundsMet question limits.size limits.rounds (history_of number stored)
-Holds owned number budget shows question limits (Points stored function bodies assignment tuples) =
-    PointsMet question limits.size limits.rounds limits.points (history_of number stored) function (map (expr_of number) bodies) (vals_of number assignment) (tuples_of number tuples)
-Holds owned number budget shows question limits (Bank stored function bank nonterminal next) =
-    BankMet question limits.size limits.rounds limits.bank (history_of number stored) function (merged_of number bank) nonterminal (entry_of number next)
-Holds owned number budget shows question limits (Weight stored bodies) =
-    WeightMet owned question limits.size limits.rounds limits.weight (history_of number stored) (map (expr_of number) bodies)
-Holds owned number budget shows question limits (Decide stored bodies spent) =
-    DecideMet budget shows question limits (history_of number stored) (map (expr_of number) bodies) spent
-Holds owned number budget shows question limits (Range stored left) = Leaves number question limits (history_of number stored) left
+abbrev pub Holds : {T S N : Type 0} → (Op → Bool) → (N → Val) → (S → FailName) → (Query → Limits → FailName → S → Type 0) → Reach → Question → Limits → FailCause T S N → Type 0
+Holds owned number budget shows reach question limits Size = NoSolutionWithin reach question limits.size × (AreAtMost question limits.size → ⊥)
+Holds owned number budget shows reach question limits Exhausted = NoSolution question × AreAtMost question limits.size
+Holds owned number budget shows reach question limits (Rounds stored) = RoundsMet reach question limits.size limits.rounds (history_of number stored)
+Holds owned number budget shows reach question limits (Points stored function bodies assignment tuples) =
+    PointsMet reach question limits.size limits.rounds limits.points (history_of number stored) function (map (expr_of number) bodies) (vals_of number assignment) (tuples_of number tuples)
+Holds owned number budget shows reach question limits (Bank stored function bank nonterminal next) =
+    BankMet reach question limits.size limits.rounds limits.bank (history_of number stored) function (merged_of number bank) nonterminal (entry_of number next)
+Holds owned number budget shows reach question limits (Weight stored bodies) =
+    WeightMet owned reach question limits.size limits.rounds limits.weight (history_of number stored) (map (expr_of number) bodies)
+Holds owned number budget shows reach question limits (Decide stored bodies spent) =
+    DecideMet budget shows reach question limits (history_of number stored) (map (expr_of number) bodies) spent
+Holds owned number budget shows reach question limits (Range stored left) = Leaves number reach question limits (history_of number stored) left
 
 -- a solution with its proof, or a cause that holds
-abbrev pub IsRight : {T P S N : Type 0} → (Op → Bool) → (N → Val) → (Query → P → Type 0) → (S → FailName) → (Query → Limits → FailName → S → Type 0) → Question → Limits → Outcome T P S N → Type 0
-IsRight owned number accepted budget shows question limits (Found bodies proof) = IsSolution accepted question (map (expr_of number) bodies) proof
-IsRight owned number accepted budget shows question limits (Fail cause) = Holds owned number budget shows question limits cause
+abbrev pub IsRight : {T P S N : Type 0} → (Op → Bool) → (N → Val) → (Query → P → Type 0) → (S → FailName) → (Query → Limits → FailName → S → Type 0) → Reach → Question → Limits → Outcome T P S N → Type 0
+IsRight owned number accepted budget shows reach question limits (Found bodies proof) = IsSolution accepted question (map (expr_of number) bodies) proof
+IsRight owned number accepted budget shows reach question limits (Fail cause) = Holds owned number budget shows reach question limits cause
+
+-- the same of a problem, for a theory and a solver
+abbrev pub LeavesFor : {T N : Type 0} → TheoryOf T N → Reach → Problem T N → Limits → Stored T N → LoopRange T N → Type 0
+LeavesFor theory reach problem limits stored = Leaves theory.denotes reach (question_of theory.denotes problem) limits (history_of theory.denotes stored)
+
+abbrev pub IsRightFor : {T N D P S : Type 0} → TheoryOf T N → DecideOf D T P S N → Reach → Problem T N → Limits → Outcome T P S N → Type 0
+IsRightFor theory solver reach problem limits =
+    IsRight theory.owned theory.denotes solver.accepted solver.budget solver.shows reach (question_of theory.denotes problem) limits

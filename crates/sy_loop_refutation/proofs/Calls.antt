@@ -5,7 +5,7 @@ use Rattle.std.proofs.Common.{⊎_elim, subst, sym, arith}
 use Rattle.std.proofs.lemmas.List.Elements.{Contains-push, Contains-push_cases, Contains-append_left, Contains-append_right, Contains-append_cases}
 use Rattle.sy_terms.specs.Values.{Val}
 use Rattle.sy_points.specs.Asked.{Asked}
-use Rattle.sy_loop_candidate.specs.Adding.{IsAsked, AreAsked}
+use Rattle.sy_loop_history.specs.Adding.{IsAsked, AreAsked}
 use Rattle.sy_loop_refutation.specs.Observing.{IsMissing}
 
 pub no_call : (asked : Asked) → AreAsked [] asked

@@ -3,5 +3,3 @@ pub mod Reaching
 pub mod Told
 pub mod Untold
 pub mod Telling
-pub mod Examples
-pub mod Identity

@@ -16,17 +16,17 @@ use Rattle.sy_terms.specs.declared.term.Def.{Def}
 use Rattle.sy_terms.specs.declared.term.Term.{Term}
 use Rattle.sy_terms_laws.specs.Evaluation.{TermFits, scope_with}
 use Rattle.sy_meaning.specs.Calls.{IsCallOf}
-use Rattle.sy_grammar_base.specs.Questions.{Question, goal_of, question_of}
+use Rattle.sy_grammar_base.specs.Questions.{Question, goal_of, question_of, signatures, wanted_signature}
 use Rattle.sy_grammar_base.specs.Solving.{AreValues, IsTrueUnder}
 use Rattle.sy_grammar_base.specs.declared.problem.Problem.{Problem}
-use Rattle.sy_query_build.specs.Problems.{IsTruth, signature_of, signatures}
 use Rattle.sy_points.specs.Asked.{Asked}
 use Rattle.sy_bank_rows.specs.declared.kept.Kept.{Kept}
-use Rattle.sy_loop_candidate.specs.Truths.{asked_by, wanted_of}
+use Rattle.sy_loop_history.specs.Truths.{asked_by}
 use Rattle.sy_loop_refutation.specs.Bodies.{AreBodies, bodies_of, functions_by, FitsUnder}
 use Rattle.sy_loop_refutation.specs.Observing.{IsTold, IsUntold}
 use Rattle.sy_loop_refutation.specs.Refuting.{AreReady, IsHidden, IsShownFalse, IsOne, IsShown}
 use Rattle.sy_loop_refutation.proofs.Told.{bodies-length}
+use Rattle.sy_grammar_base.specs.Fits.{IsTruth, wanted_of}
 
 -- as many bodies as signatures
 as_many : {T N : Type 0} (owned : Op → Bool) (defs : List (Def T N)) (all : List Expr) (wanted : List Signature) → AreBodies owned defs all wanted → length all ≡ length wanted
@@ -42,7 +42,7 @@ module _ {T N : Type 0} (owned : Op → Bool) (number : N → Val) (problem : Pr
     arith,
     as_many owned problem.defs (bodies_of number chosen) (signatures problem) ready.fit,
     bodies-length number chosen,
-    length-map problem.wanted signature_of,
+    length-map problem.wanted wanted_signature,
     length-map problem.wanted (goal_of number),
     ready.functions,
   )

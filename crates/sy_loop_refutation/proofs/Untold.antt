@@ -21,7 +21,7 @@ use Rattle.sy_terms_laws.proofs.Steps as step
 use Rattle.sy_terms_laws.proofs.Reached as reached
 use Rattle.sy_terms_laws.proofs.Asks as by_form
 use Rattle.sy_points.specs.Asked.{Asked}
-use Rattle.sy_loop_candidate.specs.Adding.{IsAsked}
+use Rattle.sy_loop_history.specs.Adding.{IsAsked}
 use Rattle.sy_loop_refutation.specs.Bodies.{functions_by, FitsUnder, can_compute_under, asks_under, all_asks_under}
 use Rattle.sy_loop_refutation.specs.Observing.{IsMissing, IsUntold, AllUntold, AllAreTold}
 use Rattle.sy_loop_refutation.proofs.Calls.{none_missing, first_missing, second_missing, one_missing}

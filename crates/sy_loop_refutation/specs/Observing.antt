@@ -11,7 +11,7 @@ use Rattle.sy_points.specs.Asked.{Asked, of_function}
 use Rattle.sy_bank_rows.specs.Columns.{HasRow}
 use Rattle.sy_bank_rows.specs.Stored.{entry_of}
 use Rattle.sy_bank_rows.specs.declared.kept.Kept.{Kept}
-use Rattle.sy_loop_candidate.specs.Adding.{IsAsked, AreAsked}
+use Rattle.sy_loop_history.specs.Adding.{IsAsked, AreAsked}
 use Rattle.sy_loop_refutation.specs.Bodies.{GivesUnder, AllGiveUnder, can_compute_under, can_compute_all_under, asks_under, all_asks_under}
 
 -- each of the kept terms has its row of values at its function's tuples

@@ -4,21 +4,21 @@ use denote.Ref.{Bor}
 use Rattle.sy_terms.specs.Values.{Val}
 use Rattle.sy_terms.specs.Expr.{Expr}
 use Rattle.sy_terms.specs.declared.op.Op.{Op}
-use Rattle.sy_grammar_base.specs.Questions.{Question, question_of}
+use Rattle.sy_grammar_base.specs.Questions.{Question, question_of, signatures}
 use Rattle.sy_grammar_base.specs.Solving.{AreValues, IsTrueUnder}
 use Rattle.sy_grammar_base.specs.declared.problem.Problem.{Problem}
 use Rattle.sy_meaning.specs.Calls.{IsCallOf}
-use Rattle.sy_query_build.specs.Problems.{signatures}
 use Rattle.sy_points.specs.Asked.{Asked}
 use Rattle.sy_bank_rows.specs.declared.kept.Kept.{Kept}
 use Rattle.sy_loop_history.specs.Budgets.{Leaves}
 use Rattle.sy_loop_history.specs.Histories.{Counterexample}
-use Rattle.sy_loop_candidate.specs.Adding.{IsAsked, AreAsked}
-use Rattle.sy_loop_candidate.specs.Truths.{asked_by, wanted_of, IsFalse, IsViolated}
+use Rattle.sy_loop_history.specs.Adding.{IsAsked, AreAsked}
+use Rattle.sy_loop_history.specs.Truths.{asked_by, IsFalse, IsViolated}
 use Rattle.sy_loop_refutation.specs.Bodies.{AreBodies, bodies_of}
 use Rattle.sy_loop_refutation.specs.Observing.{HaveRows, IsMissing}
 use Rattle.sy_loop_refutation.specs.declared.tell.Told.{Told}
 use Rattle.sy_loop_refutation.specs.declared.tell.Told.TheVariants.{True, False, Nothing}
+use Rattle.sy_grammar_base.specs.Fits.{wanted_of}
 
 -- each tuple is of its function's arguments
 abbrev pub AreTaken : Question → Asked → Type 0

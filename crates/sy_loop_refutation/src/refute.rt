@@ -1,12 +1,12 @@
 // Candidates that rows refute.
 ghost use Rattle.std.specs.Prelude.{◌≡◌, IsTrue, false, length, IfOk};
-ghost use Rattle.sy_grammar_base.specs.Questions.{question_of};
-ghost use Rattle.sy_query_build.specs.Problems.{ProblemFits, signatures};
+ghost use Rattle.sy_grammar_base.specs.Questions.{question_of, signatures};
 ghost use Rattle.sy_loop_history.specs.Stored.{history_of};
-ghost use Rattle.sy_loop_candidate.specs.Trials.{IsRefuted};
+ghost use Rattle.sy_loop_history.specs.Trials.{IsRefuted};
 ghost use Rattle.sy_loop_refutation.specs.Bodies.{AreBodies, bodies_of};
 ghost use Rattle.sy_loop_refutation.specs.Observing.{HaveRows};
 ghost use Rattle.sy_loop_refutation.specs.Refuting.{AreTaken, AreAssignments, IsOpen};
+ghost use Rattle.sy_grammar_base.specs.Fits.{ProblemFits};
 
 use crate::tell::show_violation;
 use std::alloc::Global;
@@ -24,7 +24,7 @@ pub fn are_refuted<T: Theory>(
     points: &Points<T>,
     stored: &Stored<T>,
 ) -> Result<bool, Want>
-    requires problem { ProblemFits T.owned T.numeric T.denotes problem.now }
+    requires problem { ProblemFits T.Theory problem.now }
     requires bodies { AreBodies T.owned problem.now.defs (bodies_of T.denotes chosen.now) (signatures problem.now) }
     requires rows { HaveRows T.owned T.denotes problem.now.defs points.now chosen.now }
     requires functions { length points.now.tuples ≡ length (question_of T.denotes problem.now).goals }

@@ -4,9 +4,9 @@ ghost use Rattle.sy_terms.specs.Values as spec;
 ghost use Rattle.sy_terms.specs.Denoted.{val_of, expr_of, vals_of};
 ghost use Rattle.sy_grammar_base.specs.Questions.{question_of};
 ghost use Rattle.sy_grammar_base.specs.Solving.{AreValues, IsTrueUnder};
-ghost use Rattle.sy_query_build.specs.Problems.{ProblemFits, IsTruth};
 ghost use Rattle.sy_loop_refutation.specs.Bodies.{bodies_of};
 ghost use Rattle.sy_loop_refutation.specs.Refuting.{AreReady, Tells, IsOne, IsUnassured, IsUnrefuted, IsShown, IsOpenAt, IsShownFalse};
+ghost use Rattle.sy_grammar_base.specs.Fits.{ProblemFits, IsTruth};
 
 use crate::observe::observe;
 use std::alloc::Global;
@@ -34,7 +34,7 @@ pub(crate) fn show_violation<T: Theory>(
     points: &Points<T>,
     values: &[Value<T::Num>],
 ) -> Result<bool, Want>
-    requires problem { ProblemFits T.owned T.numeric T.denotes problem.now }
+    requires problem { ProblemFits T.Theory problem.now }
     requires ready { AreReady T.owned T.denotes problem.now points.now chosen.now }
     requires values { AreValues problem.now.vars (vals_of T.denotes values.now) }
     ensures shown { IfOk result (λ shown. shown ≡ true → IsShown (question_of T.denotes problem.now) points.now (bodies_of T.denotes chosen.now) (vals_of T.denotes values.now)) }
@@ -55,7 +55,7 @@ fn are_assumed<T: Theory>(
     points: &Points<T>,
     values: &[Value<T::Num>],
 ) -> Result<bool, Want>
-    requires problem { ProblemFits T.owned T.numeric T.denotes problem.now }
+    requires problem { ProblemFits T.Theory problem.now }
     requires ready { AreReady T.owned T.denotes problem.now points.now chosen.now }
     requires values { AreValues problem.now.vars (vals_of T.denotes values.now) }
     ensures assumed { IfOk result (λ assumed. assumed ≡ true → All (IsTrueUnder (question_of T.denotes problem.now) (bodies_of T.denotes chosen.now) (vals_of T.denotes values.now)) (question_of T.denotes problem.now).assumptions) }
@@ -79,7 +79,7 @@ fn is_one_false<T: Theory>(
     points: &Points<T>,
     values: &[Value<T::Num>],
 ) -> Result<bool, Want>
-    requires problem { ProblemFits T.owned T.numeric T.denotes problem.now }
+    requires problem { ProblemFits T.Theory problem.now }
     requires ready { AreReady T.owned T.denotes problem.now points.now chosen.now }
     requires values { AreValues problem.now.vars (vals_of T.denotes values.now) }
     ensures shown { IfOk result (λ shown. shown ≡ true → IsOne (IsShownFalse (question_of T.denotes problem.now) points.now (bodies_of T.denotes chosen.now) (vals_of T.denotes values.now)) (question_of T.denotes problem.now).constraints) }
@@ -104,7 +104,7 @@ fn tell<T: Theory>(
     values: &[Value<T::Num>],
     term: &Term<T>,
 ) -> Result<Told, Want>
-    requires problem { ProblemFits T.owned T.numeric T.denotes problem.now }
+    requires problem { ProblemFits T.Theory problem.now }
     requires ready { AreReady T.owned T.denotes problem.now points.now chosen.now }
     requires values { AreValues problem.now.vars (vals_of T.denotes values.now) }
     requires term { IsTruth T.owned T.denotes problem.now term.now }

@@ -1,9 +1,6 @@
 // The program: it reads one file of commands and answers each `check-synth`.
 #![tactic(auto)]
 
-#[cfg(test)]
-mod tests;
-
 use std::env;
 use std::io::ErrorKind;
 use std::process::ExitCode;

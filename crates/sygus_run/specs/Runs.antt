@@ -1,42 +1,22 @@
 -- How a run may end.
-use Rattle.std.specs.Prelude.{ℕ, ◌≡◌, ◌<◌, ◌≤◌, ◌+◌, ◌⊎◌, ◌++◌, List, [], ◌∷◌, length, take, Option, IfSome, Ok, Err}
+use Rattle.std.specs.Prelude.{ℕ, ◌≡◌, ◌<◌, ◌≤◌, ◌⊎◌, List, length, Option, IfSome, Ok, Err}
 use Rattle.std.specs.Io.KnownBytes.{Appends}
 use Rattle.sy_io.specs.Source.{Holding, bytes_under}
-use Rattle.sy_grammar_base.specs.Questions.{Question}
-use Rattle.sy_loop_outcome.specs.declared.outcome.Outcome.TheVariants.{Found, Fail}
-use Rattle.sy_query_limits.specs.declared.Limits.{Limits}
 use Rattle.sygus_words.specs.CommandLine.{IsReading}
 use Rattle.sygus_words.specs.declared.settings.Settings.{Settings}
-use Rattle.sy_scope_causes.specs.declared.titles.Titles.{Titles}
 use Rattle.sy_scope_causes.specs.declared.cause.Refused.{Refused}
 use Rattle.sy_reply_lines.specs.Lines.{refusal_line}
 use Rattle.sy_scope_steps.specs.Files.{file_read}
 use Rattle.sy_scope_steps.specs.Jobs.{Wish, wished}
-use Rattle.sygus_run.specs.declared.answers.Answers.{Answers}
-use Rattle.sygus_run.specs.declared.answers.Answers.TheVariants.{Idle, Bits}
-use Rattle.sygus_run.specs.Answers.{BvOutcome, RightOutcome}
-use Rattle.sygus_run.specs.Texts.{answer_text, replies, answer_line, answer_lines, too_long_line}
+use Rattle.sygus_answers.specs.declared.answers.Answers.{Answers}
+use Rattle.sygus_answers.specs.declared.answers.Answers.TheVariants.{Idle}
+use Rattle.sygus_answers.specs.Answers.{BvOutcome}
+use Rattle.sygus_answers.specs.Texts.{replies, answer_lines, too_long_line}
+use Rattle.sygus_answers.specs.Solved.{outcomes, AreRight, WritesMost}
 
 -- the most bytes that a file may have
 abbrev pub longest : ℕ
 longest = 4194304
-
--- the outcomes of the first problems
-abbrev pub outcomes : Answers → List BvOutcome
-outcomes Idle = []
-outcomes (Bits all) = all
-
--- an outcome gives definitions
-abbrev pub IsFound : BvOutcome → Type 0
-IsFound (Found bodies proof) = Unit {0}
-IsFound (Fail cause) = ⊥
-
--- these outcomes are right for the first questions, in order
-unfoldable pub AreRight : Limits → List Question → List BvOutcome → Type 0
-AreRight limits questions [] = Unit {0}
-AreRight limits [] (answer ∷ answers) = ⊥
-AreRight limits (question ∷ questions) (answer ∷ answers) =
-    RightOutcome limits question answer × AreRight limits questions answers
 
 -- words that are no command line of the program
 abbrev pub HaveNoReading : List (List ℕ) → Type 0
@@ -72,16 +52,6 @@ pub record IsRefused (words : List (List ℕ)) (held : Option Holding) (err err'
   pub why : ((longest < length file) × Appends err err' too_long_line)
       ⊎ ((length file ≤ longest) × ((refused : Refused) × (wished (file_read file) ≡ Err refused) × Appends err err' (refusal_line file refused)))
 
--- what was written are the texts of all outcomes but the last, and a prefix of the last one's
-pub record WritesMost (titles : Titles) (questions : List Question) (answers : List BvOutcome) (out out' : Option (List ℕ)) : Type 0 where
-  pub earlier : List BvOutcome
-  pub last : List BvOutcome
-  pub split : answers ≡ earlier ++ last
-  pub one : length last ≤ 1
-  pub count : ℕ
-  pub whole : length (replies titles questions earlier) ≤ count
-  pub written : Appends out out' (take count (replies titles questions answers))
-
 -- the run ended among the problems of its file: the outcomes so far are right, and of their texts this was written
 pub record Midway (words : List (List ℕ)) (held : Option Holding) (answers : List BvOutcome) (Written : Wish → Type 0) : Type 0 where
   pub settings : Settings
@@ -99,24 +69,3 @@ IsCutOff words held answers out out' = ((answers ≡ Idle) × (out' ≡ out))
 abbrev pub WantsMemory : List (List ℕ) → Option Holding → Answers → Option (List ℕ) → Option (List ℕ) → Type 0
 WantsMemory words held answers out out' = ((answers ≡ Idle) × (out' ≡ out))
     ⊎ Midway words held (outcomes answers) (λ wish. Appends out out' (replies wish.titles wish.questions (outcomes answers)))
-
--- one more problem was answered, and its text and its line are written
-pub record AnswersNext (limits : Limits) (titles : Titles) (question : Question) (old new : List BvOutcome) (out out' err err' : Option (List ℕ)) : Type 0 where
-  pub answer : BvOutcome
-  pub right : RightOutcome limits question answer
-  pub more : new ≡ old ++ answer ∷ []
-  pub replied : Appends out out' (answer_text titles question answer)
-  pub lined : Appends err err' (answer_line (length old + 1) answer)
-
--- one more problem was answered, and a prefix of its text is written
-pub record BreaksNext (limits : Limits) (titles : Titles) (question : Question) (old new : List BvOutcome) (out out' : Option (List ℕ)) : Type 0 where
-  pub answer : BvOutcome
-  pub right : RightOutcome limits question answer
-  pub more : new ≡ old ++ answer ∷ []
-  pub count : ℕ
-  pub begun : Appends out out' (take count (answer_text titles question answer))
-
--- an outcome is a fail
-abbrev pub IsFail : BvOutcome → Type 0
-IsFail (Found bodies proof) = ⊥
-IsFail (Fail cause) = Unit {0}

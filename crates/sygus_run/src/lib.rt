@@ -1,9 +1,8 @@
-// The run: from words and a file to replies and a status.
+// The run of the program: words, a file, and what it answers.
 #![tactic(auto)]
 
-mod answers;
 mod program;
-mod text;
 
-pub use answers::{Answers, Ended};
 pub use program::run;
+pub use sygus_answers::{Answers, Ended};
+pub use sygus_words::{FileName, Mode, Settings, WordFault, read_words};

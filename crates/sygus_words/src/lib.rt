@@ -7,6 +7,3 @@ mod words;
 
 pub use settings::{FileName, Mode, Settings, WordFault};
 pub use words::read_words;
-
-#[cfg(test)]
-mod tests;

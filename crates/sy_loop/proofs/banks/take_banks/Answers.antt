@@ -6,6 +6,7 @@ use Rattle.sy_points.specs.Asked.{tuples_of}
 use Rattle.sy_bank.specs.Bank.{merged_of}
 use Rattle.sy_loop_history.specs.Stored.{history_of}
 use Rattle.sy_loop.specs.Banks.{AreCarried}
+use Rattle.sy_grammar_laws.proofs.Problems.{problem_definitions}
 use Rattle.sy_loop.proofs.Building.{no_banks, one_bank_more, all_banks, bank_of, whole_of, built_full, grammar_fits, points_fit, tuples_at}
 use Rattle.sy_loop.proofs.Carrying.{take_next, taken_carried, none_carried, bank_carried, one_carried_more, full_carries}
 use Rattle.sy_loop.proofs.banks.take_banks.Goals as goal
@@ -19,12 +20,12 @@ loop-function-init g c = record {
 }
 
 pub take_bank-requires-clause-formed : goal.take_bank-requires-clause-formed
-take_bank-requires-clause-formed g c = (grammar_fits g.T.Theory.owned g.T.Theory.numeric g.T.Theory.denotes c.args.problem.now c.loop-function.function c.in-Some.wanted.now c.requires.grammars c.in-Some.ensures).formed
+take_bank-requires-clause-formed g c = (grammar_fits g.T.Theory.owned g.T.Theory.numeric g.T.Theory.denotes c.args.problem.now c.loop-function.function c.in-Some.wanted.now c.requires.problem c.in-Some.ensures).formed
 
 pub take_bank-requires-clause-points : goal.take_bank-requires-clause-points
 take_bank-requires-clause-points g c =
-    points_fit g.T.Theory.owned g.T.Theory.numeric g.T.Theory.denotes c.args.problem.now c.args.limits.now (history_of g.T.Theory.denotes c.args.known.now.stored) c.args.known.now.points c.loop-function.function c.in-Some.wanted.now (tuples_of g.T.Theory.denotes c.of-points.result.now)
-    c.requires.grammars c.requires.known c.in-Some.ensures (tuples_at c.args.known.now.points c.loop-function.function (tuples_of g.T.Theory.denotes c.of-points.result.now) c.of-points.ensures.list)
+    points_fit g.T.Theory.owned g.T.Theory.numeric g.T.Theory.denotes c.args.reach c.args.problem.now c.args.limits.now (history_of g.T.Theory.denotes c.args.known.now.stored) c.args.known.now.points c.loop-function.function c.in-Some.wanted.now (tuples_of g.T.Theory.denotes c.of-points.result.now)
+    c.requires.problem c.requires.known c.in-Some.ensures (tuples_at c.args.known.now.points c.loop-function.function (tuples_of g.T.Theory.denotes c.of-points.result.now) c.of-points.ensures.list)
 
 pub take_bank-requires-clause-carried : goal.take_bank-requires-clause-carried
 take_bank-requires-clause-carried g c =
@@ -63,3 +64,6 @@ pub returns-clause-built : goal.returns-clause-built
 returns-clause-built g c =
     let done : c.loop-function.function ≡ length (question_of g.T.Theory.denotes c.args.problem.now).goals = omega (arith, c.loop-function-test.false, c.loop-function.auto, c.requires.functions, length-map c.args.problem.now.wanted (goal_of g.T.Theory.denotes)) in
     all_banks (question_of g.T.Theory.denotes c.args.problem.now) c.args.limits.now c.args.known.now.points c.args.level c.loop-function.function (map (merged_of g.T.Theory.denotes) c.loop-function.banks.items) c.loop-function.invariant.first done
+
+pub take_bank-requires-clause-definitions : goal.take_bank-requires-clause-definitions
+take_bank-requires-clause-definitions g c = problem_definitions g.T.Theory.owned g.T.Theory.numeric g.T.Theory.denotes c.args.problem.now c.requires.problem

@@ -3,9 +3,9 @@ use Rattle.std.proofs.lemmas.List.{length-map}
 use Rattle.sy_terms.specs.Definitions.{scope_of}
 use Rattle.sy_grammar_base.specs.Questions.{question_of}
 use Rattle.sy_bank_rows.specs.Covering.{terms}
-use Rattle.sy_bank_rows.specs.Stored.{entries_of}
-use Rattle.sy_bank_columns.specs.Chosen.{chosen_of}
+use Rattle.sy_bank_rows.specs.Stored.{entries_of, chosen_of}
 use Rattle.sy_bank.specs.Bank.{merged_of}
+use Rattle.sy_loop_history.specs.Histories.{IsOpenNumber}
 use Rattle.sy_loop_history.specs.Stored.{history_of}
 use Rattle.sy_loop.specs.Levels.{AreHonest, IsBegun, AreChoices, AllAreRefuted}
 use Rattle.sy_loop.proofs.Choosing.{next_begun, next_length, kept_choices, chosen_all, chosen_popped}
@@ -18,18 +18,19 @@ pub try_kept-try_rest-requires : goal.try_kept-try_rest-requires
 try_kept-try_rest-requires g t c κs within =
     let scope = scope_of g.T.Theory.owned c.args.task.now.problem.now.defs in
     let question = question_of g.T.Theory.denotes c.args.task.now.problem.now in
-    let size = c.args.task.now.limits.now.size in
+    let size = c.args.task.now.level in
     let long = next_length c.args.chosen.now.items c.loop-choice.chosen.items c.push.new.self.items _ c.loop-choice.invariant.chosen c.in_ok-push.ensures.items in
     let few : length c.push.new.self.items ≤ length c.args.task.now.banks.now = omega (arith, long, c.requires.few) in
     let banks = subst (λ asked. AreHonest scope question asked (map (merged_of g.T.Theory.denotes) c.args.task.now.banks.now)) (sym c.loop-choice.invariant.points) c.requires.banks in
     let begun = subst (λ asked. IsBegun scope question asked size (chosen_of g.T.Theory.denotes c.push.new.self.items) c.args.left) (sym c.loop-choice.invariant.points)
     (next_begun g.T.Theory.denotes scope question c.args.known.now.points size c.args.left c.args.chosen.now.items c.loop-choice.chosen.items c.push.new.self.items c.args.kept.now c.loop-choice.choice-index _ c.requires.choices c.loop-choice.invariant.chosen c.in_ok-push.ensures.items c.loop-choice-test.true c.choice-item.is) in
+    let opened = subst (λ history. IsOpenNumber c.args.task.now.reach question c.args.task.now.limits.now.size history size) (sym c.loop-choice.invariant.history) c.requires.opened in
     let room = same_room g.T.Theory.denotes c.args.known.now.stored c.loop-choice.known.stored c.args.task.now.limits.now.rounds c.loop-choice.invariant.history c.requires.room in
-    (omega (arith, long, c.requires.few, c.decreases), (within.0, (within.1.0, (within.1.1.0, (within.1.1.1.0, (within.1.1.1.1, (c.requires.problem, (c.requires.grammars, (c.requires.negation, (banks, (begun, (few, (c.loop-choice.invariant.known, room)))))))))))))
+    (omega (arith, long, c.requires.few, c.decreases), (within.0, (within.1.0, (within.1.1.0, (within.1.1.1.0, (within.1.1.1.1, (c.requires.problem, (banks, (begun, (few, (opened, (c.loop-choice.invariant.known, room))))))))))))
 
 pub try_kept-loop-choice-preserved : goal.try_kept-loop-choice-preserved
 try_kept-loop-choice-preserved g t c =
-    let goes = rw c.in-Next.is at (goes_after g.T.Theory.owned g.T.Theory.denotes g.D.Decide.accepted g.D.Decide.budget g.D.Decide.shows (question_of g.T.Theory.denotes c.args.task.now.problem.now) c.args.task.now.limits.now (history_of g.T.Theory.denotes c.args.known.now.stored) (history_of g.T.Theory.denotes c.loop-choice.known.stored) (history_of g.T.Theory.denotes c.try_rest.new.known.stored)
+    let goes = rw c.in-Next.is at (goes_after g.T.Theory.owned g.T.Theory.denotes g.D.Decide.accepted g.D.Decide.budget g.D.Decide.shows c.args.task.now.reach (question_of g.T.Theory.denotes c.args.task.now.problem.now) c.args.task.now.limits.now (history_of g.T.Theory.denotes c.args.known.now.stored) (history_of g.T.Theory.denotes c.loop-choice.known.stored) (history_of g.T.Theory.denotes c.try_rest.new.known.stored)
     c.args.known.now.points c.loop-choice.known.points c.try_rest.new.known.points c.in_ok-step.step c.loop-choice.invariant.history c.loop-choice.invariant.points c.in_ok-step.ensures.step) in
     record {
       chosen = chosen_popped c.args.chosen.now.items c.loop-choice.chosen.items c.try_rest.new.chosen.items c.pop.new.self.items _ _ c.loop-choice.invariant.chosen (c.in_ok-step.ensures.chosen ∙ c.in_ok-push.ensures.items) c.try_rest.new.chosen.ok.0 c.pop.ensures.rest;
@@ -51,10 +52,10 @@ try_rest-returns-then-left-gt0-clause-refuted g t c =
     none_refuted (question_of g.T.Theory.denotes c.args.task.now.problem.now) (history_of g.T.Theory.denotes c.args.known.now.stored) c.args.known.now.points (map (merged_of g.T.Theory.denotes) c.args.task.now.banks.now) (terms (chosen_of g.T.Theory.denotes c.args.chosen.now.items)) (length c.args.chosen.now.items) c.args.left
     (omega (arith, c.if-function-task.true, c.len-function.ensures, c.args.chosen.now.ok.0, length-map c.args.task.now.banks.now (merged_of g.T.Theory.denotes))) c.if-left-gt0.true
 
-pub try_rest-try_chosen-requires-clause-candidate : goal.try_rest-try_chosen-requires-clause-candidate
-try_rest-try_chosen-requires-clause-candidate g t c =
+pub try_rest-try_chosen-requires-clause-within : goal.try_rest-try_chosen-requires-clause-within
+try_rest-try_chosen-requires-clause-within g t c =
     rw c.as_slice.ensures.value
-    (chosen_all g.T.Theory.denotes (scope_of g.T.Theory.owned c.args.task.now.problem.now.defs) (question_of g.T.Theory.denotes c.args.task.now.problem.now) c.args.known.now.points c.args.task.now.limits.now.size c.args.left c.args.task.now.banks.now c.args.chosen.now.items c.requires.banks c.requires.begun
+    (chosen_all g.T.Theory.denotes (scope_of g.T.Theory.owned c.args.task.now.problem.now.defs) (question_of g.T.Theory.denotes c.args.task.now.problem.now) c.args.known.now.points c.args.task.now.level c.args.left c.args.task.now.banks.now c.args.chosen.now.items c.requires.banks c.requires.begun
     (omega (arith, c.requires.few, c.if-function-task.true, c.len-function.ensures, c.args.chosen.now.ok.0)))
 
 pub try_rest-try_chosen-requires-clause-rows : goal.try_rest-try_chosen-requires-clause-rows
@@ -62,12 +63,12 @@ try_rest-try_chosen-requires-clause-rows g t c = rw c.as_slice.ensures.value c.r
 
 pub try_rest-returns-then-function-task-clause-step : goal.try_rest-returns-then-function-task-clause-step
 try_rest-returns-then-function-task-clause-step g t c =
-    goes_by g.T.Theory.owned g.T.Theory.denotes g.D.Decide.accepted g.D.Decide.budget g.D.Decide.shows (question_of g.T.Theory.denotes c.args.task.now.problem.now) c.args.task.now.limits.now (terms (chosen_of g.T.Theory.denotes c.as_slice.result.now))
+    goes_by g.T.Theory.owned g.T.Theory.denotes g.D.Decide.accepted g.D.Decide.budget g.D.Decide.shows c.args.task.now.reach (question_of g.T.Theory.denotes c.args.task.now.problem.now) c.args.task.now.limits.now (terms (chosen_of g.T.Theory.denotes c.as_slice.result.now))
     (history_of g.T.Theory.denotes c.args.known.now.stored) (history_of g.T.Theory.denotes c.try_chosen.new.known.stored) c.args.known.now.points c.try_chosen.new.known.points c.in_ok-step.step c.in_ok-step.ensures.step c.in_ok-step.ensures.grows
 
 pub try_rest-returns-then-function-task-clause-refuted : goal.try_rest-returns-then-function-task-clause-refuted
 try_rest-returns-then-function-task-clause-refuted g t c =
-    refuted_by g.T.Theory.owned g.T.Theory.denotes g.D.Decide.accepted g.D.Decide.budget g.D.Decide.shows (question_of g.T.Theory.denotes c.args.task.now.problem.now) c.args.task.now.limits.now
+    refuted_by g.T.Theory.owned g.T.Theory.denotes g.D.Decide.accepted g.D.Decide.budget g.D.Decide.shows c.args.task.now.reach (question_of g.T.Theory.denotes c.args.task.now.problem.now) c.args.task.now.limits.now
     (AllAreRefuted (question_of g.T.Theory.denotes c.args.task.now.problem.now) (history_of g.T.Theory.denotes c.args.known.now.stored) c.args.known.now.points (terms (chosen_of g.T.Theory.denotes c.args.chosen.now.items)) (drop (length c.args.chosen.now.items) (map (merged_of g.T.Theory.denotes) c.args.task.now.banks.now)) c.args.left)
     (terms (chosen_of g.T.Theory.denotes c.as_slice.result.now)) (history_of g.T.Theory.denotes c.args.known.now.stored) (history_of g.T.Theory.denotes c.try_chosen.new.known.stored) c.args.known.now.points c.try_chosen.new.known.points c.in_ok-step.step c.in_ok-step.ensures.step
     (λ refuted. one_refuted (question_of g.T.Theory.denotes c.args.task.now.problem.now) (history_of g.T.Theory.denotes c.args.known.now.stored) c.args.known.now.points (map (merged_of g.T.Theory.denotes) c.args.task.now.banks.now) (terms (chosen_of g.T.Theory.denotes c.args.chosen.now.items)) (length c.args.chosen.now.items) c.args.left
@@ -77,7 +78,7 @@ pub try_rest-try_kept-requires : goal.try_rest-try_kept-requires
 try_rest-try_kept-requires g t c κs within =
     let scope = scope_of g.T.Theory.owned c.args.task.now.problem.now.defs in
     let question = question_of g.T.Theory.denotes c.args.task.now.problem.now in
-    let size = c.args.task.now.limits.now.size in
+    let size = c.args.task.now.level in
     let inside : c.len-function.result < length c.args.task.now.banks.now = omega (arith, c.if-function-task.false) in
     let same : length c.loop-size.chosen.items ≡ length c.args.chosen.now.items = ap length c.loop-size.invariant.chosen in
     let place : c.len-function.result ≡ length c.args.chosen.now.items = omega (arith, c.len-function.ensures, c.args.chosen.now.ok.0) in
@@ -86,12 +87,13 @@ try_rest-try_kept-requires g t c κs within =
     let choices = subst (λ asked. AreChoices scope question asked size (chosen_of g.T.Theory.denotes c.loop-size.chosen.items) (entries_of g.T.Theory.denotes c.kept-kept.result.now) (c.args.left - c.loop-size.size)) (sym c.loop-size.invariant.points)
     (kept_choices g.T.Theory.denotes scope question c.args.known.now.points size c.args.left c.loop-size.size (c.args.left - c.loop-size.size) c.len-function.result c.args.task.now.banks.now c.args.chosen.now.items c.loop-size.chosen.items c.index-task-function.result c.kept-kept.result.now
     c.requires.banks c.requires.begun c.loop-size.invariant.chosen inside c.index-task-function.is place c.kept-kept.ensures (omega (arith, c.loop-size-test.true, c.from-size-end.ensures))) in
+    let opened = subst (λ history. IsOpenNumber c.args.task.now.reach question c.args.task.now.limits.now.size history size) (sym c.loop-size.invariant.history) c.requires.opened in
     let room = same_room g.T.Theory.denotes c.args.known.now.stored c.loop-size.known.stored c.args.task.now.limits.now.rounds c.loop-size.invariant.history c.requires.room in
-    (omega (arith, few, same, c.decreases), (within.0, (within.1.0, (within.1.1.0, (within.1.1.1.0, (within.1.1.1.1, (c.requires.problem, (c.requires.grammars, (c.requires.negation, (banks, (few, (choices, (c.loop-size.invariant.known, room)))))))))))))
+    (omega (arith, few, same, c.decreases), (within.0, (within.1.0, (within.1.1.0, (within.1.1.1.0, (within.1.1.1.1, (c.requires.problem, (banks, (few, (choices, (opened, (c.loop-size.invariant.known, room))))))))))))
 
 pub try_rest-loop-size-preserved : goal.try_rest-loop-size-preserved
 try_rest-loop-size-preserved g t c =
-    let goes = rw c.in-Next.is at (goes_after g.T.Theory.owned g.T.Theory.denotes g.D.Decide.accepted g.D.Decide.budget g.D.Decide.shows (question_of g.T.Theory.denotes c.args.task.now.problem.now) c.args.task.now.limits.now (history_of g.T.Theory.denotes c.args.known.now.stored) (history_of g.T.Theory.denotes c.loop-size.known.stored) (history_of g.T.Theory.denotes c.try_kept.new.known.stored)
+    let goes = rw c.in-Next.is at (goes_after g.T.Theory.owned g.T.Theory.denotes g.D.Decide.accepted g.D.Decide.budget g.D.Decide.shows c.args.task.now.reach (question_of g.T.Theory.denotes c.args.task.now.problem.now) c.args.task.now.limits.now (history_of g.T.Theory.denotes c.args.known.now.stored) (history_of g.T.Theory.denotes c.loop-size.known.stored) (history_of g.T.Theory.denotes c.try_kept.new.known.stored)
     c.args.known.now.points c.loop-size.known.points c.try_kept.new.known.points c.in_ok-try_kept.field-0 c.loop-size.invariant.history c.loop-size.invariant.points c.in_ok-try_kept.ensures.step) in
     record {
       chosen = c.in_ok-try_kept.ensures.chosen ∙ c.loop-size.invariant.chosen;

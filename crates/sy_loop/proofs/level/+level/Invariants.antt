@@ -2,8 +2,7 @@ use Rattle.std.proofs.Common.{◌≡◌, ◌+◌, ◌-◌, ◌*◌, ◌++◌, �
 use Rattle.std.specs.Prelude.{All}
 use Rattle.sy_grammar_base.specs.Questions.{question_of}
 use Rattle.sy_bank_rows.specs.Covering.{terms}
-use Rattle.sy_bank_rows.specs.Stored.{entry_of}
-use Rattle.sy_bank_columns.specs.Chosen.{chosen_of}
+use Rattle.sy_bank_rows.specs.Stored.{entry_of, chosen_of}
 use Rattle.sy_bank.specs.Bank.{merged_of}
 use Rattle.sy_loop_history.specs.Stored.{history_of}
 use Rattle.sy_loop_candidate.specs.Known.{IsKnown}
@@ -20,7 +19,7 @@ decreases-try_kept g l = 2 * (length l.task.now.banks.now - length l.chosen.now.
 abbrev pub invariant-try_rest-loop-size : goal.invariant-try_rest-loop-size
 invariant-try_rest-loop-size g l = record {
   chosen : l.chosen.items ≡ l.initial.chosen.items;
-  known : IsKnown (question_of g.T.Theory.denotes l.task.problem.now) l.task.limits.now (history_of g.T.Theory.denotes l.known.stored) l.known.points;
+  known : IsKnown l.task.reach (question_of g.T.Theory.denotes l.task.problem.now) l.task.limits.now (history_of g.T.Theory.denotes l.known.stored) l.known.points;
   history : history_of g.T.Theory.denotes l.known.stored ≡ history_of g.T.Theory.denotes l.initial.known.stored;
   points : l.known.points ≡ l.initial.known.points;
   refuted : AreRefutedBelow (question_of g.T.Theory.denotes l.task.problem.now) (history_of g.T.Theory.denotes l.initial.known.stored) l.initial.known.points (merged_of g.T.Theory.denotes l.bank)
@@ -30,7 +29,7 @@ invariant-try_rest-loop-size g l = record {
 abbrev pub invariant-try_kept-loop-choice : goal.invariant-try_kept-loop-choice
 invariant-try_kept-loop-choice g l = record {
   chosen : l.chosen.items ≡ l.initial.chosen.items;
-  known : IsKnown (question_of g.T.Theory.denotes l.task.problem.now) l.task.limits.now (history_of g.T.Theory.denotes l.known.stored) l.known.points;
+  known : IsKnown l.task.reach (question_of g.T.Theory.denotes l.task.problem.now) l.task.limits.now (history_of g.T.Theory.denotes l.known.stored) l.known.points;
   history : history_of g.T.Theory.denotes l.known.stored ≡ history_of g.T.Theory.denotes l.initial.known.stored;
   points : l.known.points ≡ l.initial.known.points;
   refuted : All (λ term. AllAreRefuted (question_of g.T.Theory.denotes l.task.problem.now) (history_of g.T.Theory.denotes l.initial.known.stored) l.initial.known.points

@@ -1,6 +1,6 @@
 use Rattle.std.proofs.Common.{◌≡◌, map, take}
 use Rattle.sy_terms.specs.Denoted.{expr_of}
-use Rattle.sy_bank_columns.specs.Chosen.{chosen_of}
+use Rattle.sy_bank_rows.specs.Stored.{chosen_of}
 use Rattle.sy_bank_rows.specs.Covering.{terms}
 use Rattle.sy_loop.proofs.level.copied_bodies.Given as goal
 

@@ -6,7 +6,10 @@ pub of-requires : goal.of-requires
 of-requires g c = (rw c.in-Points.is at c.requires).1
 
 pub returns-in-Found : goal.returns-in-Found
-returns-in-Found g c = rw c.in-Found.is at c.requires
+returns-in-Found g c = (rw c.in-Found.is at c.requires).0
+
+pub returns-in-Rounds : goal.returns-in-Rounds
+returns-in-Rounds g c = rw c.in-Rounds.is at c.requires
 
 pub returns-in_ok-tuples-in-Points : goal.returns-in_ok-tuples-in-Points
 returns-in_ok-tuples-in-Points g c =

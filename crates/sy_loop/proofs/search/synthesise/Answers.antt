@@ -1,16 +1,18 @@
 use Rattle.std.proofs.Common.{arith, length, ◌≡◌}
 use Rattle.std.proofs.lemmas.List.{length-map}
 use Rattle.sy_grammar_base.specs.Questions.{question_of, goal_of}
+use Rattle.sy_loop_bounds.specs.declared.reach.Reach.TheVariants.{Sizes}
 use Rattle.sy_loop_laws.proofs.Done as done
 use Rattle.sy_loop.proofs.Carrying.{none_carried}
-use Rattle.sy_loop.proofs.Rounding.{nothing_known}
+use Rattle.sy_loop.proofs.Rounding.{nothing_known, rounds_none}
 use Rattle.sy_loop.proofs.search.synthesise.Goals as goal
 
 pub rounds-init : goal.rounds-init
 rounds-init g c =
     let all : c.len-functions.result ≡ length (question_of g.T.Theory.denotes c.args.problem.now).goals = omega (arith, c.len-functions.ensures, length-map c.args.problem.now.wanted (goal_of g.T.Theory.denotes)) in
     record {
-      known = rw c.new.ensures (nothing_known (question_of g.T.Theory.denotes c.args.problem.now) c.args.limits.now c.in_ok-new.field-0 c.len-functions.result all c.in_ok-new.ensures.tuples c.in_ok-new.ensures.limit);
+      known = rw c.new.ensures (nothing_known Sizes (question_of g.T.Theory.denotes c.args.problem.now) c.args.limits.now c.in_ok-new.field-0 c.len-functions.result all c.in_ok-new.ensures.tuples c.in_ok-new.ensures.limit);
+      room = rw c.new.ensures (omega (arith, c.if-limits-eq0.false));
       within = omega arith;
       carried = rw c.new-banks.ensures.items (none_carried g.T.Theory.owned g.T.Theory.denotes c.args.problem.now c.args.limits.now 0);
       done = done.begins (question_of g.T.Theory.denotes c.args.problem.now) _ _;
@@ -22,10 +24,17 @@ run_round-requires-clause-functions g c = c.len-functions.ensures
 pub rounds-preserved : goal.rounds-preserved
 rounds-preserved g c =
     let goes = rw c.in-Goes.is at c.in_ok-more.ensures.round in
-    record { known = goes.0; within = goes.1; carried = rw c.in-Goes.is at c.in_ok-more.ensures.carries; done = rw c.in-Goes.is at c.in_ok-more.ensures.done }
+    record { known = goes.0; room = goes.1; within = goes.2; carried = rw c.in-Goes.is at c.in_ok-more.ensures.carries; done = rw c.in-Goes.is at c.in_ok-more.ensures.done }
 
 pub rounds-smaller : goal.rounds-smaller
-rounds-smaller g c = (rw c.in-Goes.is at c.in_ok-more.ensures.round).2
+rounds-smaller g c = (rw c.in-Goes.is at c.in_ok-more.ensures.round).3
 
 pub returns-in-Ends : goal.returns-in-Ends
 returns-in-Ends g c = rw c.in-Ends.is at c.in_ok-more.ensures.round
+
+pub returns-then-limits-eq0 : goal.returns-then-limits-eq0
+returns-then-limits-eq0 g c =
+    let all : c.len-functions.result ≡ length (question_of g.T.Theory.denotes c.args.problem.now).goals = omega (arith, c.len-functions.ensures, length-map c.args.problem.now.wanted (goal_of g.T.Theory.denotes)) in
+    rw c.new.ensures
+    (rounds_none Sizes (question_of g.T.Theory.denotes c.args.problem.now) c.args.limits.now c.in_ok-new.field-0 (nothing_known Sizes (question_of g.T.Theory.denotes c.args.problem.now) c.args.limits.now c.in_ok-new.field-0 c.len-functions.result all c.in_ok-new.ensures.tuples c.in_ok-new.ensures.limit)
+    (omega (arith, c.if-limits-eq0.true)))

@@ -1,5 +1,6 @@
-use Rattle.std.proofs.Common.{◌≤◌}
+use Rattle.std.proofs.Common.{◌≤◌, ◌<◌, length}
 use Rattle.sy_grammar_base.specs.Questions.{question_of}
+use Rattle.sy_loop_bounds.specs.declared.reach.Reach.TheVariants.{Sizes}
 use Rattle.sy_loop_history.specs.Stored.{history_of}
 use Rattle.sy_loop_candidate.specs.Known.{IsKnown}
 use Rattle.sy_loop.specs.Banks.{AreCarried}
@@ -12,7 +13,8 @@ decreases-rounds g l = work l.limits (history_of g.T.Theory.denotes l.known.stor
 
 abbrev pub invariant-rounds : goal.invariant-rounds
 invariant-rounds g l = record {
-  known : IsKnown (question_of g.T.Theory.denotes l.problem) l.limits (history_of g.T.Theory.denotes l.known.stored) l.known.points;
+  known : IsKnown Sizes (question_of g.T.Theory.denotes l.problem) l.limits (history_of g.T.Theory.denotes l.known.stored) l.known.points;
+  room : length l.known.stored.items < l.limits.rounds;
   within : l.level ≤ l.limits.size;
   done : AreDoneBelow (question_of g.T.Theory.denotes l.problem) (history_of g.T.Theory.denotes l.known.stored) l.known.points l.level;
   carried : AreCarried g.T.Theory.owned g.T.Theory.denotes l.problem l.limits l.level l.banks.items;

@@ -4,23 +4,30 @@ use Rattle.sy_terms.specs.declared.sort.Value.{Value}
 use Rattle.sy_terms.specs.declared.term.Term.{Term}
 use Rattle.sy_grammar_base.specs.Questions.{question_of}
 use Rattle.sy_loop_history.specs.Stored.{counterexample_of, history_of}
-use Rattle.sy_loop_candidate.proofs.Assignments.{place_of, values_at}
-use Rattle.sy_loop_candidate.proofs.Asking.{known_with, asks_at, asks_leaves}
+use Rattle.sy_loop_candidate.proofs.Assignments.{place_of}
+use Rattle.sy_loop_candidate.proofs.Asking.{held_with, widened, widens_not, asks_at, asks_leaves}
 use Rattle.sy_loop_candidate.proofs.asks.ask_at.Goals as goal
 
 pub calls_at-requires-clause-values : goal.calls_at-requires-clause-values
 calls_at-requires-clause-values g c =
     let pair : List (Value g.row.T-Num.Denot) × List (Term g.row.T.Denot g.row.T-Num.Denot) = (c.in-Some.assignment.now, c.in-Some.field-0-1.now) in
     let at = place_of g.T.Theory.denotes c.args.stored.now c.args.place pair c.in-Some.ensures in
-    rw c.as_slice.ensures (values_at (question_of g.T.Theory.denotes c.args.problem.now) c.args.limits.now.size c.args.limits.now.rounds (history_of g.T.Theory.denotes c.args.stored.now) c.args.place (counterexample_of g.T.Theory.denotes pair) c.requires.known.honest at)
+    rw c.as_slice.ensures (c.requires.held.assigned c.args.place (counterexample_of g.T.Theory.denotes pair) at)
 
-pub returns-in_ok-adding-in-Some-2-clause-known : goal.returns-in_ok-adding-in-Some-2-clause-known
-returns-in_ok-adding-in-Some-2-clause-known g c =
+pub returns-in_ok-adding-in-Some-2-clause-held : goal.returns-in_ok-adding-in-Some-2-clause-held
+returns-in_ok-adding-in-Some-2-clause-held g c =
+    let pair : List (Value g.row.T-Num.Denot) × List (Term g.row.T.Denot g.row.T-Num.Denot) = (c.in-Some.assignment.now, c.in-Some.field-0-1.now) in
+    let are = rw (c.in-Some-2.is, c.as_slice.ensures) at c.in_ok-calls.ensures in
+    held_with (question_of g.T.Theory.denotes c.args.problem.now) c.args.limits.now (history_of g.T.Theory.denotes c.args.stored.now) (map (expr_of g.T.Theory.denotes) c.args.bodies.now) (counterexample_of g.T.Theory.denotes pair) c.in-Some-2.calls are.taken are.only
+    c.args.points.now c.add_calls.new.points c.requires.held c.in_ok-adding-in-Some-2.ensures.gains
+
+pub returns-in_ok-adding-in-Some-2-clause-widens : goal.returns-in_ok-adding-in-Some-2-clause-widens
+returns-in_ok-adding-in-Some-2-clause-widens g c =
     let pair : List (Value g.row.T-Num.Denot) × List (Term g.row.T.Denot g.row.T-Num.Denot) = (c.in-Some.assignment.now, c.in-Some.field-0-1.now) in
     let at = place_of g.T.Theory.denotes c.args.stored.now c.args.place pair c.in-Some.ensures in
     let are = rw (c.in-Some-2.is, c.as_slice.ensures) at c.in_ok-calls.ensures in
-    known_with (question_of g.T.Theory.denotes c.args.problem.now) c.args.limits.now (history_of g.T.Theory.denotes c.args.stored.now) (map (expr_of g.T.Theory.denotes) c.args.bodies.now) (counterexample_of g.T.Theory.denotes pair) c.in-Some-2.calls are.taken are.only
-    c.args.points.now c.add_calls.new.points c.args.place at c.requires.candidate c.requires.known c.in_ok-adding-in-Some-2.ensures.gains
+    widened (question_of g.T.Theory.denotes c.args.problem.now) c.args.limits.now (history_of g.T.Theory.denotes c.args.stored.now) (map (expr_of g.T.Theory.denotes) c.args.bodies.now) (counterexample_of g.T.Theory.denotes pair) c.in-Some-2.calls are.taken are.only
+    c.args.points.now c.add_calls.new.points c.args.place at c.in_ok-adding-in-Some-2.ensures.gains
 
 pub returns-in_ok-adding-in-Some-2-clause-answer : goal.returns-in_ok-adding-in-Some-2-clause-answer
 returns-in_ok-adding-in-Some-2-clause-answer g c =
@@ -35,3 +42,7 @@ returns-in-None-clause-answer g c =
     let at = place_of g.T.Theory.denotes c.args.stored.now c.args.place pair c.in-Some.ensures in
     asks_leaves (question_of g.T.Theory.denotes c.args.problem.now) (history_of g.T.Theory.denotes c.args.stored.now) (map (expr_of g.T.Theory.denotes) c.args.bodies.now) (counterexample_of g.T.Theory.denotes pair) c.args.place at
     (rw (c.in-None.is, c.as_slice.ensures) at c.in_ok-calls.ensures)
+
+pub returns-in-None-clause-widens : goal.returns-in-None-clause-widens
+returns-in-None-clause-widens g c =
+    widens_not (question_of g.T.Theory.denotes c.args.problem.now) (history_of g.T.Theory.denotes c.args.stored.now) (map (expr_of g.T.Theory.denotes) c.args.bodies.now) c.args.points.now

@@ -1,5 +1,5 @@
 use Rattle.std.proofs.Common.{take}
-use Rattle.sy_loop_candidate.specs.Adding.{Gains, AreAsked}
+use Rattle.sy_loop_history.specs.Adding.{Gains, AreAsked}
 use Rattle.sy_loop_candidate.proofs.Tuples.{Changed}
 use Rattle.sy_loop_candidate.proofs.calls.add_calls.Given as goal
 

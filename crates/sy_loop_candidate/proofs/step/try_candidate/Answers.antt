@@ -2,13 +2,21 @@ use Rattle.std.proofs.Common.{map}
 use Rattle.sy_terms.specs.Denoted.{expr_of, vals_of}
 use Rattle.sy_grammar_base.specs.Questions.{question_of}
 use Rattle.sy_loop_history.specs.Stored.{history_of}
-use Rattle.sy_loop_candidate.proofs.Asking.{grows_then}
-use Rattle.sy_loop_candidate.proofs.Ending.{points_met, checked_leaves}
+use Rattle.sy_loop_candidate.proofs.Asking.{grows_by, grows_then, known_wider}
+use Rattle.sy_loop_candidate.proofs.Ending.{points_met, checked_leaves, room_in}
 use Rattle.sy_loop_candidate.proofs.step.try_candidate.Goals as goal
+
+pub try_bodies-requires-clause-held : goal.try_bodies-requires-clause-held
+try_bodies-requires-clause-held g c = c.requires.known.held
+
+pub decide_due-requires-clause-known : goal.decide_due-requires-clause-known
+decide_due-requires-clause-known g c =
+    known_wider (question_of g.T.Theory.denotes c.args.problem.now) (history_of g.T.Theory.denotes c.args.known.now.stored) (map (expr_of g.T.Theory.denotes) c.args.bodies) c.args.reach c.args.limits.now c.args.known.now.points c.try_bodies.new.points c.requires.candidate c.requires.known c.in_ok-try_bodies.ensures.held c.in_ok-try_bodies.ensures.widens
 
 pub decide_due-requires-clause-due : goal.decide_due-requires-clause-due
 decide_due-requires-clause-due g c =
-    let answer = rw c.in-Due.is at c.in_ok-try_bodies.ensures.answer in answer.0
+    let answer = rw c.in-Due.is at c.in_ok-try_bodies.ensures.answer in
+    record { candidate = c.requires.candidate; meets = answer.0 }
 
 pub decide_due-requires-clause-traced : goal.decide_due-requires-clause-traced
 decide_due-requires-clause-traced g c =
@@ -21,16 +29,49 @@ returns-in_ok-step-in-Due-clause-step g c =
 
 pub returns-in_ok-assignment-in-Full-clause-step : goal.returns-in_ok-assignment-in-Full-clause-step
 returns-in_ok-assignment-in-Full-clause-step g c =
-    let met = points_met (question_of g.T.Theory.denotes c.args.problem.now) c.args.limits.now (history_of g.T.Theory.denotes c.args.known.now.stored) c.try_bodies.new.points (map (expr_of g.T.Theory.denotes) c.args.bodies) c.in-Full.function c.in-Full.place (vals_of g.T.Theory.denotes c.in_ok-assignment-in-Full.assignment)
-    c.in_ok-try_bodies.ensures.known c.requires.candidate (rw c.in-Full.is at c.in_ok-try_bodies.ensures.answer) c.in_ok-assignment-in-Full.ensures in
+    let known = known_wider (question_of g.T.Theory.denotes c.args.problem.now) (history_of g.T.Theory.denotes c.args.known.now.stored) (map (expr_of g.T.Theory.denotes) c.args.bodies) c.args.reach c.args.limits.now c.args.known.now.points c.try_bodies.new.points c.requires.candidate c.requires.known c.in_ok-try_bodies.ensures.held c.in_ok-try_bodies.ensures.widens in
+    let met = points_met c.args.reach (question_of g.T.Theory.denotes c.args.problem.now) c.args.limits.now (history_of g.T.Theory.denotes c.args.known.now.stored) c.try_bodies.new.points (map (expr_of g.T.Theory.denotes) c.args.bodies) c.in-Full.function c.in-Full.place (vals_of g.T.Theory.denotes c.in_ok-assignment-in-Full.assignment)
+    known (room_in g.T.Theory.denotes c.args.known.now.stored c.args.limits.now.rounds c.requires.room) c.requires.candidate (rw c.in-Full.is at c.in_ok-try_bodies.ensures.answer) c.in_ok-assignment-in-Full.ensures in
     (met, tt)
 
 pub returns-in_ok-assignment-in-Leaves-clause-step : goal.returns-in_ok-assignment-in-Leaves-clause-step
 returns-in_ok-assignment-in-Leaves-clause-step g c =
-    let leaves = checked_leaves (question_of g.T.Theory.denotes c.args.problem.now) c.args.limits.now (history_of g.T.Theory.denotes c.args.known.now.stored) (map (expr_of g.T.Theory.denotes) c.args.bodies) c.in-Leaves.place (vals_of g.T.Theory.denotes c.in_ok-assignment-in-Leaves.assignment)
-    c.requires.known.honest c.requires.candidate (rw c.in-Leaves.is at c.in_ok-try_bodies.ensures.answer) c.in_ok-assignment-in-Leaves.ensures in
+    let leaves = checked_leaves c.args.reach (question_of g.T.Theory.denotes c.args.problem.now) c.args.limits.now (history_of g.T.Theory.denotes c.args.known.now.stored) (map (expr_of g.T.Theory.denotes) c.args.bodies) c.in-Leaves.place (vals_of g.T.Theory.denotes c.in_ok-assignment-in-Leaves.assignment)
+    c.requires.known.honest (room_in g.T.Theory.denotes c.args.known.now.stored c.args.limits.now.rounds c.requires.room) c.requires.candidate (rw c.in-Leaves.is at c.in_ok-try_bodies.ensures.answer) c.in_ok-assignment-in-Leaves.ensures in
     (leaves, tt)
 
 pub returns-in_ok-step-in-Due-clause-grows : goal.returns-in_ok-step-in-Due-clause-grows
 returns-in_ok-step-in-Due-clause-grows g c =
-    grows_then c.args.known.now.points c.try_bodies.new.points c.decide_due.new.known.points c.in_ok-try_bodies.ensures.grows c.in_ok-step-in-Due.ensures.grows
+    grows_then c.args.known.now.points c.try_bodies.new.points c.decide_due.new.known.points (grows_by (question_of g.T.Theory.denotes c.args.problem.now) (history_of g.T.Theory.denotes c.args.known.now.stored) (map (expr_of g.T.Theory.denotes) c.args.bodies) c.args.known.now.points c.try_bodies.new.points c.in_ok-try_bodies.ensures.widens) c.in_ok-step-in-Due.ensures.grows
+
+pub returns-in-Refuted-clause-known : goal.returns-in-Refuted-clause-known
+returns-in-Refuted-clause-known g c =
+    known_wider (question_of g.T.Theory.denotes c.args.problem.now) (history_of g.T.Theory.denotes c.args.known.now.stored) (map (expr_of g.T.Theory.denotes) c.args.bodies) c.args.reach c.args.limits.now c.args.known.now.points c.try_bodies.new.points c.requires.candidate c.requires.known c.in_ok-try_bodies.ensures.held c.in_ok-try_bodies.ensures.widens
+
+pub returns-in-Refuted-clause-grows : goal.returns-in-Refuted-clause-grows
+returns-in-Refuted-clause-grows g c =
+    grows_by (question_of g.T.Theory.denotes c.args.problem.now) (history_of g.T.Theory.denotes c.args.known.now.stored) (map (expr_of g.T.Theory.denotes) c.args.bodies) c.args.known.now.points c.try_bodies.new.points c.in_ok-try_bodies.ensures.widens
+
+pub returns-in-Asks-clause-known : goal.returns-in-Asks-clause-known
+returns-in-Asks-clause-known g c =
+    known_wider (question_of g.T.Theory.denotes c.args.problem.now) (history_of g.T.Theory.denotes c.args.known.now.stored) (map (expr_of g.T.Theory.denotes) c.args.bodies) c.args.reach c.args.limits.now c.args.known.now.points c.try_bodies.new.points c.requires.candidate c.requires.known c.in_ok-try_bodies.ensures.held c.in_ok-try_bodies.ensures.widens
+
+pub returns-in-Asks-clause-grows : goal.returns-in-Asks-clause-grows
+returns-in-Asks-clause-grows g c =
+    grows_by (question_of g.T.Theory.denotes c.args.problem.now) (history_of g.T.Theory.denotes c.args.known.now.stored) (map (expr_of g.T.Theory.denotes) c.args.bodies) c.args.known.now.points c.try_bodies.new.points c.in_ok-try_bodies.ensures.widens
+
+pub returns-in_ok-assignment-in-Full-clause-known : goal.returns-in_ok-assignment-in-Full-clause-known
+returns-in_ok-assignment-in-Full-clause-known g c =
+    known_wider (question_of g.T.Theory.denotes c.args.problem.now) (history_of g.T.Theory.denotes c.args.known.now.stored) (map (expr_of g.T.Theory.denotes) c.args.bodies) c.args.reach c.args.limits.now c.args.known.now.points c.try_bodies.new.points c.requires.candidate c.requires.known c.in_ok-try_bodies.ensures.held c.in_ok-try_bodies.ensures.widens
+
+pub returns-in_ok-assignment-in-Full-clause-grows : goal.returns-in_ok-assignment-in-Full-clause-grows
+returns-in_ok-assignment-in-Full-clause-grows g c =
+    grows_by (question_of g.T.Theory.denotes c.args.problem.now) (history_of g.T.Theory.denotes c.args.known.now.stored) (map (expr_of g.T.Theory.denotes) c.args.bodies) c.args.known.now.points c.try_bodies.new.points c.in_ok-try_bodies.ensures.widens
+
+pub returns-in_ok-assignment-in-Leaves-clause-known : goal.returns-in_ok-assignment-in-Leaves-clause-known
+returns-in_ok-assignment-in-Leaves-clause-known g c =
+    known_wider (question_of g.T.Theory.denotes c.args.problem.now) (history_of g.T.Theory.denotes c.args.known.now.stored) (map (expr_of g.T.Theory.denotes) c.args.bodies) c.args.reach c.args.limits.now c.args.known.now.points c.try_bodies.new.points c.requires.candidate c.requires.known c.in_ok-try_bodies.ensures.held c.in_ok-try_bodies.ensures.widens
+
+pub returns-in_ok-assignment-in-Leaves-clause-grows : goal.returns-in_ok-assignment-in-Leaves-clause-grows
+returns-in_ok-assignment-in-Leaves-clause-grows g c =
+    grows_by (question_of g.T.Theory.denotes c.args.problem.now) (history_of g.T.Theory.denotes c.args.known.now.stored) (map (expr_of g.T.Theory.denotes) c.args.bodies) c.args.known.now.points c.try_bodies.new.points c.in_ok-try_bodies.ensures.widens

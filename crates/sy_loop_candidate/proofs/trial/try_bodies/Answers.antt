@@ -8,9 +8,9 @@ use Rattle.sy_grammar_base.specs.Solving.{Meets}
 use Rattle.sy_loop_history.specs.Histories.{Counterexample}
 use Rattle.sy_loop_history.specs.Stored.{counterexample_of, history_of}
 use Rattle.sy_loop_candidate.proofs.Items.{all_next, all_done}
-use Rattle.sy_loop_candidate.proofs.Assignments.{place_of, values_at, calls_within, knows, tried, leaves_at}
-use Rattle.sy_loop_candidate.specs.Traces.{Grows}
-use Rattle.sy_loop_candidate.proofs.Asking.{grows_by, grows_not}
+use Rattle.sy_loop_candidate.proofs.Assignments.{place_of, calls_within, holds, widens, tried, leaves_at}
+use Rattle.sy_loop_candidate.specs.Traces.{Widens}
+use Rattle.sy_loop_candidate.proofs.Asking.{widens_not}
 use Rattle.sy_loop_candidate.proofs.trial.try_bodies.Goals as goal
 
 pub loop-place-init : goal.loop-place-init
@@ -23,24 +23,23 @@ pub judge-requires-clause-values : goal.judge-requires-clause-values
 judge-requires-clause-values g c =
     let pair : List (Value g.row.T-Num.Denot) × List (Term g.row.T.Denot g.row.T-Num.Denot) = (c.in-Some.assignment.now, c.in-Some.field-0-1.now) in
     let at = place_of g.T.Theory.denotes c.args.stored.now c.loop-place.place pair c.in-Some.ensures in
-    rw c.as_slice.ensures (values_at (question_of g.T.Theory.denotes c.args.problem.now) c.args.limits.now.size c.args.limits.now.rounds (history_of g.T.Theory.denotes c.args.stored.now) c.loop-place.place (counterexample_of g.T.Theory.denotes pair) c.requires.known.honest at)
+    rw c.as_slice.ensures (c.requires.held.assigned c.loop-place.place (counterexample_of g.T.Theory.denotes pair) at)
 
 pub add_calls-requires : goal.add_calls-requires
 add_calls-requires g c =
     let pair : List (Value g.row.T-Num.Denot) × List (Term g.row.T.Denot g.row.T-Num.Denot) = (c.in-Some.assignment.now, c.in-Some.field-0-1.now) in
-    let known = rw (sym c.loop-place.invariant.same) at c.requires.known in
+    let held = rw (sym c.loop-place.invariant.same) at c.requires.held in
     record {
       within = calls_within (question_of g.T.Theory.denotes c.args.problem.now) c.args.limits.now (history_of g.T.Theory.denotes c.args.stored.now) (map (expr_of g.T.Theory.denotes) c.args.bodies.now) (counterexample_of g.T.Theory.denotes pair) c.in-False.calls
-          (rw (c.in-False.is, c.as_slice.ensures) at c.in_ok-judge.ensures) c.loop-place.points known;
+          (rw (c.in-False.is, c.as_slice.ensures) at c.in_ok-judge.ensures) c.loop-place.points held;
     }
 
-pub returns-in-False-clause-known : goal.returns-in-False-clause-known
-returns-in-False-clause-known g c =
+pub returns-in-False-clause-held : goal.returns-in-False-clause-held
+returns-in-False-clause-held g c =
     let pair : List (Value g.row.T-Num.Denot) × List (Term g.row.T.Denot g.row.T-Num.Denot) = (c.in-Some.assignment.now, c.in-Some.field-0-1.now) in
-    let at = place_of g.T.Theory.denotes c.args.stored.now c.loop-place.place pair c.in-Some.ensures in
-    let known = rw (sym c.loop-place.invariant.same) at c.requires.known in
-    knows (question_of g.T.Theory.denotes c.args.problem.now) c.args.limits.now (history_of g.T.Theory.denotes c.args.stored.now) (map (expr_of g.T.Theory.denotes) c.args.bodies.now) (counterexample_of g.T.Theory.denotes pair) c.in-False.calls
-    (rw (c.in-False.is, c.as_slice.ensures) at c.in_ok-judge.ensures) c.loop-place.points c.add_calls.new.points c.loop-place.place at c.requires.candidate known c.in_ok-adding-in-False.ensures.gains
+    let held = rw (sym c.loop-place.invariant.same) at c.requires.held in
+    holds (question_of g.T.Theory.denotes c.args.problem.now) c.args.limits.now (history_of g.T.Theory.denotes c.args.stored.now) (map (expr_of g.T.Theory.denotes) c.args.bodies.now) (counterexample_of g.T.Theory.denotes pair) c.in-False.calls
+    (rw (c.in-False.is, c.as_slice.ensures) at c.in_ok-judge.ensures) c.loop-place.points c.add_calls.new.points held c.in_ok-adding-in-False.ensures.gains
 
 pub returns-in-False-clause-answer : goal.returns-in-False-clause-answer
 returns-in-False-clause-answer g c =
@@ -50,8 +49,8 @@ returns-in-False-clause-answer g c =
     (tried (question_of g.T.Theory.denotes c.args.problem.now) c.args.limits.now (history_of g.T.Theory.denotes c.args.stored.now) (map (expr_of g.T.Theory.denotes) c.args.bodies.now) (counterexample_of g.T.Theory.denotes pair) c.in-False.calls
     (rw (c.in-False.is, c.as_slice.ensures) at c.in_ok-judge.ensures) c.args.points.now c.add_calls.new.points c.loop-place.place c.in_ok-adding-in-False.adding at (rw c.loop-place.invariant.same at c.in_ok-adding-in-False.ensures.answer))
 
-pub returns-in-Leaves-clause-known : goal.returns-in-Leaves-clause-known
-returns-in-Leaves-clause-known g c = rw c.loop-place.invariant.same c.requires.known
+pub returns-in-Leaves-clause-held : goal.returns-in-Leaves-clause-held
+returns-in-Leaves-clause-held g c = rw c.loop-place.invariant.same c.requires.held
 
 pub returns-in-Leaves-clause-answer : goal.returns-in-Leaves-clause-answer
 returns-in-Leaves-clause-answer g c =
@@ -69,25 +68,28 @@ loop-place-preserved g c =
           (rw (c.in-True.is, c.as_slice.ensures) at c.in_ok-judge.ensures);
     }
 
-pub ask_all-requires-clause-due : goal.ask_all-requires-clause-due
-ask_all-requires-clause-due g c = record {
-  candidate = c.requires.candidate;
-  meets = all_done (λ (k : Counterexample). Meets (question_of g.T.Theory.denotes c.args.problem.now) (map (expr_of g.T.Theory.denotes) c.args.bodies.now) k.assignment) (counterexample_of g.T.Theory.denotes) c.args.stored.now.items c.loop-place.place (omega (arith, c.loop-place-test.false, c.len-place-end.ensures)) c.loop-place.invariant.meets;
-}
+pub ask_all-requires-clause-meets : goal.ask_all-requires-clause-meets
+ask_all-requires-clause-meets g c =
+    all_done (λ (k : Counterexample). Meets (question_of g.T.Theory.denotes c.args.problem.now) (map (expr_of g.T.Theory.denotes) c.args.bodies.now) k.assignment) (counterexample_of g.T.Theory.denotes) c.args.stored.now.items c.loop-place.place (omega (arith, c.loop-place-test.false, c.len-place-end.ensures)) c.loop-place.invariant.meets
 
-pub ask_all-requires-clause-known : goal.ask_all-requires-clause-known
-ask_all-requires-clause-known g c = rw c.loop-place.invariant.same c.requires.known
+pub ask_all-requires-clause-held : goal.ask_all-requires-clause-held
+ask_all-requires-clause-held g c = rw c.loop-place.invariant.same c.requires.held
 
 pub returns-clause-answer : goal.returns-clause-answer
 returns-clause-answer g c = rw c.loop-place.invariant.same at c.in_ok-trial.ensures.answer
 
-pub returns-in-False-clause-grows : goal.returns-in-False-clause-grows
-returns-in-False-clause-grows g c =
-    subst (λ points. Grows points c.add_calls.new.points) c.loop-place.invariant.same
-    (grows_by c.in-False.calls c.loop-place.points c.add_calls.new.points c.in_ok-adding-in-False.ensures.gains)
+pub returns-in-False-clause-widens : goal.returns-in-False-clause-widens
+returns-in-False-clause-widens g c =
+    let pair : List (Value g.row.T-Num.Denot) × List (Term g.row.T.Denot g.row.T-Num.Denot) = (c.in-Some.assignment.now, c.in-Some.field-0-1.now) in
+    let at = place_of g.T.Theory.denotes c.args.stored.now c.loop-place.place pair c.in-Some.ensures in
+    subst (λ points. Widens (question_of g.T.Theory.denotes c.args.problem.now) (history_of g.T.Theory.denotes c.args.stored.now) (map (expr_of g.T.Theory.denotes) c.args.bodies.now) points c.add_calls.new.points) c.loop-place.invariant.same
+    (widens (question_of g.T.Theory.denotes c.args.problem.now) c.args.limits.now (history_of g.T.Theory.denotes c.args.stored.now) (map (expr_of g.T.Theory.denotes) c.args.bodies.now) (counterexample_of g.T.Theory.denotes pair) c.in-False.calls
+    (rw (c.in-False.is, c.as_slice.ensures) at c.in_ok-judge.ensures) c.loop-place.points c.add_calls.new.points c.loop-place.place at c.in_ok-adding-in-False.ensures.gains)
 
-pub returns-in-Leaves-clause-grows : goal.returns-in-Leaves-clause-grows
-returns-in-Leaves-clause-grows g c = subst (Grows c.args.points.now) (sym c.loop-place.invariant.same) (grows_not c.args.points.now)
+pub returns-in-Leaves-clause-widens : goal.returns-in-Leaves-clause-widens
+returns-in-Leaves-clause-widens g c =
+    subst (Widens (question_of g.T.Theory.denotes c.args.problem.now) (history_of g.T.Theory.denotes c.args.stored.now) (map (expr_of g.T.Theory.denotes) c.args.bodies.now) c.args.points.now) (sym c.loop-place.invariant.same)
+    (widens_not (question_of g.T.Theory.denotes c.args.problem.now) (history_of g.T.Theory.denotes c.args.stored.now) (map (expr_of g.T.Theory.denotes) c.args.bodies.now) c.args.points.now)
 
-pub returns-clause-grows : goal.returns-clause-grows
-returns-clause-grows g c = rw c.loop-place.invariant.same at c.in_ok-trial.ensures.grows
+pub returns-clause-widens : goal.returns-clause-widens
+returns-clause-widens g c = rw c.loop-place.invariant.same at c.in_ok-trial.ensures.widens

@@ -1,5 +1,6 @@
 use Rattle.std.proofs.Common.{ap, Err}
 use Rattle.sy_terms.specs.Denoted.{val_of, vals_of}
+use Rattle.sy_grammar_laws.proofs.Problems.{problem_definitions}
 use Rattle.sy_loop_candidate.proofs.Saying.{says, says_leaves}
 use Rattle.sy_loop_candidate.proofs.truth.decide_term.Goals as goal
 
@@ -12,3 +13,6 @@ pub returns-in-Err-Range : goal.returns-in-Err-Range
 returns-in-Err-Range g c =
     says_leaves g.T.Theory.owned g.T.Theory.denotes c.args.problem.now c.args.bodies.now (vals_of g.T.Theory.denotes c.args.values.now) c.args.term.now c.requires.bodies c.requires.values c.requires.term
     (c.in-Err-Range.ensures.range (ap Err c.in-Err-Range.field-0-is))
+
+pub evaluate_with-requires-clause-definitions : goal.evaluate_with-requires-clause-definitions
+evaluate_with-requires-clause-definitions g c = problem_definitions g.T.Theory.owned g.T.Theory.numeric g.T.Theory.denotes c.args.problem.now c.requires.problem

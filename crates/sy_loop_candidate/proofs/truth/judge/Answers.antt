@@ -1,6 +1,7 @@
 use Rattle.std.proofs.Common.{map}
 use Rattle.sy_terms.specs.Denoted.{expr_of, vals_of}
 use Rattle.sy_grammar_base.specs.Questions.{question_of}
+use Rattle.sy_grammar_laws.proofs.Problems.{problem_assumptions, problem_constraints}
 use Rattle.sy_loop_candidate.proofs.Saying.{judged, unassumed, assumption_leaves}
 use Rattle.sy_loop_candidate.proofs.truth.judge.Goals as goal
 
@@ -19,3 +20,11 @@ returns g c =
     judged (question_of g.T.Theory.denotes c.args.problem.now) (map (expr_of g.T.Theory.denotes) c.args.bodies.now) (vals_of g.T.Theory.denotes c.args.values.now) c.in_ok-judged.judged
     (rw (c.in-True.is, c.as_slice.ensures) at c.in_ok-all_true.ensures)
     (rw c.as_slice-2.ensures at c.in_ok-judged.ensures)
+
+pub all_true-requires-clause-terms : goal.all_true-requires-clause-terms
+all_true-requires-clause-terms g c =
+    rw c.as_slice.ensures (problem_assumptions g.T.Theory.owned g.T.Theory.numeric g.T.Theory.denotes c.args.problem.now c.requires.problem)
+
+pub all_true-requires-2-clause-terms : goal.all_true-requires-2-clause-terms
+all_true-requires-2-clause-terms g c =
+    rw c.as_slice-2.ensures (problem_constraints g.T.Theory.owned g.T.Theory.numeric g.T.Theory.denotes c.args.problem.now c.requires.problem)

@@ -1,7 +1,7 @@
 use Rattle.std.proofs.Common.{sym, ◌∙◌}
 use Rattle.sy_terms.specs.Values.{Whole}
 use Rattle.sy_terms.specs.Denoted.{val_of}
-use Rattle.sy_query_decide.specs.Asked.{query_of}
+use Rattle.sy_query_base.specs.Asked.{query_of}
 use Rattle.sy_loop_candidate_tests.proofs.Deciding.{given}
 use Rattle.sy_loop_candidate_tests.proofs.solver.is_true_at.Goals as goal
 

@@ -8,4 +8,4 @@ try_candidate-requires-clause-bodies c = bodies-fit c.args.problem.now c.in_ok-b
 
 pub try_candidate-requires-clause-candidate : goal.try_candidate-requires-clause-candidate
 try_candidate-requires-clause-candidate c =
-    candidate (question_of Whole c.args.problem.now) c.args.limits.now.size _ c.args.constant c.requires.asks c.in_ok-bodies.ensures c.requires.size
+    candidate (question_of Whole c.args.problem.now) c.args.limits.now.size _ _ c.args.constant c.requires.asks c.in_ok-bodies.ensures c.requires.size

@@ -10,8 +10,8 @@ returns-clause-next c = done.next
 pub returns-clause-stays : goal.returns-clause-stays
 returns-clause-stays c = done.stays
 
-pub returns-clause-covered : goal.returns-clause-covered
-returns-clause-covered c = done.covered
+pub returns-clause-opens : goal.returns-clause-opens
+returns-clause-opens c = done.opens
 
 pub returns-clause-ends : goal.returns-clause-ends
 returns-clause-ends c = done.ends

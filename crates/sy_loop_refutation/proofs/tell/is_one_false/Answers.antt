@@ -2,7 +2,9 @@ use Rattle.std.proofs.Common.{inl, inr}
 use mathlib.Core.Bool.{true≢false}
 use Rattle.sy_terms.specs.Denoted.{expr_of, vals_of}
 use Rattle.sy_grammar_base.specs.Questions.{question_of}
-use Rattle.sy_loop_candidate.proofs.Items.{all_more, all_done, has_at}
+use Rattle.sy_grammar_base.specs.Fits.{IsTruth}
+use Rattle.sy_grammar_laws.proofs.Problems.{problem_constraints}
+use Rattle.sy_loop_candidate.proofs.Items.{item_of, all_more, all_done, has_at}
 use Rattle.sy_loop_refutation.specs.Bodies.{bodies_of}
 use Rattle.sy_loop_refutation.specs.Refuting.{IsUnrefuted}
 use Rattle.sy_loop_refutation.proofs.tell.is_one_false.Goals.{in-True, in-Nothing}
@@ -27,3 +29,8 @@ returns-clause-unrefuted g c =
     let all = all_done (IsUnrefuted (question_of g.T.Theory.denotes c.args.problem.now) c.args.points.now (bodies_of g.T.Theory.denotes c.args.chosen.now) (vals_of g.T.Theory.denotes c.args.values.now))
     (expr_of g.T.Theory.denotes) c.as_slice-term-items.result.now c.loop-term.term-index c.loop-term-test.false c.loop-term.invariant in
     λ _. (rw c.as_slice-term-items.ensures at all)
+
+pub tell-requires-clause-term : goal.tell-requires-clause-term
+tell-requires-clause-term g c =
+    item_of (IsTruth g.T.Theory.owned g.T.Theory.denotes c.args.problem.now) c.as_slice-term-items.result.now c.args.problem.now.constraints c.loop-term.term-index c.term-item.result c.as_slice-term-items.ensures c.loop-term-test.true c.term-item.is
+    (problem_constraints g.T.Theory.owned g.T.Theory.numeric g.T.Theory.denotes c.args.problem.now c.requires.problem)

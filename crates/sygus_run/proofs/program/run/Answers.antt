@@ -2,7 +2,8 @@ use Rattle.std.proofs.Common.{arith, inr, refl, ◌≡◌}
 use Rattle.sy_terms.specs.declared.sort.Logic.TheVariants.{Bv}
 use Rattle.sy_meaning_words.specs.Vectors.{vector}
 use Rattle.sy_scope.specs.Read.{wish_over}
-use Rattle.sygus_run.proofs.Steps.{idle_line, too_long, refused_file, poses, question_count, answered_idle}
+use Rattle.sygus_answers.proofs.Steps.{question_count}
+use Rattle.sygus_run.proofs.Ends.{idle_line, too_long, refused_file, poses, answered_idle}
 use Rattle.sygus_run.proofs.Answerable.{answerable, few_questions, nothing_asked}
 use Rattle.sygus_run.proofs.program.run.Goals as goal
 

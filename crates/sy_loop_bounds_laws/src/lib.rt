@@ -1,0 +1,2 @@
+// Laws of pointwise problems and of conditional trees.
+#![tactic(auto)]

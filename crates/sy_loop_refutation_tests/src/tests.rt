@@ -1,0 +1,85 @@
+// What is shown of a problem without functions to be found, whose assumption and constraint are constants.
+ghost use Rattle.std.specs.Prelude.{◌≡◌, ◌⊎◌, [], ◌∷◌, IfOk};
+ghost use Rattle.sy_terms.specs.Values.{Whole};
+ghost use Rattle.sy_terms.specs.declared.sort.Value.TheVariants.{Truth};
+ghost use Rattle.sy_terms.specs.declared.term.Term.{Const};
+ghost use Rattle.sy_grammar_base.specs.Fits.{ProblemFits};
+
+use std::alloc::Global;
+use std::test::Fail;
+use sy_bank_rows::Kept;
+use sy_grammar_base::Problem;
+use sy_loop_refutation::are_refuted;
+use sy_meaning_integers::IntTheory;
+use sy_points::{Points, Stored};
+use sy_terms::{Seq, Term, Theory, Value, Want};
+
+/// The constant.
+fn constant(alloc: Global, truth: bool) -> Result<Seq<Term<IntTheory>>, Want>
+    ensures { IfOk result (λ terms. terms ≡ Const (Truth truth) ∷ []) }
+{
+    let mut terms = Seq::new(alloc);
+    terms.push(Term::Const(Value::Truth(truth)))?;
+    Ok(terms)
+}
+
+/// The problem of this assumption and this constraint.
+fn posed(alloc: Global, assumption: bool, constraint: bool) -> Result<Problem<IntTheory>, Want>
+    ensures fits { IfOk result (ProblemFits ⟦<IntTheory as Theory>⟧) }
+    ensures nothing { IfOk result (λ problem. (problem.vars ≡ []) × (problem.wanted ≡ [])) }
+{
+    let assumptions = constant(alloc, assumption)?;
+    let constraints = constant(alloc, constraint)?;
+    let (defs, vars, wanted) = (Seq::new(alloc), Seq::new(alloc), Seq::new(alloc));
+    let pool = Seq::new(alloc);
+    let problem = Problem {
+        defs,
+        vars,
+        wanted,
+        assumptions,
+        constraints,
+        pool,
+    };
+    Ok(problem)
+}
+
+/// The assignment of no variables, where it is to be stored.
+fn assigned(alloc: Global, is_stored: bool) -> Result<Stored<IntTheory>, Want>
+    ensures { IfOk result (λ stored. (stored.items ≡ []) ⊎ (stored.items ≡ ([], []) ∷ [])) }
+{
+    let mut stored = Stored::new(alloc);
+    if !is_stored {
+        return Ok(stored);
+    }
+    stored.push(Seq::new(alloc), Seq::new(alloc))?;
+    Ok(stored)
+}
+
+/// Whether the problem is violated at the assignment of no variables, where that is stored.
+fn is_violated(
+    alloc: Global,
+    assumption: bool,
+    constraint: bool,
+    is_stored: bool,
+) -> Result<bool, Want> {
+    let problem = posed(alloc, assumption, constraint)?;
+    let points = Points::<IntTheory>::new(alloc, 0, 1)?;
+    let stored = assigned(alloc, is_stored)?;
+    let chosen: Vec<&Kept<IntTheory>> = Vec::new(alloc);
+    let refuted = are_refuted(alloc, &problem, chosen.as_slice(), &points, &stored)?;
+    Ok(refuted)
+}
+
+#[test]
+fn a_violation_is_shown_where_it_is_stored(rt: HostRuntime) -> Result<(), Fail> {
+    for (assumption, constraint, is_stored, shown) in [
+        (true, false, true, true),
+        (true, true, true, false),
+        (false, false, true, false),
+        (true, false, false, false),
+    ] {
+        let violated = is_violated(rt.alloc(), assumption, constraint, is_stored)?;
+        assert_eq!(rt; violated, shown);
+    }
+    Ok(())
+}

@@ -1,0 +1,42 @@
+use Rattle.std.proofs.Common.{◌∙◌, ◌≡◌, ℕ, sym, ap, subst, slice_get, length, Some, ◌++◌, ◌∷◌, []}
+use Rattle.std.proofs.lemmas.List.{map_push, length-map}
+use Rattle.sy_loop_subterms.specs.Shapes.{AreBelow, numbers_of}
+use Rattle.sy_loop_subterms.specs.Denoted.{shape_of, shapes_of}
+use Rattle.sy_loop_subterms.specs.Places.{places_of}
+use Rattle.sy_loop_subterms.specs.Tables.{IsWhole}
+use Rattle.sy_loop_subterms.proofs.Lists.{at_end}
+use Rattle.sy_loop_subterms.proofs.Tables.{whole-same, whole-added, whole-more}
+use Rattle.sy_loop_subterms.proofs.table.Table.number.Goals as goal
+
+pub invariant_of-self : goal.invariant_of-self
+invariant_of-self g c = whole-same (shapes_of g.T.Theory.denotes c.self.inside.shapes.items) (places_of c.self.inside.places) (places_of c.add.new.self) c.in_err-add.ensures.err c.self.invariant
+
+pub invariant_of-self-in_err-push : goal.invariant_of-self-in_err-push
+invariant_of-self-in_err-push g c = rw (c.in_err-push.ensures.items) (whole-added (shapes_of g.T.Theory.denotes c.self.inside.shapes.items) (places_of c.self.inside.places) (places_of c.add.new.self) c.key.result c.in-Ok.number c.in_ok-add.ensures.ok c.self.invariant)
+
+ends : (g : _) (c : goal.In_ok-push g) → c.in-Ok.number ≡ length (shapes_of g.T.Theory.denotes c.self.inside.shapes.items)
+ends g c = c.in-Ok.ensures.1 ∙ ap length c.as_slice.ensures.value ∙ sym (length-map c.self.inside.shapes.items (shape_of g.T.Theory.denotes))
+
+whole : (g : _) (c : goal.In_ok-push g) → IsWhole (shapes_of g.T.Theory.denotes c.push.new.self.items) (places_of c.add.new.self)
+whole g c =
+    let number = g.T.Theory.denotes in
+    let shapes = shapes_of number c.self.inside.shapes.items in
+    let shape = shape_of number c.args.shape in
+    rw (c.in_ok-push.ensures.items, map_push (shape_of number) c.self.inside.shapes.items c.args.shape)
+    (whole-more shapes shape (places_of c.self.inside.places) (places_of c.add.new.self) c.key.result c.in-Ok.number c.self.invariant c.key.ensures (ends g c) c.in_ok-add.ensures.ok
+    (subst (λ all. AreBelow (length all) (numbers_of shape)) (sym c.self.view_is) c.requires.below) (subst (λ all. (n : ℕ) → slice_get all n ≡ Some shape → ⊥) (sym c.self.view_is) c.in_default.ensures))
+
+pub invariant_of-self-2 : goal.invariant_of-self-2
+invariant_of-self-2 g c = whole g c
+
+pub returns-clause-are : goal.returns-clause-are
+returns-clause-are g c = (whole g c).are
+
+pub returns-clause-at : goal.returns-clause-at
+returns-clause-at g c =
+    let number = g.T.Theory.denotes in
+    let shapes = shapes_of number c.self.inside.shapes.items in
+    let shape = shape_of number c.args.shape in
+    let at : slice_get (shapes_of number c.push.new.self.items) c.in-Ok.number ≡ Some shape =
+    rw (c.in_ok-push.ensures.items, map_push (shape_of number) c.self.inside.shapes.items c.args.shape) (subst (λ n. slice_get (shapes ++ shape ∷ []) n ≡ Some shape) (sym (ends g c)) (at_end shapes shape)) in
+    at

@@ -1,0 +1,5 @@
+pub mod Shapes
+pub mod Denoted
+pub mod Keys
+pub mod Places
+pub mod Tables

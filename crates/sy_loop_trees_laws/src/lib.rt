@@ -1,0 +1,2 @@
+// Laws of conditional trees over kept terms.
+#![tactic(auto)]

@@ -1,6 +1,0 @@
-use Rattle.std.proofs.Common.{All, drop}
-use Rattle.sygus_run.specs.Runs.{IsFound}
-use Rattle.sygus_run.proofs.program.status_of.Given as goal
-
-abbrev pub invariant-loop-answer : goal.invariant-loop-answer
-invariant-loop-answer l = All IsFound (drop l.answer-index l.answers) → All IsFound l.answers

@@ -1,0 +1,5 @@
+// Tests of `sygus_run`: whole runs of the program, with its words, its file and its outputs in memory.
+#![tactic(auto)]
+
+#[cfg(test)]
+mod tests;
