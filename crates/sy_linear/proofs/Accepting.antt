@@ -9,7 +9,7 @@ use borrow.Author.Differences.{up, down, ints, same_in, sum_is_lem, product_is, 
 use Rattle.sy_linear_forms.specs.Laws.{times_assoc}
 use Rattle.std.proofs.Common.{refl, sym, ◌∙◌, ap, ap₂, subst, arith}
 use Rattle.std.proofs.lemmas.Bool.{ltb-true, le-ltb}
-use Rattle.sy_frac.specs.Fraction.{Fraction, IsQuotient, sum_over}
+use Rattle.sy_frac.specs.Fraction.{Fraction, IsLowest, IsQuotient, sum_over}
 use Rattle.sy_frac.specs.Rational.{ℚ, 0ℚ, ◌+ℚ◌, ◌*ℚ◌, over, value, is_negative, over_same, over_negative, value_sum, value_product, sum_over_is, product_over_is, +ℚ_cancel, zero-+ℚ, *ℚ-+ℚ, not_negative_times, whole_not_negative}
 use Rattle.sy_frac.proofs.Quotients.{product_nonzero, mul-positive}
 use Rattle.sy_linear_forms.specs.declared.form.Form.{Form}
@@ -97,11 +97,11 @@ plus_multiple_stands m n f p k = by (multiple m n) (multiple_stands m n p)
     by (Some g) h = subst (λ x. StandsFor (x +ℚ value f) (sum g f)) h.0 (sum_stands g f h.1 k)
 
 -- ---- shares
-abbrev weights_of : List Share → List Weight
+abbrev pub weights_of : List Share → List Weight
 weights_of [] = []
 weights_of (q ∷ qs) = (q.variable, value q.weight) ∷ weights_of qs
 
-abbrev AllPositive : List Share → Type 0
+abbrev pub AllPositive : List Share → Type 0
 AllPositive [] = Unit {0}
 AllPositive (q ∷ qs) = (0 < q.weight.den) × AllPositive qs
 
@@ -179,11 +179,11 @@ whole_zero = +ℚ_cancel (whole_ℚ (pos 0)) 0ℚ (whole_ℚ (pos 0)) (sum_over_
 pub combination_means : (ms : List Fraction) (fs : List Form) → list_all is_multiplier ms ≡ true → MeansIf (tree.combination (rationals ms) fs) (combination ms fs)
 combination_means ms fs a = folded_means (record { weights = []; constant = 0ℚ }) nothing ms fs (record { weights = refl; constant = whole_zero; positive = tt; den = omega arith }) a
 
-multipliers_are : (ms : List Fraction) (fs : List Form) → length ms ≡ length fs → list_all is_multiplier ms ≡ true → AreMultipliers (rationals ms) fs
+multipliers_are : (ms : List Fraction) (fs : List Form) → length ms ≡ length fs → list_all is_multiplier ms ≡ true → AreMultipliers ms fs
 multipliers_are [] [] e a = tt
 multipliers_are [] (f ∷ fs) e a = absurd (omega (arith, e))
 multipliers_are (m ∷ ms) [] e a = absurd (omega (arith, e))
-multipliers_are (m ∷ ms) (f ∷ fs) e a = ((multiplier_parts m (left_true (is_multiplier m) (list_all is_multiplier ms) a)).0, multipliers_are ms fs (omega (arith, e)) (right_true (is_multiplier m) (list_all is_multiplier ms) a))
+multipliers_are (m ∷ ms) (f ∷ fs) e a = let parts = multiplier_parts m (left_true (is_multiplier m) (list_all is_multiplier ms) a) in (parts.1, parts.0, multipliers_are ms fs (omega (arith, e)) (right_true (is_multiplier m) (list_all is_multiplier ms) a))
 
 -- ---- contradictions
 zero_value : (f : Fraction) → 0 < f.den → f.num ≡ pos 0 → value f ≡ 0ℚ
@@ -194,7 +194,7 @@ all_zero [] p a = tt
 all_zero (q ∷ qs) p a = (zero_value q.weight p.0 ((signed_Decides q.weight.num (pos 0)).0 (left_true (is_zero q) (list_all is_zero qs) a)), all_zero qs p.1 (right_true (is_zero q) (list_all is_zero qs) a))
 
 -- what is accepted as a contradiction is one
-pub contradiction : (ms : List Fraction) (fs : List Form) (c : Combination) → are_multipliers ms fs ≡ true → combination ms fs ≡ Some c → is_negative_constant c ≡ true → IsContradiction (rationals ms) fs
+pub contradiction : (ms : List Fraction) (fs : List Form) (c : Combination) → are_multipliers ms fs ≡ true → combination ms fs ≡ Some c → is_negative_constant c ≡ true → IsContradiction ms fs
 contradiction ms fs c a e n =
     let same : nat_eq (length ms) (length fs) ≡ true = left_true (nat_eq (length ms) (length fs)) (list_all is_multiplier ms) a in
     let all : list_all is_multiplier ms ≡ true = right_true (nat_eq (length ms) (length fs)) (list_all is_multiplier ms) a in
@@ -206,9 +206,9 @@ contradiction ms fs c a e n =
     }
 
 -- ---- cuts
--- where there is a quotient, the divisor times it is the fraction
-abbrev Divides : ℤ → Fraction → Option Fraction → Type 0
-Divides d f (Some h) = (value f ≡ whole_ℚ d *ℚ value h) × (0 < h.den)
+-- where there is a quotient, the divisor times it is the fraction, and it is in lowest terms
+abbrev pub Divides : ℤ → Fraction → Option Fraction → Type 0
+Divides d f (Some h) = (value f ≡ whole_ℚ d *ℚ value h) × (0 < h.den) × IsLowest h
 Divides d f None = Unit {0}
 
 shuffle : (a b c : ℤ) → a *ℤ (b *ℤ c) ≡ (c *ℤ a) *ℤ b
@@ -220,7 +220,7 @@ quotient_divides f w h p k q =
     (sym (times_assoc f.num (pos w.den) (pos h.den)) ∙ sym q.value ∙ shuffle h.num (pos f.den) w.num)
     ∙ sym (product_over_is w.num h.num w.den h.den k q.lowest.positive)
 
-over_whole_divides : (d : ℤ) (f : Fraction) → pos 1 ≤ℤ d → 0 < f.den → Divides d f (over_whole d f)
+pub over_whole_divides : (d : ℤ) (f : Fraction) → pos 1 ≤ℤ d → 0 < f.den → Divides d f (over_whole d f)
 unfolding over_whole
 over_whole_divides d f l p = by (fits d) refl
   where
@@ -236,7 +236,7 @@ over_whole_divides d f l p = by (fits d) refl
     then : IsQuotient w d (pos 1) → (b : Bool) → (fits n && fits m) ≡ b → Divides d f (exact b n m)
     then q true e =
         let r : IsQuotient (lowest n m) n m = lowest_is n m (fits_to n (left_true (fits n) (fits m) e)) (fits_to m (right_true (fits n) (fits m) e)) (product_nonzero (pos f.den) w.num (positive_nonzero f.den p) (whole_nonzero w d l q)) in
-        (quotient_divides f w (lowest n m) p q.lowest.positive r ∙ ap (λ x. x *ℚ value (lowest n m)) (over_same w.num d w.den 1 q.lowest.positive (omega arith) q.value), r.lowest.positive)
+        (quotient_divides f w (lowest n m) p q.lowest.positive r ∙ ap (λ x. x *ℚ value (lowest n m)) (over_same w.num d w.den 1 q.lowest.positive (omega arith) q.value), r.lowest.positive, r.lowest)
     then q false e = tt
 
     by : (b : Bool) → fits d ≡ b → Divides d f (option_and_then (λ g. quotient f g) (exact b d (pos 1)))
@@ -247,11 +247,11 @@ unwrap : {A : Type 0} → A → Option A → A
 unwrap x (Some y) = y
 unwrap x None = x
 
-some_same : {A : Type 0} (x y : A) → Some x ≡ Some y → x ≡ y
+pub some_same : {A : Type 0} (x y : A) → Some x ≡ Some y → x ≡ y
 unfolding unwrap
 some_same x y e = ap (unwrap x) e
 
-whole_times : (a b : ℤ) → whole_ℚ (a *ℤ b) ≡ whole_ℚ a *ℚ whole_ℚ b
+pub whole_times : (a b : ℤ) → whole_ℚ (a *ℤ b) ≡ whole_ℚ a *ℚ whole_ℚ b
 whole_times a b = sym (product_over_is a b 1 1 (omega arith) (omega arith))
 
 is_whole_value : (d : ℤ) (f h : Fraction) → Divides d f (Some h) → nat_eq h.den 1 ≡ true → value f ≡ whole_ℚ (d *ℤ h.num)
@@ -281,7 +281,7 @@ is_below : (z : ℤ) → up z < down z → int_lt z (pos 0) ≡ true
 is_below (pos n) h = absurd (omega arith)
 is_below (negsuc n) h = refl
 
-times_neg : (d y : ℤ) → d *ℤ neg_ℤ y ≡ neg_ℤ (d *ℤ y)
+pub times_neg : (d y : ℤ) → d *ℤ neg_ℤ y ≡ neg_ℤ (d *ℤ y)
 times_neg d y =
     let a : _ = product_is d (neg_ℤ y) in
     let b : _ = product_is d y in
@@ -322,7 +322,7 @@ above_floor f p =
     let t : (up (k +ℤ pos 1) + down k + 0) * f.den ≡ (down (k +ℤ pos 1) + up k + 1) * f.den = ap (λ (x : ℕ). x * f.den) s in
     omega (arith, rest_parts f (k +ℤ pos 1), euclid_high f.num f.den p, t)
 
-negative_times : (d n : ℤ) → pos 1 ≤ℤ d → up n < down n → int_lt (d *ℤ n) (pos 0) ≡ true
+pub negative_times : (d n : ℤ) → pos 1 ≤ℤ d → up n < down n → int_lt (d *ℤ n) (pos 0) ≡ true
 negative_times (pos zero) n l h = absurd (omega (arith, ints, l))
 negative_times (negsuc a) n l h = absurd (omega (arith, ints, l))
 negative_times (pos (suc a)) n l h =
@@ -350,7 +350,7 @@ cond_some true x y e = (refl, some_same x y e)
 cond_some false x y e = absurd cc
 
 -- what is accepted as a cut is one
-pub cut : (ms : List Fraction) (fs : List Form) (d : ℤ) (c g : Combination) (e : Form) → are_multipliers ms fs ≡ true → pos 1 ≤ℤ d → combination ms fs ≡ Some c → divided d c ≡ Some g → rounded g ≡ Some e → IsCut (rationals ms) d fs e
+pub cut : (ms : List Fraction) (fs : List Form) (d : ℤ) (c g : Combination) (e : Form) → are_multipliers ms fs ≡ true → pos 1 ≤ℤ d → combination ms fs ≡ Some c → divided d c ≡ Some g → rounded g ≡ Some e → IsCut ms d fs e
 cut ms fs d c g e a l is part form = by (over_whole d c.constant) (divided_shares d c.shares) (over_whole_divides d c.constant l means.den) refl part
   where
     same : nat_eq (length ms) (length fs) ≡ true
@@ -365,8 +365,8 @@ cut ms fs d c g e a l is part form = by (over_whole d c.constant) (divided_share
     means : Means (tree.combination (rationals ms) fs) c
     means = subst (λ o. MeansIf (tree.combination (rationals ms) fs) o) is (combination_means ms fs all)
 
-    of_form : (h : Fraction) (rest : List Share) → Divides d c.constant (Some h) → divided_shares d c.shares ≡ Some rest → (list_all has_whole_weight rest ≡ true) × (record { coefs = numerators rest; constant = floor h } ≡ e) → IsCut (rationals ms) d fs e
-    of_form h rest k f w = subst (λ x. IsCut (rationals ms) d fs x) w.1 (record {
+    of_form : (h : Fraction) (rest : List Share) → Divides d c.constant (Some h) → divided_shares d c.shares ≡ Some rest → (list_all has_whole_weight rest ≡ true) × (record { coefs = numerators rest; constant = floor h } ≡ e) → IsCut ms d fs e
+    of_form h rest k f w = subst (λ x. IsCut ms d fs x) w.1 (record {
       multipliers = multipliers_are ms fs ((unsigned_Decides (length ms) (length fs)).0 same) all;
       positive = l;
       multiples = subst (λ ws. AreMultiples d ws (numerators rest)) means.weights (multiples d c.shares rest l means.positive f w.0);
@@ -374,7 +374,7 @@ cut ms fs d c g e a l is part form = by (over_whole d c.constant) (divided_share
       next = rounded_next d (tree.combination (rationals ms) fs).constant h l k.1 (sym means.constant ∙ k.0);
     })
 
-    by : (w : Option Fraction) (o : Option (List Share)) → Divides d c.constant w → divided_shares d c.shares ≡ o → of_parts w o ≡ Some g → IsCut (rationals ms) d fs e
+    by : (w : Option Fraction) (o : Option (List Share)) → Divides d c.constant w → divided_shares d c.shares ≡ o → of_parts w o ≡ Some g → IsCut ms d fs e
     by None o k f p = absurd cc
     by (Some h) None k f p = absurd cc
     by (Some h) (Some rest) k f p =

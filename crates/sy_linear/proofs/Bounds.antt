@@ -8,7 +8,7 @@ use mir.Val.{SFits, to_z, of_z}
 use borrow.Author.Differences.{ints, same_in}
 use Rattle.sy_terms.specs.declared.sort.Sort.{Sort}
 use Rattle.sy_linear_forms.specs.declared.form.Form.{Form}
-use Rattle.sy_linear_forms.specs.Forms.{Coefficient, added, scaled, negation, in_range, all_in_range}
+use Rattle.sy_linear_forms.specs.Forms.{Coefficient, subtracted, scaled, negation, in_range, all_in_range}
 use Rattle.sy_linear_known.specs.declared.path.Fact.{Fact}
 use Rattle.sy_linear_known.specs.declared.path.Fact.TheVariants.{AtLeast}
 use Rattle.sy_linear_known.specs.Trees.{at_or_below}
@@ -20,7 +20,7 @@ abbrev bounded : ℤ → ℕ → ℤ → Form
 bounded k i c = record { coefs = (i, k) ∷ []; constant = c }
 
 below_is : (i : ℕ) (k : ℤ) → at_or_below i k ≡ bounded (negsuc 0) i k
-unfolding added scaled
+unfolding subtracted scaled
 below_is i k = ap (bounded (negsuc 0) i) (same_in _ _ (omega (arith, ints)))
 
 above_is : (i : ℕ) (k : ℤ) → negation (at_or_below i k) ≡ bounded (pos 1) i (negsuc 0 -ℤ k)

@@ -4,3 +4,4 @@ pub mod Accepting
 pub mod Refuting
 pub mod Judged
 pub mod Bounds
+pub mod Rejecting

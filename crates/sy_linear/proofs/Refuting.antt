@@ -18,7 +18,7 @@ use Rattle.sy_linear_known.specs.declared.answer.Known.{Known}
 use Rattle.sy_linear_known.specs.declared.answer.Known.TheVariants as known
 use Rattle.sy_linear_known.specs.Seen.{Query, query_known}
 use Rattle.sy_linear_known.specs.Right.{Assigns}
-use Rattle.sy_linear_known.specs.Trees.{Shape, Split, Branch, Cut, Farkas, Shown, Unfinished, added_fact, opposite_fact, at_or_below, forms, rationals, OverIntegers, Suits, Refutes, IsCut, IsContradiction}
+use Rattle.sy_linear_known.specs.Trees.{Shape, Split, Branch, Cut, Farkas, Shown, Unfinished, added_fact, opposite_fact, at_or_below, forms, OverIntegers, Suits, Refutes, IsCut, IsContradiction}
 use Rattle.sy_linear_known.proofs.Refutation.{never_satisfied}
 use Rattle.sy_linear.specs.declared.combination.Combination.{Combination}
 use Rattle.sy_linear.specs.Combining.{are_multipliers, combination, is_negative_constant, divided, rounded}
@@ -56,31 +56,31 @@ at_least (pos (suc n)) e = at_most_in (pos 1) (pos (suc n)) (omega arith)
 at_least (pos zero) e = absurd cc
 at_least (negsuc n) e = absurd cc
 
-cut_added : (ms : List Fraction) (fs : List Form) (d : ℤ) (n : ℕ) (rest : Fact → Judgement) → after n (cond (are_multipliers ms fs && int_le (pos 1) d) (rounded_outcome (divided_combination d (combination ms fs))) Fails) rest ≡ Accepted → (e : Form) × (IsCut (rationals ms) d fs e × (rest (AtLeast e) ≡ Accepted))
+cut_added : (ms : List Fraction) (fs : List Form) (d : ℤ) (n : ℕ) (rest : Fact → Judgement) → after n (cond (are_multipliers ms fs && int_le (pos 1) d) (rounded_outcome (divided_combination d (combination ms fs))) Fails) rest ≡ Accepted → (e : Form) × (IsCut ms d fs e × (rest (AtLeast e) ≡ Accepted))
 cut_added ms fs d n rest = by (are_multipliers ms fs && int_le (pos 1) d) refl (combination ms fs) refl
   where
-    by : (b : Bool) → (are_multipliers ms fs && int_le (pos 1) d) ≡ b → (o : Option Combination) → combination ms fs ≡ o → after n (cond b (rounded_outcome (divided_combination d o)) Fails) rest ≡ Accepted → (e : Form) × (IsCut (rationals ms) d fs e × (rest (AtLeast e) ≡ Accepted))
+    by : (b : Bool) → (are_multipliers ms fs && int_le (pos 1) d) ≡ b → (o : Option Combination) → combination ms fs ≡ o → after n (cond b (rounded_outcome (divided_combination d o)) Fails) rest ≡ Accepted → (e : Form) × (IsCut ms d fs e × (rest (AtLeast e) ≡ Accepted))
     by false a o k h = absurd cc
     by true a None k h = absurd cc
     by true a (Some c) k h = part (divided d c) refl h
       where
-        part : (p : Option Combination) → divided d c ≡ p → after n (rounded_outcome p) rest ≡ Accepted → (e : Form) × (IsCut (rationals ms) d fs e × (rest (AtLeast e) ≡ Accepted))
+        part : (p : Option Combination) → divided d c ≡ p → after n (rounded_outcome p) rest ≡ Accepted → (e : Form) × (IsCut ms d fs e × (rest (AtLeast e) ≡ Accepted))
         part None f h = absurd cc
         part (Some g) f h = form (rounded g) refl h
           where
-            form : (p : Option Form) → rounded g ≡ p → after n (added_form p) rest ≡ Accepted → (e : Form) × (IsCut (rationals ms) d fs e × (rest (AtLeast e) ≡ Accepted))
+            form : (p : Option Form) → rounded g ≡ p → after n (added_form p) rest ≡ Accepted → (e : Form) × (IsCut ms d fs e × (rest (AtLeast e) ≡ Accepted))
             form None r h = absurd cc
             form (Some e) r h = (e, (cut ms fs d c g e (left_true (are_multipliers ms fs) (int_le (pos 1) d) a) (at_least d (right_true (are_multipliers ms fs) (int_le (pos 1) d) a)) k f r, h))
 
-farkas_added : (ms : List Fraction) (fs : List Form) (n : ℕ) → cond (are_multipliers ms fs) (of_combination n (combination ms fs)) Broken ≡ Accepted → IsContradiction (rationals ms) fs
+farkas_added : (ms : List Fraction) (fs : List Form) (n : ℕ) → cond (are_multipliers ms fs) (of_combination n (combination ms fs)) Broken ≡ Accepted → IsContradiction ms fs
 farkas_added ms fs n = by (are_multipliers ms fs) refl (combination ms fs) refl
   where
-    by : (b : Bool) → are_multipliers ms fs ≡ b → (o : Option Combination) → combination ms fs ≡ o → cond b (of_combination n o) Broken ≡ Accepted → IsContradiction (rationals ms) fs
+    by : (b : Bool) → are_multipliers ms fs ≡ b → (o : Option Combination) → combination ms fs ≡ o → cond b (of_combination n o) Broken ≡ Accepted → IsContradiction ms fs
     by false a o k h = absurd cc
     by true a None k h = absurd cc
     by true a (Some c) k h = negative (is_negative_constant c) refl h
       where
-        negative : (t : Bool) → is_negative_constant c ≡ t → cond t Accepted Broken ≡ Accepted → IsContradiction (rationals ms) fs
+        negative : (t : Bool) → is_negative_constant c ≡ t → cond t Accepted Broken ≡ Accepted → IsContradiction ms fs
         negative true e h = contradiction ms fs c a k e
         negative false e h = absurd cc
 

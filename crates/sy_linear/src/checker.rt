@@ -1,7 +1,8 @@
 // The checker of refutation trees.
-ghost use Rattle.std.specs.Prelude.{◌≡◌, ◌+◌, ◌<◌, ◌^◌, ◌++◌, ◌∷◌, [], Ok, true, length, IfOk, OnOk};
+ghost use Rattle.std.specs.Prelude.{◌≡◌, ◌+◌, ◌<◌, ◌^◌, ◌++◌, ◌∷◌, [], Ok, true, false, length, IfOk, OnOk};
 ghost use Rattle.sy_terms.specs.Expr.{nodes};
 ghost use Rattle.sy_linear_known.specs.Stored.{query_of, shape_of};
+ghost use Rattle.sy_linear_known.specs.Trees.{Refutes};
 ghost use Rattle.sy_linear.specs.Judging.{Tells, both, judged, size};
 ghost use Rattle.sy_linear.specs.Unsatisfied.{NoneSatisfies};
 
@@ -135,6 +136,8 @@ fn checked(alloc: Global, q: &Query<IntTheory>, t: &Tree) -> Result<bool, CheckE
     requires vars { length q.now.vars < 2 ^ 31 }
     requires tree { size (shape_of t.now) < 2 ^ 32 }
     ensures judged { Tells result (judged (query_of q.now) [] 0 (shape_of t.now)) }
+    ensures accepted { result ≡ Ok true → Refutes (query_of q.now) [] (shape_of t.now) }
+    ensures rejected { result ≡ Ok false → ¬ (Refutes (query_of q.now) [] (shape_of t.now)) }
     ensures law { result ≡ Ok true → NoneSatisfies (query_of q.now) }
 {
     let mut facts = Vec::new(alloc);
@@ -148,11 +151,14 @@ const MOST: u64 = 1 << 32;
 /// Whether the tree refutes the query. Its nodes are judged in preorder, and the first that fails decides. A node
 /// fails with false where it isn't as a refutation tree's is, as an `Unfinished` one always does, and with `Range` and
 /// its number where a number of it leaves 128 bits. At one node first the variables, the number and signs of the
-/// multipliers and the divisor are judged, then whether the numbers fit, and then the rest. A query of which a tree is
-/// accepted is satisfied by no assignment of whole numbers and truth values. A query or a tree of which numbers of 32
-/// bits don't count the nodes is answered as want of memory.
+/// multipliers and the divisor are judged, then whether the numbers fit, and then the rest. So a tree that is accepted is
+/// a refutation tree of the query, and one that is rejected isn't. A query of which a tree is accepted is satisfied by no
+/// assignment of whole numbers and truth values. A query or a tree of which numbers of 32 bits don't count the nodes is
+/// answered as want of memory.
 pub fn check_tree(alloc: Global, q: &Query<IntTheory>, t: &Tree) -> Result<bool, CheckEnd>
     ensures judged { Tells result (judged (query_of q.now) [] 0 (shape_of t.now)) }
+    ensures accepted { result ≡ Ok true → Refutes (query_of q.now) [] (shape_of t.now) }
+    ensures rejected { result ≡ Ok false → ¬ (Refutes (query_of q.now) [] (shape_of t.now)) }
     ensures law { result ≡ Ok true → NoneSatisfies (query_of q.now) }
 {
     if !is_numbered(q) || count_nodes(t, MOST) >= MOST {

@@ -8,4 +8,5 @@ mod nodes;
 mod size;
 
 pub use checker::check_tree;
-pub use nodes::{contradicts, cut, suits};
+pub use nodes::{branch, contradicts, cut, split, suits};
+pub use sy_linear_known::{CheckEnd, Fact, Form, FormEnd, Known, Path, Test, Tree, known};

@@ -82,7 +82,7 @@ fn copied(alloc: Global, form: &Form) -> Result<Form, Want>
 
 /// The facts that a split adds, of the test and of its negation. `None` where the test isn't on variables of the
 /// query. `Range` with the node's number exactly where a coefficient of the negation leaves 128 bits.
-pub(crate) fn split(
+pub fn split(
     alloc: Global,
     vars: &[Sort],
     test: &Test,
@@ -116,7 +116,7 @@ fn bounded(alloc: Global, coefficient: i128, variable: u32, constant: i128) -> R
 
 /// The facts that a branch adds: that the variable is at most the bound, and that it is above. `None` where it is no
 /// integer variable of the query.
-pub(crate) fn branch(
+pub fn branch(
     alloc: Global,
     vars: &[Sort],
     variable: u32,

@@ -1,6 +1,6 @@
 -- Sums and multiples of lists of coefficients, step by step.
-use Rattle.std.proofs.Common.{◌≡◌, ◌≤◌, ◌<◌, ◌+◌, ◌++◌, ◌∙◌, ◌⊎◌, inl, inr, zero, suc, refl, sym, ap, ℕ, List, [], ◌∷◌, length, get_or, drop, take, ◌-◌, Bool, true, false, cond, arith}
-use Rattle.std.specs.Prelude.{ℤ, pos, ◌+ℤ◌, ◌*ℤ◌, ◌&&◌}
+use Rattle.std.proofs.Common.{◌≡◌, ◌≤◌, ◌<◌, ◌+◌, ◌++◌, ◌∙◌, ◌⊎◌, inl, inr, zero, suc, refl, sym, ap, ap₂, ℕ, List, [], ◌∷◌, length, get_or, drop, take, ◌-◌, Bool, true, false, cond, arith}
+use Rattle.std.specs.Prelude.{ℤ, pos, negsuc, ◌+ℤ◌, ◌-ℤ◌, ◌*ℤ◌, ◌&&◌}
 use Rattle.std.proofs.lemmas.List.{drop_more, append_assoc, append-nil, take_rest}
 use Rattle.std.proofs.lemmas.Bool.{lt-ltb, le-ltb}
 use Rattle.std.specs.Ordering.{int_eq}
@@ -9,7 +9,7 @@ use mir.Syntax.{w128}
 use mir.Val.{SFits, to_z, of_z}
 use Rattle.std.proofs.Common.{rules}
 use Rattle.std.specs.Cmp.{signed_Decides}
-use Rattle.sy_linear_forms.specs.Forms.{Coefficient, before, added, scaled, in_range, all_in_range}
+use Rattle.sy_linear_forms.specs.Forms.{Coefficient, before, added, scaled, subtracted, in_range, all_in_range}
 
 abbrev none_at : Coefficient
 none_at = (0, pos 0)
@@ -197,3 +197,98 @@ scaled-nil k = refl
 pub not_true : (b : Bool) → (b ≡ true → ⊥) → b ≡ false
 not_true true k = absurd (k refl)
 not_true false k = refl
+
+-- ---- differences
+subtracted-left : (c d : Coefficient) (cs ds : List Coefficient) → c.0 < d.0 → subtracted (c ∷ cs) (d ∷ ds) ≡ c ∷ subtracted cs (d ∷ ds)
+unfolding subtracted
+subtracted-left c d cs ds l = rw (lt-ltb c.0 d.0 l) refl
+
+subtracted-right : (c d : Coefficient) (cs ds : List Coefficient) → d.0 ≤ c.0 → d.0 < c.0 → subtracted (c ∷ cs) (d ∷ ds) ≡ before d.0 (negsuc 0 *ℤ d.1) (subtracted (c ∷ cs) ds)
+unfolding subtracted
+subtracted-right c d cs ds k l = rw (le-ltb c.0 d.0 k, lt-ltb d.0 c.0 l) refl
+
+subtracted-both : (c d : Coefficient) (cs ds : List Coefficient) → d.0 ≤ c.0 → c.0 ≤ d.0 → subtracted (c ∷ cs) (d ∷ ds) ≡ before c.0 (c.1 -ℤ d.1) (subtracted cs ds)
+unfolding subtracted
+subtracted-both c d cs ds k l = rw (le-ltb c.0 d.0 k, le-ltb d.0 c.0 l) refl
+
+subtracted-nil : (cs : List Coefficient) → subtracted cs [] ≡ cs
+unfolding subtracted scaled
+subtracted-nil [] = refl
+subtracted-nil (c ∷ cs) = refl
+
+nil-subtracted : (ds : List Coefficient) → subtracted [] ds ≡ scaled (negsuc 0) ds
+unfolding subtracted
+nil-subtracted ds = refl
+
+and_false : (b : Bool) → (b && false) ≡ false
+and_false true = refl
+and_false false = refl
+
+-- what is left begins with the coefficient of this variable
+step_before : (out left rest all new : List Coefficient) (i : ℕ) (m n : ℤ) → left ≡ before i m rest → n ≡ m → out ++ left ≡ all → new ≡ out ++ before i n [] → new ++ rest ≡ all
+step_before out left rest all new i m n is same kept e =
+    onwards out (before i n []) rest new e
+    ∙ ap (λ xs. out ++ xs) (before-append i n rest ∙ ap (λ k. before i k rest) same ∙ sym is)
+    ∙ kept
+
+step_unfit : (out left rest all : List Coefficient) (i : ℕ) (m : ℤ) → left ≡ before i m rest → out ++ left ≡ all → in_range m ≡ false → all_in_range all ≡ false
+step_unfit out left rest all i m is kept h =
+    sym (ap all_in_range kept) ∙ in_range-append out left
+    ∙ ap (λ xs. all_in_range out && all_in_range xs) is
+    ∙ ap (λ b. all_in_range out && b) (unfit-before i m rest h) ∙ and_false (all_in_range out)
+
+pub less_left : (out cs ds all new : List Coefficient) (i j : ℕ) (n : ℤ) → i < length cs → j < length ds → (get_or cs i none_at).0 < (get_or ds j none_at).0 → n ≡ (get_or cs i none_at).1 → out ++ subtracted (drop i cs) (drop j ds) ≡ all → new ≡ out ++ ((get_or cs i none_at).0, n) ∷ [] → new ++ subtracted (drop (i + 1) cs) (drop j ds) ≡ all
+less_left out cs ds all new i j n il jl less same kept e =
+    let c = get_or cs i none_at in
+    let d = get_or ds j none_at in
+    onwards out ((c.0, n) ∷ []) (subtracted (drop (i + 1) cs) (drop j ds)) new e
+    ∙ ap (λ m. out ++ (c.0, m) ∷ subtracted (drop (i + 1) cs) (drop j ds)) same
+    ∙ ap (λ xs. out ++ c ∷ subtracted (drop (i + 1) cs) xs) (drop_more ds j none_at jl)
+    ∙ ap (λ xs. out ++ xs) (sym (subtracted-left c d (drop (i + 1) cs) (drop (j + 1) ds) less))
+    ∙ sym (ap (λ xs. out ++ subtracted xs (d ∷ drop (j + 1) ds)) (drop_more cs i none_at il))
+    ∙ sym (ap (λ xs. out ++ subtracted (drop i cs) xs) (drop_more ds j none_at jl))
+    ∙ kept
+
+-- what is left where the second begins with a lesser variable, and where both begin with one
+right_is : (cs ds : List Coefficient) (i j : ℕ) → i < length cs → j < length ds → (get_or ds j none_at).0 ≤ (get_or cs i none_at).0 → (get_or ds j none_at).0 < (get_or cs i none_at).0 → subtracted (drop i cs) (drop j ds) ≡ before (get_or ds j none_at).0 (negsuc 0 *ℤ (get_or ds j none_at).1) (subtracted (drop i cs) (drop (j + 1) ds))
+right_is cs ds i j il jl most less =
+    let c = get_or cs i none_at in
+    let d = get_or ds j none_at in
+    ap (λ xs. subtracted xs (drop j ds)) (drop_more cs i none_at il)
+    ∙ ap (λ xs. subtracted (c ∷ drop (i + 1) cs) xs) (drop_more ds j none_at jl)
+    ∙ subtracted-right c d (drop (i + 1) cs) (drop (j + 1) ds) most less
+    ∙ sym (ap (λ xs. before d.0 (negsuc 0 *ℤ d.1) (subtracted xs (drop (j + 1) ds))) (drop_more cs i none_at il))
+
+both_is : (cs ds : List Coefficient) (i j : ℕ) → i < length cs → j < length ds → (get_or ds j none_at).0 ≤ (get_or cs i none_at).0 → (get_or cs i none_at).0 ≤ (get_or ds j none_at).0 → subtracted (drop i cs) (drop j ds) ≡ before (get_or cs i none_at).0 ((get_or cs i none_at).1 -ℤ (get_or ds j none_at).1) (subtracted (drop (i + 1) cs) (drop (j + 1) ds))
+both_is cs ds i j il jl most least =
+    let c = get_or cs i none_at in
+    let d = get_or ds j none_at in
+    ap (λ xs. subtracted xs (drop j ds)) (drop_more cs i none_at il)
+    ∙ ap (λ xs. subtracted (c ∷ drop (i + 1) cs) xs) (drop_more ds j none_at jl)
+    ∙ subtracted-both c d (drop (i + 1) cs) (drop (j + 1) ds) most least
+
+pub less_right : (out cs ds all new : List Coefficient) (i j : ℕ) (n : ℤ) → i < length cs → j < length ds → (get_or ds j none_at).0 ≤ (get_or cs i none_at).0 → (get_or ds j none_at).0 < (get_or cs i none_at).0 → n ≡ negsuc 0 *ℤ (get_or ds j none_at).1 → out ++ subtracted (drop i cs) (drop j ds) ≡ all → new ≡ out ++ before (get_or ds j none_at).0 n [] → new ++ subtracted (drop i cs) (drop (j + 1) ds) ≡ all
+less_right out cs ds all new i j n il jl most less same kept e = step_before out _ (subtracted (drop i cs) (drop (j + 1) ds)) all new (get_or ds j none_at).0 _ n (right_is cs ds i j il jl most less) same kept e
+
+pub less_right_unfit : (out cs ds all : List Coefficient) (i j : ℕ) (m : ℤ) → i < length cs → j < length ds → (get_or ds j none_at).0 ≤ (get_or cs i none_at).0 → (get_or ds j none_at).0 < (get_or cs i none_at).0 → m ≡ (get_or ds j none_at).1 → out ++ subtracted (drop i cs) (drop j ds) ≡ all → in_range (negsuc 0 *ℤ m) ≡ false → all_in_range all ≡ false
+less_right_unfit out cs ds all i j m il jl most less same kept h = step_unfit out (subtracted (drop i cs) (drop j ds)) (subtracted (drop i cs) (drop (j + 1) ds)) all (get_or ds j none_at).0 (negsuc 0 *ℤ (get_or ds j none_at).1) (right_is cs ds i j il jl most less) kept (ap (λ k. in_range (negsuc 0 *ℤ k)) (sym same) ∙ h)
+
+pub less_both : (out cs ds all new : List Coefficient) (i j : ℕ) (n : ℤ) → i < length cs → j < length ds → (get_or ds j none_at).0 ≤ (get_or cs i none_at).0 → (get_or cs i none_at).0 ≤ (get_or ds j none_at).0 → n ≡ (get_or cs i none_at).1 -ℤ (get_or ds j none_at).1 → out ++ subtracted (drop i cs) (drop j ds) ≡ all → new ≡ out ++ before (get_or cs i none_at).0 n [] → new ++ subtracted (drop (i + 1) cs) (drop (j + 1) ds) ≡ all
+less_both out cs ds all new i j n il jl most least same kept e = step_before out _ (subtracted (drop (i + 1) cs) (drop (j + 1) ds)) all new (get_or cs i none_at).0 _ n (both_is cs ds i j il jl most least) same kept e
+
+pub less_both_unfit : (out cs ds all : List Coefficient) (i j : ℕ) (m n : ℤ) → i < length cs → j < length ds → (get_or ds j none_at).0 ≤ (get_or cs i none_at).0 → (get_or cs i none_at).0 ≤ (get_or ds j none_at).0 → m ≡ (get_or cs i none_at).1 → n ≡ (get_or ds j none_at).1 → out ++ subtracted (drop i cs) (drop j ds) ≡ all → in_range (m -ℤ n) ≡ false → all_in_range all ≡ false
+less_both_unfit out cs ds all i j m n il jl most least mis nis kept h = step_unfit out (subtracted (drop i cs) (drop j ds)) (subtracted (drop (i + 1) cs) (drop (j + 1) ds)) all (get_or cs i none_at).0 ((get_or cs i none_at).1 -ℤ (get_or ds j none_at).1) (both_is cs ds i j il jl most least) kept (sym (ap₂ (λ a b. in_range (a -ℤ b)) mis nis) ∙ h)
+
+-- at the end of one list, what is left is the rest of the first and the opposite of that of the second
+pub less_over : (out cs ds all : List Coefficient) (i j : ℕ) → out ++ subtracted (drop i cs) (drop j ds) ≡ all → (drop i cs ≡ []) ⊎ (drop j ds ≡ []) → (out ++ drop i cs) ++ scaled (negsuc 0) (drop j ds) ≡ all
+less_over out cs ds all i j kept (inl h) = ap (λ xs. (out ++ xs) ++ scaled (negsuc 0) (drop j ds)) h ∙ ap (λ xs. xs ++ scaled (negsuc 0) (drop j ds)) (append-nil out) ∙ sym (ap (λ xs. out ++ xs) (ap (λ xs. subtracted xs (drop j ds)) h ∙ nil-subtracted (drop j ds))) ∙ kept
+less_over out cs ds all i j kept (inr h) = ap (λ xs. (out ++ drop i cs) ++ xs) (ap (scaled (negsuc 0)) h ∙ scaled-nil (negsuc 0)) ∙ append-nil (out ++ drop i cs) ∙ sym (ap (λ xs. out ++ xs) (ap (λ xs. subtracted (drop i cs) xs) h ∙ subtracted-nil (drop i cs))) ∙ kept
+
+pub less_over_unfit : (out cs ds all : List Coefficient) (i j : ℕ) → out ++ subtracted (drop i cs) (drop j ds) ≡ all → (drop i cs ≡ []) ⊎ (drop j ds ≡ []) → all_in_range (scaled (negsuc 0) (drop j ds)) ≡ false → all_in_range all ≡ false
+less_over_unfit out cs ds all i j kept over h =
+    sym (ap all_in_range (less_over out cs ds all i j kept over)) ∙ in_range-append (out ++ drop i cs) (scaled (negsuc 0) (drop j ds))
+    ∙ ap (λ b. all_in_range (out ++ drop i cs) && b) h ∙ and_false (all_in_range (out ++ drop i cs))
+
+-- what a slice from its start on is
+pub from_on : (xs : List Coefficient) (i : ℕ) → take (length xs - i) (drop i xs) ≡ drop i xs
+from_on xs i = take_rest xs i

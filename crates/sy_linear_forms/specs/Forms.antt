@@ -48,6 +48,15 @@ unfoldable pub scaled : ℤ → List Coefficient → List Coefficient
 scaled k [] = []
 scaled k (c ∷ cs) = before c.0 (k *ℤ c.1) (scaled k cs)
 
+-- the first list of coefficients less the second
+unfoldable pub subtracted : List Coefficient → List Coefficient → List Coefficient
+subtracted [] ds = scaled (negsuc 0) ds
+subtracted (c ∷ cs) [] = c ∷ cs
+subtracted (c ∷ cs) (d ∷ ds) =
+    cond (nat_lt c.0 d.0) (c ∷ subtracted cs (d ∷ ds))
+    (cond (nat_lt d.0 c.0) (before d.0 (negsuc 0 *ℤ d.1) (subtracted (c ∷ cs) ds))
+    (before c.0 (c.1 -ℤ d.1) (subtracted cs ds)))
+
 abbrev pub constant_form : ℤ → Form
 constant_form k = record { coefs = []; constant = k }
 
@@ -61,7 +70,11 @@ abbrev pub times : ℤ → Form → Form
 times k f = record { coefs = scaled k f.coefs; constant = k *ℤ f.constant }
 
 abbrev pub minus : Form → Form → Form
-minus f g = plus f (times (negsuc 0) g)
+minus f g = record { coefs = subtracted f.coefs g.coefs; constant = f.constant -ℤ g.constant }
+
+-- f - g - 1, which is at least 0 exactly where f is above g
+abbrev pub above : Form → Form → Form
+above f g = record { coefs = subtracted f.coefs g.coefs; constant = f.constant +ℤ (neg_ℤ g.constant -ℤ pos 1) }
 
 -- -f - 1, which is at least 0 exactly where f isn't
 abbrev pub negation : Form → Form

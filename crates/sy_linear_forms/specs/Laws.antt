@@ -1,13 +1,13 @@
 -- The values of sums, multiples and negations of forms.
 use Rattle.std.specs.Prelude.{◌≡◌, ℕ, ◌≤ℤ◌, Bool, true, false, cond, ◌&&◌, ◌==◌, List, [], ◌∷◌, ℤ, pos, negsuc, ◌+ℤ◌, ◌-ℤ◌, ◌*ℤ◌, neg_ℤ, nat_lt}
 use Rattle.std.proofs.Common.{refl, sym, ◌∙◌, ap, ap₂, arith, inl, inr, ◌⊎◌, ◌+◌, ◌*◌}
-use borrow.Author.Differences.{up, down, ints, same_in, sum_is_lem, product_is, at_most_in}
+use borrow.Author.Differences.{up, down, ints, same_in, sum_is_lem, product_is, neg_is, at_most_in}
 use Rattle.std.proofs.Math.IntN.{*ℤ_comm, *ℤ-zero, zero-*ℤ, +ℤ_idl, +ℤ_idr}
 use Rattle.std.specs.Ordering.{int_eq}
 use Rattle.std.specs.Cmp.{signed_Decides, unsigned_Decides}
 use Rattle.std.proofs.lemmas.Bool.{ltb-false}
 use Rattle.sy_linear_forms.specs.declared.form.Form.{Form}
-use Rattle.sy_linear_forms.specs.Forms.{Coefficient, combined, form_value, before, added, scaled, constant_form, variable_form, plus, times, minus, negation, same_coefficients, same_form, is_constant}
+use Rattle.sy_linear_forms.specs.Forms.{Coefficient, combined, form_value, before, added, scaled, subtracted, above, constant_form, variable_form, plus, times, minus, negation, same_coefficients, same_form, is_constant}
 
 pub distributes : (a b x : ℤ) → (a +ℤ b) *ℤ x ≡ a *ℤ x +ℤ b *ℤ x
 distributes a b x =
@@ -92,14 +92,60 @@ pub value-times : (k : ℤ) (f : Form) (x : ℕ → ℤ) → form_value (times k
 unfolding form_value
 value-times k f x = ap (λ l. l +ℤ k *ℤ f.constant) (combined-scaled k f.coefs x) ∙ sym (distributes_left k (combined f.coefs x) f.constant)
 
-minus_one_times : (y : ℤ) → negsuc 0 *ℤ y ≡ neg_ℤ y
-minus_one_times y = same_in _ _ (omega (arith, ints))
+neg_times : (a b : ℤ) → neg_ℤ a *ℤ b ≡ neg_ℤ (a *ℤ b)
+neg_times a b =
+    let g : _ = product_is (neg_ℤ a) b in
+    let h : _ = product_is a b in
+    let n : _ = neg_is a in
+    let o : _ = neg_is (a *ℤ b) in
+    same_in _ _ (rw (g.0, g.1, n.0, n.1, o.0, o.1, h.0, h.1) (omega arith))
+
+pub combined-subtracted : (cs ds : List Coefficient) (x : ℕ → ℤ) → combined (subtracted cs ds) x ≡ combined cs x -ℤ combined ds x
+unfolding combined subtracted
+combined-subtracted [] ds x = combined-scaled (negsuc 0) ds x ∙ turned (combined ds x)
+  where
+    turned : (y : ℤ) → negsuc 0 *ℤ y ≡ pos 0 -ℤ y
+    turned y = same_in _ _ (omega (arith, ints))
+combined-subtracted (c ∷ cs) [] x = whole (combined (c ∷ cs) x)
+  where
+    whole : (y : ℤ) → y ≡ y -ℤ pos 0
+    whole y = same_in _ _ (omega (arith, ints))
+combined-subtracted (c ∷ cs) (d ∷ ds) x = by (combined-subtracted cs (d ∷ ds) x) (combined-subtracted (c ∷ cs) ds x) (combined-subtracted cs ds x) (nat_lt c.0 d.0) (nat_lt d.0 c.0) refl refl
+  where
+    left : (p q t : ℤ) → p +ℤ (q -ℤ t) ≡ (p +ℤ q) -ℤ t
+    left p q t = same_in _ _ (omega (arith, ints))
+
+    right : (p r s : ℤ) → negsuc 0 *ℤ r +ℤ (p -ℤ s) ≡ p -ℤ (r +ℤ s)
+    right p r s = same_in _ _ (omega (arith, ints))
+
+    middle : (p q r s : ℤ) → (p +ℤ neg_ℤ r) +ℤ (q -ℤ s) ≡ (p +ℤ q) -ℤ (r +ℤ s)
+    middle p q r s = same_in _ _ (omega (arith, ints))
+
+    by : combined (subtracted cs (d ∷ ds)) x ≡ combined cs x -ℤ combined (d ∷ ds) x → combined (subtracted (c ∷ cs) ds) x ≡ combined (c ∷ cs) x -ℤ combined ds x → combined (subtracted cs ds) x ≡ combined cs x -ℤ combined ds x → (a b : Bool) → nat_lt c.0 d.0 ≡ a → nat_lt d.0 c.0 ≡ b → combined (cond a (c ∷ subtracted cs (d ∷ ds)) (cond b (before d.0 (negsuc 0 *ℤ d.1) (subtracted (c ∷ cs) ds)) (before c.0 (c.1 -ℤ d.1) (subtracted cs ds)))) x ≡ combined (c ∷ cs) x -ℤ combined (d ∷ ds) x
+    by one two three true b e f = ap (λ k. c.1 *ℤ x c.0 +ℤ k) one ∙ left (c.1 *ℤ x c.0) (combined cs x) (combined (d ∷ ds) x)
+    by one two three false true e f =
+        combined-before d.0 (negsuc 0 *ℤ d.1) (subtracted (c ∷ cs) ds) x
+        ∙ ap₂ (λ k l. k +ℤ l) (times_assoc (negsuc 0) d.1 (x d.0)) two
+        ∙ right (combined (c ∷ cs) x) (d.1 *ℤ x d.0) (combined ds x)
+    by one two three false false e f =
+        let same : c.0 ≡ d.0 = omega (arith, ltb-false _ _ e, ltb-false _ _ f) in
+        combined-before c.0 (c.1 -ℤ d.1) (subtracted cs ds) x
+        ∙ ap₂ (λ k l. k +ℤ l) (distributes c.1 (neg_ℤ d.1) (x c.0) ∙ ap (λ k. c.1 *ℤ x c.0 +ℤ k) (neg_times d.1 (x c.0) ∙ ap (λ i. neg_ℤ (d.1 *ℤ x i)) same)) three
+        ∙ middle (c.1 *ℤ x c.0) (combined cs x) (d.1 *ℤ x d.0) (combined ds x)
 
 pub value-minus : (f g : Form) (x : ℕ → ℤ) → form_value (minus f g) x ≡ form_value f x -ℤ form_value g x
-value-minus f g x = value-plus f (times (negsuc 0) g) x ∙ ap (λ k. form_value f x +ℤ k) (value-times (negsuc 0) g x) ∙ taken (form_value f x) (form_value g x)
+unfolding form_value
+value-minus f g x = ap (λ k. k +ℤ (f.constant -ℤ g.constant)) (combined-subtracted f.coefs g.coefs x) ∙ regroup (combined f.coefs x) (combined g.coefs x) f.constant g.constant
   where
-    taken : (p q : ℤ) → p +ℤ negsuc 0 *ℤ q ≡ p -ℤ q
-    taken p q = same_in _ _ (omega (arith, ints))
+    regroup : (p q r s : ℤ) → (p -ℤ q) +ℤ (r -ℤ s) ≡ (p +ℤ r) -ℤ (q +ℤ s)
+    regroup p q r s = same_in _ _ (omega (arith, ints))
+
+pub value-above : (f g : Form) (x : ℕ → ℤ) → form_value (above f g) x ≡ (form_value f x -ℤ form_value g x) +ℤ negsuc 0
+unfolding form_value
+value-above f g x = ap (λ k. k +ℤ (f.constant +ℤ (neg_ℤ g.constant -ℤ pos 1))) (combined-subtracted f.coefs g.coefs x) ∙ regroup (combined f.coefs x) (combined g.coefs x) f.constant g.constant
+  where
+    regroup : (p q r s : ℤ) → (p -ℤ q) +ℤ (r +ℤ (neg_ℤ s -ℤ pos 1)) ≡ ((p +ℤ r) -ℤ (q +ℤ s)) +ℤ negsuc 0
+    regroup p q r s = same_in _ _ (omega (arith, ints))
 
 pub value-negation : (f : Form) (x : ℕ → ℤ) → form_value (negation f) x ≡ neg_ℤ (form_value f x) -ℤ pos 1
 unfolding form_value

@@ -1,9 +1,9 @@
 // Arithmetic on lists of coefficients.
 ghost use Rattle.std.specs.Prelude.{◌≡◌, ◌++◌, [], true, false, IfOk, OnOk, IsErrOf};
-ghost use Rattle.sy_linear_forms.specs.Forms.{same_coefficients, before, added, scaled, all_in_range};
+ghost use Rattle.sy_linear_forms.specs.Forms.{same_coefficients, before, added, scaled, subtracted, all_in_range};
 
 use crate::form::FormEnd;
-use crate::number::{product, sum};
+use crate::number::{difference, product, sum};
 use std::alloc::Global;
 use sy_seq::{Seq, Want};
 
@@ -93,5 +93,50 @@ pub(crate) fn scale(
         };
         push_nonzero(&mut all, variable, total)?;
     }
+    Ok(all)
+}
+
+/// The coefficients of a difference.
+pub(crate) fn subtract(
+    alloc: Global,
+    cs: &[Coefficient],
+    ds: &[Coefficient],
+) -> Result<Seq<Coefficient>, FormEnd>
+    requires left { all_in_range cs.now ≡ true }
+    requires right { all_in_range ds.now ≡ true }
+    ensures ok { IfOk result (λ es. es ≡ subtracted cs.now ds.now) }
+    ensures fits { IfOk result (λ es. all_in_range es ≡ true) }
+    ensures unfit { IsErrOf result FormEnd.OutOfRange → all_in_range (subtracted cs.now ds.now) ≡ false }
+{
+    let mut all = Seq::new(alloc);
+    let mut i = 0;
+    let mut j = 0;
+    while i < cs.len() && j < ds.len() {
+        let (variable, number) = cs[i];
+        let (other, subtrahend) = ds[j];
+        if variable < other {
+            all.push((variable, number))?;
+            i += 1;
+        } else if other < variable {
+            let Some(opposite) = product(-1, subtrahend) else {
+                return Err(FormEnd::OutOfRange);
+            };
+            push_nonzero(&mut all, other, opposite)?;
+            j += 1;
+        } else {
+            let Some(rest) = difference(number, subtrahend) else {
+                return Err(FormEnd::OutOfRange);
+            };
+            push_nonzero(&mut all, variable, rest)?;
+            i += 1;
+            j += 1;
+        }
+    }
+    push_all(&mut all, &cs[i..])?;
+    let opposites = match scale(alloc, -1, &ds[j..]) {
+        Ok(opposites) => opposites,
+        Err(end) => return Err(end),
+    };
+    push_all(&mut all, opposites.as_slice())?;
     Ok(all)
 }

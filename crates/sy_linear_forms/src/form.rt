@@ -1,9 +1,9 @@
 // Linear forms over whole numbers.
 ghost use Rattle.std.specs.Prelude.{◌≡◌, true, false, pos, [], IfOk, IsErrOf, IsOk};
-ghost use Rattle.sy_linear_forms.specs.Forms.{same_form, plus, times, minus, negation, fits, constant_form, variable_form, all_in_range, scaled};
+ghost use Rattle.sy_linear_forms.specs.Forms.{same_form, plus, times, minus, above, negation, fits, constant_form, variable_form, all_in_range, scaled};
 
-use crate::coefficients::{add, are_same, push_all, scale};
-use crate::number::{product, sum};
+use crate::coefficients::{add, are_same, push_all, scale, subtract};
+use crate::number::{difference, product, sum};
 use std::alloc::{AllocFailed, Global};
 use sy_seq::{Seq, Want};
 
@@ -108,6 +108,37 @@ impl Form {
             return Err(FormEnd::OutOfRange);
         };
         let coefs = scale(alloc, factor, self.coefs.as_slice())?;
+        Ok(Form { coefs, constant })
+    }
+
+    /// The difference; `OutOfRange` exactly where a coefficient or the constant of it leaves 128 bits.
+    pub fn minus(&self, alloc: Global, other: &Form) -> Result<Form, FormEnd>
+        requires left { fits self.now ≡ true }
+        requires right { fits other.now ≡ true }
+        ensures ok { IfOk result (λ form. form ≡ minus self.now other.now) }
+        ensures fits { IfOk result (λ form. fits form ≡ true) }
+        ensures unfit { IsErrOf result FormEnd.OutOfRange → fits (minus self.now other.now) ≡ false }
+    {
+        let Some(constant) = difference(self.constant, other.constant) else {
+            return Err(FormEnd::OutOfRange);
+        };
+        let coefs = subtract(alloc, self.coefs.as_slice(), other.coefs.as_slice())?;
+        Ok(Form { coefs, constant })
+    }
+
+    /// The form that is at least 0 exactly where this one is above the other: their difference less 1; `OutOfRange`
+    /// exactly where a coefficient or the constant of it leaves 128 bits.
+    pub fn above(&self, alloc: Global, other: &Form) -> Result<Form, FormEnd>
+        requires left { fits self.now ≡ true }
+        requires right { fits other.now ≡ true }
+        ensures ok { IfOk result (λ form. form ≡ above self.now other.now) }
+        ensures fits { IfOk result (λ form. fits form ≡ true) }
+        ensures unfit { IsErrOf result FormEnd.OutOfRange → fits (above self.now other.now) ≡ false }
+    {
+        let Some(constant) = sum(self.constant, -1 - other.constant) else {
+            return Err(FormEnd::OutOfRange);
+        };
+        let coefs = subtract(alloc, self.coefs.as_slice(), other.coefs.as_slice())?;
         Ok(Form { coefs, constant })
     }
 

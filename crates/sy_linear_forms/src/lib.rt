@@ -4,7 +4,5 @@
 mod coefficients;
 mod form;
 mod number;
-#[cfg(test)]
-mod tests;
 
 pub use form::{Form, FormEnd};

@@ -18,8 +18,8 @@ use Rattle.sy_terms.specs.declared.op.Op.TheVariants as ops
 use Rattle.sy_terms.specs.declared.sort.Sort.{Sort}
 use Rattle.sy_terms.specs.declared.sort.Sort.TheVariants as sorts
 use Rattle.sy_linear_forms.specs.declared.form.Form.{Form}
-use Rattle.sy_linear_forms.specs.Forms.{constant_form, plus, times, negation, fits, is_constant, same_form}
-use Rattle.sy_linear_forms.specs.Laws.{value-constant, value-variable, value-plus, value-times, value-negation, value-is_constant, same_value, not_both}
+use Rattle.sy_linear_forms.specs.Forms.{constant_form, plus, times, minus, above, negation, fits, is_constant, same_form}
+use Rattle.sy_linear_forms.specs.Laws.{value-constant, value-variable, value-plus, value-times, value-minus, value-above, value-negation, value-is_constant, same_value, not_both}
 use Rattle.sy_linear_known.specs.declared.path.Fact.{Fact}
 use Rattle.sy_linear_known.specs.declared.path.Fact.TheVariants.{AtLeast, Is}
 use Rattle.sy_linear_known.specs.declared.path.Test.{Test}
@@ -30,7 +30,7 @@ use Rattle.sy_linear_known.specs.declared.sight.Node.{Node}
 use Rattle.sy_linear_known.specs.declared.sight.Seen.{Seen}
 use Rattle.sy_linear_known.specs.declared.sight.Found.{Found}
 use Rattle.sy_linear_known.specs.Paths.{number_in, form_at, Meets, has_form, given}
-use Rattle.sy_linear_known.specs.Sights.{is_true, is_false, all_of, any_of, opposite, truth_before, all_truths, of_truth, is_sort, truth_at, told, unfit, both, evaluated, built, and_then, sum, multiple, difference, product, of_form, combined, combined_at, from_left, folded, negated, chosen, known_true, known_false, answered, tested, at_most, less, equal, distinct, compared, in_row, with_each, in_pairs, none_yet, by_truths_or, applied}
+use Rattle.sy_linear_known.specs.Sights.{is_true, is_false, all_of, any_of, opposite, truth_before, all_truths, of_truth, is_sort, truth_at, told, unfit, both, evaluated, built, sum, multiple, difference, excess, product, of_form, combined, combined_at, from_left, folded, negated, chosen, known_true, known_false, answered, tested, at_most, less, equal, distinct, compared, in_row, with_each, in_pairs, none_yet, by_truths_or, applied}
 use Rattle.sy_linear_known.specs.Seen.{of_given, variable_sights, sight_at, is_choice, live, value_seen, seen_as, nothing_found, with_next, seen, all_seen, Query, query_seen, of_misfit, of_sight, of_open, query_known}
 use Rattle.sy_linear_known.specs.Right.{Assigns, IsRight}
 
@@ -164,18 +164,11 @@ built_sum values f g = built_is values (plus f g) _ (value-plus f g (number_in v
 built_multiple : (values : List Val) (k : ℤ) (f : Form) → Built values (multiple k f) (k *ℤ form_at values f)
 built_multiple values k f = built_is values (times k f) _ (value-times k f (number_in values))
 
-built_then : (values : List Val) (o : Option Form) (next : Form → Option Form) (y z : ℤ) → Built values o y → ((f : Form) → form_at values f ≡ y → Built values (next f) z) → Built values (and_then o next) z
-unfolding Built
-built_then values None next y z h k = tt
-built_then values (Some f) next y z h k = k f h
-
 built_difference : (values : List Val) (f g : Form) → Built values (difference f g) (form_at values f -ℤ form_at values g)
-built_difference values f g =
-    built_then values (multiple (negsuc 0) g) (λ h. sum f h) (negsuc 0 *ℤ form_at values g) _ (built_multiple values (negsuc 0) g)
-    (λ h e. subst (λ z. Built values (sum f h) z) (ap (λ y. form_at values f +ℤ y) e ∙ taken (form_at values f) (form_at values g)) (built_sum values f h))
-  where
-    taken : (p q : ℤ) → p +ℤ negsuc 0 *ℤ q ≡ p -ℤ q
-    taken p q = same_in _ _ (omega (arith, ints))
+built_difference values f g = built_is values (minus f g) _ (value-minus f g (number_in values))
+
+built_excess : (values : List Val) (f g : Form) → Built values (excess f g) (form_at values f -ℤ form_at values g +ℤ negsuc 0)
+built_excess values f g = built_is values (above f g) _ (value-above f g (number_in values))
 
 right_form : (values : List Val) (o : Option Form) (z : ℤ) → Built values o z → Right values (of_form o).sight (Whole z)
 unfolding Built
@@ -263,10 +256,7 @@ right_at_most values path m f g = subst (λ b. Right values (at_most path f g).s
 
 right_less : (values : List Val) (path : List Fact) → Meets values path → (f g : Form) → Right values (less path f g).sight (Truth (int_lt (form_at values f) (form_at values g)))
 right_less values path m f g =
-    subst (λ b. Right values (less path f g).sight (Truth b)) (less_is (form_at values f) (form_at values g))
-    (right_tested values path m (and_then (difference g f) (λ e. sum e (constant_form (negsuc 0)))) _
-    (built_then values (difference g f) (λ e. sum e (constant_form (negsuc 0))) _ _ (built_difference values g f)
-    (λ e h. subst (λ z. Built values (sum e (constant_form (negsuc 0))) z) (ap₂ (λ x y. x +ℤ y) h (value-constant (negsuc 0) (number_in values))) (built_sum values e (constant_form (negsuc 0))))))
+    subst (λ b. Right values (less path f g).sight (Truth b)) (less_is (form_at values f) (form_at values g)) (right_tested values path m (excess g f) _ (built_excess values g f))
 
 right_equal : (values : List Val) (path : List Fact) → Meets values path → (f g : Form) → Right values (equal path f g).sight (Truth (int_eq (form_at values f) (form_at values g)))
 right_equal values path m f g =

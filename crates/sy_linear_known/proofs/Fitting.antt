@@ -9,12 +9,12 @@ use Rattle.sy_terms.specs.Theories.{sort_of_value}
 use Rattle.sy_terms.specs.declared.op.Op.{Op}
 use Rattle.sy_terms.specs.declared.op.Op.TheVariants as ops
 use Rattle.sy_linear_forms.specs.declared.form.Form.{Form}
-use Rattle.sy_linear_forms.specs.Forms.{plus, times, fits, is_constant}
+use Rattle.sy_linear_forms.specs.Forms.{plus, times, minus, fits, is_constant}
 use Rattle.sy_linear_known.specs.declared.path.Fact.{Fact}
 use Rattle.sy_linear_known.specs.declared.sight.Sight.{Sight}
 use Rattle.sy_linear_known.specs.declared.sight.Sight.TheVariants.{Linear, Settled, Open}
 use Rattle.sy_linear_known.specs.declared.sight.Node.{Node}
-use Rattle.sy_linear_known.specs.Sights.{is_true, is_false, all_of, any_of, all_truths, of_truth, is_sort, truth_at, told, both, evaluated, built, and_then, sum, multiple, difference, product, of_form, combined, combined_at, from_left, folded, negated, chosen, at_most, less, equal, distinct, compared, in_row, with_each, in_pairs, none_yet, by_truths_or, applied}
+use Rattle.sy_linear_known.specs.Sights.{is_true, is_false, all_of, any_of, all_truths, of_truth, is_sort, truth_at, told, both, evaluated, built, sum, multiple, difference, product, of_form, combined, combined_at, from_left, folded, negated, chosen, at_most, less, equal, distinct, compared, in_row, with_each, in_pairs, none_yet, by_truths_or, applied}
 use Rattle.sy_linear_known.specs.Fitting.{form_fits, sight_fits, all_fit}
 use Rattle.sy_linear_known.proofs.Agreement.{and_parts}
 
@@ -26,12 +26,8 @@ fits-built f = by (fits f) refl
     by true e = e
     by false e = refl
 
-fits-then : (o : Option Form) (next : Form → Option Form) → ((f : Form) → form_fits (next f) ≡ true) → form_fits (and_then o next) ≡ true
-fits-then None next h = refl
-fits-then (Some f) next h = h f
-
 pub fits-difference : (f g : Form) → form_fits (difference f g) ≡ true
-fits-difference f g = fits-then (multiple (negsuc 0) g) (λ h. sum f h) (λ h. fits-built (plus f h))
+fits-difference f g = fits-built (minus f g)
 
 pub fits-product : (f g : Form) → form_fits (product f g) ≡ true
 fits-product f g = by (is_constant f) (is_constant g)

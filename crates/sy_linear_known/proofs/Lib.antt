@@ -5,3 +5,6 @@ pub mod Steps
 pub mod Valid
 pub mod Walking
 pub mod Decided
+pub mod Ascending
+pub mod Suiting
+pub mod Asking

@@ -6,7 +6,8 @@ use Rattle.std.proofs.Common.{refl, sym, ◌∙◌, ap, ap₂, subst, arith, inl
 use Rattle.std.proofs.lemmas.Bool.{ltb-false}
 use Rattle.std.proofs.Math.IntN.{*ℤ-zero, zero-*ℤ, +ℤ_idl}
 use borrow.Author.Differences.{ints, same_in, product_is, neg_is, at_most_in}
-use Rattle.sy_frac.specs.Rational.{ℚ, 0ℚ, ◌+ℚ◌, ◌*ℚ◌, over, is_negative, not_negative_plus, not_negative_times, zero_not_negative, zero-*ℚ, *ℚ_zero, +ℚ_zero, zero-+ℚ, +ℚ_cancel, whole_not_negative, *ℚ-+ℚ, +ℚ-*ℚ, *ℚ_assoc, +ℚ_assoc, +ℚ_comm, +ℚ_left_comm, sum_over_is, product_over_is}
+use Rattle.sy_frac.specs.Fraction.{Fraction}
+use Rattle.sy_frac.specs.Rational.{ℚ, value, 0ℚ, ◌+ℚ◌, ◌*ℚ◌, over, is_negative, not_negative_plus, not_negative_times, zero_not_negative, zero-*ℚ, *ℚ_zero, +ℚ_zero, zero-+ℚ, +ℚ_cancel, whole_not_negative, *ℚ-+ℚ, +ℚ-*ℚ, *ℚ_assoc, +ℚ_assoc, +ℚ_comm, +ℚ_left_comm, sum_over_is, product_over_is}
 use Rattle.sy_terms.specs.Values.{Val, Truth, Whole, Bits, truth}
 use Rattle.sy_terms.specs.Meaning.{value_at_position, meaning}
 use Rattle.sy_terms.specs.declared.sort.Sort.{Sort}
@@ -21,11 +22,12 @@ use Rattle.sy_linear_known.specs.declared.answer.Known.TheVariants as known
 use Rattle.sy_linear_known.specs.Paths.{number_in, form_at, Holds, Meets}
 use Rattle.sy_linear_known.specs.Seen.{Query}
 use Rattle.sy_linear_known.specs.Right.{Assigns, IsRight}
+use Rattle.sy_linear_known.specs.Points.{combined_at, value_at}
 use Rattle.sy_linear_known.specs.Trees.{Shape, Split, Branch, Cut, Farkas, Shown, Unfinished, at_or_below, forms, whole_ℚ, Weight, plus_multiple, Combination, plus_form, combined_with, combination, rationals, AreMultipliers, AllZero, AreMultiples, IsCut, IsContradiction, Refutes}
 use Rattle.sy_linear_known.proofs.Agreement.{known_right}
 
 -- ---- paths
-meets_last : (values : List Val) (path : List Fact) (fact : Fact) → Meets values path → Holds values fact → Meets values (path ++ fact ∷ [])
+pub meets_last : (values : List Val) (path : List Fact) (fact : Fact) → Meets values path → Holds values fact → Meets values (path ++ fact ∷ [])
 meets_last values [] fact m h = (h, tt)
 meets_last values (first ∷ path) fact m h = (m.0, meets_last values path fact m.1 h)
 
@@ -62,27 +64,27 @@ forms_met values (Is u b ∷ path) m = forms_met values path m.1
 times_one : (m : ℤ) → m *ℤ pos 1 ≡ m
 times_one m = let k : _ = product_is m (pos 1) in same_in (m *ℤ pos 1) m (omega (arith, k.0, k.1))
 
-whole_plus : (a b : ℤ) → whole_ℚ (a +ℤ b) ≡ whole_ℚ a +ℚ whole_ℚ b
+pub whole_plus : (a b : ℤ) → whole_ℚ (a +ℤ b) ≡ whole_ℚ a +ℚ whole_ℚ b
 whole_plus a b = sym (sum_over_is a b 1 1 (omega arith) (omega arith) ∙ ap₂ (λ x y. over (x +ℤ y) 1) (times_one a) (times_one b))
 
-whole_times : (a b : ℤ) → whole_ℚ (a *ℤ b) ≡ whole_ℚ a *ℚ whole_ℚ b
+pub whole_times : (a b : ℤ) → whole_ℚ (a *ℤ b) ≡ whole_ℚ a *ℚ whole_ℚ b
 whole_times a b = sym (product_over_is a b 1 1 (omega arith) (omega arith))
 
--- the combination's value without its constant
-combined_ℚ : List Weight → (ℕ → ℤ) → ℚ
-combined_ℚ [] x = 0ℚ
-combined_ℚ (q ∷ qs) x = q.1 *ℚ whole_ℚ (x q.0) +ℚ combined_ℚ qs x
+-- a combination's value without its constant
+unfoldable pub weights_at : List Weight → (ℕ → ℚ) → ℚ
+weights_at [] x = 0ℚ
+weights_at (q ∷ qs) x = q.1 *ℚ x q.0 +ℚ weights_at qs x
 
-all_zero : (qs : List Weight) (x : ℕ → ℤ) → AllZero qs → combined_ℚ qs x ≡ 0ℚ
-unfolding combined_ℚ
+all_zero : (qs : List Weight) (x : ℕ → ℚ) → AllZero qs → weights_at qs x ≡ 0ℚ
+unfolding weights_at
 all_zero [] x h = refl
-all_zero (q ∷ qs) x h = ap₂ (λ p r. p *ℚ whole_ℚ (x q.0) +ℚ r) h.0 (all_zero qs x h.1) ∙ ap (λ p. p +ℚ 0ℚ) (zero-*ℚ (whole_ℚ (x q.0))) ∙ +ℚ_zero 0ℚ
+all_zero (q ∷ qs) x h = ap₂ (λ p r. p *ℚ x q.0 +ℚ r) h.0 (all_zero qs x h.1) ∙ ap (λ p. p +ℚ 0ℚ) (zero-*ℚ (x q.0)) ∙ +ℚ_zero 0ℚ
 
-whole_zero : whole_ℚ (pos 0) ≡ 0ℚ
+pub whole_zero : whole_ℚ (pos 0) ≡ 0ℚ
 whole_zero = +ℚ_cancel (whole_ℚ (pos 0)) 0ℚ (whole_ℚ (pos 0)) (sym (whole_plus (pos 0) (pos 0)) ∙ sym (zero-+ℚ (whole_ℚ (pos 0))))
 
-nothing : (m x : ℚ) → x ≡ m *ℚ whole_ℚ (pos 0) +ℚ x
-nothing m x = sym (ap (λ t. m *ℚ t +ℚ x) whole_zero ∙ ap (λ t. t +ℚ x) (*ℚ_zero m) ∙ zero-+ℚ x)
+nothing : (m x : ℚ) → x ≡ m *ℚ 0ℚ +ℚ x
+nothing m x = sym (ap (λ t. t +ℚ x) (*ℚ_zero m) ∙ zero-+ℚ x)
 
 -- a product's place in a sum
 first_left : (m c x s r : ℚ) → (m *ℚ c) *ℚ x +ℚ (m *ℚ s +ℚ r) ≡ m *ℚ (c *ℚ x +ℚ s) +ℚ r
@@ -94,63 +96,74 @@ first_right m s p r = +ℚ_left_comm p (m *ℚ s) r
 step : (m c q x s r : ℚ) → (m *ℚ c +ℚ q) *ℚ x +ℚ (m *ℚ s +ℚ r) ≡ m *ℚ (c *ℚ x +ℚ s) +ℚ (q *ℚ x +ℚ r)
 step m c q x s r = rw (+ℚ-*ℚ (m *ℚ c) q x, *ℚ-+ℚ m (c *ℚ x) s, *ℚ_assoc m c x) (simp (+ℚ_assoc, +ℚ_left_comm, +ℚ_comm))
 
--- the value of one coefficient and those after it
-whole_first : (c : Coefficient) (cs : List Coefficient) (x : ℕ → ℤ) → whole_ℚ (combined (c ∷ cs) x) ≡ whole_ℚ c.1 *ℚ whole_ℚ (x c.0) +ℚ whole_ℚ (combined cs x)
-unfolding combined
-whole_first c cs x = whole_plus (c.1 *ℤ x c.0) (combined cs x) ∙ ap (λ t. t +ℚ whole_ℚ (combined cs x)) (whole_times c.1 (x c.0))
-
-combined-plus_multiple : (m : ℚ) (cs : List Coefficient) (qs : List Weight) (x : ℕ → ℤ) → combined_ℚ (plus_multiple m cs qs) x ≡ m *ℚ whole_ℚ (combined cs x) +ℚ combined_ℚ qs x
-unfolding combined combined_ℚ plus_multiple
-combined-plus_multiple m [] qs x = nothing m (combined_ℚ qs x)
-combined-plus_multiple m (c ∷ cs) [] x =
-    ap (λ t. (m *ℚ whole_ℚ c.1) *ℚ whole_ℚ (x c.0) +ℚ t) (combined-plus_multiple m cs [] x)
-    ∙ first_left m (whole_ℚ c.1) (whole_ℚ (x c.0)) (whole_ℚ (combined cs x)) 0ℚ
-    ∙ ap (λ t. m *ℚ t +ℚ 0ℚ) (sym (whole_first c cs x))
-combined-plus_multiple m (c ∷ cs) (q ∷ qs) x = by (combined-plus_multiple m cs (q ∷ qs) x) (combined-plus_multiple m (c ∷ cs) qs x) (combined-plus_multiple m cs qs x) (nat_lt c.0 q.0) (nat_lt q.0 c.0) refl refl
+-- a multiple of coefficients more
+pub weights-plus_multiple : (m : ℚ) (cs : List Coefficient) (qs : List Weight) (x : ℕ → ℚ) → weights_at (plus_multiple m cs qs) x ≡ m *ℚ combined_at cs x +ℚ weights_at qs x
+unfolding combined_at weights_at plus_multiple
+weights-plus_multiple m [] qs x = nothing m (weights_at qs x)
+weights-plus_multiple m (c ∷ cs) [] x =
+    ap (λ t. (m *ℚ whole_ℚ c.1) *ℚ x c.0 +ℚ t) (weights-plus_multiple m cs [] x)
+    ∙ first_left m (whole_ℚ c.1) (x c.0) (combined_at cs x) 0ℚ
+weights-plus_multiple m (c ∷ cs) (q ∷ qs) x = by (weights-plus_multiple m cs (q ∷ qs) x) (weights-plus_multiple m (c ∷ cs) qs x) (weights-plus_multiple m cs qs x) (nat_lt c.0 q.0) (nat_lt q.0 c.0) refl refl
   where
-    by : combined_ℚ (plus_multiple m cs (q ∷ qs)) x ≡ m *ℚ whole_ℚ (combined cs x) +ℚ combined_ℚ (q ∷ qs) x → combined_ℚ (plus_multiple m (c ∷ cs) qs) x ≡ m *ℚ whole_ℚ (combined (c ∷ cs) x) +ℚ combined_ℚ qs x → combined_ℚ (plus_multiple m cs qs) x ≡ m *ℚ whole_ℚ (combined cs x) +ℚ combined_ℚ qs x → (a b : Bool) → nat_lt c.0 q.0 ≡ a → nat_lt q.0 c.0 ≡ b → combined_ℚ (cond a ((c.0, m *ℚ whole_ℚ c.1) ∷ plus_multiple m cs (q ∷ qs)) (cond b (q ∷ plus_multiple m (c ∷ cs) qs) ((c.0, m *ℚ whole_ℚ c.1 +ℚ q.1) ∷ plus_multiple m cs qs))) x ≡ m *ℚ whole_ℚ (combined (c ∷ cs) x) +ℚ combined_ℚ (q ∷ qs) x
+    by : weights_at (plus_multiple m cs (q ∷ qs)) x ≡ m *ℚ combined_at cs x +ℚ weights_at (q ∷ qs) x → weights_at (plus_multiple m (c ∷ cs) qs) x ≡ m *ℚ combined_at (c ∷ cs) x +ℚ weights_at qs x → weights_at (plus_multiple m cs qs) x ≡ m *ℚ combined_at cs x +ℚ weights_at qs x → (a b : Bool) → nat_lt c.0 q.0 ≡ a → nat_lt q.0 c.0 ≡ b → weights_at (cond a ((c.0, m *ℚ whole_ℚ c.1) ∷ plus_multiple m cs (q ∷ qs)) (cond b (q ∷ plus_multiple m (c ∷ cs) qs) ((c.0, m *ℚ whole_ℚ c.1 +ℚ q.1) ∷ plus_multiple m cs qs))) x ≡ m *ℚ combined_at (c ∷ cs) x +ℚ weights_at (q ∷ qs) x
     by one two three true b e f =
-        ap (λ t. (m *ℚ whole_ℚ c.1) *ℚ whole_ℚ (x c.0) +ℚ t) one
-        ∙ first_left m (whole_ℚ c.1) (whole_ℚ (x c.0)) (whole_ℚ (combined cs x)) (combined_ℚ (q ∷ qs) x)
-        ∙ ap (λ t. m *ℚ t +ℚ combined_ℚ (q ∷ qs) x) (sym (whole_first c cs x))
+        ap (λ t. (m *ℚ whole_ℚ c.1) *ℚ x c.0 +ℚ t) one
+        ∙ first_left m (whole_ℚ c.1) (x c.0) (combined_at cs x) (weights_at (q ∷ qs) x)
     by one two three false true e f =
-        ap (λ t. q.1 *ℚ whole_ℚ (x q.0) +ℚ t) two
-        ∙ first_right m (whole_ℚ (combined (c ∷ cs) x)) (q.1 *ℚ whole_ℚ (x q.0)) (combined_ℚ qs x)
+        ap (λ t. q.1 *ℚ x q.0 +ℚ t) two
+        ∙ first_right m (combined_at (c ∷ cs) x) (q.1 *ℚ x q.0) (weights_at qs x)
     by one two three false false e f =
         let same : c.0 ≡ q.0 = omega (arith, ltb-false _ _ e, ltb-false _ _ f) in
-        ap (λ t. (m *ℚ whole_ℚ c.1 +ℚ q.1) *ℚ whole_ℚ (x c.0) +ℚ t) three
-        ∙ step m (whole_ℚ c.1) q.1 (whole_ℚ (x c.0)) (whole_ℚ (combined cs x)) (combined_ℚ qs x)
-        ∙ ap₂ (λ s t. m *ℚ s +ℚ (q.1 *ℚ whole_ℚ (x t) +ℚ combined_ℚ qs x)) (sym (whole_first c cs x)) same
+        ap (λ t. (m *ℚ whole_ℚ c.1 +ℚ q.1) *ℚ x c.0 +ℚ t) three
+        ∙ step m (whole_ℚ c.1) q.1 (x c.0) (combined_at cs x) (weights_at qs x)
+        ∙ ap (λ t. m *ℚ combined_at (c ∷ cs) x +ℚ (q.1 *ℚ x t +ℚ weights_at qs x)) same
 
 regroup : (m a s k c : ℚ) → (m *ℚ a +ℚ s) +ℚ (m *ℚ k +ℚ c) ≡ m *ℚ (a +ℚ k) +ℚ (s +ℚ c)
 regroup m a s k c = rw (*ℚ-+ℚ m a k) (simp (+ℚ_assoc, +ℚ_left_comm, +ℚ_comm))
 
-combination_value : List Val → Combination → ℚ
-combination_value values c = combined_ℚ c.weights (number_in values) +ℚ c.constant
+-- a combination's value
+unfoldable pub combination_at : Combination → (ℕ → ℚ) → ℚ
+combination_at c x = weights_at c.weights x +ℚ c.constant
+
+pub combination-plus_form : (c : Combination) (m : ℚ) (f : Form) (x : ℕ → ℚ) → combination_at (plus_form c m f) x ≡ m *ℚ value_at f x +ℚ combination_at c x
+unfolding combination_at value_at
+combination-plus_form c m f x =
+    ap (λ t. t +ℚ (m *ℚ whole_ℚ f.constant +ℚ c.constant)) (weights-plus_multiple m f.coefs c.weights x)
+    ∙ regroup m (combined_at f.coefs x) (weights_at c.weights x) (whole_ℚ f.constant) c.constant
+
+-- at whole numbers a form's value is that of the whole numbers
+pub whole-combined_at : (cs : List Coefficient) (x : ℕ → ℤ) → combined_at cs (λ i. whole_ℚ (x i)) ≡ whole_ℚ (combined cs x)
+unfolding combined combined_at
+whole-combined_at [] x = sym whole_zero
+whole-combined_at (c ∷ cs) x = ap₂ (λ s t. s +ℚ t) (sym (whole_times c.1 (x c.0))) (whole-combined_at cs x) ∙ sym (whole_plus (c.1 *ℤ x c.0) (combined cs x))
+
+pub whole-value_at : (f : Form) (x : ℕ → ℤ) → value_at f (λ i. whole_ℚ (x i)) ≡ whole_ℚ (form_value f x)
+unfolding value_at form_value
+whole-value_at f x = ap (λ t. t +ℚ whole_ℚ f.constant) (whole-combined_at f.coefs x) ∙ sym (whole_plus (combined f.coefs x) f.constant)
+
+-- the numbers of an assignment
+abbrev wholes : List Val → ℕ → ℚ
+wholes values i = whole_ℚ (number_in values i)
 
 -- a combination that is at least 0 stays so with a multiple of a form that is
-form_met : (values : List Val) (c : Combination) (m : ℚ) (f : Form) → is_negative m ≡ false → pos 0 ≤ℤ form_at values f → is_negative (combination_value values c) ≡ false → is_negative (combination_value values (plus_form c m f)) ≡ false
-unfolding combination_value combined_ℚ form_value
-form_met values c q f h k rest =
-    let x : ℕ → ℤ = number_in values in
-    ap is_negative (ap (λ t. t +ℚ (q *ℚ whole_ℚ f.constant +ℚ c.constant)) (combined-plus_multiple q f.coefs c.weights x)
-    ∙ regroup q (whole_ℚ (combined f.coefs x)) (combined_ℚ c.weights x) (whole_ℚ f.constant) c.constant
-    ∙ ap (λ t. q *ℚ t +ℚ (combined_ℚ c.weights x +ℚ c.constant)) (sym (whole_plus (combined f.coefs x) f.constant)))
-    ∙ not_negative_plus (q *ℚ whole_ℚ (form_at values f)) _ (not_negative_times q (whole_ℚ (form_at values f)) h (whole_not_negative (form_at values f) k)) rest
+form_met : (values : List Val) (c : Combination) (m : ℚ) (f : Form) → is_negative m ≡ false → pos 0 ≤ℤ form_at values f → is_negative (combination_at c (wholes values)) ≡ false → is_negative (combination_at (plus_form c m f) (wholes values)) ≡ false
+form_met values c m f h k rest =
+    ap is_negative (combination-plus_form c m f (wholes values) ∙ ap (λ t. m *ℚ t +ℚ combination_at c (wholes values)) (whole-value_at f (number_in values)))
+    ∙ not_negative_plus (m *ℚ whole_ℚ (form_at values f)) _ (not_negative_times m (whole_ℚ (form_at values f)) h (whole_not_negative (form_at values f) k)) rest
 
-all_met : (values : List Val) (c : Combination) (ms : List ℚ) (fs : List Form) → AreMultipliers ms fs → AllAtLeast values fs → is_negative (combination_value values c) ≡ false → is_negative (combination_value values (combined_with c ms fs)) ≡ false
+all_met : (values : List Val) (c : Combination) (ms : List Fraction) (fs : List Form) → AreMultipliers ms fs → AllAtLeast values fs → is_negative (combination_at c (wholes values)) ≡ false → is_negative (combination_at (combined_with c (rationals ms) fs) (wholes values)) ≡ false
 unfolding AllAtLeast combined_with
 all_met values c [] [] h m k = k
 all_met values c [] (f ∷ fs) h m k = absurd h
 all_met values c (q ∷ ms) [] h m k = absurd h
-all_met values c (q ∷ ms) (f ∷ fs) h m k = all_met values (plus_form c q f) ms fs h.1 m.1 (form_met values c q f h.0 m.0 k)
+all_met values c (q ∷ ms) (f ∷ fs) h m k = all_met values (plus_form c (value q) f) ms fs h.2 m.1 (form_met values c (value q) f h.1 m.0 k)
 
 -- where the forms are at least 0, so is their combination
-combination_met : (values : List Val) (ms : List ℚ) (fs : List Form) → AreMultipliers ms fs → AllAtLeast values fs → is_negative (combined_ℚ (combination ms fs).weights (number_in values) +ℚ (combination ms fs).constant) ≡ false
-unfolding combined_ℚ combination_value
+combination_met : (values : List Val) (ms : List Fraction) (fs : List Form) → AreMultipliers ms fs → AllAtLeast values fs → is_negative (weights_at (combination (rationals ms) fs).weights (wholes values) +ℚ (combination (rationals ms) fs).constant) ≡ false
+unfolding combination_at weights_at
 combination_met values ms fs h m = all_met values (record { weights = []; constant = 0ℚ }) ms fs h m (ap is_negative (+ℚ_zero 0ℚ) ∙ zero_not_negative)
 
-product_not_negative : (d x : ℤ) → pos 1 ≤ℤ d → pos 0 ≤ℤ x → pos 0 ≤ℤ (d *ℤ x)
+pub product_not_negative : (d x : ℤ) → pos 1 ≤ℤ d → pos 0 ≤ℤ x → pos 0 ≤ℤ (d *ℤ x)
 product_not_negative (pos d) (pos x) h k = at_most_in (pos 0) (pos (d * x)) (omega arith)
 product_not_negative (pos d) (negsuc x) h k = absurd (omega (arith, ints, k))
 product_not_negative (negsuc d) x h k = absurd (omega (arith, ints, h))
@@ -158,8 +171,10 @@ product_not_negative (negsuc d) x h k = absurd (omega (arith, ints, h))
 disagree : true ≡ false → ⊥
 disagree e = cc
 
-contradicts : (values : List Val) (ms : List ℚ) (fs : List Form) → IsContradiction ms fs → AllAtLeast values fs → ⊥
-contradicts values ms fs c m = disagree (sym c.negative ∙ ap is_negative (sym (ap (λ t. t +ℚ (combination ms fs).constant) (all_zero (combination ms fs).weights (number_in values) c.zero) ∙ zero-+ℚ (combination ms fs).constant)) ∙ combination_met values ms fs c.multipliers m)
+contradicts : (values : List Val) (ms : List Fraction) (fs : List Form) → IsContradiction ms fs → AllAtLeast values fs → ⊥
+contradicts values ms fs c m =
+    let whole : Combination = combination (rationals ms) fs in
+    disagree (sym c.negative ∙ ap is_negative (sym (ap (λ t. t +ℚ whole.constant) (all_zero whole.weights (wholes values) c.zero) ∙ zero-+ℚ whole.constant)) ∙ combination_met values ms fs c.multipliers m)
 
 -- ---- rounding cuts
 combined-before : (i : ℕ) (c : ℤ) (cs : List Coefficient) (x : ℕ → ℤ) → combined (before i c cs) x ≡ c *ℤ x i +ℤ combined cs x
@@ -170,8 +185,8 @@ combined-before i c cs x = by (int_eq c (pos 0)) refl
     by true e = sym (ap (λ k. k *ℤ x i +ℤ combined cs x) ((signed_Decides c (pos 0)).0 e) ∙ ap (λ k. k +ℤ combined cs x) (zero-*ℤ (x i)) ∙ +ℤ_idl (combined cs x))
     by false e = refl
 
-multiples_value : (d : ℤ) (qs : List Weight) (es : List Coefficient) (x : ℕ → ℤ) → AreMultiples d qs es → combined_ℚ qs x ≡ whole_ℚ (d *ℤ combined es x)
-unfolding combined combined_ℚ
+multiples_value : (d : ℤ) (qs : List Weight) (es : List Coefficient) (x : ℕ → ℤ) → AreMultiples d qs es → weights_at qs (λ i. whole_ℚ (x i)) ≡ whole_ℚ (d *ℤ combined es x)
+unfolding combined weights_at
 multiples_value d [] es x h = sym (ap (λ cs. whole_ℚ (d *ℤ combined cs x)) h ∙ ap whole_ℚ (*ℤ-zero d) ∙ whole_zero)
 multiples_value d (q ∷ qs) es x h =
     let k : ℤ = h.0 in
@@ -193,15 +208,15 @@ times_neg d y =
 apart : (d x k : ℤ) → neg_ℤ (d *ℤ (k +ℤ pos 1)) ≡ d *ℤ x +ℤ d *ℤ (neg_ℤ (x +ℤ k) -ℤ pos 1)
 apart d x k = sym (times_neg d (k +ℤ pos 1)) ∙ ap (λ t. d *ℤ t) (same_in (neg_ℤ (k +ℤ pos 1)) (x +ℤ (neg_ℤ (x +ℤ k) -ℤ pos 1)) (omega (arith, ints))) ∙ distributes_left d x (neg_ℤ (x +ℤ k) -ℤ pos 1)
 
-cut_holds : (values : List Val) (ms : List ℚ) (d : ℤ) (fs : List Form) (e : Form) → IsCut ms d fs e → AllAtLeast values fs → pos 0 ≤ℤ form_at values e
+cut_holds : (values : List Val) (ms : List Fraction) (d : ℤ) (fs : List Form) (e : Form) → IsCut ms d fs e → AllAtLeast values fs → pos 0 ≤ℤ form_at values e
 unfolding form_value
-cut_holds values ms d fs e c m = in_case (λ h. h) (λ h. absurd (disagree (sym c.next ∙ ap is_negative (below_one h) ∙ not_negative_plus (combined_ℚ qs (number_in values) +ℚ k) _ (combination_met values ms fs c.multipliers m) (whole_not_negative (d *ℤ gap) (product_not_negative d gap c.positive h))))) (either (x +ℤ e.constant))
+cut_holds values ms d fs e c m = in_case (λ h. h) (λ h. absurd (disagree (sym c.next ∙ ap is_negative (below_one h) ∙ not_negative_plus (weights_at qs (wholes values) +ℚ k) _ (combination_met values ms fs c.multipliers m) (whole_not_negative (d *ℤ gap) (product_not_negative d gap c.positive h))))) (either (x +ℤ e.constant))
   where
     qs : List Weight
-    qs = (combination ms fs).weights
+    qs = (combination (rationals ms) fs).weights
 
     k : ℚ
-    k = (combination ms fs).constant
+    k = (combination (rationals ms) fs).constant
 
     x : ℤ
     x = combined e.coefs (number_in values)
@@ -209,7 +224,7 @@ cut_holds values ms d fs e c m = in_case (λ h. h) (λ h. absurd (disagree (sym 
     gap : ℤ
     gap = neg_ℤ (x +ℤ e.constant) -ℤ pos 1
 
-    below_one : pos 0 ≤ℤ gap → k +ℚ whole_ℚ (neg_ℤ (d *ℤ (e.constant +ℤ pos 1))) ≡ (combined_ℚ qs (number_in values) +ℚ k) +ℚ whole_ℚ (d *ℤ gap)
+    below_one : pos 0 ≤ℤ gap → k +ℚ whole_ℚ (neg_ℤ (d *ℤ (e.constant +ℤ pos 1))) ≡ (weights_at qs (wholes values) +ℚ k) +ℚ whole_ℚ (d *ℤ gap)
     below_one h =
         ap (λ t. k +ℚ t) (ap whole_ℚ (apart d x e.constant) ∙ whole_plus (d *ℤ x) (d *ℤ gap))
         ∙ sym (+ℚ_assoc k (whole_ℚ (d *ℤ x)) (whole_ℚ (d *ℤ gap)))
@@ -232,8 +247,8 @@ refuted q path (Branch i bound left right) r values a m =
     (λ h. refuted q (path ++ AtLeast (negation f) ∷ []) right r.2 values a (meets_last values path (AtLeast (negation f)) m (subst (λ x. pos 0 ≤ℤ x) (sym (value-negation f (number_in values))) h)))
     (either (form_at values f))
 refuted q path (Cut ms d inner) r values a m =
-    refuted q (path ++ AtLeast r.0 ∷ []) inner r.1.1 values a (meets_last values path (AtLeast r.0) m (cut_holds values (rationals ms) d (forms path) r.0 r.1.0 (forms_met values path m)))
-refuted q path (Farkas ms) r values a m = absurd (contradicts values (rationals ms) (forms path) r (forms_met values path m))
+    refuted q (path ++ AtLeast r.0 ∷ []) inner r.1.1 values a (meets_last values path (AtLeast r.0) m (cut_holds values ms d (forms path) r.0 r.1.0 (forms_met values path m)))
+refuted q path (Farkas ms) r values a m = absurd (contradicts values ms (forms path) r (forms_met values path m))
 refuted q path Shown r values a m =
     let right : IsRight q path known.False = subst (λ k. IsRight q path k) r (known_right q path) in
     ap truth (right values a m)

@@ -5,4 +5,5 @@ pub mod Operations
 pub mod Seen
 pub mod Right
 pub mod Trees
+pub mod Points
 pub mod Stored

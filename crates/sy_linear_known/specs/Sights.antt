@@ -10,7 +10,7 @@ use Rattle.sy_terms.specs.declared.op.Op.TheVariants as ops
 use Rattle.sy_terms.specs.declared.sorts.Sorted.{Sorted}
 use Rattle.sy_terms.specs.declared.sorts.Sorted.TheVariants as sorted
 use Rattle.sy_linear_forms.specs.declared.form.Form.{Form}
-use Rattle.sy_linear_forms.specs.Forms.{constant_form, plus, times, negation, fits, is_constant}
+use Rattle.sy_linear_forms.specs.Forms.{plus, times, minus, above, negation, fits, is_constant}
 use Rattle.sy_linear_known.specs.declared.path.Fact.{Fact}
 use Rattle.sy_linear_known.specs.declared.path.Test.TheVariants as test
 use Rattle.sy_linear_known.specs.declared.sight.Sight.{Sight}
@@ -100,19 +100,18 @@ evaluated operator (Some values) = told (truth_at operator values)
 abbrev pub built : Form → Option Form
 built f = cond (fits f) (Some f) None
 
-abbrev pub and_then : Option Form → (Form → Option Form) → Option Form
-and_then None next = None
-and_then (Some f) next = next f
-
 abbrev pub sum : Form → Form → Option Form
 sum f g = built (plus f g)
 
 abbrev pub multiple : ℤ → Form → Option Form
 multiple k f = built (times k f)
 
--- the sum with the opposite
 abbrev pub difference : Form → Form → Option Form
-difference f g = and_then (multiple (negsuc 0) g) (λ h. sum f h)
+difference f g = built (minus f g)
+
+-- f - g - 1, which is at least 0 exactly where f is above g
+abbrev pub excess : Form → Form → Option Form
+excess f g = built (above f g)
 
 -- a product of which one factor is constant; no other is linear
 abbrev pub product : Form → Form → Option Form
@@ -173,7 +172,7 @@ abbrev pub at_most : List Fact → Form → Form → Node
 at_most path f g = tested path (difference g f)
 
 abbrev pub less : List Fact → Form → Form → Node
-less path f g = tested path (and_then (difference g f) (λ e. sum e (constant_form (negsuc 0))))
+less path f g = tested path (excess g f)
 
 abbrev pub equal : List Fact → Form → Form → Node
 equal path f g = both (at_most path g f) (at_most path f g)

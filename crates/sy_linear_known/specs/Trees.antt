@@ -1,5 +1,5 @@
 -- Refutation trees of a query.
-use Rattle.std.specs.Prelude.{◌≡◌, ℕ, ◌≤ℤ◌, true, false, cond, List, [], ◌∷◌, ◌++◌, map, ℤ, pos, ◌+ℤ◌, ◌*ℤ◌, neg_ℤ, nat_lt, slice_get, Some}
+use Rattle.std.specs.Prelude.{◌≡◌, ℕ, ◌<◌, ◌≤ℤ◌, true, false, cond, List, [], ◌∷◌, ◌++◌, map, ℤ, pos, ◌+ℤ◌, ◌*ℤ◌, neg_ℤ, nat_lt, slice_get, Some}
 use Rattle.sy_frac.specs.Fraction.{Fraction}
 use Rattle.sy_frac.specs.Rational.{ℚ, 0ℚ, ◌+ℚ◌, ◌*ℚ◌, over, is_negative, value}
 use Rattle.sy_terms.specs.declared.sort.Sort.{Sort}
@@ -80,10 +80,10 @@ combination ms fs = combined_with (record { weights = []; constant = 0ℚ }) ms 
 abbrev pub rationals : List Fraction → List ℚ
 rationals fractions = map value fractions
 
--- one multiplier for each form, none of them negative
-abbrev pub AreMultipliers : List ℚ → List Form → Type 0
+-- one multiplier for each form: a fraction over a positive number, not negative
+abbrev pub AreMultipliers : List Fraction → List Form → Type 0
 AreMultipliers [] [] = Unit {0}
-AreMultipliers (m ∷ ms) (f ∷ fs) = (is_negative m ≡ false) × AreMultipliers ms fs
+AreMultipliers (m ∷ ms) (f ∷ fs) = (0 < m.den) × (is_negative (value m) ≡ false) × AreMultipliers ms fs
 AreMultipliers _ _ = ⊥
 
 abbrev pub AllZero : List Weight → Type 0
@@ -97,18 +97,18 @@ AreMultiples d (q ∷ qs) es =
     (k : ℤ) × ((rest : List Coefficient) × ((q.1 ≡ whole_ℚ (d *ℤ k)) × (es ≡ before q.0 k rest) × AreMultiples d qs rest))
 
 -- the added form e + floor (c / d) of a combination d * e + c
-pub record IsCut (ms : List ℚ) (d : ℤ) (fs : List Form) (added : Form) : Type 0 where
+pub record IsCut (ms : List Fraction) (d : ℤ) (fs : List Form) (added : Form) : Type 0 where
   pub multipliers : AreMultipliers ms fs
   pub positive : pos 1 ≤ℤ d
-  pub multiples : AreMultiples d (combination ms fs).weights added.coefs
-  pub below : is_negative ((combination ms fs).constant +ℚ whole_ℚ (neg_ℤ (d *ℤ added.constant))) ≡ false
-  pub next : is_negative ((combination ms fs).constant +ℚ whole_ℚ (neg_ℤ (d *ℤ (added.constant +ℤ pos 1)))) ≡ true
+  pub multiples : AreMultiples d (combination (rationals ms) fs).weights added.coefs
+  pub below : is_negative ((combination (rationals ms) fs).constant +ℚ whole_ℚ (neg_ℤ (d *ℤ added.constant))) ≡ false
+  pub next : is_negative ((combination (rationals ms) fs).constant +ℚ whole_ℚ (neg_ℤ (d *ℤ (added.constant +ℤ pos 1)))) ≡ true
 
 -- the combination is a negative constant
-pub record IsContradiction (ms : List ℚ) (fs : List Form) : Type 0 where
+pub record IsContradiction (ms : List Fraction) (fs : List Form) : Type 0 where
   pub multipliers : AreMultipliers ms fs
-  pub zero : AllZero (combination ms fs).weights
-  pub negative : is_negative (combination ms fs).constant ≡ true
+  pub zero : AllZero (combination (rationals ms) fs).weights
+  pub negative : is_negative (combination (rationals ms) fs).constant ≡ true
 
 -- ---- what is asked of variables
 abbrev pub IsOf : Sort → List Sort → ℕ → Type 0
@@ -126,7 +126,7 @@ Suits vars (test.Holds u) = IsOf sorts.Bool vars u
 abbrev pub Refutes : Query → List Fact → Shape → Type 0
 Refutes q path (Split t left right) = Suits q.vars t × Refutes q (path ++ added_fact t ∷ []) left × Refutes q (path ++ opposite_fact t ∷ []) right
 Refutes q path (Branch i bound left right) = IsOf sorts.Int q.vars i × Refutes q (path ++ AtLeast (at_or_below i bound) ∷ []) left × Refutes q (path ++ AtLeast (negation (at_or_below i bound)) ∷ []) right
-Refutes q path (Cut ms d inner) = (e : Form) × (IsCut (rationals ms) d (forms path) e × Refutes q (path ++ AtLeast e ∷ []) inner)
-Refutes q path (Farkas ms) = IsContradiction (rationals ms) (forms path)
+Refutes q path (Cut ms d inner) = (e : Form) × (IsCut ms d (forms path) e × Refutes q (path ++ AtLeast e ∷ []) inner)
+Refutes q path (Farkas ms) = IsContradiction ms (forms path)
 Refutes q path Shown = query_known q path ≡ known.False
 Refutes q path Unfinished = ⊥

@@ -45,17 +45,31 @@ pub(crate) fn multiple(alloc: Global, factor: i128, f: &Form) -> Result<Option<F
     }
 }
 
-/// The sum with the opposite; none where one of them doesn't fit.
+/// The difference; none where it doesn't fit.
 pub(crate) fn difference(alloc: Global, f: &Form, g: &Form) -> Result<Option<Form>, Want>
     requires left { fits f.now ≡ true }
     requires right { fits g.now ≡ true }
     ensures ok { IfOk result (λ form. form ≡ spec.difference f.now g.now) }
     ensures fits { IfOk result (λ form. form_fits form ≡ true) }
 {
-    let opposite = multiple(alloc, -1, g)?;
-    match opposite {
-        Some(opposite) => sum(alloc, f, &opposite),
-        None => Ok(None),
+    match f.minus(alloc, g) {
+        Ok(form) => Ok(Some(form)),
+        Err(FormEnd::OutOfRange) => Ok(None),
+        Err(FormEnd::Want) => Err(AllocError),
+    }
+}
+
+/// The form that is at least 0 exactly where the first is above the second; none where it doesn't fit.
+pub(crate) fn excess(alloc: Global, f: &Form, g: &Form) -> Result<Option<Form>, Want>
+    requires left { fits f.now ≡ true }
+    requires right { fits g.now ≡ true }
+    ensures ok { IfOk result (λ form. form ≡ spec.excess f.now g.now) }
+    ensures fits { IfOk result (λ form. form_fits form ≡ true) }
+{
+    match f.above(alloc, g) {
+        Ok(form) => Ok(Some(form)),
+        Err(FormEnd::OutOfRange) => Ok(None),
+        Err(FormEnd::Want) => Err(AllocError),
     }
 }
 

@@ -1,11 +1,11 @@
 // Comparisons of terms under a path.
-ghost use Rattle.std.specs.Prelude.{◌≡◌, IfOk, true, negsuc};
-ghost use Rattle.sy_linear_forms.specs.Forms.{fits, constant_form};
+ghost use Rattle.std.specs.Prelude.{◌≡◌, IfOk, true};
+ghost use Rattle.sy_linear_forms.specs.Forms.{fits};
 ghost use Rattle.sy_linear_known.specs.Sights as spec;
 ghost use Rattle.sy_linear_known.specs.Fitting.{form_fits, sight_fits, all_fit};
 ghost use Rattle.sy_linear_known.specs.Operations.{comparison};
 
-use crate::arithmetic::{difference, is_constant, sum};
+use crate::arithmetic::{difference, excess, is_constant};
 use crate::path::{Fact, Test, has_form};
 use crate::sight::{Node, Sight};
 use std::alloc::{AllocError, Global};
@@ -79,26 +79,13 @@ fn at_most(alloc: Global, path: &[Fact], f: &Form, g: &Form) -> Result<Node, Wan
     tested(alloc, path, form)
 }
 
-/// The form less 1; none where there is none or it doesn't fit.
-fn less_one(alloc: Global, form: Option<Form>) -> Result<Option<Form>, Want>
-    requires { form_fits form ≡ true }
-    ensures ok { IfOk result (λ o. o ≡ spec.and_then form (λ f. spec.sum f (constant_form (negsuc 0)))) }
-    ensures fits { IfOk result (λ o. form_fits o ≡ true) }
-{
-    match form {
-        Some(form) => sum(alloc, &form, &Form::number(alloc, -1)),
-        None => Ok(None),
-    }
-}
-
 /// Whether the first is less than the second.
 fn less(alloc: Global, path: &[Fact], f: &Form, g: &Form) -> Result<Node, Want>
     requires left { fits f.now ≡ true }
     requires right { fits g.now ≡ true }
     ensures { IfOk result (λ n. n ≡ spec.less path.now f.now g.now) }
 {
-    let difference = difference(alloc, g, f)?;
-    let form = less_one(alloc, difference)?;
+    let form = excess(alloc, g, f)?;
     tested(alloc, path, form)
 }
 

@@ -13,7 +13,7 @@ mod truths;
 mod walk;
 
 pub use answer::Known;
-pub use path::{Fact, Path, Test};
+pub use path::{Fact, Path, Test, given};
 pub use queries::{is_numbered, known, known_under};
 pub use sy_linear_forms::{Form, FormEnd};
 pub use tree::{CheckEnd, Tree};

@@ -47,7 +47,7 @@ pub(crate) fn has_form(form: &Form, facts: &[Fact]) -> bool
 }
 
 /// The truth value that the first fact on the variable gives.
-pub(crate) fn given(variable: u32, facts: &[Fact]) -> Option<bool>
+pub fn given(variable: u32, facts: &[Fact]) -> Option<bool>
     ensures { result ≡ given variable facts.now }
 {
     let mut left = facts;

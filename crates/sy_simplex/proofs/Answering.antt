@@ -1,14 +1,17 @@
 -- What the ends of a run show of the forms.
-use Rattle.std.specs.Prelude.{◌≡◌, ◌≢◌, ℕ, ◌<◌, ◌⊎◌, List, [], ◌∷◌, ◌++◌, length, get_or, ℤ, pos, ◌<ℤ◌}
+use Rattle.std.specs.Prelude.{◌≡◌, ◌≢◌, ℕ, ◌<◌, ◌+◌, ◌⊎◌, List, [], ◌∷◌, ◌++◌, length, get_or, ℤ, pos, ◌<ℤ◌}
 use Rattle.std.proofs.Common.{sym, ◌∙◌, ap₂, subst, arith, inl, inr}
 use Rattle.std.proofs.lemmas.List.{get_or_read}
 use Rattle.std.proofs.lemmas.Int.{ints}
-use Rattle.sy_frac.specs.Fraction.{Fraction}
+use Rattle.sy_frac.specs.Fraction.{Fraction, IsLowest}
 use Rattle.sy_linear_forms.specs.declared.form.Form.{Form}
 use Rattle.sy_linear_forms.specs.Systems.{Meets, IsCorner, IsRefutation}
+use Rattle.sy_simplex_tableau.specs.Rows.{at, AreLowest}
+use Rattle.sy_simplex_tableau.proofs.Exact.{opposite_lowest, whole_lowest}
+use Rattle.sy_simplex_tableau.proofs.Zeros.{zero_lowest}
 use Rattle.sy_simplex_tableau.specs.States.{State, column, coef, IsShaped, IsMet, IsStuck, IsLeaving, IsEntering, IsStep}
 use Rattle.sy_simplex.specs.Problems.{system_of, numbers}
-use Rattle.sy_simplex.specs.Runs.{Ran, stepped, IsPoint, AreMultipliers}
+use Rattle.sy_simplex.specs.Runs.{Ran, stepped, IsPoint, IsMultiplier, AreMultipliers}
 use Rattle.sy_simplex.proofs.Sound.{IsSteady, ran_steady, point_meets, point_is_corner}
 use Rattle.sy_simplex.proofs.Refuted.{given_refute}
 
@@ -24,10 +27,18 @@ point_sound vars forms steps t p ran met point =
     let h : IsSteady vars forms t = ran_steady vars forms steps t ran in
     (point.len ∙ h.vars_is, point_meets vars forms t h p point met, point_is_corner vars forms t h p point)
 
-pub conflict_sound : (vars : ℕ) (forms : List Form) (steps : List (ℕ × ℕ)) (t : State) (r : ℕ) (ms : List Fraction) → Ran vars forms steps t → IsStuck t r → AreMultipliers t r ms → (length ms ≡ length forms) × IsRefutation (system_of vars forms) (numbers ms)
+multiplier_lowest : (t : State) (r v : ℕ) (f : Fraction) → IsShaped t → r < length t.basics → IsMultiplier t r v f → IsLowest f
+multiplier_lowest t r v f h l (inl k) = subst IsLowest (sym k.1) (whole_lowest (pos 1) (omega arith))
+multiplier_lowest t r v f h l (inr (inl k)) = subst IsLowest (sym k.3) (opposite_lowest (coef t r k.0) (h.rows_lowest r l k.0 (omega (arith, h.widths r l, k.1))))
+multiplier_lowest t r v f h l (inr (inr k)) = subst IsLowest (sym k.2) zero_lowest
+
+multipliers_lowest : (t : State) (r : ℕ) (ms : List Fraction) → IsShaped t → r < length t.basics → AreMultipliers t r ms → AreLowest ms
+multipliers_lowest t r ms h l given i k = let below : i < length t.bounds = omega (arith, given.len, k) in multiplier_lowest t r (t.vars + i) (at ms i) h l (given.each i below)
+
+pub conflict_sound : (vars : ℕ) (forms : List Form) (steps : List (ℕ × ℕ)) (t : State) (r : ℕ) (ms : List Fraction) → Ran vars forms steps t → IsStuck t r → AreMultipliers t r ms → (length ms ≡ length forms) × IsRefutation (system_of vars forms) (numbers ms) × AreLowest ms
 conflict_sound vars forms steps t r ms ran stuck given =
     let h : IsSteady vars forms t = ran_steady vars forms steps t ran in
-    (given.len ∙ h.bounds_length, given_refute vars forms t h r stuck ms given)
+    (given.len ∙ h.bounds_length, given_refute vars forms t h r stuck ms given, multipliers_lowest t r ms h.shape stuck.leaving.first.row_below given)
 
 -- the coefficient by which a column enters isn't 0
 pub entering_nonzero : (t : State) (r e : ℕ) → IsEntering t r e → (coef t r e).num ≢ pos 0

@@ -2,15 +2,16 @@
 use Rattle.std.specs.Prelude.{◌≡◌, ℕ, List, length}
 use Rattle.sy_linear_forms.specs.declared.form.Form.{Form}
 use Rattle.sy_linear_forms.specs.Systems.{Meets, IsCorner, IsRefutation}
+use Rattle.sy_simplex_tableau.specs.Rows.{AreLowest}
 use Rattle.sy_simplex.specs.declared.answer.Feasible.{Feasible}
 use Rattle.sy_simplex.specs.declared.answer.Feasible.TheVariants.{Point, Conflict, Pivots, Range}
 use Rattle.sy_simplex.specs.Problems.{system_of, numbers}
 use Rattle.sy_simplex.specs.Runs.{EndsAt, EndsStuck, IsSpent, IsOutOfRange}
 
--- the point meets every form and is a corner of them; the multipliers refute them
+-- the point meets every form and is a corner of them; the multipliers, fractions in lowest terms, refute them
 abbrev pub IsSound : ℕ → List Form → Feasible → Type 0
 IsSound vars forms (Point p) = (length p ≡ vars) × Meets (system_of vars forms) (numbers p) × IsCorner (system_of vars forms) (numbers p)
-IsSound vars forms (Conflict m) = (length m ≡ length forms) × IsRefutation (system_of vars forms) (numbers m)
+IsSound vars forms (Conflict m) = (length m ≡ length forms) × IsRefutation (system_of vars forms) (numbers m) × AreLowest m
 IsSound vars forms (Pivots run) = Unit {0}
 IsSound vars forms (Range run) = Unit {0}
 

@@ -2,6 +2,7 @@
 
 use sy_frac::Frac;
 use sy_seq::Seq;
+use sy_simplex_tableau::Tableau;
 
 /// The steps of a run: pairs of the leaving and the entering variable.
 #[derive(Drop)]
@@ -20,4 +21,11 @@ pub enum Feasible {
     Pivots(Run),
     /// An operation after these steps doesn't fit.
     Range(Run),
+}
+
+/// An answer, and for a point the tableau at which the run ends.
+#[derive(Drop)]
+pub struct Ended {
+    pub answer: Feasible,
+    pub last: Option<Tableau>,
 }

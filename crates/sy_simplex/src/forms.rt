@@ -5,7 +5,7 @@ ghost use Rattle.sy_simplex.specs.Problems.{IsForm, AreForms};
 use sy_linear_forms::Form;
 
 /// Whether the form's variables are below `vars`, in ascending order.
-fn is_form(vars: u32, form: &Form) -> bool
+pub fn is_form(vars: u32, form: &Form) -> bool
     ensures { IsTrue result ↔ IsForm vars form.now }
 {
     let coefs = form.coefs.as_slice();

@@ -8,10 +8,7 @@ mod initial;
 mod law;
 mod solve;
 
-pub use answer::{Feasible, Run};
-pub use forms::are_forms;
+pub use answer::{Ended, Feasible, Run};
+pub use forms::{are_forms, is_form};
 pub use law::answers_are_determined;
-pub use solve::feasible;
-
-#[cfg(test)]
-mod tests;
+pub use solve::{ended, feasible};

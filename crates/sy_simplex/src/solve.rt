@@ -3,7 +3,7 @@ ghost use Rattle.std.specs.Prelude.{◌<◌, ◌^◌, ◌↔◌, length, IfOk, I
 ghost use Rattle.sy_simplex.specs.Problems.{AreForms};
 ghost use Rattle.sy_simplex.specs.Answers.{IsSound, Tells};
 
-use crate::answer::{Feasible, Run};
+use crate::answer::{Ended, Feasible, Run};
 use crate::ends::{multipliers, point};
 use crate::initial::initial;
 use std::alloc::{AllocError, Global};
@@ -24,10 +24,10 @@ fn are_few(vars: u32, forms: &[Form]) -> bool
 /// negative constant. `Pivots` comes exactly where the run has taken `pivots` steps and is at neither end, `Range` exactly
 /// where an operation that follows the given steps doesn't fit: one of the next step, or, after `pivots` steps, of its choice.
 /// More than 2^31 - 1 variables or forms are answered as want of memory.
-pub fn feasible(alloc: Global, vars: u32, bounds: &Seq<Form>, pivots: u32) -> Result<Feasible, Want>
+pub fn ended(alloc: Global, vars: u32, bounds: &Seq<Form>, pivots: u32) -> Result<Ended, Want>
     requires { AreForms vars bounds.now }
-    ensures sound { IfOk result (λ answer. IsSound vars bounds.now answer) }
-    ensures exact { IfOk result (λ answer. Tells vars bounds.now pivots answer) }
+    ensures sound { IfOk result (λ ended. IsSound vars bounds.now ended.answer) }
+    ensures exact { IfOk result (λ ended. Tells vars bounds.now pivots ended.answer) }
 {
     let forms = bounds.as_slice();
     if !are_few(vars, forms) {
@@ -36,27 +36,62 @@ pub fn feasible(alloc: Global, vars: u32, bounds: &Seq<Form>, pivots: u32) -> Re
     let mut steps = Seq::new(alloc);
     let mut tableau = match initial(alloc, vars, forms) {
         Ok(tableau) => tableau,
-        Err(Fault::Unfit) => return Ok(Feasible::Range(Run { steps })),
+        Err(Fault::Unfit) => {
+            return Ok(Ended {
+                answer: Feasible::Range(Run { steps }),
+                last: None,
+            });
+        },
         Err(Fault::Want) => return Err(AllocError),
     };
     loop {
         match tableau.choose() {
-            None => return Ok(Feasible::Range(Run { steps })),
-            Some(Choice::Met) => return Ok(Feasible::Point(point(alloc, &tableau)?)),
+            None => {
+                return Ok(Ended {
+                    answer: Feasible::Range(Run { steps }),
+                    last: None,
+                });
+            },
+            Some(Choice::Met) => {
+                let answer = Feasible::Point(point(alloc, &tableau)?);
+                return Ok(Ended {
+                    answer,
+                    last: Some(tableau),
+                });
+            },
             Some(Choice::Stuck(row)) => {
-                return Ok(Feasible::Conflict(multipliers(alloc, &tableau, row)?));
+                let answer = Feasible::Conflict(multipliers(alloc, &tableau, row)?);
+                return Ok(Ended { answer, last: None });
             },
             Some(Choice::Exchange(row, column)) => {
                 if steps.len() == pivots as usize {
-                    return Ok(Feasible::Pivots(Run { steps }));
+                    return Ok(Ended {
+                        answer: Feasible::Pivots(Run { steps }),
+                        last: None,
+                    });
                 }
                 let step = (tableau.basics[row], tableau.columns[column]);
                 match tableau.exchange(alloc, row, column) {
                     Ok(()) => steps.push(step)?,
-                    Err(Fault::Unfit) => return Ok(Feasible::Range(Run { steps })),
+                    Err(Fault::Unfit) => {
+                        return Ok(Ended {
+                            answer: Feasible::Range(Run { steps }),
+                            last: None,
+                        });
+                    },
                     Err(Fault::Want) => return Err(AllocError),
                 }
             },
         }
     }
+}
+
+/// The answer of `ended`, without the tableau.
+pub fn feasible(alloc: Global, vars: u32, bounds: &Seq<Form>, pivots: u32) -> Result<Feasible, Want>
+    requires { AreForms vars bounds.now }
+    ensures sound { IfOk result (λ answer. IsSound vars bounds.now answer) }
+    ensures exact { IfOk result (λ answer. Tells vars bounds.now pivots answer) }
+{
+    let end = ended(alloc, vars, bounds, pivots)?;
+    Ok(end.answer)
 }

@@ -1,5 +1,5 @@
 -- A run that comes back to a basis contradicts Bland's rule: the greatest variable that leaves would have to enter.
-use Rattle.std.specs.Prelude.{◌≡◌, ◌≢◌, ℕ, zero, suc, ◌<◌, ◌≤◌, ◌+◌, ◌-◌, ◌⊎◌, Bool, true, false, List, length, ℤ, pos, ◌<ℤ◌, ◌*ℤ◌, get_or}
+use Rattle.std.specs.Prelude.{◌≡◌, ◌≢◌, ℕ, suc, ◌<◌, ◌≤◌, ◌+◌, ◌-◌, ◌⊎◌, Bool, true, false, List, length, ℤ, pos, ◌<ℤ◌, ◌*ℤ◌, get_or}
 use Rattle.std.proofs.Common.{refl, sym, ◌∙◌, ap, ap₂, subst, arith, inl, inr, ltb-true, ltb-false}
 use Rattle.std.proofs.Math.Dec.{eqb, ltb}
 use Rattle.std.proofs.Math.ListN.{length-set}
@@ -11,7 +11,7 @@ use Rattle.sy_frac.specs.Rational.{ℚ, 0ℚ, ◌+ℚ◌, ◌*ℚ◌, neg_ℚ, o
 use Rattle.sy_linear_forms.specs.declared.form.Form.{Form}
 use Rattle.sy_linear_forms.specs.Total.{total, total-same, total-plus, combined}
 use Rattle.sy_linear_forms.specs.Systems.{total_not_negative}
-use Rattle.sy_simplex_tableau.specs.Rows.{at, Raises}
+use Rattle.sy_simplex_tableau.specs.Rows.{Raises}
 use Rattle.sy_simplex_tableau.specs.States.{State, column, basic, row, coef, value, bound, IsVariable, IsClear, IsLeaving, IsEntering}
 use Rattle.sy_simplex.specs.Problems.{form}
 use Rattle.sy_simplex.specs.Runs.{Ran}

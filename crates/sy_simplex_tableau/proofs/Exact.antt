@@ -19,7 +19,7 @@ abs_neg (pos zero) = refl
 abs_neg (pos (suc n)) = refl
 abs_neg (negsuc n) = refl
 
-opposite_lowest : (f : Fraction) → IsLowest f → IsLowest (opposite f)
+pub opposite_lowest : (f : Fraction) → IsLowest f → IsLowest (opposite f)
 opposite_lowest f h = record {
   num_fits = subst (λ n. n < 2 ^ 127) (sym (abs_neg f.num)) h.num_fits;
   den_fits = h.den_fits;

@@ -1,0 +1,6 @@
+pub mod Dense
+pub mod Corners
+pub mod Conflicts
+pub mod Wholes
+pub mod Evaluating
+pub mod Solved

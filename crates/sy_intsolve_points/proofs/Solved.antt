@@ -1,0 +1,29 @@
+-- What the simplex method answers is so of the path whose forms it is given.
+use Rattle.std.specs.Prelude.{◌≡◌, ℕ, List, length, Result, Ok, Err, IfOk}
+use Rattle.std.proofs.Common.{sym, subst}
+use Rattle.sy_terms.specs.declared.sort.Sort.{Sort}
+use Rattle.sy_linear_forms.specs.declared.form.Form.{Form}
+use Rattle.sy_linear_known.specs.declared.path.Fact.{Fact}
+use Rattle.sy_linear_known.specs.Trees.{forms}
+use Rattle.sy_simplex.specs.declared.answer.Feasible.{Feasible}
+use Rattle.sy_simplex.specs.declared.answer.Feasible.TheVariants.{Point, Conflict, Pivots, Range}
+use Rattle.sy_simplex.specs.Problems.{AreForms}
+use Rattle.sy_simplex.specs.Answers.{IsSound}
+use Rattle.sy_intsolve_asked.specs.Asked.{IsPath}
+use Rattle.sy_intsolve_points.specs.Points.{IsSoundFor}
+use Rattle.sy_intsolve_points.proofs.Dense.{path-forms}
+use Rattle.sy_intsolve_points.proofs.Corners.{point-corner}
+use Rattle.sy_intsolve_points.proofs.Conflicts.{refutation-contradiction}
+
+pub forms-asked : (vars : List Sort) (path : List Fact) (fs : List Form) → IsPath vars path → fs ≡ forms path → AreForms (length vars) fs
+forms-asked vars path fs p e = subst (AreForms (length vars)) (sym e) (path-forms vars path p)
+
+answer-sound : (vars : List Sort) (path : List Fact) (answer : Feasible) → IsPath vars path → IsSound (length vars) (forms path) answer → IsSoundFor vars path answer
+answer-sound vars path (Point point) p h = point-corner vars path point p h
+answer-sound vars path (Conflict multipliers) p h = refutation-contradiction (length vars) (forms path) multipliers (path-forms vars path p) h.0 h.2 h.1
+answer-sound vars path (Pivots run) p h = tt
+answer-sound vars path (Range run) p h = tt
+
+pub result-sound : {E : Type 0} (vars : List Sort) (path : List Fact) (fs : List Form) (result : Result Feasible E) → IsPath vars path → fs ≡ forms path → IfOk result (IsSound (length vars) fs) → IfOk result (IsSoundFor vars path)
+result-sound vars path fs (Ok answer) p e h = answer-sound vars path answer p (subst (λ gs. IsSound (length vars) gs answer) e h)
+result-sound vars path fs (Err end) p e h = tt

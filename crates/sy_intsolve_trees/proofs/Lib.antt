@@ -1,0 +1,4 @@
+pub mod Layers
+pub mod Refuting
+pub mod Stored
+pub mod Opening
