@@ -1,5 +1,5 @@
 #!/usr/bin/env python3
-"""Prints the tables of crates/sy_meaning_integers/src/tests.rt, with values from z3.
+"""Prints the tables of crates/sy_vectors_operators/src/integers.rt, with values from z3.
 
 A left associative operator is written out pair by pair, as SMT-LIB defines it, so that each partial
 value is seen: the row has None where one of them lies outside -2^127 to 2^127 - 1. SMT-LIB leaves

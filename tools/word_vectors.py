@@ -1,5 +1,5 @@
 #!/usr/bin/env python3
-"""Writes the tables of crates/sy_meaning_words/src/tests.rt: values of SMT-LIB's operators on bit vectors, as z3 gives them.
+"""Writes the tables of crates/sy_vectors_operators/src/words.rt: values of SMT-LIB's operators on bit vectors, as z3 gives them.
 
 Run it at the top of the repository, with z3 on the path: tools/word_vectors.py
 """

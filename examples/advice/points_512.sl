@@ -1,0 +1,9 @@
+; The same with as many as there are without the option.
+(set-logic BV)
+(synth-fun f ((x (_ BitVec 8))) (_ BitVec 8)
+  ((S (_ BitVec 8)))
+  ((S (_ BitVec 8) (x (bvneg x) (bvnot x)))))
+(declare-var x (_ BitVec 8))
+(constraint (= (f (f x)) x))
+(constraint (distinct (f x) x))
+(check-synth)

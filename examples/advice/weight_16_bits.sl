@@ -1,0 +1,11 @@
+; The same of 16 bits.
+(set-logic BV)
+(define-fun far ((x (_ BitVec 16)) (n (_ BitVec 16))) (_ BitVec 16)
+  (bvshl (bvshl (bvshl (bvshl (bvshl (bvshl (bvshl (bvshl (bvshl (bvshl (bvshl (bvshl (bvshl (bvshl (bvshl (bvshl (bvshl (bvshl (bvshl (bvshl (bvshl (bvshl (bvshl (bvshl (bvshl (bvshl (bvshl (bvshl (bvshl (bvshl (bvshl (bvshl (bvshl (bvshl (bvshl (bvshl (bvshl (bvshl (bvshl (bvshl (bvshl (bvshl (bvshl (bvshl (bvshl (bvshl (bvshl (bvshl (bvshl (bvshl (bvshl (bvshl (bvshl (bvshl (bvshl (bvshl (bvshl (bvshl (bvshl (bvshl x n) n) n) n) n) n) n) n) n) n) n) n) n) n) n) n) n) n) n) n) n) n) n) n) n) n) n) n) n) n) n) n) n) n) n) n) n) n) n) n) n) n) n) n) n) n) n) n) n) n) n) n) n) n) n) n) n) n) n) n))
+(synth-fun f ((x (_ BitVec 16)) (n (_ BitVec 16))) (_ BitVec 16)
+  ((S (_ BitVec 16)))
+  ((S (_ BitVec 16) (x n (bvshl S S) (far S S)))))
+(declare-var x (_ BitVec 16))
+(declare-var n (_ BitVec 16))
+(constraint (= (f x n) (far x n)))
+(check-synth)

@@ -1,0 +1,15 @@
+; The Gray code of a byte, by eight examples. Shows: what one might find in a table of a data sheet.
+(set-logic BV)
+(define-sort Byte () (_ BitVec 8))
+(synth-fun gray ((x Byte)) Byte
+  ((S Byte))
+  ((S Byte (x #x01 (bvxor S S) (bvlshr S #x01) (bvshl S #x01) (bvand S S)))))
+(constraint (= (gray #x00) #x00))
+(constraint (= (gray #x01) #x01))
+(constraint (= (gray #x02) #x03))
+(constraint (= (gray #x03) #x02))
+(constraint (= (gray #x04) #x06))
+(constraint (= (gray #x07) #x04))
+(constraint (= (gray #x80) #xc0))
+(constraint (= (gray #xff) #x80))
+(check-synth)

@@ -1,0 +1,12 @@
+; i = 0; while (i < n) i = i + 1; then i = n, for n up to 100. Shows: the simplest invariant.
+(set-logic BV)
+(define-sort Byte () (_ BitVec 8))
+(synth-inv inv ((i Byte) (n Byte))
+  ((B Bool) (S Byte))
+  ((B Bool ((bvule S S) (= S S) (and B B)))
+   (S Byte (i n #x00 #x64))))
+(define-fun pre ((i Byte) (n Byte)) Bool (and (= i #x00) (bvule n #x64)))
+(define-fun trans ((i Byte) (n Byte) (j Byte) (m Byte)) Bool (and (bvult i n) (= j (bvadd i #x01)) (= m n)))
+(define-fun post ((i Byte) (n Byte)) Bool (=> (not (bvult i n)) (= i n)))
+(inv-constraint inv pre trans post)
+(check-synth)

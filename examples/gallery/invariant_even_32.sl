@@ -1,0 +1,12 @@
+; A counter that goes up by two never meets an odd number. Shows: an invariant of one bit.
+(set-logic BV)
+(define-sort Word () (_ BitVec 32))
+(synth-inv inv ((x Word))
+  ((B Bool) (S Word))
+  ((B Bool ((= S S)))
+   (S Word (x #x00000000 #x00000001 (bvand S S)))))
+(define-fun pre ((x Word)) Bool (= x #x00000000))
+(define-fun trans ((x Word) (y Word)) Bool (= y (bvadd x #x00000002)))
+(define-fun post ((x Word)) Bool (distinct x #x00000007))
+(inv-constraint inv pre trans post)
+(check-synth)

@@ -1,0 +1,12 @@
+; An index that wraps never leaves its array of 10. Shows: the bound of an array index as an invariant.
+(set-logic BV)
+(define-sort Byte () (_ BitVec 8))
+(synth-inv inv ((i Byte))
+  ((B Bool) (S Byte))
+  ((B Bool ((bvult S S)))
+   (S Byte (i #x00 #x01 #x0a))))
+(define-fun pre ((i Byte)) Bool (= i #x00))
+(define-fun trans ((i Byte) (j Byte)) Bool (= j (ite (= i #x09) #x00 (bvadd i #x01))))
+(define-fun post ((i Byte)) Bool (bvult i #x0a))
+(inv-constraint inv pre trans post)
+(check-synth)

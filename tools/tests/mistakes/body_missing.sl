@@ -1,0 +1,2 @@
+(set-logic BV)
+(define-fun g ((x (_ BitVec 8))) (_ BitVec 8))

@@ -1,0 +1,3 @@
+(set-logic BV)
+(sinth-fun f ((x (_ BitVec 8))) (_ BitVec 8))
+(check-synth)

@@ -1,0 +1,2 @@
+(set-logic LIA)
+(set-feature :oracles true)

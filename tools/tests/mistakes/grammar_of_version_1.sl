@@ -1,0 +1,5 @@
+(set-logic BV)
+(synth-fun f ((x (_ BitVec 8)) (y (_ BitVec 8))) (_ BitVec 8)
+  ((Start (_ BitVec 8) (x y (bvadd Start Start) (ite C Start Start)))
+   (C Bool ((bvult Start Start)))))
+(check-synth)

@@ -1,0 +1,5 @@
+(set-logic BV)
+(synth-fun f ((x (_ BitVec 8))) (_ BitVec 8)
+  ((S (_ BitVec 8)) (C Bool))
+  ((C Bool ((bvult S S)))
+   (S (_ BitVec 8) (x (ite C S S)))))

@@ -1,0 +1,6 @@
+(set-logic LIA)
+(synth-inv inv ((x Int)))
+(define-fun pre ((x Int)) Bool (= x 0))
+(define-fun trans ((x Int)) Bool (< x 10))
+(define-fun post ((x Int)) Bool (<= x 10))
+(inv-constraint inv pre trans post)

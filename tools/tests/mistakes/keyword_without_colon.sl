@@ -1,0 +1,2 @@
+(set-logic BV)
+(set-info status sat)

@@ -1,0 +1,4 @@
+(set-logic LIA)
+(synth-fun f ((x Int)) Int)
+(declare-var x Int)
+(constraint (≥ (f x) x))

@@ -1,0 +1,4 @@
+(set-logic LIA)
+(declare-var x Int)
+(declare-var y Int)
+(constraint (>= (* x y) 0))

@@ -1,0 +1,3 @@
+(set-logic BV)
+(define-sort Byte () (_ BitVec 8))
+(declare-var x Bite)

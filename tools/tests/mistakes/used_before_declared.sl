@@ -1,0 +1,8 @@
+(set-logic BV)
+(synth-fun f ((x (_ BitVec 8))) (_ BitVec 8)
+  ((S (_ BitVec 8)))
+  ((S (_ BitVec 8) (x #x01 (bvadd S S)))))
+(declare-var x (_ BitVec 8))
+(constraint (= (f x) (next x)))
+(define-fun next ((x (_ BitVec 8))) (_ BitVec 8) (bvadd x #x01))
+(check-synth)

@@ -1,0 +1,5 @@
+(set-logic BV)
+(declare-var y (_ BitVec 8))
+(synth-fun f ((x (_ BitVec 8))) (_ BitVec 8)
+  ((S (_ BitVec 8)))
+  ((S (_ BitVec 8) (x y (bvadd S S)))))

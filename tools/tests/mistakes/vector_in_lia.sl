@@ -1,0 +1,3 @@
+(set-logic LIA)
+(declare-var x Int)
+(constraint (>= x #x0a))

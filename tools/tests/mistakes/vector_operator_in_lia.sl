@@ -1,0 +1,3 @@
+(set-logic LIA)
+(declare-var x Int)
+(constraint (bvult x x))

@@ -1,0 +1,2 @@
+(set-logic BV)
+(declare-var x (_ BitVec 65))
