@@ -1,0 +1,60 @@
+// The solver.
+ghost use Rattle.sy_intsolve_trees.specs.Budgets.{budget};
+ghost use Rattle.sy_intsolve.specs.Proofs as proofs;
+ghost use Rattle.sy_intsolve.specs.Soundness.{sound};
+
+use std::alloc::{AllocError, Global};
+use sy_intsolve_search::solve_query;
+use sy_intsolve_trees::IntSpent;
+use sy_linear_known::{Tree, is_numbered};
+use sy_meaning_integers::IntTheory;
+use sy_query_base::Query;
+use sy_query_decide::{Decide, Verdict};
+use sy_query_limits::{FailName, Limits};
+use sy_terms::Want;
+
+/// A solver of queries of linear arithmetic over the integers: it grows a tree that splits on open tests and branches on
+/// values of variables, until the tree refutes the query or an assignment satisfies it, with at most as many inner nodes
+/// as the limit `nodes` and as many steps of the simplex method at a leaf as the limit `pivots`.
+///
+/// A query of 2^31 nodes or variables is answered as want of memory.
+#[derive(Clone, Copy, Debug, PartialEq, Eq)]
+pub struct IntDecide;
+
+impl IntDecide {
+    /// The solver. It keeps nothing from one query to the next.
+    pub fn new() -> IntDecide {
+        IntDecide
+    }
+}
+
+impl Decide<IntTheory> for IntDecide {
+    type Proof = Tree;
+
+    type Spent = IntSpent;
+
+    ghost accepted = { proofs.Accepted };
+
+    ghost budget = { budget };
+
+    ghost shows = { proofs.ShowsFor };
+
+    fn decide(
+        &mut self,
+        alloc: Global,
+        query: &Query<IntTheory>,
+        limits: &Limits,
+    ) -> Result<Verdict<IntTheory, Tree, IntSpent>, Want> {
+        if !is_numbered(query) {
+            return Err(AllocError);
+        }
+        let verdict = solve_query(alloc, query, limits)?;
+        Ok(verdict)
+    }
+
+    fn name_of(spent: &IntSpent) -> FailName {
+        spent.name()
+    }
+
+    ghost sound = { sound };
+}

@@ -1,0 +1,8 @@
+// A solver of queries of linear arithmetic over the integers.
+#![tactic(auto)]
+
+mod decider;
+
+pub use decider::IntDecide;
+pub use sy_intsolve_trees::{IntRange, IntSpent};
+pub use sy_linear_known::Tree;

@@ -1,0 +1,102 @@
+// Inner nodes with two sides, and the side at which a search goes on.
+ghost use Rattle.std.specs.Prelude.{◌≡◌, ◌≤◌, true, false, ℕ, IfOk};
+ghost use Rattle.sy_linear_known.specs.declared.path.Fact.{Fact as FactOf};
+ghost use Rattle.sy_linear.specs.Judging.{Gives, Adds};
+ghost use Rattle.sy_linear_known.specs.Stored.{query_of};
+ghost use Rattle.sy_intsolve_trees.specs.Growing.{fork_fact};
+ghost use Rattle.sy_intsolve_trees.specs.Stored.{grown_of, layer_of};
+ghost use Rattle.sy_intsolve_trees.specs.declared.step.Order.TheVariants.{First};
+ghost use Rattle.sy_intsolve_search.specs.Ways.{HasSides, IsGiven, side_layer, GoesOn, room_after};
+ghost use Rattle.sy_intsolve_search.specs.States.{room, IsState};
+
+use crate::state::State;
+use crate::way::Way;
+use std::alloc::{AllocError, Global};
+use sy_frac::Frac;
+use sy_intsolve_points::{kept, number_at};
+use sy_intsolve_trees::{Fork, Step};
+use sy_linear::{branch, split};
+use sy_linear_known::{CheckEnd, Fact, Test, Tree};
+use sy_meaning_integers::IntTheory;
+use sy_query_base::Query;
+use sy_seq::{Seq, Want};
+use sy_terms::Sort;
+
+/// The facts that a node gives, which it is sure to give.
+fn given_facts(outcome: Result<Option<(Fact, Fact)>, CheckEnd>) -> Result<(Fact, Fact), Want>
+    requires { IsGiven outcome }
+    ensures { (facts : FactOf × FactOf) → Gives 0 outcome (Adds facts) → IfOk result (λ given. given ≡ facts) }
+{
+    match outcome {
+        Ok(Some(facts)) => Ok(facts),
+        Ok(None) | Err(CheckEnd::Range(_)) => unreachable!(),
+        Err(CheckEnd::Want) => Err(AllocError),
+    }
+}
+
+/// The facts of both sides, the left one first.
+fn both_facts(alloc: Global, vars: &[Sort], fork: &Fork) -> Result<(Fact, Fact), Want>
+    requires { HasSides vars.now fork.now }
+    ensures { IfOk result (λ facts. facts ≡ (fork_fact true fork.now, fork_fact false fork.now)) }
+{
+    match fork {
+        Fork::Split(test) => given_facts(split(alloc, vars, test, 0)),
+        Fork::Branch(variable, bound) => given_facts(branch(alloc, vars, *variable, *bound, 0)),
+    }
+}
+
+/// The fact of the left side, or else that of the right one.
+fn fact_of(alloc: Global, vars: &[Sort], fork: &Fork, left: bool) -> Result<Fact, Want>
+    requires { HasSides vars.now fork.now }
+    ensures { IfOk result (λ fact. fact ≡ fork_fact left fork.now) }
+{
+    let (below, above) = both_facts(alloc, vars, fork)?;
+    if left { Ok(below) } else { Ok(above) }
+}
+
+/// The step to the left side, or else to the right one, where the tree is the other side.
+fn step_to(left: bool, fork: Fork, point: Seq<Frac>, other: Tree) -> Step
+    ensures { layer_of result ≡ side_layer left fork point (grown_of other) }
+{
+    if left {
+        Step::Left(fork, point, other)
+    } else {
+        Step::Right(fork, point, other)
+    }
+}
+
+/// Whether the left side goes first: where the test is on a truth value or known to hold at the point, and of a bound.
+pub(crate) fn goes_left(fork: &Fork, point: &[Frac]) -> bool {
+    match fork {
+        Fork::Split(Test::AtLeast(form)) => match number_at(form, point) {
+            Some(number) => number.num() >= 0,
+            None => false,
+        },
+        Fork::Split(Test::Holds(_)) | Fork::Branch(_, _) => true,
+    }
+}
+
+/// The open leaf on the left of the fork at the end of the way, or else on its right; the tree is the other side, and the
+/// way's inner nodes are counted with the fork and that side. The fork's point is kept where it is known to meet the new
+/// fact.
+pub(crate) fn enter(
+    alloc: Global,
+    query: &Query<IntTheory>,
+    way: Way,
+    fork: Fork,
+    point: Seq<Frac>,
+    left: bool,
+    other: Tree,
+) -> Result<State, Want>
+    requires { GoesOn First (query_of query.now) way fork point left (grown_of other) }
+    ensures state { (nodes : ℕ) → way.inner ≤ nodes → IfOk result (IsState First (query_of query.now) nodes) }
+    ensures room { (nodes : ℕ) → IfOk result (λ next. room nodes next ≡ room_after nodes way (grown_of other)) }
+{
+    let vars = query.vars.as_slice();
+    let fact = fact_of(alloc, vars, &fork, left)?;
+    let here = point.as_slice();
+    let near = kept(alloc, here, &fact)?;
+    let step = step_to(left, fork, point, other);
+    let next = way.longer(fact, step)?;
+    Ok(State::Open(next, near))
+}

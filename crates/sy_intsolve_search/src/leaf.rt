@@ -1,0 +1,213 @@
+// A turn at an open leaf.
+ghost use Rattle.std.specs.Prelude.{◌≡◌, ◌<◌, ◌+◌, IfOk, IfSome};
+ghost use Rattle.sy_linear_known.specs.declared.answer.Known.TheVariants as known;
+ghost use Rattle.sy_linear_known.specs.Right.{IsRight};
+ghost use Rattle.sy_linear_known.specs.Seen.{query_known};
+ghost use Rattle.sy_linear_known.specs.Stored.{query_of};
+ghost use Rattle.sy_intsolve_points.specs.Points.{IsAt, IsCornerOf};
+ghost use Rattle.sy_intsolve_trees.specs.declared.step.Order.TheVariants.{First};
+ghost use Rattle.sy_intsolve_trees.specs.Growing.{IsFork};
+ghost use Rattle.sy_intsolve_search.specs.Ways.{IsAsked, IsLeaf, CanTurn, HasSides};
+ghost use Rattle.sy_intsolve_search.specs.States.{IsTurn, room_open};
+
+use crate::fork::{enter, goes_left};
+use crate::open::{broken, corner_at, known_at, point_at};
+use crate::spent::{model, spent_known, spent_nodes, spent_pivots, spent_range, whole_model};
+use crate::state::{State, Turn};
+use crate::way::Way;
+use std::alloc::Global;
+use sy_frac::Frac;
+use sy_intsolve_trees::Fork;
+use sy_linear_known::{Known, Test, Tree};
+use sy_meaning_integers::IntTheory;
+use sy_query_base::{Limits, Query};
+use sy_query_decide::Verdict;
+use sy_seq::{Seq, Want};
+use sy_simplex::Feasible;
+
+/// The way with one inner node more.
+fn counted(way: Way) -> Way
+    requires { way.inner < 4294967295 }
+    ensures facts { result.facts.items ≡ way.facts.items }
+    ensures steps { result.steps.items ≡ way.steps.items }
+    ensures inner { result.inner ≡ way.inner + 1 }
+{
+    let Way {
+        facts,
+        steps,
+        inner,
+    } = way;
+    Way {
+        facts,
+        steps,
+        inner: inner + 1,
+    }
+}
+
+/// The fork at the end of the way, where the tree may have an inner node more; else what shows that it may not.
+fn grow(
+    alloc: Global,
+    query: &Query<IntTheory>,
+    limits: &Limits,
+    way: Way,
+    fork: Fork,
+    point: Seq<Frac>,
+) -> Result<Turn, Want>
+    requires leaf { IsLeaf First (query_of query.now) limits.now.nodes way }
+    requires fork { IsFork First (query_of query.now) way.facts.items fork point }
+    requires turns { CanTurn query.now.vars way.facts.items fork }
+    ensures { IfOk result (IsTurn (query_of query.now) limits.now (room_open limits.now.nodes way)) }
+{
+    if way.inner >= limits.nodes {
+        let spent = spent_nodes(alloc, way)?;
+        return Ok(Turn::Over(Verdict::Spent(spent)));
+    }
+    let here = point.as_slice();
+    let left = goes_left(&fork, here);
+    let grown = counted(way);
+    let state = enter(alloc, query, grown, fork, point, left, Tree::Unfinished)?;
+    Ok(Turn::On(state))
+}
+
+/// A turn at a corner of the path of a leaf at which the query is known true: a whole corner is a model, and a branch is
+/// on the first value that isn't whole.
+fn at_corner(
+    alloc: Global,
+    query: &Query<IntTheory>,
+    limits: &Limits,
+    way: Way,
+    point: Seq<Frac>,
+) -> Result<Turn, Want>
+    requires asked { IsAsked (query_of query.now) }
+    requires leaf { IsLeaf First (query_of query.now) limits.now.nodes way }
+    requires known { query_known (query_of query.now) way.facts.items ≡ known.True }
+    requires right { IsRight (query_of query.now) way.facts.items known.True }
+    requires corner { IsCornerOf query.now.vars way.facts.items point }
+    ensures { IfOk result (IsTurn (query_of query.now) limits.now (room_open limits.now.nodes way)) }
+{
+    let here = point.as_slice();
+    match broken(query, &way, here) {
+        None => {
+            let values = model(alloc, query, &way, here)?;
+            Ok(Turn::Over(Verdict::Model(values)))
+        }
+        Some((variable, bound)) => {
+            let turn = grow(
+                alloc,
+                query,
+                limits,
+                way,
+                Fork::Branch(variable, bound),
+                point,
+            )?;
+            Ok(turn)
+        }
+    }
+}
+
+/// A turn at a leaf at which the query is known true: a whole point is a model.
+fn settled(
+    alloc: Global,
+    query: &Query<IntTheory>,
+    limits: &Limits,
+    way: Way,
+    point: Option<Seq<Frac>>,
+) -> Result<Turn, Want>
+    requires asked { IsAsked (query_of query.now) }
+    requires leaf { IsLeaf First (query_of query.now) limits.now.nodes way }
+    requires kept { IfSome point (IsAt query.now.vars way.facts.items) }
+    requires known { query_known (query_of query.now) way.facts.items ≡ known.True }
+    requires right { IsRight (query_of query.now) way.facts.items known.True }
+    ensures { IfOk result (IsTurn (query_of query.now) limits.now (room_open limits.now.nodes way)) }
+{
+    if let Some(near) = point {
+        let here = near.as_slice();
+        if let Some(values) = whole_model(alloc, query, &way, here)? {
+            return Ok(Turn::Over(Verdict::Model(values)));
+        }
+    }
+    let answer = corner_at(alloc, query, limits.pivots, &way)?;
+    match answer {
+        Feasible::Point(corner) => {
+            let turn = at_corner(alloc, query, limits, way, corner)?;
+            Ok(turn)
+        }
+        Feasible::Conflict(multipliers) => {
+            Ok(Turn::On(State::Closed(way, Tree::Farkas(multipliers))))
+        }
+        Feasible::Pivots(run) => {
+            let spent = spent_pivots(alloc, way, run)?;
+            Ok(Turn::Over(Verdict::Spent(spent)))
+        }
+        Feasible::Range(run) => {
+            let spent = spent_range(alloc, way, run)?;
+            Ok(Turn::Over(Verdict::Spent(spent)))
+        }
+    }
+}
+
+/// A turn at a leaf that leaves this test open as the first one: a split on it, at a point of the path.
+fn undecided(
+    alloc: Global,
+    query: &Query<IntTheory>,
+    limits: &Limits,
+    way: Way,
+    point: Option<Seq<Frac>>,
+    test: Test,
+) -> Result<Turn, Want>
+    requires asked { IsAsked (query_of query.now) }
+    requires leaf { IsLeaf First (query_of query.now) limits.now.nodes way }
+    requires kept { IfSome point (IsAt query.now.vars way.facts.items) }
+    requires known { query_known (query_of query.now) way.facts.items ≡ known.Undecided test }
+    ensures { IfOk result (IsTurn (query_of query.now) limits.now (room_open limits.now.nodes way)) }
+{
+    let answer = point_at(alloc, query, limits.pivots, &way, point)?;
+    match answer {
+        Feasible::Point(near) => {
+            let turn = grow(alloc, query, limits, way, Fork::Split(test), near)?;
+            Ok(turn)
+        }
+        Feasible::Conflict(multipliers) => {
+            Ok(Turn::On(State::Closed(way, Tree::Farkas(multipliers))))
+        }
+        Feasible::Pivots(run) => {
+            let spent = spent_pivots(alloc, way, run)?;
+            Ok(Turn::Over(Verdict::Spent(spent)))
+        }
+        Feasible::Range(run) => {
+            let spent = spent_range(alloc, way, run)?;
+            Ok(Turn::Over(Verdict::Spent(spent)))
+        }
+    }
+}
+
+/// A turn at an open leaf, with a point of its path where one is kept.
+pub(crate) fn look(
+    alloc: Global,
+    query: &Query<IntTheory>,
+    limits: &Limits,
+    way: Way,
+    point: Option<Seq<Frac>>,
+) -> Result<Turn, Want>
+    requires asked { IsAsked (query_of query.now) }
+    requires leaf { IsLeaf First (query_of query.now) limits.now.nodes way }
+    requires kept { IfSome point (IsAt query.now.vars way.facts.items) }
+    ensures { IfOk result (IsTurn (query_of query.now) limits.now (room_open limits.now.nodes way)) }
+{
+    let known = known_at(alloc, query, &way)?;
+    match known {
+        Known::True => {
+            let turn = settled(alloc, query, limits, way, point)?;
+            Ok(turn)
+        }
+        Known::False => Ok(Turn::On(State::Closed(way, Tree::Shown))),
+        Known::Undecided(test) => {
+            let turn = undecided(alloc, query, limits, way, point, test)?;
+            Ok(turn)
+        }
+        Known::OutOfRange(node) => {
+            let spent = spent_known(alloc, way, node)?;
+            Ok(Turn::Over(Verdict::Spent(spent)))
+        }
+    }
+}

@@ -1,0 +1,13 @@
+// The search for an assignment that satisfies a query of linear arithmetic over the integers, or a tree that refutes it.
+#![tactic(auto)]
+
+mod back;
+mod fork;
+mod leaf;
+mod open;
+mod search;
+mod spent;
+mod state;
+mod way;
+
+pub use search::solve_query;

@@ -1,0 +1,79 @@
+// What is known of a path, and a point of it.
+ghost use Rattle.std.specs.Prelude.{◌≡◌, IfOk, IfSome};
+ghost use Rattle.sy_linear_known.specs.Right.{IsRight, IsMisfit};
+ghost use Rattle.sy_linear_known.specs.Seen.{query_known};
+ghost use Rattle.sy_linear_known.specs.Stored.{query_of};
+ghost use Rattle.sy_intsolve_asked.specs.Asked.{IsPath};
+ghost use Rattle.sy_intsolve_points.specs.Points.{IsAt};
+ghost use Rattle.sy_intsolve_search.specs.Ways.{IsAsked, IsBrokenIn, TellsCorner, TellsPoint};
+
+use crate::way::Way;
+use std::alloc::Global;
+use sy_frac::Frac;
+use sy_intsolve_points::{corner, first_broken};
+use sy_linear_known::{Known, known_under};
+use sy_meaning_integers::IntTheory;
+use sy_query_base::Query;
+use sy_seq::{Seq, Want};
+use sy_simplex::Feasible;
+
+/// What the way's facts tell of the query.
+pub(crate) fn known_at(alloc: Global, query: &Query<IntTheory>, way: &Way) -> Result<Known, Want>
+    requires asked { IsAsked (query_of query.now) }
+    ensures known { IfOk result (λ k. k ≡ query_known (query_of query.now) way.now.facts.items) }
+    ensures right { IfOk result (λ k. IsRight (query_of query.now) way.now.facts.items k) }
+    ensures range { IfOk result (λ k. IsMisfit (query_of query.now) way.now.facts.items k) }
+{
+    let facts = way.facts.as_slice();
+    let known = known_under(alloc, query, facts)?;
+    Ok(known)
+}
+
+/// A corner of the way's path, multipliers that refute it, or the budget that was met.
+pub(crate) fn corner_at(
+    alloc: Global,
+    query: &Query<IntTheory>,
+    pivots: u32,
+    way: &Way,
+) -> Result<Feasible, Want>
+    requires asked { IsAsked (query_of query.now) }
+    requires path { IsPath query.now.vars way.now.facts.items }
+    ensures { IfOk result (TellsCorner query.now.vars way.now.facts.items pivots) }
+{
+    let vars = query.vars.as_slice();
+    let facts = way.facts.as_slice();
+    let feasible = corner(alloc, vars, facts, pivots)?;
+    Ok(feasible)
+}
+
+/// A point of the way's path: the kept one, or else a corner; multipliers that refute it, or the budget that was met.
+pub(crate) fn point_at(
+    alloc: Global,
+    query: &Query<IntTheory>,
+    pivots: u32,
+    way: &Way,
+    point: Option<Seq<Frac>>,
+) -> Result<Feasible, Want>
+    requires asked { IsAsked (query_of query.now) }
+    requires path { IsPath query.now.vars way.now.facts.items }
+    requires kept { IfSome point (IsAt query.now.vars way.now.facts.items) }
+    ensures { IfOk result (TellsPoint query.now.vars way.now.facts.items pivots) }
+{
+    if let Some(point) = point {
+        return Ok(Feasible::Point(point));
+    }
+    let feasible = corner_at(alloc, query, pivots, way)?;
+    Ok(feasible)
+}
+
+/// The first variable whose value isn't whole, which is an integer variable, and the greatest whole number below that
+/// value; `None` exactly where all values are whole.
+pub(crate) fn broken(query: &Query<IntTheory>, way: &Way, point: &[Frac]) -> Option<(u32, i128)>
+    requires asked { IsAsked (query_of query.now) }
+    requires at { IsAt query.now.vars way.now.facts.items point.now }
+    ensures { IsBrokenIn query.now.vars point.now result }
+{
+    let (variable, bound) = first_broken(point)?;
+    let _lowest = point[variable as usize].den();
+    Some((variable, bound))
+}

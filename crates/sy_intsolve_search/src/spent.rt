@@ -1,0 +1,126 @@
+// The ends of a search: a model, or what shows that a budget was met.
+ghost use Rattle.std.specs.Prelude.{◌≡◌, ◌≤◌, Some, length, IfOk, IfSome};
+ghost use Rattle.sy_query_limits.specs.declared.Limits.{Limits as LimitsOf};
+ghost use Rattle.sy_linear_known.specs.declared.answer.Known.TheVariants as known;
+ghost use Rattle.sy_linear_known.specs.Right.{IsRight};
+ghost use Rattle.sy_linear_known.specs.Seen.{Query as QueryOf, query_seen};
+ghost use Rattle.sy_linear_known.specs.Stored.{query_of};
+ghost use Rattle.sy_linear_known.specs.Trees.{forms};
+ghost use Rattle.sy_simplex.specs.Runs.{IsSpent, IsOutOfRange};
+ghost use Rattle.sy_intsolve_asked.specs.Asked.{IsPath};
+ghost use Rattle.sy_intsolve_points.specs.Points.{IsAt, AreWhole};
+ghost use Rattle.sy_intsolve_trees.specs.declared.step.Order.TheVariants.{First};
+ghost use Rattle.sy_intsolve_trees.specs.Growing.{Unfinished};
+ghost use Rattle.sy_intsolve_search.specs.Ways.{IsAsked, IsWay};
+ghost use Rattle.sy_intsolve_search.specs.States.{IsSpentFor, IsModelOf};
+
+use crate::open::broken;
+use crate::way::Way;
+use std::alloc::Global;
+use sy_frac::Frac;
+use sy_intsolve_points::values_of;
+use sy_intsolve_trees::{IntRange, IntSpent, plugged};
+use sy_linear_known::{Path, Tree};
+use sy_meaning_integers::IntTheory;
+use sy_query_base::Query;
+use sy_seq::{Seq, Want};
+use sy_simplex::Run;
+use sy_terms::Values;
+
+/// The tree so far, whose inner nodes are as many as allowed.
+pub(crate) fn spent_nodes(alloc: Global, way: Way) -> Result<IntSpent, Want>
+    ensures { (query : QueryOf) (limits : LimitsOf) → IsWay First query way Unfinished → way.inner ≡ limits.nodes → IfOk result (IsSpentFor query limits) }
+{
+    let tree = plugged(alloc, way.steps, Tree::Unfinished)?;
+    Ok(IntSpent::Nodes(tree))
+}
+
+/// The tree so far and the way's path, under which the simplex method took as many steps as allowed.
+pub(crate) fn spent_pivots(alloc: Global, way: Way, run: Run) -> Result<IntSpent, Want>
+    ensures { (query : QueryOf) (limits : LimitsOf) → IsWay First query way Unfinished → way.inner ≤ limits.nodes → IsSpent (length query.vars) (forms way.facts.items) limits.pivots run.steps → IfOk result (IsSpentFor query limits) }
+{
+    let Way {
+        facts,
+        steps,
+        inner: _,
+    } = way;
+    let tree = plugged(alloc, steps, Tree::Unfinished)?;
+    let path = Path {
+        facts: Seq::from(facts),
+    };
+    Ok(IntSpent::Pivots(tree, path, run))
+}
+
+/// The tree so far and the way's path, under which an operation of the simplex method doesn't fit.
+pub(crate) fn spent_range(alloc: Global, way: Way, run: Run) -> Result<IntSpent, Want>
+    ensures { (query : QueryOf) (limits : LimitsOf) → IsWay First query way Unfinished → way.inner ≤ limits.nodes → IsOutOfRange (length query.vars) (forms way.facts.items) limits.pivots run.steps → IfOk result (IsSpentFor query limits) }
+{
+    let Way {
+        facts,
+        steps,
+        inner: _,
+    } = way;
+    let tree = plugged(alloc, steps, Tree::Unfinished)?;
+    let path = Path {
+        facts: Seq::from(facts),
+    };
+    Ok(IntSpent::Range(tree, IntRange::Simplex(path, run)))
+}
+
+/// The tree so far and the way's path, under which a form of the query isn't built at the node of this number.
+pub(crate) fn spent_known(alloc: Global, way: Way, node: u32) -> Result<IntSpent, Want>
+    ensures { (query : QueryOf) (limits : LimitsOf) → IsWay First query way Unfinished → way.inner ≤ limits.nodes → (query_seen query way.facts.items).misfit ≡ Some node → IfOk result (IsSpentFor query limits) }
+{
+    let Way {
+        facts,
+        steps,
+        inner: _,
+    } = way;
+    let tree = plugged(alloc, steps, Tree::Unfinished)?;
+    let path = Path {
+        facts: Seq::from(facts),
+    };
+    Ok(IntSpent::Range(tree, IntRange::Known(path, node)))
+}
+
+/// The assignment of a whole point of the way's path, which makes the query true.
+pub(crate) fn model(
+    alloc: Global,
+    query: &Query<IntTheory>,
+    way: &Way,
+    point: &[Frac],
+) -> Result<Values<IntTheory>, Want>
+    requires asked { IsAsked (query_of query.now) }
+    requires path { IsPath query.now.vars way.now.facts.items }
+    requires right { IsRight (query_of query.now) way.now.facts.items known.True }
+    requires at { IsAt query.now.vars way.now.facts.items point.now }
+    requires whole { AreWhole point.now }
+    ensures { IfOk result (IsModelOf (query_of query.now)) }
+{
+    let vars = query.vars.as_slice();
+    let facts = way.facts.as_slice();
+    let values = values_of(alloc, vars, facts, point)?;
+    Ok(values)
+}
+
+/// The assignment of a point of the way's path, where the point is whole.
+pub(crate) fn whole_model(
+    alloc: Global,
+    query: &Query<IntTheory>,
+    way: &Way,
+    point: &[Frac],
+) -> Result<Option<Values<IntTheory>>, Want>
+    requires asked { IsAsked (query_of query.now) }
+    requires path { IsPath query.now.vars way.now.facts.items }
+    requires right { IsRight (query_of query.now) way.now.facts.items known.True }
+    requires at { IsAt query.now.vars way.now.facts.items point.now }
+    ensures { IfOk result (λ found. IfSome found (IsModelOf (query_of query.now))) }
+{
+    match broken(query, way, point) {
+        None => {
+            let values = model(alloc, query, way, point)?;
+            Ok(Some(values))
+        }
+        Some(_) => Ok(None),
+    }
+}
