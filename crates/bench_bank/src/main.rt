@@ -8,7 +8,7 @@ ghost use Rattle.sy_terms.specs.Denoted.{val_of, vals_of, AreValid};
 ghost use Rattle.sy_terms.specs.Theories.{valid, sort_of_value};
 ghost use Rattle.sy_terms.specs.declared.op.Op.TheVariants as ops;
 ghost use Rattle.sy_terms.specs.declared.sort.Sort.TheVariants as sorts;
-ghost use Rattle.sy_bank_offer.specs.Tasks.{ArePointsOf};
+ghost use Rattle.sy_bank.specs.Rows.{ArePointsOf};
 
 use bench_words::{next, number};
 use std::alloc::Global;

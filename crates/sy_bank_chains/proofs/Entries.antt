@@ -22,10 +22,10 @@ use Rattle.sy_bank_level.proofs.Keeping.{done-on}
 use Rattle.sy_bank_offer.specs.Tasks.{IsSet}
 use Rattle.sy_bank_offer.proofs.Given.{found-done}
 use Rattle.sy_bank_offer.proofs.Nodes.{node-derives, node-sized}
-use Rattle.sy_bank_chains.specs.Passing.{IsChain, chained, IsPassed, ArePassed}
+use Rattle.sy_bank_chains.specs.Passing.{IsChainRule, chained, IsPassed, ArePassed}
 
 -- a chain rule names a nonterminal that there is
-pub chain-within : (numeric : Sort → Bool) (w : World) (n rule to : ℕ) → IsSet numeric w → IsChain w.syntax n rule to → to < length w.syntax.nonterminals
+pub chain-within : (numeric : Sort → Bool) (w : World) (n rule to : ℕ) → IsSet numeric w → IsChainRule w.syntax n rule to → to < length w.syntax.nonterminals
 unfolding pattern_sort
 chain-within numeric w n rule to set is = each (slice_get w.syntax.nonterminals n) refl is.at
   where
@@ -56,7 +56,7 @@ unfolding filled
 filled-occurrence to all = refl
 
 -- a kept term is right also along a chain rule
-pub chained-right : (w : World) (n rule to size : ℕ) (entry : Entry) → IsChain w.syntax n rule to → IsRight w to size entry → IsRight w n size (chained rule entry)
+pub chained-right : (w : World) (n rule to size : ℕ) (entry : Entry) → IsChainRule w.syntax n rule to → IsRight w to size entry → IsRight w n size (chained rule entry)
 chained-right w n rule to size entry is right = record {
   sized = right.sized;
   sound = record {
@@ -68,7 +68,7 @@ chained-right w n rule to size entry is right = record {
 }
 
 -- the kept term at a place of the size
-pub passed-right : (w : World) (s : State) (n rule to place size : ℕ) (entry : Entry) → IsSteady w s → size ≡ length w.levels → IsChain w.syntax n rule to → Some entry ≡ slice_get (slice_index_or s.fresh to []) place →
+pub passed-right : (w : World) (s : State) (n rule to place size : ℕ) (entry : Entry) → IsSteady w s → size ≡ length w.levels → IsChainRule w.syntax n rule to → Some entry ≡ slice_get (slice_index_or s.fresh to []) place →
     IsRight w n size (chained rule entry)
 passed-right w s n rule to place size entry steady is chain at =
     chained-right w n rule to size entry chain (subst (λ k. IsRight w to k entry) (sym is) (fresh-right w s to place entry steady (sym at)))

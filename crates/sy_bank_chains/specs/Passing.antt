@@ -6,7 +6,7 @@ use Rattle.sy_bank_rows.specs.Banks.{Entry, IsKept}
 use Rattle.sy_bank_level.specs.Filling.{World, State, all, IsDone}
 
 -- the rule of this number of the one nonterminal is the other one alone
-pub record IsChain (syntax : Syntax) (nonterminal rule to : ℕ) : Type 0 where
+pub record IsChainRule (syntax : Syntax) (nonterminal rule to : ℕ) : Type 0 where
   pub known : nonterminal < length syntax.nonterminals
   pub at : rule_at syntax nonterminal rule ≡ Some (Template (Occurrence to))
 

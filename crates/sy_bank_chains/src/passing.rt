@@ -7,11 +7,12 @@ ghost use Rattle.sy_bank_rows.specs.Banks.{Entry};
 ghost use Rattle.sy_bank_level.specs.Filling.{IsSteady, Grows, IsDone};
 ghost use Rattle.sy_bank_level.specs.Task.{world, IsStop, state_of};
 ghost use Rattle.sy_bank_offer.specs.Tasks.{IsTask};
-ghost use Rattle.sy_bank_chains.specs.Passing.{IsChain, IsPassed, ArePassed};
+ghost use Rattle.sy_bank_chains.specs.Passing.{IsChainRule, IsPassed, ArePassed};
 
-use crate::chained::{Chain, chained, chained_to};
+use crate::chained::{Chain, chained};
 use sy_bank_level::{Filling, Stop, Task, row_hash};
 use sy_grammar_base::Rule;
+use sy_grammar_chains::chain_of;
 use sy_terms::Theory;
 
 /// Keeps the kept terms of the task's size also for each nonterminal that has a chain rule for theirs, unless a kept
@@ -88,7 +89,7 @@ fn pass_rule<T: Theory>(
     ensures done { OnOk result ((state_of T.denotes filling.old).count ≡ (state_of T.denotes filling.new).count → (to : ℕ) → rule_at (world T.owned T.denotes task.now).syntax nonterminal number ≡ Some (Template (Occurrence to)) → IsPassed (world T.owned T.denotes task.now) (state_of T.denotes filling.new) nonterminal to task.now.size) }
     ensures stop { IfErr result (IsStop T.denotes (world T.owned T.denotes task.now) (state_of T.denotes filling.new)) }
 {
-    match chained_to(rule) {
+    match chain_of(rule) {
         Some(to) => {
             let chain = Chain {
                 nonterminal,
@@ -109,7 +110,7 @@ fn pass_chain<T: Theory>(
     chain: &Chain,
 ) -> Result<(), Stop<T>>
     requires task { IsTask T.owned T.numeric T.denotes task.now }
-    requires chain { IsChain (world T.owned T.denotes task.now).syntax chain.now.nonterminal chain.now.number chain.now.to }
+    requires chain { IsChainRule (world T.owned T.denotes task.now).syntax chain.now.nonterminal chain.now.number chain.now.to }
     requires steady { IsSteady (world T.owned T.denotes task.now) (state_of T.denotes filling.old) }
     ensures steady { OnOk result (IsSteady (world T.owned T.denotes task.now) (state_of T.denotes filling.new)) }
     ensures grows { OnOk result (Grows (world T.owned T.denotes task.now) (state_of T.denotes filling.old) (state_of T.denotes filling.new)) }
@@ -131,7 +132,7 @@ fn pass_term<T: Theory>(
     place: usize,
 ) -> Result<(), Stop<T>>
     requires task { IsTask T.owned T.numeric T.denotes task.now }
-    requires chain { IsChain (world T.owned T.denotes task.now).syntax chain.now.nonterminal chain.now.number chain.now.to }
+    requires chain { IsChainRule (world T.owned T.denotes task.now).syntax chain.now.nonterminal chain.now.number chain.now.to }
     requires steady { IsSteady (world T.owned T.denotes task.now) (state_of T.denotes filling.old) }
     ensures steady { OnOk result (IsSteady (world T.owned T.denotes task.now) (state_of T.denotes filling.new)) }
     ensures grows { OnOk result (Grows (world T.owned T.denotes task.now) (state_of T.denotes filling.old) (state_of T.denotes filling.new)) }

@@ -7,7 +7,6 @@ use Rattle.sy_terms.specs.Fitting.{Scope}
 use Rattle.sy_grammar_base.specs.Trees as trees
 use Rattle.sy_grammar_base.specs.Trees.{Trees}
 use Rattle.sy_bank_rows.specs.Banks.{Entry}
-pub use Rattle.sy_bank_rows.specs.Stored.{chosen_of}
 use Rattle.sy_bank_rows.specs.Columns.{HasRow}
 
 -- each kept term has its row

@@ -12,7 +12,7 @@ use crate::offering::offer_leaf;
 use crate::rule::LeafRule;
 use sy_bank_level::{Filling, Stop, Task};
 use sy_grammar_base::Derivation;
-use sy_terms::{Sort, Term, Theory};
+use sy_terms::{Sort, Term, Theory, same_sort};
 
 /// Offers the arguments of the rule's sort, which have size 1. `Want` comes also where there is an argument of a number
 /// beyond 32 bits.
@@ -71,16 +71,4 @@ fn offer_argument<T: Theory>(
         derivation,
     )?;
     Ok(())
-}
-
-/// Whether two sorts are the same.
-fn same_sort(a: &Sort, b: &Sort) -> bool
-    ensures { result ≡ sorts.same_sort a.now b.now }
-{
-    match (a, b) {
-        (Sort::Bool, Sort::Bool) => true,
-        (Sort::Int, Sort::Int) => true,
-        (Sort::Bits(v), Sort::Bits(w)) => *v == *w,
-        _ => false,
-    }
 }

@@ -15,6 +15,7 @@ use sy_bits_circuit::{Circuit, blast};
 use sy_cdcl::{Solved, solve};
 use sy_meaning_words::BvTheory;
 use sy_query_base::Query;
+use sy_query_corners::corner_model;
 use sy_query_decide::{Decide, Verdict};
 use sy_query_limits::{FailName, Limits};
 use sy_terms::Want;
@@ -22,8 +23,9 @@ use sy_terms::Want;
 /// The most clauses that a log can have learned.
 const MOST_LEARNED: u32 = 2_147_483_647;
 
-/// A solver of queries over bit vectors: it makes the circuit clauses of a query, and searches a model or a refutation
-/// of them that learns at most as many clauses as the limit `clauses`.
+/// A solver of queries over bit vectors. It tries a few dozen assignments at which queries are often true; then it makes
+/// the circuit clauses of the query, and searches a model or a refutation of them that learns at most as many clauses as
+/// the limit `clauses`.
 ///
 /// A query whose variables and clauses may be 2^31 or more is answered as want of memory, and so is a search that
 /// learns 2^31 - 1 clauses below its limit.
@@ -56,6 +58,9 @@ impl Decide<BvTheory> for BvDecide {
     ) -> Result<Verdict<BvTheory, BvProof, BvSpent>, Want> {
         if !is_countable(alloc, query)? {
             return Err(AllocError);
+        }
+        if let Some(values) = corner_model(alloc, query)? {
+            return Ok(Verdict::Model(values));
         }
         let circuit = blast(alloc, query)?;
         let fuel = limits.clauses.min(MOST_LEARNED);

@@ -15,7 +15,7 @@ use Rattle.sy_terms.specs.declared.sorts.Sorted.TheVariants.{Is}
 use Rattle.sy_terms.specs.declared.term.Fun.{Fun}
 use Rattle.sy_terms.specs.declared.term.Fun.TheVariants.{Defined, Wanted}
 use Rattle.sy_meaning_words.specs.Vectors.{owned, Takes, is_sort}
-use Rattle.sy_query_base.specs.Queries.{count}
+use Rattle.sy_query_base.specs.Placed.{count}
 use Rattle.sy_query_base.specs.Weights.{weight, weights, operator_weight, sort_weight, with_sorts}
 use Rattle.sy_terms_laws.proofs.Equations.{if_Some, applied_sort_Some, after_Some, with_sort_Some, called_sort_Some}
 use Rattle.sy_bits_operators.specs.Signals.{has_signals, AllHaveSignals, sort_width, total_width}

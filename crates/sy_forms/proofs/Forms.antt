@@ -133,9 +133,9 @@ pub on_ok : {T E : Type 0} (r : Result T E) (P : Type 0) → P → OnOk r P
 on_ok (Ok x) P p = p
 on_ok (Err e) P p = tt
 
-pub term_leaf : (env : Environment) (locals slice : List Named) (item : Item) (atom : Atom) (place : Place) → item ≡ leaf atom place → slice ≡ locals → read_term env locals item ≡ atom_term env slice place atom
+pub term_leaf : (env : Environment) (locals : List Named) (item : Item) (atom : Atom) (place : Place) → item ≡ leaf atom place → read_term env locals item ≡ atom_term env locals place atom
 unfolding read_term read_list read_terms read_let read_let_in read_binding_list read_bindings read_binding read_pair read_bound
-term_leaf env locals slice item atom place e f = rw (e, f) refl
+term_leaf env locals item atom place e = rw e refl
 
 pub term_group : (env : Environment) (locals : List Named) (item : Item) (parts : Items) (place : Place) (items : Items) → item ≡ group parts place → items ≡ parts → read_term env locals item ≡ read_list env locals place items
 unfolding read_term read_list read_terms read_let read_let_in read_binding_list read_bindings read_binding read_pair read_bound

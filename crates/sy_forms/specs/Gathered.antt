@@ -14,4 +14,4 @@ abbrev pub bound_of : {T N : Type 0} → (N → Val) → Bound T N → terms.Bou
 bound_of number x = record { named = x.named; phrase = phrase_of number x.phrase }
 
 abbrev pub bounds_of : {T N : Type 0} → (N → Val) → Bounds T N → terms.Bounds
-bounds_of number x = record { names = x.names.items; terms = phrases_of number x.terms.items.items }
+bounds_of number x = record { names = x.names; terms = phrases_of number x.terms.items.items }

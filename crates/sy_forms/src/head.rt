@@ -15,7 +15,7 @@ use crate::literal::{numeral_term, vector_term};
 use std::alloc::Global;
 use sy_forms_items::{Indices, ReadEnd, Rest, indexed_name, is, is_symbol, symbol_in};
 use sy_forms_names::{
-    Environment, Named, Sense, are_small, indexed_operator, is_indexed, operator_named, sense_of,
+    Environment, Locals, Sense, are_small, indexed_operator, is_indexed, operator_named, sense_of,
 };
 use sy_forms_phrases::{Phrases, Typed, invocation, literal, local, nonterminal, position};
 use sy_scope_causes::Cause;
@@ -82,7 +82,7 @@ fn name_term<T: Theory>(
 pub(crate) fn atom_term<T: Theory>(
     alloc: Global,
     env: &Environment<'_>,
-    locals: &[Named],
+    locals: &Locals,
     place: Place,
     atom: &Atom,
 ) -> Result<Typed<T>, ReadEnd>
@@ -182,7 +182,7 @@ fn list_head<'a>(logic: Logic, place: Place, items: Rest<'_>) -> Result<Head<'a>
 #[tactic(auto, unfolding(crate::specs::Terms::read_head))]
 pub(crate) fn read_head<'a>(
     env: &Environment<'a>,
-    locals: &[Named],
+    locals: &Locals,
     item: &Sexp,
 ) -> Result<Head<'a>, ReadEnd>
     ensures { Gives head_in result (spec.read_head (environment_of env.now) locals.now (item_of item.now)) }

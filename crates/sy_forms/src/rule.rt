@@ -17,7 +17,7 @@ ghost use Rattle.sy_forms_names.specs.declared.names.Named.{Named};
 use crate::term::read_term;
 use std::alloc::Global;
 use sy_forms_items::{ReadEnd, Rest, is_symbol, numeral, place_of};
-use sy_forms_names::{Environment, Named, read_sort};
+use sy_forms_names::{Environment, Locals, Named, read_sort};
 use sy_forms_phrases::{Measures, Phrase, Typed, is_small};
 use sy_scope_causes::Cause;
 use sy_terms::{Seq, Sort, Theory, Want, same_sort};
@@ -43,7 +43,7 @@ fn read_outermost<T: Theory>(
     requires { Serves T.numeric env.now.logic }
     ensures { Gives (typed_of T.denotes) result (terms.read_term (environment_of env.now) [] (item_of item.now)) }
 {
-    let mut locals = Vec::new(alloc);
+    let mut locals = Locals::new(alloc);
     let term = read_term(alloc, env, &mut locals, item)?;
     Ok(term)
 }

@@ -16,7 +16,7 @@ use crate::head::{atom_term, read_head};
 use crate::literal::indexed_term;
 use std::alloc::Global;
 use sy_forms_items::{ReadEnd, Rest, copied, indexed_name, is_symbol, place_of, symbol};
-use sy_forms_names::{Environment, Named, Role, is_reserved, place_among};
+use sy_forms_names::{Environment, Locals, Named, Role, is_reserved};
 use sy_forms_phrases::{Phrase, Phrases, Typed, binding};
 use sy_scope_causes::Cause;
 use sy_terms::{Logic, Seq, Theory, Want};
@@ -32,7 +32,7 @@ struct Bound<T: Theory> {
 /// The bindings of a `let`.
 #[derive(Drop)]
 struct Bounds<T: Theory> {
-    names: Vec<Named>,
+    names: Locals,
     terms: Phrases<T>,
 }
 
@@ -42,7 +42,7 @@ impl<T: Theory> Bounds<T> {
         ensures { bounds_of T.denotes result ≡ spec.unbound }
     {
         Bounds {
-            names: Vec::new(alloc),
+            names: Locals::new(alloc),
             terms: Phrases::new(alloc),
         }
     }
@@ -72,7 +72,7 @@ fn let_may_stand(role: Role) -> bool
 /// The name of the binding that stands at a place: it isn't reserved and is none of the names that are taken.
 fn new_name<'a>(
     logic: Logic,
-    taken: &[Named],
+    taken: &Locals,
     place: Place,
     item: &'a Sexp,
 ) -> Result<&'a Name, ReadEnd>
@@ -84,7 +84,7 @@ fn new_name<'a>(
     if is_reserved(logic, name.as_slice()) {
         return Err(ReadEnd::Refused(place_of(item), Cause::NameTaken));
     }
-    match place_among(taken, name.as_slice())? {
+    match taken.find(name.as_slice()) {
         Some(_) => Err(ReadEnd::Refused(place_of(item), Cause::NameTaken)),
         None => Ok(name),
     }
@@ -96,15 +96,15 @@ fn new_name<'a>(
 pub(crate) fn read_term<T: Theory>(
     alloc: Global,
     env: &Environment<'_>,
-    locals: &mut Vec<Named>,
+    locals: &mut Locals,
     item: &Sexp,
 ) -> Result<Typed<T>, ReadEnd>
     requires { Serves T.numeric env.now.logic }
-    ensures read { Gives (typed_of T.denotes) result (spec.read_term (environment_of env.now) locals.old.items (item_of item.now)) }
-    ensures locals { OnOk result (locals.new.items ≡ locals.old.items) }
+    ensures read { Gives (typed_of T.denotes) result (spec.read_term (environment_of env.now) locals.old (item_of item.now)) }
+    ensures locals { OnOk result (locals.new ≡ locals.old) }
 {
     match item {
-        Sexp::Atom(atom, place) => atom_term(alloc, env, locals.as_slice(), *place, atom),
+        Sexp::Atom(atom, place) => atom_term(alloc, env, locals, *place, atom),
         Sexp::List(items, place) => read_list(alloc, env, locals, *place, Rest::all(items)),
     }
 }
@@ -115,13 +115,13 @@ pub(crate) fn read_term<T: Theory>(
 fn read_list<T: Theory>(
     alloc: Global,
     env: &Environment<'_>,
-    locals: &mut Vec<Named>,
+    locals: &mut Locals,
     place: Place,
     items: Rest<'_>,
 ) -> Result<Typed<T>, ReadEnd>
     requires { Serves T.numeric env.now.logic }
-    ensures read { Gives (typed_of T.denotes) result (spec.read_list (environment_of env.now) locals.old.items place (items_in items.entry)) }
-    ensures locals { OnOk result (locals.new.items ≡ locals.old.items) }
+    ensures read { Gives (typed_of T.denotes) result (spec.read_list (environment_of env.now) locals.old place (items_in items.entry)) }
+    ensures locals { OnOk result (locals.new ≡ locals.old) }
 {
     let Some((head, rest)) = items.split() else {
         return Err(ReadEnd::Refused(place, Cause::Shape));
@@ -135,7 +135,7 @@ fn read_list<T: Theory>(
     if is_symbol(head, b"_") {
         return indexed_term(env.logic, place, indexed_name(rest));
     }
-    let head = read_head(env, locals.as_slice(), head)?;
+    let head = read_head(env, locals, head)?;
     let arguments = read_terms(alloc, env, locals, rest)?;
     applied(env.constants, place, head, arguments)
 }
@@ -146,12 +146,12 @@ fn read_list<T: Theory>(
 fn read_terms<T: Theory>(
     alloc: Global,
     env: &Environment<'_>,
-    locals: &mut Vec<Named>,
+    locals: &mut Locals,
     items: Rest<'_>,
 ) -> Result<Several<T>, ReadEnd>
     requires { Serves T.numeric env.now.logic }
-    ensures read { Gives (several_of T.denotes) result (spec.read_terms (environment_of env.now) locals.old.items phrases.nothing (items_in items.entry)) }
-    ensures locals { OnOk result (locals.new.items ≡ locals.old.items) }
+    ensures read { Gives (several_of T.denotes) result (spec.read_terms (environment_of env.now) locals.old phrases.nothing (items_in items.entry)) }
+    ensures locals { OnOk result (locals.new ≡ locals.old) }
 {
     let mut done = Several::new(alloc);
     let mut left = items;
@@ -169,13 +169,13 @@ fn read_terms<T: Theory>(
 fn read_let<T: Theory>(
     alloc: Global,
     env: &Environment<'_>,
-    locals: &mut Vec<Named>,
+    locals: &mut Locals,
     place: Place,
     items: Rest<'_>,
 ) -> Result<Typed<T>, ReadEnd>
     requires { Serves T.numeric env.now.logic }
-    ensures read { Gives (typed_of T.denotes) result (spec.read_let (environment_of env.now) locals.old.items place (items_in items.entry)) }
-    ensures locals { OnOk result (locals.new.items ≡ locals.old.items) }
+    ensures read { Gives (typed_of T.denotes) result (spec.read_let (environment_of env.now) locals.old place (items_in items.entry)) }
+    ensures locals { OnOk result (locals.new ≡ locals.old) }
 {
     let Some((bindings, rest)) = items.split() else {
         return Err(ReadEnd::Refused(place, Cause::Shape));
@@ -196,19 +196,19 @@ fn read_let<T: Theory>(
 fn read_inner<T: Theory>(
     alloc: Global,
     env: &Environment<'_>,
-    locals: &mut Vec<Named>,
+    locals: &mut Locals,
     bound: Bounds<T>,
     inner: &Sexp,
 ) -> Result<Typed<T>, ReadEnd>
     requires { Serves T.numeric env.now.logic }
-    ensures read { Gives (typed_of T.denotes) result (spec.read_inner (environment_of env.now) locals.old.items (bounds_of T.denotes bound) (item_of inner.now)) }
-    ensures locals { OnOk result (locals.new.items ≡ locals.old.items) }
+    ensures read { Gives (typed_of T.denotes) result (spec.read_inner (environment_of env.now) locals.old (bounds_of T.denotes bound) (item_of inner.now)) }
+    ensures locals { OnOk result (locals.new ≡ locals.old) }
 {
     let outside = locals.len();
-    let Bounds { mut names, terms } = bound;
-    locals.append(&mut names)?;
+    let Bounds { names, terms } = bound;
+    locals.append(names)?;
     let inner = read_term(alloc, env, locals, inner)?;
-    locals.truncate(outside);
+    locals.truncate(outside)?;
     let term = binding(alloc, terms, inner)?;
     Ok(term)
 }
@@ -219,13 +219,13 @@ fn read_inner<T: Theory>(
 fn read_binding_list<T: Theory>(
     alloc: Global,
     env: &Environment<'_>,
-    locals: &mut Vec<Named>,
+    locals: &mut Locals,
     place: Place,
     item: &Sexp,
 ) -> Result<Bounds<T>, ReadEnd>
     requires { Serves T.numeric env.now.logic }
-    ensures read { Gives (bounds_of T.denotes) result (spec.read_binding_list (environment_of env.now) locals.old.items place (item_of item.now)) }
-    ensures locals { OnOk result (locals.new.items ≡ locals.old.items) }
+    ensures read { Gives (bounds_of T.denotes) result (spec.read_binding_list (environment_of env.now) locals.old place (item_of item.now)) }
+    ensures locals { OnOk result (locals.new ≡ locals.old) }
 {
     match item {
         Sexp::Atom(_, _) => Err(ReadEnd::Refused(place, Cause::Shape)),
@@ -245,17 +245,17 @@ fn read_binding_list<T: Theory>(
 fn read_bindings<T: Theory>(
     alloc: Global,
     env: &Environment<'_>,
-    locals: &mut Vec<Named>,
+    locals: &mut Locals,
     items: Rest<'_>,
 ) -> Result<Bounds<T>, ReadEnd>
     requires { Serves T.numeric env.now.logic }
-    ensures read { Gives (bounds_of T.denotes) result (spec.read_bindings (environment_of env.now) locals.old.items spec.unbound (items_in items.entry)) }
-    ensures locals { OnOk result (locals.new.items ≡ locals.old.items) }
+    ensures read { Gives (bounds_of T.denotes) result (spec.read_bindings (environment_of env.now) locals.old spec.unbound (items_in items.entry)) }
+    ensures locals { OnOk result (locals.new ≡ locals.old) }
 {
     let mut bound = Bounds::new(alloc);
     let mut left = items;
     while let Some((item, rest)) = left.split() {
-        let binding = read_binding(alloc, env, locals, bound.names.as_slice(), item)?;
+        let binding = read_binding(alloc, env, locals, &bound.names, item)?;
         bound.push(binding)?;
         left = rest;
     }
@@ -268,13 +268,13 @@ fn read_bindings<T: Theory>(
 fn read_binding<T: Theory>(
     alloc: Global,
     env: &Environment<'_>,
-    locals: &mut Vec<Named>,
-    taken: &[Named],
+    locals: &mut Locals,
+    taken: &Locals,
     item: &Sexp,
 ) -> Result<Bound<T>, ReadEnd>
     requires { Serves T.numeric env.now.logic }
-    ensures read { Gives (bound_of T.denotes) result (spec.read_binding (environment_of env.now) locals.old.items taken.now (item_of item.now)) }
-    ensures locals { OnOk result (locals.new.items ≡ locals.old.items) }
+    ensures read { Gives (bound_of T.denotes) result (spec.read_binding (environment_of env.now) locals.old taken.now (item_of item.now)) }
+    ensures locals { OnOk result (locals.new ≡ locals.old) }
 {
     match item {
         Sexp::Atom(_, place) => Err(ReadEnd::Refused(*place, Cause::Shape)),
@@ -290,14 +290,14 @@ fn read_binding<T: Theory>(
 fn read_pair<T: Theory>(
     alloc: Global,
     env: &Environment<'_>,
-    locals: &mut Vec<Named>,
-    taken: &[Named],
+    locals: &mut Locals,
+    taken: &Locals,
     place: Place,
     items: Rest<'_>,
 ) -> Result<Bound<T>, ReadEnd>
     requires { Serves T.numeric env.now.logic }
-    ensures read { Gives (bound_of T.denotes) result (spec.read_pair (environment_of env.now) locals.old.items taken.now place (items_in items.entry)) }
-    ensures locals { OnOk result (locals.new.items ≡ locals.old.items) }
+    ensures read { Gives (bound_of T.denotes) result (spec.read_pair (environment_of env.now) locals.old taken.now place (items_in items.entry)) }
+    ensures locals { OnOk result (locals.new ≡ locals.old) }
 {
     let Some((name, rest)) = items.split() else {
         return Err(ReadEnd::Refused(place, Cause::Shape));

@@ -1,18 +1,19 @@
 -- What fits goes on to fit where more is declared.
-use Rattle.std.specs.Prelude.{◌++◌, List, Option, Some, None, ◌≡◌, refl}
+use Rattle.std.specs.Prelude.{◌++◌, List, Option, Some, ◌≡◌, refl}
 use Rattle.std.proofs.Common.{ap, sym, ◌∙◌}
-use Rattle.sy_terms.specs.Fitting.{Signature, applied_sort, called_sort, signature_of}
+use Rattle.sy_terms.specs.Fitting.{Signature, applied_sort, signature_of}
 use Rattle.sy_terms.specs.declared.op.Op.{Op}
 use Rattle.sy_terms.specs.declared.sort.Sort.{Sort}
 use Rattle.sy_terms.specs.declared.term.Fun.{Fun}
 use Rattle.sy_terms.specs.declared.term.Fun.TheVariants.{Defined, Wanted}
 use Rattle.sy_terms_laws.proofs.Equations.{with_sort_Some, after_Some, applied_sort_Some}
+use Rattle.sy_grammar_laws.proofs.Widening.{called_wider}
 use Rattle.sy_forms_phrases.specs.Phrases as phrase
 use Rattle.sy_forms_phrases.specs.Phrases.{Phrase, Phrases}
 use Rattle.sy_forms.specs.Terms.{is_linear}
 use Rattle.sy_forms_laws.specs.Fitting.{Setting, phrase_sort, phrase_sorts}
 use Rattle.sy_forms_laws.specs.Right.{Widens}
-use Rattle.sy_forms_laws.proofs.Exprs.{where_true, where_allowed, called_as, after_as, with_as}
+use Rattle.sy_forms_laws.proofs.Exprs.{where_true, where_allowed, after_as, with_as}
 
 wider_signature : (earlier later : Setting) → Widens earlier later → (function : Fun) (found : Signature) → signature_of earlier.scope function ≡ Some found → signature_of later.scope function ≡ Some found
 wider_signature earlier later wider (Defined f) found e = wider.defined f found e
@@ -22,10 +23,6 @@ applied_wider : (earlier later : Setting) → Widens earlier later → (operator
 applied_wider earlier later wider operator one other sort same e =
     let found = applied_sort_Some earlier.scope operator one sort e in
     rw (same found.sorts found.is, wider.operators operator found.owned, found.fits) refl
-
-pub called_wider : (first second : Option Signature) (one other : Option (List Sort)) (sort : Sort) → ((f : Signature) → first ≡ Some f → second ≡ Some f) → ((sorts : List Sort) → one ≡ Some sorts → other ≡ Some sorts) → called_sort first one ≡ Some sort → called_sort second other ≡ Some sort
-called_wider None second one other sort wider same e = absurd cc
-called_wider (Some f) second one other sort wider same e = rw (wider f refl) (called_as (Some f) one other sort same e)
 
 mutual
   unfolding phrase_sort phrase_sorts

@@ -5,6 +5,7 @@ use Rattle.sy_terms.specs.declared.op.Op.{Op}
 use Rattle.sy_terms.specs.declared.sort.Sort.{Sort}
 use Rattle.sy_grammar_base.specs.Formed.{is_known, all_give_constants}
 use Rattle.sy_grammar_base.specs.Trees.{Syntax, Nonterminal}
+pub use Rattle.sy_grammar_laws.specs.Extending.{Extends}
 use Rattle.sy_terms.specs.Logics.{IsTheoryOf}
 use Rattle.sy_forms_names.specs.Environments as env
 use Rattle.sy_forms_names.specs.Environments.{Environment, Sense, sense_of}
@@ -28,10 +29,6 @@ pub record IsRight (numeric : Sort → Bool) (setting : Setting) (env : Environm
   pub names : (name : List ℕ) (sense : Sense) → sense_of env [] name ≡ Some sense → IsThere setting [] sense
   pub constants : env.constants ≡ setting.constants
   pub lets : let_may_stand env.role ≡ setting.lets
-
--- the later list goes on from the earlier one
-abbrev pub Extends : {A : Type 0} → List A → List A → Type 0
-Extends {A} earlier later = (place : ℕ) (x : A) → slice_get earlier place ≡ Some x → slice_get later place ≡ Some x
 
 -- all that may be named earlier may be named later
 pub record Widens (earlier later : Setting) : Type 0 where

@@ -3,3 +3,4 @@ pub mod Table
 pub mod Operators
 pub mod Sorts
 pub mod Seen
+pub mod Locals

@@ -4,6 +4,7 @@ ghost use Rattle.std.specs.Option.{option_map};
 ghost use Rattle.sy_forms_names.specs.Environments as spec;
 ghost use Rattle.sy_forms_names.specs.Seen.{environment_of, sense_in};
 
+use crate::locals::Locals;
 use crate::names::{Entity, Named, Role};
 use crate::table::Names;
 use sy_terms::{Fun, Logic, Sort, Want};
@@ -86,12 +87,12 @@ fn declared_sense<'a>(role: Role, entity: Option<&'a Entity>) -> Option<Sense<'a
 /// arguments, and what is declared.
 pub fn sense_of<'a>(
     env: &Environment<'a>,
-    locals: &[Named],
+    locals: &Locals,
     name: &[u8],
 ) -> Result<Option<Sense<'a>>, Want>
     ensures { IfOk result (λ sense. option_map sense_in sense ≡ spec.sense_of (environment_of env.now) locals.now name.now) }
 {
-    if let Some((level, sort)) = place_among(locals, name)? {
+    if let Some((level, sort)) = locals.find(name) {
         return Ok(Some(Sense::Local(level, sort)));
     }
     if let Some((number, sort)) = place_among(env.nonterminals, name)? {

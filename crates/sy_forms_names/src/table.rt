@@ -26,7 +26,7 @@ impl Model for Names {
 }
 
 /// The bytes of a name, as a key.
-fn key_of(alloc: Global, name: &[u8]) -> Result<Vec<u8>, Want>
+pub(crate) fn key_of(alloc: Global, name: &[u8]) -> Result<Vec<u8>, Want>
     ensures { IfOk result (λ key. key.items ≡ name.now) }
 {
     let mut key = Vec::with_capacity(alloc, name.len())?;

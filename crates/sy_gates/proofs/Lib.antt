@@ -9,3 +9,4 @@ pub mod Shifts
 pub mod Joints
 pub mod Signs
 pub mod Holding
+pub mod Keys

@@ -3,3 +3,4 @@ pub mod Models
 pub mod Arithmetic
 pub mod Bitwise
 pub mod Orders
+pub mod Keys

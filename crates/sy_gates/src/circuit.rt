@@ -1,10 +1,10 @@
-ghost use Rattle.std.specs.Prelude.{◌<◌, ◌^◌, ◌≡◌, ℕ, Bool, true, ◌↔◌, ◌+◌, ◌≤◌, ◌&&◌, ◌||◌, cond, ◌*◌, length, OnOk, IfOk, IfSome, [], ◌++◌, ◌∷◌};
+ghost use Rattle.std.specs.Prelude.{◌<◌, ◌^◌, ◌≡◌, ℕ, Bool, true, ◌↔◌, ◌+◌, ◌≤◌, ◌&&◌, ◌||◌, cond, ◌*◌, length, slice_get, Some, Ok, OnOk, IfOk, IfSome, [], ◌++◌, ◌∷◌};
 ghost use Rattle.sy_gates.specs.Circuits.{Plan, variables, Follows, bit_value, bit_bound, gate_bound, gate_value, bit_number, xor, Grown, lit_bound, lit_value, clauses_bound};
 ghost use Rattle.sy_gates.specs.Models.{but_last, ExtendsInOneWay};
 ghost use Rattle.sy_clauses.specs.Clauses.{IsModel};
 
 use crate::encode::{add_clause, add_gate};
-use crate::gate::{Added, Bit, Gate, negated, variable};
+use crate::gate::{Added, Bit, Gate, negated, same_gate, variable};
 use crate::table::Table;
 use std::alloc::Global;
 use std::marker::Model;
@@ -21,13 +21,14 @@ pub struct Circuit {
 
 impl Model for Circuit {
     ghost use Rattle.sy_gates.specs.Circuits.{Plan, InOrder};
+    ghost use Rattle.sy_gates.specs.Keys.{FindsAll};
     ghost use Rattle.std.specs.Prelude.{◌+◌, ◌<◌, ◌^◌, length};
 
     ghost Value = { Plan };
 
     ghost view = { λ c. record { inputs = c.inputs; gates = c.gates } };
 
-    ghost invariant = { λ c. InOrder c.inputs c.gates × (c.inputs + length c.gates < 2 ^ 32) };
+    ghost invariant = { λ c. InOrder c.inputs c.gates × (c.inputs + length c.gates < 2 ^ 32) × FindsAll c.table c.gates };
 }
 
 impl Circuit {
@@ -42,20 +43,33 @@ impl Circuit {
         }
     }
 
-    // The literal of a gate's variable, where the table knows the gate.
+    // The place of a gate that was made; `None` exactly where it wasn't.
+    fn place_of(&self, gate: Gate) -> Option<u32>
+        ensures place { IfSome result (λ place. slice_get self.now.gates place ≡ Some gate) }
+        ensures found { (place : ℕ) → slice_get self.now.gates place ≡ Some gate → result ≡ Some place }
+    {
+        let place = self.table.place_of(gate)?;
+        let made = self.gates.as_slice().get(place as usize)?;
+        if same_gate(*made, gate) {
+            Some(place)
+        } else {
+            None
+        }
+    }
+
+    // The literal of the variable of a gate that was made; `None` exactly where it wasn't.
     fn found(&self, gate: Gate) -> Option<Lit>
         ensures inside { IfSome result (λ l. lit_bound l ≤ variables self.now) }
         ensures value { IfSome result (λ l. (v : ℕ → Bool) → Follows v self.now → lit_value v l ≡ gate_value v gate) }
+        ensures found { (place : ℕ) → slice_get self.now.gates place ≡ Some gate → result ≡ Some (record { var = self.now.inputs + place; positive = true }) }
     {
-        let place = self.table.place_of(self.gates.as_slice(), gate)?;
-        Some(Lit {
-            var: self.inputs + place,
-            positive: true,
-        })
+        let place = self.place_of(gate)?;
+        Some(variable(self.inputs + place))
     }
 
     // Adds a gate and gives the literal of its variable.
     fn push_gate(&mut self, gate: Gate) -> Result<Lit, Want>
+        requires new { (place : ℕ) → slice_get self.old.gates place ≡ Some gate → ⊥ }
         requires inside { gate_bound gate ≤ variables self.old }
         requires room { variables self.old + 1 < 2 ^ 31 }
         ensures grown { Grown self.old self.new }
@@ -64,12 +78,9 @@ impl Circuit {
         ensures value { IfOk result (λ l. (v : ℕ → Bool) → Follows v self.new → lit_value v l ≡ gate_value v gate) }
     {
         let made = self.gates.len();
+        self.table.note(gate, made as u32)?;
         self.gates.push(gate)?;
-        self.table.note_last(self.gates.as_slice())?;
-        Ok(Lit {
-            var: self.inputs + made as u32,
-            positive: true,
-        })
+        Ok(variable(self.inputs + made as u32))
     }
 
     // The literal of a gate's variable. A gate that was made before is not added again.
@@ -80,6 +91,7 @@ impl Circuit {
         ensures cost { OnOk result (variables self.new ≤ variables self.old + 1) }
         ensures inside { IfOk result (λ l. lit_bound l ≤ variables self.new) }
         ensures value { IfOk result (λ l. (v : ℕ → Bool) → Follows v self.new → lit_value v l ≡ gate_value v gate) }
+        ensures again { (place : ℕ) → slice_get self.old.gates place ≡ Some gate → (self.new ≡ self.old) × (result ≡ Ok (record { var = self.old.inputs + place; positive = true })) }
     {
         if let Some(literal) = self.found(gate) {
             return Ok(literal);

@@ -1,104 +1,73 @@
 // Gates that were made before, found again.
-ghost use Rattle.std.specs.Prelude.{◌≡◌, ◌<◌, ◌^◌, slice_get, Some, IfSome, length};
+ghost use Rattle.std.specs.Prelude.{◌≡◌, ◌<◌, ◌^◌};
+ghost use Rattle.sy_gates.specs.Keys as keys;
 
-use crate::gate::{Gate, same_gate};
+use crate::gate::Gate;
 use std::alloc::Global;
+use std::collections::HashMap;
 use sy_clauses::Lit;
 use sy_seq::Want;
 
-/// How many slots in a row are tried.
-const TRIES: usize = 8;
+/// More than the number of any literal.
+const LITERALS: u128 = 1 << 33;
 
-/// What a slot without a place holds.
-const FREE: u32 = u32::MAX;
-
-/// The places that gates have in a list. A place that a slot names is compared with the list before it is given, so
-/// that nothing rests on what the slots hold: a gate that was crowded out is only not found.
+/// The places that gates have in a list.
 #[derive(Drop)]
-pub(crate) struct Table {
-    slots: Vec<u32>,
+pub struct Table {
+    places: HashMap<u128, u32>,
 }
 
 impl Table {
+    ghost use Rattle.std.specs.Prelude.{◌≡◌, None, Some, OnOk, OnErr, option_map, cond, nat_eq};
+    ghost use Rattle.std.specs.HashMap.{get};
+    ghost use Rattle.sy_gates.specs.declared.gate.Gate.{Gate as Made};
+    ghost use Rattle.sy_gates.specs.Keys.{gate_key, place_in};
+
     /// The table of no gates. It takes no memory.
-    pub(crate) fn new(alloc: Global) -> Table {
+    pub(crate) fn new(alloc: Global) -> Table
+        ensures { (gate : Made) → place_in result gate ≡ None }
+    {
         Table {
-            slots: Vec::new(alloc),
+            places: HashMap::new(alloc),
         }
     }
 
-    /// The place that the gate has in the list, where the table knows it.
-    pub(crate) fn place_of(&self, gates: &[Gate], gate: Gate) -> Option<u32>
-        ensures { IfSome result (λ place. slice_get gates.now place ≡ Some gate) }
+    /// The place that the table has for the gate.
+    pub(crate) fn place_of(&self, gate: Gate) -> Option<u32>
+        ensures { result ≡ place_in self.now gate }
     {
-        let count = self.slots.len();
-        if count == 0 {
-            return None;
-        }
-        let start = spread(gate);
-        for i in 0..TRIES {
-            let place = self.slots[start.wrapping_add(i) % count];
-            if let Some(other) = gates.get(place as usize) {
-                if same_gate(*other, gate) {
-                    return Some(place);
-                }
-            }
-        }
-        None
+        self.places.get(&key(gate)).copied()
     }
 
-    /// Notes the place of the last gate of the list. Where more than half of the slots would be taken, they are
-    /// doubled, and all places noted again.
-    pub(crate) fn note_last(&mut self, gates: &[Gate]) -> Result<(), Want>
-        requires { length gates.now < 2 ^ 32 }
+    /// Notes the place of a gate. On `Want` nothing changes.
+    pub(crate) fn note(&mut self, gate: Gate, place: u32) -> Result<(), Want>
+        ensures ok { OnOk result ((other : Made) → place_in self.new other ≡ cond (nat_eq (gate_key gate) (gate_key other)) (Some place) (place_in self.old other)) }
+        ensures err { OnErr result ((other : Made) → place_in self.new other ≡ place_in self.old other) }
     {
-        let mut noted = gates.len().saturating_sub(1);
-        if self.slots.len() / 2 < gates.len() {
-            let more = self.slots.len().saturating_mul(2).max(64);
-            self.slots.clear();
-            self.slots.resize(more, FREE)?;
-            noted = 0;
-        }
-        for place in noted..gates.len() {
-            self.note(gates[place], place as u32);
-        }
+        self.places.insert(key(gate), place)?;
         Ok(())
     }
+}
 
-    // Notes the place of a gate in the first free slot, or, where none of those tried is free, in the first one.
-    fn note(&mut self, gate: Gate, place: u32) {
-        let count = self.slots.len();
-        if count == 0 {
-            return;
+// A number for the literal: twice its variable, and 1 more for its negation.
+fn literal_key(literal: Lit) -> u128
+    ensures value { result ≡ keys.literal_key literal }
+    ensures bound { result < 2 ^ 33 }
+{
+    2 * u128::from(literal.var) + if literal.positive { 0 } else { 1 }
+}
+
+// A number for the gate, and for no other one.
+fn key(gate: Gate) -> u128
+    ensures { result ≡ keys.gate_key gate }
+{
+    match gate {
+        Gate::Constant(value) => if value { 4 } else { 0 },
+        Gate::And(a, b) => 4 * (literal_key(a) + LITERALS * literal_key(b)) + 1,
+        Gate::Xor(a, b) => 4 * (literal_key(a) + LITERALS * literal_key(b)) + 2,
+        Gate::Choose(test, a, b) => {
+            let chosen = literal_key(a) + LITERALS * literal_key(b);
+            4 * (literal_key(test) + LITERALS * chosen) + 3
         }
-        let start = spread(gate);
-        for i in 0..TRIES {
-            let slot = start.wrapping_add(i) % count;
-            if self.slots[slot] == FREE {
-                self.slots[slot] = place;
-                return;
-            }
-        }
-        self.slots[start % count] = place;
     }
-}
-
-// A number that differs for most gates that differ.
-fn spread(gate: Gate) -> usize {
-    let mixed = match gate {
-        Gate::Constant(value) => mix(0, u64::from(value)),
-        Gate::And(a, b) => mix(mix(1, code(a)), code(b)),
-        Gate::Xor(a, b) => mix(mix(2, code(a)), code(b)),
-        Gate::Choose(test, a, b) => mix(mix(mix(3, code(test)), code(a)), code(b)),
-    };
-    (mixed >> 32) as usize
-}
-
-fn mix(state: u64, word: u64) -> u64 {
-    (state.rotate_left(23) ^ word).wrapping_mul(0x9e37_79b9_7f4a_7c15)
-}
-
-// Twice the variable, and 1 more for its negation.
-fn code(literal: Lit) -> u64 {
-    2 * u64::from(literal.var) + u64::from(!literal.positive)
 }

@@ -10,7 +10,7 @@ use Rattle.sy_terms.specs.Theories.{sort_of_value}
 use Rattle.sy_terms.specs.declared.sort.Sort.{Sort}
 use Rattle.sy_grammar_base.specs.Patterns.{Pattern, occurring, filled, own_size}
 use Rattle.sy_grammar_base.specs.Trees as trees
-use Rattle.sy_grammar_base.specs.Trees.{Syntax, Tree, Trees, Production, Template, EachConstant, EachVariable, Derives, rule_at, is_written, is_sort, literal, constant_size, node_yield, constant_yield, variable_yield, joined, node_size, yield_from, yields_from, tree_size, tree_sizes}
+use Rattle.sy_grammar_base.specs.Trees.{Syntax, Trees, Production, Template, EachConstant, EachVariable, Derives, rule_at, is_written, is_sort, literal, node_yield, constant_yield, variable_yield, joined, node_size, yield_from, yields_from, tree_size, tree_sizes}
 use Rattle.sy_grammar_sizes.proofs.PoolMembers.{both_true}
 use Rattle.sy_grammar_chains.specs.Constants.{IsConstantOf}
 use Rattle.sy_grammar_chains.specs.Greatest.{IsSize}

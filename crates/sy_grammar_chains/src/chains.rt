@@ -81,8 +81,10 @@ fn next_named<T: Theory>(rules: &[Rule<T>], marks: &[bool]) -> Option<usize>
 }
 
 /// The nonterminal that the rule is alone; `None` exactly where it is another rule.
-fn chain_of<T: Theory>(rule: &Rule<T>) -> Option<u32>
-    ensures { MatchOption result ((to : ℕ) → production_of T.denotes rule.now ≡ Template (Occurrence to) → ⊥) (λ to. production_of T.denotes rule.now ≡ Template (Occurrence to)) }
+pub fn chain_of<T: Theory>(rule: &Rule<T>) -> Option<u32>
+    ensures { MatchOption result
+        ((to : ℕ) → production_of T.denotes rule.now ≡ Template (Occurrence to) → ⊥)
+        (λ to. production_of T.denotes rule.now ≡ Template (Occurrence to)) }
 {
     match rule {
         Rule::Term(part) => match part {

@@ -7,5 +7,5 @@ mod greatest;
 mod leaves;
 mod table;
 
-pub use chains::chain_closure;
+pub use chains::{chain_closure, chain_of};
 pub use greatest::largest;

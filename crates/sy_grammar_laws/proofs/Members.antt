@@ -7,7 +7,7 @@ use Rattle.sy_terms.specs.Values.{Val, Truth, Whole, Bits}
 use Rattle.sy_terms.specs.Theories.{sort_of_value}
 use Rattle.sy_terms.specs.Sorts.{sort_of, same_sort}
 use Rattle.sy_terms.specs.Expr as expr
-use Rattle.sy_terms.specs.Expr.{Expr, Exprs}
+use Rattle.sy_terms.specs.Expr.{Expr}
 use Rattle.sy_terms.specs.Fitting.{Scope, sort_in, sorts_in}
 use Rattle.sy_terms.specs.declared.op.Op.TheVariants as ops
 use Rattle.sy_terms.specs.declared.sort.Sort.{Sort}
@@ -15,7 +15,7 @@ use Rattle.sy_terms.specs.declared.sort.Sort.TheVariants as sorts
 use Rattle.sy_terms_laws.proofs.Equations.{if_Some, both_true, same_sort_is}
 use Rattle.sy_grammar_base.specs.Patterns.{Pattern, occurring, filled}
 use Rattle.sy_grammar_base.specs.Trees as trees
-use Rattle.sy_grammar_base.specs.Trees.{Production, Template, EachConstant, EachVariable, Nonterminal, Syntax, Tree, Trees, Node, ConstantLeaf, VariableLeaf, Derives, IsMember, rule_at, rule_of, is_written, literal, is_sort, node_yield, constant_yield, variable_yield, joined, yield_from, yields_from}
+use Rattle.sy_grammar_base.specs.Trees.{Production, Template, EachConstant, EachVariable, Nonterminal, Syntax, Tree, Trees, Node, ConstantLeaf, VariableLeaf, IsMember, rule_at, rule_of, is_written, literal, is_sort, node_yield, constant_yield, variable_yield, joined, yield_from, yields_from}
 use Rattle.sy_grammar_base.specs.Formed.{is_known, is_formed, fits, rule_sort}
 use Rattle.sy_grammar_laws.proofs.Filling.{sort_at, AllFit, filled_fits}
 use Rattle.sy_grammar_laws.proofs.Numbering.{all_at}

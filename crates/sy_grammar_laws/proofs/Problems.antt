@@ -1,25 +1,24 @@
 -- What a problem holds fits where the problem does.
-use Rattle.std.specs.Prelude.{ℕ, Bool, true, List, [], ◌∷◌, ◌++◌, map, Some, All, ◌≡◌, refl}
+use Rattle.std.specs.Prelude.{Bool, true, List, [], ◌∷◌, ◌++◌, map, Some, All, ◌≡◌, refl}
 use Rattle.std.specs.List.{list_all}
 use Rattle.std.proofs.Common.{ap, sym, subst}
 use Rattle.std.proofs.lemmas.List.Elements.{All-nil, All-cons, All-head, All-tail, All-weaker}
 use Rattle.sy_terms.specs.Values.{Val}
 use Rattle.sy_terms.specs.Definitions.{signature, bodies, FitAfter, DefinitionsFit}
 use Rattle.sy_terms.specs.Denoted.{expr_of}
-use Rattle.sy_terms.specs.Expr.{Expr}
 use Rattle.sy_terms.specs.Fitting.{Signature, sort_in}
 use Rattle.sy_terms.specs.declared.op.Op.{Op}
 use Rattle.sy_terms.specs.declared.sort.Sort.{Sort}
 use Rattle.sy_terms.specs.declared.sort.Sort.TheVariants as sorts
 use Rattle.sy_terms.specs.declared.term.Def.{Def}
-use Rattle.sy_terms.specs.declared.term.Term.{Term}
 use Rattle.sy_terms_laws.proofs.Equations.{both_true}
 use Rattle.sy_grammar_base.specs.Fits.{with_functions, FitInTurn, GoalFits, QuestionFits, IsTruth, GrammarFits}
 use Rattle.sy_grammar_base.specs.Formed.{is_known}
 use Rattle.sy_grammar_base.specs.Questions.{Goal, goal_of, question_of, wanted_signature, signatures}
 use Rattle.sy_grammar_base.specs.declared.problem.Problem.{Problem}
 use Rattle.sy_grammar_base.specs.declared.problem.Wanted.{Wanted}
-use Rattle.sy_grammar_laws.proofs.Widening.{Extends, term_wider}
+use Rattle.sy_grammar_laws.specs.Extending.{Extends}
+use Rattle.sy_grammar_laws.proofs.Widening.{term_wider}
 
 signatures_last : {T N : Type 0} (earlier : List (Def T N)) (def : Def T N) → map signature (earlier ++ def ∷ []) ≡ map signature earlier ++ signature def ∷ []
 signatures_last [] def = refl

@@ -1,5 +1,5 @@
 -- A term that fits goes on to fit where more may be called.
-use Rattle.std.specs.Prelude.{ℕ, Bool, List, ◌∷◌, ◌++◌, slice_get, Option, Some, None, ◌≡◌, refl}
+use Rattle.std.specs.Prelude.{Bool, List, ◌∷◌, ◌++◌, Option, Some, None, ◌≡◌, refl}
 use Rattle.std.proofs.Common.{ap, ◌∙◌}
 use Rattle.sy_terms.specs.Expr as expr
 use Rattle.sy_terms.specs.Expr.{Expr, Exprs}
@@ -10,16 +10,13 @@ use Rattle.sy_terms.specs.declared.term.Fun.{Fun}
 use Rattle.sy_terms.specs.declared.term.Fun.TheVariants.{Defined, Wanted}
 use Rattle.sy_terms_laws.proofs.Equations.{with_sort_Some, after_Some}
 use Rattle.sy_grammar_base.specs.Fits.{with_functions}
-
--- the later list goes on from the earlier one
-abbrev pub Extends : {A : Type 0} → List A → List A → Type 0
-Extends {A} earlier later = (place : ℕ) (x : A) → slice_get earlier place ≡ Some x → slice_get later place ≡ Some x
+use Rattle.sy_grammar_laws.specs.Extending.{Extends}
 
 applied_wider : (scope : Scope) (operator : Op) (one other : Option (List Sort)) (sort : Sort) → ((sorts : List Sort) → one ≡ Some sorts → other ≡ Some sorts) → applied_sort scope operator one ≡ Some sort → applied_sort scope operator other ≡ Some sort
 applied_wider scope operator None other sort same e = absurd cc
 applied_wider scope operator (Some sorts) other sort same e = ap (applied_sort scope operator) (same sorts refl) ∙ e
 
-called_wider : (first second : Option Signature) (one other : Option (List Sort)) (sort : Sort) → ((f : Signature) → first ≡ Some f → second ≡ Some f) → ((sorts : List Sort) → one ≡ Some sorts → other ≡ Some sorts)
+pub called_wider : (first second : Option Signature) (one other : Option (List Sort)) (sort : Sort) → ((f : Signature) → first ≡ Some f → second ≡ Some f) → ((sorts : List Sort) → one ≡ Some sorts → other ≡ Some sorts)
     → called_sort first one ≡ Some sort → called_sort second other ≡ Some sort
 called_wider None second one other sort wider same e = absurd cc
 called_wider (Some f) second None other sort wider same e = absurd cc

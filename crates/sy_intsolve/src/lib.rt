@@ -2,7 +2,9 @@
 #![tactic(auto)]
 
 mod decider;
+mod queries;
 
 pub use decider::IntDecide;
+pub use queries::fits;
 pub use sy_intsolve_trees::{IntRange, IntSpent};
 pub use sy_linear_known::Tree;

@@ -5,6 +5,7 @@ use Rattle.sy_terms.specs.declared.sort.Sort.{Sort}
 use Rattle.sy_linear_forms.specs.declared.form.Form.{Form}
 use Rattle.sy_linear_known.specs.declared.path.Fact.{Fact}
 use Rattle.sy_linear_known.specs.Trees.{forms}
+use Rattle.sy_simplex.specs.declared.answer.Ended.{Ended}
 use Rattle.sy_simplex.specs.declared.answer.Feasible.{Feasible}
 use Rattle.sy_simplex.specs.declared.answer.Feasible.TheVariants.{Point, Conflict, Pivots, Range}
 use Rattle.sy_simplex.specs.Problems.{AreForms}
@@ -24,6 +25,6 @@ answer-sound vars path (Conflict multipliers) p h = refutation-contradiction (le
 answer-sound vars path (Pivots run) p h = tt
 answer-sound vars path (Range run) p h = tt
 
-pub result-sound : {E : Type 0} (vars : List Sort) (path : List Fact) (fs : List Form) (result : Result Feasible E) → IsPath vars path → fs ≡ forms path → IfOk result (IsSound (length vars) fs) → IfOk result (IsSoundFor vars path)
-result-sound vars path fs (Ok answer) p e h = answer-sound vars path answer p (subst (λ gs. IsSound (length vars) gs answer) e h)
-result-sound vars path fs (Err end) p e h = tt
+pub result-sound : {E : Type 0} (vars : List Sort) (path : List Fact) (fs : List Form) (result : Result Ended E) → IsPath vars path → fs ≡ forms path → IfOk result (λ end. IsSound (length vars) fs end.answer) → IfOk result (λ end. IsSoundFor vars path end.answer)
+result-sound vars path fs (Ok end) p e h = answer-sound vars path end.answer p (subst (λ gs. IsSound (length vars) gs end.answer) e h)
+result-sound vars path fs (Err want) p e h = tt

@@ -9,18 +9,18 @@ use crate::forms::forms_of;
 use std::alloc::Global;
 use sy_linear_known::Fact;
 use sy_seq::Want;
-use sy_simplex::{Feasible, feasible};
+use sy_simplex::{Ended, ended};
 use sy_terms::Sort;
 
-/// Whether a rational point meets the forms among the facts, in at most `pivots` steps of the simplex method. `Point` is
-/// a corner of the path. `Conflict` gives a multiplier for each form, none of them negative, that combine the forms to
-/// a negative constant. `Pivots` and `Range` come as `feasible` says.
-pub fn corner(alloc: Global, vars: &[Sort], facts: &[Fact], pivots: u32) -> Result<Feasible, Want>
+/// Whether a rational point meets the forms among the facts, in at most `pivots` steps of the simplex method, and for a
+/// point the tableau at which the run ends. `Point` is a corner of the path. `Conflict` gives a multiplier for each form,
+/// none of them negative, that combine the forms to a negative constant. `Pivots` and `Range` come as `ended` says.
+pub fn corner(alloc: Global, vars: &[Sort], facts: &[Fact], pivots: u32) -> Result<Ended, Want>
     requires few { length vars.now < 2 ^ 31 }
     requires path { IsPath vars.now facts.now }
-    ensures sound { IfOk result (λ answer. IsSoundFor vars.now facts.now answer) }
-    ensures exact { IfOk result (λ answer. Tells (length vars.now) (forms facts.now) pivots answer) }
+    ensures sound { IfOk result (λ end. IsSoundFor vars.now facts.now end.answer) }
+    ensures exact { IfOk result (λ end. Tells (length vars.now) (forms facts.now) pivots end.answer) }
 {
     let forms = forms_of(alloc, facts)?;
-    feasible(alloc, vars.len() as u32, &forms, pivots)
+    ended(alloc, vars.len() as u32, &forms, pivots)
 }

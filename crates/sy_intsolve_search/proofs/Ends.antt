@@ -6,28 +6,33 @@ use Rattle.std.proofs.lemmas.Nat.Gcd.{IsGcd-from_zero, IsGcd-swap, same_from_IsG
 use borrow.Author.Differences.{at_most_in}
 use Rattle.sy_frac.specs.Fraction.{Fraction, IsLowest}
 use Rattle.sy_frac.specs.Rational.{0ℚ, ◌*ℚ◌, over, value, is_negative, over_negative, product_over_is, zero-*ℚ, zero_not_negative}
+use Rattle.sy_query_limits.specs.declared.Limits.{Limits}
 use Rattle.sy_terms.specs.declared.sort.Sort.{Sort}
 use Rattle.sy_terms.specs.declared.sort.Sort.TheVariants as sorts
-use Rattle.sy_linear_forms.specs.Forms.{Coefficient}
 use Rattle.sy_linear_known.specs.declared.path.Fact.{Fact}
+use Rattle.sy_linear_known.specs.declared.path.Path.{Path}
 use Rattle.sy_linear_known.specs.declared.path.Test.{Test}
-use Rattle.sy_linear_known.specs.declared.path.Test.TheVariants as test
 use Rattle.sy_linear_known.specs.declared.tree.Tree.{Tree}
 use Rattle.sy_linear_known.specs.declared.answer.Known.TheVariants as known
 use Rattle.sy_linear_known.specs.Right.{is_linear_sort}
-use Rattle.sy_linear_known.specs.Seen.{Query, query_known}
+use Rattle.sy_linear_known.specs.Seen.{Query, query_known, query_seen}
 use Rattle.sy_linear_known.specs.Stored.{shape_of}
-use Rattle.sy_linear_known.specs.Trees.{IsOf, OverIntegers, Suits, Refutes}
-use Rattle.sy_linear.specs.Judging.{is_int, is_bool, has_int, suits}
+use Rattle.sy_linear_known.specs.Trees.{forms, IsOf, Refutes}
 use Rattle.sy_linear.proofs.Accepting.{negative_times}
 use Rattle.sy_simplex.specs.Problems.{numbers}
+use Rattle.sy_simplex.specs.Runs.{IsSpent, IsOutOfRange}
+use Rattle.sy_simplex.specs.declared.answer.Run.{Run}
 use Rattle.sy_simplex_tableau.specs.Operations.{whole}
 use Rattle.sy_simplex_tableau.specs.Rows.{at}
-use Rattle.sy_intsolve_asked.specs.Asked.{IsPath}
+use Rattle.sy_intsolve_asked.specs.Asked.{IsPath, IsOpen}
 use Rattle.sy_intsolve_asked.proofs.Paths.{asked}
+use Rattle.sy_intsolve_order.proofs.Openings.{suits_is}
 use Rattle.sy_intsolve_points.specs.Points.{IsAt, IsFirstBroken}
 use Rattle.sy_intsolve_trees.specs.declared.fork.Fork.TheVariants as forks
-use Rattle.sy_intsolve_trees.specs.declared.step.Order.TheVariants.{First}
+use Rattle.sy_intsolve_trees.specs.declared.step.Order.{Order}
+use Rattle.sy_intsolve_trees.specs.declared.step.Order.TheVariants.{First, Free}
+use Rattle.sy_intsolve_trees.specs.declared.spent.IntSpent.TheVariants as spent
+use Rattle.sy_intsolve_trees.specs.declared.spent.IntRange.TheVariants as range
 use Rattle.sy_intsolve_trees.specs.Budgets.{NodesMet, OpensAt}
 use Rattle.sy_intsolve_trees.specs.Growing.{Grown, Unfinished, IsFork, IsGrowing, inner}
 use Rattle.sy_intsolve_trees.specs.Steps.{Layer, plugged, inner_of, AreLayers}
@@ -35,65 +40,61 @@ use Rattle.sy_intsolve_trees.specs.Stored.{grown_of, layers_of}
 use Rattle.sy_intsolve_trees.proofs.Opening.{nodes_met, opens_at}
 use Rattle.sy_intsolve_trees.proofs.Refuting.{refutes, bare-grown_of}
 use Rattle.sy_intsolve_search.specs.declared.way.Way.{Way}
-use Rattle.sy_intsolve_search.specs.Ways.{CanTurn, IsWay, IsClosed}
+use Rattle.sy_intsolve_search.specs.Ways.{IsWay, IsClosed, IsSplit}
+use Rattle.sy_intsolve_search.specs.States.{IsSpentBy}
 
 -- ---- refutations
-no_layers : (q : Query) (facts : List Fact) (layers : List Layer) → layers ≡ [] → AreLayers First q [] layers facts → facts ≡ []
+no_layers : (order : Order) (q : Query) (facts : List Fact) (layers : List Layer) → layers ≡ [] → AreLayers order q [] layers facts → facts ≡ []
 unfolding AreLayers
-no_layers q facts [] e h = h
-no_layers q facts (layer ∷ layers) e h = absurd cc
+no_layers order q facts [] e h = h
+no_layers order q facts (layer ∷ layers) e h = absurd cc
 
-pub never : (q : Query) (way : Way) (tree : Tree) → IsClosed First q way (grown_of tree) → way.steps.items ≡ [] → Refutes q [] (shape_of tree)
-never q way tree c e =
-    let f : way.facts.items ≡ [] = no_layers q way.facts.items (layers_of way.steps.items) (ap layers_of e) c.way.stand.layers in
-    subst (Refutes q []) (bare-grown_of tree) (refutes First q [] (grown_of tree) (subst (λ fs. IsGrowing First q fs (grown_of tree)) f c.grows) c.closed)
+pub never : (order : Order) (q : Query) (way : Way) (tree : Tree) → IsClosed order q way (grown_of tree) → way.steps.items ≡ [] → Refutes q [] (shape_of tree)
+never order q way tree c e =
+    let f : way.facts.items ≡ [] = no_layers order q way.facts.items (layers_of way.steps.items) (ap layers_of e) c.way.stand.layers in
+    subst (Refutes q []) (bare-grown_of tree) (refutes order q [] (grown_of tree) (subst (λ fs. IsGrowing order q fs (grown_of tree)) f c.grows) c.closed)
 
 -- ---- spent budgets
 counted : (way : Way) (q : Query) → IsWay First q way Unfinished → inner_of (layers_of way.steps.items) ≡ way.inner
 unfolding inner
 counted way q w = omega (arith, w.inner)
 
-pub shows-nodes : (q : Query) (nodes : ℕ) (way : Way) (tree : Grown) → IsWay First q way Unfinished → way.inner ≡ nodes → tree ≡ plugged (layers_of way.steps.items) Unfinished → NodesMet q nodes tree
+shows-nodes : (q : Query) (nodes : ℕ) (way : Way) (tree : Grown) → IsWay First q way Unfinished → way.inner ≡ nodes → tree ≡ plugged (layers_of way.steps.items) Unfinished → NodesMet q nodes tree
 shows-nodes q nodes way tree w n e =
     subst (NodesMet q nodes) (sym e)
     (subst (λ k. NodesMet q k (plugged (layers_of way.steps.items) Unfinished)) (counted way q w ∙ n) (nodes_met q (layers_of way.steps.items) way.facts.items w.stand.layers))
 
-pub opens : (q : Query) (nodes : ℕ) (way : Way) (tree : Grown) (facts : List Fact) → IsWay First q way Unfinished → way.inner ≤ nodes → tree ≡ plugged (layers_of way.steps.items) Unfinished → facts ≡ way.facts.items → OpensAt q nodes tree facts
+opens : (q : Query) (nodes : ℕ) (way : Way) (tree : Grown) (facts : List Fact) → IsWay First q way Unfinished → way.inner ≤ nodes → tree ≡ plugged (layers_of way.steps.items) Unfinished → facts ≡ way.facts.items → OpensAt q nodes tree facts
 opens q nodes way tree facts w n e f =
     subst (λ t. OpensAt q nodes t facts) (sym e)
     (subst (OpensAt q nodes (plugged (layers_of way.steps.items) Unfinished)) (sym f) (opens_at q nodes (layers_of way.steps.items) way.facts.items w.stand.layers (omega (arith, counted way q w, n))))
 
--- ---- forks
-and_parts : (a b : Bool) → (a && b) ≡ true → (a ≡ true) × (b ≡ true)
-and_parts true b e = (refl, e)
-and_parts false b e = absurd cc
+pub spent-nodes : (order : Order) (q : Query) (limits : Limits) (way : Way) (tree : Tree) → IsWay order q way Unfinished → way.inner ≡ limits.nodes → grown_of tree ≡ plugged (layers_of way.steps.items) Unfinished → IsSpentBy order q limits (spent.Nodes tree)
+spent-nodes First q limits way tree w n e = shows-nodes q limits.nodes way (grown_of tree) w n e
+spent-nodes Free q limits way tree w n e = tt
 
-int_is : (o : Option Sort) → is_int o ≡ true → o ≡ Some sorts.Int
-int_is (Some sorts.Int) e = refl
-int_is (Some sorts.Bool) e = absurd cc
-int_is (Some (sorts.Bits w)) e = absurd cc
-int_is None e = absurd cc
+pub spent-pivots : (order : Order) (q : Query) (limits : Limits) (way : Way) (tree : Tree) (path : Path) (run : Run) → IsWay order q way Unfinished → way.inner ≤ limits.nodes → grown_of tree ≡ plugged (layers_of way.steps.items) Unfinished → path.facts ≡ way.facts.items → IsSpent (length q.vars) (forms way.facts.items) limits.pivots run.steps → IsSpentBy order q limits (spent.Pivots tree path run)
+spent-pivots First q limits way tree path run w n e f s = (opens q limits.nodes way (grown_of tree) path.facts w n e f, subst (λ facts. IsSpent (length q.vars) (forms facts) limits.pivots run.steps) (sym f) s)
+spent-pivots Free q limits way tree path run w n e f s = tt
 
-bool_is : (o : Option Sort) → is_bool o ≡ true → o ≡ Some sorts.Bool
-bool_is (Some sorts.Bool) e = refl
-bool_is (Some sorts.Int) e = absurd cc
-bool_is (Some (sorts.Bits w)) e = absurd cc
-bool_is None e = absurd cc
+pub spent-range : (order : Order) (q : Query) (limits : Limits) (way : Way) (tree : Tree) (path : Path) (run : Run) → IsWay order q way Unfinished → way.inner ≤ limits.nodes → grown_of tree ≡ plugged (layers_of way.steps.items) Unfinished → path.facts ≡ way.facts.items → IsOutOfRange (length q.vars) (forms way.facts.items) limits.pivots run.steps → IsSpentBy order q limits (spent.Range tree (range.Simplex path run))
+spent-range First q limits way tree path run w n e f s = (opens q limits.nodes way (grown_of tree) path.facts w n e f, subst (λ facts. IsOutOfRange (length q.vars) (forms facts) limits.pivots run.steps) (sym f) s)
+spent-range Free q limits way tree path run w n e f s = tt
 
-over_integers : (vars : List Sort) (cs : List Coefficient) → list_all (has_int vars) cs ≡ true → OverIntegers vars cs
-over_integers vars [] e = tt
-over_integers vars (c ∷ cs) e = let k = and_parts (has_int vars c) (list_all (has_int vars) cs) e in (int_is (slice_get vars c.0) k.0, over_integers vars cs k.1)
+pub spent-known : (order : Order) (q : Query) (limits : Limits) (way : Way) (tree : Tree) (path : Path) (node : ℕ) → IsWay order q way Unfinished → way.inner ≤ limits.nodes → grown_of tree ≡ plugged (layers_of way.steps.items) Unfinished → path.facts ≡ way.facts.items → (query_seen q way.facts.items).misfit ≡ Some node → IsSpentBy order q limits (spent.Range tree (range.Known path node))
+spent-known First q limits way tree path node w n e f s = (opens q limits.nodes way (grown_of tree) path.facts w n e f, subst (λ facts. (query_seen q facts).misfit ≡ Some node) (sym f) s)
+spent-known Free q limits way tree path node w n e f s = tt
 
-suits_is : (vars : List Sort) (t : Test) → suits vars t ≡ true → Suits vars t
-suits_is vars (test.AtLeast f) e = over_integers vars f.coefs e
-suits_is vars (test.Holds u) e = bool_is (slice_get vars u) e
+-- ---- splits
+-- a split at a point of the path
+pub split-fork : (order : Order) (q : Query) (path : List Fact) (t : Test) (p : List Fraction) → IsSplit order q path t → IsAt q.vars path p → IsFork order q path (forks.Split t) p
+split-fork order q path t p s a = (suits_is q.vars t s.turns.suits, s.leaves, a)
 
--- a split on the first open test, at a point of the path
-pub split-fork : (q : Query) (path : List Fact) (t : Test) (p : List Fraction) → IsPath q.vars path → query_known q path ≡ known.Undecided t → IsAt q.vars path p → IsFork First q path (forks.Split t) p
-split-fork q path t p h e a = (suits_is q.vars t (asked q path t h e).suits, e, a)
+pub first-split : (q : Query) (path : List Fact) (t : Test) → IsPath q.vars path → query_known q path ≡ known.Undecided t → IsSplit First q path t
+first-split q path t h e = record { leaves = e; turns = asked q path t h e }
 
-pub split-turn : (q : Query) (path : List Fact) (t : Test) → IsPath q.vars path → query_known q path ≡ known.Undecided t → CanTurn q.vars path (forks.Split t)
-split-turn q path t h e = asked q path t h e
+pub free-split : (q : Query) (path : List Fact) (t u : Test) → query_known q path ≡ known.Undecided u → IsOpen q.vars path t → IsSplit Free q path t
+free-split q path t u e o = record { leaves = (u, e); turns = o }
 
 -- ---- broken values are those of integer variables
 disagree : true ≡ false → ⊥
@@ -120,6 +121,10 @@ get_same (x ∷ xs) (suc i) d e l = get_same xs i d e (omega (arith, l))
 -- what is read there is in lowest terms
 pub lowest-at : (xs : List Fraction) (i : ℕ) (x : Fraction) → i < length xs → x ≡ get_or xs i x → IsLowest x → IsLowest (at xs i)
 lowest-at xs i x l e h = subst IsLowest (e ∙ get_same xs i x (whole (pos 0)) l) h
+
+and_parts : (a b : Bool) → (a && b) ≡ true → (a ≡ true) × (b ≡ true)
+and_parts true b e = (refl, e)
+and_parts false b e = absurd cc
 
 get_none : (vars : List Sort) (i : ℕ) → slice_get vars i ≡ None → length vars ≤ i
 get_none [] i e = omega arith

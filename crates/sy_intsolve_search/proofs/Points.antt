@@ -17,7 +17,7 @@ use Rattle.sy_simplex.specs.declared.answer.Feasible.TheVariants.{Point, Conflic
 use Rattle.sy_intsolve_points.specs.Points.{IsAt, IsSoundFor}
 use Rattle.sy_intsolve_trees.specs.declared.fork.Fork.{Fork}
 use Rattle.sy_intsolve_trees.specs.declared.fork.Fork.TheVariants as forks
-use Rattle.sy_intsolve_trees.specs.declared.step.Order.TheVariants.{First}
+use Rattle.sy_intsolve_trees.specs.declared.step.Order.{Order}
 use Rattle.sy_intsolve_trees.specs.Growing.{IsFork}
 use Rattle.sy_intsolve_search.specs.Ways.{HasSides, CanTurn, TellsPoint, TellsCorner}
 
@@ -38,9 +38,9 @@ corner-point vars path pivots (Pivots run) s = s
 corner-point vars path pivots (Range run) s = s
 
 -- the point of a fork is one of the path
-pub fork-at : (q : Query) (path : List Fact) (fork : Fork) (p : List Fraction) → IsFork First q path fork p → IsAt q.vars path p
-fork-at q path (forks.Split t) p h = h.2
-fork-at q path (forks.Branch i k) p h = h.2.at
+pub fork-at : (order : Order) (q : Query) (path : List Fact) (fork : Fork) (p : List Fraction) → IsFork order q path fork p → IsAt q.vars path p
+fork-at order q path (forks.Split t) p h = h.2
+fork-at order q path (forks.Branch i k) p h = h.2.at
 
 pub has_sides : (vars : List Sort) (path : List Fact) (fork : Fork) → CanTurn vars path fork → HasSides vars fork
 has_sides vars path (forks.Split t) c = (c.suits, c.fits)

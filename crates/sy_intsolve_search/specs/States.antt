@@ -14,7 +14,7 @@ use Rattle.sy_linear_known.specs.Stored.{shape_of}
 use Rattle.sy_linear_known.specs.Trees.{Refutes}
 use Rattle.sy_intsolve_points.specs.Points.{IsAt}
 use Rattle.sy_intsolve_trees.specs.declared.step.Order.{Order}
-use Rattle.sy_intsolve_trees.specs.declared.step.Order.TheVariants.{First}
+use Rattle.sy_intsolve_trees.specs.declared.step.Order.TheVariants as orders
 use Rattle.sy_intsolve_trees.specs.declared.spent.IntSpent.{IntSpent}
 use Rattle.sy_intsolve_trees.specs.Budgets.{budget, Shows}
 use Rattle.sy_intsolve_trees.specs.Growing.{Grown, Unfinished}
@@ -44,6 +44,17 @@ IsAnswer q limits (verdicts.Never tree) = Refutes q [] (shape_of tree)
 IsAnswer q limits (verdicts.Model values) = IsModelOf q values
 IsAnswer q limits (verdicts.Spent spent) = IsSpentFor q limits spent
 
+-- the same where each split is on the first open test; else nothing is shown
+abbrev pub IsSpentBy : Order → Query → Limits → IntSpent → Type 0
+IsSpentBy orders.First q limits spent = IsSpentFor q limits spent
+IsSpentBy orders.Free q limits spent = Unit {0}
+
+-- how a search by the order ends
+abbrev pub IsEnd : {T : Type 0} → Order → Query → Limits → Verdict T Tree IntSpent ℤ → Type 0
+IsEnd order q limits (verdicts.Never tree) = Refutes q [] (shape_of tree)
+IsEnd order q limits (verdicts.Model values) = IsModelOf q values
+IsEnd order q limits (verdicts.Spent spent) = IsSpentBy order q limits spent
+
 -- ---- states
 -- how many turns are left at most: four for each inner node that may be made, two for each side that isn't begun, and one for
 -- each step of the way and for an open leaf
@@ -62,10 +73,10 @@ abbrev pub IsState : Order → Query → ℕ → State → Type 0
 IsState order q nodes (states.Open way point) = IsLeaf order q nodes way × IfSome point (IsAt q.vars way.facts.items)
 IsState order q nodes (states.Closed way tree) = IsClosed order q way (grown_of tree) × (way.inner ≤ nodes)
 
--- a state with less room than this, or an answer
-abbrev pub IsTurn : Query → Limits → ℕ → Turn → Type 0
-IsTurn q limits before (turns.On state) = IsState First q limits.nodes state × (room limits.nodes state < before)
-IsTurn q limits before (turns.Over verdict) = IsAnswer q limits verdict
+-- a state with less room than this, or an end
+abbrev pub IsTurn : Order → Query → Limits → ℕ → Turn → Type 0
+IsTurn order q limits before (turns.On state) = IsState order q limits.nodes state × (room limits.nodes state < before)
+IsTurn order q limits before (turns.Over verdict) = IsEnd order q limits verdict
 
 -- what a closed tree at the end of a layer makes: the layer's other side isn't begun, and this side of the fork is to be entered,
 -- or it is begun, or there is none

@@ -5,6 +5,7 @@ use Rattle.sy_terms.specs.Expr.{nodes}
 use Rattle.sy_terms.specs.declared.sort.Sort.{Sort}
 use Rattle.sy_terms.specs.declared.sort.Sort.TheVariants as sorts
 use Rattle.sy_linear_known.specs.declared.path.Fact.{Fact}
+use Rattle.sy_linear_known.specs.declared.path.Test.{Test}
 use Rattle.sy_linear_known.specs.declared.tree.CheckEnd.{CheckEnd}
 use Rattle.sy_linear_known.specs.Right.{Fits}
 use Rattle.sy_linear_known.specs.Seen.{Query}
@@ -19,7 +20,7 @@ use Rattle.sy_intsolve_trees.specs.declared.fork.Fork.{Fork}
 use Rattle.sy_intsolve_trees.specs.declared.fork.Fork.TheVariants as forks
 use Rattle.sy_intsolve_trees.specs.declared.step.Order.{Order}
 use Rattle.sy_intsolve_trees.specs.declared.step.Step.{Step}
-use Rattle.sy_intsolve_trees.specs.Growing.{Grown, Forked, Cut, Farkas, Shown, Unfinished, fork_fact, IsFork, IsGrowing, inner, is_closed}
+use Rattle.sy_intsolve_trees.specs.Growing.{Grown, Forked, Cut, Farkas, Shown, Unfinished, fork_fact, Leaves, IsFork, IsGrowing, inner, is_closed}
 use Rattle.sy_intsolve_trees.specs.Steps.{Layer, Left, Right, Under, unbegun, inner_of, waiting, IsBeside, AreLayers}
 use Rattle.sy_intsolve_trees.specs.Stored.{layers_of}
 use Rattle.sy_intsolve_search.specs.declared.way.Way.{Way}
@@ -110,6 +111,12 @@ pub record GoesOn (order : Order) (q : Query) (way : Way) (last : Fork) (point :
 -- how many turns are left at most after one side is entered
 abbrev pub room_after : ℕ → Way → Grown → ℕ
 room_after nodes way other = 4 * (nodes - way.inner) + 2 * (waiting (layers_of way.steps.items) + unbegun other) + length way.steps.items + 2
+
+-- ---- splits
+-- a test that the order allows a split on, with either side of which the path stays one
+pub record IsSplit (order : Order) (q : Query) (path : List Fact) (test : Test) : Type 0 where
+  pub leaves : Leaves order q path test
+  pub turns : IsOpen q.vars path test
 
 -- ---- points
 -- a point of the path, multipliers that refute it, or a run that shows which budget was met

@@ -2,7 +2,7 @@
 ghost use Rattle.std.specs.Prelude.{◌≡◌, ◌≤◌, IfOk};
 ghost use Rattle.sy_linear_known.specs.Stored.{query_of};
 ghost use Rattle.sy_query_limits.specs.declared.Limits.{Limits};
-ghost use Rattle.sy_intsolve_trees.specs.declared.step.Order.TheVariants.{First};
+ghost use Rattle.sy_intsolve_trees.specs.declared.step.Order.{Order};
 ghost use Rattle.sy_intsolve_trees.specs.Stored.{grown_of, layer_of};
 ghost use Rattle.sy_intsolve_search.specs.Ways.{is_unfinished, IsClosed};
 ghost use Rattle.sy_intsolve_search.specs.States.{IsBack, IsTurn, room_closed};
@@ -75,8 +75,8 @@ pub(crate) fn back(
     way: Way,
     tree: Tree,
 ) -> Result<Turn, Want>
-    requires { IsClosed First (query_of query.now) way (grown_of tree) }
-    ensures { (limits : Limits) → way.inner ≤ limits.nodes → IfOk result (IsTurn (query_of query.now) limits (room_closed limits.nodes way)) }
+    requires { (order : Order) × IsClosed order (query_of query.now) way (grown_of tree) }
+    ensures { (order : Order) (limits : Limits) → IsClosed order (query_of query.now) way (grown_of tree) → way.inner ≤ limits.nodes → IfOk result (IsTurn order (query_of query.now) limits (room_closed limits.nodes way)) }
 {
     let Way {
         facts,

@@ -5,8 +5,8 @@ ghost use Rattle.sy_linear.specs.Judging.{Gives, Adds};
 ghost use Rattle.sy_linear_known.specs.Stored.{query_of};
 ghost use Rattle.sy_intsolve_trees.specs.Growing.{fork_fact};
 ghost use Rattle.sy_intsolve_trees.specs.Stored.{grown_of, layer_of};
-ghost use Rattle.sy_intsolve_trees.specs.declared.step.Order.TheVariants.{First};
-ghost use Rattle.sy_intsolve_search.specs.Ways.{HasSides, IsGiven, side_layer, GoesOn, room_after};
+ghost use Rattle.sy_intsolve_trees.specs.declared.step.Order.{Order};
+ghost use Rattle.sy_intsolve_search.specs.Ways.{CanTurn, HasSides, IsGiven, side_layer, GoesOn, room_after};
 ghost use Rattle.sy_intsolve_search.specs.States.{room, IsState};
 
 use crate::state::State;
@@ -88,8 +88,8 @@ pub(crate) fn enter(
     left: bool,
     other: Tree,
 ) -> Result<State, Want>
-    requires { GoesOn First (query_of query.now) way fork point left (grown_of other) }
-    ensures state { (nodes : ℕ) → way.inner ≤ nodes → IfOk result (IsState First (query_of query.now) nodes) }
+    requires { CanTurn query.now.vars way.facts.items fork }
+    ensures state { (order : Order) (nodes : ℕ) → GoesOn order (query_of query.now) way fork point left (grown_of other) → way.inner ≤ nodes → IfOk result (IsState order (query_of query.now) nodes) }
     ensures room { (nodes : ℕ) → IfOk result (λ next. room nodes next ≡ room_after nodes way (grown_of other)) }
 {
     let vars = query.vars.as_slice();

@@ -1,89 +1,103 @@
 // A turn at an open leaf.
-ghost use Rattle.std.specs.Prelude.{◌≡◌, ◌<◌, ◌+◌, IfOk, IfSome};
+ghost use Rattle.std.specs.Prelude.{◌≡◌, IfOk, IfSome};
 ghost use Rattle.sy_linear_known.specs.declared.answer.Known.TheVariants as known;
 ghost use Rattle.sy_linear_known.specs.Right.{IsRight};
 ghost use Rattle.sy_linear_known.specs.Seen.{query_known};
 ghost use Rattle.sy_linear_known.specs.Stored.{query_of};
 ghost use Rattle.sy_intsolve_points.specs.Points.{IsAt, IsCornerOf};
-ghost use Rattle.sy_intsolve_trees.specs.declared.step.Order.TheVariants.{First};
 ghost use Rattle.sy_intsolve_trees.specs.Growing.{IsFork};
-ghost use Rattle.sy_intsolve_search.specs.Ways.{IsAsked, IsLeaf, CanTurn, HasSides};
+ghost use Rattle.sy_intsolve_search.specs.Ways.{IsAsked, IsLeaf, CanTurn};
 ghost use Rattle.sy_intsolve_search.specs.States.{IsTurn, room_open};
 
+use crate::choosing::chosen_test;
+use crate::cut::{cut_at, under};
 use crate::fork::{enter, goes_left};
 use crate::open::{broken, corner_at, known_at, point_at};
+use crate::plan::Plan;
 use crate::spent::{model, spent_known, spent_nodes, spent_pivots, spent_range, whole_model};
 use crate::state::{State, Turn};
 use crate::way::Way;
 use std::alloc::Global;
 use sy_frac::Frac;
+use sy_intsolve_order::Guide;
 use sy_intsolve_trees::Fork;
 use sy_linear_known::{Known, Test, Tree};
 use sy_meaning_integers::IntTheory;
-use sy_query_base::{Limits, Query};
+use sy_query_base::Query;
 use sy_query_decide::Verdict;
 use sy_seq::{Seq, Want};
-use sy_simplex::Feasible;
-
-/// The way with one inner node more.
-fn counted(way: Way) -> Way
-    requires { way.inner < 4294967295 }
-    ensures facts { result.facts.items ≡ way.facts.items }
-    ensures steps { result.steps.items ≡ way.steps.items }
-    ensures inner { result.inner ≡ way.inner + 1 }
-{
-    let Way {
-        facts,
-        steps,
-        inner,
-    } = way;
-    Way {
-        facts,
-        steps,
-        inner: inner + 1,
-    }
-}
+use sy_simplex::{Ended, Feasible};
+use sy_simplex_tableau::Tableau;
 
 /// The fork at the end of the way, where the tree may have an inner node more; else what shows that it may not.
 fn grow(
     alloc: Global,
     query: &Query<IntTheory>,
-    limits: &Limits,
+    plan: &Plan,
     way: Way,
     fork: Fork,
     point: Seq<Frac>,
 ) -> Result<Turn, Want>
-    requires leaf { IsLeaf First (query_of query.now) limits.now.nodes way }
-    requires fork { IsFork First (query_of query.now) way.facts.items fork point }
+    requires leaf { IsLeaf plan.now.order (query_of query.now) plan.now.limits.nodes way }
+    requires fork { IsFork plan.now.order (query_of query.now) way.facts.items fork point }
     requires turns { CanTurn query.now.vars way.facts.items fork }
-    ensures { IfOk result (IsTurn (query_of query.now) limits.now (room_open limits.now.nodes way)) }
+    ensures { IfOk result (IsTurn plan.now.order (query_of query.now) plan.now.limits (room_open plan.now.limits.nodes way)) }
 {
-    if way.inner >= limits.nodes {
+    if way.inner >= plan.limits.nodes {
         let spent = spent_nodes(alloc, way)?;
         return Ok(Turn::Over(Verdict::Spent(spent)));
     }
     let here = point.as_slice();
     let left = goes_left(&fork, here);
-    let grown = counted(way);
+    let grown = way.counted();
     let state = enter(alloc, query, grown, fork, point, left, Tree::Unfinished)?;
     Ok(Turn::On(state))
 }
 
-/// A turn at a corner of the path of a leaf at which the query is known true: a whole corner is a model, and a branch is
-/// on the first value that isn't whole.
+/// A cut at the corner at the end of the way, where the last tableau suggests one, or else the branch.
+fn cut_or_branch(
+    alloc: Global,
+    query: &Query<IntTheory>,
+    plan: &Plan,
+    way: Way,
+    branch: Fork,
+    point: Seq<Frac>,
+    last: Option<Tableau>,
+) -> Result<Turn, Want>
+    requires asked { IsAsked (query_of query.now) }
+    requires leaf { IsLeaf plan.now.order (query_of query.now) plan.now.limits.nodes way }
+    requires known { query_known (query_of query.now) way.facts.items ≡ known.True }
+    requires corner { IsCornerOf query.now.vars way.facts.items point }
+    requires fork { IsFork plan.now.order (query_of query.now) way.facts.items branch point }
+    requires turns { CanTurn query.now.vars way.facts.items branch }
+    ensures { IfOk result (IsTurn plan.now.order (query_of query.now) plan.now.limits (room_open plan.now.limits.nodes way)) }
+{
+    let here = point.as_slice();
+    let found = cut_at(alloc, query, &way, here, last)?;
+    if let Some(rounding) = found {
+        let turn = under(alloc, query, plan, way, rounding, point)?;
+        return Ok(turn);
+    }
+    let turn = grow(alloc, query, plan, way, branch, point)?;
+    Ok(turn)
+}
+
+/// A turn at a corner of the path of a leaf at which the query is known true: a whole corner is a model, and else comes a
+/// cut, or a branch on the first value that isn't whole.
 fn at_corner(
     alloc: Global,
     query: &Query<IntTheory>,
-    limits: &Limits,
+    plan: &Plan,
     way: Way,
     point: Seq<Frac>,
+    last: Option<Tableau>,
 ) -> Result<Turn, Want>
     requires asked { IsAsked (query_of query.now) }
-    requires leaf { IsLeaf First (query_of query.now) limits.now.nodes way }
+    requires leaf { IsLeaf plan.now.order (query_of query.now) plan.now.limits.nodes way }
     requires known { query_known (query_of query.now) way.facts.items ≡ known.True }
     requires right { IsRight (query_of query.now) way.facts.items known.True }
     requires corner { IsCornerOf query.now.vars way.facts.items point }
-    ensures { IfOk result (IsTurn (query_of query.now) limits.now (room_open limits.now.nodes way)) }
+    ensures { IfOk result (IsTurn plan.now.order (query_of query.now) plan.now.limits (room_open plan.now.limits.nodes way)) }
 {
     let here = point.as_slice();
     match broken(query, &way, here) {
@@ -92,14 +106,8 @@ fn at_corner(
             Ok(Turn::Over(Verdict::Model(values)))
         }
         Some((variable, bound)) => {
-            let turn = grow(
-                alloc,
-                query,
-                limits,
-                way,
-                Fork::Branch(variable, bound),
-                point,
-            )?;
+            let branch = Fork::Branch(variable, bound);
+            let turn = cut_or_branch(alloc, query, plan, way, branch, point, last)?;
             Ok(turn)
         }
     }
@@ -109,16 +117,16 @@ fn at_corner(
 fn settled(
     alloc: Global,
     query: &Query<IntTheory>,
-    limits: &Limits,
+    plan: &Plan,
     way: Way,
     point: Option<Seq<Frac>>,
 ) -> Result<Turn, Want>
     requires asked { IsAsked (query_of query.now) }
-    requires leaf { IsLeaf First (query_of query.now) limits.now.nodes way }
+    requires leaf { IsLeaf plan.now.order (query_of query.now) plan.now.limits.nodes way }
     requires kept { IfSome point (IsAt query.now.vars way.facts.items) }
     requires known { query_known (query_of query.now) way.facts.items ≡ known.True }
     requires right { IsRight (query_of query.now) way.facts.items known.True }
-    ensures { IfOk result (IsTurn (query_of query.now) limits.now (room_open limits.now.nodes way)) }
+    ensures { IfOk result (IsTurn plan.now.order (query_of query.now) plan.now.limits (room_open plan.now.limits.nodes way)) }
 {
     if let Some(near) = point {
         let here = near.as_slice();
@@ -126,10 +134,11 @@ fn settled(
             return Ok(Turn::Over(Verdict::Model(values)));
         }
     }
-    let answer = corner_at(alloc, query, limits.pivots, &way)?;
+    let end = corner_at(alloc, query, plan.limits.pivots, &way)?;
+    let Ended { answer, last } = end;
     match answer {
         Feasible::Point(corner) => {
-            let turn = at_corner(alloc, query, limits, way, corner)?;
+            let turn = at_corner(alloc, query, plan, way, corner, last)?;
             Ok(turn)
         }
         Feasible::Conflict(multipliers) => {
@@ -146,25 +155,27 @@ fn settled(
     }
 }
 
-/// A turn at a leaf that leaves this test open as the first one: a split on it, at a point of the path.
+/// A turn at a leaf that leaves this test open as the first one: a split on an open test, at a point of the path.
 fn undecided(
     alloc: Global,
     query: &Query<IntTheory>,
-    limits: &Limits,
+    plan: &Plan,
+    guide: &mut Guide,
     way: Way,
     point: Option<Seq<Frac>>,
-    test: Test,
+    first: Test,
 ) -> Result<Turn, Want>
     requires asked { IsAsked (query_of query.now) }
-    requires leaf { IsLeaf First (query_of query.now) limits.now.nodes way }
+    requires leaf { IsLeaf plan.now.order (query_of query.now) plan.now.limits.nodes way }
     requires kept { IfSome point (IsAt query.now.vars way.facts.items) }
-    requires known { query_known (query_of query.now) way.facts.items ≡ known.Undecided test }
-    ensures { IfOk result (IsTurn (query_of query.now) limits.now (room_open limits.now.nodes way)) }
+    requires known { query_known (query_of query.now) way.facts.items ≡ known.Undecided first }
+    ensures { IfOk result (IsTurn plan.now.order (query_of query.now) plan.now.limits (room_open plan.now.limits.nodes way)) }
 {
-    let answer = point_at(alloc, query, limits.pivots, &way, point)?;
+    let answer = point_at(alloc, query, plan.limits.pivots, &way, point)?;
     match answer {
         Feasible::Point(near) => {
-            let turn = grow(alloc, query, limits, way, Fork::Split(test), near)?;
+            let test = chosen_test(alloc, query, plan, guide, &way, first)?;
+            let turn = grow(alloc, query, plan, way, Fork::Split(test), near)?;
             Ok(turn)
         }
         Feasible::Conflict(multipliers) => {
@@ -185,24 +196,25 @@ fn undecided(
 pub(crate) fn look(
     alloc: Global,
     query: &Query<IntTheory>,
-    limits: &Limits,
+    plan: &Plan,
+    guide: &mut Guide,
     way: Way,
     point: Option<Seq<Frac>>,
 ) -> Result<Turn, Want>
     requires asked { IsAsked (query_of query.now) }
-    requires leaf { IsLeaf First (query_of query.now) limits.now.nodes way }
+    requires leaf { IsLeaf plan.now.order (query_of query.now) plan.now.limits.nodes way }
     requires kept { IfSome point (IsAt query.now.vars way.facts.items) }
-    ensures { IfOk result (IsTurn (query_of query.now) limits.now (room_open limits.now.nodes way)) }
+    ensures { IfOk result (IsTurn plan.now.order (query_of query.now) plan.now.limits (room_open plan.now.limits.nodes way)) }
 {
     let known = known_at(alloc, query, &way)?;
     match known {
         Known::True => {
-            let turn = settled(alloc, query, limits, way, point)?;
+            let turn = settled(alloc, query, plan, way, point)?;
             Ok(turn)
         }
         Known::False => Ok(Turn::On(State::Closed(way, Tree::Shown))),
         Known::Undecided(test) => {
-            let turn = undecided(alloc, query, limits, way, point, test)?;
+            let turn = undecided(alloc, query, plan, guide, way, point, test)?;
             Ok(turn)
         }
         Known::OutOfRange(node) => {

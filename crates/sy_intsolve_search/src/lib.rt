@@ -2,9 +2,12 @@
 #![tactic(auto)]
 
 mod back;
+mod choosing;
+mod cut;
 mod fork;
 mod leaf;
 mod open;
+mod plan;
 mod search;
 mod spent;
 mod state;

@@ -15,7 +15,7 @@ use sy_linear_known::{Known, known_under};
 use sy_meaning_integers::IntTheory;
 use sy_query_base::Query;
 use sy_seq::{Seq, Want};
-use sy_simplex::Feasible;
+use sy_simplex::{Ended, Feasible};
 
 /// What the way's facts tell of the query.
 pub(crate) fn known_at(alloc: Global, query: &Query<IntTheory>, way: &Way) -> Result<Known, Want>
@@ -29,21 +29,21 @@ pub(crate) fn known_at(alloc: Global, query: &Query<IntTheory>, way: &Way) -> Re
     Ok(known)
 }
 
-/// A corner of the way's path, multipliers that refute it, or the budget that was met.
+/// A corner of the way's path and the last tableau, multipliers that refute it, or the budget that was met.
 pub(crate) fn corner_at(
     alloc: Global,
     query: &Query<IntTheory>,
     pivots: u32,
     way: &Way,
-) -> Result<Feasible, Want>
+) -> Result<Ended, Want>
     requires asked { IsAsked (query_of query.now) }
     requires path { IsPath query.now.vars way.now.facts.items }
-    ensures { IfOk result (TellsCorner query.now.vars way.now.facts.items pivots) }
+    ensures { IfOk result (λ end. TellsCorner query.now.vars way.now.facts.items pivots end.answer) }
 {
     let vars = query.vars.as_slice();
     let facts = way.facts.as_slice();
-    let feasible = corner(alloc, vars, facts, pivots)?;
-    Ok(feasible)
+    let end = corner(alloc, vars, facts, pivots)?;
+    Ok(end)
 }
 
 /// A point of the way's path: the kept one, or else a corner; multipliers that refute it, or the budget that was met.
@@ -62,8 +62,8 @@ pub(crate) fn point_at(
     if let Some(point) = point {
         return Ok(Feasible::Point(point));
     }
-    let feasible = corner_at(alloc, query, pivots, way)?;
-    Ok(feasible)
+    let end = corner_at(alloc, query, pivots, way)?;
+    Ok(end.answer)
 }
 
 /// The first variable whose value isn't whole, which is an integer variable, and the greatest whole number below that

@@ -1,16 +1,17 @@
 // The search.
 ghost use Rattle.std.specs.Prelude.{◌≡◌, IfOk};
 ghost use Rattle.sy_linear_known.specs.Stored.{query_of};
-ghost use Rattle.sy_intsolve_trees.specs.declared.step.Order.TheVariants.{First};
 ghost use Rattle.sy_intsolve_search.specs.Ways.{IsAsked};
-ghost use Rattle.sy_intsolve_search.specs.States.{IsState, IsTurn, room, IsAnswer};
+ghost use Rattle.sy_intsolve_search.specs.States.{IsState, IsTurn, room, IsEnd, IsAnswer};
 
 use crate::back::back;
 use crate::leaf::look;
+use crate::plan::Plan;
 use crate::state::{State, Turn};
 use crate::way::Way;
 use std::alloc::Global;
-use sy_intsolve_trees::IntSpent;
+use sy_intsolve_order::Guide;
+use sy_intsolve_trees::{IntSpent, Order};
 use sy_linear_known::Tree;
 use sy_meaning_integers::IntTheory;
 use sy_query_base::{Limits, Query};
@@ -21,16 +22,17 @@ use sy_seq::Want;
 fn next_turn(
     alloc: Global,
     query: &Query<IntTheory>,
-    limits: &Limits,
+    plan: &Plan,
+    guide: &mut Guide,
     state: State,
 ) -> Result<Turn, Want>
     requires asked { IsAsked (query_of query.now) }
-    requires state { IsState First (query_of query.now) limits.now.nodes state }
-    ensures { IfOk result (IsTurn (query_of query.now) limits.now (room limits.now.nodes state)) }
+    requires state { IsState plan.now.order (query_of query.now) plan.now.limits.nodes state }
+    ensures { IfOk result (IsTurn plan.now.order (query_of query.now) plan.now.limits (room plan.now.limits.nodes state)) }
 {
     match state {
         State::Open(way, point) => {
-            let next = look(alloc, query, limits, way, point)?;
+            let next = look(alloc, query, plan, guide, way, point)?;
             Ok(next)
         }
         State::Closed(way, tree) => {
@@ -40,9 +42,32 @@ fn next_turn(
     }
 }
 
+/// The search's end: a tree that refutes the query, an assignment that satisfies it, or where a budget was met, the tree so
+/// far.
+fn search(
+    alloc: Global,
+    query: &Query<IntTheory>,
+    plan: &Plan,
+    guide: &mut Guide,
+) -> Result<Verdict<IntTheory, Tree, IntSpent>, Want>
+    requires asked { IsAsked (query_of query.now) }
+    ensures { IfOk result (IsEnd plan.now.order (query_of query.now) plan.now.limits) }
+{
+    let mut state = State::Open(Way::new(alloc), None);
+    loop {
+        match next_turn(alloc, query, plan, guide, state)? {
+            Turn::On(next) => state = next,
+            Turn::Over(verdict) => return Ok(verdict),
+        }
+    }
+}
+
 /// Whether an assignment satisfies the query, by a tree of at most `limits.nodes` inner nodes, with at most `limits.pivots`
 /// steps of the simplex method at one leaf. `Never` has a tree that refutes the query, `Model` an assignment that satisfies
 /// it, and `Spent` an unfinished tree, each split of which is on the first open test, that shows which budget was met.
+///
+/// Splits are on tests that are likely to settle much; only where that search meets a budget, another one splits on the first
+/// open test.
 pub fn solve_query(
     alloc: Global,
     query: &Query<IntTheory>,
@@ -51,11 +76,21 @@ pub fn solve_query(
     requires asked { IsAsked (query_of query.now) }
     ensures { IfOk result (IsAnswer (query_of query.now) limits.now) }
 {
-    let mut state = State::Open(Way::new(alloc), None);
-    loop {
-        match next_turn(alloc, query, limits, state)? {
-            Turn::On(next) => state = next,
-            Turn::Over(verdict) => return Ok(verdict),
+    let mut guide = Guide::new(alloc, query)?;
+    let free = Plan {
+        limits: *limits,
+        order: Order::Free,
+    };
+    match search(alloc, query, &free, &mut guide)? {
+        Verdict::Never(tree) => Ok(Verdict::Never(tree)),
+        Verdict::Model(values) => Ok(Verdict::Model(values)),
+        Verdict::Spent(_) => {
+            let first = Plan {
+                limits: *limits,
+                order: Order::First,
+            };
+            let verdict = search(alloc, query, &first, &mut guide)?;
+            Ok(verdict)
         }
     }
 }

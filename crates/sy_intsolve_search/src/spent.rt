@@ -9,10 +9,10 @@ ghost use Rattle.sy_linear_known.specs.Trees.{forms};
 ghost use Rattle.sy_simplex.specs.Runs.{IsSpent, IsOutOfRange};
 ghost use Rattle.sy_intsolve_asked.specs.Asked.{IsPath};
 ghost use Rattle.sy_intsolve_points.specs.Points.{IsAt, AreWhole};
-ghost use Rattle.sy_intsolve_trees.specs.declared.step.Order.TheVariants.{First};
+ghost use Rattle.sy_intsolve_trees.specs.declared.step.Order.{Order};
 ghost use Rattle.sy_intsolve_trees.specs.Growing.{Unfinished};
 ghost use Rattle.sy_intsolve_search.specs.Ways.{IsAsked, IsWay};
-ghost use Rattle.sy_intsolve_search.specs.States.{IsSpentFor, IsModelOf};
+ghost use Rattle.sy_intsolve_search.specs.States.{IsSpentBy, IsModelOf};
 
 use crate::open::broken;
 use crate::way::Way;
@@ -29,7 +29,7 @@ use sy_terms::Values;
 
 /// The tree so far, whose inner nodes are as many as allowed.
 pub(crate) fn spent_nodes(alloc: Global, way: Way) -> Result<IntSpent, Want>
-    ensures { (query : QueryOf) (limits : LimitsOf) → IsWay First query way Unfinished → way.inner ≡ limits.nodes → IfOk result (IsSpentFor query limits) }
+    ensures { (order : Order) (query : QueryOf) (limits : LimitsOf) → IsWay order query way Unfinished → way.inner ≡ limits.nodes → IfOk result (IsSpentBy order query limits) }
 {
     let tree = plugged(alloc, way.steps, Tree::Unfinished)?;
     Ok(IntSpent::Nodes(tree))
@@ -37,7 +37,7 @@ pub(crate) fn spent_nodes(alloc: Global, way: Way) -> Result<IntSpent, Want>
 
 /// The tree so far and the way's path, under which the simplex method took as many steps as allowed.
 pub(crate) fn spent_pivots(alloc: Global, way: Way, run: Run) -> Result<IntSpent, Want>
-    ensures { (query : QueryOf) (limits : LimitsOf) → IsWay First query way Unfinished → way.inner ≤ limits.nodes → IsSpent (length query.vars) (forms way.facts.items) limits.pivots run.steps → IfOk result (IsSpentFor query limits) }
+    ensures { (order : Order) (query : QueryOf) (limits : LimitsOf) → IsWay order query way Unfinished → way.inner ≤ limits.nodes → IsSpent (length query.vars) (forms way.facts.items) limits.pivots run.steps → IfOk result (IsSpentBy order query limits) }
 {
     let Way {
         facts,
@@ -53,7 +53,7 @@ pub(crate) fn spent_pivots(alloc: Global, way: Way, run: Run) -> Result<IntSpent
 
 /// The tree so far and the way's path, under which an operation of the simplex method doesn't fit.
 pub(crate) fn spent_range(alloc: Global, way: Way, run: Run) -> Result<IntSpent, Want>
-    ensures { (query : QueryOf) (limits : LimitsOf) → IsWay First query way Unfinished → way.inner ≤ limits.nodes → IsOutOfRange (length query.vars) (forms way.facts.items) limits.pivots run.steps → IfOk result (IsSpentFor query limits) }
+    ensures { (order : Order) (query : QueryOf) (limits : LimitsOf) → IsWay order query way Unfinished → way.inner ≤ limits.nodes → IsOutOfRange (length query.vars) (forms way.facts.items) limits.pivots run.steps → IfOk result (IsSpentBy order query limits) }
 {
     let Way {
         facts,
@@ -69,7 +69,7 @@ pub(crate) fn spent_range(alloc: Global, way: Way, run: Run) -> Result<IntSpent,
 
 /// The tree so far and the way's path, under which a form of the query isn't built at the node of this number.
 pub(crate) fn spent_known(alloc: Global, way: Way, node: u32) -> Result<IntSpent, Want>
-    ensures { (query : QueryOf) (limits : LimitsOf) → IsWay First query way Unfinished → way.inner ≤ limits.nodes → (query_seen query way.facts.items).misfit ≡ Some node → IfOk result (IsSpentFor query limits) }
+    ensures { (order : Order) (query : QueryOf) (limits : LimitsOf) → IsWay order query way Unfinished → way.inner ≤ limits.nodes → (query_seen query way.facts.items).misfit ≡ Some node → IfOk result (IsSpentBy order query limits) }
 {
     let Way {
         facts,

@@ -1,5 +1,5 @@
 // The way from the root of the tree to the place at which the search is.
-ghost use Rattle.std.specs.Prelude.{◌≡◌, ◌∷◌, ◌++◌, [], List, IfOk};
+ghost use Rattle.std.specs.Prelude.{◌≡◌, ◌<◌, ◌+◌, ◌∷◌, ◌++◌, [], List, IfOk};
 ghost use Rattle.sy_linear_known.specs.declared.path.Fact.{Fact as FactOf};
 ghost use Rattle.sy_intsolve_search.specs.Ways.{IsLonger};
 
@@ -30,6 +30,25 @@ impl Way {
             facts: Vec::new(alloc),
             steps: Vec::new(alloc),
             inner: 0,
+        }
+    }
+
+    /// The way, with one inner node more in the whole tree.
+    pub(crate) fn counted(self) -> Way
+        requires { self.inner < 4294967295 }
+        ensures facts { result.facts.items ≡ self.facts.items }
+        ensures steps { result.steps.items ≡ self.steps.items }
+        ensures inner { result.inner ≡ self.inner + 1 }
+    {
+        let Way {
+            facts,
+            steps,
+            inner,
+        } = self;
+        Way {
+            facts,
+            steps,
+            inner: inner + 1,
         }
     }
 

@@ -1,5 +1,5 @@
 -- Banks over what is known.
-use Rattle.std.proofs.Common.{◌≡◌, ◌<◌, ◌≤◌, ◌+◌, ◌++◌, ⊎_elim, refl, ap, sym, subst, ◌∙◌, ℕ, zero, suc, Bool, List, [], ◌∷◌, length, map, get_or, slice_index_or, arith, slice_get, Some, None}
+use Rattle.std.proofs.Common.{◌≡◌, ◌<◌, ◌+◌, ◌++◌, ⊎_elim, refl, ap, sym, subst, ◌∙◌, ℕ, zero, suc, Bool, List, [], ◌∷◌, length, map, get_or, slice_index_or, arith, slice_get, Some, None}
 use Rattle.std.specs.Prelude.{IfSome, false, Option, Err}
 use Rattle.std.specs.Option.{option_map}
 use Rattle.std.specs.List.{All, Contains}

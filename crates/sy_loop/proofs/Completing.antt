@@ -1,32 +1,38 @@
 -- Rounds at ascending sizes: what they have done, and what follows at the greatest size.
-use Rattle.std.proofs.Common.{◌≡◌, ◌≤◌, ◌+◌, refl, sym, subst, ◌∙◌, ℕ, suc, true, true≢false, List, [], ◌∷◌, arith, slice_get, Option, Some, None}
-use Rattle.std.specs.Prelude.{IfSome}
-use Rattle.std.specs.List.{Contains}
+use Rattle.std.proofs.Common.{◌≡◌, ◌≤◌, ◌+◌, refl, sym, subst, ◌∙◌, ℕ, suc, List, [], ◌∷◌, arith, slice_get, Some, None}
 use Rattle.std.proofs.lemmas.List.Elements.{All-contains}
-use Rattle.sy_terms.specs.Meaning.{functions, computable}
+use Rattle.sy_terms.specs.Meaning.{functions}
 use Rattle.sy_grammar_base.specs.Questions.{Goal, Question}
 use Rattle.sy_query_limits.specs.declared.Limits.{Limits}
 use Rattle.sy_points.specs.Asked.{Asked}
-use Rattle.sy_bank_rows.specs.Banks.{Entry, Lost, Merged, IsDropped, kept_at}
+use Rattle.sy_bank_rows.specs.Banks.{Entry, Merged, kept_at}
 use Rattle.sy_bank_rows.specs.Covering.{Covers, sizes, terms}
 use Rattle.sy_loop_bounds.specs.declared.reach.Reach.{Reach}
-use Rattle.sy_loop_bounds.specs.declared.reach.Reach.TheVariants.{Sizes}
-use Rattle.sy_loop_history.specs.Histories.{Counterexample, IsHonest, IsOpenNumber}
+use Rattle.sy_loop_bounds.specs.declared.reach.Reach.TheVariants.{Beyond}
+use Rattle.sy_loop_history.specs.Histories.{Counterexample, IsOpenNumber}
 use Rattle.sy_loop_history.specs.Unsolved.{NoSolutionWithin}
 use Rattle.sy_loop_candidate.specs.Known.{IsKnown}
 use Rattle.sy_loop_candidate.proofs.Items.{has_place}
 use Rattle.sy_loop_laws.specs.Agreeing.{AssumptionsAskNothing}
 use Rattle.sy_loop_laws.specs.Merging.{AreChosen, AreCovering}
-use Rattle.sy_loop_laws.specs.Refuting.{AreDoneBelow}
+use Rattle.sy_loop_laws.specs.Refuting.{AllRefuted, AllTreesViolate, AreDoneBelow}
 use Rattle.sy_loop_laws.proofs.Done as done
-use Rattle.sy_loop.specs.Banks.{AreBanks, IsBankOf}
+use Rattle.sy_loop_laws.proofs.Refuted.{next_refuted}
+use Rattle.sy_loop.specs.Banks.{AreBanks}
 use Rattle.sy_loop.specs.Dropping.{AreWhole}
 use Rattle.sy_loop.specs.Levels.{AreKept, AllAreRefuted}
+use Rattle.sy_loop.specs.Trees.{TreesFollow}
 
 -- the same of what is known
-pub same_done : (question : Question) (history history' : List Counterexample) (asked asked' : Asked) (n : ℕ) → history' ≡ history → asked' ≡ asked → AreDoneBelow question history asked n → AreDoneBelow question history' asked' n
-same_done question history history' asked asked' n same same' below =
-    subst (λ h. AreDoneBelow question h asked' n) (sym same) (subst (λ a. AreDoneBelow question history a n) (sym same') below)
+pub same_done : (reach : Reach) (question : Question) (history history' : List Counterexample) (asked asked' : Asked) (n : ℕ) → history' ≡ history → asked' ≡ asked → AreDoneBelow reach question history asked n → AreDoneBelow reach question history' asked' n
+same_done reach question history history' asked asked' n same same' below =
+    subst (λ h. AreDoneBelow reach question h asked' n) (sym same) (subst (λ a. AreDoneBelow reach question history a n) (sym same') below)
+
+-- what follows of trees does so of the same
+pub same_follow : (reach : Reach) (question : Question) (history history' : List Counterexample) (asked asked' : Asked) (n : ℕ) (banks : List Merged) → history' ≡ history → asked' ≡ asked → TreesFollow reach question history asked n banks →
+    TreesFollow reach question history' asked' n banks
+same_follow reach question history history' asked asked' n banks same same' follow =
+    subst (λ h. TreesFollow reach question h asked' n banks) (sym same) (subst (λ a. TreesFollow reach question history a n banks) (sym same') follow)
 
 -- each kept term of the banks' start symbols stands at its size
 abbrev AreSized : List Merged → Type 0
@@ -67,19 +73,27 @@ module _ (question : Question) (limits : Limits) (history : List Counterexample)
   none_dropped : AreWhole banks → (function : ℕ) (bank : Merged) → slice_get banks function ≡ Some bank → bank.dropped ≡ None
   none_dropped whole function bank at = All-contains (λ (b : Merged). b.dropped ≡ None) banks bank whole (has_place banks function bank at)
 
-  -- the size is done
-  pub next_done : AssumptionsAskNothing question → AreBanks question limits asked level banks → AreWhole banks → AllAreRefuted question history asked [] banks level → AreDoneBelow question history asked level → AreDoneBelow question history asked (level + 1)
-  next_done assumes are whole refuted below =
-      done.next question history asked level banks assumes (are_covering are (none_dropped whole)) (λ chosen kept same. refuted.each (terms chosen) (chosen_kept banks chosen level (sized are) kept same)) below
+  -- all members of the size are refuted
+  level_refuted : (reach : Reach) → AssumptionsAskNothing question → AreBanks question limits asked level banks → AreWhole banks → AllAreRefuted question history asked [] banks level → AreDoneBelow reach question history asked level →
+      AllRefuted question history asked level
+  level_refuted reach assumes are whole refuted below =
+      next_refuted question history asked level banks assumes (are_covering are (none_dropped whole)) below.refuted (λ chosen kept same. refuted.each (terms chosen) (chosen_kept banks chosen level (sized are) kept same))
+
+  module _ (reach : Reach) (assumes : AssumptionsAskNothing question) (are : AreBanks question limits asked level banks) (whole : AreWhole banks) (refuted : AllAreRefuted question history asked [] banks level)
+      (follow : TreesFollow reach question history asked level banks) (below : AreDoneBelow reach question history asked level) where
+    -- and so are all conditional trees in its bound
+    pub trees_done : AllTreesViolate reach question history level
+    trees_done = follow (are_covering are (none_dropped whole)) (level_refuted reach assumes are whole refuted below)
+
+    -- the size is done
+    pub next_done : AreDoneBelow reach question history asked (level + 1)
+    next_done = done.next question history asked level reach (level_refuted reach assumes are whole refuted below) trees_done below
 
 -- no bodies in bound solve the problem
-pub nothing_within : (reach : Reach) (question : Question) (limits : Limits) (history : List Counterexample) (asked : Asked) → reach ≡ Sizes → IsKnown reach question limits history asked → AreDoneBelow question history asked (limits.size + 1) →
+pub nothing_within : (reach : Reach) (question : Question) (limits : Limits) (history : List Counterexample) (asked : Asked) → (reach ≡ Beyond → ⊥) → IsKnown reach question limits history asked → AreDoneBelow reach question history asked (limits.size + 1) →
     NoSolutionWithin reach question limits.size
-nothing_within reach question limits history asked same known below =
-    subst (λ r. NoSolutionWithin r question limits.size) (sym same)
-    (done.ends question limits.size limits.rounds limits.size history asked (subst (λ r. IsHonest r question limits.size limits.rounds history) same known.honest) below)
+nothing_within reach question limits history asked strict known below = done.ends reach question limits.size limits.rounds limits.size history asked strict known.honest below
 
 -- the size is open
-pub level_open : (reach : Reach) (question : Question) (limits : Limits) (history : List Counterexample) (asked : Asked) (level : ℕ) → reach ≡ Sizes → level ≤ limits.size → AreDoneBelow question history asked level → IsOpenNumber reach question limits.size history level
-level_open reach question limits history asked level same small below =
-    subst (λ r. IsOpenNumber r question limits.size history level) (sym same) (done.opens question limits.size level history asked small below)
+pub level_open : (reach : Reach) (question : Question) (limits : Limits) (history : List Counterexample) (asked : Asked) (level : ℕ) → level ≤ limits.size → AreDoneBelow reach question history asked level → IsOpenNumber reach question limits.size history level
+level_open reach question limits history asked level small below = done.opens reach question limits.size level history asked small below

@@ -1,9 +1,10 @@
 pub mod Choosing
 pub mod Refuting
-pub mod Going
 pub mod Summing
 pub mod Building
 pub mod Rounding
 pub mod Carrying
 pub mod Observed
 pub mod Completing
+pub mod Least
+pub mod Following

@@ -14,15 +14,16 @@ use Rattle.sy_bank_rows.specs.Banks.{Entry, Merged}
 use Rattle.sy_bank.specs.Bank.{merged_of}
 use Rattle.sy_bank.specs.declared.bank.Bank.{Bank}
 use Rattle.sy_loop_bounds.specs.declared.reach.Reach.{Reach}
-use Rattle.sy_loop_history.specs.Histories.{IsOpenNumber}
 use Rattle.sy_loop_history.specs.Unsolved.{NoSolutionWithin}
 use Rattle.sy_loop_history.specs.Stored.{history_of}
 use Rattle.sy_loop_candidate.specs.declared.step.Known.{Known}
-use Rattle.sy_loop_candidate.specs.declared.step.Step.{Step}
 use Rattle.sy_loop_laws.specs.Refuting.{AreDoneBelow}
+use Rattle.sy_loop_outcome.specs.declared.outcome.Outcome.{Outcome}
 use Rattle.sy_loop.specs.Banks.{AreBanks, AreBuilt, IsCarried, AreCarried}
-use Rattle.sy_loop.specs.Levels.{AreHonest, IsBegun, AreChoices, HaveRows, Goes, AllAreRefuted}
-use Rattle.sy_loop.specs.Rounds.{AreDone, Carries, Follows, Rounds}
+use Rattle.sy_loop.specs.Levels.{AreHonest, IsBegun, AreChoices, HaveRows, AllAreRefuted}
+use Rattle.sy_loop.specs.Least.{FindsLeast}
+use Rattle.sy_loop.specs.Trees.{TreesFollow}
+use Rattle.sy_loop.specs.Rounds.{AreDone, Carries, EndsLeast, Follows, Rounds}
 use Rattle.sy_loop.specs.declared.banks.Banks.{Banks}
 use Rattle.sy_loop.specs.declared.round.Round.{Round}
 
@@ -46,12 +47,6 @@ module _ {T N : Type 0} (theory : TheoryOf T N) (problem : Problem T N) where
   abbrev pub AllAreRefutedFor : Known T N → List Expr → List Merged → ℕ → Type 0
   AllAreRefutedFor known = AllAreRefuted (question_of theory.denotes problem) (history_of theory.denotes known.stored) known.points
 
-  abbrev pub AreDoneBelowFor : Known T N → ℕ → Type 0
-  AreDoneBelowFor known = AreDoneBelow (question_of theory.denotes problem) (history_of theory.denotes known.stored) known.points
-
-  abbrev pub AreDoneFor : {P S : Type 0} → Round T P S N → Type 0
-  AreDoneFor = AreDone theory.denotes (question_of theory.denotes problem)
-
 module _ {T N : Type 0} (theory : TheoryOf T N) (problem : Problem T N) (limits : Limits) where
   abbrev pub AreBanksFor : Asked → ℕ → List (Bank T N) → Type 0
   AreBanksFor points level banks = AreBanks (question_of theory.denotes problem) limits points level (map (merged_of theory.denotes) banks)
@@ -65,26 +60,35 @@ module _ {T N : Type 0} (theory : TheoryOf T N) (problem : Problem T N) (limits 
   abbrev pub CarriesFor : {P S : Type 0} → Round T P S N → Type 0
   CarriesFor = Carries theory.owned theory.denotes problem limits
 
-  abbrev pub FollowsFor : {P S : Type 0} → ℕ → Round T P S N → Type 0
-  FollowsFor = Follows theory.denotes (question_of theory.denotes problem) limits
-
 -- a bank that an earlier round left for this function
 abbrev pub IsCarriedFor : {T N : Type 0} → TheoryOf T N → Problem T N → Wanted T N → Limits → ℕ → Bank T N → Type 0
 IsCarriedFor theory problem = IsCarried theory.owned theory.denotes problem
 
-module _ {T N : Type 0} (theory : TheoryOf T N) (reach : Reach) (problem : Problem T N) (limits : Limits) where
-  abbrev pub IsOpenFor : Known T N → ℕ → Type 0
-  IsOpenFor known = IsOpenNumber reach (question_of theory.denotes problem) limits.size (history_of theory.denotes known.stored)
+module _ {T N : Type 0} (theory : TheoryOf T N) (reach : Reach) (problem : Problem T N) where
+  abbrev pub AreDoneBelowFor : Known T N → ℕ → Type 0
+  AreDoneBelowFor known = AreDoneBelow reach (question_of theory.denotes problem) (history_of theory.denotes known.stored) known.points
 
+  abbrev pub AreDoneFor : {P S : Type 0} → Round T P S N → Type 0
+  AreDoneFor = AreDone theory.denotes reach (question_of theory.denotes problem)
+
+  abbrev pub TreesFollowFor : Known T N → ℕ → List (Bank T N) → Type 0
+  TreesFollowFor known level banks =
+      TreesFollow reach (question_of theory.denotes problem) (history_of theory.denotes known.stored) known.points level (map (merged_of theory.denotes) banks)
+
+  abbrev pub FindsLeastFor : {P S : Type 0} → Outcome T P S N → Type 0
+  FindsLeastFor = FindsLeast theory.denotes reach (question_of theory.denotes problem)
+
+  abbrev pub EndsLeastFor : {P S : Type 0} → Round T P S N → Type 0
+  EndsLeastFor = EndsLeast theory.denotes reach (question_of theory.denotes problem)
+
+module _ {T N : Type 0} (theory : TheoryOf T N) (reach : Reach) (problem : Problem T N) (limits : Limits) where
   abbrev pub IsUnsolvedFor : Type 0
   IsUnsolvedFor = NoSolutionWithin reach (question_of theory.denotes problem) limits.size
 
-module _ {T N D P S : Type 0} (theory : TheoryOf T N) (solver : DecideOf D T P S N) (reach : Reach) (problem : Problem T N) (limits : Limits) where
-  abbrev pub GoesFor : Known T N → Known T N → Step T P S N → Type 0
-  GoesFor before after =
-      Goes theory.owned theory.denotes solver.accepted solver.budget solver.shows reach (question_of theory.denotes problem) limits
-      (history_of theory.denotes before.stored) before.points (history_of theory.denotes after.stored) after.points
+  abbrev pub FollowsFor : {P S : Type 0} → ℕ → Round T P S N → Type 0
+  FollowsFor = Follows theory.denotes reach (question_of theory.denotes problem) limits
 
+module _ {T N D P S : Type 0} (theory : TheoryOf T N) (solver : DecideOf D T P S N) (reach : Reach) (problem : Problem T N) (limits : Limits) where
   abbrev pub RoundsFor : Known T N → ℕ → Round T P S N → Type 0
   RoundsFor known =
       Rounds theory.owned theory.denotes solver.accepted solver.budget solver.shows reach (question_of theory.denotes problem) limits (history_of theory.denotes known.stored) known.points

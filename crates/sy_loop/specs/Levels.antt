@@ -1,28 +1,17 @@
 -- All bodies of one size together.
-use Rattle.std.specs.Prelude.{ℕ, Bool, ◌+◌, ◌≡◌, ◌<◌, ◌≤◌, List, [], ◌∷◌, ◌++◌, slice_get, Some, length, All}
+use Rattle.std.specs.Prelude.{ℕ, ◌+◌, ◌≡◌, ◌≤◌, List, [], ◌∷◌, ◌++◌, slice_get, Some, length, All}
 use Rattle.sy_terms.specs.Values.{Val}
 use Rattle.sy_terms.specs.Expr.{Expr}
 use Rattle.sy_terms.specs.Fitting.{Scope}
 use Rattle.sy_terms.specs.Meaning.{functions}
-use Rattle.sy_terms.specs.declared.op.Op.{Op}
 use Rattle.sy_grammar_base.specs.Trees.{Tree, Derives, tree_size}
 use Rattle.sy_grammar_base.specs.Questions.{Goal, Question}
-use Rattle.sy_query_limits.specs.declared.FailName.{FailName}
-use Rattle.sy_query_limits.specs.declared.Limits.{Limits}
-use Rattle.sy_query_base.specs.Asked.{Query}
 use Rattle.sy_points.specs.Asked.{Asked, of_function}
 use Rattle.sy_bank_rows.specs.Banks.{Entry, Merged, IsHonest, IsKept, kept_at}
 use Rattle.sy_bank_rows.specs.Columns.{HasRow}
 use Rattle.sy_bank_rows.specs.Covering.{terms}
-use Rattle.sy_loop_bounds.specs.declared.reach.Reach.{Reach}
 use Rattle.sy_loop_history.specs.Histories.{Counterexample}
-use Rattle.sy_loop_candidate.specs.Known.{left}
-use Rattle.sy_loop_candidate.specs.Steps.{IsEnd}
 use Rattle.sy_loop_history.specs.Trials.{IsRefuted}
-use Rattle.sy_loop_laws.specs.Refuting.{Grows}
-use Rattle.sy_loop_candidate.specs.declared.step.Step.{Step}
-use Rattle.sy_loop_candidate.specs.declared.step.Step.TheVariants.{Next, Again}
-use Rattle.sy_loop_candidate.specs.declared.step.Step.TheVariants as steps
 
 -- the bank of the function's grammar is honest, over the function's tuples, and its rows are of values that terms fit with
 pub record IsHonestOf (scope : Scope) (question : Question) (asked : Asked) (function : ℕ) (bank : Merged) : Type 0 where
@@ -71,17 +60,3 @@ AreKept (bank ∷ banks) (body ∷ bodies) total =
 -- the bodies that begin with these, and go on with kept terms of the banks whose sizes sum to this, are refuted
 pub record AllAreRefuted (question : Question) (history : List Counterexample) (asked : Asked) (chosen : List Expr) (banks : List Merged) (total : ℕ) : Type 0 where
   pub each : (bodies : List Expr) → AreKept banks bodies total → IsRefuted question history asked (chosen ++ bodies)
-
--- a fact where nothing new is learned
-abbrev pub OnNext : {T P S N : Type 0} → Type 0 → Step T P S N → Type 0
-OnNext fact Next = fact
-OnNext fact Again = Unit {0}
-OnNext fact (steps.End end) = Unit {0}
-
--- what comes of bodies that are tried, by what is known before and after
-abbrev pub Goes : {T P S N : Type 0} → (Op → Bool) → (N → Val) → (Query → P → Type 0) → (S → FailName) → (Query → Limits → FailName → S → Type 0) → Reach → Question → Limits → List Counterexample → Asked → List Counterexample → Asked → Step T P S N → Type 0
-Goes owned number accepted budget shows reach question limits history asked history' asked' Next = (history' ≡ history) × (asked' ≡ asked)
-Goes owned number accepted budget shows reach question limits history asked history' asked' Again =
-    (left limits history' asked' < left limits history asked) × Grows history asked history' asked' × (length history' < limits.rounds)
-Goes owned number accepted budget shows reach question limits history asked history' asked' (steps.End end) =
-    IsEnd owned number accepted budget shows reach question limits history' asked' end

@@ -4,7 +4,8 @@ ghost use Rattle.sy_bank.specs.Bank.{merged_of};
 ghost use Rattle.sy_loop.specs.Dropping.{AreWhole, IsPlaced, IsDroppedBy};
 ghost use Rattle.sy_loop_candidate.specs.Clauses.{IsKnownFor};
 ghost use Rattle.sy_loop_outcome.specs.Right.{LeavesFor};
-ghost use Rattle.sy_loop.specs.Clauses.{AreBanksFor, IsOpenFor};
+ghost use Rattle.sy_loop.specs.Clauses.{AreBanksFor};
+ghost use Rattle.sy_loop_join.specs.Clauses.{IsOpenFor};
 
 use std::alloc::Global;
 use sy_bank::Bank;

@@ -5,10 +5,11 @@ ghost use Rattle.sy_bank.specs.Bank.{merged_of};
 ghost use Rattle.sy_bank_rows.specs.Covering.{terms};
 ghost use Rattle.sy_bank_rows.specs.Stored.{entry_of, entries_of, chosen_of};
 ghost use Rattle.sy_loop_candidate.specs.Traces.{Grows};
-ghost use Rattle.sy_loop.specs.Levels.{OnNext};
+ghost use Rattle.sy_loop_join.specs.Going.{OnNext};
 ghost use Rattle.sy_grammar_base.specs.Fits.{ProblemFits};
 ghost use Rattle.sy_loop_candidate.specs.Clauses.{IsKnownFor, StepsFor};
-ghost use Rattle.sy_loop.specs.Clauses.{AreHonestFor, HaveRowsFor, IsBegunFor, AreChoicesFor, AllAreRefutedFor, GoesFor, IsOpenFor, AreWithinFor};
+ghost use Rattle.sy_loop.specs.Clauses.{AreHonestFor, HaveRowsFor, IsBegunFor, AreChoicesFor, AllAreRefutedFor, AreWithinFor};
+ghost use Rattle.sy_loop_join.specs.Clauses.{GoesFor, IsOpenFor};
 
 use std::alloc::Global;
 use sy_bank::Bank;

@@ -8,5 +8,7 @@ mod outcome;
 mod round;
 mod search;
 mod sizes;
+mod trees;
 
-pub use search::synthesise;
+pub use search::{synthesise, synthesise_least};
+pub use sy_loop_outcome::{FailCause, LoopRange, Outcome, fail_name};

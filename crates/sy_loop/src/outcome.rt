@@ -1,7 +1,9 @@
 // The outcomes of a search that ends.
 ghost use Rattle.std.specs.Prelude.{◌≡◌, IfOk};
-ghost use Rattle.sy_loop_candidate.specs.Clauses.{IsEndFor};
+ghost use Rattle.sy_loop_bounds.specs.declared.reach.Reach.TheVariants.{Beyond};
+ghost use Rattle.sy_loop_candidate.specs.Clauses.{IsEndFor, IsKnownFor};
 ghost use Rattle.sy_loop_outcome.specs.Right.{IsRightFor};
+ghost use Rattle.sy_loop.specs.Clauses.{FindsLeastFor};
 
 use std::alloc::Global;
 use sy_grammar_base::Problem;
@@ -21,8 +23,11 @@ pub(crate) fn ended<T: Theory, D: Decide<T>>(
     end: End<T, D::Proof, D::Spent>,
     known: Known<T>,
 ) -> Result<Outcome<T, D::Proof, D::Spent>, Want>
-    requires { IsEndFor T.Theory D.Decide _reach _problem.now _limits.now known end }
-    ensures { IfOk result (IsRightFor T.Theory D.Decide _reach _problem.now _limits.now) }
+    requires strict { _reach ≡ Beyond → ⊥ }
+    requires known { IsKnownFor T.Theory _reach _problem.now _limits.now known }
+    requires end { IsEndFor T.Theory D.Decide _reach _problem.now _limits.now known end }
+    ensures right { IfOk result (IsRightFor T.Theory D.Decide _reach _problem.now _limits.now) }
+    ensures least { IfOk result (FindsLeastFor T.Theory _reach _problem.now) }
 {
     match end {
         End::Found(bodies, proof) => Ok(Outcome::Found(bodies, proof)),

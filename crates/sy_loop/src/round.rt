@@ -4,19 +4,21 @@ ghost use Rattle.sy_bank.specs.Bank.{merged_of};
 ghost use Rattle.sy_grammar_base.specs.Fits.{ProblemFits};
 ghost use Rattle.sy_loop_candidate.specs.Clauses.{IsKnownFor};
 ghost use Rattle.sy_loop_outcome.specs.Right.{IsRightFor};
-ghost use Rattle.sy_loop.specs.Clauses.{AreDoneBelowFor, AreDoneFor, AreBanksFor, AreCarriedFor, CarriesFor, FollowsFor, RoundsFor, AllAreRefutedFor, IsUnsolvedFor};
-ghost use Rattle.sy_loop_bounds.specs.declared.reach.Reach.TheVariants.{Sizes};
+ghost use Rattle.sy_loop_bounds.specs.declared.reach.Reach.TheVariants.{Beyond};
+ghost use Rattle.sy_loop_join.specs.Clauses.{IsPlannedFor};
+ghost use Rattle.sy_loop.specs.Clauses.{AreDoneBelowFor, AreDoneFor, AreBanksFor, AreCarriedFor, CarriesFor, EndsLeastFor, FindsLeastFor, FollowsFor, RoundsFor, AllAreRefutedFor, IsUnsolvedFor, TreesFollowFor};
 
 use crate::banks::{Banks, take_banks};
 use crate::dropped::dropped_term;
-use crate::level::try_level;
 use crate::outcome::ended;
 use crate::sizes::are_at_most;
+use crate::trees::try_size;
 use std::alloc::Global;
 use sy_bank::Bank;
 use sy_grammar_base::Problem;
 use sy_loop_bounds::Reach;
 use sy_loop_candidate::{Known, Step};
+use sy_loop_join::Plan;
 use sy_loop_outcome::{FailCause, Outcome};
 use sy_query_decide::Decide;
 use sy_query_limits::Limits;
@@ -31,7 +33,8 @@ pub(crate) enum Round<T: Theory, P: Drop, S: Drop> {
     Ends(Outcome<T, P, S>),
 }
 
-/// Tries the bodies whose sizes sum to `level`. Banks of an earlier round are carried on.
+/// Tries the bodies whose sizes sum to `level`, and conditional trees over kept terms of sizes up to it. Banks of an earlier
+/// round are carried on.
 pub(crate) fn run_round<T: Theory, D: Decide<T>>(
     alloc: Global,
     problem: &Problem<T>,
@@ -39,22 +42,25 @@ pub(crate) fn run_round<T: Theory, D: Decide<T>>(
     reach: Reach,
     functions: u32,
     decide: &mut D,
+    plan: Option<&Plan<T>>,
     known: Known<T>,
     carried: Vec<Bank<T>>,
     level: u32,
 ) -> Result<Round<T, D::Proof, D::Spent>, Want>
     requires problem { ProblemFits T.Theory problem.now }
-    requires reach { reach ≡ Sizes }
+    requires strict { reach ≡ Beyond → ⊥ }
+    requires plan { IsPlannedFor T.Theory reach problem.now plan }
     requires functions { functions ≡ length problem.now.wanted }
     requires known { IsKnownFor T.Theory reach problem.now limits.now known }
     requires room { length known.stored.items < limits.now.rounds }
     requires level { level ≤ limits.now.size }
     requires carried { AreCarriedFor T.Theory problem.now limits.now level carried.items }
-    requires done { AreDoneBelowFor T.Theory problem.now known level }
+    requires done { AreDoneBelowFor T.Theory reach problem.now known level }
     ensures round { IfOk result (RoundsFor T.Theory D.Decide reach problem.now limits.now known level) }
     ensures carries { IfOk result (CarriesFor T.Theory problem.now limits.now) }
-    ensures done { IfOk result (AreDoneFor T.Theory problem.now) }
-    ensures follows { IfOk result (FollowsFor T.Theory problem.now limits.now level) }
+    ensures done { IfOk result (AreDoneFor T.Theory reach problem.now) }
+    ensures follows { IfOk result (FollowsFor T.Theory reach problem.now limits.now level) }
+    ensures least { IfOk result (EndsLeastFor T.Theory reach problem.now) }
 {
     let mut known = known;
     let taken = take_banks(
@@ -68,8 +74,8 @@ pub(crate) fn run_round<T: Theory, D: Decide<T>>(
         }
     };
     let all = banks.as_slice();
-    match try_level(
-        alloc, problem, limits, reach, decide, all, level, &mut known,
+    match try_size(
+        alloc, problem, limits, reach, decide, plan, all, level, &mut known,
     )? {
         Step::Next => {}
         Step::Again => return Ok(Round::Goes(known, banks, level)),
@@ -84,7 +90,7 @@ pub(crate) fn run_round<T: Theory, D: Decide<T>>(
     Ok(round)
 }
 
-/// What follows where all bodies whose sizes sum to `level` are refuted: the end, where a bank dropped a term or this was
+/// What follows where all bodies whose sizes sum to `level` are refuted, and conditional trees with them: the end, where a bank dropped a term or this was
 /// the greatest size; else the next size.
 fn after_level<T: Theory, D: Decide<T>>(
     alloc: Global,
@@ -97,19 +103,21 @@ fn after_level<T: Theory, D: Decide<T>>(
     level: u32,
 ) -> Result<Round<T, D::Proof, D::Spent>, Want>
     requires problem { ProblemFits T.Theory problem.now }
-    requires reach { reach ≡ Sizes }
+    requires strict { reach ≡ Beyond → ⊥ }
     requires functions { functions ≡ length problem.now.wanted }
     requires known { IsKnownFor T.Theory reach problem.now limits.now known }
     requires room { length known.stored.items < limits.now.rounds }
     requires level { level ≤ limits.now.size }
     requires banks { AreBanksFor T.Theory problem.now limits.now known.points level banks.items }
     requires carried { AreCarriedFor T.Theory problem.now limits.now level banks.items }
-    requires done { AreDoneBelowFor T.Theory problem.now known level }
+    requires done { AreDoneBelowFor T.Theory reach problem.now known level }
     requires refuted { AllAreRefutedFor T.Theory problem.now known [] (map (merged_of T.denotes) banks.items) level }
+    requires trees { TreesFollowFor T.Theory reach problem.now known level banks.items }
     ensures round { IfOk result (RoundsFor T.Theory D.Decide reach problem.now limits.now known level) }
     ensures carries { IfOk result (CarriesFor T.Theory problem.now limits.now) }
-    ensures done { IfOk result (AreDoneFor T.Theory problem.now) }
-    ensures follows { IfOk result (FollowsFor T.Theory problem.now limits.now level) }
+    ensures done { IfOk result (AreDoneFor T.Theory reach problem.now) }
+    ensures follows { IfOk result (FollowsFor T.Theory reach problem.now limits.now level) }
+    ensures least { IfOk result (EndsLeastFor T.Theory reach problem.now) }
 {
     let all = banks.as_slice();
     if let Some(left) = dropped_term(
@@ -133,10 +141,11 @@ fn exhausted<T: Theory, D: Decide<T>>(
     reach: Reach,
 ) -> Result<Outcome<T, D::Proof, D::Spent>, Want>
     requires { IsUnsolvedFor T.Theory reach problem.now limits.now }
-    ensures { IfOk result (IsRightFor T.Theory D.Decide reach problem.now limits.now) }
+    ensures right { IfOk result (IsRightFor T.Theory D.Decide reach problem.now limits.now) }
+    ensures least { IfOk result (FindsLeastFor T.Theory reach problem.now) }
 {
     if are_at_most(alloc, problem, limits.size)? {
-        Ok(Outcome::Fail(FailCause::Exhausted))
+        Ok(Outcome::Infeasible)
     } else {
         Ok(Outcome::Fail(FailCause::Size))
     }

@@ -1,14 +1,16 @@
 // The search.
-ghost use Rattle.std.specs.Prelude.{IfOk};
+ghost use Rattle.std.specs.Prelude.{◌≡◌, IfOk};
 ghost use Rattle.sy_grammar_base.specs.Fits.{ProblemFits};
 ghost use Rattle.sy_loop_outcome.specs.Right.{IsRightFor};
-ghost use Rattle.sy_loop_bounds.specs.declared.reach.Reach.TheVariants.{Sizes};
+ghost use Rattle.sy_loop_bounds.specs.declared.reach.Reach.TheVariants.{Sizes, Joins, Beyond};
+ghost use Rattle.sy_loop.specs.Clauses.{FindsLeastFor};
 
 use crate::round::{Round, run_round};
 use std::alloc::{AllocError, Global};
 use sy_grammar_base::Problem;
 use sy_loop_bounds::Reach;
 use sy_loop_candidate::Known;
+use sy_loop_join::plan_of;
 use sy_loop_outcome::{FailCause, Outcome};
 use sy_points::{Points, Stored};
 use sy_query_decide::Decide;
@@ -16,9 +18,10 @@ use sy_query_limits::Limits;
 use sy_terms::{Theory, Want};
 
 /// Bodies that solve the problem, with the solver's proof; or why the search ended without them. Sizes ascend from 0 to
-/// the greatest. At each the bodies of kept terms whose sizes sum to it are tried; where something new is learned, the
-/// size begins anew. The search ends after a size at which a bank dropped a term. `Want` comes also where there are more
-/// functions to be found than numbers of 32 bits.
+/// the greatest. At each the bodies of kept terms whose sizes sum to it are tried; then, where one function is to be found,
+/// the problem is pointwise and its grammar has a rule for conditional trees, a tree over kept terms of sizes up to it.
+/// Where something new is learned, the size begins anew. The search ends after a size at which a bank dropped a term.
+/// `Want` comes also where there are more functions to be found than numbers of 32 bits.
 pub fn synthesise<T: Theory, D: Decide<T>>(
     alloc: Global,
     problem: &Problem<T>,
@@ -26,7 +29,41 @@ pub fn synthesise<T: Theory, D: Decide<T>>(
     decide: &mut D,
 ) -> Result<Outcome<T, D::Proof, D::Spent>, Want>
     requires problem { ProblemFits T.Theory problem.now }
-    ensures { IfOk result (IsRightFor T.Theory D.Decide Sizes problem.now limits.now) }
+    ensures right { IfOk result (IsRightFor T.Theory D.Decide Joins problem.now limits.now) }
+    ensures least { IfOk result (FindsLeastFor T.Theory Joins problem.now) }
+{
+    let outcome = search(alloc, problem, limits, Reach::Joins, decide)?;
+    Ok(outcome)
+}
+
+/// The same without conditional trees: bodies that are found are members of the least sum of sizes of which any solve the
+/// problem, and the bound counts sums of sizes alone.
+pub fn synthesise_least<T: Theory, D: Decide<T>>(
+    alloc: Global,
+    problem: &Problem<T>,
+    limits: &Limits,
+    decide: &mut D,
+) -> Result<Outcome<T, D::Proof, D::Spent>, Want>
+    requires problem { ProblemFits T.Theory problem.now }
+    ensures right { IfOk result (IsRightFor T.Theory D.Decide Sizes problem.now limits.now) }
+    ensures least { IfOk result (FindsLeastFor T.Theory Sizes problem.now) }
+{
+    let outcome = search(alloc, problem, limits, Reach::Sizes, decide)?;
+    Ok(outcome)
+}
+
+/// The search that reads its bound by this reach.
+fn search<T: Theory, D: Decide<T>>(
+    alloc: Global,
+    problem: &Problem<T>,
+    limits: &Limits,
+    reach: Reach,
+    decide: &mut D,
+) -> Result<Outcome<T, D::Proof, D::Spent>, Want>
+    requires problem { ProblemFits T.Theory problem.now }
+    requires strict { reach ≡ Beyond → ⊥ }
+    ensures right { IfOk result (IsRightFor T.Theory D.Decide reach problem.now limits.now) }
+    ensures least { IfOk result (FindsLeastFor T.Theory reach problem.now) }
 {
     if problem.wanted.len() > u32::MAX as usize {
         return Err(AllocError);
@@ -39,19 +76,13 @@ pub fn synthesise<T: Theory, D: Decide<T>>(
     if limits.rounds == 0 {
         return Ok(Outcome::Fail(FailCause::Rounds(known.stored)));
     }
+    let found = plan_of(alloc, problem, reach)?;
+    let plan = found.as_ref();
     let mut banks = Vec::new(alloc);
     let mut level = 0;
     'rounds: loop {
         match run_round(
-            alloc,
-            problem,
-            limits,
-            Reach::Sizes,
-            functions,
-            decide,
-            known,
-            banks,
-            level,
+            alloc, problem, limits, reach, functions, decide, plan, known, banks, level,
         )? {
             Round::Goes(more, carried, next) => {
                 known = more;

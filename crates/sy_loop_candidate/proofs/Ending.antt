@@ -17,9 +17,8 @@ use Rattle.sy_query_limits.specs.declared.Limits.{Limits}
 use Rattle.sy_grammar_base.specs.Trees.{tree_size}
 use Rattle.sy_grammar_base.specs.Questions.{Goal, Question, signatures}
 use Rattle.sy_grammar_base.specs.Solving.{IsTrueUnder, Meets, AreMembers, AreWithin}
-use Rattle.sy_query_base.specs.Queries.{Violates}
+use Rattle.sy_query_base.specs.Queries.{violating, Violates, IsViolation}
 use Rattle.sy_query_base.specs.Asked.{Query, Satisfies, IsNever}
-use Rattle.sy_query_build.specs.Violating.{violating, IsViolation}
 use Rattle.sy_points.specs.Asked.{Asked, of_function, AreDistinct}
 use Rattle.sy_points.specs.declared.stored.Stored.{Stored}
 use Rattle.sy_loop_bounds.specs.Bounds.{IsJoinedWithin}

@@ -1,5 +1,5 @@
 -- The problem fits, and so do the members of its grammar.
-use Rattle.std.specs.Prelude.{ℤ, true, Bool, List, [], ◌∷◌, ◌++◌, ◌≡◌, ◌≤◌, refl, map, Option, Some, None, ℕ}
+use Rattle.std.specs.Prelude.{ℤ, Bool, List, [], ◌∷◌, ◌++◌, ◌≡◌, ◌≤◌, refl, map, Option, Some, None, ℕ}
 use Rattle.std.proofs.Common.{ap, arith, inl, ◌∙◌, subst, sym}
 use Rattle.std.proofs.lemmas.List.Elements.{All-nil, All-cons}
 use Rattle.sy_terms.specs.Values.{Val, Whole, Truth}
@@ -28,12 +28,7 @@ use Rattle.sy_loop_history.specs.Histories.{Counterexample, IsCandidate}
 use Rattle.sy_loop_candidate_tests.specs.Posed as posed
 use Rattle.sy_grammar_base.specs.Fits.{GoalFits, QuestionFits, with_functions}
 
--- an operator at two and at three terms
-pub pair-is : {T N : Type 0} (number : N → Val) (operator : Op) (terms : Terms T N) (nothing one : List (Term T N)) (first second : Term T N) → nothing ≡ [] → one ≡ nothing ++ first ∷ [] → terms.items.items ≡ one ++ second ∷ []
-    → expr_of number (App operator terms) ≡ Apply operator (more (expr_of number first) (more (expr_of number second) none))
-pair-is {T} {N} number operator terms nothing one first second empty front whole =
-    expr_of-App number operator terms ∙ ap (λ (ts : List (Term T N)). Apply operator (exprs_of number ts)) (whole ∙ ap (λ (ts : List (Term T N)). ts ++ second ∷ []) (front ∙ ap (λ (ts : List (Term T N)). ts ++ first ∷ []) empty))
-
+-- an operator at three terms
 pub triple-is : {T N : Type 0} (number : N → Val) (operator : Op) (terms : Terms T N) (nothing one two : List (Term T N)) (test first second : Term T N) → nothing ≡ [] → one ≡ nothing ++ test ∷ [] → two ≡ one ++ first ∷ [] → terms.items.items ≡ two ++ second ∷ []
     → expr_of number (App operator terms) ≡ Apply operator (more (expr_of number test) (more (expr_of number first) (more (expr_of number second) none)))
 triple-is {T} {N} number operator terms nothing one two test first second empty front middle whole =

@@ -11,6 +11,7 @@ ghost use Rattle.sy_grammar_base.specs.Fits.{ProblemFits};
 use std::alloc::Global;
 use sy_grammar_base::{Grammar, Non, Problem, Rule, Wanted, well_formed};
 use sy_meaning_integers::IntTheory;
+use sy_query_fixtures::pair;
 use sy_terms::{Bodies, Fun, Op, Seq, Sort, Term, Terms, Theory, Value, Want};
 
 /// One truth value.
@@ -46,21 +47,6 @@ fn function(alloc: Global) -> Result<Option<Wanted<IntTheory>>, Want>
         sort: Sort::Bool,
         grammar,
     }))
-}
-
-/// The operator at two terms.
-fn pair(
-    alloc: Global,
-    operator: Op,
-    first: Term<IntTheory>,
-    second: Term<IntTheory>,
-) -> Result<Term<IntTheory>, Want>
-    ensures { IfOk result (λ term. expr_of Whole term ≡ Apply operator (more (expr_of Whole first) (more (expr_of Whole second) none))) }
-{
-    let mut terms = Terms::new(alloc);
-    terms.push(first)?;
-    terms.push(second)?;
-    Ok(Term::App(operator, terms))
 }
 
 /// `(ite test first second)`

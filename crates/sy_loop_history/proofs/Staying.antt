@@ -1,12 +1,12 @@
 -- What holds after a history holds after a longer one.
-use Rattle.std.specs.Prelude.{ℕ, zero, suc, List, [], ◌∷◌, ◌≡◌, ◌≤◌, ◌<◌, ◌⊎◌, take, slice_get, Some, All, Contains, refl}
-use Rattle.std.proofs.Common.{arith, ⊎_elim, inl, inr, subst, sym, ap, ◌∙◌}
-use Rattle.std.proofs.lemmas.List.Elements.{All-weaker, Contains-append_left}
+use Rattle.std.specs.Prelude.{ℕ, List, ◌≤◌, ◌⊎◌}
+use Rattle.std.proofs.Common.{arith, ⊎_elim, inl, inr}
+use Rattle.std.proofs.lemmas.List.Elements.{All-weaker}
 use Rattle.sy_terms.specs.Values.{Val}
 use Rattle.sy_terms.specs.Expr.{Expr}
 use Rattle.sy_grammar_base.specs.Questions.{Question}
 use Rattle.sy_grammar_base.specs.Solving.{AreWithin}
-use Rattle.sy_loop_bounds.specs.Bounds.{InBound, IsJoinedWithin}
+use Rattle.sy_loop_bounds.specs.Bounds.{InBound}
 use Rattle.sy_loop_bounds.specs.declared.reach.Reach.{Reach}
 use Rattle.sy_loop_bounds.specs.declared.reach.Reach.TheVariants.{Sizes, Joins, Beyond}
 use Rattle.sy_loop_history.specs.Histories.{Counterexample, IsViolatedIn, AreViolatedBelow, IsOpenNumber, IsMet, IsFewJoined, MayTry, IsCandidate, IsKept}

@@ -1,21 +1,19 @@
 -- What shows that a search met a budget. The number of rounds is met as soon as there are so many: where it is another
 -- budget, there were fewer.
-use Rattle.std.specs.Prelude.{ℕ, Bool, false, List, [], ◌++◌, ◌≡◌, ◌≤◌, ◌<◌, ◌+◌, length, map, slice_get, Some, None, All, Contains}
+use Rattle.std.specs.Prelude.{ℕ, Bool, false, List, [], ◌++◌, ◌≡◌, ◌<◌, ◌+◌, length, map, slice_get, Some, None, All, Contains}
 use Rattle.sy_terms.specs.Values.{Val}
 use Rattle.sy_terms.specs.Expr.{Expr}
 use Rattle.sy_terms.specs.Meaning.{function_from, functions, computable}
 use Rattle.sy_terms.specs.declared.op.Op.{Op}
 use Rattle.sy_grammar_base.specs.Trees.{Tree, Derives, tree_size}
 use Rattle.sy_grammar_base.specs.Questions.{Goal, Question}
-use Rattle.sy_query_base.specs.Queries.{query_of}
-use Rattle.sy_query_base.specs.Weights.{weight, query_scope}
+use Rattle.sy_query_base.specs.Queries.{violating}
 use Rattle.sy_points.specs.Asked.{AreDistinct}
 use Rattle.sy_bank_rows.specs.Banks as banks
 use Rattle.sy_bank_rows.specs.Banks.{Entry, Merged, IsNew, count}
 use Rattle.sy_query_limits.specs.declared.FailName.{FailName}
 use Rattle.sy_query_limits.specs.declared.Limits.{Limits}
-use Rattle.sy_query_base.specs.Asked.{Query}
-use Rattle.sy_query_build.specs.Violating.{violating}
+use Rattle.sy_query_base.specs.Asked.{Query, query_weight}
 use Rattle.sy_loop_bounds.specs.declared.reach.Reach.{Reach}
 use Rattle.sy_loop_history.specs.Histories.{Counterexample, IsCandidate, IsDue, IsHonest, IsMet, IsOpenNumber, trace}
 
@@ -41,7 +39,7 @@ pub record WeightMet (owned : Op → Bool) (reach : Reach) (question : Question)
   pub honest : IsHonest reach question size rounds history
   pub room : length history < rounds
   pub due : IsDue reach question size history bodies
-  pub heavy : limit < weight (query_scope owned) question.variables (query_of question bodies)
+  pub heavy : limit < query_weight owned (violating question bodies)
 
 -- a value on the way to the term doesn't fit, where the functions to be found have these bodies
 abbrev pub Leaves : Question → List Expr → List Val → Expr → Type 0

@@ -1,5 +1,5 @@
 -- The assignments of an honest history are pairwise distinct.
-use Rattle.std.specs.Prelude.{ℕ, zero, suc, ◌+◌, ◌++◌, ◌≡◌, ◌<◌, ◌⊎◌, List, [], ◌∷◌, length, map, take, slice_get, Some, Contains, refl}
+use Rattle.std.specs.Prelude.{ℕ, zero, suc, ◌≡◌, ◌<◌, List, [], ◌∷◌, map, take, slice_get, Some, Contains, refl}
 use Rattle.std.proofs.Common.{arith, ap, sym, subst, ◌∙◌}
 use Rattle.std.proofs.lemmas.List.Elements.{All-contains}
 use Rattle.std.proofs.lemmas.Option.{slice_get-get_or}

@@ -10,7 +10,7 @@ ghost use Rattle.sy_points.specs.Asked.{AreDistinct, Asked};
 ghost use Rattle.sy_bank_rows.specs.Banks.{Entry, Merged};
 ghost use Rattle.sy_bank_rows.specs.Covering.{sizes, terms};
 ghost use Rattle.sy_loop_bounds.specs.declared.reach.Reach.{Reach};
-ghost use Rattle.sy_loop_bounds.specs.declared.reach.Reach.TheVariants.{Sizes};
+ghost use Rattle.sy_loop_bounds.specs.declared.reach.Reach.TheVariants.{Sizes, Beyond};
 ghost use Rattle.sy_loop_history.specs.Histories.{AllViolate, Counterexample, IsCandidate, IsHonest, IsKept, IsMet, IsOpenNumber};
 ghost use Rattle.sy_loop_history.specs.Sizes.{AreAtMost};
 ghost use Rattle.sy_loop_history.specs.Unsolved.{NoSolution, NoSolutionWithin};
@@ -19,7 +19,7 @@ ghost use Rattle.sy_loop_history.specs.Trials.{IsRefuted};
 ghost use Rattle.sy_loop_history.specs.Truths.{IsViolated};
 ghost use Rattle.sy_loop_laws.specs.Agreeing.{Agree, AssumptionsAskNothing, AssumptionsFit};
 ghost use Rattle.sy_loop_laws.specs.Merging.{AreChosen, AreCovering, AreMerged};
-ghost use Rattle.sy_loop_laws.specs.Refuting.{AllRefuted, AreDoneBelow, Grows};
+ghost use Rattle.sy_loop_laws.specs.Refuting.{AllRefuted, AllTreesViolate, AreDoneBelow, Grows};
 
 /// Where bodies violate the problem by a constraint whose calls are among the tuples, all bodies that agree with them at
 /// the tuples violate it at that assignment, by the same calls.
@@ -64,19 +64,20 @@ pub fn nothing_refuted_solves()
     ensures exhausted { (reach : Reach) (question : Question) (n : ℕ) → AreAtMost question n → NoSolutionWithin reach question n → NoSolution question }
 {}
 
-/// What a search that ascends by sizes does: nothing is to be done below 0 (`begins`); a size is done where banks cover
-/// all derivations up to it, and kept terms of just this size together are refuted (`next`); what is done stays so
-/// (`stays`); the next size is open (`opens`); and nothing within what is done solves the problem (`ends`).
+/// What a search that ascends by sizes does: nothing is to be done below 0 (`begins`); a size is done where all members
+/// of such sizes are refuted, and all conditional trees in that bound (`next`); what is done stays so (`stays`); the next
+/// size is open (`opens`); and nothing within what is done solves the problem, unless the search passed over terms
+/// (`ends`).
 pub fn sizes_are_done()
-    ensures begins { (question : Question) (history : List Counterexample) (asked : Asked) → AreDoneBelow question history asked 0 }
-    ensures next { (question : Question) (history : List Counterexample) (asked : Asked) (n : ℕ) (banks : List Merged) → AssumptionsAskNothing question → AreCovering question asked n banks →
-        ((chosen : List Entry) → AreChosen banks chosen → sizes chosen ≡ n → IsRefuted question history asked (terms chosen)) →
-        AreDoneBelow question history asked n → AreDoneBelow question history asked (n + 1) }
-    ensures stays { (question : Question) (history history' : List Counterexample) (asked asked' : Asked) (n : ℕ) → Grows history asked history' asked' →
-        AreDoneBelow question history asked n → AreDoneBelow question history' asked' n }
-    ensures opens { (question : Question) (size n : ℕ) (history : List Counterexample) (asked : Asked) → n ≤ size → AreDoneBelow question history asked n → IsOpenNumber Sizes question size history n }
-    ensures ends { (question : Question) (size rounds n : ℕ) (history : List Counterexample) (asked : Asked) → IsHonest Sizes question size rounds history →
-        AreDoneBelow question history asked (n + 1) → NoSolutionWithin Sizes question n }
+    ensures begins { (reach : Reach) (question : Question) (history : List Counterexample) (asked : Asked) → AreDoneBelow reach question history asked 0 }
+    ensures next { (question : Question) (history : List Counterexample) (asked : Asked) (n : ℕ) (reach : Reach) → AllRefuted question history asked n → AllTreesViolate reach question history n →
+        AreDoneBelow reach question history asked n → AreDoneBelow reach question history asked (n + 1) }
+    ensures stays { (reach : Reach) (question : Question) (history history' : List Counterexample) (asked asked' : Asked) (n : ℕ) → Grows history asked history' asked' →
+        AreDoneBelow reach question history asked n → AreDoneBelow reach question history' asked' n }
+    ensures opens { (reach : Reach) (question : Question) (size n : ℕ) (history : List Counterexample) (asked : Asked) → n ≤ size → AreDoneBelow reach question history asked n →
+        IsOpenNumber reach question size history n }
+    ensures ends { (reach : Reach) (question : Question) (size rounds n : ℕ) (history : List Counterexample) (asked : Asked) → (reach ≡ Beyond → ⊥) → IsHonest reach question size rounds history →
+        AreDoneBelow reach question history asked (n + 1) → NoSolutionWithin reach question n }
 {}
 
 /// A number less than an open one is open (`lesser`), and what is open after a history, a candidate after it or met by it

@@ -24,9 +24,9 @@ use Rattle.sy_loop_history.specs.Unsolved.{NoSolution, NoSolutionWithin}
 use Rattle.sy_loop_outcome.specs.declared.outcome.LoopRange.{LoopRange}
 use Rattle.sy_loop_outcome.specs.declared.outcome.LoopRange.TheVariants.{Member, Checked}
 use Rattle.sy_loop_outcome.specs.declared.outcome.FailCause.{FailCause}
-use Rattle.sy_loop_outcome.specs.declared.outcome.FailCause.TheVariants.{Size, Exhausted, Rounds, Points, Bank, Weight, Decide, Range}
+use Rattle.sy_loop_outcome.specs.declared.outcome.FailCause.TheVariants.{Size, Rounds, Points, Bank, Weight, Decide, Range}
 use Rattle.sy_loop_outcome.specs.declared.outcome.Outcome.{Outcome}
-use Rattle.sy_loop_outcome.specs.declared.outcome.Outcome.TheVariants.{Found, Fail}
+use Rattle.sy_loop_outcome.specs.declared.outcome.Outcome.TheVariants.{Found, Infeasible, Fail}
 
 -- what left the 128 bits did so
 abbrev pub Leaves : {T N : Type 0} → (N → Val) → Reach → Question → Limits → List Counterexample → LoopRange T N → Type 0
@@ -38,7 +38,6 @@ Leaves number reach question limits history (Checked bodies assignment) =
 -- the cause holds
 abbrev pub Holds : {T S N : Type 0} → (Op → Bool) → (N → Val) → (S → FailName) → (Query → Limits → FailName → S → Type 0) → Reach → Question → Limits → FailCause T S N → Type 0
 Holds owned number budget shows reach question limits Size = NoSolutionWithin reach question limits.size × (AreAtMost question limits.size → ⊥)
-Holds owned number budget shows reach question limits Exhausted = NoSolution question × AreAtMost question limits.size
 Holds owned number budget shows reach question limits (Rounds stored) = RoundsMet reach question limits.size limits.rounds (history_of number stored)
 Holds owned number budget shows reach question limits (Points stored function bodies assignment tuples) =
     PointsMet reach question limits.size limits.rounds limits.points (history_of number stored) function (map (expr_of number) bodies) (vals_of number assignment) (tuples_of number tuples)
@@ -50,9 +49,10 @@ Holds owned number budget shows reach question limits (Decide stored bodies spen
     DecideMet budget shows reach question limits (history_of number stored) (map (expr_of number) bodies) spent
 Holds owned number budget shows reach question limits (Range stored left) = Leaves number reach question limits (history_of number stored) left
 
--- a solution with its proof, or a cause that holds
+-- a solution with its proof, or nonexistence, where the largest sizes sum to at most the bound, or a cause that holds
 abbrev pub IsRight : {T P S N : Type 0} → (Op → Bool) → (N → Val) → (Query → P → Type 0) → (S → FailName) → (Query → Limits → FailName → S → Type 0) → Reach → Question → Limits → Outcome T P S N → Type 0
 IsRight owned number accepted budget shows reach question limits (Found bodies proof) = IsSolution accepted question (map (expr_of number) bodies) proof
+IsRight owned number accepted budget shows reach question limits Infeasible = NoSolution question × AreAtMost question limits.size
 IsRight owned number accepted budget shows reach question limits (Fail cause) = Holds owned number budget shows reach question limits cause
 
 -- the same of a problem, for a theory and a solver

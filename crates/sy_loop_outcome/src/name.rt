@@ -13,7 +13,6 @@ pub fn fail_name<T: Theory, D: Decide<T>>(cause: &FailCause<T, D::Spent>) -> Fai
 {
     match cause {
         FailCause::Size => FailName::Size,
-        FailCause::Exhausted => FailName::Exhausted,
         FailCause::Rounds(_) => FailName::Rounds,
         FailCause::Points(_, _, _, _, _) => FailName::Points,
         FailCause::Bank(_, _, _, _, _) => FailName::Bank,

@@ -19,8 +19,6 @@ pub enum FailCause<T: Theory, S: Drop> {
     /// No bodies whose sizes sum to at most the greatest size solve the problem, and the largest sizes of the grammars
     /// don't sum to at most it.
     Size,
-    /// They do, and no bodies at all solve the problem.
-    Exhausted,
     /// There are as many pairs as there may be.
     Rounds(Stored<T>),
     /// The function of this number has as many tuples as it may, and these bodies ask for one more at this assignment.
@@ -40,5 +38,8 @@ pub enum FailCause<T: Theory, S: Drop> {
 pub enum Outcome<T: Theory, P: Drop, S: Drop> {
     /// A body for each function to be found, and the proof that they solve the problem.
     Found(Bodies<T>, P),
+    /// No bodies at all are members of the grammars and solve the problem; the largest sizes of the grammars sum to at
+    /// most the greatest size.
+    Infeasible,
     Fail(FailCause<T, S>),
 }

@@ -4,47 +4,9 @@ use std::test::Fail;
 use sy_loop_outcome::{FailCause, LoopRange, fail_name};
 use sy_meaning_integers::IntTheory;
 use sy_points::Stored;
-use sy_query_base::Query;
-use sy_query_decide::{Decide, Verdict};
-use sy_query_limits::{FailName, Limits};
-use sy_terms::{Seq, Term, Want};
-
-/// A solver that gives up on every query.
-#[derive(Drop)]
-struct Tired {}
-
-/// What is left of its work.
-#[derive(Drop)]
-struct Nothing {}
-
-impl Decide<IntTheory> for Tired {
-    type Proof = Nothing;
-
-    type Spent = Nothing;
-
-    ghost use Rattle.sy_query_limits.specs.declared.FailName.TheVariants.{Pivots};
-
-    ghost accepted = { λ _ _. ⊥ };
-
-    ghost budget = { λ _. Pivots };
-
-    ghost shows = { λ _ _ _ _. Unit {0} };
-
-    fn decide(
-        &mut self,
-        _alloc: Global,
-        _query: &Query<IntTheory>,
-        _limits: &Limits,
-    ) -> Result<Verdict<IntTheory, Nothing, Nothing>, Want> {
-        Ok(Verdict::Spent(Nothing {}))
-    }
-
-    fn name_of(_spent: &Nothing) -> FailName {
-        FailName::Pivots
-    }
-
-    ghost sound = { λ query proof fits accepts. absurd accepts };
-}
+use sy_query_fixtures::{Nothing, Tired};
+use sy_query_limits::FailName;
+use sy_terms::{Seq, Term};
 
 /// A cause of this name, with nothing that shows it; `None` where that takes more than lists, or the solver has no such
 /// budget.
@@ -53,7 +15,6 @@ fn cause(alloc: Global, name: FailName) -> Option<FailCause<IntTheory, Nothing>>
     let (bodies, values) = (Seq::new(alloc), Seq::new(alloc));
     match name {
         FailName::Size => Some(FailCause::Size),
-        FailName::Exhausted => Some(FailCause::Exhausted),
         FailName::Rounds => Some(FailCause::Rounds(stored)),
         FailName::Points => {
             let tuples = Seq::new(alloc);
@@ -73,7 +34,6 @@ fn cause(alloc: Global, name: FailName) -> Option<FailCause<IntTheory, Nothing>>
 fn each_cause_has_its_name(rt: HostRuntime) -> Result<(), Fail> {
     for name in [
         FailName::Size,
-        FailName::Exhausted,
         FailName::Rounds,
         FailName::Points,
         FailName::Weight,

@@ -5,47 +5,9 @@ use sy_grammar_base::Problem;
 use sy_loop::synthesise;
 use sy_loop_outcome::{Outcome, fail_name};
 use sy_meaning_integers::IntTheory;
-use sy_query_base::Query;
-use sy_query_decide::{Decide, Verdict};
+use sy_query_fixtures::Tired;
 use sy_query_limits::{FailName, Limits};
-use sy_terms::{Seq, Want};
-
-/// A solver that gives up on every query.
-#[derive(Drop)]
-struct Tired {}
-
-/// What is left of its work.
-#[derive(Drop)]
-struct Nothing {}
-
-impl Decide<IntTheory> for Tired {
-    type Proof = Nothing;
-
-    type Spent = Nothing;
-
-    ghost use Rattle.sy_query_limits.specs.declared.FailName.TheVariants.{Range};
-
-    ghost accepted = { λ _ _. ⊥ };
-
-    ghost budget = { λ _. Range };
-
-    ghost shows = { λ _ _ _ _. Unit {0} };
-
-    fn decide(
-        &mut self,
-        _alloc: Global,
-        _query: &Query<IntTheory>,
-        _limits: &Limits,
-    ) -> Result<Verdict<IntTheory, Nothing, Nothing>, Want> {
-        Ok(Verdict::Spent(Nothing {}))
-    }
-
-    fn name_of(_spent: &Nothing) -> FailName {
-        FailName::Range
-    }
-
-    ghost sound = { λ query proof fits accepts. absurd accepts };
-}
+use sy_terms::Seq;
 
 /// The name of what ends the search for no functions at all, where there may be so many rounds.
 fn end_of(alloc: Global, rounds: u32) -> Result<Option<FailName>, AllocError> {
@@ -70,14 +32,14 @@ fn end_of(alloc: Global, rounds: u32) -> Result<Option<FailName>, AllocError> {
     let mut tired = Tired {};
     let outcome = synthesise(alloc, &problem, &limits, &mut tired)?;
     match outcome {
-        Outcome::Found(_, _) => Ok(None),
+        Outcome::Found(_, _) | Outcome::Infeasible => Ok(None),
         Outcome::Fail(cause) => Ok(Some(fail_name::<IntTheory, Tired>(&cause))),
     }
 }
 
 #[test]
 fn the_empty_tuple_is_decided(rt: HostRuntime) -> Result<(), Fail> {
-    assert_eq!(rt; end_of(rt.alloc(), 1)?, Some(FailName::Range));
+    assert_eq!(rt; end_of(rt.alloc(), 1)?, Some(FailName::Pivots));
     Ok(())
 }
 

@@ -11,7 +11,7 @@ use Rattle.sy_grammar_base.specs.Solving.{AreWithin}
 use Rattle.sy_unify.specs.declared.choice.Choice.{Choice}
 use Rattle.sy_unify.specs.Unify.{IsUncovered, Serves}
 use Rattle.sy_points.specs.Asked.{Asked, of_function}
-use Rattle.sy_bank_rows.specs.Banks.{Entry, Merged}
+use Rattle.sy_bank_rows.specs.Banks.{Entry, Merged, IsHonest}
 use Rattle.sy_loop_bounds.specs.Bounds.{IsJoinedWithin}
 use Rattle.sy_loop_bounds.specs.Pointwise.{IsPointwise}
 use Rattle.sy_loop_bounds.specs.Conditional.{Conditional, Leaf, Test, yield, IsPart, ArePartsWithin, IsTreeRule}
@@ -106,24 +106,24 @@ pointless_violates question history asked n nothing none all bodies joined =
     (violated_in question history asked (yield joined.parts ∷ []) (refuted_together question history asked (leaf.1 ∷ []) (yield joined.parts ∷ []) nothing (pointless_agree question asked leaf.1 (yield joined.parts) none) refuted))
 
 -- the goal of a problem with one, of which a bank is
-the_goal : (goals : List Goal) (goal : Goal) → length goals ≡ 1 → slice_get goals 0 ≡ Some goal → goals ≡ goal ∷ []
+pub the_goal : (goals : List Goal) (goal : Goal) → length goals ≡ 1 → slice_get goals 0 ≡ Some goal → goals ≡ goal ∷ []
 the_goal [] goal one at = absurd (omega (arith, one))
 the_goal (first ∷ []) goal one at = let same : first ≡ goal = cc in ap (λ (g : Goal). g ∷ []) same
 the_goal (first ∷ second ∷ goals) goal one at = absurd (omega (arith, one))
 
--- a tree that serves all points is in bound
-pub served_is_joined : (question : Question) (n condition rule : ℕ) (asked : Asked) (bank : Merged) (goods : List (List Bool)) (tree : Choice) → IsPointwise question → (covering : IsCoveringOf question asked n 0 bank) →
-    IsTreeRule covering.goal.grammar rule condition → 0 < length bank.points → length goods ≡ length (kept_below bank.levels 0 (n + 1)) →
+-- a tree over what an honest bank of the function keeps, which serves all points, is in bound
+pub served_is_joined : (question : Question) (n condition rule : ℕ) (goal : Goal) (bank : Merged) (goods : List (List Bool)) (tree : Choice) → IsPointwise question → slice_get question.goals 0 ≡ Some goal →
+    IsHonest goal.grammar (functions question.definitions) question.pool bank → IsTreeRule goal.grammar rule condition → 0 < length bank.points → length goods ≡ length (kept_below bank.levels 0 (n + 1)) →
     Serves goods (truths (kept_below bank.levels condition (n + 1))) (λ x. x < length bank.points) tree →
     IsJoinedWithin question n (yield (conditional_of (kept_below bank.levels 0 (n + 1)) (kept_below bank.levels condition (n + 1)) tree) ∷ [])
-served_is_joined question n condition rule asked bank goods tree pointwise covering chooses some many serves = record {
-  goal = covering.goal;
-  one = the_goal question.goals covering.goal pointwise.one covering.at;
+served_is_joined question n condition rule goal bank goods tree pointwise at honest chooses some many serves = record {
+  goal = goal;
+  one = the_goal question.goals goal pointwise.one at;
   pointwise = pointwise;
   rule = rule;
   condition = condition;
   chooses = chooses;
   parts = conditional_of (kept_below bank.levels 0 (n + 1)) (kept_below bank.levels condition (n + 1)) tree;
-  within = parts_within covering.goal.grammar (functions question.definitions) question.pool bank covering.honest condition n goods many (λ x. x < length bank.points) 0 some tree serves.good serves.splits;
+  within = parts_within goal.grammar (functions question.definitions) question.pool bank honest condition n goods many (λ x. x < length bank.points) 0 some tree serves.good serves.splits;
   is = refl;
 }

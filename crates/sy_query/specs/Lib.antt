@@ -1,7 +1,6 @@
 pub use Rattle.sy_query_base.specs.Asked
 pub use Rattle.sy_query_base.specs.Queries
 pub use Rattle.sy_query_base.specs.Weights
-pub use Rattle.sy_query_build.specs.Violating
 pub use Rattle.sy_query_decide.specs.Answers
 pub use Rattle.sy_query_decide.specs.Budgets
 pub use Rattle.sy_query_limits.specs.declared.FailName

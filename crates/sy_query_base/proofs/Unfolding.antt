@@ -7,7 +7,7 @@ use Rattle.sy_terms.specs.Expr as expr
 use Rattle.sy_terms.specs.Expr.{Expr, Exprs, Constant, Variable, Apply, Invoke, Bind}
 use Rattle.sy_terms.specs.Meaning.{Function, meaning, meanings, value_at_position, called, function_from, functions_after, functions}
 use Rattle.sy_terms.specs.declared.term.Fun.TheVariants.{Defined, Wanted}
-use Rattle.sy_query_base.specs.Queries.{Placement, called_at, count, placed, all_placed, placement_from, placements_after, placements}
+use Rattle.sy_query_base.specs.Placed.{Placement, called_at, count, placed, all_placed, placement_from, placements_after, placements}
 
 -- a placed body means what the function gives
 pub record Serves (placement : Placement) (function : Function) : Type 0 where

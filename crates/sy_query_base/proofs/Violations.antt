@@ -1,7 +1,8 @@
--- A query is true exactly where the bodies violate the problem.
+-- The query of a problem and bodies is true exactly where the bodies violate the problem.
 use Rattle.std.specs.Prelude.{◌+◌, Bool, true, false, not, ◌&&◌, List, [], ◌∷◌, ◌++◌, ◌≡◌, refl, length, map, All}
 use Rattle.std.specs.List.{list_all}
 use Rattle.std.proofs.Common.{arith, ap, ◌∙◌, sym}
+use Rattle.std.proofs.lemmas.List.{length-map}
 use Rattle.std.proofs.lemmas.List.Elements.{All-nil, All-cons, All-head, All-tail}
 use Rattle.sy_terms.specs.Values.{Val, Truth, truth, Whole, Bits}
 use Rattle.sy_terms.specs.Operators.{op_value}
@@ -9,9 +10,13 @@ use Rattle.sy_terms.specs.Expr as expr
 use Rattle.sy_terms.specs.declared.op.Op.TheVariants as ops
 use Rattle.sy_terms.specs.Expr.{Expr, Exprs, append}
 use Rattle.sy_terms.specs.Meaning.{meaning, meanings, function_from, functions}
+use Rattle.sy_terms.specs.Theories.{sort_of_value}
+use Rattle.sy_terms.specs.declared.sort.Sort.{Sort}
 use Rattle.sy_grammar_base.specs.Questions.{Question}
-use Rattle.sy_grammar_base.specs.Solving.{IsTrueUnder}
-use Rattle.sy_query_base.specs.Queries.{placement_from, placements, in_row, conjunction, violated, without_calls, query_of, Satisfies, Violates}
+use Rattle.sy_grammar_base.specs.Solving.{AreValues, IsTrueUnder}
+use Rattle.sy_query_base.specs.Asked.{Satisfies}
+use Rattle.sy_query_base.specs.Placed.{placement_from, placements}
+use Rattle.sy_query_base.specs.Queries.{in_row, conjunction, violated, without_calls, violating, Violates, IsViolation}
 use Rattle.sy_query_base.proofs.Unfolding.{placed-means, definitions-serve, bodies-serve}
 
 and_true : (a b : Bool) → (a && b) ≡ true → (a ≡ true) × (b ≡ true)
@@ -104,12 +109,24 @@ true-each question bodies values long (term ∷ terms) h =
     let others = All-tail (IsTrueUnder question bodies values) term terms h in
     and_both _ _ (ap truth (without-means question bodies values long term ∙ first)) (true-each question bodies values long terms others)
 
--- a query is true exactly where the bodies violate the problem
-pub query_says : (question : Question) (bodies : List Expr) (values : List Val) → length values ≡ length question.variables → Satisfies (query_of question bodies) values → Violates question bodies values
-query_says question bodies values long h =
-    let both = parted _ _ (sym (violated-is values (map (without_calls question bodies) question.assumptions) (map (without_calls question bodies) question.constraints)) ∙ h) in
+values_length : (variables : List Sort) (values : List Val) → AreValues variables values → length values ≡ length variables
+values_length variables values are = sym (length-map values sort_of_value) ∙ ap length are.sorted
+
+query_says : (question : Question) (bodies : List Expr) (values : List Val) → Satisfies (violating question bodies) values → Violates question bodies values
+query_says question bodies values satisfies =
+    let long = values_length question.variables values satisfies.sorted in
+    let both = parted _ _ (sym (violated-is values (map (without_calls question bodies) question.assumptions) (map (without_calls question bodies) question.constraints)) ∙ satisfies.true) in
     (each-true question bodies values long question.assumptions both.0, λ all. clash _ (true-each question bodies values long question.constraints all) both.1)
 
-pub query_is : (question : Question) (bodies : List Expr) (values : List Val) → length values ≡ length question.variables → Violates question bodies values → Satisfies (query_of question bodies) values
-query_is question bodies values long h =
-    violated-is values (map (without_calls question bodies) question.assumptions) (map (without_calls question bodies) question.constraints) ∙ ap Truth (both_true _ _ (true-each question bodies values long question.assumptions h.0) (not_all _ (λ all. h.1 (each-true question bodies values long question.constraints all))))
+query_is : (question : Question) (bodies : List Expr) (values : List Val) → AreValues question.variables values → Violates question bodies values → Satisfies (violating question bodies) values
+query_is question bodies values are violates =
+    let long = values_length question.variables values are in
+    record {
+      sorted = are;
+      true = violated-is values (map (without_calls question bodies) question.assumptions) (map (without_calls question bodies) question.constraints)
+          ∙ ap Truth (both_true _ _ (true-each question bodies values long question.assumptions violates.0) (not_all _ (λ all. violates.1 (each-true question bodies values long question.constraints all))));
+    }
+
+-- a query is true exactly where the bodies violate the problem
+pub says : (question : Question) (bodies : List Expr) → IsViolation question bodies (violating question bodies)
+says question bodies values are = (query_says question bodies values, query_is question bodies values are)

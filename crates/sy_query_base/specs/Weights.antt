@@ -6,7 +6,7 @@ use Rattle.sy_terms.specs.declared.op.Op.{Op}
 use Rattle.sy_terms.specs.declared.op.Op.TheVariants as ops
 use Rattle.sy_terms.specs.declared.sort.Sort.{Sort}
 use Rattle.sy_terms.specs.declared.sort.Sort.TheVariants.{Bits}
-use Rattle.sy_query_base.specs.Queries.{count}
+use Rattle.sy_query_base.specs.Placed.{count}
 
 -- a truth value and an integer weigh 1, a vector its width
 abbrev pub sort_weight : Option Sort → ℕ

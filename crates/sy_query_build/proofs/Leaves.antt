@@ -15,7 +15,7 @@ use Rattle.sy_terms.specs.declared.sorts.Sorted.TheVariants.{Is}
 use Rattle.sy_terms.specs.declared.term.Term.{Term, Const, Var, App}
 use Rattle.sy_terms.specs.declared.term.Terms.{Terms}
 use Rattle.sy_query_build.specs.declared.room.Left.{Left}
-use Rattle.sy_query_base.specs.Queries.{count}
+use Rattle.sy_query_base.specs.Placed.{count}
 use Rattle.sy_query_base.specs.Weights.{weight, sort_weight, operator_weight}
 use Rattle.sy_query_build.specs.Placing.{IsBuilt, IsApplied, applied_weight}
 

@@ -4,7 +4,7 @@ use Rattle.std.proofs.Common.{ap, ◌∙◌, arith}
 use Rattle.sy_terms.specs.Values as values
 use Rattle.sy_terms.specs.Values.{Val}
 use Rattle.sy_terms.specs.Expr as expr
-use Rattle.sy_terms.specs.Expr.{Expr, Exprs, Apply}
+use Rattle.sy_terms.specs.Expr.{Expr, Apply}
 use Rattle.sy_terms.specs.Denoted.{expr_of, exprs_of, exprs_of-append, expr_of-App, expr_of-Const}
 use Rattle.sy_terms.specs.declared.op.Op.TheVariants.{And, Not}
 use Rattle.sy_terms.specs.declared.sort.Value.{Value}

@@ -19,13 +19,13 @@ use Rattle.sy_grammar_base.specs.Formed.{is_known}
 use Rattle.sy_grammar_base.specs.Questions.{question_of, signatures}
 use Rattle.sy_grammar_base.specs.declared.problem.Problem.{Problem}
 use Rattle.sy_grammar_laws.proofs.Problems.{problem_definitions, problem_variables, problem_assumptions, problem_constraints}
-use Rattle.sy_query_base.specs.Queries as queries
+use Rattle.sy_query_base.specs.Queries.{violating, without_calls}
 use Rattle.sy_query_base.specs.Weights.{weight, weights, query_scope}
 use Rattle.sy_query_base.specs.Asked.{Query, Fits, query_weight}
 use Rattle.sy_query_build.specs.declared.room.Left.{Left}
 use Rattle.sy_query_build.specs.Placing.{all_placed_with, AllFitOver, AreBuilt}
 use Rattle.sy_query_build.specs.Sized.{IsSized}
-use Rattle.sy_query_build.specs.Violating.{violating, violated_by}
+use Rattle.sy_query_build.specs.Violating.{violated_by}
 use Rattle.sy_query_build.proofs.Forms.{wholes-sort}
 use Rattle.sy_query_build.proofs.Violation.{truths, all-truths, placed-row, violated-row, violated-sort, violated-weight}
 
@@ -33,10 +33,10 @@ use Rattle.sy_query_build.proofs.Violation.{truths, all-truths, placed-row, viol
 abbrev pub row : {T N : Type 0} → (N → Val) → Problem T N → List (Term T N) → List (Term T N) → Exprs
 row number problem terms items = all_placed_with number problem.defs terms 0 (length problem.vars) (exprs_of number items)
 
-pub body-is : {T N : Type 0} (number : N → Val) (problem : Problem T N) (terms : List (Term T N)) → queries.query_of (question_of number problem) (map (expr_of number) terms) ≡ violated_by (row number problem terms problem.assumptions) (row number problem terms problem.constraints)
+pub body-is : {T N : Type 0} (number : N → Val) (problem : Problem T N) (terms : List (Term T N)) → (violating (question_of number problem) (map (expr_of number) terms)).body ≡ violated_by (row number problem terms problem.assumptions) (row number problem terms problem.constraints)
 body-is number problem terms =
     sym ((λ k. violated_by (placed-row number problem.defs terms problem.assumptions 0 (length problem.vars) k) (placed-row number problem.defs terms problem.constraints 0 (length problem.vars) k))
-    ∙ violated-row (map (queries.without_calls (question_of number problem) (map (expr_of number) terms)) (map (expr_of number) problem.assumptions)) (map (queries.without_calls (question_of number problem) (map (expr_of number) terms)) (map (expr_of number) problem.constraints)))
+    ∙ violated-row (map (without_calls (question_of number problem) (map (expr_of number) terms)) (map (expr_of number) problem.assumptions)) (map (without_calls (question_of number problem) (map (expr_of number) terms)) (map (expr_of number) problem.constraints)))
 
 pub terms-fit : {T N : Type 0} (owned : Op → Bool) (number : N → Val) (problem : Problem T N) (terms items : List (Term T N)) → BodiesFit owned number problem.defs terms (signatures problem) → All (IsTruth owned number problem) items → AllFitOver owned number problem.defs terms problem.vars (exprs_of number items)
 terms-fit owned number problem terms items fit all =
@@ -72,7 +72,7 @@ pub variables-sized : (numeric : Sort → Bool) (ss : List Sort) → All (λ sor
 variables-sized numeric ss all = All-weaker (λ (sort : Sort). is_known numeric sort ≡ true) IsSized (is_sort-sized numeric) ss all
 
 -- ---- what the code has built
-pub body-built : {T N : Type 0} (owned : Op → Bool) (number : N → Val) (problem : Problem T N) (terms : List (Term T N)) (first second : List Sort) (before mid after : Left) (assumptions constraints : Exprs) (found more_found : List Sort) (body : Expr) → first ≡ problem.vars → second ≡ first → AreBuilt (query_scope owned) first (all_placed_with number problem.defs terms 0 (length first) (exprs_of number problem.assumptions)) before mid assumptions found → AreBuilt (query_scope owned) second (all_placed_with number problem.defs terms 0 (length second) (exprs_of number problem.constraints)) mid after constraints more_found → after.counted ≡ true → body ≡ violated_by assumptions constraints → body ≡ queries.query_of (question_of number problem) (map (expr_of number) terms)
+pub body-built : {T N : Type 0} (owned : Op → Bool) (number : N → Val) (problem : Problem T N) (terms : List (Term T N)) (first second : List Sort) (before mid after : Left) (assumptions constraints : Exprs) (found more_found : List Sort) (body : Expr) → first ≡ problem.vars → second ≡ first → AreBuilt (query_scope owned) first (all_placed_with number problem.defs terms 0 (length first) (exprs_of number problem.assumptions)) before mid assumptions found → AreBuilt (query_scope owned) second (all_placed_with number problem.defs terms 0 (length second) (exprs_of number problem.constraints)) mid after constraints more_found → after.counted ≡ true → body ≡ violated_by assumptions constraints → body ≡ (violating (question_of number problem) (map (expr_of number) terms)).body
 body-built owned number problem terms first second before mid after assumptions constraints found more_found body at next are also counted is =
     let front = rw at at are.are (also.counted counted) in
     let back = rw (next ∙ at) at also.are counted in

@@ -14,7 +14,7 @@ use Rattle.sy_terms.specs.declared.term.Term.{Term}
 use Rattle.sy_terms_laws.specs.Evaluation.{BodiesFit}
 use Rattle.sy_terms_laws.proofs.Called.{FitAfter-at}
 use Rattle.sy_terms_laws.proofs.Reached.{weight_of}
-use Rattle.sy_query_base.specs.Queries.{Placement, placement_from, placements_after, placements}
+use Rattle.sy_query_base.specs.Placed.{Placement, placement_from, placements_after, placements}
 use Rattle.sy_query_build.specs.Placing.{wanted_placements}
 
 slice_get-before : {X : Type 0} (xs ys : List X) (k : ℕ) → k < length xs → slice_get (xs ++ ys) k ≡ slice_get xs k

@@ -16,7 +16,7 @@ use Rattle.sy_terms.specs.declared.term.Term.{Term}
 use Rattle.sy_terms.specs.declared.term.Fun.TheVariants.{Defined, Wanted}
 use Rattle.sy_terms_laws.proofs.Equations.{applied_sort_Some, called_sort_Some, after_Some, with_sort_Some}
 use Rattle.sy_terms_laws.specs.Evaluation.{BodiesFit}
-use Rattle.sy_query_base.specs.Queries.{Placement, called_at, count, placed, all_placed, placement_from, placements_after, placements}
+use Rattle.sy_query_base.specs.Placed.{Placement, called_at, count, placed, all_placed, placement_from, placements_after, placements}
 use Rattle.sy_query_base.specs.Weights.{query_scope}
 
 -- a placed body has the sort that the signature gives

@@ -5,7 +5,7 @@ use Rattle.std.proofs.lemmas.Option.{none-some, same_Some, slice_get-get_or, sli
 use Rattle.std.proofs.lemmas.List.{drop-append-le, take_more}
 use Rattle.sy_terms.specs.Values.{Val}
 use Rattle.sy_terms.specs.Expr as expr
-use Rattle.sy_terms.specs.Expr.{Expr, Exprs, Constant, Variable, Apply, Invoke, Bind, nodes, nodes_of}
+use Rattle.sy_terms.specs.Expr.{Expr, Exprs, Constant, Apply, Bind, nodes}
 use Rattle.sy_terms.specs.Denoted.{expr_of, exprs_of, val_of, expr_of-Const, exprs_of-append}
 use Rattle.sy_terms.specs.Theories.{valid, sort_of_value}
 use Rattle.sy_terms.specs.Definitions.{DefinitionsFit, scope_of, body, signature}
@@ -24,7 +24,7 @@ use Rattle.std.specs.declared.alloc.Global.{Global}
 use Rattle.sy_terms_laws.specs.Evaluation.{scope_with}
 use Rattle.sy_terms_laws.proofs.Equations.{if_Some, applied_sort_Some, called_sort_Some, after_Some, with_sort_Some}
 use Rattle.sy_terms_laws.proofs.Steps.{app-is, call-is, let-is}
-use Rattle.sy_query_base.specs.Queries.{count, all_placed}
+use Rattle.sy_query_base.specs.Placed.{count, all_placed}
 use Rattle.sy_query_base.specs.Weights.{weight, weights, sort_weight, operator_weight, with_sorts, query_scope}
 use Rattle.sy_query_build.specs.declared.room.Left.{Left}
 use Rattle.sy_query_build.specs.Placing.{placed_with, all_placed_with, called_with, Takes, FitsOver, AllFitOver, IsBuilt, AreBuilt, IsBound, bound_weight, HasSort, IsApplied, applied_weight}

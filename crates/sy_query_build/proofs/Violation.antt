@@ -1,17 +1,15 @@
 -- The query of a problem and bodies: its parts, its sort and its weight.
 use Rattle.std.specs.Prelude.{ℕ, ◌+◌, ◌≤◌, Bool, true, ◌&&◌, List, [], ◌∷◌, ◌++◌, ◌≡◌, refl, length, map, All, Some}
 use Rattle.std.specs.List.{list_all}
-use Rattle.std.proofs.Common.{arith, ap, ◌∙◌, sym, length-append}
+use Rattle.std.proofs.Common.{arith, ap, length-append}
 use Rattle.std.proofs.lemmas.Bool.{le-leb}
-use Rattle.std.proofs.lemmas.List.{length-map}
 use Rattle.std.proofs.lemmas.List.Elements.{All-head, All-tail}
 use Rattle.sy_terms.specs.Values.{Val}
 use Rattle.sy_terms.specs.Expr as expr
-use Rattle.sy_terms.specs.Expr.{Expr, Exprs, Constant, Apply, append}
+use Rattle.sy_terms.specs.Expr.{Expr, Exprs, Apply, append}
 use Rattle.sy_terms.specs.Denoted.{expr_of, exprs_of}
 use Rattle.sy_terms.specs.Fitting.{Scope, sort_in, sorts_in}
 use Rattle.sy_terms.specs.Sorts.{sort_of, same_sort}
-use Rattle.sy_terms.specs.Theories.{sort_of_value}
 use Rattle.sy_terms.specs.declared.op.Op.{Op}
 use Rattle.sy_terms.specs.declared.op.Op.TheVariants as ops
 use Rattle.sy_terms.specs.declared.sort.Sort.{Sort}
@@ -19,13 +17,11 @@ use Rattle.sy_terms.specs.declared.sort.Sort.TheVariants as sorts
 use Rattle.sy_terms.specs.declared.sorts.Sorted.TheVariants.{Is}
 use Rattle.sy_terms.specs.declared.term.Term.{Term}
 use Rattle.sy_terms.specs.declared.term.Def.{Def}
-use Rattle.sy_grammar_base.specs.Questions.{Question}
-use Rattle.sy_grammar_base.specs.Solving.{AreValues}
-use Rattle.sy_query_base.specs.Queries.{in_row, conjunction, violated, all_placed}
+use Rattle.sy_query_base.specs.Placed.{all_placed}
+use Rattle.sy_query_base.specs.Queries.{in_row, conjunction, violated}
 use Rattle.sy_query_base.specs.Weights.{weight, weights, query_scope}
-use Rattle.sy_query_base.proofs.Violations.{query_says, query_is}
 use Rattle.sy_query_build.specs.Placing.{all_placed_with, placed_with}
-use Rattle.sy_query_build.specs.Violating.{violating, conjoined, violated_by, IsViolation}
+use Rattle.sy_query_build.specs.Violating.{conjoined, violated_by}
 use Rattle.sy_query_build.proofs.Steps.{sorts-last, weights-last}
 use Rattle.sy_query_build.proofs.Sorted.{sorts_in-length}
 
@@ -108,12 +104,3 @@ violated-weight owned all assumptions constraints xs ys and not first second =
     let whole = violated-sort owned all assumptions constraints xs ys and not first second in
     let negated = Apply ops.Not (expr.more (conjoined constraints) expr.none) in
     rw whole (omega (arith, weights-last scope all assumptions negated, negated-weight scope all (conjoined constraints) last, conjoined-weight scope all constraints inner))
-
--- ---- what it says
-values-length : (variables : List Sort) (values : List Val) → AreValues variables values → length values ≡ length variables
-values-length variables values are = sym (length-map values sort_of_value) ∙ ap length are.sorted
-
-pub says : (question : Question) (bodies : List Expr) → IsViolation question bodies (violating question bodies)
-says question bodies values are =
-    let long = values-length question.variables values are in
-    ((λ satisfies. query_says question bodies values long satisfies.true), (λ violates. record { sorted = are; true = query_is question bodies values long violates }))

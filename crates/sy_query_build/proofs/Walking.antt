@@ -5,7 +5,7 @@ use Rattle.std.proofs.Common.{arith, ap, ◌∙◌, sym, length-append}
 use Rattle.std.proofs.lemmas.List.Elements.{All-append}
 use Rattle.sy_terms.specs.Values.{Val}
 use Rattle.sy_terms.specs.Expr as expr
-use Rattle.sy_terms.specs.Expr.{Expr, Exprs, Apply, Bind}
+use Rattle.sy_terms.specs.Expr.{Expr, Exprs, Bind}
 use Rattle.sy_terms.specs.Denoted.{expr_of, exprs_of, expr_of-Let}
 use Rattle.sy_terms.specs.Definitions.{DefinitionsFit}
 use Rattle.sy_terms.specs.Fitting.{Scope}
@@ -17,7 +17,7 @@ use Rattle.sy_terms.specs.declared.term.Terms.{Terms}
 use Rattle.sy_terms.specs.declared.term.Def.{Def}
 use Rattle.std.specs.declared.boxed.Box.{Box}
 use Rattle.std.specs.declared.alloc.Global.{Global}
-use Rattle.sy_query_base.specs.Queries.{count, all_placed}
+use Rattle.sy_query_base.specs.Placed.{count, all_placed}
 use Rattle.sy_query_base.specs.Weights.{weight, weights, sort_weight, query_scope}
 use Rattle.sy_query_build.specs.declared.room.Left.{Left}
 use Rattle.sy_query_build.specs.Placing.{placed_with, all_placed_with, called_with, FitsOver, IsBuilt, AreBuilt, IsBound, bound_weight, IsApplied, applied_weight}

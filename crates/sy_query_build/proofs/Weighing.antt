@@ -17,7 +17,7 @@ use Rattle.sy_terms.specs.declared.sort.Sort.TheVariants as sorts
 use Rattle.sy_terms.specs.declared.sorts.Sorted.TheVariants.{Is}
 use Rattle.sy_terms.specs.declared.term.Fun.TheVariants.{Defined, Wanted}
 use Rattle.sy_terms_laws.proofs.Equations.{both_true, if_Some, applied_sort_Some, after_Some, with_sort_Some}
-use Rattle.sy_query_base.specs.Queries.{count}
+use Rattle.sy_query_base.specs.Placed.{count}
 use Rattle.sy_query_base.specs.Weights.{weight, weights, sort_weight, operator_weight, query_scope}
 use Rattle.sy_query_build.specs.Sized.{IsSized}
 use Rattle.sy_query_build.proofs.Sizes.{sort_of-sized, distinct-two, product-two}

@@ -14,7 +14,7 @@ use Rattle.sy_terms.specs.declared.term.Fun.{Fun}
 use Rattle.sy_terms.specs.declared.term.Term.{Term}
 use Rattle.sy_terms_laws.specs.Evaluation.{BodiesFit, scope_with}
 use Rattle.sy_query_build.specs.declared.room.Left.{Left}
-use Rattle.sy_query_base.specs.Queries.{Placement, count, placed, all_placed, called_at, placement_of, placement_from, placements}
+use Rattle.sy_query_base.specs.Placed.{Placement, count, placed, all_placed, called_at, placement_of, placement_from, placements}
 use Rattle.sy_query_base.specs.Weights.{weight, weights, sort_weight, operator_weight}
 
 -- the placements of bodies, which may call definitions

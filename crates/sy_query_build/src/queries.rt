@@ -5,7 +5,8 @@ ghost use Rattle.sy_terms_laws.specs.Evaluation.{BodiesFit};
 ghost use Rattle.sy_grammar_base.specs.Fits.{ProblemFits};
 ghost use Rattle.sy_grammar_base.specs.Questions.{question_of, signatures};
 ghost use Rattle.sy_query_base.specs.Asked.{query_of, query_weight, Fits};
-ghost use Rattle.sy_query_build.specs.Violating.{violating, violated_by, conjoined, IsViolation};
+ghost use Rattle.sy_query_base.specs.Queries.{violating, IsViolation};
+ghost use Rattle.sy_query_build.specs.Violating.{violated_by, conjoined};
 
 use crate::built::Built;
 use crate::place::{place, place_all};

@@ -27,8 +27,6 @@ pub struct Limits {
 pub enum FailName {
     /// No solution lies within the size bound.
     Size,
-    /// No solution exists at all.
-    Exhausted,
     Rounds,
     Points,
     Bank,

@@ -1,19 +1,18 @@
 -- A problem over integers that fits: a function whose value exceeds its argument.
-use Rattle.std.specs.Prelude.{ℤ, pos, true, List, [], ◌∷◌, ◌++◌, map, Some, All, ◌≡◌, refl}
+use Rattle.std.specs.Prelude.{ℤ, pos, List, [], ◌∷◌, ◌++◌, map, Some, ◌≡◌, refl}
 use Rattle.std.proofs.Common.{ap, ◌∙◌}
 use Rattle.std.proofs.lemmas.List.Elements.{All-nil, All-cons}
 use Rattle.sy_terms.specs.Values.{Val, Whole}
-use Rattle.sy_terms.specs.Expr.{Expr, Constant, Variable, Apply, Invoke, none, more}
-use Rattle.sy_terms.specs.Denoted.{expr_of, exprs_of, expr_of-App, expr_of-Call, expr_of-Var, expr_of-Const}
+use Rattle.sy_terms.specs.Expr.{Expr, Variable, Apply, Invoke, none, more}
+use Rattle.sy_terms.specs.Denoted.{expr_of, exprs_of, expr_of-Call, expr_of-Var, expr_of-Const}
 use Rattle.sy_terms.specs.Fitting.{sort_in, sorts_in}
 use Rattle.sy_terms.specs.Sorts.{sort_of}
 use Rattle.sy_terms.specs.Definitions.{signature}
-use Rattle.sy_terms.specs.declared.op.Op.{Op}
 use Rattle.sy_terms.specs.declared.op.Op.TheVariants as ops
 use Rattle.sy_terms.specs.declared.sort.Sort.TheVariants as sorts
 use Rattle.sy_terms.specs.declared.sort.Value.TheVariants.{Num}
 use Rattle.sy_terms.specs.declared.term.Fun.TheVariants as funs
-use Rattle.sy_terms.specs.declared.term.Term.{Term, Const, Var, App, Call}
+use Rattle.sy_terms.specs.declared.term.Term.{Term, Const, Var, Call}
 use Rattle.sy_terms.specs.declared.term.Terms.{Terms}
 use Rattle.sy_meaning_integers.specs.Lia as lia
 use Rattle.sy_terms_laws.specs.Evaluation.{BodiesFit}
@@ -22,12 +21,6 @@ use Rattle.sy_grammar_base.specs.Questions.{Goal, goal_of, question_of, signatur
 use Rattle.sy_grammar_base.specs.declared.problem.Problem.{Problem}
 use Rattle.sy_grammar_base.specs.declared.problem.Wanted.{Wanted}
 use Rattle.sy_query_tests.specs.Posed as posed
-
--- an operator at two terms
-pub pair-is : {T N : Type 0} (number : N → Val) (operator : Op) (terms : Terms T N) (nothing one : List (Term T N)) (first second : Term T N) → nothing ≡ [] → one ≡ nothing ++ first ∷ [] → terms.items.items ≡ one ++ second ∷ []
-    → expr_of number (App operator terms) ≡ Apply operator (more (expr_of number first) (more (expr_of number second) none))
-pair-is {T} {N} number operator terms nothing one first second empty front whole =
-    expr_of-App number operator terms ∙ ap (λ (ts : List (Term T N)). Apply operator (exprs_of number ts)) (whole ∙ ap (λ (ts : List (Term T N)). ts ++ second ∷ []) (front ∙ ap (λ (ts : List (Term T N)). ts ++ first ∷ []) empty))
 
 pub exceeds-is : {T N : Type 0} (number : N → Val) (built : Expr) (arguments : Terms T N) (nothing : List (Term T N)) → nothing ≡ [] → arguments.items.items ≡ nothing ++ Var 0 ∷ []
     → (let x : Term T N = Var 0 in built ≡ Apply ops.Gt (more (expr_of number (Call (funs.Wanted 0) arguments)) (more (expr_of number x) none))) → built ≡ posed.constraint

@@ -1,7 +1,6 @@
 // A problem over integers: a function whose value exceeds its argument.
 ghost use Rattle.std.specs.Prelude.{◌≡◌, IfOk, IfSome};
 ghost use Rattle.sy_terms.specs.Denoted.{expr_of};
-ghost use Rattle.sy_terms.specs.Expr.{Apply, none, more};
 ghost use Rattle.sy_terms.specs.Values.{Whole};
 ghost use Rattle.sy_meaning_integers.specs.Lia as lia;
 ghost use Rattle.sy_terms_laws.specs.Evaluation.{BodiesFit};
@@ -12,22 +11,8 @@ ghost use Rattle.sy_query_tests.specs.Posed as posed;
 use std::alloc::Global;
 use sy_grammar_base::{Grammar, Non, Problem, Rule, Wanted, well_formed};
 use sy_meaning_integers::IntTheory;
+use sy_query_fixtures::pair;
 use sy_terms::{Bodies, Fun, Op, Seq, Sort, Term, Terms, Theory, Value, Want};
-
-/// The operator at two terms.
-fn pair(
-    alloc: Global,
-    operator: Op,
-    first: Term<IntTheory>,
-    second: Term<IntTheory>,
-) -> Result<Term<IntTheory>, Want>
-    ensures { IfOk result (λ term. expr_of Whole term ≡ Apply operator (more (expr_of Whole first) (more (expr_of Whole second) none))) }
-{
-    let mut terms = Terms::new(alloc);
-    terms.push(first)?;
-    terms.push(second)?;
-    Ok(Term::App(operator, terms))
-}
 
 /// `(> (f x) x)`
 fn exceeds(alloc: Global) -> Result<Term<IntTheory>, Want>

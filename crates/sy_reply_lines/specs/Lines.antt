@@ -25,7 +25,6 @@ refusal_line bytes r =
 
 unfoldable pub fail_name : FailName → List ℕ
 fail_name fail.Size = codes "Size"
-fail_name fail.Exhausted = codes "Exhausted"
 fail_name fail.Rounds = codes "Rounds"
 fail_name fail.Points = codes "Points"
 fail_name fail.Bank = codes "Bank"

@@ -16,7 +16,6 @@ fn name_of(name: FailName) -> &'static str
 {
     match name {
         FailName::Size => "Size",
-        FailName::Exhausted => "Exhausted",
         FailName::Rounds => "Rounds",
         FailName::Points => "Points",
         FailName::Bank => "Bank",

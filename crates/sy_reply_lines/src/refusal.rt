@@ -49,7 +49,6 @@ fn put_cause(out: &mut Bytes, cause: &Cause) -> Result<(), Want>
         Cause::Predeclared => put(out, "Predeclared"),
         Cause::InvShape => put(out, "InvShape"),
         Cause::TooMany => put(out, "TooMany"),
-        Cause::NotBuilt => put(out, "NotBuilt"),
     }
 }
 

@@ -22,7 +22,6 @@ number_of cause.FunctionNotHere = 13
 number_of cause.Predeclared = 14
 number_of cause.InvShape = 15
 number_of cause.TooMany = 16
-number_of cause.NotBuilt = 17
 
 unfoldable pub fault_name : TextFault → List ℕ
 fault_name (fault.BadByte at) = codes "BadByte"
@@ -49,4 +48,3 @@ name_of cause.FunctionNotHere = codes "FunctionNotHere"
 name_of cause.Predeclared = codes "Predeclared"
 name_of cause.InvShape = codes "InvShape"
 name_of cause.TooMany = codes "TooMany"
-name_of cause.NotBuilt = codes "NotBuilt"

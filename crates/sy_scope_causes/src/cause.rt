@@ -39,8 +39,6 @@ pub enum Cause {
     InvShape,
     /// More of something than the profile allows.
     TooMany,
-    /// What isn't built yet.
-    NotBuilt,
 }
 
 /// The first command that is refused, counted from 1, and its first condition that doesn't hold.
@@ -73,6 +71,5 @@ pub fn cause_number(c: &Cause) -> u8
         Cause::Predeclared => 14,
         Cause::InvShape => 15,
         Cause::TooMany => 16,
-        Cause::NotBuilt => 17,
     }
 }

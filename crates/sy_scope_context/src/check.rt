@@ -185,24 +185,18 @@ impl<T: Theory> Context<T> {
         })
     }
 
-    /// `check-synth`, whose name stands at this place: `TooMany` comes there at the 17th, and then `NotBuilt` in the logic
-    /// of integers.
+    /// `check-synth`, whose name stands at this place: `TooMany` comes there at the 17th.
     pub(crate) fn check_synth(&mut self, alloc: Global, at: Place) -> Result<(), ReadEnd>
         requires theory { IsTheoryOf self.old.logic T.owned T.numeric }
         requires fit { GoalsFit T.owned T.numeric (context_of T.denotes self.old) }
-        ensures step { Gives (λ _. context_of T.denotes self.new) result (spec.check_synth (context_of T.denotes self.old) self.old.logic at) }
+        ensures step { Gives (λ _. context_of T.denotes self.new) result (spec.check_synth (context_of T.denotes self.old) at) }
         ensures logic { OnOk result (self.new.logic ≡ self.old.logic) }
     {
         if self.questions.len() >= QUESTIONS_MAX {
             return Err(ReadEnd::Refused(at, Cause::TooMany));
         }
-        match self.logic {
-            Logic::Lia => Err(ReadEnd::Refused(at, Cause::NotBuilt)),
-            Logic::Bv => {
-                let problem = self.problem(alloc)?;
-                self.questions.push(problem)?;
-                Ok(())
-            }
-        }
+        let problem = self.problem(alloc)?;
+        self.questions.push(problem)?;
+        Ok(())
     }
 }

@@ -36,7 +36,7 @@ use Rattle.sy_forms_laws.proofs.Terms.{whole_fits}
 use Rattle.sy_forms_laws.proofs.Whole.{term_fits}
 use Rattle.sy_scope_steps.specs.Contexts as contexts
 use Rattle.sy_scope_steps.specs.Contexts.{Context, Sought, Condition, Expanded, question_at, goal_of, has_room}
-use Rattle.sy_scope_steps.specs.Steps.{environment, read_in, constrain, assume, Called, function_of, function_named, invariant_number, definition_number, as_invariant, as_condition, Parts, with_invariant, invariant_parts, constrain_invariant, answered_yet, check_synth}
+use Rattle.sy_scope_steps.specs.Steps.{environment, read_in, constrain, assume, Called, function_of, function_named, invariant_number, definition_number, as_invariant, as_condition, Parts, with_invariant, invariant_parts, constrain_invariant, with_question, check_synth}
 use Rattle.sy_scope_laws.specs.Sound.{defined_in, wanted_in, signature_of_sought, setting_with, IsDeclared, ConditionFits, IsSound}
 use Rattle.sy_scope_laws.proofs.Conditions.{AreFrom, IsInvariant, starts_fits, keeps_fits, ends_fits}
 use Rattle.sy_scope_laws.proofs.Declaring.{declared_all}
@@ -263,10 +263,6 @@ question_more logic context sound = record {
   questions = All-push (QuestionFits (operators_of logic) (number_sorts logic)) context.questions (question_at context) sound.questions (question_fits logic context sound);
 }
 
-answered_sound : (logic : Logic) (context : Context) (at : Place) → IsSound logic context → IfOk (answered_yet context logic at) (IsSound logic)
-answered_sound Lia context at sound = tt
-answered_sound Bv context at sound = question_more Bv context sound
-
-pub check_sound : (logic : Logic) (context : Context) (at : Place) → IsSound logic context → IfOk (check_synth context logic at) (IsSound logic)
+pub check_sound : (logic : Logic) (context : Context) (at : Place) → IsSound logic context → IfOk (check_synth context at) (IsSound logic)
 check_sound logic context at sound =
-    unless_refused (IsSound logic) (nat_lt (length context.questions) 16) at cause.TooMany (answered_yet context logic at) (λ e. answered_sound logic context at sound)
+    unless_refused (IsSound logic) (nat_lt (length context.questions) 16) at cause.TooMany (Ok (with_question context)) (λ e. question_more logic context sound)

@@ -225,13 +225,12 @@ constrain_invariant context place invariant before step after =
     invariant_parts invariant before step after i p t q >>= λ parts.
     add_invariant context place i.takes parts
 
--- `check-synth`: at most 16; not yet in the logic of integers
-abbrev pub answered_yet : Context → Logic → Place → Reading Context
-answered_yet context Lia at = refuse at cause.NotBuilt
-answered_yet context Bv at = Ok (record context { questions = context.questions ++ question_at context ∷ [] })
+-- `check-synth`: at most 16
+abbrev pub with_question : Context → Context
+with_question context = record context { questions = context.questions ++ question_at context ∷ [] }
 
-abbrev pub check_synth : Context → Logic → Place → Reading Context
-check_synth context logic at = if nat_lt (length context.questions) 16 then answered_yet context logic at else refuse at cause.TooMany
+abbrev pub check_synth : Context → Place → Reading Context
+check_synth context at = if nat_lt (length context.questions) 16 then Ok (with_question context) else refuse at cause.TooMany
 
 -- Commands
 
@@ -272,7 +271,7 @@ perform_in context logic place at (requests.ToSynthesiseInvariant name arguments
 perform_in context logic place at (requests.ToConstrain term) = constrain context logic term
 perform_in context logic place at (requests.ToAssume term) = assume context logic term
 perform_in context logic place at (requests.ToConstrainInvariant i p t q) = constrain_invariant context place i p t q
-perform_in context logic place at requests.ToCheck = check_synth context logic at
+perform_in context logic place at requests.ToCheck = check_synth context at
 
 -- a command before a logic was set
 unfoldable pub perform_first : Context → Place → Request → Reading Context

@@ -64,7 +64,7 @@ fn refusals(rt: HostRuntime) {
 fn failures(rt: HostRuntime) {
     let rows = [
         (1, FailName::Size, "fail: check-synth 1 Size\n"),
-        (2, FailName::Exhausted, "fail: check-synth 2 Exhausted\n"),
+        (2, FailName::Range, "fail: check-synth 2 Range\n"),
         (16, FailName::Pivots, "fail: check-synth 16 Pivots\n"),
     ];
     for (check, name, line) in rows {

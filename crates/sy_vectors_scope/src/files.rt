@@ -212,12 +212,12 @@ Refused(5, 131, InvShape): (set-logic BV)(synth-inv i ((x Bool)))(define-fun p (
 Refused(5, 133, InvShape): (set-logic BV)(synth-inv i ((x Bool)))(define-fun p ((x Bool)) Bool x)(define-fun t ((x Bool) (y Bool)) Bool x)(inv-constraint i p t t)
 Refused(5, 129, InvShape): (set-logic BV)(synth-inv i ((x Bool)))(define-fun p ((x Bool)) Bool x)(define-fun t ((x Bool) (y Bool)) Bool x)(inv-constraint i i t p)
 Refused(2, 14, Shape): (set-logic BV)(check-synth x)
-Refused(2, 16, NotBuilt): (set-logic LIA)(check-synth)
 Refused(18, 223, TooMany): (set-logic BV)(check-synth)(check-synth)(check-synth)(check-synth)(check-synth)(check-synth)(check-synth)(check-synth)(check-synth)(check-synth)(check-synth)(check-synth)(check-synth)(check-synth)(check-synth)(check-synth)(check-synth)
 Refused(2, 15, CommandNotInProfile): (set-logic BV)(pop)(
 Idle: ; (
 Idle: (set-feature :fwd-decls false)(set-feature :grammars true)(set-info :a)(set-info :a (b 5))(set-option :a 5)
 Ints(0): (set-logic LIA)
+Ints(2): (set-logic LIA)(check-synth)(synth-fun f ((x Int)) Int)(constraint (= (f 0) 1))(check-synth)
 Ints(0): (set-logic LIA)(declare-var bvadd Int)(declare-var x Bool)(constraint (= bvadd 0))
 Bits(0): (set-logic BV)(define-sort A () (_ BitVec 8))(define-sort C A)(declare-var x C)(declare-var A Bool)(constraint (and A (= x #x00)))
 Bits(2): (set-logic BV)(synth-fun f ((x (_ BitVec 8))) (_ BitVec 8))(declare-var y (_ BitVec 8))(constraint (= (f y) y))(check-synth)(constraint (= y y))(check-synth)

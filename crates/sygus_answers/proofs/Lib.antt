@@ -1,2 +1,2 @@
-pub mod Written
-pub mod Steps
+pub mod Found
+pub mod Statuses

@@ -1,41 +1,38 @@
--- Which problems are answered, and which answers are right.
-use Rattle.std.specs.Prelude.{map}
-use Rattle.sy_terms.specs.Denoted.{expr_of}
-use Rattle.sy_grammar_base.specs.Fits.{QuestionFits}
-use Rattle.sy_grammar_base.specs.Questions.{Question}
-use Rattle.sy_grammar_base.specs.Solving.{AreMembers}
+-- Which answers are right.
+use Rattle.std.specs.Prelude.{Bool, List, map}
+use Rattle.sy_terms.specs.Values.{Val}
+use Rattle.sy_terms.specs.declared.op.Op.{Op}
+use Rattle.sy_terms.specs.declared.theory.Theory.{Ghosts as TheoryOf}
+use Rattle.sy_grammar_base.specs.Questions.{Question, question_of}
 use Rattle.sy_grammar_base.specs.declared.problem.Problem.{Problem}
-use Rattle.sy_meaning_words.specs.declared.theory.BvTheory.{BvTheory}
-use Rattle.sy_meaning_words.specs.declared.word.Word.{Word}
-use Rattle.sy_meaning_words.specs.Vectors.{vector, owned, is_bits}
-use Rattle.sy_scope_titles.specs.declared.Titles.{Titles}
+use Rattle.sy_query_limits.specs.declared.FailName.{FailName}
 use Rattle.sy_query_limits.specs.declared.Limits.{Limits}
-use Rattle.sy_loop_bounds.specs.declared.reach.Reach.TheVariants.{Sizes}
+use Rattle.sy_query_base.specs.Asked.{Query}
+use Rattle.sy_query_decide.specs.declared.decide.Decide.{Ghosts as DecideOf}
+use Rattle.sy_loop_bounds.specs.declared.reach.Reach.{Reach}
+use Rattle.sy_loop_bounds.specs.declared.reach.Reach.TheVariants.{Sizes, Joins}
 use Rattle.sy_loop_outcome.specs.Right.{IsRight}
 use Rattle.sy_loop_outcome.specs.declared.outcome.Outcome.{Outcome}
-use Rattle.sy_loop_outcome.specs.declared.outcome.Outcome.TheVariants.{Found, Fail}
-use Rattle.sy_bits.specs.Proofs.{Accepted, budget, Shows}
-use Rattle.sy_bits.specs.declared.answers.BvProof.{BvProof}
-use Rattle.sy_bits.specs.declared.answers.BvSpent.{BvSpent}
-use Rattle.sy_reply.specs.Writable.{IsTitled}
+use Rattle.sy_loop.specs.Least.{FindsLeast}
+use Rattle.sygus_words.specs.declared.settings.Mode.{Mode}
+use Rattle.sygus_words.specs.declared.settings.Mode.TheVariants.{Solve, Least}
+use Rattle.sygus_replies.specs.Answered.{AreRight}
 
--- problems over bit vectors, and their outcomes
-abbrev pub BvProblem : Type 0
-BvProblem = Problem BvTheory Word
+-- what counts as within a bound: in mode `solve` conditional trees too, by their parts; in mode `least` sums of sizes alone
+abbrev pub reach_of : Mode → Reach
+reach_of Solve = Joins
+reach_of Least = Sizes
 
-abbrev pub BvOutcome : Type 0
-BvOutcome = Outcome BvTheory BvProof BvSpent Word
+-- the outcome is right within these limits, and bodies that are found are of the least bound in which any solve the problem
+pub record RightOutcome {T P S N : Type 0} (owned : Op → Bool) (number : N → Val) (accepted : Query → P → Type 0) (budget : S → FailName) (shows : Query → Limits → FailName → S → Type 0)
+    (mode : Mode) (limits : Limits) (question : Question) (outcome : Outcome T P S N) : Type 0 where
+  pub right : IsRight owned number accepted budget shows (reach_of mode) question limits outcome
+  pub least : FindsLeast number (reach_of mode) question outcome
 
--- the outcome is right within these limits, where bodies are in bound by their sizes
-abbrev pub RightOutcome : Limits → Question → BvOutcome → Type 0
-RightOutcome limits question outcome = IsRight owned vector Accepted budget Shows Sizes question limits outcome
+-- the same for a theory and a solver
+abbrev pub RightOutcomeFor : {T N D P S : Type 0} → TheoryOf T N → DecideOf D T P S N → Mode → Limits → Question → Outcome T P S N → Type 0
+RightOutcomeFor theory solver = RightOutcome theory.owned theory.denotes solver.accepted solver.budget solver.shows
 
--- all that is asked fits, and has names
-pub record IsAnswerable (titles : Titles) (question : Question) : Type 0 where
-  pub fits : QuestionFits owned is_bits question
-  pub titled : IsTitled titles question
-
--- the bodies of an outcome are members of the grammars
-abbrev pub HasMembers : Question → BvOutcome → Type 0
-HasMembers question (Found bodies proof) = AreMembers question.goals (map (expr_of vector) bodies)
-HasMembers question (Fail cause) = Unit {0}
+-- these outcomes are right for the first problems, in order
+abbrev pub AreRightFor : {T N D P S : Type 0} → TheoryOf T N → DecideOf D T P S N → Mode → Limits → List (Problem T N) → List (Outcome T P S N) → Type 0
+AreRightFor theory solver mode limits problems outcomes = AreRight (RightOutcomeFor theory solver mode limits) (map (question_of theory.denotes) problems) outcomes

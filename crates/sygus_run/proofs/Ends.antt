@@ -4,21 +4,21 @@ use Rattle.std.specs.Prelude.{Option, IfSome, replicate, Ok, Err}
 use Rattle.std.specs.Io.KnownBytes.{Appends}
 use Rattle.std.proofs.lemmas.List.{length-replicate}
 use Rattle.sy_io.specs.Source.{Holding, bytes_under}
-use Rattle.sygus_answers.specs.declared.answers.Answers.{Answers}
-use Rattle.sygus_answers.specs.declared.answers.Answers.TheVariants.{Idle}
-use Rattle.sygus_answers.specs.Texts.{answer_lines, too_long_line}
-use Rattle.sygus_answers.specs.Solved.{outcomes}
-use Rattle.sygus_answers.proofs.Steps.{appended_nothing, replies-none, lines-none, right-none}
+use Rattle.sygus_replies.specs.Texts.{answer_lines, too_long_line}
+use Rattle.sygus_replies.proofs.Steps.{lines-none}
+use Rattle.sygus_run.specs.declared.answers.Answers.{Answers}
+use Rattle.sygus_run.specs.declared.answers.Answers.TheVariants.{Idle}
+use Rattle.sygus_run.specs.Answers.{replies_of}
 use Rattle.sygus_words.specs.CommandLine.{IsReading}
 use Rattle.sygus_words.specs.declared.settings.Settings.{Settings}
 use Rattle.sy_scope_causes.specs.declared.cause.Refused.{Refused}
 use Rattle.sy_reply_lines.specs.Lines.{refusal_line}
 use Rattle.sy_scope_steps.specs.Files.{file_read}
 use Rattle.sy_scope_steps.specs.Jobs.{Wish, wished}
-use Rattle.sygus_run.specs.Runs.{Answered, Poses, IsRefused, longest}
+use Rattle.sygus_run.specs.Runs.{Poses, IsRefused, longest}
 
 -- the line that memory was wanted, where nothing was answered
-pub idle_line : (answers : Answers) (before after : Option (List ℕ)) (text : List ℕ) → answers ≡ Idle → Appends before after text → Appends before after (answer_lines 1 (outcomes answers) ++ text)
+pub idle_line : (answers : Answers) (before after : Option (List ℕ)) (text : List ℕ) → answers ≡ Idle → Appends before after text → Appends before after (answer_lines 1 (replies_of answers) ++ text)
 idle_line answers before after text is written = rw (is, lines-none) written
 
 -- there are lists of any length
@@ -71,17 +71,4 @@ poses words (Some h) settings wish file name accepted same whole short reads = r
   named = record { accepted = accepted; told = whole ∙ ap (λ (n : List ℕ). bytes_under h n) same };
   short = short;
   reads = reads;
-}
-
--- a file that asks nothing is answered by nothing
-pub answered_idle : (words : List (List ℕ)) (held : Option Holding) (settings : Settings) (wish : Wish) (file name : List ℕ) (out err : Option (List ℕ)) → IsReading words settings → name ≡ settings.file → IfSome held (λ h. file ≡ bytes_under h name)
-    → length file ≤ longest → wished (file_read file) ≡ Ok wish → wish.questions ≡ [] → Answered words held Idle out out err err
-answered_idle words held settings wish file name out err accepted same whole short reads none = record {
-  settings = settings;
-  wish = wish;
-  posed = poses words held settings wish file name accepted same whole short reads;
-  right = right-none settings.limits wish.questions;
-  every = sym (ap length none);
-  replied = rw replies-none (appended_nothing out);
-  lines = rw lines-none (appended_nothing err);
 }

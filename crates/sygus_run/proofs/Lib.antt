@@ -1,2 +1,4 @@
 pub mod Answerable
 pub mod Ends
+pub mod Jobs
+pub mod Named

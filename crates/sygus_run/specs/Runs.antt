@@ -8,11 +8,11 @@ use Rattle.sy_scope_causes.specs.declared.cause.Refused.{Refused}
 use Rattle.sy_reply_lines.specs.Lines.{refusal_line}
 use Rattle.sy_scope_steps.specs.Files.{file_read}
 use Rattle.sy_scope_steps.specs.Jobs.{Wish, wished}
-use Rattle.sygus_answers.specs.declared.answers.Answers.{Answers}
-use Rattle.sygus_answers.specs.declared.answers.Answers.TheVariants.{Idle}
-use Rattle.sygus_answers.specs.Answers.{BvOutcome}
-use Rattle.sygus_answers.specs.Texts.{replies, answer_lines, too_long_line}
-use Rattle.sygus_answers.specs.Solved.{outcomes, AreRight, WritesMost}
+use Rattle.sygus_replies.specs.Texts.{texts, answer_lines, too_long_line}
+use Rattle.sygus_replies.specs.Answered.{WritesMost}
+use Rattle.sygus_run.specs.declared.answers.Answers.{Answers}
+use Rattle.sygus_run.specs.declared.answers.Answers.TheVariants.{Idle}
+use Rattle.sygus_run.specs.Answers.{replies_of, AreRightAnswers}
 
 -- the most bytes that a file may have
 abbrev pub longest : ℕ
@@ -39,10 +39,10 @@ pub record Answered (words : List (List ℕ)) (held : Option Holding) (answers :
   pub settings : Settings
   pub wish : Wish
   pub posed : Poses words held settings wish
-  pub right : AreRight settings.limits wish.questions (outcomes answers)
-  pub every : length (outcomes answers) ≡ length wish.questions
-  pub replied : Appends out out' (replies wish.titles wish.questions (outcomes answers))
-  pub lines : Appends err err' (answer_lines 1 (outcomes answers))
+  pub right : AreRightAnswers settings.mode settings.limits wish.questions answers
+  pub every : length (replies_of answers) ≡ length wish.questions
+  pub replied : Appends out out' (texts wish.titles wish.questions (replies_of answers))
+  pub lines : Appends err err' (answer_lines 1 (replies_of answers))
 
 -- a file that is refused at its first fault, or is too long, and the line that says so
 pub record IsRefused (words : List (List ℕ)) (held : Option Holding) (err err' : Option (List ℕ)) : Type 0 where
@@ -52,20 +52,20 @@ pub record IsRefused (words : List (List ℕ)) (held : Option Holding) (err err'
   pub why : ((longest < length file) × Appends err err' too_long_line)
       ⊎ ((length file ≤ longest) × ((refused : Refused) × (wished (file_read file) ≡ Err refused) × Appends err err' (refusal_line file refused)))
 
--- the run ended among the problems of its file: the outcomes so far are right, and of their texts this was written
-pub record Midway (words : List (List ℕ)) (held : Option Holding) (answers : List BvOutcome) (Written : Wish → Type 0) : Type 0 where
+-- the run ended among the problems of its file: the answers so far are right, and of their texts this was written
+pub record Midway (words : List (List ℕ)) (held : Option Holding) (answers : Answers) (Written : Wish → Type 0) : Type 0 where
   pub settings : Settings
   pub wish : Wish
   pub posed : Poses words held settings wish
-  pub right : AreRight settings.limits wish.questions answers
+  pub right : AreRightAnswers settings.mode settings.limits wish.questions answers
   pub written : Written wish
 
 -- a write failed: nothing was answered, or the texts were cut off in the last one
 abbrev pub IsCutOff : List (List ℕ) → Option Holding → Answers → Option (List ℕ) → Option (List ℕ) → Type 0
 IsCutOff words held answers out out' = ((answers ≡ Idle) × (out' ≡ out))
-    ⊎ Midway words held (outcomes answers) (λ wish. WritesMost wish.titles wish.questions (outcomes answers) out out')
+    ⊎ Midway words held answers (λ wish. WritesMost wish.titles wish.questions (replies_of answers) out out')
 
 -- memory was wanted: nothing was answered, or all texts so far are written
 abbrev pub WantsMemory : List (List ℕ) → Option Holding → Answers → Option (List ℕ) → Option (List ℕ) → Type 0
 WantsMemory words held answers out out' = ((answers ≡ Idle) × (out' ≡ out))
-    ⊎ Midway words held (outcomes answers) (λ wish. Appends out out' (replies wish.titles wish.questions (outcomes answers)))
+    ⊎ Midway words held answers (λ wish. Appends out out' (texts wish.titles wish.questions (replies_of answers)))

@@ -1,8 +1,10 @@
 // The run of the program: words, a file, and what it answers.
 #![tactic(auto)]
 
+mod answers;
+mod job;
 mod program;
 
+pub use answers::{Answers, Ended};
 pub use program::run;
-pub use sygus_answers::{Answers, Ended};
 pub use sygus_words::{FileName, Mode, Settings, WordFault, read_words};

@@ -1,16 +1,19 @@
 // The run over words, a source and two sinks.
-ghost use Rattle.std.specs.Prelude.{◌≡◌, ◌≤◌, ◌⊎◌, ◌++◌, map, string_bytes, All, Any};
+ghost use Rattle.std.specs.Prelude.{◌≡◌, ◌≢◌, ◌≤◌, ◌⊎◌, ◌++◌, map, string_bytes, All, Any};
 ghost use Rattle.std.specs.Io.KnownBytes.{Appends};
 ghost use Rattle.sy_io.specs.Causes.{Rose};
-ghost use Rattle.sygus_answers.specs.Texts.{answer_lines, words_line, read_line, memory_line};
-ghost use Rattle.sygus_answers.specs.Solved.{outcomes, IsFound, IsFail};
+ghost use Rattle.sygus_replies.specs.Replies.{IsSettled, IsFail};
+ghost use Rattle.sygus_replies.specs.Texts.{answer_lines, words_line, read_line, memory_line};
+ghost use Rattle.sygus_run.specs.Answers.{replies_of, AreNamedFor};
 ghost use Rattle.sygus_run.specs.Runs.{HaveNoReading, Answered, IsRefused, IsCutOff, WantsMemory};
 
+use crate::answers::{Answers, Ended};
+use crate::job::answer;
 use std::alloc::Global;
 use sy_io::{ReadEnd, Sink, Source, read_whole};
 use sy_reply_lines::refusal_text;
-use sy_scope::{Job, ScopeEnd, read_file};
-use sygus_answers::{Answers, Ended, last, solve};
+use sy_scope::{ScopeEnd, read_file};
+use sygus_replies::last;
 use sygus_words::{WordFault, read_words};
 
 /// The most bytes that a file may have.
@@ -30,8 +33,11 @@ pub fn run<S: Source, O: Sink, E: Sink>(
     // 0 and 1: every problem of the file has its right answer
     ensures answered { result.status ≤ 1 → Answered (map string_bytes words.now) (S.held source.old) result.answers
         (O.written out.old) (O.written out.new) (E.written err.old) (E.written err.new) }
-    ensures all_found { result.status ≡ 0 → All IsFound (outcomes result.answers) }
-    ensures some_fail { result.status ≡ 1 → Any IsFail (outcomes result.answers) }
+    ensures all_settled { result.status ≡ 0 → All IsSettled (replies_of result.answers) }
+    ensures some_fail { result.status ≡ 1 → Any IsFail (replies_of result.answers) }
+
+    // a fail over bit vectors isn't named Nodes, Pivots or Range, and one over integers isn't named Clauses
+    ensures named { AreNamedFor result.answers }
 
     // 2: the file is refused
     ensures refused { result.status ≡ 2 → IsRefused (map string_bytes words.now) (S.held source.old)
@@ -57,51 +63,39 @@ pub fn run<S: Source, O: Sink, E: Sink>(
     // 6: memory was wanted
     ensures memory { result.status ≡ 6 → WantsMemory (map string_bytes words.now) (S.held source.old) result.answers
         (O.written out.old) (O.written out.new) }
-    ensures memory_line { result.status ≡ 6 → Appends (E.written err.old) (E.written err.new) (answer_lines 1 (outcomes result.answers) ++ memory_line) }
+    ensures memory_line { result.status ≡ 6 → Appends (E.written err.old) (E.written err.new) (answer_lines 1 (replies_of result.answers) ++ memory_line) }
 {
     let settings = match read_words(alloc, words) {
         Ok(settings) => settings,
-        Err(WordFault::Refused) => return last(err, b"refused: words\n", 3, Answers::Idle),
-        Err(WordFault::Want) => return last(err, b"want of memory\n", 6, Answers::Idle),
+        Err(WordFault::Refused) => return unanswered(err, b"refused: words\n", 3),
+        Err(WordFault::Want) => return unanswered(err, b"want of memory\n", 6),
     };
     let bytes = match read_whole(alloc, source, settings.file.as_str(), LONGEST) {
         Ok(bytes) => bytes,
-        Err(ReadEnd::Fault) => return last(err, b"fault: read\n", 4, Answers::Idle),
+        Err(ReadEnd::Fault) => return unanswered(err, b"fault: read\n", 4),
         Err(ReadEnd::TooLong) => {
-            return last(
-                err,
-                b"refused: input longer than 4194304 bytes\n",
-                2,
-                Answers::Idle,
-            );
+            return unanswered(err, b"refused: input longer than 4194304 bytes\n", 2);
         }
-        Err(ReadEnd::Want) => return last(err, b"want of memory\n", 6, Answers::Idle),
+        Err(ReadEnd::Want) => return unanswered(err, b"want of memory\n", 6),
     };
     match read_file(alloc, bytes.as_slice()) {
-        Ok(Job::Bits(problems, titles)) => solve(
-            alloc,
-            problems.as_slice(),
-            &titles,
-            &settings.limits,
-            out,
-            err,
-        ),
-        Ok(Job::Idle) => nothing(),
-        Ok(Job::Ints(_, _)) => nothing(),
+        Ok(job) => answer(alloc, job, settings.mode, &settings.limits, out, err),
         Err(ScopeEnd::Refused(refused)) => match refusal_text(alloc, bytes.as_slice(), &refused) {
-            Ok(line) => last(err, line.as_slice(), 2, Answers::Idle),
-            Err(_) => last(err, b"want of memory\n", 6, Answers::Idle),
+            Ok(line) => unanswered(err, line.as_slice(), 2),
+            Err(_) => unanswered(err, b"want of memory\n", 6),
         },
-        Err(ScopeEnd::Want) => last(err, b"want of memory\n", 6, Answers::Idle),
+        Err(ScopeEnd::Want) => unanswered(err, b"want of memory\n", 6),
     }
 }
 
-/// The end where there is no problem to answer. No file over integers asks for an answer yet.
-fn nothing() -> Ended
-    ensures { result ≡ record { status = 0; answers = Answers.Idle } }
+/// The end after the last line of a run that answers nothing.
+fn unanswered<E: Sink>(err: &mut E, line: &[u8], status: u8) -> Ended
+    ensures answers { result.answers ≡ Answers.Idle }
+    ensures written { result.status ≢ 5 → (result.status ≡ status) × Appends (E.written err.old) (E.written err.new) line.now }
+    ensures fault { result.status ≡ 5 → status ≢ 5 → Rose (E.faults err.old) (E.faults err.new) }
 {
     Ended {
-        status: 0,
+        status: last(err, line, status),
         answers: Answers::Idle,
     }
 }

@@ -2,6 +2,7 @@
 mod answers;
 mod broken;
 mod budgets;
+mod integers;
 mod large;
 mod refusals;
 mod runs;

@@ -1,13 +1,13 @@
--- The command line of the program: `sygus [--mode solve] [--size N] [--rounds N] [--points N] [--bank N]
+-- The command line of the program: `sygus [--mode solve|least] [--size N] [--rounds N] [--points N] [--bank N]
 -- [--weight N] [--clauses N] [--nodes N] [--pivots N] FILE`.
-use Rattle.std.specs.Prelude.{◌≡◌, ◌≤◌, ℕ, true, List, [], ◌∷◌, Option, Some, None, codes}
+use Rattle.std.specs.Prelude.{◌≡◌, ◌≤◌, ◌⊎◌, ℕ, true, List, [], ◌∷◌, Option, Some, None, codes}
 use Rattle.std.specs.Fmt.{decimal}
 use Rattle.clap.specs.Words.{App, Rule, Text, fault_of, first_of, matches_of, new_rule}
 use Rattle.clap.specs.Simple.{new_shape}
 use Rattle.clap.specs.declared.builder.ArgAction.TheVariants.{Set}
 use Rattle.sy_query_limits.specs.declared.Limits.{Limits}
 use Rattle.sygus_words.specs.declared.settings.Mode.{Mode}
-use Rattle.sygus_words.specs.declared.settings.Mode.TheVariants.{Solve}
+use Rattle.sygus_words.specs.declared.settings.Mode.TheVariants.{Solve, Least}
 use Rattle.sygus_words.specs.declared.settings.Settings.{Settings}
 use Rattle.sygus_words.specs.declared.settings.WordFault.{WordFault}
 use Rattle.sygus_words.specs.declared.settings.WordFault.TheVariants.{Refused, Want}
@@ -39,7 +39,7 @@ LimitIs default greatest (Some text) n = (text ≡ decimal n) × (1 ≤ n) × (n
 
 abbrev pub ModeIs : Option Text → Mode → Type 0
 ModeIs None mode = mode ≡ Solve
-ModeIs (Some text) mode = (text ≡ codes "solve") × (mode ≡ Solve)
+ModeIs (Some text) mode = ((text ≡ codes "solve") × (mode ≡ Solve)) ⊎ ((text ≡ codes "least") × (mode ≡ Least))
 
 -- the limits, with their defaults and greatest values
 pub record AreLimits (value : Text → Option Text) (limits : Limits) : Type 0 where

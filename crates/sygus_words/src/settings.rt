@@ -13,6 +13,8 @@ use thiserror::Error;
 pub enum Mode {
     /// Each `check-synth` is solved.
     Solve,
+    /// So it is, by members of the least sum of sizes.
+    Least,
 }
 
 /// The name of a file, which contracts see as its bytes. The name `-` means standard input.

@@ -70,6 +70,7 @@ fn mode(matches: &ArgMatches<'_>) -> Option<Mode>
 {
     match matches.get_str("mode") {
         None | Some("solve") => Some(Mode::Solve),
+        Some("least") => Some(Mode::Least),
         Some(_) => None,
     }
 }
@@ -108,7 +109,7 @@ fn parsed<'a>(alloc: Global, words: &'a [String]) -> Result<ArgMatches<'a>, Word
 
 /// The settings that the words of a command line ask for; the first word is the program's name. An option is
 /// written `--NAME VALUE` or `--NAME=VALUE`, and the last one that is no option is the name of the file. `Refused`
-/// comes where `clap` refuses the words, the mode isn't `solve`, or the value of a limit isn't the decimal spelling,
+/// comes where `clap` refuses the words, the mode is neither `solve` nor `least`, or the value of a limit isn't the decimal spelling,
 /// without sign and leading zeros, of a number from 1 to its greatest value:
 ///
 /// | Option | Default | Greatest |

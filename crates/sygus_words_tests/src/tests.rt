@@ -1,7 +1,7 @@
 // Command lines and what they ask for.
 use std::alloc::Global;
 use sy_query_limits::Limits;
-use sygus_words::{Settings, WordFault, read_words};
+use sygus_words::{Mode, Settings, WordFault, read_words};
 
 const DEFAULT: Limits = Limits {
     size: 12,
@@ -165,6 +165,19 @@ fn lines_that_are_read(rt: HostRuntime) {
     for (line, limits, file) in rows {
         let settings = read(rt.alloc(), line).ok();
         assert!(rt; settings.is_some_and(|s| s.limits == limits && s.file.as_str() == file));
+    }
+}
+
+#[test]
+fn modes(rt: HostRuntime) {
+    let rows = [
+        ("sygus f.sl", Mode::Solve),
+        ("sygus --mode solve f.sl", Mode::Solve),
+        ("sygus --mode=least f.sl", Mode::Least),
+    ];
+    for (line, mode) in rows {
+        let settings = read(rt.alloc(), line).ok();
+        assert!(rt; settings.is_some_and(|s| s.mode == mode));
     }
 }
 

@@ -1,6 +1,6 @@
 use Rattle.std.proofs.Common.{◌∷◌, [], map}
 use Rattle.sy_terms.specs.Denoted.{vals_of}
-use Rattle.sy_bank_offer.specs.Tasks.{ArePointsOf}
+use Rattle.sy_bank.specs.Rows.{ArePointsOf}
 use Rattle.bench_bank.proofs.points.Given as goal
 
 abbrev pub invariant-loop : goal.invariant-loop

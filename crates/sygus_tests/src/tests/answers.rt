@@ -63,13 +63,7 @@ const SUMS: &[u8] =
 fn definitions_and_fails(rt: HostRuntime) {
     let rows: [Row; 16] = [
         ("sygus f.sl", EMPTY, 0, b"", b""),
-        (
-            "sygus f.sl",
-            ABOVE,
-            1,
-            b"fail\n",
-            b"fail: check-synth 1 Exhausted\n",
-        ),
+        ("sygus f.sl", ABOVE, 0, b"infeasible\n", b""),
         (
             "sygus f.sl",
             BY_ZERO,
@@ -105,13 +99,7 @@ fn definitions_and_fails(rt: HostRuntime) {
             b"(\n(define-fun f ((x (_ BitVec 8))) (_ BitVec 8) (bvadd x #x01))\n)\n",
             b"",
         ),
-        (
-            "sygus f.sl",
-            OTHER,
-            1,
-            b"fail\n",
-            b"fail: check-synth 1 Exhausted\n",
-        ),
+        ("sygus f.sl", OTHER, 0, b"infeasible\n", b""),
         (
             "sygus f.sl",
             NAMED,
@@ -133,13 +121,7 @@ fn definitions_and_fails(rt: HostRuntime) {
             b"(\n(define-fun f ((x (_ BitVec 8))) (_ BitVec 8) #x01)\n)\n",
             b"",
         ),
-        (
-            "sygus f.sl",
-            BARE,
-            1,
-            b"fail\n",
-            b"fail: check-synth 1 Exhausted\n",
-        ),
+        ("sygus f.sl", BARE, 0, b"infeasible\n", b""),
         (
             "sygus f.sl",
             TWO,
@@ -150,9 +132,9 @@ fn definitions_and_fails(rt: HostRuntime) {
         (
             "sygus f.sl",
             AGAIN,
-            1,
-            b"(\n(define-fun f () (_ BitVec 8) #x01)\n)\nfail\n",
-            b"fail: check-synth 2 Exhausted\n",
+            0,
+            b"(\n(define-fun f () (_ BitVec 8) #x01)\n)\ninfeasible\n",
+            b"",
         ),
         ("sygus f.sl", NOTHING, 0, b"(\n)\n", b""),
         (

@@ -12,10 +12,6 @@ const EXAMPLE: &[u8] =
 /// The reply to it.
 const REPLY: &[u8] = b"(\n(define-fun f ((x (_ BitVec 8))) (_ BitVec 8) (bvadd x #x01))\n)\n";
 
-/// The greatest vector has none above it.
-const ABOVE: &[u8] =
-    b"(set-logic BV)\n(synth-fun f ((x (_ BitVec 8))) (_ BitVec 8)\n  ((S (_ BitVec 8)))\n  ((S (_ BitVec 8) (x (bvadd x #x01)))))\n(declare-var x (_ BitVec 8))\n(constraint (bvugt (f x) x))\n(check-synth)\n";
-
 /// A symbol in bars that doesn't end.
 const OPEN: &[u8] = b"(set-info :source |ab";
 
@@ -76,14 +72,28 @@ type Row = (
 /// A write that fails has the last word, whatever the status would have been.
 #[test]
 fn slow_and_failing_calls(rt: HostRuntime) {
-    let fails = b"fail: check-synth 1 Exhausted\n";
+    let fails = b"fail: check-synth 1 Size\n";
     let open = b"refused: command 1 line 1 column 19 cause 1 Text Unclosed\n";
     let rows: [Row; 9] = [
         ("sygus f.sl", EXAMPLE, [SLOW; 3], 0, REPLY, b""),
-        ("sygus f.sl", ABOVE, [SLOW; 3], 1, b"fail\n", fails),
+        (
+            "sygus --size 2 f.sl",
+            EXAMPLE,
+            [SLOW; 3],
+            1,
+            b"fail\n",
+            fails,
+        ),
         ("sygus f.sl", OPEN, [SLOW; 3], 2, b"", open),
         ("sygus f.sl", EXAMPLE, [ALL, SECOND, ALL], 5, b"(\n(", b""),
-        ("sygus f.sl", ABOVE, [ALL, SLOW, NONE], 5, b"fail\n", b""),
+        (
+            "sygus --size 2 f.sl",
+            EXAMPLE,
+            [ALL, SLOW, NONE],
+            5,
+            b"fail\n",
+            b"",
+        ),
         ("sygus f.sl", EXAMPLE, [SLOW, SLOW, NONE], 0, REPLY, b""),
         ("sygus f.sl", OPEN, [ALL, ALL, NONE], 5, b"", b""),
         ("sygus", EXAMPLE, [ALL, ALL, NONE], 5, b"", b""),

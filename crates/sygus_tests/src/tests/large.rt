@@ -82,7 +82,7 @@ const NAMES: Large = Large {
 
 /// So many questions.
 const QUESTIONS: Large = Large {
-    head: "(set-logic BV)\n",
+    head: "(set-logic LIA)\n",
     pieces: &[Piece::Text("(check-synth)\n")],
     ..SPACES
 };
@@ -123,6 +123,12 @@ const HEAVY: Large = Large {
     ..DOUBLED
 };
 
+/// The same over integers.
+const HEAVY_INTEGERS: Large = Large {
+    head: "(set-logic LIA)\n(define-fun d0 () Bool true)\n",
+    ..HEAVY
+};
+
 /// So many arguments.
 const ARGUMENTS: Large = Large {
     head: "(set-logic LIA)\n(synth-fun f (\n",
@@ -157,7 +163,7 @@ type Row = (Large, u32, u8, &'static [u8], &'static [u8]);
 
 #[test]
 fn largest_files(rt: HostRuntime) -> Result<(), AllocError> {
-    let rows: [Row; 20] = [
+    let rows: [Row; 21] = [
         (SPACES, 131072, 0, b"", b""),
         (
             MORE_SPACES,
@@ -213,6 +219,13 @@ fn largest_files(rt: HostRuntime) -> Result<(), AllocError> {
             b"refused: command 20 line 20 column 25 cause 16 TooMany\n",
         ),
         (HEAVY, 17, 1, b"fail\n", b"fail: check-synth 1 Weight\n"),
+        (
+            HEAVY_INTEGERS,
+            17,
+            1,
+            b"fail\n",
+            b"fail: check-synth 1 Weight\n",
+        ),
         (ARGUMENTS, 64, 0, b"", b""),
         (
             ARGUMENTS,
@@ -247,16 +260,18 @@ fn largest_files(rt: HostRuntime) -> Result<(), AllocError> {
     Ok(())
 }
 
-/// The greatest weight that words may name lets the heavy query through.
+/// The greatest weight that words may name lets the heavy queries through.
 #[test]
 fn heavy_queries(rt: HostRuntime) -> Result<(), AllocError> {
-    let text = text_of(rt.alloc(), &HEAVY, 17)?;
     let line = "sygus --weight 1000000 f.sl";
     let left = Left {
         status: 0,
         out: b"(\n)\n",
         err: b"",
     };
-    assert!(rt; leaves(&rt, rt.alloc(), line, text.as_bytes(), &SURE, &left));
+    for file in [HEAVY, HEAVY_INTEGERS] {
+        let text = text_of(rt.alloc(), &file, 17)?;
+        assert!(rt; leaves(&rt, rt.alloc(), line, text.as_bytes(), &SURE, &left));
+    }
     Ok(())
 }

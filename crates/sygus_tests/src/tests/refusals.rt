@@ -16,7 +16,7 @@ fn faulty_files(rt: HostRuntime) {
             b"(set-logic LIA)\n(synth-fun f ((x Int)) Int ((S Int)) ((S Int (x))))\n(declare-var x Int)\n(check-synth)\n(constraint (= (* x (f x)) 0))\n(check-synth)\n",
             2,
             b"",
-            b"refused: command 4 line 4 column 2 cause 17 NotBuilt\n",
+            b"refused: command 5 line 5 column 16 cause 11 Nonlinear\n",
         ),
         (
             "sygus f.sl",

@@ -24,7 +24,7 @@ read_term-read_list-requires g t c κs within =
 
 pub read_term-returns-in-Atom-clause-read : goal.read_term-returns-in-Atom-clause-read
 read_term-returns-in-Atom-clause-read g t c =
-    form.gives_same _ _ _ _ (form.term_leaf (environment_of c.args.env.now) c.args.locals.now.items c.as_slice.result.now (item_of c.args.item.now) c.in-Atom.atom c.in-Atom.place (ap item_of c.in-Atom.is) c.as_slice.ensures.value) c.atom_term.ensures
+    form.gives_same _ _ _ _ (form.term_leaf (environment_of c.args.env.now) c.args.locals.now (item_of c.args.item.now) c.in-Atom.atom c.in-Atom.place (ap item_of c.in-Atom.is)) c.atom_term.ensures
 
 pub read_term-returns-in-Atom-clause-locals : goal.read_term-returns-in-Atom-clause-locals
 read_term-returns-in-Atom-clause-locals g t c =
@@ -32,7 +32,7 @@ read_term-returns-in-Atom-clause-locals g t c =
 
 pub read_term-returns-in-List-clause-read : goal.read_term-returns-in-List-clause-read
 read_term-returns-in-List-clause-read g t c =
-    form.gives_same _ _ _ _ (form.term_group (environment_of c.args.env.now) c.args.locals.now.items (item_of c.args.item.now) c.in-List.items c.in-List.place (items_in c.all.result) (ap item_of c.in-List.is) c.all.ensures) c.read_list.ensures.read
+    form.gives_same _ _ _ _ (form.term_group (environment_of c.args.env.now) c.args.locals.now (item_of c.args.item.now) c.in-List.items c.in-List.place (items_in c.all.result) (ap item_of c.in-List.is) c.all.ensures) c.read_list.ensures.read
 
 pub read_term-returns-in-List-clause-locals : goal.read_term-returns-in-List-clause-locals
 read_term-returns-in-List-clause-locals g t c =
@@ -40,11 +40,11 @@ read_term-returns-in-List-clause-locals g t c =
 
 pub read_list-returns-in_default-clause-read : goal.read_list-returns-in_default-clause-read
 read_list-returns-in_default-clause-read g t c =
-    form.list_none (environment_of c.args.env.now) c.args.locals.now.items c.args.place (items_in c.args.items) c.in_default.ensures
+    form.list_none (environment_of c.args.env.now) c.args.locals.now c.args.place (items_in c.args.items) c.in_default.ensures
 
 pub read_list-returns-then-not-let_may_stand-clause-read : goal.read_list-returns-then-not-let_may_stand-clause-read
 read_list-returns-then-not-let_may_stand-clause-read g t c =
-    form.list_no_let (environment_of c.args.env.now) c.args.locals.now.items c.args.place (items_in c.args.items) (item_of c.in-Some.head.now) (items_in c.in-Some.rest) c.in-Some.ensures (sym c.is_symbol.ensures ∙ c.if-is_symbol.true) (sym c.let_may_stand.ensures ∙ c.if-not-let_may_stand.true)
+    form.list_no_let (environment_of c.args.env.now) c.args.locals.now c.args.place (items_in c.args.items) (item_of c.in-Some.head.now) (items_in c.in-Some.rest) c.in-Some.ensures (sym c.is_symbol.ensures ∙ c.if-is_symbol.true) (sym c.let_may_stand.ensures ∙ c.if-not-let_may_stand.true)
 
 pub read_list-read_let-requires : goal.read_list-read_let-requires
 read_list-read_let-requires g t c κs within =
@@ -52,7 +52,7 @@ read_list-read_let-requires g t c κs within =
 
 pub read_list-returns-then-is_symbol-clause-read : goal.read_list-returns-then-is_symbol-clause-read
 read_list-returns-then-is_symbol-clause-read g t c =
-    form.gives_same _ _ _ _ (form.list_let (environment_of c.args.env.now) c.args.locals.now.items c.args.place (items_in c.args.items) (item_of c.in-Some.head.now) (items_in c.in-Some.rest) c.in-Some.ensures (sym c.is_symbol.ensures ∙ c.if-is_symbol.true) (sym c.let_may_stand.ensures ∙ c.if-not-let_may_stand.false)) c.read_let.ensures.read
+    form.gives_same _ _ _ _ (form.list_let (environment_of c.args.env.now) c.args.locals.now c.args.place (items_in c.args.items) (item_of c.in-Some.head.now) (items_in c.in-Some.rest) c.in-Some.ensures (sym c.is_symbol.ensures ∙ c.if-is_symbol.true) (sym c.let_may_stand.ensures ∙ c.if-not-let_may_stand.false)) c.read_let.ensures.read
 
 pub read_list-returns-then-is_symbol-clause-locals : goal.read_list-returns-then-is_symbol-clause-locals
 read_list-returns-then-is_symbol-clause-locals g t c =
@@ -64,7 +64,7 @@ read_list-indexed_term-requires g t c =
 
 pub read_list-returns-then-is_symbol-2-clause-read : goal.read_list-returns-then-is_symbol-2-clause-read
 read_list-returns-then-is_symbol-2-clause-read g t c =
-    form.gives_same _ _ _ _ (form.list_indexed (environment_of c.args.env.now) c.args.locals.now.items c.args.place (items_in c.args.items) (item_of c.in-Some.head.now) (items_in c.in-Some.rest) c.in-Some.ensures (sym c.is_symbol.ensures ∙ c.if-is_symbol.false) (sym c.is_symbol-2.ensures ∙ c.if-is_symbol-2.true) ∙ ap (spec.indexed_term c.args.env.now.logic c.args.place) (sym c.indexed_name.ensures)) c.indexed_term.ensures
+    form.gives_same _ _ _ _ (form.list_indexed (environment_of c.args.env.now) c.args.locals.now c.args.place (items_in c.args.items) (item_of c.in-Some.head.now) (items_in c.in-Some.rest) c.in-Some.ensures (sym c.is_symbol.ensures ∙ c.if-is_symbol.false) (sym c.is_symbol-2.ensures ∙ c.if-is_symbol-2.true) ∙ ap (spec.indexed_term c.args.env.now.logic c.args.place) (sym c.indexed_name.ensures)) c.indexed_term.ensures
 
 pub read_list-returns-then-is_symbol-2-clause-locals : goal.read_list-returns-then-is_symbol-2-clause-locals
 read_list-returns-then-is_symbol-2-clause-locals g t c =
@@ -73,7 +73,7 @@ read_list-returns-then-is_symbol-2-clause-locals g t c =
 pub read_list-returns-in_err-head-clause-read : goal.read_list-returns-in_err-head-clause-read
 read_list-returns-in_err-head-clause-read g t c =
     let p = err_from_is_err_and c.from_residual.result c.from_residual.ensures.1 in
-    rw (p.1, p.2) (form.fails_same c.in_err-head.field-0.0 _ _ (form.list_applied (environment_of c.args.env.now) c.args.locals.now.items c.args.place (items_in c.args.items) (item_of c.in-Some.head.now) (items_in c.in-Some.rest) c.in-Some.ensures (sym c.is_symbol.ensures ∙ c.if-is_symbol.false) (sym c.is_symbol-2.ensures ∙ c.if-is_symbol-2.false)) (form.fails_bind c.in_err-head.field-0.0 _ _ (form.fails_same c.in_err-head.field-0.0 _ _ (ap (λ l. spec.read_head (environment_of c.args.env.now) l (item_of c.in-Some.head.now)) (sym c.as_slice.ensures.value)) c.in_err-head.ensures)))
+    rw (p.1, p.2) (form.fails_same c.in_err-head.field-0.0 _ _ (form.list_applied (environment_of c.args.env.now) c.args.locals.now c.args.place (items_in c.args.items) (item_of c.in-Some.head.now) (items_in c.in-Some.rest) c.in-Some.ensures (sym c.is_symbol.ensures ∙ c.if-is_symbol.false) (sym c.is_symbol-2.ensures ∙ c.if-is_symbol-2.false)) (form.fails_bind c.in_err-head.field-0.0 _ _ c.in_err-head.ensures))
 
 pub read_list-returns-in_err-head-clause-locals : goal.read_list-returns-in_err-head-clause-locals
 read_list-returns-in_err-head-clause-locals g t c =
@@ -87,7 +87,7 @@ read_list-read_terms-requires g t c κs within =
 pub read_list-returns-in_err-arguments-clause-read : goal.read_list-returns-in_err-arguments-clause-read
 read_list-returns-in_err-arguments-clause-read g t c =
     let p = err_from_is_err_and c.from_residual-in_err-arguments.result c.from_residual-in_err-arguments.ensures.1 in
-    rw (p.1, p.2) (form.fails_same c.in_err-arguments.field-0.0 _ _ (form.list_applied (environment_of c.args.env.now) c.args.locals.now.items c.args.place (items_in c.args.items) (item_of c.in-Some.head.now) (items_in c.in-Some.rest) c.in-Some.ensures (sym c.is_symbol.ensures ∙ c.if-is_symbol.false) (sym c.is_symbol-2.ensures ∙ c.if-is_symbol-2.false)) (form.fails_next c.in_err-arguments.field-0.0 _ (head_in c.in_ok-head.head) _ (ap (λ l. spec.read_head (environment_of c.args.env.now) l (item_of c.in-Some.head.now)) (sym c.as_slice.ensures.value) ∙ c.in_ok-head.ensures) (form.fails_bind c.in_err-arguments.field-0.0 _ _ c.in_err-arguments.ensures.read)))
+    rw (p.1, p.2) (form.fails_same c.in_err-arguments.field-0.0 _ _ (form.list_applied (environment_of c.args.env.now) c.args.locals.now c.args.place (items_in c.args.items) (item_of c.in-Some.head.now) (items_in c.in-Some.rest) c.in-Some.ensures (sym c.is_symbol.ensures ∙ c.if-is_symbol.false) (sym c.is_symbol-2.ensures ∙ c.if-is_symbol-2.false)) (form.fails_next c.in_err-arguments.field-0.0 _ (head_in c.in_ok-head.head) _ c.in_ok-head.ensures (form.fails_bind c.in_err-arguments.field-0.0 _ _ c.in_err-arguments.ensures.read)))
 
 pub read_list-returns-in_err-arguments-clause-locals : goal.read_list-returns-in_err-arguments-clause-locals
 read_list-returns-in_err-arguments-clause-locals g t c =
@@ -96,7 +96,7 @@ read_list-returns-in_err-arguments-clause-locals g t c =
 
 pub read_list-returns-clause-read : goal.read_list-returns-clause-read
 read_list-returns-clause-read g t c =
-    form.gives_same _ _ _ _ (form.list_applied (environment_of c.args.env.now) c.args.locals.now.items c.args.place (items_in c.args.items) (item_of c.in-Some.head.now) (items_in c.in-Some.rest) c.in-Some.ensures (sym c.is_symbol.ensures ∙ c.if-is_symbol.false) (sym c.is_symbol-2.ensures ∙ c.if-is_symbol-2.false)) (form.gives_next _ _ _ (head_in c.in_ok-head.head) _ (ap (λ l. spec.read_head (environment_of c.args.env.now) l (item_of c.in-Some.head.now)) (sym c.as_slice.ensures.value) ∙ c.in_ok-head.ensures) (form.gives_next _ _ _ (several_of g.T.Theory.denotes c.in_ok-arguments.arguments) _ c.in_ok-arguments.ensures.read c.applied.ensures))
+    form.gives_same _ _ _ _ (form.list_applied (environment_of c.args.env.now) c.args.locals.now c.args.place (items_in c.args.items) (item_of c.in-Some.head.now) (items_in c.in-Some.rest) c.in-Some.ensures (sym c.is_symbol.ensures ∙ c.if-is_symbol.false) (sym c.is_symbol-2.ensures ∙ c.if-is_symbol-2.false)) (form.gives_next _ _ _ (head_in c.in_ok-head.head) _ c.in_ok-head.ensures (form.gives_next _ _ _ (several_of g.T.Theory.denotes c.in_ok-arguments.arguments) _ c.in_ok-arguments.ensures.read c.applied.ensures))
 
 pub read_list-returns-clause-locals : goal.read_list-returns-clause-locals
 read_list-returns-clause-locals g t c =
@@ -105,7 +105,7 @@ read_list-returns-clause-locals g t c =
 pub read_terms-loop-item-init : goal.read_terms-loop-item-init
 read_terms-loop-item-init g t c =
     record {
-      reads = ap (λ d. spec.read_terms (environment_of c.args.env.now) c.args.locals.now.items d (items_in c.args.items)) c.new-done.ensures;
+      reads = ap (λ d. spec.read_terms (environment_of c.args.env.now) c.args.locals.now d (items_in c.args.items)) c.new-done.ensures;
       kept = refl;
       size = omega arith;
     }
@@ -117,7 +117,7 @@ read_terms-read_term-requires g t c κs within =
 pub read_terms-returns-in_err-term-clause-read : goal.read_terms-returns-in_err-term-clause-read
 read_terms-returns-in_err-term-clause-read g t c =
     let p = err_from_is_err_and c.from_residual.result c.from_residual.ensures.1 in
-    rw (p.1, p.2) (form.fails_same c.in_err-term.field-0.0 _ _ (sym c.loop-item.invariant.reads ∙ form.terms_more (environment_of c.args.env.now) c.args.locals.now.items (several_of g.T.Theory.denotes c.loop-item.done) (items_in c.loop-item.left) (item_of c.in-Some.item.now) (items_in c.in-Some.rest) c.in-Some.ensures) (form.fails_bind c.in_err-term.field-0.0 _ _ (form.fails_same c.in_err-term.field-0.0 _ _ (ap (λ l. spec.read_term (environment_of c.args.env.now) l (item_of c.in-Some.item.now)) (sym c.loop-item.invariant.kept)) c.in_err-term.ensures.read)))
+    rw (p.1, p.2) (form.fails_same c.in_err-term.field-0.0 _ _ (sym c.loop-item.invariant.reads ∙ form.terms_more (environment_of c.args.env.now) c.args.locals.now (several_of g.T.Theory.denotes c.loop-item.done) (items_in c.loop-item.left) (item_of c.in-Some.item.now) (items_in c.in-Some.rest) c.in-Some.ensures) (form.fails_bind c.in_err-term.field-0.0 _ _ (form.fails_same c.in_err-term.field-0.0 _ _ (ap (λ l. spec.read_term (environment_of c.args.env.now) l (item_of c.in-Some.item.now)) (sym c.loop-item.invariant.kept)) c.in_err-term.ensures.read)))
 
 pub read_terms-returns-in_err-term-clause-locals : goal.read_terms-returns-in_err-term-clause-locals
 read_terms-returns-in_err-term-clause-locals g t c =
@@ -142,16 +142,16 @@ pub read_terms-loop-item-preserved : goal.read_terms-loop-item-preserved
 read_terms-loop-item-preserved g t c =
     let is = ap (λ l. spec.read_term (environment_of c.args.env.now) l (item_of c.in-Some.item.now)) (sym c.loop-item.invariant.kept) ∙ c.in_ok-term.ensures.read in
     record {
-      reads = ap (λ d. spec.read_terms (environment_of c.args.env.now) c.args.locals.now.items d (items_in c.in-Some.rest)) c.in_ok-push.ensures
-          ∙ sym (form.bound (spec.read_term (environment_of c.args.env.now) c.args.locals.now.items (item_of c.in-Some.item.now)) (typed_of g.T.Theory.denotes c.in_ok-term.term) (λ y. spec.read_terms (environment_of c.args.env.now) c.args.locals.now.items (behind (several_of g.T.Theory.denotes c.loop-item.done) y) (items_in c.in-Some.rest)) is)
-          ∙ sym (form.terms_more (environment_of c.args.env.now) c.args.locals.now.items (several_of g.T.Theory.denotes c.loop-item.done) (items_in c.loop-item.left) (item_of c.in-Some.item.now) (items_in c.in-Some.rest) c.in-Some.ensures) ∙ c.loop-item.invariant.reads;
+      reads = ap (λ d. spec.read_terms (environment_of c.args.env.now) c.args.locals.now d (items_in c.in-Some.rest)) c.in_ok-push.ensures
+          ∙ sym (form.bound (spec.read_term (environment_of c.args.env.now) c.args.locals.now (item_of c.in-Some.item.now)) (typed_of g.T.Theory.denotes c.in_ok-term.term) (λ y. spec.read_terms (environment_of c.args.env.now) c.args.locals.now (behind (several_of g.T.Theory.denotes c.loop-item.done) y) (items_in c.in-Some.rest)) is)
+          ∙ sym (form.terms_more (environment_of c.args.env.now) c.args.locals.now (several_of g.T.Theory.denotes c.loop-item.done) (items_in c.loop-item.left) (item_of c.in-Some.item.now) (items_in c.in-Some.rest) c.in-Some.ensures) ∙ c.loop-item.invariant.reads;
       kept = c.in_ok-term.ensures.locals ∙ c.loop-item.invariant.kept;
       size = omega (arith, split_size (items_in c.loop-item.left) (item_of c.in-Some.item.now) (items_in c.in-Some.rest) c.in-Some.ensures, c.loop-item.invariant.size);
     }
 
 pub read_terms-returns-clause-read : goal.read_terms-returns-clause-read
 read_terms-returns-clause-read g t c =
-    sym c.loop-item.invariant.reads ∙ form.terms_none (environment_of c.args.env.now) c.args.locals.now.items (several_of g.T.Theory.denotes c.loop-item.done) (items_in c.loop-item.left) c.in_default.ensures
+    sym c.loop-item.invariant.reads ∙ form.terms_none (environment_of c.args.env.now) c.args.locals.now (several_of g.T.Theory.denotes c.loop-item.done) (items_in c.loop-item.left) c.in_default.ensures
 
 pub read_terms-returns-clause-locals : goal.read_terms-returns-clause-locals
 read_terms-returns-clause-locals g t c =
@@ -159,15 +159,15 @@ read_terms-returns-clause-locals g t c =
 
 pub read_let-returns-in_default-clause-read : goal.read_let-returns-in_default-clause-read
 read_let-returns-in_default-clause-read g t c =
-    form.let_none (environment_of c.args.env.now) c.args.locals.now.items c.args.place (items_in c.args.items) c.in_default.ensures
+    form.let_none (environment_of c.args.env.now) c.args.locals.now c.args.place (items_in c.args.items) c.in_default.ensures
 
 pub read_let-returns-in_default-split-clause-read : goal.read_let-returns-in_default-split-clause-read
 read_let-returns-in_default-split-clause-read g t c =
-    form.let_one (environment_of c.args.env.now) c.args.locals.now.items c.args.place (items_in c.args.items) (item_of c.in-Some.bindings.now) (items_in c.in-Some.rest) c.in-Some.ensures c.in_default-split.ensures
+    form.let_one (environment_of c.args.env.now) c.args.locals.now c.args.place (items_in c.args.items) (item_of c.in-Some.bindings.now) (items_in c.in-Some.rest) c.in-Some.ensures c.in_default-split.ensures
 
 pub read_let-returns-then-not-is_empty-clause-read : goal.read_let-returns-then-not-is_empty-clause-read
 read_let-returns-then-not-is_empty-clause-read g t c =
-    form.let_many (environment_of c.args.env.now) c.args.locals.now.items c.args.place (items_in c.args.items) (item_of c.in-Some.bindings.now) (items_in c.in-Some.rest) (item_of c.in-Some-split.inner.now) (items_in c.in-Some-split.rest) c.in-Some.ensures c.in-Some-split.ensures (sym c.is_empty.ensures ∙ c.if-not-is_empty.true)
+    form.let_many (environment_of c.args.env.now) c.args.locals.now c.args.place (items_in c.args.items) (item_of c.in-Some.bindings.now) (items_in c.in-Some.rest) (item_of c.in-Some-split.inner.now) (items_in c.in-Some-split.rest) c.in-Some.ensures c.in-Some-split.ensures (sym c.is_empty.ensures ∙ c.if-not-is_empty.true)
 
 pub read_let-read_binding_list-requires : goal.read_let-read_binding_list-requires
 read_let-read_binding_list-requires g t c κs within =
@@ -176,7 +176,7 @@ read_let-read_binding_list-requires g t c κs within =
 pub read_let-returns-in_err-bound-clause-read : goal.read_let-returns-in_err-bound-clause-read
 read_let-returns-in_err-bound-clause-read g t c =
     let p = err_from_is_err_and c.from_residual.result c.from_residual.ensures.1 in
-    rw (p.1, p.2) (form.fails_same c.in_err-bound.field-0.0 _ _ (form.let_two (environment_of c.args.env.now) c.args.locals.now.items c.args.place (items_in c.args.items) (item_of c.in-Some.bindings.now) (items_in c.in-Some.rest) (item_of c.in-Some-split.inner.now) (items_in c.in-Some-split.rest) c.in-Some.ensures c.in-Some-split.ensures (sym c.is_empty.ensures ∙ c.if-not-is_empty.false)) (form.fails_bind c.in_err-bound.field-0.0 _ _ c.in_err-bound.ensures.read))
+    rw (p.1, p.2) (form.fails_same c.in_err-bound.field-0.0 _ _ (form.let_two (environment_of c.args.env.now) c.args.locals.now c.args.place (items_in c.args.items) (item_of c.in-Some.bindings.now) (items_in c.in-Some.rest) (item_of c.in-Some-split.inner.now) (items_in c.in-Some-split.rest) c.in-Some.ensures c.in-Some-split.ensures (sym c.is_empty.ensures ∙ c.if-not-is_empty.false)) (form.fails_bind c.in_err-bound.field-0.0 _ _ c.in_err-bound.ensures.read))
 
 pub read_let-returns-in_err-bound-clause-locals : goal.read_let-returns-in_err-bound-clause-locals
 read_let-returns-in_err-bound-clause-locals g t c =
@@ -189,7 +189,7 @@ read_let-read_inner-requires g t c κs within =
 
 pub read_let-returns-clause-read : goal.read_let-returns-clause-read
 read_let-returns-clause-read g t c =
-    form.gives_same _ _ _ _ (form.let_two (environment_of c.args.env.now) c.args.locals.now.items c.args.place (items_in c.args.items) (item_of c.in-Some.bindings.now) (items_in c.in-Some.rest) (item_of c.in-Some-split.inner.now) (items_in c.in-Some-split.rest) c.in-Some.ensures c.in-Some-split.ensures (sym c.is_empty.ensures ∙ c.if-not-is_empty.false) ∙ form.bound _ (bounds_of g.T.Theory.denotes c.in_ok-bound.bound) (λ bs. spec.read_inner (environment_of c.args.env.now) c.args.locals.now.items bs (item_of c.in-Some-split.inner.now)) c.in_ok-bound.ensures.read ∙ ap (λ l. spec.read_inner (environment_of c.args.env.now) l (bounds_of g.T.Theory.denotes c.in_ok-bound.bound) (item_of c.in-Some-split.inner.now)) (sym c.in_ok-bound.ensures.locals)) c.read_inner.ensures.read
+    form.gives_same _ _ _ _ (form.let_two (environment_of c.args.env.now) c.args.locals.now c.args.place (items_in c.args.items) (item_of c.in-Some.bindings.now) (items_in c.in-Some.rest) (item_of c.in-Some-split.inner.now) (items_in c.in-Some-split.rest) c.in-Some.ensures c.in-Some-split.ensures (sym c.is_empty.ensures ∙ c.if-not-is_empty.false) ∙ form.bound _ (bounds_of g.T.Theory.denotes c.in_ok-bound.bound) (λ bs. spec.read_inner (environment_of c.args.env.now) c.args.locals.now bs (item_of c.in-Some-split.inner.now)) c.in_ok-bound.ensures.read ∙ ap (λ l. spec.read_inner (environment_of c.args.env.now) l (bounds_of g.T.Theory.denotes c.in_ok-bound.bound) (item_of c.in-Some-split.inner.now)) (sym c.in_ok-bound.ensures.locals)) c.read_inner.ensures.read
 
 pub read_let-returns-clause-locals : goal.read_let-returns-clause-locals
 read_let-returns-clause-locals g t c =
@@ -212,11 +212,21 @@ read_inner-read_term-requires g t c κs within =
 pub read_inner-returns-in_err-inner-clause-read : goal.read_inner-returns-in_err-inner-clause-read
 read_inner-returns-in_err-inner-clause-read g t c =
     let p = err_from_is_err_and c.from_residual-in_err-inner.result c.from_residual-in_err-inner.ensures.1 in
-    rw (p.1, p.2) (form.fails_bind c.in_err-inner.field-0.0 _ _ (form.fails_same c.in_err-inner.field-0.0 _ _ (ap (λ l. spec.read_term (environment_of c.args.env.now) l (item_of c.args.inner.now)) (sym c.in_ok-append.ensures.items)) c.in_err-inner.ensures.read))
+    rw (p.1, p.2) (form.fails_bind c.in_err-inner.field-0.0 _ _ (form.fails_same c.in_err-inner.field-0.0 _ _ (ap (λ l. spec.read_term (environment_of c.args.env.now) l (item_of c.args.inner.now)) (sym c.in_ok-append.ensures)) c.in_err-inner.ensures.read))
 
 pub read_inner-returns-in_err-inner-clause-locals : goal.read_inner-returns-in_err-inner-clause-locals
 read_inner-returns-in_err-inner-clause-locals g t c =
     let p = err_from_is_err_and c.from_residual-in_err-inner.result c.from_residual-in_err-inner.ensures.1 in
+    rw (p.1) tt
+
+pub read_inner-returns-in_err-truncate-clause-read : goal.read_inner-returns-in_err-truncate-clause-read
+read_inner-returns-in_err-truncate-clause-read g t c =
+    let p = err_from_is_err_and c.from_residual-in_err-truncate.result c.from_residual-in_err-truncate.ensures.1 in
+    rw (p.1, p.2) (tt)
+
+pub read_inner-returns-in_err-truncate-clause-locals : goal.read_inner-returns-in_err-truncate-clause-locals
+read_inner-returns-in_err-truncate-clause-locals g t c =
+    let p = err_from_is_err_and c.from_residual-in_err-truncate.result c.from_residual-in_err-truncate.ensures.1 in
     rw (p.1) tt
 
 pub read_inner-returns-in_err-term-clause-read : goal.read_inner-returns-in_err-term-clause-read
@@ -231,19 +241,19 @@ read_inner-returns-in_err-term-clause-locals g t c =
 
 pub read_inner-returns-clause-read : goal.read_inner-returns-clause-read
 read_inner-returns-clause-read g t c =
-    form.bound (spec.read_term (environment_of c.args.env.now) (c.args.locals.now.items ++ c.args.bound.names.items) (item_of c.args.inner.now)) (typed_of g.T.Theory.denotes c.in_ok-inner.inner) (λ y. spec.let_term (bounds_of g.T.Theory.denotes c.args.bound) y) (ap (λ l. spec.read_term (environment_of c.args.env.now) l (item_of c.args.inner.now)) (sym c.in_ok-append.ensures.items) ∙ c.in_ok-inner.ensures.read) ∙ ap Ok (sym c.in_ok-term.ensures)
+    form.bound (spec.read_term (environment_of c.args.env.now) (c.args.locals.now ++ c.args.bound.names) (item_of c.args.inner.now)) (typed_of g.T.Theory.denotes c.in_ok-inner.inner) (λ y. spec.let_term (bounds_of g.T.Theory.denotes c.args.bound) y) (ap (λ l. spec.read_term (environment_of c.args.env.now) l (item_of c.args.inner.now)) (sym c.in_ok-append.ensures) ∙ c.in_ok-inner.ensures.read) ∙ ap Ok (sym c.in_ok-term.ensures)
 
 pub read_inner-returns-clause-locals : goal.read_inner-returns-clause-locals
 read_inner-returns-clause-locals g t c =
-    c.truncate.ensures.items ∙ ap (take c.len-outside.result) (c.in_ok-inner.ensures.locals ∙ c.in_ok-append.ensures.items) ∙ ap (λ n. take n (c.args.locals.now.items ++ c.args.bound.names.items)) (c.len-outside.ensures ∙ c.args.locals.now.ok.0) ∙ form.take_front c.args.locals.now.items c.args.bound.names.items
+    c.in_ok-truncate.ensures ∙ ap (take c.len-outside.result) (c.in_ok-inner.ensures.locals ∙ c.in_ok-append.ensures) ∙ ap (λ n. take n (c.args.locals.now ++ c.args.bound.names)) c.len-outside.ensures ∙ form.take_front c.args.locals.now c.args.bound.names
 
 pub read_binding_list-returns-in-Atom-clause-read : goal.read_binding_list-returns-in-Atom-clause-read
 read_binding_list-returns-in-Atom-clause-read g t c =
-    form.bindings_leaf (environment_of c.args.env.now) c.args.locals.now.items c.args.place (item_of c.args.item.now) _ _ (ap item_of c.in-Atom.is)
+    form.bindings_leaf (environment_of c.args.env.now) c.args.locals.now c.args.place (item_of c.args.item.now) _ _ (ap item_of c.in-Atom.is)
 
 pub read_binding_list-returns-then-is_empty-clause-read : goal.read_binding_list-returns-then-is_empty-clause-read
 read_binding_list-returns-then-is_empty-clause-read g t c =
-    form.bindings_empty (environment_of c.args.env.now) c.args.locals.now.items c.args.place (item_of c.args.item.now) c.in-List.bindings c.in-List.field-1 (items_in c.all-bindings.result) (ap item_of c.in-List.is) c.all-bindings.ensures (sym c.is_empty.ensures ∙ c.if-is_empty.true)
+    form.bindings_empty (environment_of c.args.env.now) c.args.locals.now c.args.place (item_of c.args.item.now) c.in-List.bindings c.in-List.field-1 (items_in c.all-bindings.result) (ap item_of c.in-List.is) c.all-bindings.ensures (sym c.is_empty.ensures ∙ c.if-is_empty.true)
 
 pub read_binding_list-read_bindings-requires : goal.read_binding_list-read_bindings-requires
 read_binding_list-read_bindings-requires g t c κs within =
@@ -251,7 +261,7 @@ read_binding_list-read_bindings-requires g t c κs within =
 
 pub read_binding_list-returns-else-is_empty-clause-read : goal.read_binding_list-returns-else-is_empty-clause-read
 read_binding_list-returns-else-is_empty-clause-read g t c =
-    form.gives_same _ _ _ _ (form.bindings_group (environment_of c.args.env.now) c.args.locals.now.items c.args.place (item_of c.args.item.now) c.in-List.bindings c.in-List.field-1 (items_in c.all-bindings.result) (ap item_of c.in-List.is) c.all-bindings.ensures (sym c.is_empty.ensures ∙ c.if-is_empty.false)) c.read_bindings.ensures.read
+    form.gives_same _ _ _ _ (form.bindings_group (environment_of c.args.env.now) c.args.locals.now c.args.place (item_of c.args.item.now) c.in-List.bindings c.in-List.field-1 (items_in c.all-bindings.result) (ap item_of c.in-List.is) c.all-bindings.ensures (sym c.is_empty.ensures ∙ c.if-is_empty.false)) c.read_bindings.ensures.read
 
 pub read_binding_list-returns-else-is_empty-clause-locals : goal.read_binding_list-returns-else-is_empty-clause-locals
 read_binding_list-returns-else-is_empty-clause-locals g t c =
@@ -260,7 +270,7 @@ read_binding_list-returns-else-is_empty-clause-locals g t c =
 pub read_bindings-loop-item-init : goal.read_bindings-loop-item-init
 read_bindings-loop-item-init g t c =
     record {
-      reads = ap (λ d. spec.read_bindings (environment_of c.args.env.now) c.args.locals.now.items d (items_in c.args.items)) c.new-bound.ensures;
+      reads = ap (λ d. spec.read_bindings (environment_of c.args.env.now) c.args.locals.now d (items_in c.args.items)) c.new-bound.ensures;
       kept = refl;
       size = omega arith;
     }
@@ -272,7 +282,7 @@ read_bindings-read_binding-requires g t c κs within =
 pub read_bindings-returns-in_err-binding-clause-read : goal.read_bindings-returns-in_err-binding-clause-read
 read_bindings-returns-in_err-binding-clause-read g t c =
     let p = err_from_is_err_and c.from_residual.result c.from_residual.ensures.1 in
-    rw (p.1, p.2) (form.fails_same c.in_err-binding.field-0.0 _ _ (sym c.loop-item.invariant.reads ∙ form.bindings_more (environment_of c.args.env.now) c.args.locals.now.items (bounds_of g.T.Theory.denotes c.loop-item.bound) (items_in c.loop-item.left) (item_of c.in-Some.item.now) (items_in c.in-Some.rest) c.in-Some.ensures) (form.fails_bind c.in_err-binding.field-0.0 _ _ (form.fails_same c.in_err-binding.field-0.0 _ _ (ap (λ l. spec.read_binding (environment_of c.args.env.now) l c.loop-item.bound.names.items (item_of c.in-Some.item.now)) (sym c.loop-item.invariant.kept) ∙ ap (λ n. spec.read_binding (environment_of c.args.env.now) c.loop-item.locals.items n (item_of c.in-Some.item.now)) (sym c.as_slice.ensures.value)) c.in_err-binding.ensures.read)))
+    rw (p.1, p.2) (form.fails_same c.in_err-binding.field-0.0 _ _ (sym c.loop-item.invariant.reads ∙ form.bindings_more (environment_of c.args.env.now) c.args.locals.now (bounds_of g.T.Theory.denotes c.loop-item.bound) (items_in c.loop-item.left) (item_of c.in-Some.item.now) (items_in c.in-Some.rest) c.in-Some.ensures) (form.fails_bind c.in_err-binding.field-0.0 _ _ (form.fails_same c.in_err-binding.field-0.0 _ _ (ap (λ l. spec.read_binding (environment_of c.args.env.now) l c.loop-item.bound.names (item_of c.in-Some.item.now)) (sym c.loop-item.invariant.kept)) c.in_err-binding.ensures.read)))
 
 pub read_bindings-returns-in_err-binding-clause-locals : goal.read_bindings-returns-in_err-binding-clause-locals
 read_bindings-returns-in_err-binding-clause-locals g t c =
@@ -295,18 +305,18 @@ read_bindings-loop-item-smaller g t c =
 
 pub read_bindings-loop-item-preserved : goal.read_bindings-loop-item-preserved
 read_bindings-loop-item-preserved g t c =
-    let is = ap (λ l. spec.read_binding (environment_of c.args.env.now) l c.loop-item.bound.names.items (item_of c.in-Some.item.now)) (sym c.loop-item.invariant.kept) ∙ ap (λ n. spec.read_binding (environment_of c.args.env.now) c.loop-item.locals.items n (item_of c.in-Some.item.now)) (sym c.as_slice.ensures.value) ∙ c.in_ok-binding.ensures.read in
+    let is = ap (λ l. spec.read_binding (environment_of c.args.env.now) l c.loop-item.bound.names (item_of c.in-Some.item.now)) (sym c.loop-item.invariant.kept) ∙ c.in_ok-binding.ensures.read in
     record {
-      reads = ap (λ d. spec.read_bindings (environment_of c.args.env.now) c.args.locals.now.items d (items_in c.in-Some.rest)) c.in_ok-push.ensures
-          ∙ sym (form.bound (spec.read_binding (environment_of c.args.env.now) c.args.locals.now.items c.loop-item.bound.names.items (item_of c.in-Some.item.now)) (bound_of g.T.Theory.denotes c.in_ok-binding.binding) (λ y. spec.read_bindings (environment_of c.args.env.now) c.args.locals.now.items (spec.bound_behind (bounds_of g.T.Theory.denotes c.loop-item.bound) y) (items_in c.in-Some.rest)) is)
-          ∙ sym (form.bindings_more (environment_of c.args.env.now) c.args.locals.now.items (bounds_of g.T.Theory.denotes c.loop-item.bound) (items_in c.loop-item.left) (item_of c.in-Some.item.now) (items_in c.in-Some.rest) c.in-Some.ensures) ∙ c.loop-item.invariant.reads;
+      reads = ap (λ d. spec.read_bindings (environment_of c.args.env.now) c.args.locals.now d (items_in c.in-Some.rest)) c.in_ok-push.ensures
+          ∙ sym (form.bound (spec.read_binding (environment_of c.args.env.now) c.args.locals.now c.loop-item.bound.names (item_of c.in-Some.item.now)) (bound_of g.T.Theory.denotes c.in_ok-binding.binding) (λ y. spec.read_bindings (environment_of c.args.env.now) c.args.locals.now (spec.bound_behind (bounds_of g.T.Theory.denotes c.loop-item.bound) y) (items_in c.in-Some.rest)) is)
+          ∙ sym (form.bindings_more (environment_of c.args.env.now) c.args.locals.now (bounds_of g.T.Theory.denotes c.loop-item.bound) (items_in c.loop-item.left) (item_of c.in-Some.item.now) (items_in c.in-Some.rest) c.in-Some.ensures) ∙ c.loop-item.invariant.reads;
       kept = c.in_ok-binding.ensures.locals ∙ c.loop-item.invariant.kept;
       size = omega (arith, split_size (items_in c.loop-item.left) (item_of c.in-Some.item.now) (items_in c.in-Some.rest) c.in-Some.ensures, c.loop-item.invariant.size);
     }
 
 pub read_bindings-returns-clause-read : goal.read_bindings-returns-clause-read
 read_bindings-returns-clause-read g t c =
-    sym c.loop-item.invariant.reads ∙ form.bindings_none (environment_of c.args.env.now) c.args.locals.now.items (bounds_of g.T.Theory.denotes c.loop-item.bound) (items_in c.loop-item.left) c.in_default.ensures
+    sym c.loop-item.invariant.reads ∙ form.bindings_none (environment_of c.args.env.now) c.args.locals.now (bounds_of g.T.Theory.denotes c.loop-item.bound) (items_in c.loop-item.left) c.in_default.ensures
 
 pub read_bindings-returns-clause-locals : goal.read_bindings-returns-clause-locals
 read_bindings-returns-clause-locals g t c =
@@ -314,7 +324,7 @@ read_bindings-returns-clause-locals g t c =
 
 pub read_binding-returns-in-Atom-clause-read : goal.read_binding-returns-in-Atom-clause-read
 read_binding-returns-in-Atom-clause-read g t c =
-    form.binding_leaf (environment_of c.args.env.now) c.args.locals.now.items c.args.taken.now (item_of c.args.item.now) _ c.in-Atom.place (ap item_of c.in-Atom.is)
+    form.binding_leaf (environment_of c.args.env.now) c.args.locals.now c.args.taken.now (item_of c.args.item.now) _ c.in-Atom.place (ap item_of c.in-Atom.is)
 
 pub read_binding-read_pair-requires : goal.read_binding-read_pair-requires
 read_binding-read_pair-requires g t c κs within =
@@ -322,7 +332,7 @@ read_binding-read_pair-requires g t c κs within =
 
 pub read_binding-returns-in-List-clause-read : goal.read_binding-returns-in-List-clause-read
 read_binding-returns-in-List-clause-read g t c =
-    form.gives_same _ _ _ _ (form.binding_group (environment_of c.args.env.now) c.args.locals.now.items c.args.taken.now (item_of c.args.item.now) c.in-List.items c.in-List.place (items_in c.all.result) (ap item_of c.in-List.is) c.all.ensures) c.read_pair.ensures.read
+    form.gives_same _ _ _ _ (form.binding_group (environment_of c.args.env.now) c.args.locals.now c.args.taken.now (item_of c.args.item.now) c.in-List.items c.in-List.place (items_in c.all.result) (ap item_of c.in-List.is) c.all.ensures) c.read_pair.ensures.read
 
 pub read_binding-returns-in-List-clause-locals : goal.read_binding-returns-in-List-clause-locals
 read_binding-returns-in-List-clause-locals g t c =
@@ -330,20 +340,20 @@ read_binding-returns-in-List-clause-locals g t c =
 
 pub read_pair-returns-in_default-clause-read : goal.read_pair-returns-in_default-clause-read
 read_pair-returns-in_default-clause-read g t c =
-    form.pair_none (environment_of c.args.env.now) c.args.locals.now.items c.args.taken.now c.args.place (items_in c.args.items) c.in_default.ensures
+    form.pair_none (environment_of c.args.env.now) c.args.locals.now c.args.taken.now c.args.place (items_in c.args.items) c.in_default.ensures
 
 pub read_pair-returns-in_default-split-clause-read : goal.read_pair-returns-in_default-split-clause-read
 read_pair-returns-in_default-split-clause-read g t c =
-    form.pair_one (environment_of c.args.env.now) c.args.locals.now.items c.args.taken.now c.args.place (items_in c.args.items) (item_of c.in-Some.name.now) (items_in c.in-Some.rest) c.in-Some.ensures c.in_default-split.ensures
+    form.pair_one (environment_of c.args.env.now) c.args.locals.now c.args.taken.now c.args.place (items_in c.args.items) (item_of c.in-Some.name.now) (items_in c.in-Some.rest) c.in-Some.ensures c.in_default-split.ensures
 
 pub read_pair-returns-then-not-is_empty-clause-read : goal.read_pair-returns-then-not-is_empty-clause-read
 read_pair-returns-then-not-is_empty-clause-read g t c =
-    form.pair_many (environment_of c.args.env.now) c.args.locals.now.items c.args.taken.now c.args.place (items_in c.args.items) (item_of c.in-Some.name.now) (items_in c.in-Some.rest) (item_of c.in-Some-split.term.now) (items_in c.in-Some-split.rest) c.in-Some.ensures c.in-Some-split.ensures (sym c.is_empty.ensures ∙ c.if-not-is_empty.true)
+    form.pair_many (environment_of c.args.env.now) c.args.locals.now c.args.taken.now c.args.place (items_in c.args.items) (item_of c.in-Some.name.now) (items_in c.in-Some.rest) (item_of c.in-Some-split.term.now) (items_in c.in-Some-split.rest) c.in-Some.ensures c.in-Some-split.ensures (sym c.is_empty.ensures ∙ c.if-not-is_empty.true)
 
 pub read_pair-returns-in_err-name-clause-read : goal.read_pair-returns-in_err-name-clause-read
 read_pair-returns-in_err-name-clause-read g t c =
     let p = err_from_is_err_and c.from_residual.result c.from_residual.ensures.1 in
-    rw (p.1, p.2) (form.fails_same c.in_err-name.field-0.0 _ _ (form.pair_two (environment_of c.args.env.now) c.args.locals.now.items c.args.taken.now c.args.place (items_in c.args.items) (item_of c.in-Some.name.now) (items_in c.in-Some.rest) (item_of c.in-Some-split.term.now) (items_in c.in-Some-split.rest) c.in-Some.ensures c.in-Some-split.ensures (sym c.is_empty.ensures ∙ c.if-not-is_empty.false)) (form.fails_bind c.in_err-name.field-0.0 _ _ c.in_err-name.ensures))
+    rw (p.1, p.2) (form.fails_same c.in_err-name.field-0.0 _ _ (form.pair_two (environment_of c.args.env.now) c.args.locals.now c.args.taken.now c.args.place (items_in c.args.items) (item_of c.in-Some.name.now) (items_in c.in-Some.rest) (item_of c.in-Some-split.term.now) (items_in c.in-Some-split.rest) c.in-Some.ensures c.in-Some-split.ensures (sym c.is_empty.ensures ∙ c.if-not-is_empty.false)) (form.fails_bind c.in_err-name.field-0.0 _ _ c.in_err-name.ensures))
 
 pub read_pair-returns-in_err-name-clause-locals : goal.read_pair-returns-in_err-name-clause-locals
 read_pair-returns-in_err-name-clause-locals g t c =
@@ -357,7 +367,7 @@ read_pair-read_term-requires g t c κs within =
 pub read_pair-returns-in_err-term-clause-read : goal.read_pair-returns-in_err-term-clause-read
 read_pair-returns-in_err-term-clause-read g t c =
     let p = err_from_is_err_and c.from_residual-in_err-term.result c.from_residual-in_err-term.ensures.1 in
-    rw (p.1, p.2) (form.fails_same c.in_err-term.field-0.0 _ _ (form.pair_two (environment_of c.args.env.now) c.args.locals.now.items c.args.taken.now c.args.place (items_in c.args.items) (item_of c.in-Some.name.now) (items_in c.in-Some.rest) (item_of c.in-Some-split.term.now) (items_in c.in-Some-split.rest) c.in-Some.ensures c.in-Some-split.ensures (sym c.is_empty.ensures ∙ c.if-not-is_empty.false)) (form.fails_next c.in_err-term.field-0.0 _ c.in_ok-name.name.now _ c.in_ok-name.ensures (form.fails_bind c.in_err-term.field-0.0 _ _ c.in_err-term.ensures.read)))
+    rw (p.1, p.2) (form.fails_same c.in_err-term.field-0.0 _ _ (form.pair_two (environment_of c.args.env.now) c.args.locals.now c.args.taken.now c.args.place (items_in c.args.items) (item_of c.in-Some.name.now) (items_in c.in-Some.rest) (item_of c.in-Some-split.term.now) (items_in c.in-Some-split.rest) c.in-Some.ensures c.in-Some-split.ensures (sym c.is_empty.ensures ∙ c.if-not-is_empty.false)) (form.fails_next c.in_err-term.field-0.0 _ c.in_ok-name.name.now _ c.in_ok-name.ensures (form.fails_bind c.in_err-term.field-0.0 _ _ c.in_err-term.ensures.read)))
 
 pub read_pair-returns-in_err-term-clause-locals : goal.read_pair-returns-in_err-term-clause-locals
 read_pair-returns-in_err-term-clause-locals g t c =
@@ -376,7 +386,7 @@ read_pair-returns-in_err-name-2-clause-locals g t c =
 
 pub read_pair-returns-clause-read : goal.read_pair-returns-clause-read
 read_pair-returns-clause-read g t c =
-    form.pair_two (environment_of c.args.env.now) c.args.locals.now.items c.args.taken.now c.args.place (items_in c.args.items) (item_of c.in-Some.name.now) (items_in c.in-Some.rest) (item_of c.in-Some-split.term.now) (items_in c.in-Some-split.rest) c.in-Some.ensures c.in-Some-split.ensures (sym c.is_empty.ensures ∙ c.if-not-is_empty.false)
+    form.pair_two (environment_of c.args.env.now) c.args.locals.now c.args.taken.now c.args.place (items_in c.args.items) (item_of c.in-Some.name.now) (items_in c.in-Some.rest) (item_of c.in-Some-split.term.now) (items_in c.in-Some-split.rest) c.in-Some.ensures c.in-Some-split.ensures (sym c.is_empty.ensures ∙ c.if-not-is_empty.false)
     ∙ form.bound _ c.in_ok-name.name.now _ c.in_ok-name.ensures ∙ form.bound _ (typed_of g.T.Theory.denotes c.in_ok-term.term) _ c.in_ok-term.ensures.read
     ∙ ap (λ n. Ok (spec.bound_to n (typed_of g.T.Theory.denotes c.in_ok-term.term))) (sym c.in_ok-name-2.ensures)
 

@@ -38,8 +38,8 @@ decreases-read_pair g l = 2 * items_size (items_in l.items) + 1
 abbrev pub invariant-read_terms-loop-item : goal.invariant-read_terms-loop-item
 invariant-read_terms-loop-item g l =
     record {
-      reads : spec.read_terms (environment_of l.env) l.fn.locals.items (several_of g.T.Theory.denotes l.done) (items_in l.left) ≡ spec.read_terms (environment_of l.env) l.fn.locals.items nothing (items_in l.fn.items);
-      kept : l.locals.items ≡ l.fn.locals.items;
+      reads : spec.read_terms (environment_of l.env) l.fn.locals (several_of g.T.Theory.denotes l.done) (items_in l.left) ≡ spec.read_terms (environment_of l.env) l.fn.locals nothing (items_in l.fn.items);
+      kept : l.locals ≡ l.fn.locals;
       size : items_size (items_in l.left) ≤ items_size (items_in l.fn.items);
     }
 
@@ -49,8 +49,8 @@ decreases-read_terms-loop-item g l = length (listed (items_in l.left))
 abbrev pub invariant-read_bindings-loop-item : goal.invariant-read_bindings-loop-item
 invariant-read_bindings-loop-item g l =
     record {
-      reads : spec.read_bindings (environment_of l.env) l.fn.locals.items (bounds_of g.T.Theory.denotes l.bound) (items_in l.left) ≡ spec.read_bindings (environment_of l.env) l.fn.locals.items spec.unbound (items_in l.fn.items);
-      kept : l.locals.items ≡ l.fn.locals.items;
+      reads : spec.read_bindings (environment_of l.env) l.fn.locals (bounds_of g.T.Theory.denotes l.bound) (items_in l.left) ≡ spec.read_bindings (environment_of l.env) l.fn.locals spec.unbound (items_in l.fn.items);
+      kept : l.locals ≡ l.fn.locals;
       size : items_size (items_in l.left) ≤ items_size (items_in l.fn.items);
     }
 

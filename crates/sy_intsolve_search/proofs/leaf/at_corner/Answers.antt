@@ -5,7 +5,6 @@ use Rattle.std.proofs.lemmas.Int.{to_z-of_z}
 use Rattle.sy_linear_known.specs.Stored.{query_of}
 use Rattle.sy_intsolve_points.specs.Points.{IsAt, IsFirstBroken}
 use Rattle.sy_intsolve_trees.specs.declared.fork.Fork.TheVariants.{Branch}
-use Rattle.sy_intsolve_trees.specs.declared.step.Order.TheVariants.{First}
 use Rattle.sy_intsolve_trees.specs.Growing.{IsFork}
 use Rattle.sy_intsolve_search.specs.Ways.{CanTurn}
 use Rattle.sy_intsolve_search.proofs.leaf.at_corner.Goals as goal
@@ -22,13 +21,16 @@ model-requires c = record {
   whole = c.in-None.ensures;
 }
 
-pub grow-requires : goal.grow-requires
-grow-requires c =
+pub cut_or_branch-requires : goal.cut_or_branch-requires
+cut_or_branch-requires c =
     let fits : SFits w128 c.in-Some.bound = search rules in
     let same = sym (to_z-of_z w128 c.in-Some.bound fits) in
     record {
+      asked = c.requires.asked;
       leaf = c.requires.leaf;
-      fork = subst (λ bound. IsFork First (query_of c.args.query.now) c.args.way.facts.items (Branch c.in-Some.variable bound) c.args.point) same
+      known = c.requires.known;
+      corner = c.requires.corner;
+      fork = subst (λ bound. IsFork c.args.plan.now.order (query_of c.args.query.now) c.args.way.facts.items (Branch c.in-Some.variable bound) c.args.point) same
           (c.in-Some.ensures.1, c.requires.known, c.requires.corner, subst (λ p. IsFirstBroken p c.in-Some.variable c.in-Some.bound) c.as_slice-here.ensures c.in-Some.ensures.0);
       turns = subst (λ bound. CanTurn c.args.query.now.vars c.args.way.facts.items (Branch c.in-Some.variable bound)) same (c.requires.leaf.path, c.in-Some.ensures.1);
     }

@@ -6,10 +6,10 @@ use Rattle.sy_intsolve_search.proofs.Ways.{leaf-closed, inner-shown}
 use Rattle.sy_intsolve_search.proofs.leaf.look.Goals as goal
 
 pub returns-in-False : goal.returns-in-False
-returns-in-False c = ((leaf-closed (query_of c.args.query.now) c.args.limits.now.nodes c.args.way Shown c.requires.leaf inner-shown (sym c.in_ok-known.ensures.known ∙ c.in-False.is) refl, c.requires.leaf.within), omega arith)
+returns-in-False c = ((leaf-closed c.args.plan.now.order (query_of c.args.query.now) c.args.plan.now.limits.nodes c.args.way Shown c.requires.leaf inner-shown (sym c.in_ok-known.ensures.known ∙ c.in-False.is) refl, c.requires.leaf.within), omega arith)
 
 pub returns-in_ok-spent-in-OutOfRange : goal.returns-in_ok-spent-in-OutOfRange
-returns-in_ok-spent-in-OutOfRange c = c.in_ok-spent-in-OutOfRange.ensures (query_of c.args.query.now) c.args.limits.now c.requires.leaf.way c.requires.leaf.within (subst (IsMisfit (query_of c.args.query.now) c.args.way.facts.items) c.in-OutOfRange.is c.in_ok-known.ensures.range)
+returns-in_ok-spent-in-OutOfRange c = c.in_ok-spent-in-OutOfRange.ensures c.args.plan.now.order (query_of c.args.query.now) c.args.plan.now.limits c.requires.leaf.way c.requires.leaf.within (subst (IsMisfit (query_of c.args.query.now) c.args.way.facts.items) c.in-OutOfRange.is c.in_ok-known.ensures.range)
 
 pub settled-requires : goal.settled-requires
 settled-requires c = record {

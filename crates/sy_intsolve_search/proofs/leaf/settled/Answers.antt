@@ -16,13 +16,13 @@ whole_model-requires c = record {
 }
 
 pub returns-in-Conflict : goal.returns-in-Conflict
-returns-in-Conflict c = ((leaf-closed (query_of c.args.query.now) c.args.limits.now.nodes c.args.way (Farkas c.in-Conflict.multipliers) c.requires.leaf (inner-farkas c.in-Conflict.multipliers) (subst (TellsCorner c.args.query.now.vars c.args.way.facts.items c.args.limits.now.pivots) c.in-Conflict.is c.in_ok-answer.ensures) refl, c.requires.leaf.within), omega arith)
+returns-in-Conflict c = ((leaf-closed c.args.plan.now.order (query_of c.args.query.now) c.args.plan.now.limits.nodes c.args.way (Farkas c.in-Conflict.multipliers) c.requires.leaf (inner-farkas c.in-Conflict.multipliers) (subst (TellsCorner c.args.query.now.vars c.args.way.facts.items c.args.plan.now.limits.pivots) c.in-Conflict.is c.in_ok-end.ensures) refl, c.requires.leaf.within), omega arith)
 
 pub returns-in_ok-spent-in-Pivots : goal.returns-in_ok-spent-in-Pivots
-returns-in_ok-spent-in-Pivots c = c.in_ok-spent-in-Pivots.ensures (query_of c.args.query.now) c.args.limits.now c.requires.leaf.way c.requires.leaf.within (subst (TellsCorner c.args.query.now.vars c.args.way.facts.items c.args.limits.now.pivots) c.in-Pivots.is c.in_ok-answer.ensures)
+returns-in_ok-spent-in-Pivots c = c.in_ok-spent-in-Pivots.ensures c.args.plan.now.order (query_of c.args.query.now) c.args.plan.now.limits c.requires.leaf.way c.requires.leaf.within (subst (TellsCorner c.args.query.now.vars c.args.way.facts.items c.args.plan.now.limits.pivots) c.in-Pivots.is c.in_ok-end.ensures)
 
 pub returns-in_ok-spent-in-Range : goal.returns-in_ok-spent-in-Range
-returns-in_ok-spent-in-Range c = c.in_ok-spent-in-Range.ensures (query_of c.args.query.now) c.args.limits.now c.requires.leaf.way c.requires.leaf.within (subst (TellsCorner c.args.query.now.vars c.args.way.facts.items c.args.limits.now.pivots) c.in-Range.is c.in_ok-answer.ensures)
+returns-in_ok-spent-in-Range c = c.in_ok-spent-in-Range.ensures c.args.plan.now.order (query_of c.args.query.now) c.args.plan.now.limits c.requires.leaf.way c.requires.leaf.within (subst (TellsCorner c.args.query.now.vars c.args.way.facts.items c.args.plan.now.limits.pivots) c.in-Range.is c.in_ok-end.ensures)
 
 pub at_corner-requires : goal.at_corner-requires
 at_corner-requires c = record {
@@ -30,5 +30,5 @@ at_corner-requires c = record {
   leaf = c.requires.leaf;
   known = c.requires.known;
   right = c.requires.right;
-  corner = subst (TellsCorner c.args.query.now.vars c.args.way.facts.items c.args.limits.now.pivots) c.in-Point.is c.in_ok-answer.ensures;
+  corner = subst (TellsCorner c.args.query.now.vars c.args.way.facts.items c.args.plan.now.limits.pivots) c.in-Point.is c.in_ok-end.ensures;
 }

@@ -1,23 +1,26 @@
 use Rattle.std.proofs.Common.{arith, refl, subst}
 use Rattle.sy_linear_known.specs.Stored.{query_of}
 use Rattle.sy_intsolve_trees.specs.Growing.{Farkas}
-use Rattle.sy_intsolve_search.proofs.Ends.{split-fork, split-turn}
+use Rattle.sy_intsolve_search.proofs.Ends.{split-fork}
 use Rattle.sy_intsolve_search.specs.Ways.{TellsPoint}
 use Rattle.sy_intsolve_search.proofs.Ways.{leaf-closed, inner-farkas}
 use Rattle.sy_intsolve_search.proofs.leaf.undecided.Goals as goal
 
+pub chosen_test-requires : goal.chosen_test-requires
+chosen_test-requires c = record { asked = c.requires.asked; path = c.requires.leaf.path; known = c.requires.known }
+
 pub grow-requires : goal.grow-requires
 grow-requires c = record {
   leaf = c.requires.leaf;
-  fork = split-fork (query_of c.args.query.now) c.args.way.facts.items c.args.test c.in-Point.near c.requires.leaf.path c.requires.known (subst (TellsPoint c.args.query.now.vars c.args.way.facts.items c.args.limits.now.pivots) c.in-Point.is c.in_ok-answer.ensures);
-  turns = split-turn (query_of c.args.query.now) c.args.way.facts.items c.args.test c.requires.leaf.path c.requires.known;
+  fork = split-fork c.args.plan.now.order (query_of c.args.query.now) c.args.way.facts.items c.in_ok-test-in-Point.test c.in-Point.near c.in_ok-test-in-Point.ensures (subst (TellsPoint c.args.query.now.vars c.args.way.facts.items c.args.plan.now.limits.pivots) c.in-Point.is c.in_ok-answer.ensures);
+  turns = c.in_ok-test-in-Point.ensures.turns;
 }
 
 pub returns-in-Conflict : goal.returns-in-Conflict
-returns-in-Conflict c = ((leaf-closed (query_of c.args.query.now) c.args.limits.now.nodes c.args.way (Farkas c.in-Conflict.multipliers) c.requires.leaf (inner-farkas c.in-Conflict.multipliers) (subst (TellsPoint c.args.query.now.vars c.args.way.facts.items c.args.limits.now.pivots) c.in-Conflict.is c.in_ok-answer.ensures) refl, c.requires.leaf.within), omega arith)
+returns-in-Conflict c = ((leaf-closed c.args.plan.now.order (query_of c.args.query.now) c.args.plan.now.limits.nodes c.args.way (Farkas c.in-Conflict.multipliers) c.requires.leaf (inner-farkas c.in-Conflict.multipliers) (subst (TellsPoint c.args.query.now.vars c.args.way.facts.items c.args.plan.now.limits.pivots) c.in-Conflict.is c.in_ok-answer.ensures) refl, c.requires.leaf.within), omega arith)
 
 pub returns-in_ok-spent-in-Pivots : goal.returns-in_ok-spent-in-Pivots
-returns-in_ok-spent-in-Pivots c = c.in_ok-spent-in-Pivots.ensures (query_of c.args.query.now) c.args.limits.now c.requires.leaf.way c.requires.leaf.within (subst (TellsPoint c.args.query.now.vars c.args.way.facts.items c.args.limits.now.pivots) c.in-Pivots.is c.in_ok-answer.ensures)
+returns-in_ok-spent-in-Pivots c = c.in_ok-spent-in-Pivots.ensures c.args.plan.now.order (query_of c.args.query.now) c.args.plan.now.limits c.requires.leaf.way c.requires.leaf.within (subst (TellsPoint c.args.query.now.vars c.args.way.facts.items c.args.plan.now.limits.pivots) c.in-Pivots.is c.in_ok-answer.ensures)
 
 pub returns-in_ok-spent-in-Range : goal.returns-in_ok-spent-in-Range
-returns-in_ok-spent-in-Range c = c.in_ok-spent-in-Range.ensures (query_of c.args.query.now) c.args.limits.now c.requires.leaf.way c.requires.leaf.within (subst (TellsPoint c.args.query.now.vars c.args.way.facts.items c.args.limits.now.pivots) c.in-Range.is c.in_ok-answer.ensures)
+returns-in_ok-spent-in-Range c = c.in_ok-spent-in-Range.ensures c.args.plan.now.order (query_of c.args.query.now) c.args.plan.now.limits c.requires.leaf.way c.requires.leaf.within (subst (TellsPoint c.args.query.now.vars c.args.way.facts.items c.args.plan.now.limits.pivots) c.in-Range.is c.in_ok-answer.ensures)

@@ -10,4 +10,4 @@ corner-requires c = record {
 }
 
 pub returns : goal.returns
-returns c = tells-corner c.args.query.now.vars c.as_slice-vars.result.now c.args.way.now.facts.items c.as_slice-facts.result.now c.args.pivots c.in_ok-feasible.feasible c.as_slice-vars.ensures c.as_slice-facts.ensures.value c.in_ok-feasible.ensures.sound c.in_ok-feasible.ensures.exact
+returns c = tells-corner c.args.query.now.vars c.as_slice-vars.result.now c.args.way.now.facts.items c.as_slice-facts.result.now c.args.pivots c.in_ok-end.end.answer c.as_slice-vars.ensures c.as_slice-facts.ensures.value c.in_ok-end.ensures.sound c.in_ok-end.ensures.exact

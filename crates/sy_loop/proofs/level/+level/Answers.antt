@@ -9,7 +9,7 @@ use Rattle.sy_loop_history.specs.Histories.{IsOpenNumber}
 use Rattle.sy_loop_history.specs.Stored.{history_of}
 use Rattle.sy_loop.specs.Levels.{AreHonest, IsBegun, AreChoices, AllAreRefuted}
 use Rattle.sy_loop.proofs.Choosing.{next_begun, next_length, kept_choices, chosen_all, chosen_popped}
-use Rattle.sy_loop.proofs.Going.{same_room, goes_by, goes_after, refuted_by}
+use Rattle.sy_loop_join.proofs.Going.{same_room, goes_by, goes_after, refuted_by}
 use Rattle.sy_loop.proofs.Refuting.{one_refuted, none_refuted, next_refuted, kept_refuted, size_refuted, sizes_refuted}
 use Rattle.sy_loop.proofs.level.+level.Goals as goal
 use Rattle.sy_loop.proofs.level.+level.Goals.{try_rest-then-function-task-2, try_rest-else-function-task-2}

@@ -1,27 +1,37 @@
+use Rattle.std.proofs.Common.{map}
+use Rattle.sy_terms.specs.Denoted.{expr_of}
+use Rattle.sy_grammar_base.specs.Questions.{question_of}
 use Rattle.sy_points.specs.Asked.{tuples_of}
+use Rattle.sy_loop_history.specs.Stored.{history_of}
 use Rattle.sy_loop.proofs.Building.{tuples_at}
+use Rattle.sy_loop.proofs.Least.{found_least}
 use Rattle.sy_loop.proofs.outcome.ended.Goals as goal
 
 pub of-requires : goal.of-requires
-of-requires g c = (rw c.in-Points.is at c.requires).1
+of-requires g c = (rw c.in-Points.is at c.requires.end).1
 
-pub returns-in-Found : goal.returns-in-Found
-returns-in-Found g c = (rw c.in-Found.is at c.requires).0
+pub returns-in-Found-clause-right : goal.returns-in-Found-clause-right
+returns-in-Found-clause-right g c = (rw c.in-Found.is at c.requires.end).0
 
-pub returns-in-Rounds : goal.returns-in-Rounds
-returns-in-Rounds g c = rw c.in-Rounds.is at c.requires
+pub returns-in-Rounds-clause-right : goal.returns-in-Rounds-clause-right
+returns-in-Rounds-clause-right g c = rw c.in-Rounds.is at c.requires.end
 
-pub returns-in_ok-tuples-in-Points : goal.returns-in_ok-tuples-in-Points
-returns-in_ok-tuples-in-Points g c =
-    let is = rw c.in-Points.is at c.requires in
+pub returns-in_ok-tuples-in-Points-clause-right : goal.returns-in_ok-tuples-in-Points-clause-right
+returns-in_ok-tuples-in-Points-clause-right g c =
+    let is = rw c.in-Points.is at c.requires.end in
     let same = tuples_at c.args.known.points c.in-Points.function (tuples_of g.T.Theory.denotes c.of.result.now) c.of.ensures.list in
     rw (c.in_ok-tuples-in-Points.ensures, ← same) is.0
 
-pub returns-in-Weight : goal.returns-in-Weight
-returns-in-Weight g c = rw c.in-Weight.is at c.requires
+pub returns-in-Weight-clause-right : goal.returns-in-Weight-clause-right
+returns-in-Weight-clause-right g c = rw c.in-Weight.is at c.requires.end
 
-pub returns-in-Decide : goal.returns-in-Decide
-returns-in-Decide g c = rw c.in-Decide.is at c.requires
+pub returns-in-Decide-clause-right : goal.returns-in-Decide-clause-right
+returns-in-Decide-clause-right g c = rw c.in-Decide.is at c.requires.end
 
-pub returns-in-Checked : goal.returns-in-Checked
-returns-in-Checked g c = rw c.in-Checked.is at c.requires
+pub returns-in-Checked-clause-right : goal.returns-in-Checked-clause-right
+returns-in-Checked-clause-right g c = rw c.in-Checked.is at c.requires.end
+
+pub returns-in-Found-clause-least : goal.returns-in-Found-clause-least
+returns-in-Found-clause-least g c =
+    found_least c.args._reach (question_of g.T.Theory.denotes c.args._problem.now) c.args._limits.now (history_of g.T.Theory.denotes c.args.known.stored) (map (expr_of g.T.Theory.denotes) c.in-Found.bodies) c.requires.strict c.requires.known.honest
+    (rw c.in-Found.is at c.requires.end).1

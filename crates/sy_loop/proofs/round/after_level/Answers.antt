@@ -1,4 +1,4 @@
-use Rattle.std.proofs.Common.{arith, map, length, ◌+◌, ◌≡◌, ◌∙◌, refl, inr, sym, subst}
+use Rattle.std.proofs.Common.{arith, map, ◌+◌, ◌≡◌, refl, inr, subst}
 use Rattle.std.proofs.lemmas.List.{length-map}
 use Rattle.sy_grammar_base.specs.Questions.{question_of, goal_of}
 use Rattle.sy_bank.specs.Bank.{merged_of}
@@ -7,7 +7,7 @@ use Rattle.sy_loop_laws.specs.Refuting.{AreDoneBelow}
 use Rattle.sy_loop_laws.proofs.Refuted.{assumes_nothing}
 use Rattle.sy_loop.specs.Dropping.{AreWhole}
 use Rattle.sy_loop.proofs.Carrying.{carried_on}
-use Rattle.sy_loop.proofs.Completing.{level_open, next_done, nothing_within}
+use Rattle.sy_loop.proofs.Completing.{level_open, next_done, nothing_within, trees_done}
 use Rattle.sy_loop.proofs.Rounding.{next_less}
 use Rattle.sy_loop.proofs.round.after_level.Goals as goal
 
@@ -20,7 +20,7 @@ dropped_term-requires-clause-banks g c = rw c.as_slice-all.ensures.value c.requi
 
 pub dropped_term-requires-clause-opened : goal.dropped_term-requires-clause-opened
 dropped_term-requires-clause-opened g c =
-    level_open c.args.reach (question_of g.T.Theory.denotes c.args.problem.now) c.args.limits.now (history_of g.T.Theory.denotes c.args.known.stored) c.args.known.points c.args.level c.requires.reach c.requires.level c.requires.done
+    level_open c.args.reach (question_of g.T.Theory.denotes c.args.problem.now) c.args.limits.now (history_of g.T.Theory.denotes c.args.known.stored) c.args.known.points c.args.level c.requires.level c.requires.done
 
 pub returns-in-Some-clause-round : goal.returns-in-Some-clause-round
 returns-in-Some-clause-round g c = rw c.in-Some.is at c.in_ok-left.ensures
@@ -41,12 +41,15 @@ returns-then-level-limits-clause-done g c =
     let question = question_of g.T.Theory.denotes c.args.problem.now in
     let banks = map (merged_of g.T.Theory.denotes) c.args.banks.items in
     let whole : AreWhole banks = rw c.as_slice-all.ensures.value at (rw c.in_default.is at c.in_ok-left.ensures) in
-    next_done question c.args.limits.now (history_of g.T.Theory.denotes c.args.known.stored) c.args.known.points c.args.level banks (assumes_nothing g.T.Theory.owned question c.requires.problem.assumptions) c.requires.banks whole c.requires.refuted c.requires.done
+    next_done question c.args.limits.now (history_of g.T.Theory.denotes c.args.known.stored) c.args.known.points c.args.level banks c.args.reach (assumes_nothing g.T.Theory.owned question c.requires.problem.assumptions) c.requires.banks whole c.requires.refuted c.requires.trees c.requires.done
 
 pub returns-then-level-limits-clause-follows : goal.returns-then-level-limits-clause-follows
 returns-then-level-limits-clause-follows g c =
-    let whole : AreWhole (map (merged_of g.T.Theory.denotes) c.args.banks.items) = rw c.as_slice-all.ensures.value at (rw c.in_default.is at c.in_ok-left.ensures) in
-    inr (record { one_more = refl; are = c.requires.banks; whole = whole; refuted = c.requires.refuted })
+    let question = question_of g.T.Theory.denotes c.args.problem.now in
+    let banks = map (merged_of g.T.Theory.denotes) c.args.banks.items in
+    let whole : AreWhole banks = rw c.as_slice-all.ensures.value at (rw c.in_default.is at c.in_ok-left.ensures) in
+    let trees = trees_done question c.args.limits.now (history_of g.T.Theory.denotes c.args.known.stored) c.args.known.points c.args.level banks c.args.reach (assumes_nothing g.T.Theory.owned question c.requires.problem.assumptions) c.requires.banks whole c.requires.refuted c.requires.trees c.requires.done in
+    inr (record { one_more = refl; are = c.requires.banks; whole = whole; refuted = c.requires.refuted; trees = trees })
 
 pub exhausted-requires : goal.exhausted-requires
 exhausted-requires g c =
@@ -55,6 +58,6 @@ exhausted-requires g c =
     let banks = map (merged_of g.T.Theory.denotes) c.args.banks.items in
     let whole : AreWhole banks = rw c.as_slice-all.ensures.value at (rw c.in_default.is at c.in_ok-left.ensures) in
     let size : c.args.level + 1 ≡ c.args.limits.now.size + 1 = omega (arith, c.if-level-limits.false, c.requires.level) in
-    nothing_within c.args.reach question c.args.limits.now history c.args.known.points c.requires.reach c.requires.known
-    (subst (AreDoneBelow question history c.args.known.points) size
-    (next_done question c.args.limits.now history c.args.known.points c.args.level banks (assumes_nothing g.T.Theory.owned question c.requires.problem.assumptions) c.requires.banks whole c.requires.refuted c.requires.done))
+    nothing_within c.args.reach question c.args.limits.now history c.args.known.points c.requires.strict c.requires.known
+    (subst (AreDoneBelow c.args.reach question history c.args.known.points) size
+    (next_done question c.args.limits.now history c.args.known.points c.args.level banks c.args.reach (assumes_nothing g.T.Theory.owned question c.requires.problem.assumptions) c.requires.banks whole c.requires.refuted c.requires.trees c.requires.done))

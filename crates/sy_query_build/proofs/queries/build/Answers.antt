@@ -4,9 +4,9 @@ use Rattle.sy_terms.specs.declared.op.Op.TheVariants as ops
 use Rattle.sy_grammar_base.specs.Questions.{question_of}
 use Rattle.sy_grammar_laws.proofs.Problems.{problem_definitions, problem_variables, problem_assumptions, problem_constraints}
 use Rattle.sy_query_base.specs.Asked.{Query, Fits, query_weight}
-use Rattle.sy_query_build.specs.Violating.{IsViolation}
+use Rattle.sy_query_base.specs.Queries.{IsViolation}
+use Rattle.sy_query_base.proofs.Violations.{says}
 use Rattle.sy_query_build.proofs.Problem as problem
-use Rattle.sy_query_build.proofs.Violation.{says}
 use Rattle.sy_query_build.proofs.Walking.{kept-error}
 use Rattle.sy_query_build.proofs.queries.build.Goals as goal
 

@@ -1,0 +1,110 @@
+// Forms of sums, differences and products, where 128 bits hold their numbers.
+use std::alloc::Global;
+use sy_linear_forms::Form;
+use sy_seq::{Seq, Want};
+
+/// A variable's number and its coefficient.
+type Coefficient = (u32, i128);
+
+/// Appends the coefficient, where it isn't 0; whether there is one.
+fn push(list: &mut Seq<Coefficient>, variable: u32, number: Option<i128>) -> Result<bool, Want> {
+    let Some(number) = number else {
+        return Ok(false);
+    };
+    if number != 0 {
+        list.push((variable, number))?;
+    }
+    Ok(true)
+}
+
+/// The first number, and the second so many times.
+fn total(first: i128, factor: i128, second: i128) -> Option<i128> {
+    first.checked_add(factor.checked_mul(second)?)
+}
+
+/// Appends the coefficients so many times; whether they fit.
+fn push_all(
+    list: &mut Seq<Coefficient>,
+    factor: i128,
+    coefs: &[Coefficient],
+) -> Result<bool, Want> {
+    for coefficient in coefs {
+        if !push(list, coefficient.0, factor.checked_mul(coefficient.1))? {
+            return Ok(false);
+        }
+    }
+    Ok(true)
+}
+
+/// The coefficients of the first list, and those of the second so many times.
+fn merged(
+    alloc: Global,
+    first: &[Coefficient],
+    factor: i128,
+    second: &[Coefficient],
+) -> Result<Option<Seq<Coefficient>>, Want> {
+    let mut list = Seq::new(alloc);
+    let mut i = 0;
+    let mut j = 0;
+    while i < first.len() && j < second.len() {
+        let (a, number) = first[i];
+        let (b, other) = second[j];
+        let fits = if a < b {
+            i += 1;
+            push(&mut list, a, Some(number))?
+        } else if b < a {
+            j += 1;
+            push(&mut list, b, factor.checked_mul(other))?
+        } else {
+            i += 1;
+            j += 1;
+            push(&mut list, a, total(number, factor, other))?
+        };
+        if !fits {
+            return Ok(None);
+        }
+    }
+    if !push_all(&mut list, 1, &first[i..])? || !push_all(&mut list, factor, &second[j..])? {
+        return Ok(None);
+    }
+    Ok(Some(list))
+}
+
+/// The first form, the second so many times, and the number; none where it doesn't fit.
+pub(crate) fn combined(
+    alloc: Global,
+    first: &Form,
+    factor: i128,
+    second: &Form,
+    number: i128,
+) -> Result<Option<Form>, Want> {
+    let Some(constant) = total(first.constant, factor, second.constant) else {
+        return Ok(None);
+    };
+    let Some(constant) = constant.checked_add(number) else {
+        return Ok(None);
+    };
+    let found = merged(
+        alloc,
+        first.coefs.as_slice(),
+        factor,
+        second.coefs.as_slice(),
+    )?;
+    match found {
+        Some(coefs) => Ok(Some(Form { coefs, constant })),
+        None => Ok(None),
+    }
+}
+
+/// The form that is at least 0 exactly where this one isn't; none where it doesn't fit.
+pub(crate) fn negation(alloc: Global, form: &Form) -> Result<Option<Form>, Want> {
+    combined(alloc, &Form::number(alloc, -1), -1, form, 0)
+}
+
+/// Whether the form's first coefficient is negative.
+pub(crate) fn is_downward(form: &Form) -> bool {
+    match form.coefs.as_slice().split_first() {
+        Some((first, _)) => first.1 < 0,
+        None => false,
+    }
+}

@@ -1,0 +1,4 @@
+mod Placing
+mod Columns
+mod Told
+pub mod Asked

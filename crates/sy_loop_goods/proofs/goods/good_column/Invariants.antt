@@ -1,0 +1,18 @@
+use Rattle.std.proofs.Common.{◌≡◌, List, Some, None, take, slice_get}
+use Rattle.std.specs.Prelude.{IfSome}
+use Rattle.sy_terms.specs.Values.{Val}
+use Rattle.sy_grammar_base.specs.Questions.{question_of}
+use Rattle.sy_points.specs.Asked.{of_function}
+use Rattle.sy_bank_rows.specs.Stored.{chosen_of}
+use Rattle.sy_loop_history.specs.Stored.{history_of}
+use Rattle.sy_loop_trees_laws.specs.Goods.{assignments_of}
+use Rattle.sy_loop_goods.specs.Columns.{IsColumn}
+use Rattle.sy_loop_goods.specs.Leaves.{IsLeaving}
+use Rattle.sy_loop_goods.proofs.goods.good_column.Given as goal
+
+abbrev pub invariant-loop-leaf : goal.invariant-loop-leaf
+invariant-loop-leaf g l = record {
+  goods : l.leaving ≡ None → (tuple : List Val) → slice_get (of_function l.points 0) l.point ≡ Some tuple →
+      IsColumn (question_of g.T.Theory.denotes l.problem) (assignments_of (history_of g.T.Theory.denotes l.stored)) tuple (chosen_of g.T.Theory.denotes (take l.leaf l.leaves)) l.goods;
+  leaving : IfSome l.leaving (IsLeaving (question_of g.T.Theory.denotes l.problem) (history_of g.T.Theory.denotes l.stored) (chosen_of g.T.Theory.denotes l.leaves));
+}

@@ -1,0 +1,32 @@
+use Rattle.std.proofs.Common.{◌≡◌, ◌<◌, ◌≤◌, ◌∙◌, List, Bool, Bor, ap, arith, length, sym}
+use Rattle.std.proofs.lemmas.List.{length-map}
+use Rattle.sy_terms.specs.Denoted.{vals_of}
+use Rattle.sy_grammar_base.specs.Questions.{question_of}
+use Rattle.sy_points.specs.Asked.{of_function, tuples_of}
+use Rattle.sy_bank_rows.specs.Stored.{chosen_of, entry_of}
+use Rattle.sy_bank_rows.specs.declared.kept.Kept.{Kept}
+use Rattle.sy_loop_history.specs.Stored.{history_of}
+use Rattle.sy_loop_trees_laws.specs.Goods.{assignments_of}
+use Rattle.sy_loop_goods.specs.Columns.{row_from}
+use Rattle.sy_loop_goods.specs.Leaves.{IsLeaving}
+use Rattle.sy_loop_goods.proofs.Columns.{columns_next, goods_all, left_by, tuples_are}
+use Rattle.sy_loop_goods.proofs.goods.good_rows.Goals as goal
+
+pub loop-point-preserved : goal.loop-point-preserved
+loop-point-preserved g c =
+    let leaves = chosen_of g.T.Theory.denotes c.args.leaves.now in
+    let are = ap length (tuples_are c.args.points.now (tuples_of g.T.Theory.denotes c.of-tuples.result.now) c.of-tuples.ensures.list) in
+    let within : c.loop-point.point < length (of_function c.args.points.now 0) = omega (arith, c.loop-point-test.true, c.len-point-end.ensures, are, length-map c.of-tuples.result.now (vals_of g.T.Theory.denotes)) in
+    rw (c.in_ok-push.ensures.items, c.or-leaving.ensures) (record {
+      columns = columns_next (question_of g.T.Theory.denotes c.args.problem.now) (assignments_of (history_of g.T.Theory.denotes c.args.stored.now)) (of_function c.args.points.now 0) leaves c.loop-point.point c.loop-point.columns.items c.in_ok-column.column.goods c.in_ok-column.column.leaving c.loop-point.leaving within c.loop-point.invariant.columns c.in_ok-column.ensures.goods;
+      leaving = left_by (IsLeaving (question_of g.T.Theory.denotes c.args.problem.now) (history_of g.T.Theory.denotes c.args.stored.now) leaves) c.in_ok-column.column.leaving c.loop-point.leaving c.in_ok-column.ensures.leaving c.loop-point.invariant.leaving;
+    })
+
+pub returns-clause-goods : goal.returns-clause-goods
+returns-clause-goods g c none =
+    let leaves = chosen_of g.T.Theory.denotes c.args.leaves.now in
+    let are = ap length (tuples_are c.args.points.now (tuples_of g.T.Theory.denotes c.of-tuples.result.now) c.of-tuples.ensures.list) in
+    let done : length (of_function c.args.points.now 0) ≤ c.loop-point.point = omega (arith, c.loop-point-test.false, c.len-point-end.ensures, are, length-map c.of-tuples.result.now (vals_of g.T.Theory.denotes)) in
+    let many : length leaves ≡ length c.args.leaves.now = length-map c.args.leaves.now (λ (leaf : Bor (Kept _ _)). entry_of g.T.Theory.denotes leaf.now) in
+    goods_all (question_of g.T.Theory.denotes c.args.problem.now) (assignments_of (history_of g.T.Theory.denotes c.args.stored.now)) (of_function c.args.points.now 0) leaves c.loop-point.point c.loop-point.columns.items c.in_ok-rows.rows done (c.loop-point.invariant.columns none) (c.in_ok-rows.ensures.many ∙ sym many)
+    (λ place less. c.in_ok-rows.ensures.rows place (omega (arith, less, many)) ∙ ap (λ (columns : List (List Bool)). row_from columns place) c.as_slice.ensures.value)

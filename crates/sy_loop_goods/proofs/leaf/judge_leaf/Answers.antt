@@ -1,0 +1,30 @@
+use Rattle.std.proofs.Common.{[], ◌∷◌, inr, refl, subst, sym}
+use Rattle.std.proofs.lemmas.List.Elements.{All-contains}
+use Rattle.std.proofs.lemmas.Option.{slice_get_read}
+use Rattle.sy_grammar_base.specs.Questions.{question_of}
+use Rattle.sy_grammar_base.specs.Solving.{AreMembers}
+use Rattle.sy_grammar_laws.proofs.Candidates.{bodies_fit}
+use Rattle.sy_bank_rows.specs.Banks.{Entry}
+use Rattle.sy_bank_rows.specs.Stored.{chosen_of, entry_of}
+use Rattle.sy_loop_candidate.proofs.Items.{has_place}
+use Rattle.sy_loop_goods.proofs.Columns.{chosen_at}
+use Rattle.sy_loop_goods.proofs.leaf.judge_leaf.Goals as goal
+
+pub judge-requires-clause-bodies : goal.judge-requires-clause-bodies
+judge-requires-clause-bodies g c =
+    let question = question_of g.T.Theory.denotes c.args.problem.now in
+    let leaves = chosen_of g.T.Theory.denotes c.args.leaves.now in
+    let kept = c.index-leaves-leaf.result in
+    let entry = entry_of g.T.Theory.denotes kept.now in
+    let at = chosen_at g.T.Theory.denotes c.args.leaves.now c.args.leaf kept (slice_get_read _ _ _ _ refl c.requires.leaf c.index-leaves-leaf.is) in
+    let member = All-contains (λ (e : Entry). AreMembers question.goals (e.term ∷ [])) leaves entry c.requires.members (has_place leaves c.args.leaf entry at) in
+    bodies_fit g.T.Theory.owned g.T.Theory.numeric g.T.Theory.denotes c.args.problem.now c.in_ok-bodies.bodies c.requires.problem g.met.T.Theory.negation (subst (AreMembers question.goals) (sym c.in_ok-bodies.ensures) member)
+
+pub returns : goal.returns
+returns g c =
+    let kept = c.index-leaves-leaf.result in
+    inr (record {
+      entry = entry_of g.T.Theory.denotes kept.now;
+      at = chosen_at g.T.Theory.denotes c.args.leaves.now c.args.leaf kept (slice_get_read _ _ _ _ refl c.requires.leaf c.index-leaves-leaf.is);
+      judges = rw c.in_ok-bodies.ensures at c.in_ok-judged.ensures;
+    })

@@ -1,0 +1,72 @@
+-- What clauses say of a problem, for a theory.
+use Rattle.std.specs.Prelude.{ℕ, ◌≡◌, Bool, List, [], ◌∷◌, slice_get, Some, All}
+use Rattle.sy_terms.specs.Values.{Val}
+use Rattle.sy_terms.specs.Expr.{Expr}
+use Rattle.sy_terms.specs.declared.theory.Theory.{Ghosts as TheoryOf}
+use Rattle.sy_grammar_base.specs.Questions.{question_of}
+use Rattle.sy_grammar_base.specs.Solving.{AreMembers}
+use Rattle.sy_grammar_base.specs.declared.problem.Problem.{Problem}
+use Rattle.sy_bank_rows.specs.Banks.{Entry}
+use Rattle.sy_points.specs.Asked.{Asked, of_function}
+use Rattle.sy_points.specs.declared.stored.Stored.{Stored}
+use Rattle.sy_loop_history.specs.Stored.{history_of}
+use Rattle.sy_loop_trees_laws.specs.Goods.{assignments_of, AreGoods}
+use Rattle.sy_loop_goods.specs.Columns.{IsColumn}
+use Rattle.sy_loop_goods.specs.Judged.{JudgesLeaf}
+use Rattle.sy_loop_goods.specs.Judging.{IsWithin, Judges}
+use Rattle.sy_loop_goods.specs.Leaves.{AreLeaves, AreAssigned, IsLeaving}
+use Rattle.sy_loop_goods.specs.Placing.{Places}
+use Rattle.sy_loop_goods.specs.Rests.{AreRests}
+use Rattle.sy_loop_goods.specs.Resting.{Rests, WidensByRests}
+use Rattle.sy_loop_goods.specs.declared.goods.Leaving.{Leaving}
+use Rattle.sy_loop_goods.specs.declared.judging.Judged.{Judged}
+use Rattle.sy_loop_goods.specs.declared.rests.Placed.{Placed}
+use Rattle.sy_loop_goods.specs.declared.rests.Rest.{Rest}
+use Rattle.sy_loop_goods.specs.declared.rests.Resting.{Resting}
+
+module _ {T N : Type 0} (theory : TheoryOf T N) (problem : Problem T N) where
+  abbrev pub WidensByRestsFor : Stored T N → Asked → Asked → Type 0
+  WidensByRestsFor stored = WidensByRests (question_of theory.denotes problem) (history_of theory.denotes stored)
+
+  abbrev pub RestsFor : Stored T N → Asked → Asked → Resting → Type 0
+  RestsFor stored = Rests (question_of theory.denotes problem) (history_of theory.denotes stored)
+
+  -- what becomes of the constraints from the first numbers to the last, at the stored assignment of this place
+  abbrev pub PlacesFor : Stored T N → ℕ → ℕ → ℕ → ℕ → ℕ → Asked → List Rest → Asked → List Rest → Placed → Type 0
+  PlacesFor stored = Places (question_of theory.denotes problem) (history_of theory.denotes stored)
+
+  -- the stored assignments have values of the problem's variables
+  abbrev pub AreAssignedFor : Stored T N → Type 0
+  AreAssignedFor stored = AreAssigned (question_of theory.denotes problem) (history_of theory.denotes stored)
+
+  -- this is where each constraint rests at each stored assignment: on points of function 0 alone
+  abbrev pub AreRestsFor : Stored T N → Asked → List Rest → Type 0
+  AreRestsFor stored asked = AreRests (question_of theory.denotes problem) (assignments_of (history_of theory.denotes stored)) (of_function asked 0)
+
+  abbrev pub AreLeavesFor : Asked → List Entry → Type 0
+  AreLeavesFor asked = AreLeaves (question_of theory.denotes problem) (of_function asked 0)
+
+  abbrev pub AreGoodsFor : Stored T N → Asked → List Entry → List (List Bool) → Type 0
+  AreGoodsFor stored asked = AreGoods (question_of theory.denotes problem) (assignments_of (history_of theory.denotes stored)) (of_function asked 0)
+
+  abbrev pub IsLeavingFor : Stored T N → List Entry → Leaving → Type 0
+  IsLeavingFor stored = IsLeaving (question_of theory.denotes problem) (history_of theory.denotes stored)
+
+  -- there are a constraint and a stored assignment of these numbers
+  abbrev pub IsWithinFor : Stored T N → Rest → Type 0
+  IsWithinFor stored = IsWithin (question_of theory.denotes problem) (assignments_of (history_of theory.denotes stored))
+
+  abbrev pub JudgesFor : Stored T N → List Expr → List Rest → Judged → Type 0
+  JudgesFor stored = Judges (question_of theory.denotes problem) (history_of theory.denotes stored)
+
+  abbrev pub JudgesLeafFor : Stored T N → List Entry → ℕ → ℕ → List Rest → List Bool → Judged → Type 0
+  JudgesLeafFor stored = JudgesLeaf (question_of theory.denotes problem) (history_of theory.denotes stored)
+
+  -- each is a member of the grammar of the one function to be found
+  abbrev pub AreMembersFor : List Entry → Type 0
+  AreMembersFor leaves = All (λ (entry : Entry). AreMembers (question_of theory.denotes problem).goals (entry.term ∷ [])) leaves
+
+  -- the column of the point of this number says which leaves are good there
+  abbrev pub IsColumnFor : Stored T N → Asked → List Entry → ℕ → List Bool → Type 0
+  IsColumnFor stored asked leaves point column = (tuple : List Val) → slice_get (of_function asked 0) point ≡ Some tuple →
+      IsColumn (question_of theory.denotes problem) (assignments_of (history_of theory.denotes stored)) tuple leaves column

@@ -1,0 +1,38 @@
+-- Whether constraints are true under bodies, each at an assignment.
+use Rattle.std.specs.Prelude.{◌≡◌, ◌<◌, List, length, slice_get, Some, All, Contains}
+use Rattle.sy_terms.specs.Values.{Val}
+use Rattle.sy_terms.specs.Expr.{Expr}
+use Rattle.sy_grammar_base.specs.Questions.{Question}
+use Rattle.sy_grammar_base.specs.Solving.{IsTrueUnder}
+use Rattle.sy_loop_candidate.specs.Traces.{LeavesAt}
+use Rattle.sy_loop_history.specs.Histories.{Counterexample}
+use Rattle.sy_loop_trees_laws.specs.Goods.{assignments_of}
+use Rattle.sy_loop_goods.specs.declared.judging.Judged.{Judged}
+use Rattle.sy_loop_goods.specs.declared.judging.Judged.TheVariants.{Good, Bad, Leaves}
+use Rattle.sy_loop_goods.specs.declared.rests.Rest.{Rest}
+
+-- there are a constraint and an assignment of these numbers
+pub record IsWithin (question : Question) (assignments : List (List Val)) (rest : Rest) : Type 0 where
+  pub constraint : rest.constraint < length question.constraints
+  pub place : rest.place < length assignments
+
+-- that constraint is true under the bodies at that assignment
+abbrev pub IsTrueAt : Question → List (List Val) → List Expr → Rest → Type 0
+IsTrueAt question assignments bodies rest = (constraint : Expr) (values : List Val) → slice_get question.constraints rest.constraint ≡ Some constraint → slice_get assignments rest.place ≡ Some values →
+    IsTrueUnder question bodies values constraint
+
+-- one of them isn't
+pub record IsOneUntrue (question : Question) (assignments : List (List Val)) (bodies : List Expr) (rests : List Rest) : Type 0 where
+  pub rest : Rest
+  pub of : Contains rests rest
+  pub constraint : Expr
+  pub is : slice_get question.constraints rest.constraint ≡ Some constraint
+  pub values : List Val
+  pub stored : slice_get assignments rest.place ≡ Some values
+  pub untrue : IsTrueUnder question bodies values constraint → ⊥
+
+-- the answer
+abbrev pub Judges : Question → List Counterexample → List Expr → List Rest → Judged → Type 0
+Judges question history bodies rests Good = All (IsTrueAt question (assignments_of history) bodies) rests
+Judges question history bodies rests Bad = IsOneUntrue question (assignments_of history) bodies rests
+Judges question history bodies rests (Leaves place) = LeavesAt question history bodies place

@@ -1,0 +1,9 @@
+pub mod Rests
+pub mod Resting
+pub mod Placing
+pub mod Leaves
+pub mod Telling
+pub mod Judging
+pub mod Judged
+pub mod Columns
+pub mod Clauses

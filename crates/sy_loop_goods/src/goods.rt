@@ -1,0 +1,137 @@
+// At which points kept terms are good.
+ghost use Rattle.std.specs.Prelude.{◌≡◌, ◌<◌, length, IfOk, IfSome, None};
+ghost use Rattle.sy_bank_rows.specs.Stored.{chosen_of};
+ghost use Rattle.sy_grammar_base.specs.Fits.{ProblemFits};
+ghost use Rattle.sy_grammar_base.specs.Questions.{question_of};
+ghost use Rattle.sy_points.specs.Asked.{AreDistinct, of_function};
+ghost use Rattle.sy_loop_bounds.specs.Pointwise.{IsPointwise};
+ghost use Rattle.sy_loop_goods.specs.Clauses.{AreAssignedFor, AreRestsFor, AreLeavesFor, AreGoodsFor, IsColumnFor, IsLeavingFor};
+ghost use Rattle.sy_loop_goods.specs.Judged.{good_of, leaving_of};
+
+use crate::judging::Judged;
+use crate::leaf::judge_leaf;
+use crate::rests::{Rest, rests_on};
+use crate::rows::transposed;
+use std::alloc::Global;
+use std::collections::HashMap;
+use sy_bank_rows::Kept;
+use sy_grammar_base::Problem;
+use sy_points::{Points, Stored};
+use sy_terms::{Seq, Theory, Value, Want};
+
+/// Under the leaf of this number a constraint leaves the 128 bits at the stored assignment of this place.
+#[derive(Clone, Copy, Debug, PartialEq, Eq)]
+pub struct Leaving {
+    pub leaf: usize,
+    pub place: usize,
+}
+
+/// A row for each leaf, which says at which points it is good; and a leaf of which it isn't known, if there is one.
+#[derive(Drop)]
+pub struct Goods {
+    pub rows: Seq<Seq<bool>>,
+    pub leaving: Option<Leaving>,
+}
+
+/// Which of the leaves are good at a point; and a leaf of which it isn't known, if there is one.
+#[derive(Drop)]
+struct Column {
+    goods: Seq<bool>,
+    leaving: Option<Leaving>,
+}
+
+/// At which points the leaves are good: each constraint that rests on the point is true under the leaf.
+pub fn good_rows<T: Theory>(
+    alloc: Global,
+    problem: &Problem<T>,
+    stored: &Stored<T>,
+    points: &Points<T>,
+    rests: &[Rest],
+    leaves: &[&Kept<T>],
+) -> Result<Goods, Want>
+    requires problem { ProblemFits T.Theory problem.now }
+    requires pointwise { IsPointwise (question_of T.denotes problem.now) }
+    requires assigned { AreAssignedFor T.Theory problem.now stored.now }
+    requires function { 0 < length points.now.tuples }
+    requires rests { AreRestsFor T.Theory problem.now stored.now points.now rests.now }
+    requires leaves { AreLeavesFor T.Theory problem.now points.now (chosen_of T.denotes leaves.now) }
+    ensures many { IfOk result (λ goods. length goods.rows ≡ length leaves.now) }
+    ensures goods { IfOk result (λ goods. goods.leaving ≡ None → AreGoodsFor T.Theory problem.now stored.now points.now (chosen_of T.denotes leaves.now) goods.rows) }
+    ensures leaving { IfOk result (λ goods. IfSome goods.leaving (IsLeavingFor T.Theory problem.now stored.now (chosen_of T.denotes leaves.now))) }
+{
+    let tuples = points.of(0);
+    let mut columns = Vec::with_capacity(alloc, tuples.len())?;
+    let mut leaving = None;
+    for point in 0..tuples.len() {
+        let column = good_column(alloc, problem, stored, points, rests, leaves, point)?;
+        columns.push(column.goods)?;
+        leaving = column.leaving.or(leaving);
+    }
+    let rows = transposed(alloc, columns.as_slice(), leaves.len())?;
+    Ok(Goods { rows, leaving })
+}
+
+/// Which of the leaves are good at the point of this number.
+fn good_column<T: Theory>(
+    alloc: Global,
+    problem: &Problem<T>,
+    stored: &Stored<T>,
+    points: &Points<T>,
+    rests: &[Rest],
+    leaves: &[&Kept<T>],
+    point: usize,
+) -> Result<Column, Want>
+    requires problem { ProblemFits T.Theory problem.now }
+    requires pointwise { IsPointwise (question_of T.denotes problem.now) }
+    requires assigned { AreAssignedFor T.Theory problem.now stored.now }
+    requires function { 0 < length points.now.tuples }
+    requires rests { AreRestsFor T.Theory problem.now stored.now points.now rests.now }
+    requires leaves { AreLeavesFor T.Theory problem.now points.now (chosen_of T.denotes leaves.now) }
+    requires distinct { AreDistinct (of_function points.now 0) }
+    requires point { point < length (of_function points.now 0) }
+    ensures goods { IfOk result (λ column. column.leaving ≡ None → IsColumnFor T.Theory problem.now stored.now points.now (chosen_of T.denotes leaves.now) point column.goods) }
+    ensures leaving { IfOk result (λ column. IfSome column.leaving (IsLeavingFor T.Theory problem.now stored.now (chosen_of T.denotes leaves.now))) }
+{
+    let here = rests_on(alloc, rests, point)?;
+    let mut goods = Seq::new(alloc);
+    let mut leaving = None;
+    let mut firsts: HashMap<Value<T::Num>, usize> = HashMap::new(alloc);
+    for leaf in 0..leaves.len() {
+        let judged = judge_leaf(
+            alloc,
+            problem,
+            stored,
+            here.as_slice(),
+            leaves,
+            leaf,
+            point,
+            goods.as_slice(),
+            &mut firsts,
+        )?;
+        goods.push(is_good(judged))?;
+        leaving = leaving_by(judged, leaf).or(leaving);
+    }
+    Ok(Column { goods, leaving })
+}
+
+/// Whether all are true.
+fn is_good(judged: Judged) -> bool
+    ensures { result ≡ good_of judged }
+{
+    match judged {
+        Judged::Good => true,
+        Judged::Bad => false,
+        Judged::Leaves(_) => false,
+    }
+}
+
+/// The leaf of this number, where a constraint leaves the 128 bits.
+fn leaving_by(judged: Judged, leaf: usize) -> Option<Leaving>
+    ensures { result ≡ leaving_of judged leaf }
+{
+    match judged {
+        Judged::Good => None,
+        Judged::Bad => None,
+        Judged::Leaves(place) => Some(Leaving { leaf, place }),
+    }
+}

@@ -1,0 +1,123 @@
+// Whether constraints are true under a leaf.
+ghost use Rattle.std.specs.Prelude.{◌≡◌, ◌↔◌, IsTrue, true, [], ◌∷◌, All, IfOk, map};
+ghost use Rattle.sy_terms.specs.Denoted.{expr_of, val_of, vals_of};
+ghost use Rattle.sy_terms.specs.Values as spec;
+ghost use Rattle.sy_bank_rows.specs.Stored.{entry_of};
+ghost use Rattle.sy_grammar_base.specs.Fits.{IsTruth, ProblemFits};
+ghost use Rattle.sy_grammar_base.specs.Questions.{question_of};
+ghost use Rattle.sy_grammar_base.specs.Solving.{AreValues};
+ghost use Rattle.sy_loop_candidate.specs.Clauses.{FitAsBodies};
+ghost use Rattle.sy_loop_goods.specs.Clauses.{AreAssignedFor, IsWithinFor, JudgesFor};
+ghost use Rattle.sy_loop_goods.specs.Telling.{Tells};
+
+use crate::rests::Rest;
+use std::alloc::{AllocError, Global};
+use sy_bank_rows::Kept;
+use sy_grammar_base::Problem;
+use sy_meaning::{Eval, Trace, evaluate_with};
+use sy_points::Stored;
+use sy_terms::{Bodies, Seq, Term, Theory, Value, Want};
+
+/// Whether constraints are true under bodies, each at a stored assignment.
+#[derive(Clone, Copy)]
+pub(crate) enum Judged {
+    /// All are.
+    Good,
+    /// One isn't.
+    Bad,
+    /// One leaves the 128 bits at the stored assignment of this place.
+    Leaves(usize),
+}
+
+/// The kept term as the one body.
+pub(crate) fn body_of<T: Theory>(alloc: Global, kept: &Kept<T>) -> Result<Bodies<T>, Want>
+    ensures { IfOk result (λ bodies. map (expr_of T.denotes) bodies ≡ (entry_of T.denotes kept.now).term ∷ []) }
+{
+    let term = kept.term(alloc)?;
+    let mut bodies = Seq::new(alloc);
+    bodies.push(term)?;
+    Ok(bodies)
+}
+
+/// Whether these constraints are true under the bodies, each at its stored assignment.
+pub(crate) fn judge<T: Theory>(
+    alloc: Global,
+    problem: &Problem<T>,
+    stored: &Stored<T>,
+    rests: &[Rest],
+    bodies: &Bodies<T>,
+) -> Result<Judged, Want>
+    requires problem { ProblemFits T.Theory problem.now }
+    requires assigned { AreAssignedFor T.Theory problem.now stored.now }
+    requires bodies { FitAsBodies T.Theory problem.now bodies.now }
+    requires within { All (IsWithinFor T.Theory problem.now stored.now) rests.now }
+    ensures { IfOk result (JudgesFor T.Theory problem.now stored.now (map (expr_of T.denotes) bodies.now) rests.now) }
+{
+    for rest in rests {
+        match judge_one(alloc, problem, stored, rest, bodies)? {
+            Judged::Good => {}
+            Judged::Bad => return Ok(Judged::Bad),
+            Judged::Leaves(place) => return Ok(Judged::Leaves(place)),
+        }
+    }
+    Ok(Judged::Good)
+}
+
+/// Whether this constraint is true under the bodies, at its stored assignment.
+fn judge_one<T: Theory>(
+    alloc: Global,
+    problem: &Problem<T>,
+    stored: &Stored<T>,
+    rest: &Rest,
+    bodies: &Bodies<T>,
+) -> Result<Judged, Want>
+    requires problem { ProblemFits T.Theory problem.now }
+    requires assigned { AreAssignedFor T.Theory problem.now stored.now }
+    requires bodies { FitAsBodies T.Theory problem.now bodies.now }
+    requires within { IsWithinFor T.Theory problem.now stored.now rest.now }
+    ensures { IfOk result (JudgesFor T.Theory problem.now stored.now (map (expr_of T.denotes) bodies.now) (rest.now ∷ [])) }
+{
+    let Some(constraint) = problem.constraints.get(rest.constraint) else {
+        unreachable!();
+    };
+    let Some((assignment, _)) = stored.get(rest.place) else {
+        unreachable!();
+    };
+    match tell(alloc, problem, bodies, assignment.as_slice(), constraint)? {
+        Some(true) => Ok(Judged::Good),
+        Some(false) => Ok(Judged::Bad),
+        None => Ok(Judged::Leaves(rest.place)),
+    }
+}
+
+/// Whether the constraint is true under the bodies at these values; `None` where it leaves the 128 bits.
+fn tell<T: Theory>(
+    alloc: Global,
+    problem: &Problem<T>,
+    bodies: &Bodies<T>,
+    values: &[Value<T::Num>],
+    constraint: &Term<T>,
+) -> Result<Option<bool>, Want>
+    requires problem { ProblemFits T.Theory problem.now }
+    requires bodies { FitAsBodies T.Theory problem.now bodies.now }
+    requires values { AreValues problem.now.vars (vals_of T.denotes values.now) }
+    requires constraint { IsTruth T.owned T.denotes problem.now constraint.now }
+    ensures { IfOk result (Tells (question_of T.denotes problem.now) (map (expr_of T.denotes) bodies.now) (vals_of T.denotes values.now) (expr_of T.denotes constraint.now)) }
+{
+    let mut calls = Trace::new(alloc);
+    match evaluate_with(alloc, &problem.defs, bodies, values, constraint, &mut calls) {
+        Ok(value) => Ok(Some(is_true::<T>(&value))),
+        Err(Eval::Range) => Ok(None),
+        Err(Eval::Want) => Err(AllocError),
+    }
+}
+
+/// Whether the value is true.
+fn is_true<T: Theory>(value: &Value<T::Num>) -> bool
+    ensures { IsTrue result ↔ val_of T.denotes value.now ≡ spec.Truth true }
+{
+    match value {
+        Value::Truth(truth) => *truth,
+        Value::Num(_) => false,
+    }
+}

@@ -1,0 +1,11 @@
+// Where constraints rest at stored assignments, and at which of these tuples kept terms are good.
+#![tactic(auto)]
+
+mod goods;
+mod judging;
+mod leaf;
+mod rests;
+mod rows;
+
+pub use goods::{Goods, Leaving, good_rows};
+pub use rests::{Rest, Resting, rest_all};

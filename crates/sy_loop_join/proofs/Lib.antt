@@ -1,0 +1,5 @@
+pub mod Going
+pub mod Resting
+pub mod Joining
+pub mod Following
+pub mod Planning

@@ -1,0 +1,17 @@
+use Rattle.std.proofs.Common.{map, [], ◌∷◌}
+use Rattle.sy_terms.specs.Denoted.{expr_of}
+use Rattle.sy_grammar_base.specs.Questions.{question_of}
+use Rattle.sy_loop_history.specs.Stored.{history_of}
+use Rattle.sy_loop_join.proofs.Going.{goes_by}
+use Rattle.sy_loop_join.proofs.Joining.{candidate_fits}
+use Rattle.sy_loop_join.proofs.join.try_term.Goals as goal
+
+pub try_candidate-requires-clause-bodies : goal.try_candidate-requires-clause-bodies
+try_candidate-requires-clause-bodies g c =
+    rw (c.in_ok-push.ensures.ok, c.new-bodies.ensures)
+    (candidate_fits g.T.Theory.owned g.T.Theory.numeric g.T.Theory.denotes c.args.problem.now c.args.reach c.args.limits.now.size (history_of g.T.Theory.denotes c.args.known.now.stored) (c.args.term ∷ []) c.requires.problem g.met.T.Theory.negation c.requires.candidate)
+
+pub returns-clause-step : goal.returns-clause-step
+returns-clause-step g c =
+    goes_by g.T.Theory.owned g.T.Theory.denotes g.D.Decide.accepted g.D.Decide.budget g.D.Decide.shows c.args.reach (question_of g.T.Theory.denotes c.args.problem.now) c.args.limits.now (map (expr_of g.T.Theory.denotes) c.push.new.self)
+    (history_of g.T.Theory.denotes c.args.known.now.stored) (history_of g.T.Theory.denotes c.try_candidate.new.known.stored) c.args.known.now.points c.try_candidate.new.known.points c.in_ok-step.step c.in_ok-step.ensures.step c.in_ok-step.ensures.grows

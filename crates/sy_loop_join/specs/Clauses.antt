@@ -1,0 +1,61 @@
+-- What clauses say of a problem, for a theory and a solver.
+use Rattle.std.specs.Prelude.{ℕ, List, Option, Some, None}
+use denote.Ref.{Bor}
+use Rattle.sy_terms.specs.Expr.{Expr}
+use Rattle.sy_terms.specs.declared.theory.Theory.{Ghosts as TheoryOf}
+use Rattle.sy_grammar_base.specs.Questions.{question_of}
+use Rattle.sy_grammar_base.specs.declared.problem.Problem.{Problem}
+use Rattle.sy_query_limits.specs.declared.Limits.{Limits}
+use Rattle.sy_query_decide.specs.declared.decide.Decide.{Ghosts as DecideOf}
+use Rattle.sy_bank_rows.specs.Stored.{chosen_of}
+use Rattle.sy_bank.specs.Bank.{merged_of}
+use Rattle.sy_bank.specs.declared.bank.Bank.{Bank}
+use Rattle.sy_loop_bounds.specs.declared.reach.Reach.{Reach}
+use Rattle.sy_loop_history.specs.Histories.{IsOpenNumber}
+use Rattle.sy_loop_history.specs.Stored.{history_of}
+use Rattle.sy_loop_history.specs.Trials.{IsRefuted}
+use Rattle.sy_loop_candidate.specs.declared.step.Known.{Known}
+use Rattle.sy_loop_candidate.specs.declared.step.Step.{Step}
+use Rattle.sy_loop_join.specs.Going.{Goes}
+use Rattle.sy_loop_join.specs.Joining.{AreParts, IsJoinable, TreesFollowFrom}
+use Rattle.sy_loop_join.specs.Plans.{HasNoTrees, IsPlan}
+use Rattle.sy_loop_join.specs.declared.join.Parts.{Parts}
+use Rattle.sy_loop_join.specs.declared.plan.Plan.{Plan}
+
+module _ {T N : Type 0} (theory : TheoryOf T N) (problem : Problem T N) where
+  abbrev pub IsJoinableFor : Known T N → Bank T N → Type 0
+  IsJoinableFor known bank = IsJoinable (question_of theory.denotes problem) known.points (merged_of theory.denotes bank)
+
+  abbrev pub ArePartsFor : Known T N → ℕ → ℕ → Bank T N → Parts T N → Type 0
+  ArePartsFor known condition level bank parts =
+      AreParts (question_of theory.denotes problem) (history_of theory.denotes known.stored) known.points condition level (merged_of theory.denotes bank)
+      (chosen_of theory.denotes parts.leaves.items) (chosen_of theory.denotes parts.conditions.items) parts.goods parts.rows parts.points
+
+  abbrev pub IsRefutedFor : Known T N → List Expr → Type 0
+  IsRefutedFor known = IsRefuted (question_of theory.denotes problem) (history_of theory.denotes known.stored) known.points
+
+module _ {T N : Type 0} (theory : TheoryOf T N) (reach : Reach) (problem : Problem T N) where
+  abbrev pub HasNoTreesFor : Type 0
+  HasNoTreesFor = HasNoTrees reach (question_of theory.denotes problem)
+
+  abbrev pub IsPlanFor : Plan T N → Type 0
+  IsPlanFor = IsPlan reach (question_of theory.denotes problem)
+
+  -- there is a plan, or there are no trees to be tried
+  abbrev pub IsPlannedFor : Option (Bor (Plan T N)) → Type 0
+  IsPlannedFor None = HasNoTreesFor
+  IsPlannedFor (Some plan) = IsPlanFor plan.now
+
+  abbrev pub TreesFollowFromFor : Known T N → ℕ → Bank T N → Type 0
+  TreesFollowFromFor known level bank =
+      TreesFollowFrom reach (question_of theory.denotes problem) (history_of theory.denotes known.stored) known.points level (merged_of theory.denotes bank)
+
+module _ {T N : Type 0} (theory : TheoryOf T N) (reach : Reach) (problem : Problem T N) (limits : Limits) where
+  abbrev pub IsOpenFor : Known T N → ℕ → Type 0
+  IsOpenFor known = IsOpenNumber reach (question_of theory.denotes problem) limits.size (history_of theory.denotes known.stored)
+
+module _ {T N D P S : Type 0} (theory : TheoryOf T N) (solver : DecideOf D T P S N) (reach : Reach) (problem : Problem T N) (limits : Limits) where
+  abbrev pub GoesFor : Known T N → Known T N → Step T P S N → Type 0
+  GoesFor before after =
+      Goes theory.owned theory.denotes solver.accepted solver.budget solver.shows reach (question_of theory.denotes problem) limits
+      (history_of theory.denotes before.stored) before.points (history_of theory.denotes after.stored) after.points

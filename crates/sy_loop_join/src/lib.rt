@@ -1,0 +1,10 @@
+// Conditional trees over kept terms, as candidates of a search.
+#![tactic(auto)]
+
+mod copies;
+mod join;
+mod plan;
+mod trees;
+
+pub use plan::{Plan, plan_of};
+pub use trees::try_trees;

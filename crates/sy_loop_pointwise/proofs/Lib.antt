@@ -1,0 +1,6 @@
+mod Asked
+mod Calls
+mod Kept
+mod Constraints
+mod Values
+mod Rests

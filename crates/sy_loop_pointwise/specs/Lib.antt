@@ -1,0 +1,4 @@
+pub mod Asked
+pub mod Posed
+pub mod Rests
+pub mod Valued

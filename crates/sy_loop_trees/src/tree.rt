@@ -1,0 +1,67 @@
+// The terms that conditional trees over kept terms are.
+ghost use Rattle.std.specs.Prelude.{◌≡◌, IfOk};
+ghost use Rattle.sy_terms.specs.Denoted.{expr_of};
+ghost use Rattle.sy_terms.specs.Expr as expr;
+ghost use Rattle.sy_terms.specs.declared.op.Op.TheVariants as ops;
+ghost use Rattle.sy_bank_rows.specs.Stored.{chosen_of};
+ghost use Rattle.sy_loop_bounds.specs.Conditional.{yield};
+ghost use Rattle.sy_loop_trees_laws.specs.Trees.{conditional_of, entry_at};
+
+use std::alloc::Global;
+use sy_bank_rows::Kept;
+use sy_terms::{Op, Term, Terms, Theory, Value, Want};
+use sy_unify::Choice;
+
+/// The term that the choice is, where its numbers stand for these leaves and conditions. A number for which there is none
+/// stands for `false`.
+pub fn tree_term<T: Theory>(
+    alloc: Global,
+    choice: &Choice,
+    leaves: &[&Kept<T>],
+    conditions: &[&Kept<T>],
+) -> Result<Term<T>, Want>
+    ensures { IfOk result (λ term. expr_of T.denotes term ≡ yield (conditional_of (chosen_of T.denotes leaves.now) (chosen_of T.denotes conditions.now) choice.now)) }
+{
+    match choice {
+        Choice::Leaf(leaf) => {
+            let term = part_term(alloc, leaves, *leaf)?;
+            Ok(term)
+        }
+        Choice::Test(test, there, here) => {
+            let condition = part_term(alloc, conditions, *test)?;
+            let there = tree_term(alloc, there, leaves, conditions)?;
+            let here = tree_term(alloc, here, leaves, conditions)?;
+            let term = chosen_term(alloc, condition, there, here)?;
+            Ok(term)
+        }
+    }
+}
+
+/// The choice between the terms by the condition.
+fn chosen_term<T: Theory>(
+    alloc: Global,
+    condition: Term<T>,
+    there: Term<T>,
+    here: Term<T>,
+) -> Result<Term<T>, Want>
+    ensures { IfOk result (λ term. expr_of T.denotes term ≡ expr.Apply ops.Ite (expr.more (expr_of T.denotes condition) (expr.more (expr_of T.denotes there) (expr.more (expr_of T.denotes here) expr.none)))) }
+{
+    let mut arguments = Terms::with_capacity(alloc, 3)?;
+    arguments.push(condition)?;
+    arguments.push(there)?;
+    arguments.push(here)?;
+    Ok(Term::App(Op::Ite, arguments))
+}
+
+/// The kept term of this number, in memory of its own; `false` where there is none.
+fn part_term<T: Theory>(alloc: Global, kept: &[&Kept<T>], number: u32) -> Result<Term<T>, Want>
+    ensures { IfOk result (λ term. expr_of T.denotes term ≡ (entry_at (chosen_of T.denotes kept.now) number).term) }
+{
+    match kept.get(number as usize) {
+        Some(kept) => {
+            let term = kept.term(alloc)?;
+            Ok(term)
+        }
+        None => Ok(Term::Const(Value::Truth(false))),
+    }
+}

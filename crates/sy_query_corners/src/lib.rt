@@ -1,0 +1,8 @@
+// Assignments that are tried before a query is searched.
+#![tactic(auto)]
+
+mod constants;
+mod numbers;
+mod trial;
+
+pub use trial::corner_model;

@@ -1,0 +1,111 @@
+// Queries evaluated at a few dozen assignments.
+ghost use Rattle.std.specs.Prelude.{◌≡◌, true, IsTrue, IfOk, IfSome};
+ghost use Rattle.sy_terms.specs.Values.{Truth};
+ghost use Rattle.sy_terms.specs.Denoted.{val_of, vals_of};
+ghost use Rattle.sy_terms.specs.Theories.{sort_of_value, valid};
+ghost use Rattle.sy_grammar_base.specs.Solving.{AreValues};
+ghost use Rattle.sy_query_base.specs.Asked.{query_of, Fits, Satisfies};
+
+use crate::constants::constants_of;
+use crate::numbers::{count, number_at};
+use std::alloc::Global;
+use sy_meaning::{Eval, evaluate};
+use sy_query_base::Query;
+use sy_terms::{Defs, Seq, Sort, Theory, Value, Values, Want};
+
+/// The most assignments that are tried.
+const TRIES: usize = 64;
+
+/// An assignment that satisfies the query, if one is found at once: its variables get 0, 1, the ends of their range and
+/// the like, and the query's constants and their neighbours. Where none is found the query may be satisfied all the same.
+pub fn corner_model<T: Theory>(alloc: Global, query: &Query<T>) -> Result<Option<Values<T>>, Want>
+    requires { Fits T.owned T.numeric (query_of T.denotes query.now) }
+    ensures { IfOk result (λ found. IfSome found (λ values. Satisfies (query_of T.denotes query.now) (vals_of T.denotes values))) }
+{
+    let constants = constants_of(alloc, &query.body)?;
+    let vars = query.vars.as_slice();
+    let numbers = count(constants.as_slice()).max(1);
+    let tries = if vars.len() < 2 {
+        numbers.min(TRIES)
+    } else {
+        TRIES
+    };
+    for attempt in 0..tries {
+        let step = step_of(attempt / numbers);
+        let values = corner::<T>(alloc, vars, constants.as_slice(), attempt % numbers, step)?;
+        if let Some(values) = values {
+            if holds(alloc, query, values.as_slice())? {
+                return Ok(Some(values));
+            }
+        }
+    }
+    Ok(None)
+}
+
+/// How far apart the places of two variables are in a round. Different numbers tell more terms apart than equal ones, so
+/// these come second.
+fn step_of(round: usize) -> usize {
+    match round {
+        0 => 1,
+        1 => 0,
+        later => later,
+    }
+}
+
+/// The assignment that gives the first variable the number of place `start`, and each later one that of the place so
+/// many steps on. `None` where a sort has no such number.
+fn corner<T: Theory>(
+    alloc: Global,
+    vars: &[Sort],
+    constants: &[i128],
+    start: usize,
+    step: usize,
+) -> Result<Option<Values<T>>, Want>
+    ensures { IfOk result (λ found. IfSome found (λ values. AreValues vars.now (vals_of T.denotes values))) }
+{
+    let mut values = Seq::new(alloc);
+    let mut place = start;
+    for sort in vars {
+        let Some(value) = value_at::<T>(*sort, constants, place) else {
+            return Ok(None);
+        };
+        values.push(value)?;
+        place = place.wrapping_add(step) % count(constants).max(1);
+    }
+    Ok(Some(values))
+}
+
+/// The value of the sort at a place; `None` where there is none.
+fn value_at<T: Theory>(sort: Sort, constants: &[i128], place: usize) -> Option<Value<T::Num>>
+    ensures sort { IfSome result (λ value. sort_of_value (val_of T.denotes value) ≡ sort) }
+    ensures valid { IfSome result (λ value. valid (val_of T.denotes value) ≡ true) }
+{
+    match sort {
+        Sort::Bool => Some(Value::Truth(place % 2 == 1)),
+        Sort::Int | Sort::Bits(_) => {
+            let number = T::of_number(sort, number_at(sort, constants, place))?;
+            Some(Value::Num(number))
+        }
+    }
+}
+
+/// Whether the query is true at the values. A value on the way that leaves the 128 bits makes it count as false.
+fn holds<T: Theory>(alloc: Global, query: &Query<T>, values: &[Value<T::Num>]) -> Result<bool, Want>
+    requires fits { Fits T.owned T.numeric (query_of T.denotes query.now) }
+    requires values { AreValues query.now.vars (vals_of T.denotes values.now) }
+    ensures { IfOk result (λ yes. IsTrue yes → Satisfies (query_of T.denotes query.now) (vals_of T.denotes values.now)) }
+{
+    let defs: Defs<T> = Seq::new(alloc);
+    match evaluate(alloc, &defs, values, &query.body) {
+        Ok(value) => Ok(is_true::<T>(&value)),
+        Err(Eval::Range) => Ok(false),
+        Err(Eval::Want) => Err(Want {}),
+    }
+}
+
+/// Whether the value is true.
+fn is_true<T: Theory>(value: &Value<T::Num>) -> bool
+    ensures { IsTrue result → val_of T.denotes value.now ≡ Truth true }
+{
+    matches!(value, Value::Truth(true))
+}

@@ -1,0 +1,4 @@
+pub mod Replies
+pub mod Texts
+pub mod Answerable
+pub mod Answered

@@ -1,0 +1,55 @@
+-- The answers of a run over either theory: their replies, when they are right, and which fails may be among them.
+use Rattle.std.specs.Prelude.{Bool, true, false, ◌≡◌, List, [], map, All, ⊤}
+use Rattle.sy_terms.specs.Values.{Whole}
+use Rattle.sy_meaning_integers.specs.Lia as lia
+use Rattle.sy_meaning_words.specs.Vectors as vectors
+use Rattle.sy_grammar_base.specs.Questions.{Question}
+use Rattle.sy_query_limits.specs.declared.FailName.{FailName}
+use Rattle.sy_query_limits.specs.declared.FailName.TheVariants as names
+use Rattle.sy_query_limits.specs.declared.Limits.{Limits}
+use Rattle.sy_intsolve_trees.specs.Budgets as int_budgets
+use Rattle.sy_intsolve.specs.Proofs as int_proofs
+use Rattle.sy_bits.specs.Proofs as bits
+use Rattle.sygus_replies.specs.Replies.{Reply, Defined, Infeasible, Failed, reply_of}
+use Rattle.sygus_replies.specs.Answered.{AreRight}
+use Rattle.sygus_words.specs.declared.settings.Mode.{Mode}
+use Rattle.sygus_answers.specs.Answers.{RightOutcome}
+use Rattle.sygus_run.specs.declared.answers.Answers.{Answers}
+use Rattle.sygus_run.specs.declared.answers.Answers.TheVariants.{Idle, Ints, Bits}
+
+-- the replies to the first problems
+abbrev pub replies_of : Answers → List Reply
+replies_of Idle = []
+replies_of (Ints outcomes) = map (reply_of Whole int_budgets.budget) outcomes
+replies_of (Bits outcomes) = map (reply_of vectors.vector bits.budget) outcomes
+
+-- they are right for the first questions, in order
+abbrev pub AreRightAnswers : Mode → Limits → List Question → Answers → Type 0
+AreRightAnswers mode limits questions Idle = ⊤
+AreRightAnswers mode limits questions (Ints outcomes) =
+    AreRight (RightOutcome lia.owned Whole int_proofs.Accepted int_budgets.budget int_proofs.ShowsFor mode limits) questions outcomes
+AreRightAnswers mode limits questions (Bits outcomes) =
+    AreRight (RightOutcome vectors.owned vectors.vector bits.Accepted bits.budget bits.Shows mode limits) questions outcomes
+
+-- the budgets of queries over integers, and that of queries over bit vectors
+abbrev pub is_of_integers : FailName → Bool
+is_of_integers names.Nodes = true
+is_of_integers names.Pivots = true
+is_of_integers names.Range = true
+is_of_integers _ = false
+
+abbrev pub is_of_vectors : FailName → Bool
+is_of_vectors names.Clauses = true
+is_of_vectors _ = false
+
+-- the reply isn't a fail of such a name
+abbrev pub IsNotNamed : (FailName → Bool) → Reply → Type 0
+IsNotNamed is (Defined bodies) = ⊤
+IsNotNamed is Infeasible = ⊤
+IsNotNamed is (Failed name) = is name ≡ false
+
+-- no fail over bit vectors is named as a budget of integers, and none over integers as that of vectors
+abbrev pub AreNamedFor : Answers → Type 0
+AreNamedFor Idle = ⊤
+AreNamedFor (Ints outcomes) = All (IsNotNamed is_of_vectors) (map (reply_of Whole int_budgets.budget) outcomes)
+AreNamedFor (Bits outcomes) = All (IsNotNamed is_of_integers) (map (reply_of vectors.vector bits.budget) outcomes)
