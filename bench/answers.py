@@ -3,11 +3,14 @@
 
     bench/answers.py [--sygus PROGRAM] [--limit SECONDS] [FILE ..]
 
-Without files it takes those of examples/ and bench/problems/. Without --sygus it builds the program by ./sygus. Each run
-has a limit of processor seconds and 6 GB. A comment line `; words: WORDS` of a file holds words for `sygus`, as
-`--size 15`. Each answer of `sygus` is checked: it is definitions of the functions of the file, in order, with their
-arguments and sorts; and where z3 is installed, z3 finds no values at which they violate the problem. A line
-`; answer: fail CAUSE` says that no definitions are wanted, and why. The status is 1 where an answer is wrong.
+Without files it takes those of examples/, with its folders advice and gallery, and of bench/problems/. Without --sygus it
+builds the program by ./sygus. Each run has a limit of processor seconds and 6 GB. A comment line `; words: WORDS` of a file
+holds words for `sygus`, as `--size 15`. Each answer of `sygus` is checked: it is definitions of the functions of the file,
+in order, with their arguments and sorts; and where z3 is installed, z3 finds no values at which they violate the problem. A
+line `; answer: fail CAUSE` says that no definitions are wanted, and why; so does `; answer: infeasible`. A line `; leaves: N` has the least number of leaves
+that is known of the conditional trees of an answer, beside which that of `sygus` is shown. At the end stand the counts and
+times of each class of problems, and the problems that cvc5 alone answers, with what `sygus` says. The status is 1 where an
+answer is wrong.
 """
 import argparse
 import glob
@@ -15,12 +18,34 @@ import os
 import re
 import resource
 import shutil
+import statistics
 import subprocess
 import sys
 import tempfile
 
 TOP = os.path.dirname(os.path.dirname(os.path.abspath(__file__)))
 MEMORY = 6 << 30
+
+# The classes of problems, by how the path of a file begins below TOP; the first that fits counts.
+CLASSES = [
+    ("examples/advice/", "pairs of advice"),
+    ("examples/gallery/", "the gallery"),
+    ("examples/", "those of examples/"),
+    ("bench/problems/int_inv_", "invariants over integers"),
+    ("bench/problems/int_examples_", "closed examples over integers"),
+    ("bench/problems/int_parity_", "parity and divisibility"),
+    ("bench/problems/int_two_", "several functions over integers"),
+    ("bench/problems/int_three_", "several functions over integers"),
+    ("bench/problems/int_", "functions over integers"),
+    ("bench/problems/tree_", "conditional trees"),
+    ("bench/problems/table_", "tables of examples"),
+    ("bench/problems/twelve_", "identities with twelve operators"),
+    ("bench/problems/examples_", "closed examples"),
+    ("bench/problems/two_", "two functions"),
+    ("bench/problems/inv_", "invariants"),
+    ("bench/problems/", "identities"),
+    ("", "others"),
+]
 
 
 def read_items(text):
@@ -49,10 +74,13 @@ class Problem:
     def __init__(self):
         self.before, self.functions, self.arguments, self.sorts = [], [], {}, {}
         self.variables, self.assumed, self.wanted, self.count = [], [], [], 0
+        self.logic = "BV"
 
     def take(self, command):
         name = command[0]
-        if name == "declare-var":
+        if name == "set-logic":
+            self.logic = command[1]
+        elif name == "declare-var":
             self.variables.append(["declare-const", *command[1:]])
         elif name in ("define-fun", "define-sort"):
             if name == "define-sort" and len(command) == 3:
@@ -99,7 +127,7 @@ class Problem:
             return "not the definitions that were asked"
         if not shutil.which("z3"):
             return None
-        lines = ["(set-logic QF_BV)", *map(write_item, self.before), *map(write_item, reply)]
+        lines = [f"(set-logic QF_{self.logic})", *map(write_item, self.before), *map(write_item, reply)]
         lines += map(write_item, self.variables)
         lines += [f"(assert {write_item(term)})" for term in self.assumed]
         wanted = ["and", "true", *self.wanted]
@@ -135,6 +163,16 @@ def fault_of(text, output):
     return "more than the answers" if replies else None
 
 
+def leaves_of(term):
+    """How many leaves the choices at the top of a term have."""
+    return leaves_of(term[2]) + leaves_of(term[3]) if term[0] == "ite" and len(term) == 4 else 1
+
+
+def leaves_in(output):
+    """How many leaves the bodies of all replies have."""
+    return sum(leaves_of(definition[4]) for reply in read_items(output) for definition in reply)
+
+
 def run(words, limit):
     """The processor seconds of a run, its output and its errors; None for the seconds where it met the limit."""
 
@@ -162,9 +200,13 @@ def answer_of(text, seconds, output, errors):
     if seconds is None:
         return "no answer within the limit", True
     wanted = line_of(text, "answer")
+    if output.startswith("infeasible"):
+        return "infeasible", wanted in ("", "infeasible")
     if output.startswith("fail"):
         cause = errors.strip().split(" ")[-1]
         return f"fail {cause}", wanted in ("", f"fail {cause}")
+    if errors.startswith("refused: "):
+        return f"refused {errors.split()[-1]}", False
     fault = fault_of(text, output)
     if fault:
         return f"WRONG: {fault} {errors.strip()}", False
@@ -173,6 +215,58 @@ def answer_of(text, seconds, output, errors):
 
 def shown(seconds):
     return "-" if seconds is None else f"{seconds:.2f}"
+
+
+def class_of(file):
+    path = os.path.relpath(os.path.abspath(file), TOP)
+    return next(name for start, name in CLASSES if path.startswith(start))
+
+
+def asked(file, program, beside, limit):
+    """What came of a problem: the row of the table, and what `sums` adds up."""
+    with open(file) as opened:
+        text = opened.read()
+    seconds, output, errors = run([program, *line_of(text, "words").split(), file], limit)
+    answer, is_right = answer_of(text, seconds, output, errors)
+    found = answer == "definitions"
+    other = None
+    if beside:
+        other, reply, _ = run([beside, "--lang=sygus2", file], limit)
+        other = other if "define-fun" in reply else None
+    ratio = seconds / max(other, 0.005) if found and other is not None else None
+    least = int(line_of(text, "leaves") or 0)
+    leaves = (leaves_in(output), least) if found and least else None
+    name = os.path.basename(file)[:-3]
+    tree = f"{leaves[0]}, {leaves[1]}" if leaves else ""
+    print(f"| {name:24} | {answer:26} | {shown(seconds):>8} | {shown(other):>8} | {shown(ratio):>7} | {tree:>7} |", flush=True)
+    return {"class": class_of(file), "name": name, "answer": answer, "found": found, "right": is_right, "wanted": line_of(text, "answer"), "seconds": seconds, "other": other, "ratio": ratio, "leaves": leaves}
+
+
+def middle(numbers):
+    return shown(statistics.median(numbers)) if numbers else "-"
+
+
+def summary(rows):
+    """What the rows of a class come to, as a row."""
+    both = [row for row in rows if row["ratio"] is not None]
+    ours, theirs = sum(row["seconds"] for row in both), sum(row["other"] for row in both)
+    less = sum(row["seconds"] < row["other"] for row in both)
+    trees = [row["leaves"] for row in rows if row["leaves"]]
+    counts = f"{len(rows)} | {sum(row['found'] for row in rows)} | {sum(row['other'] is not None for row in rows)} | {len(both)}"
+    return f"{counts} | {ours:.2f} | {theirs:.2f} | {less} | {middle([row['ratio'] for row in both])} | {middle([leaves / least for leaves, least in trees])} |"
+
+
+def sums(rows):
+    print("\n| Problems | Files | `sygus` finds definitions | cvc5 finds some | both | `sygus` s on these | cvc5 s | `sygus` takes less in | middle ratio | leaves by the least known |")
+    print("|---|---|---|---|---|---|---|---|---|---|")
+    for name in dict.fromkeys(name for _, name in CLASSES):
+        of_class = [row for row in rows if row["class"] == name]
+        if of_class:
+            print(f"| {name} | {summary(of_class)}")
+    print(f"| all | {summary(rows)}")
+    for row in rows:
+        if row["other"] is not None and not row["found"] and not row["wanted"]:
+            print(f"cvc5 alone answers {row['name']}: {shown(row['other'])} s; sygus: {row['answer']}, {shown(row['seconds'])} s")
 
 
 def main():
@@ -184,32 +278,14 @@ def main():
     program = options.sygus or f"{TOP}/crates/sygus/out/sygus"
     if not options.sygus:
         subprocess.run([f"{TOP}/sygus", f"{TOP}/examples/first.sl"], stdout=subprocess.DEVNULL, check=True)
-    files = options.files or sorted(glob.glob(f"{TOP}/examples/*.sl")) + sorted(glob.glob(f"{TOP}/bench/problems/*.sl"))
+    folders = ["examples", "examples/gallery", "examples/advice", "bench/problems"]
+    files = options.files or [file for folder in folders for file in sorted(glob.glob(f"{TOP}/{folder}/*.sl"))]
+    print(f"| {'File':24} | {'Answer':26} | {'sygus s':>8} | {'cvc5 s':>8} | {'ratio':>7} | {'leaves':>7} |")
+    print(f"|{'-' * 26}|{'-' * 28}|{'-' * 9}:|{'-' * 9}:|{'-' * 8}:|{'-' * 8}:|")
     beside = shutil.which("cvc5")
-    right, found, rows = True, 0, []
-    print(f"| {'File':24} | {'Answer':26} | {'sygus s':>8} | {'cvc5 s':>8} | {'ratio':>7} |")
-    print(f"|{'-' * 26}|{'-' * 28}|{'-' * 9}:|{'-' * 9}:|{'-' * 8}:|")
-    for file in files:
-        with open(file) as opened:
-            text = opened.read()
-        seconds, output, errors = run([program, *line_of(text, "words").split(), file], options.limit)
-        answer, is_right = answer_of(text, seconds, output, errors)
-        right &= is_right
-        found += answer == "definitions"
-        other = None
-        if beside:
-            other, output, _ = run([beside, "--lang=sygus2", file], options.limit)
-            other = other if "define-fun" in output else None
-        ratio = f"{seconds / max(other, 0.005):.2f}" if None not in (seconds, other) else "-"
-        if answer == "definitions" and other is not None:
-            rows.append((seconds, other))
-        name = os.path.basename(file)[:-3]
-        print(f"| {name:24} | {answer:26} | {shown(seconds):>8} | {shown(other):>8} | {ratio:>7} |", flush=True)
-    print(f"{found} of {len(files)} files answered by definitions; of those, cvc5 answers {len(rows)}.")
-    if rows:
-        ours, theirs = (sum(column) for column in zip(*rows))
-        print(f"On these: sygus {ours:.1f} s, cvc5 {theirs:.1f} s; sygus faster on {sum(a < b for a, b in rows)}.")
-    sys.exit(0 if right else 1)
+    rows = [asked(file, program, beside, options.limit) for file in files]
+    sums(rows)
+    sys.exit(0 if all(row["right"] for row in rows) else 1)
 
 
 if __name__ == "__main__":

@@ -1,0 +1,17 @@
+; A fare: 2 up to 3 stops, 4 up to 8, then 7.
+; leaves: 3
+(set-logic LIA)
+(synth-fun f ((n Int)) Int)
+(constraint (= (f 1) 2))
+(constraint (= (f 2) 2))
+(constraint (= (f 3) 2))
+(constraint (= (f 4) 4))
+(constraint (= (f 5) 4))
+(constraint (= (f 6) 4))
+(constraint (= (f 7) 4))
+(constraint (= (f 8) 4))
+(constraint (= (f 9) 7))
+(constraint (= (f 10) 7))
+(constraint (= (f 11) 7))
+(constraint (= (f 12) 7))
+(check-synth)

@@ -1,0 +1,10 @@
+; Three times a number, and one.
+(set-logic LIA)
+(synth-fun f ((x Int)) Int)
+(constraint (= (f 0) 1))
+(constraint (= (f 1) 4))
+(constraint (= (f 2) 7))
+(constraint (= (f 5) 16))
+(constraint (= (f 10) 31))
+(constraint (= (f (- 4)) (- 11)))
+(check-synth)

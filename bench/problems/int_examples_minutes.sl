@@ -1,0 +1,10 @@
+; Minutes of hours and minutes.
+(set-logic LIA)
+(synth-fun f ((h Int) (m Int)) Int)
+(constraint (= (f 0 0) 0))
+(constraint (= (f 0 7) 7))
+(constraint (= (f 1 0) 60))
+(constraint (= (f 1 30) 90))
+(constraint (= (f 2 15) 135))
+(constraint (= (f 23 59) 1439))
+(check-synth)

@@ -1,0 +1,12 @@
+; Whether the first of two numbers is less.
+(set-logic LIA)
+(synth-fun f ((x Int) (y Int)) Bool)
+(constraint (= (f 0 0) false))
+(constraint (= (f 0 1) true))
+(constraint (= (f 1 0) false))
+(constraint (= (f 3 9) true))
+(constraint (= (f 9 3) false))
+(constraint (= (f (- 5) 5) true))
+(constraint (= (f 5 (- 5)) false))
+(constraint (= (f 2 2) false))
+(check-synth)

@@ -1,0 +1,10 @@
+; A linear function of two numbers.
+(set-logic LIA)
+(synth-fun f ((x Int) (y Int)) Int)
+(constraint (= (f 0 0) 0))
+(constraint (= (f 1 0) 2))
+(constraint (= (f 0 1) (- 1)))
+(constraint (= (f 3 5) 1))
+(constraint (= (f 7 2) 12))
+(constraint (= (f (- 2) 4) (- 8)))
+(check-synth)

@@ -1,0 +1,8 @@
+; One is twice the other and one more.
+(set-logic LIA)
+(synth-inv inv ((x Int) (y Int)))
+(define-fun pre ((x Int) (y Int)) Bool (and (= x 0) (= y 1)))
+(define-fun trans ((x Int) (y Int) (x1 Int) (y1 Int)) Bool (and (= x1 (+ x 1)) (= y1 (+ y 2))))
+(define-fun post ((x Int) (y Int)) Bool (=> (= x 50) (= y 101)))
+(inv-constraint inv pre trans post)
+(check-synth)

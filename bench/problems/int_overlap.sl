@@ -1,0 +1,10 @@
+; Whether two intervals have a number in common.
+(set-logic LIA)
+(synth-fun f ((a Int) (b Int) (c Int) (d Int)) Bool)
+(declare-var a Int)
+(declare-var b Int)
+(declare-var c Int)
+(declare-var d Int)
+(assume (and (<= a b) (<= c d)))
+(constraint (= (f a b c d) (not (or (< b c) (< d a)))))
+(check-synth)

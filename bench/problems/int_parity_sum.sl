@@ -1,0 +1,10 @@
+; Half of a sum that is even, between its parts.
+(set-logic LIA)
+(synth-fun f ((x Int) (y Int) (h Int)) Int)
+(declare-var x Int)
+(declare-var y Int)
+(declare-var h Int)
+(assume (= (+ x y) (+ h h)))
+(constraint (= (+ (f x y h) (f x y h)) (+ x y)))
+(constraint (=> (<= x y) (<= x (f x y h))))
+(check-synth)

@@ -1,0 +1,16 @@
+; The place of a number among four that are in order.
+; leaves: 5
+(set-logic LIA)
+(synth-fun f ((y1 Int) (y2 Int) (y3 Int) (y4 Int) (k Int)) Int)
+(declare-var y1 Int)
+(declare-var y2 Int)
+(declare-var y3 Int)
+(declare-var y4 Int)
+(declare-var k Int)
+(assume (and (< y1 y2) (< y2 y3) (< y3 y4)))
+(constraint (=> (< k y1) (= (f y1 y2 y3 y4 k) 0)))
+(constraint (=> (and (> k y1) (< k y2)) (= (f y1 y2 y3 y4 k) 1)))
+(constraint (=> (and (> k y2) (< k y3)) (= (f y1 y2 y3 y4 k) 2)))
+(constraint (=> (and (> k y3) (< k y4)) (= (f y1 y2 y3 y4 k) 3)))
+(constraint (=> (> k y4) (= (f y1 y2 y3 y4 k) 4)))
+(check-synth)

@@ -1,0 +1,10 @@
+; Three shares that give a whole, none of which is negative.
+(set-logic LIA)
+(synth-fun a ((n Int)) Int)
+(synth-fun b ((n Int)) Int)
+(synth-fun c ((n Int)) Int)
+(declare-var n Int)
+(assume (>= n 3))
+(constraint (= (+ (a n) (+ (b n) (c n))) n))
+(constraint (and (>= (a n) 1) (and (>= (b n) 1) (>= (c n) 1))))
+(check-synth)

@@ -1,0 +1,10 @@
+; From one scale to another and back, by a shift that is given.
+(set-logic LIA)
+(synth-fun there ((x Int) (d Int)) Int)
+(synth-fun back ((x Int) (d Int)) Int)
+(declare-var x Int)
+(declare-var d Int)
+(assume (> d 0))
+(constraint (= (there x d) (+ x (+ d d))))
+(constraint (= (back (there x d) d) x))
+(check-synth)

@@ -1,0 +1,10 @@
+; Two truth values that are never both false.
+(set-logic LIA)
+(synth-fun f ((x Int) (y Int)) Bool)
+(synth-fun g ((x Int) (y Int)) Bool)
+(declare-var x Int)
+(declare-var y Int)
+(constraint (or (f x y) (g x y)))
+(constraint (=> (f x y) (<= x y)))
+(constraint (=> (g x y) (>= x y)))
+(check-synth)

@@ -1,0 +1,15 @@
+; Ten examples of a fare of three steps, over integers.
+; leaves: 3
+(set-logic LIA)
+(synth-fun f ((x Int)) Int)
+(constraint (= (f 64) 3))
+(constraint (= (f 100) 3))
+(constraint (= (f 101) 5))
+(constraint (= (f 137) 5))
+(constraint (= (f 400) 5))
+(constraint (= (f 401) 9))
+(constraint (= (f 582) 9))
+(constraint (= (f 782) 9))
+(constraint (= (f 821) 9))
+(constraint (= (f 867) 9))
+(check-synth)

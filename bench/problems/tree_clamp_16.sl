@@ -1,0 +1,17 @@
+; A number moved between two bounds, at width 16.
+; leaves: 3
+(set-logic BV)
+(synth-fun f ((x (_ BitVec 16)) (a (_ BitVec 16)) (b (_ BitVec 16))) (_ BitVec 16)
+  ((S (_ BitVec 16)) (B Bool))
+  ((S (_ BitVec 16) (x a b (ite B S S)))
+   (B Bool ((bvule S S) (= S S) (and B B) (not B)))))
+(declare-var x (_ BitVec 16))
+(declare-var a (_ BitVec 16))
+(declare-var b (_ BitVec 16))
+(assume (bvule a b))
+(constraint (bvule a (f x a b)))
+(constraint (bvule (f x a b) b))
+(constraint (=> (and (bvule a x) (bvule x b)) (= (f x a b) x)))
+(constraint (=> (bvule x a) (= (f x a b) a)))
+(constraint (=> (bvule b x) (= (f x a b) b)))
+(check-synth)

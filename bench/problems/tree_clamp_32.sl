@@ -1,0 +1,17 @@
+; A number moved between two bounds, at width 32.
+; leaves: 3
+(set-logic BV)
+(synth-fun f ((x (_ BitVec 32)) (a (_ BitVec 32)) (b (_ BitVec 32))) (_ BitVec 32)
+  ((S (_ BitVec 32)) (B Bool))
+  ((S (_ BitVec 32) (x a b (ite B S S)))
+   (B Bool ((bvule S S) (= S S) (and B B) (not B)))))
+(declare-var x (_ BitVec 32))
+(declare-var a (_ BitVec 32))
+(declare-var b (_ BitVec 32))
+(assume (bvule a b))
+(constraint (bvule a (f x a b)))
+(constraint (bvule (f x a b) b))
+(constraint (=> (and (bvule a x) (bvule x b)) (= (f x a b) x)))
+(constraint (=> (bvule x a) (= (f x a b) a)))
+(constraint (=> (bvule b x) (= (f x a b) b)))
+(check-synth)

@@ -1,0 +1,17 @@
+; A number moved between two bounds, at width 8.
+; leaves: 3
+(set-logic BV)
+(synth-fun f ((x (_ BitVec 8)) (a (_ BitVec 8)) (b (_ BitVec 8))) (_ BitVec 8)
+  ((S (_ BitVec 8)) (B Bool))
+  ((S (_ BitVec 8) (x a b (ite B S S)))
+   (B Bool ((bvule S S) (= S S) (and B B) (not B)))))
+(declare-var x (_ BitVec 8))
+(declare-var a (_ BitVec 8))
+(declare-var b (_ BitVec 8))
+(assume (bvule a b))
+(constraint (bvule a (f x a b)))
+(constraint (bvule (f x a b) b))
+(constraint (=> (and (bvule a x) (bvule x b)) (= (f x a b) x)))
+(constraint (=> (bvule x a) (= (f x a b) a)))
+(constraint (=> (bvule b x) (= (f x a b) b)))
+(check-synth)

@@ -1,0 +1,15 @@
+; The greatest of three numbers, at width 32.
+; leaves: 3
+(set-logic BV)
+(synth-fun f ((x1 (_ BitVec 32)) (x2 (_ BitVec 32)) (x3 (_ BitVec 32))) (_ BitVec 32)
+  ((S (_ BitVec 32)) (B Bool))
+  ((S (_ BitVec 32) (x1 x2 x3 (ite B S S)))
+   (B Bool ((bvule S S) (= S S) (and B B) (not B)))))
+(declare-var x1 (_ BitVec 32))
+(declare-var x2 (_ BitVec 32))
+(declare-var x3 (_ BitVec 32))
+(constraint (bvule x1 (f x1 x2 x3)))
+(constraint (bvule x2 (f x1 x2 x3)))
+(constraint (bvule x3 (f x1 x2 x3)))
+(constraint (or (= (f x1 x2 x3) x1) (= (f x1 x2 x3) x2) (= (f x1 x2 x3) x3)))
+(check-synth)

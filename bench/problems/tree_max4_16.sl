@@ -1,0 +1,17 @@
+; The greatest of four numbers, at width 16.
+; leaves: 4
+(set-logic BV)
+(synth-fun f ((x1 (_ BitVec 16)) (x2 (_ BitVec 16)) (x3 (_ BitVec 16)) (x4 (_ BitVec 16))) (_ BitVec 16)
+  ((S (_ BitVec 16)) (B Bool))
+  ((S (_ BitVec 16) (x1 x2 x3 x4 (ite B S S)))
+   (B Bool ((bvule S S) (= S S) (and B B) (not B)))))
+(declare-var x1 (_ BitVec 16))
+(declare-var x2 (_ BitVec 16))
+(declare-var x3 (_ BitVec 16))
+(declare-var x4 (_ BitVec 16))
+(constraint (bvule x1 (f x1 x2 x3 x4)))
+(constraint (bvule x2 (f x1 x2 x3 x4)))
+(constraint (bvule x3 (f x1 x2 x3 x4)))
+(constraint (bvule x4 (f x1 x2 x3 x4)))
+(constraint (or (= (f x1 x2 x3 x4) x1) (= (f x1 x2 x3 x4) x2) (= (f x1 x2 x3 x4) x3) (= (f x1 x2 x3 x4) x4)))
+(check-synth)

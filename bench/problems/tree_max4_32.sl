@@ -1,0 +1,17 @@
+; The greatest of four numbers, at width 32.
+; leaves: 4
+(set-logic BV)
+(synth-fun f ((x1 (_ BitVec 32)) (x2 (_ BitVec 32)) (x3 (_ BitVec 32)) (x4 (_ BitVec 32))) (_ BitVec 32)
+  ((S (_ BitVec 32)) (B Bool))
+  ((S (_ BitVec 32) (x1 x2 x3 x4 (ite B S S)))
+   (B Bool ((bvule S S) (= S S) (and B B) (not B)))))
+(declare-var x1 (_ BitVec 32))
+(declare-var x2 (_ BitVec 32))
+(declare-var x3 (_ BitVec 32))
+(declare-var x4 (_ BitVec 32))
+(constraint (bvule x1 (f x1 x2 x3 x4)))
+(constraint (bvule x2 (f x1 x2 x3 x4)))
+(constraint (bvule x3 (f x1 x2 x3 x4)))
+(constraint (bvule x4 (f x1 x2 x3 x4)))
+(constraint (or (= (f x1 x2 x3 x4) x1) (= (f x1 x2 x3 x4) x2) (= (f x1 x2 x3 x4) x3) (= (f x1 x2 x3 x4) x4)))
+(check-synth)

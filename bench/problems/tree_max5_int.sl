@@ -1,0 +1,16 @@
+; The greatest of five numbers, over integers.
+; leaves: 5
+(set-logic LIA)
+(synth-fun f ((x1 Int) (x2 Int) (x3 Int) (x4 Int) (x5 Int)) Int)
+(declare-var x1 Int)
+(declare-var x2 Int)
+(declare-var x3 Int)
+(declare-var x4 Int)
+(declare-var x5 Int)
+(constraint (<= x1 (f x1 x2 x3 x4 x5)))
+(constraint (<= x2 (f x1 x2 x3 x4 x5)))
+(constraint (<= x3 (f x1 x2 x3 x4 x5)))
+(constraint (<= x4 (f x1 x2 x3 x4 x5)))
+(constraint (<= x5 (f x1 x2 x3 x4 x5)))
+(constraint (or (= (f x1 x2 x3 x4 x5) x1) (= (f x1 x2 x3 x4 x5) x2) (= (f x1 x2 x3 x4 x5) x3) (= (f x1 x2 x3 x4 x5) x4) (= (f x1 x2 x3 x4 x5) x5)))
+(check-synth)

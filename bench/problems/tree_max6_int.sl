@@ -1,0 +1,18 @@
+; The greatest of six numbers, over integers.
+; leaves: 6
+(set-logic LIA)
+(synth-fun f ((x1 Int) (x2 Int) (x3 Int) (x4 Int) (x5 Int) (x6 Int)) Int)
+(declare-var x1 Int)
+(declare-var x2 Int)
+(declare-var x3 Int)
+(declare-var x4 Int)
+(declare-var x5 Int)
+(declare-var x6 Int)
+(constraint (<= x1 (f x1 x2 x3 x4 x5 x6)))
+(constraint (<= x2 (f x1 x2 x3 x4 x5 x6)))
+(constraint (<= x3 (f x1 x2 x3 x4 x5 x6)))
+(constraint (<= x4 (f x1 x2 x3 x4 x5 x6)))
+(constraint (<= x5 (f x1 x2 x3 x4 x5 x6)))
+(constraint (<= x6 (f x1 x2 x3 x4 x5 x6)))
+(constraint (or (= (f x1 x2 x3 x4 x5 x6) x1) (= (f x1 x2 x3 x4 x5 x6) x2) (= (f x1 x2 x3 x4 x5 x6) x3) (= (f x1 x2 x3 x4 x5 x6) x4) (= (f x1 x2 x3 x4 x5 x6) x5) (= (f x1 x2 x3 x4 x5 x6) x6)))
+(check-synth)

@@ -1,0 +1,17 @@
+; The middle one of three numbers, at width 16.
+; leaves: 4
+(set-logic BV)
+(synth-fun f ((x (_ BitVec 16)) (y (_ BitVec 16)) (z (_ BitVec 16))) (_ BitVec 16)
+  ((S (_ BitVec 16)) (B Bool))
+  ((S (_ BitVec 16) (x y z (ite B S S)))
+   (B Bool ((bvule S S) (= S S) (and B B) (not B)))))
+(declare-var x (_ BitVec 16))
+(declare-var y (_ BitVec 16))
+(declare-var z (_ BitVec 16))
+(constraint (=> (and (bvule x y) (bvule y z)) (= (f x y z) y)))
+(constraint (=> (and (bvule x z) (bvule z y)) (= (f x y z) z)))
+(constraint (=> (and (bvule y x) (bvule x z)) (= (f x y z) x)))
+(constraint (=> (and (bvule y z) (bvule z x)) (= (f x y z) z)))
+(constraint (=> (and (bvule z x) (bvule x y)) (= (f x y z) x)))
+(constraint (=> (and (bvule z y) (bvule y x)) (= (f x y z) y)))
+(check-synth)

@@ -1,0 +1,17 @@
+; The middle one of three numbers, at width 8.
+; leaves: 4
+(set-logic BV)
+(synth-fun f ((x (_ BitVec 8)) (y (_ BitVec 8)) (z (_ BitVec 8))) (_ BitVec 8)
+  ((S (_ BitVec 8)) (B Bool))
+  ((S (_ BitVec 8) (x y z (ite B S S)))
+   (B Bool ((bvule S S) (= S S) (and B B) (not B)))))
+(declare-var x (_ BitVec 8))
+(declare-var y (_ BitVec 8))
+(declare-var z (_ BitVec 8))
+(constraint (=> (and (bvule x y) (bvule y z)) (= (f x y z) y)))
+(constraint (=> (and (bvule x z) (bvule z y)) (= (f x y z) z)))
+(constraint (=> (and (bvule y x) (bvule x z)) (= (f x y z) x)))
+(constraint (=> (and (bvule y z) (bvule z x)) (= (f x y z) z)))
+(constraint (=> (and (bvule z x) (bvule x y)) (= (f x y z) x)))
+(constraint (=> (and (bvule z y) (bvule y x)) (= (f x y z) y)))
+(check-synth)
