@@ -1,5 +1,5 @@
 ; No member of the grammar is above every x: the greatest byte has none above it. Both members were tried.
-; answer: fail Exhausted
+; answer: infeasible
 (set-logic BV)
 (synth-fun f ((x (_ BitVec 8))) (_ BitVec 8)
   ((S (_ BitVec 8)))

@@ -4,7 +4,7 @@
   (bvshl (bvshl (bvshl (bvshl (bvshl (bvshl (bvshl (bvshl (bvshl (bvshl (bvshl (bvshl (bvshl (bvshl (bvshl (bvshl (bvshl (bvshl (bvshl (bvshl (bvshl (bvshl (bvshl (bvshl (bvshl (bvshl (bvshl (bvshl (bvshl (bvshl (bvshl (bvshl (bvshl (bvshl (bvshl (bvshl (bvshl (bvshl (bvshl (bvshl (bvshl (bvshl (bvshl (bvshl (bvshl (bvshl (bvshl (bvshl (bvshl (bvshl (bvshl (bvshl (bvshl (bvshl (bvshl (bvshl (bvshl (bvshl (bvshl (bvshl x n) n) n) n) n) n) n) n) n) n) n) n) n) n) n) n) n) n) n) n) n) n) n) n) n) n) n) n) n) n) n) n) n) n) n) n) n) n) n) n) n) n) n) n) n) n) n) n) n) n) n) n) n) n) n) n) n) n) n) n))
 (synth-fun f ((x (_ BitVec 16)) (n (_ BitVec 16))) (_ BitVec 16)
   ((S (_ BitVec 16)))
-  ((S (_ BitVec 16) (x n (bvshl S S) (far S S)))))
+  ((S (_ BitVec 16) (x n (far S S)))))
 (declare-var x (_ BitVec 16))
 (declare-var n (_ BitVec 16))
 (constraint (= (f x n) (far x n)))

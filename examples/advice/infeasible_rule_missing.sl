@@ -1,5 +1,5 @@
 ; No member of the grammar adds 2: both were tried.
-; answer: fail Exhausted
+; answer: infeasible
 (set-logic BV)
 (synth-fun f ((x (_ BitVec 8))) (_ BitVec 8)
   ((S (_ BitVec 8)))

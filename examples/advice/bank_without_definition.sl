@@ -1,0 +1,15 @@
+; Two numbers by one mask, with six operators: too many terms come before the bodies.
+; answer: fail Bank
+(set-logic BV)
+(synth-fun low ((x (_ BitVec 8)) (y (_ BitVec 8)) (m (_ BitVec 8))) (_ BitVec 8)
+  ((S (_ BitVec 8)))
+  ((S (_ BitVec 8) (x y m (bvand S S) (bvor S S) (bvxor S S) (bvadd S S) (bvnot S)))))
+(synth-fun high ((x (_ BitVec 8)) (y (_ BitVec 8)) (m (_ BitVec 8))) (_ BitVec 8)
+  ((S (_ BitVec 8)))
+  ((S (_ BitVec 8) (x y m (bvand S S) (bvor S S) (bvxor S S) (bvadd S S) (bvnot S)))))
+(declare-var x (_ BitVec 8))
+(declare-var y (_ BitVec 8))
+(declare-var m (_ BitVec 8))
+(constraint (=> (= m #xff) (and (= (low x y m) x) (= (high x y m) y))))
+(constraint (=> (= m #x00) (and (= (low x y m) y) (= (high x y m) x))))
+(check-synth)

@@ -1,0 +1,8 @@
+; The same without that constraint.
+(set-logic BV)
+(synth-fun f ((x (_ BitVec 8))) (_ BitVec 8)
+  ((S (_ BitVec 8)))
+  ((S (_ BitVec 8) (x (bvadd x #x01) (bvor x #x01)))))
+(declare-var x (_ BitVec 8))
+(constraint (= ((_ extract 0 0) (f x)) #b1))
+(check-synth)

@@ -1,0 +1,11 @@
+; The same by four of them.
+; words: --points 4
+(set-logic BV)
+(synth-fun f ((x (_ BitVec 8))) (_ BitVec 8)
+  ((S (_ BitVec 8)))
+  ((S (_ BitVec 8) (x #x01 #x07 (bvnot S) (bvand S S) (bvadd S S)))))
+(constraint (= (f #x52) #x58))
+(constraint (= (f #xf2) #xf8))
+(constraint (= (f #x26) #x28))
+(constraint (= (f #x65) #x68))
+(check-synth)

@@ -1,0 +1,10 @@
+; The two lowest ones cleared, by a subtraction that is needed twice: the body has size 13.
+; answer: fail Size
+(set-logic BV)
+(define-fun drop ((x (_ BitVec 8))) (_ BitVec 8) (bvand x (bvsub x #x01)))
+(synth-fun f ((x (_ BitVec 8))) (_ BitVec 8)
+  ((S (_ BitVec 8)))
+  ((S (_ BitVec 8) (x (bvand S S) (bvsub S #x01)))))
+(declare-var x (_ BitVec 8))
+(constraint (= (f x) (drop (drop x))))
+(check-synth)

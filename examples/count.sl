@@ -1,0 +1,11 @@
+; An invariant of a loop over integers that adds 2 ten times.
+(set-logic LIA)
+(synth-inv inv ((i Int) (s Int))
+  ((B Bool) (I Int))
+  ((B Bool ((= I I) (<= I I) (and B B)))
+   (I Int (i s 10 (+ I I)))))
+(define-fun pre ((i Int) (s Int)) Bool (and (= i 0) (= s 0)))
+(define-fun trans ((i Int) (s Int) (j Int) (t Int)) Bool (and (< i 10) (= j (+ i 1)) (= t (+ s 2))))
+(define-fun post ((i Int) (s Int)) Bool (=> (>= i 10) (= s 20)))
+(inv-constraint inv pre trans post)
+(check-synth)

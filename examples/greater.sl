@@ -1,0 +1,12 @@
+; The greater of two integers, by what has to hold of it.
+(set-logic LIA)
+(synth-fun greater ((x Int) (y Int)) Int
+  ((I Int) (B Bool))
+  ((I Int (x y (ite B I I)))
+   (B Bool ((<= x y)))))
+(declare-var x Int)
+(declare-var y Int)
+(constraint (>= (greater x y) x))
+(constraint (>= (greater x y) y))
+(constraint (or (= (greater x y) x) (= (greater x y) y)))
+(check-synth)
