@@ -12,6 +12,7 @@ pub mod Inspect
 pub mod Listing
 pub mod Guards
 pub mod Visiting
+pub mod Shorter
 pub mod Attaching
 pub mod States
 pub mod Courses

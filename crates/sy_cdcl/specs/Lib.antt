@@ -5,4 +5,5 @@ pub mod Trails
 pub mod Truths
 pub mod Visits
 pub mod Watching
+pub mod Short
 pub mod States

@@ -14,7 +14,7 @@ use sy_clauses::{Cnf, Line, Lit, Marks, Step, advance, clause_at};
 use sy_seq::{Seq, Want};
 
 /// Whether the entry's literal makes a marked one false.
-fn falsifies(entry: Entry, marks: &Marks) -> bool
+pub fn falsifies(entry: Entry, marks: &Marks) -> bool
     ensures { result ≡ clause_of marks.now entry.literal.var (not entry.literal.positive) }
 {
     marks.has(entry.literal.var, !entry.literal.positive)

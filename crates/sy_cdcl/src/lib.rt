@@ -4,6 +4,7 @@
 mod analysis;
 mod order;
 mod propagation;
+mod shortening;
 mod solver;
 mod trail;
 mod watches;

@@ -5,7 +5,7 @@ ghost use Rattle.sy_clauses.specs.Clauses.{literals, same_literal, known_clauses
 ghost use Rattle.sy_cdcl.specs.Trails.{value_of, IsReady, Extends, VarsBelow, LevelsSettled};
 ghost use Rattle.sy_cdcl.specs.Status.{IsConflict};
 ghost use Rattle.sy_cdcl.specs.Watching.{AllWatched, IsWatching, IsAttached, pair_of};
-ghost use Rattle.sy_cdcl.specs.Visits.{IsFalseBut, IsOther, IsApart, IsBeside, Suits, Fits, MayForce, IsOnly, IsAnother};
+ghost use Rattle.sy_cdcl.specs.Visits.{IsFalseBut, IsOther, IsApart, IsBeside, Suits, Fits, MayForce, IsOnly, IsAnother, AreFalseBut};
 
 use crate::trail::{Entry, Trail, Truth};
 use crate::watches::{Pair, Watches, list_index};
@@ -14,7 +14,7 @@ use sy_clauses::{Cnf, Lit, clause_at};
 use sy_seq::{Seq, Want};
 
 /// Whether the two are one literal.
-fn is_same(a: Lit, b: Lit) -> bool
+pub fn is_same(a: Lit, b: Lit) -> bool
     ensures { result ≡ same_literal a.var a.positive b.var b.positive }
 {
     b.var == a.var && b.positive == a.positive
@@ -56,34 +56,63 @@ fn likely_other(pair: Pair, literal: Lit) -> Lit
     }
 }
 
-/// A literal of the clause that isn't false, other than this one.
-fn find_other(trail: &Trail, clause: &[Lit], other: Lit) -> Option<Lit>
+/// A literal of a clause, and its place there.
+#[derive(Clone, Copy, Drop)]
+pub struct Found {
+    pub literal: Lit,
+    pub place: usize,
+}
+
+/// A literal of the clause between the two places that isn't false, other than this one.
+fn find_between(
+    trail: &Trail,
+    clause: &[Lit],
+    other: Lit,
+    start: usize,
+    end: usize,
+) -> Option<Found>
+    requires { end ≤ length clause.now }
     ensures { MatchOption result
-        (IsFalseBut (value_of trail.now.values.items) (literals clause.now) other)
-        (λ l. IsOther (value_of trail.now.values.items) (literals clause.now) other l) }
+        (AreFalseBut (value_of trail.now.values.items) clause.now start end other)
+        (λ f. IsOther (value_of trail.now.values.items) (literals clause.now) other f.literal) }
 {
-    for literal in clause {
-        if trail.is_false(*literal) {
-            continue;
+    let mut place = start;
+    while place < end {
+        let literal = clause[place];
+        if !trail.is_false(literal) && !is_same(other, literal) {
+            return Some(Found { literal, place });
         }
-        if !is_same(other, *literal) {
-            return Some(*literal);
-        }
+        place += 1;
     }
     None
 }
 
-/// What becomes of a clause where a literal that it watches has become false.
+/// A literal of the clause that isn't false, other than this one. The search begins at a place, and
+/// goes on from the clause's beginning.
+fn find_other(trail: &Trail, clause: &[Lit], other: Lit, from: usize) -> Option<Found>
+    ensures { MatchOption result
+        (IsFalseBut (value_of trail.now.values.items) (literals clause.now) other)
+        (λ f. IsOther (value_of trail.now.values.items) (literals clause.now) other f.literal) }
+{
+    let middle = from.min(clause.len());
+    if let Some(found) = find_between(trail, clause, other, middle, clause.len()) {
+        return Some(found);
+    }
+    find_between(trail, clause, other, 0, middle)
+}
+
+/// What becomes of a clause where a literal that it watches has become false. A clause that is to watch
+/// another has the pair, and the place of the new literal.
 #[derive(Clone, Copy, Drop)]
 pub enum Outcome {
     Stay,
-    Move(Pair),
+    Move(Pair, usize),
     Force(Lit),
     Conflict,
 }
 
-/// Looks for another literal to watch. This one is the other one that is watched.
-fn inspect(trail: &Trail, clause: &[Lit], other: Lit) -> Outcome
+/// Looks for another literal to watch, from a place on. This one is the other one that is watched.
+fn inspect(trail: &Trail, clause: &[Lit], other: Lit, from: usize) -> Outcome
     requires { literals clause.now other.var other.positive ≡ true }
     ensures { Suits (value_of trail.now.values.items) (literals clause.now) other result }
 {
@@ -91,11 +120,12 @@ fn inspect(trail: &Trail, clause: &[Lit], other: Lit) -> Outcome
     if let Truth::True = truth {
         return Outcome::Stay;
     }
-    if let Some(next) = find_other(trail, clause, other) {
-        return Outcome::Move(Pair {
+    if let Some(found) = find_other(trail, clause, other, from) {
+        let pair = Pair {
             first: other,
-            second: next,
-        });
+            second: found.literal,
+        };
+        return Outcome::Move(pair, found.place);
     }
     if let Truth::Open = truth {
         return Outcome::Force(other);
@@ -124,7 +154,7 @@ fn examine(
     let Some(clause) = clause_at(cnf, derived, number) else {
         return Outcome::Stay;
     };
-    inspect(trail, clause, other)
+    inspect(trail, clause, other, watches.hint(number))
 }
 
 /// What becomes of the clause of this number, where the literal has become false.
@@ -198,8 +228,8 @@ fn visit(
                 place += 1;
                 continue;
             }
-            Outcome::Move(pair) => {
-                watches.change(list, place, number, pair)?;
+            Outcome::Move(pair, found) => {
+                watches.change(list, place, number, pair, found)?;
                 continue;
             }
             Outcome::Force(literal) => {

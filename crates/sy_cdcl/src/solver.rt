@@ -14,6 +14,7 @@ ghost use Rattle.sy_cdcl.specs.States.{IsSound, IsFresh, IsStuck, known_of};
 use crate::analysis::{analyze, go_back, last_falsified};
 use crate::order::Order;
 use crate::propagation::{attach, propagate};
+use crate::shortening::conclude;
 use crate::trail::Trail;
 use crate::watches::{Pair, Watches};
 use std::alloc::{AllocError, Global};
@@ -271,7 +272,7 @@ fn learn_from(
         (IsSound cnf.now state.new)
         (Refutes cnf.now record { lines = state.new.lines })) }
 {
-    let taught = analyze(
+    let taught = conclude(
         alloc,
         &state.trail,
         cnf,

@@ -70,11 +70,16 @@ pub struct Pair {
 
 /// The pair that each clause watches, the clauses that watch each literal, and how many entries of the
 /// trail were visited. A clause without a pair has a literal that is true at the lowest level.
+///
+/// `hints` has the place in each clause at which the last literal to be watched was found. A search
+/// that begins there passes over the false literals before it. No contract speaks of it, since any
+/// place is right.
 #[derive(Drop)]
 pub struct Watches {
     pub pairs: Vec<Option<Pair>>,
     pub lists: Vec<Watchers>,
     pub head: usize,
+    pub hints: Vec<u32>,
 }
 
 /// Where the clauses that watch the literal are listed.
@@ -101,6 +106,7 @@ impl Watches {
             pairs: Vec::new(alloc),
             lists,
             head: 0,
+            hints: Vec::new(alloc),
         })
     }
 
@@ -111,6 +117,26 @@ impl Watches {
         match self.pairs.get(number as usize) {
             Some(pair) => *pair,
             None => None,
+        }
+    }
+
+    /// Where a search for another literal to watch is to begin.
+    pub fn hint(&self, number: u32) -> usize {
+        match self.hints.get(number as usize) {
+            Some(place) => *place as usize,
+            None => 0,
+        }
+    }
+
+    /// Keeps the place at which a literal to watch was found.
+    fn set_hint(&mut self, number: u32, place: usize)
+        ensures lists { self.new.lists.items ≡ self.old.lists.items }
+        ensures pairs { self.new.pairs.items ≡ self.old.pairs.items }
+        ensures head { self.new.head ≡ self.old.head }
+    {
+        let index = number as usize;
+        if index < self.hints.len() && place <= 0xffff_ffff {
+            self.hints[index] = place as u32;
         }
     }
 
@@ -157,6 +183,7 @@ impl Watches {
         ensures head { self.new.head ≡ self.old.head }
     {
         self.pairs.push(Some(pair))?;
+        self.hints.push(0)?;
         self.enlist(list_index(pair.first), number)?;
         self.enlist(list_index(pair.second), number)?;
         Ok(())
@@ -169,11 +196,20 @@ impl Watches {
         ensures head { self.new.head ≡ self.old.head }
     {
         self.pairs.push(None)?;
+        self.hints.push(0)?;
         Ok(())
     }
 
-    /// Gives the clause at a place of a list another pair, whose second literal is new.
-    pub fn change(&mut self, list: usize, place: usize, number: u32, pair: Pair) -> Result<(), Want>
+    /// Gives the clause at a place of a list another pair, whose second literal is new and was found at
+    /// the place `found` of the clause.
+    pub fn change(
+        &mut self,
+        list: usize,
+        place: usize,
+        number: u32,
+        pair: Pair,
+        found: usize,
+    ) -> Result<(), Want>
         requires number { number < length self.old.pairs.items }
         requires list { list < length self.old.lists.items }
         requires place { place < length (list_at self.old.lists.items list) }
@@ -185,6 +221,7 @@ impl Watches {
     {
         self.delist(list, place);
         self.pairs[number as usize] = Some(pair);
+        self.set_hint(number, found);
         self.enlist(list_index(pair.second), number)?;
         Ok(())
     }

@@ -15,7 +15,7 @@ returns-in_default-clause-ends c =
     let cnf = c.args.cnf.now in
     let s = c.args.state.now in
     let known = known_clauses cnf.clauses s.derived.items in
-    let clause = clause_of c.analyze.new.marks in
+    let clause = clause_of c.conclude.new.marks in
     let line : line_clause known c.in_ok-taught.taught.line ≡ Some clause =
     subst (λ (ds : List (List Lit)). line_clause (known_clauses cnf.clauses ds) c.in_ok-taught.taught.line ≡ Some clause)
     c.deref.ensures.value c.in_ok-taught.ensures.line in
@@ -30,7 +30,7 @@ returns-clause-ends c =
     let s = c.args.state.now in
     let i = c.requires.sound in
     let known = known_clauses cnf.clauses s.derived.items in
-    let clause = clause_of c.analyze.new.marks in
+    let clause = clause_of c.conclude.new.marks in
     let line : line_clause known c.in_ok-taught.taught.line ≡ Some clause =
     subst (λ (ds : List (List Lit)). line_clause (known_clauses cnf.clauses ds) c.in_ok-taught.taught.line ≡ Some clause)
     c.deref.ensures.value c.in_ok-taught.ensures.line in
