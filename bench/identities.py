@@ -32,6 +32,12 @@ IDENTITIES = [
     ("add-associates", "(bvadd x (bvadd y z))", "(bvadd (bvadd x y) z)"),
     ("and-over-or", "(bvand x (bvor y z))", "(bvor (bvand x y) (bvand x z))"),
     ("and-over-xor", "(bvand x (bvxor y z))", "(bvxor (bvand x y) (bvand x z))"),
+    ("product-over-sum", "(bvmul x (bvadd y {1}))", "(bvadd x (bvmul x y))"),
+    ("square-of-sum", "(bvmul (bvadd x y) (bvadd x y))", "(bvadd (bvadd (bvmul x x) (bvmul {2} (bvmul x y))) (bvmul y y))"),
+    ("difference-of-squares", "(bvmul (bvadd x y) (bvsub x y))", "(bvsub (bvmul x x) (bvmul y y))"),
+    ("horner-form", "(bvadd (bvmul (bvadd (bvmul x y) z) y) x)", "(bvadd (bvadd (bvmul x (bvmul y y)) (bvmul z y)) x)"),
+    ("times-10", "(bvmul x {10})", "(bvadd (bvshl x {3}) (bvshl x {1}))"),
+    ("remainder-by-8", "(bvurem x {8})", "(bvand x {7})"),
     ("shift-over-add", "(bvshl (bvadd x y) {1})", "(bvadd (bvshl x {1}) (bvshl y {1}))"),
     ("shift-is-times-2", "(bvshl x {1})", "(bvmul x {2})"),
     ("shift-is-times-8", "(bvshl x {3})", "(bvmul x {8})"),
@@ -49,7 +55,7 @@ IDENTITIES = [
 
 def at_width(term, width):
     """The term over vectors of the width."""
-    for number in (0, 1, 2, 3, 4, 8):
+    for number in (0, 1, 2, 3, 4, 7, 8, 10):
         term = term.replace("{%d}" % number, "#b" + format(number, "0%db" % width))
     return term.replace("{top}", "#b" + format(width - 1, "0%db" % width))
 

@@ -17,6 +17,7 @@ use std::alloc::Global;
 use std::marker::Model;
 use sy_bits_operators::Signal;
 use sy_bits_terms::signal_of;
+use sy_bits_words::Words;
 use sy_clauses::Cnf;
 use sy_meaning_words::BvTheory;
 use sy_query_base::Query;
@@ -69,7 +70,8 @@ fn body_circuit(alloc: Global, query: &Query<BvTheory>) -> Result<Body, Want>
 {
     let Inputs { mut signals, count } = input_signals(alloc, query.vars.as_slice())?;
     let mut circuit = sy_gates::Circuit::new(alloc, count);
-    let signal = signal_of(&mut circuit, alloc, &mut signals, &query.body)?;
+    let mut words = Words::new(alloc);
+    let signal = signal_of(&mut words, &mut circuit, alloc, &mut signals, &query.body)?;
     Ok(Body { circuit, signal })
 }
 

@@ -6,11 +6,13 @@ ghost use Rattle.sy_terms.specs.Meaning.{meaning, meanings};
 ghost use Rattle.sy_meaning_words.specs.Vectors.{vector};
 ghost use Rattle.sy_gates.specs.Circuits.{variables, Follows, Grown};
 ghost use Rattle.sy_bits_operators.specs.Signals.{signal_value, signal_values, signal_sort, signal_sorts, signal_bound, signals_bound, sort_width, total_width, has_signals, AllHaveSignals};
+ghost use Rattle.sy_bits_words.specs.Standing.{AllStand};
 ghost use Rattle.sy_bits_laws.specs.Fitting.{scope, HasSort, HaveSorts, most_gates, all_most_gates};
 
 use crate::leaves::{constant_signal, copied};
 use std::alloc::Global;
-use sy_bits_operators::{Signal, applied};
+use sy_bits_operators::Signal;
+use sy_bits_words::{Words, applied};
 use sy_gates::Circuit;
 use sy_meaning_words::BvTheory;
 use sy_seq::Want;
@@ -18,9 +20,10 @@ use sy_terms::{Term, Terms};
 
 /// The signal of a term that calls no function, where the values in force have these signals: wherever the circuit's
 /// gates are followed, its value is the term's. Values that a `let` binds are encoded once; during the call their
-/// signals stand after the given ones. `Want` exactly where memory is refused.
+/// signals stand after the given ones. A word whose sum is that of a word in `words` is this word. `Want` exactly where memory is refused.
 #[cycle(signals)]
 pub fn signal_of(
+    words: &mut Words,
     circuit: &mut Circuit,
     alloc: Global,
     signals: &mut Vec<Signal>,
@@ -29,8 +32,10 @@ pub fn signal_of(
     requires fits { HasSort (signal_sorts signals.old.items) (expr_of vector term.now) }
     requires sorts { AllHaveSignals (signal_sorts signals.old.items) }
     requires inside { signals_bound signals.old.items ≤ variables circuit.old }
+    requires stand { AllStand circuit.old words.old }
     requires room { variables circuit.old + most_gates (signal_sorts signals.old.items) (expr_of vector term.now) < 2 ^ 31 }
     ensures kept { OnOk result (signals.new.items ≡ signals.old.items) }
+    ensures stand { OnOk result (AllStand circuit.new words.new) }
     ensures grown { Grown circuit.old circuit.new }
     ensures cost { IfOk result (λ r. variables circuit.new + 5 * sort_width (signal_sort r) ≤ variables circuit.old + most_gates (signal_sorts signals.old.items) (expr_of vector term.now)) }
     ensures inside { IfOk result (λ r. signal_bound r ≤ variables circuit.new) }
@@ -48,16 +53,16 @@ pub fn signal_of(
             Ok(signal)
         }
         Term::App(operator, arguments) => {
-            let found = signals_of(circuit, alloc, signals, arguments)?;
-            let signal = applied(circuit, alloc, operator, found.as_slice())?;
+            let found = signals_of(words, circuit, alloc, signals, arguments)?;
+            let signal = applied(words, circuit, alloc, operator, found.as_slice())?;
             Ok(signal)
         }
         Term::Call(_, _) => unreachable!(),
         Term::Let(bound, inner) => {
-            let mut found = signals_of(circuit, alloc, signals, bound)?;
+            let mut found = signals_of(words, circuit, alloc, signals, bound)?;
             let outer = signals.len();
             signals.append(&mut found)?;
-            let signal = signal_of(circuit, alloc, signals, inner)?;
+            let signal = signal_of(words, circuit, alloc, signals, inner)?;
             signals.truncate(outer);
             Ok(signal)
         }
@@ -67,6 +72,7 @@ pub fn signal_of(
 /// The signals of terms, as `signal_of` gives them one by one.
 #[cycle(signals)]
 pub fn signals_of(
+    words: &mut Words,
     circuit: &mut Circuit,
     alloc: Global,
     signals: &mut Vec<Signal>,
@@ -75,8 +81,10 @@ pub fn signals_of(
     requires fit { HaveSorts (signal_sorts signals.old.items) (exprs_of vector terms.now.items.items) }
     requires sorts { AllHaveSignals (signal_sorts signals.old.items) }
     requires inside { signals_bound signals.old.items ≤ variables circuit.old }
+    requires stand { AllStand circuit.old words.old }
     requires room { variables circuit.old + all_most_gates (signal_sorts signals.old.items) (exprs_of vector terms.now.items.items) < 2 ^ 31 }
     ensures kept { OnOk result (signals.new.items ≡ signals.old.items) }
+    ensures stand { OnOk result (AllStand circuit.new words.new) }
     ensures grown { Grown circuit.old circuit.new }
     ensures cost { IfOk result (λ rs. variables circuit.new + 5 * total_width (signal_sorts rs.items) ≤ variables circuit.old + all_most_gates (signal_sorts signals.old.items) (exprs_of vector terms.now.items.items)) }
     ensures inside { IfOk result (λ rs. signals_bound rs.items ≤ variables circuit.new) }
@@ -86,7 +94,7 @@ pub fn signals_of(
 {
     let mut found = Vec::with_capacity(alloc, terms.len())?;
     for term in terms.as_slice() {
-        let signal = signal_of(circuit, alloc, signals, term)?;
+        let signal = signal_of(words, circuit, alloc, signals, term)?;
         found.push(signal)?;
     }
     Ok(found)

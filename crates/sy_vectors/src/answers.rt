@@ -92,7 +92,7 @@ fn has_answer(
 fn answers_small_queries(rt: HostRuntime) -> Result<(), Fail> {
     let alloc = rt.alloc();
     // the variables' sorts, the body, how many clauses may be learned, and the answer
-    let cases: [(&str, &str, u32, Answer); 43] = [
+    let cases: [(&str, &str, u32, Answer); 49] = [
         // what isn't a query
         ("4", "A", 9, Answer::Unfit),
         ("0", "T", 9, Answer::Unfit),
@@ -111,13 +111,20 @@ fn answers_small_queries(rt: HostRuntime) -> Result<(), Fail> {
         ("4", "AAzz=A0#&AF#&A7<&", 99, Answer::Model(&[5])),
         // sums and products in both orders
         ("44", "AB+BA+#", 9999, Answer::Never),
-        ("44", "AB+BA+#", 1, Answer::Spent(1)),
         ("33", "AB*BA*#", 9999, Answer::Never),
         ("44", "AB-B+A#", 9999, Answer::Never),
+        // equal polynomials, without a learned clause
+        ("444", "ABC++BCA++#", 1, Answer::Never),
+        ("44", "AB1+*AAB*+#", 1, Answer::Never),
+        ("44", "AB+AB+*AA*2AB**+BB*+#", 1, Answer::Never),
+        ("44", "AB+AB-*AA*BB*-#", 1, Answer::Never),
+        ("4", "A3lA8*#", 1, Answer::Never),
+        ("4", "AnA~1+#", 1, Answer::Never),
         // division by 0, and quotients with their remainders
         ("4", "A0/F#", 99, Answer::Never),
         ("4", "A0%A#", 99, Answer::Never),
         ("33", "AB/B*AB%+A#", 9999, Answer::Never),
+        ("33", "AB/B*AB%+A#", 1, Answer::Spent(1)),
         ("33", "ABdB*ABr+A#", 9999, Answer::Never),
         // a remainder has the sign of the divisor, or of what is divided
         ("44", "B0#ABm0#&ABm0sB0s^&", 9999, Answer::Never),

@@ -51,7 +51,7 @@ pub signal_of-signals_of-requires : goal.signal_of-signals_of-requires
 signal_of-signals_of-requires t c =
     let falls = app-falls vector c.args.term.now c.in-App.operator c.in-App.arguments 0 c.in-App.is in
     let asks = law.app-asks vector c.args.circuit.now c.args.signals.now.items c.args.term.now c.in-App.operator c.in-App.arguments c.in-App.is c.requires.fits c.requires.room in
-    (omega (arith, falls, c.decreases), (asks.fit, (c.requires.sorts, (c.requires.inside, asks.room))))
+    (omega (arith, falls, c.decreases), (asks.fit, (c.requires.sorts, (c.requires.inside, (c.requires.stand, asks.room)))))
 
 applies : (t : ℕ) (c : goal.signal_of-After-as_slice t) → Applies c.in-App.operator c.as_slice.result.now c.signals_of.new.circuit
 applies t c = law.app-applies vector c.args.circuit.now c.signals_of.new.circuit c.args.signals.now.items c.args.term.now c.in-App.operator c.in-App.arguments c.in_ok-found-in-App.found.items c.as_slice.result.now c.in-App.is c.as_slice.ensures.value c.requires.fits c.requires.room (record { grown = c.in_ok-found-in-App.ensures.grown; cost = c.in_ok-found-in-App.ensures.cost; inside = c.in_ok-found-in-App.ensures.inside; sorts = c.in_ok-found-in-App.ensures.sorts; have = c.in_ok-found-in-App.ensures.have; value = c.in_ok-found-in-App.ensures.value })
@@ -90,14 +90,14 @@ signal_of-signals_of-requires-in-Let t c =
     let falls = let-falls vector c.args.term.now c.in-Let.bound c.in-Let.inner 0 c.in-Let.is in
     let first = falls.0 in
     let asks = law.let-asks vector c.args.circuit.now c.args.signals.now.items c.args.term.now c.in-Let.bound c.in-Let.inner c.in-Let.is c.requires.fits c.requires.room in
-    (omega (arith, first, c.decreases), (asks.fit, (c.requires.sorts, (c.requires.inside, asks.room))))
+    (omega (arith, first, c.decreases), (asks.fit, (c.requires.sorts, (c.requires.inside, (c.requires.stand, asks.room)))))
 
 pub signal_of-signal_of-requires : goal.signal_of-signal_of-requires
 signal_of-signal_of-requires t c =
     let falls = let-falls vector c.args.term.now c.in-Let.bound c.in-Let.inner 0 c.in-Let.is in
     let second = falls.1 in
     let enters = law.let-enters vector c.args.circuit.now c.signals_of-in-Let.new.circuit c.args.signals.now.items c.args.term.now c.in-Let.bound c.in-Let.inner c.in_ok-found-in-Let.found.items c.signals_of-in-Let.new.signals.items c.append.new.self.items c.deref.result.now c.in-Let.is c.in_ok-found-in-Let.ensures.kept c.in_ok-append-in-Let.ensures.items c.deref.ensures c.requires.fits c.requires.sorts c.requires.inside c.requires.room (record { grown = c.in_ok-found-in-Let.ensures.grown; cost = c.in_ok-found-in-Let.ensures.cost; inside = c.in_ok-found-in-Let.ensures.inside; sorts = c.in_ok-found-in-Let.ensures.sorts; have = c.in_ok-found-in-Let.ensures.have; value = c.in_ok-found-in-Let.ensures.value }) in
-    (rw c.deref.ensures (omega (arith, second, c.decreases)), (enters.fits, (enters.sorts, (enters.inside, enters.room))))
+    (rw c.deref.ensures (omega (arith, second, c.decreases)), (enters.fits, (enters.sorts, (enters.inside, (c.in_ok-found-in-Let.ensures.stand, enters.room)))))
 
 binding : (t : ℕ) (c : goal.signal_of-After-drop-found-in-Let t) → Encoded c.args.circuit.now c.signal_of.new.circuit c.args.signals.now.items (expr_of vector c.args.term.now) c.in_ok-signal-in-Let.signal
 binding t c = law.let-encoded vector c.args.circuit.now c.signals_of-in-Let.new.circuit c.signal_of.new.circuit c.args.signals.now.items c.args.term.now c.in-Let.bound c.in-Let.inner c.in_ok-found-in-Let.found.items c.signals_of-in-Let.new.signals.items c.append.new.self.items c.deref.result.now c.in_ok-signal-in-Let.signal c.in-Let.is c.in_ok-found-in-Let.ensures.kept c.in_ok-append-in-Let.ensures.items c.deref.ensures (record { grown = c.in_ok-found-in-Let.ensures.grown; cost = c.in_ok-found-in-Let.ensures.cost; inside = c.in_ok-found-in-Let.ensures.inside; sorts = c.in_ok-found-in-Let.ensures.sorts; have = c.in_ok-found-in-Let.ensures.have; value = c.in_ok-found-in-Let.ensures.value }) (record { grown = c.in_ok-signal-in-Let.ensures.grown; cost = c.in_ok-signal-in-Let.ensures.cost; inside = c.in_ok-signal-in-Let.ensures.inside; sort = c.in_ok-signal-in-Let.ensures.sort; has = c.in_ok-signal-in-Let.ensures.has; value = c.in_ok-signal-in-Let.ensures.value })
@@ -114,17 +114,18 @@ signal_of-returns-in_ok-signal-in-Let-clause-value t c = (binding t c).value
 -- ---- terms, one by one
 
 pub signals_of-loop-term-init : goal.signals_of-loop-term-init
-signals_of-loop-term-init t c = record { kept = refl; encoded = rw c.in_ok-found.ensures.items (law.no-terms ℕ vector c.args.circuit.now c.args.signals.now.items) }
+signals_of-loop-term-init t c = record { stand = c.requires.stand; kept = refl; encoded = rw c.in_ok-found.ensures.items (law.no-terms ℕ vector c.args.circuit.now c.args.signals.now.items) }
 
 pub signals_of-signal_of-requires : goal.signals_of-signal_of-requires
 signals_of-signal_of-requires t c =
     let falls = all-falls vector c.as_slice-term-items.result.now c.loop-term.term-index c.term-item.result 0 (omega arith) c.term-item.is in
     let less = rw c.as_slice-term-items.ensures at falls in
     let enters = law.next-enters vector c.args.circuit.now c.loop-term.circuit c.args.signals.now.items c.loop-term.signals.items c.as_slice-term-items.result.now c.args.terms.now.items.items c.loop-term.term-index c.term-item.result c.loop-term.found.items c.loop-term.invariant.kept c.as_slice-term-items.ensures (omega arith) c.term-item.is c.requires.fit c.requires.sorts c.requires.inside c.requires.room c.loop-term.invariant.encoded in
-    (omega (arith, less, c.decreases), (enters.fits, (enters.sorts, (enters.inside, enters.room))))
+    (omega (arith, less, c.decreases), (enters.fits, (enters.sorts, (enters.inside, (c.loop-term.invariant.stand, enters.room)))))
 
 pub signals_of-loop-term-preserved : goal.signals_of-loop-term-preserved
 signals_of-loop-term-preserved t c = record {
+  stand = c.in_ok-signal.ensures.stand;
   kept = c.in_ok-signal.ensures.kept ∙ c.loop-term.invariant.kept;
   encoded = law.next-encoded vector c.args.circuit.now c.loop-term.circuit c.signal_of.new.circuit c.args.signals.now.items c.loop-term.signals.items c.as_slice-term-items.result.now c.loop-term.term-index c.term-item.result c.loop-term.found.items c.push.new.self.items c.in_ok-signal.signal c.loop-term.invariant.kept c.in_ok-push.ensures.items (omega arith) c.term-item.is c.loop-term.invariant.encoded (record { grown = c.in_ok-signal.ensures.grown; cost = c.in_ok-signal.ensures.cost; inside = c.in_ok-signal.ensures.inside; sort = c.in_ok-signal.ensures.sort; has = c.in_ok-signal.ensures.has; value = c.in_ok-signal.ensures.value });
 }

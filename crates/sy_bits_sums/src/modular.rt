@@ -1,0 +1,18 @@
+// Sums and products modulo a power of two.
+ghost use Rattle.std.specs.Prelude.{◌≡◌, ◌≤◌, ◌+◌, ◌*◌, ◌%◌, ◌^◌};
+
+/// The sum of two numbers modulo 2 to the power of the width.
+pub(crate) fn sum_modulo(width: u32, a: u64, b: u64) -> u64
+    requires { width ≤ 64 }
+    ensures { result ≡ (a + b) % 2 ^ width }
+{
+    ((u128::from(a) + u128::from(b)) % (1 << width)) as u64
+}
+
+/// The product of two numbers modulo 2 to the power of the width.
+pub(crate) fn product_modulo(width: u32, a: u64, b: u64) -> u64
+    requires { width ≤ 64 }
+    ensures { result ≡ (a * b) % 2 ^ width }
+{
+    ((u128::from(a) * u128::from(b)) % (1 << width)) as u64
+}

@@ -1,0 +1,4 @@
+pub mod Fixed
+pub mod Numbers
+pub mod Tables
+pub mod Laws

@@ -1,0 +1,91 @@
+-- What is known of a table of words as it grows.
+use Rattle.std.proofs.Common.{◌≡◌, ℕ, Bool, ◌+◌, ◌%◌, ◌^◌, ◌≤◌, ◌<◌, List, [], ◌∷◌, ◌++◌, length, Option, Some, None, slice_get, arith, refl, ap, sym, subst, ◌∙◌, zero, suc, inl, inr, ◌⊎◌}
+use Rattle.std.proofs.lemmas.Option.{slice_get_within}
+use Rattle.sy_gates.specs.declared.gate.Bit.{Bit}
+use Rattle.sy_gates.specs.Circuits.{Plan, variables, Follows, Grown, word_number, word_bound}
+use Rattle.sy_bits_sums.specs.declared.sum.Sum.{Sum}
+use Rattle.sy_bits_sums.specs.Polynomials.{total, Agree}
+use Rattle.sy_bits_sums.proofs.Agreeing.{agree-same, agree-sym, agree-trans}
+use Rattle.sy_bits_words.specs.declared.known.Known.{Known}
+use Rattle.sy_bits_words.specs.Standing.{AreNumbers, StandsFor, AllStand}
+
+-- there are such values
+
+abbrev number_at : (ℕ → Bool) → Option Known → ℕ
+number_at v None = 0
+number_at v (Some known) = word_number v known.word
+
+abbrev pub numbers_of : (ℕ → Bool) → List Known → ℕ → ℕ
+numbers_of v list place = number_at v (slice_get list place)
+
+pub are-numbers : (v : ℕ → Bool) (list : List Known) → AreNumbers v list (numbers_of v list)
+are-numbers v list = record { at = λ place known e. ap (number_at v) e }
+
+-- a longer table
+
+longer-at : (list more : List Known) (place : ℕ) (known : Known) → slice_get list place ≡ Some known → slice_get (list ++ more) place ≡ Some known
+longer-at [] more place known e = absurd (omega (arith, slice_get_within [] place known e))
+longer-at (x ∷ list) more zero known e = e
+longer-at (x ∷ list) more (suc place) known e = longer-at list more place known e
+
+last-at : (list : List Known) (known : Known) → slice_get (list ++ known ∷ []) (length list) ≡ Some known
+last-at [] known = refl
+last-at (x ∷ list) known = last-at list known
+
+pushed-at : (list : List Known) (last : Known) (place : ℕ) (known : Known) → slice_get (list ++ last ∷ []) place ≡ Some known → (slice_get list place ≡ Some known) ⊎ (last ≡ known)
+pushed-at [] last zero known e = inr cc
+pushed-at [] last (suc place) known e = absurd (omega (arith, slice_get_within [] place known e))
+pushed-at (x ∷ list) last zero known e = inl e
+pushed-at (x ∷ list) last (suc place) known e = pushed-at list last place known e
+
+shorter : (v : ℕ → Bool) (list more : List Known) (values : ℕ → ℕ) → AreNumbers v (list ++ more) values → AreNumbers v list values
+shorter v list more values n = record { at = λ place known e. n.at place known (longer-at list more place known e) }
+
+stands-longer : (circuit : Plan) (list more : List Known) (word : List Bit) (sum : Sum) → StandsFor circuit list word sum → StandsFor circuit (list ++ more) word sum
+stands-longer circuit list more word sum s = record {
+  width = s.width;
+  inside = s.inside;
+  value = λ v values f n. s.value v values f (shorter v list more values n);
+}
+
+pub none-stand : (circuit : Plan) (list : List Known) → list ≡ [] → AllStand circuit list
+none-stand circuit list e = record { each = λ place known at. absurd (omega (arith, slice_get_within [] place known (subst (λ xs. slice_get xs place ≡ Some known) e at))) }
+
+choose : (circuit : Plan) (list : List Known) (last known : Known) (place : ℕ) → StandsFor circuit (list ++ last ∷ []) last.word last.sum → AllStand circuit list → ((slice_get list place ≡ Some known) ⊎ (last ≡ known)) → StandsFor circuit (list ++ last ∷ []) known.word known.sum
+choose circuit list last known place own all (inl at) = stands-longer circuit list (last ∷ []) known.word known.sum (all.each place known at)
+choose circuit list last known place own all (inr same) = subst (λ (k : Known). StandsFor circuit (list ++ last ∷ []) k.word k.sum) same own
+
+pub all-pushed : (circuit : Plan) (list after : List Known) (last : Known) → after ≡ list ++ last ∷ [] → AllStand circuit list → StandsFor circuit after last.word last.sum → AllStand circuit after
+all-pushed circuit list after last is all new =
+    let own : StandsFor circuit (list ++ last ∷ []) last.word last.sum = subst (λ xs. StandsFor circuit xs last.word last.sum) is new in
+    let longer : AllStand circuit (list ++ last ∷ []) = record { each = λ place known e. choose circuit list last known place own all (pushed-at list last place known e) } in
+    subst (AllStand circuit) (sym is) longer
+
+-- one that stands for a sum of the table before
+pub all-noted : (circuit : Plan) (list after : List Known) (last : Known) → after ≡ list ++ last ∷ [] → StandsFor circuit list last.word last.sum → AllStand circuit list → AllStand circuit after
+all-noted circuit list after last is new all = all-pushed circuit list after last is all (subst (λ xs. StandsFor circuit xs last.word last.sum) (sym is) (stands-longer circuit list (last ∷ []) last.word last.sum new))
+
+-- a circuit that has grown
+
+pub stands-grown : (old new : Plan) (list : List Known) (word : List Bit) (sum : Sum) → Grown old new → StandsFor old list word sum → StandsFor new list word sum
+stands-grown old new list word sum g s = let more = g.more in let inside = s.inside in record {
+  width = s.width;
+  inside = omega (arith, inside, more);
+  value = λ v values f n. s.value v values (g.keeps v f) n;
+}
+
+pub all-grown : (old new : Plan) (list : List Known) → Grown old new → AllStand old list → AllStand new list
+all-grown old new list g all = record { each = λ place known e. stands-grown old new list known.word known.sum g (all.each place known e) }
+
+-- a new word, whose sum is a number or the word itself
+
+pub all-entered : (circuit : Plan) (list after : List Known) (word : List Bit) (last : Known) → after ≡ list ++ last ∷ [] → last.word ≡ word → length word ≡ last.sum.width → word_bound word ≤ variables circuit → ((v : ℕ → Bool) (values : ℕ → ℕ) → values (length list) ≡ word_number v word → Agree last.sum.width (total values last.sum.monomials.items) (word_number v word)) → AllStand circuit list → AllStand circuit after
+all-entered circuit list after word last is same width inside value all =
+    all-pushed circuit list after last is all (record {
+      width = ap (λ xs. length xs) same ∙ width;
+      inside = rw same inside;
+      value = λ v values f n.
+          let here : values (length list) ≡ word_number v word = n.at (length list) last (ap (λ xs. slice_get xs (length list)) is ∙ last-at list last) ∙ ap (word_number v) same in
+          let own : Agree (length word) (total values last.sum.monomials.items) (word_number v word) = rw width (value v values here) in
+          rw same (agree-sym (length word) (total values last.sum.monomials.items) (word_number v word) own);
+    })

@@ -1,0 +1,32 @@
+-- Words that stand for sums of the numbers of words.
+use Rattle.std.specs.Prelude.{ℕ, Bool, ◌≡◌, ◌≤◌, ◌%◌, ◌^◌, List, length, slice_get, Some}
+use Rattle.sy_terms.specs.Values.{Bits}
+use Rattle.sy_terms.specs.Operators.{op_value}
+use Rattle.sy_terms.specs.Theories.{sort_of_value}
+use Rattle.sy_terms.specs.declared.op.Op.{Op}
+use Rattle.sy_terms.specs.declared.sort.Sort.TheVariants as sorts
+use Rattle.sy_gates.specs.declared.gate.Bit.{Bit}
+use Rattle.sy_gates.specs.Circuits.{Plan, variables, Follows, word_number, word_bound}
+use Rattle.sy_bits_sums.specs.declared.sum.Sum.{Sum}
+use Rattle.sy_bits_sums.specs.Polynomials.{total, Agree}
+use Rattle.sy_bits_operators.specs.declared.signal.Signal.{Signal}
+use Rattle.sy_bits_operators.specs.Signals.{signal_values}
+use Rattle.sy_bits_words.specs.declared.known.Known.{Known}
+
+-- the value at each place is the number of the word there
+pub record AreNumbers (v : ℕ → Bool) (list : List Known) (values : ℕ → ℕ) : Type 0 where
+  pub at : (place : ℕ) (known : Known) → slice_get list place ≡ Some known → values place ≡ word_number v known.word
+
+-- wherever the circuit's gates are followed, the word has the sum's number
+pub record StandsFor (circuit : Plan) (list : List Known) (word : List Bit) (sum : Sum) : Type 0 where
+  pub width : length word ≡ sum.width
+  pub inside : word_bound word ≤ variables circuit
+  pub value : (v : ℕ → Bool) (values : ℕ → ℕ) → Follows v circuit → AreNumbers v list values → Agree (length word) (word_number v word) (total values sum.monomials.items)
+
+pub record AllStand (circuit : Plan) (list : List Known) : Type 0 where
+  pub each : (place : ℕ) (known : Known) → slice_get list place ≡ Some known → StandsFor circuit list known.word known.sum
+
+-- wherever the circuit's gates are followed, the operator has the sum's number at these signals
+pub record IsSumOf (circuit : Plan) (list : List Known) (op : Op) (args : List Signal) (sum : Sum) : Type 0 where
+  pub sort : (v : ℕ → Bool) → sort_of_value (op_value op (signal_values v args)) ≡ sorts.Bits sum.width
+  pub value : (v : ℕ → Bool) (values : ℕ → ℕ) → Follows v circuit → AreNumbers v list values → op_value op (signal_values v args) ≡ Bits sum.width (total values sum.monomials.items % 2 ^ sum.width)

@@ -1,0 +1,121 @@
+// Words, and the sums that they stand for.
+ghost use Rattle.std.specs.Prelude.{◌≡◌, ◌≤◌, ℕ, Bool, cond, length, IsTrue, IfOk, IfSome};
+ghost use Rattle.sy_bits_sums.specs.Polynomials.{total, Agree};
+ghost use Rattle.sy_gates.specs.declared.gate.Bit.TheVariants as bits;
+ghost use Rattle.sy_gates.specs.Circuits.{word_number};
+
+use std::alloc::Global;
+use sy_bits_sums::Sum;
+use sy_gates::Bit;
+use sy_seq::{Seq, Want};
+
+/// A word, and the sum that it stands for.
+#[derive(Drop)]
+pub struct Known {
+    pub word: Seq<Bit>,
+    pub sum: Sum,
+}
+
+/// Whether the two are the same bit.
+fn same_bit(a: Bit, b: Bit) -> bool
+    ensures { IsTrue result → a ≡ b }
+{
+    match (a, b) {
+        (Bit::Fixed(x), Bit::Fixed(y)) => x == y,
+        (Bit::Of(x), Bit::Of(y)) => x.var == y.var && x.positive == y.positive,
+        _ => false,
+    }
+}
+
+/// Whether the two are the same word.
+pub(crate) fn same_word(a: &[Bit], b: &[Bit]) -> bool
+    ensures { IsTrue result → a.now ≡ b.now }
+{
+    if a.len() != b.len() {
+        return false;
+    }
+    for i in 0..a.len() {
+        if !same_bit(a[i], b[i]) {
+            return false;
+        }
+    }
+    true
+}
+
+/// The truth value of a bit that is fixed.
+fn fixed_bit(bit: Bit) -> Option<bool>
+    ensures { IfSome result (λ value. bit ≡ bits.Fixed value) }
+{
+    match bit {
+        Bit::Fixed(value) => Some(value),
+        Bit::Of(_) => None,
+    }
+}
+
+/// The digit of a truth value.
+fn digit(value: bool) -> u64
+    ensures { result ≡ cond value 1 0 }
+{
+    if value { 1 } else { 0 }
+}
+
+/// The number of a word whose bits are all fixed; `None` where one of them isn't.
+pub(crate) fn fixed_number(word: &[Bit]) -> Option<u64>
+    requires { length word.now ≤ 64 }
+    ensures { IfSome result (λ n. (v : ℕ → Bool) → word_number v word.now ≡ n) }
+{
+    let mut number = 0;
+    for i in 0..word.len() {
+        let value = fixed_bit(word[i])?;
+        number += digit(value) << i;
+    }
+    Some(number)
+}
+
+/// The sum of a word at a place of the table: its number where its bits are fixed, and else the value at the place.
+pub(crate) fn own_sum(alloc: Global, word: &[Bit], place: u32) -> Result<Sum, Want>
+    requires { length word.now ≤ 64 }
+    ensures width { IfOk result (λ r. r.width ≡ length word.now) }
+    ensures value { IfOk result (λ r. (v : ℕ → Bool) (values : ℕ → ℕ) → values place ≡ word_number v word.now → Agree (length word.now) (total values r.monomials.items) (word_number v word.now)) }
+{
+    let width = word.len() as u32;
+    match fixed_number(word) {
+        Some(number) => {
+            let sum = Sum::constant(alloc, width, number)?;
+            Ok(sum)
+        }
+        None => {
+            let sum = Sum::value(alloc, width, place)?;
+            Ok(sum)
+        }
+    }
+}
+
+/// A number by which a word is looked up; two words may have one.
+pub(crate) fn word_key(word: &[Bit]) -> u64 {
+    let mut key = 0;
+    for bit in word {
+        let code = match bit {
+            Bit::Fixed(value) => u64::from(*value),
+            Bit::Of(literal) => 2 + 2 * u64::from(literal.var) + u64::from(literal.positive),
+        };
+        key = mixed(key, code);
+    }
+    key
+}
+
+/// A number by which a sum is looked up; two sums may have one.
+pub(crate) fn sum_key(sum: &Sum) -> u64 {
+    let mut key = u64::from(sum.width);
+    for monomial in sum.monomials.as_slice() {
+        key = mixed(key, monomial.coefficient);
+        for place in monomial.factors.as_slice() {
+            key = mixed(key, u64::from(*place));
+        }
+    }
+    key
+}
+
+fn mixed(key: u64, code: u64) -> u64 {
+    key.wrapping_mul(11400714819323198485).wrapping_add(code)
+}

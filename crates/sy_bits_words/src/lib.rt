@@ -1,0 +1,11 @@
+// Words of a circuit whose sums are known, so that words with equal sums are one word.
+#![tactic(auto)]
+
+mod known;
+mod operations;
+mod sharing;
+mod words;
+
+pub use known::Known;
+pub use sharing::applied;
+pub use words::Words;

@@ -1,0 +1,67 @@
+// The circuits of operators, where words with equal sums are one word.
+ghost use Rattle.std.specs.Prelude.{◌≡◌, ◌≤◌, ◌<◌, ◌+◌, ◌^◌, ℕ, Bool, true, List, OnOk, IfOk};
+ghost use Rattle.sy_terms.specs.Operators.{op_value};
+ghost use Rattle.sy_terms.specs.Theories.{sort_of_value};
+ghost use Rattle.sy_meaning_words.specs.Vectors.{Takes, owned};
+ghost use Rattle.sy_gates.specs.declared.gate.Bit.{Bit as SomeBit};
+ghost use Rattle.sy_gates.specs.Circuits.{Plan, variables, Follows, Grown};
+ghost use Rattle.sy_bits_operators.specs.declared.signal.Signal.TheVariants as signals;
+ghost use Rattle.sy_bits_operators.specs.Signals.{signal_value, signal_values, signal_sort, signal_sorts, signal_bound, signals_bound, AllHaveSignals};
+ghost use Rattle.sy_bits_operators.specs.Costs.{gates};
+ghost use Rattle.sy_bits_words.specs.Standing.{StandsFor, AllStand};
+
+use crate::operations::sum_of;
+use crate::words::Words;
+use std::alloc::Global;
+use sy_bits_operators::{Signal, applied as made};
+use sy_bits_sums::Sum;
+use sy_gates::Circuit;
+use sy_seq::Want;
+use sy_terms::Op;
+
+/// Notes that a vector's word stands for a sum.
+fn note(words: &mut Words, alloc: Global, signal: &Signal, sum: Sum) -> Result<(), Want>
+    ensures { OnOk result ((circuit : Plan) → ((word : List SomeBit) → signal.now ≡ signals.Vector word → StandsFor circuit words.old word sum) → AllStand circuit words.old → AllStand circuit words.new) }
+{
+    match signal {
+        Signal::Truth(_) => Ok(()),
+        Signal::Vector(word) => {
+            words.note(alloc, word.as_slice(), sum)?;
+            Ok(())
+        }
+    }
+}
+
+/// The circuit of an operator on signals of sorts that it takes: its signal has the operator's value wherever
+/// the circuit's gates are followed. Where a word with the same sum is known, it is that word, and no gate is made.
+pub fn applied(
+    words: &mut Words,
+    circuit: &mut Circuit,
+    alloc: Global,
+    op: &Op,
+    args: &[Signal],
+) -> Result<Signal, Want>
+    requires ours { owned op.now ≡ true }
+    requires takes { Takes op.now (signal_sorts args.now) }
+    requires sorts { AllHaveSignals (signal_sorts args.now) }
+    requires inside { signals_bound args.now ≤ variables circuit.old }
+    requires stand { AllStand circuit.old words.old }
+    requires room { variables circuit.old + gates op.now (signal_sorts args.now) < 2 ^ 31 }
+    ensures stand { OnOk result (AllStand circuit.new words.new) }
+    ensures grown { Grown circuit.old circuit.new }
+    ensures cost { OnOk result (variables circuit.new ≤ variables circuit.old + gates op.now (signal_sorts args.now)) }
+    ensures inside { IfOk result (λ r. signal_bound r ≤ variables circuit.new) }
+    ensures sort { IfOk result (λ r. (v : ℕ → Bool) → signal_sort r ≡ sort_of_value (op_value op.now (signal_values v args.now))) }
+    ensures value { IfOk result (λ r. (v : ℕ → Bool) → Follows v circuit.new → signal_value v r ≡ op_value op.now (signal_values v args.now)) }
+{
+    let Some(sum) = sum_of(words, alloc, op, args)? else {
+        let signal = made(circuit, alloc, op, args)?;
+        return Ok(signal);
+    };
+    if let Some(word) = words.word_of(alloc, &sum)? {
+        return Ok(Signal::Vector(word));
+    }
+    let signal = made(circuit, alloc, op, args)?;
+    note(words, alloc, &signal, sum)?;
+    Ok(signal)
+}

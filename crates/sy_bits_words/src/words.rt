@@ -1,0 +1,180 @@
+// The table of words whose sums are known.
+ghost use Rattle.std.specs.Prelude.{◌≡◌, ◌≤◌, ◌<◌, ◌^◌, ℕ, [], ◌++◌, ◌∷◌, length, get_or, IsTrue, IfOk, OnOk, IfSome};
+ghost use Rattle.sy_gates.specs.Circuits.{Plan, variables, word_bound};
+ghost use Rattle.sy_bits_sums.specs.Polynomials.{total};
+ghost use Rattle.sy_bits_words.specs.Standing.{StandsFor, AllStand};
+
+use crate::known::{Known, own_sum, same_word, sum_key, word_key};
+use std::alloc::Global;
+use std::collections::HashMap;
+use std::marker::Model;
+use sy_bits_sums::Sum;
+use sy_gates::{Bit, constant, joined};
+use sy_seq::{Seq, Want};
+
+/// How many words are kept.
+const MOST_WORDS: usize = 1 << 20;
+
+/// Words of a circuit and the sums that they stand for. A value of these sums is the number of the word at its place.
+#[derive(Drop)]
+pub struct Words {
+    known: Vec<Known>,
+    by_word: HashMap<u64, u32>,
+    by_sum: HashMap<u64, u32>,
+}
+
+impl Model for Words {
+    ghost use Rattle.std.specs.Prelude.{List};
+    ghost use Rattle.sy_bits_words.specs.declared.known.Known.{Known};
+
+    ghost Value = { List Known };
+
+    ghost view = { λ w. w.known.items };
+}
+
+impl Words {
+    ghost use Rattle.sy_gates.specs.Circuits.{Plan, variables, word_bound};
+    ghost use Rattle.sy_bits_words.specs.declared.known.Known.{Known};
+    ghost use Rattle.sy_bits_words.specs.Standing.{StandsFor, AllStand};
+
+    /// The table of no words. It takes no memory.
+    pub fn new(alloc: Global) -> Words
+        ensures none { result ≡ [] }
+        ensures stand { (circuit : Plan) → AllStand circuit result }
+    {
+        Words {
+            known: Vec::new(alloc),
+            by_word: HashMap::new(alloc),
+            by_sum: HashMap::new(alloc),
+        }
+    }
+
+    /// What is known at a place of the table.
+    pub(crate) fn at(&self, place: usize) -> &Known
+        requires { place < length self.now }
+        ensures { result.now ≡ get_or self.now place result.now }
+    {
+        &self.known[place]
+    }
+
+    /// Whether the word stands at the place.
+    fn has_word(&self, place: usize, word: &[Bit]) -> bool
+        ensures within { IsTrue result → place < length self.now }
+        ensures same { IsTrue result → (d : Known) → (get_or self.now place d).word ≡ word.now }
+    {
+        if place >= self.known.len() {
+            return false;
+        }
+        let known = &self.known[place];
+        same_word(known.word.as_slice(), word)
+    }
+
+    /// Whether the word at the place has this sum.
+    fn has_sum(&self, place: usize, sum: &Sum) -> bool
+        ensures within { IsTrue result → place < length self.now }
+        ensures width { IsTrue result → (d : Known) → (get_or self.now place d).sum.width ≡ sum.now.width }
+        ensures value { IsTrue result → (d : Known) (values : ℕ → ℕ) → total values (get_or self.now place d).sum.monomials.items ≡ total values sum.now.monomials.items }
+    {
+        if place >= self.known.len() {
+            return false;
+        }
+        let known = &self.known[place];
+        known.sum.equals(sum)
+    }
+
+    /// The place of a word; `None` where it isn't found.
+    fn place_of(&self, word: &[Bit]) -> Option<usize>
+        ensures within { IfSome result (λ place. place < length self.now) }
+        ensures same { IfSome result (λ place. (d : Known) → (get_or self.now place d).word ≡ word.now) }
+    {
+        let place = *self.by_word.get(&word_key(word))? as usize;
+        if self.has_word(place, word) {
+            Some(place)
+        } else {
+            None
+        }
+    }
+
+    /// The place of a word with this sum; `None` where none is found.
+    fn place_of_sum(&self, sum: &Sum) -> Option<usize>
+        ensures within { IfSome result (λ place. place < length self.now) }
+        ensures width { IfSome result (λ place. (d : Known) → (get_or self.now place d).sum.width ≡ sum.now.width) }
+        ensures value { IfSome result (λ place. (d : Known) (values : ℕ → ℕ) → total values (get_or self.now place d).sum.monomials.items ≡ total values sum.now.monomials.items) }
+    {
+        let place = *self.by_sum.get(&sum_key(sum))? as usize;
+        if self.has_sum(place, sum) {
+            Some(place)
+        } else {
+            None
+        }
+    }
+
+    /// Puts a word and its sum last. Of equal words, and of words with equal sums, the first is found.
+    fn push(&mut self, known: Known) -> Result<(), Want>
+        requires { length self.old < 2 ^ 32 }
+        ensures { OnOk result (self.new ≡ self.old ++ known ∷ []) }
+    {
+        let place = self.known.len() as u32;
+        let word = word_key(known.word.as_slice());
+        if self.by_word.get(&word).is_none() {
+            self.by_word.insert(word, place)?;
+        }
+        let sum = sum_key(&known.sum);
+        if self.by_sum.get(&sum).is_none() {
+            self.by_sum.insert(sum, place)?;
+        }
+        self.known.push(known)?;
+        Ok(())
+    }
+
+    /// The place of a word of at most 64 bits, which gets one where it has none: its sum is its number where its bits are
+    /// fixed, and else the word itself. `None` where the table is full.
+    pub(crate) fn enter(&mut self, alloc: Global, word: &[Bit]) -> Result<Option<usize>, Want>
+        requires { length word.now ≤ 64 }
+        ensures stand { OnOk result ((circuit : Plan) → word_bound word.now ≤ variables circuit → AllStand circuit self.old → AllStand circuit self.new) }
+        ensures longer { OnOk result (length self.old ≤ length self.new) }
+        ensures kept { OnOk result ((i : ℕ) (d : Known) → i < length self.old → get_or self.new i d ≡ get_or self.old i d) }
+        ensures within { IfOk result (λ found. IfSome found (λ place. place < length self.new)) }
+        ensures same { IfOk result (λ found. IfSome found (λ place. (d : Known) → (get_or self.new place d).word ≡ word.now)) }
+    {
+        if let Some(place) = self.place_of(word) {
+            return Ok(Some(place));
+        }
+        let place = self.known.len();
+        if place >= MOST_WORDS {
+            return Ok(None);
+        }
+        let sum = own_sum(alloc, word, place as u32)?;
+        let word = joined(alloc, word, &[])?;
+        self.push(Known { word, sum })?;
+        Ok(Some(place))
+    }
+
+    /// The word of a sum, in memory of its own: a constant's, or one of the table; `None` where neither is.
+    pub(crate) fn word_of(&self, alloc: Global, sum: &Sum) -> Result<Option<Seq<Bit>>, Want>
+        ensures { IfOk result (λ found. IfSome found (λ word. (circuit : Plan) → AllStand circuit self.now → StandsFor circuit self.now word sum.now)) }
+    {
+        if let Some(number) = sum.fixed() {
+            let word = constant(alloc, sum.width as usize, number)?;
+            return Ok(Some(word));
+        }
+        if let Some(place) = self.place_of_sum(sum) {
+            let known = self.at(place);
+            let word = joined(alloc, known.word.as_slice(), &[])?;
+            return Ok(Some(word));
+        }
+        Ok(None)
+    }
+
+    /// Notes that a word stands for a sum. Where the table is full, nothing is noted.
+    pub(crate) fn note(&mut self, alloc: Global, word: &[Bit], sum: Sum) -> Result<(), Want>
+        ensures { OnOk result ((circuit : Plan) → StandsFor circuit self.old word.now sum → AllStand circuit self.old → AllStand circuit self.new) }
+    {
+        if self.known.len() >= MOST_WORDS {
+            return Ok(());
+        }
+        let word = joined(alloc, word, &[])?;
+        self.push(Known { word, sum })?;
+        Ok(())
+    }
+}
