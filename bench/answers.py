@@ -41,6 +41,8 @@ CLASSES = [
     ("bench/problems/table_", "tables of examples"),
     ("bench/problems/twelve_", "identities with twelve operators"),
     ("bench/problems/examples_", "closed examples"),
+    ("bench/problems/hd_", "Hacker's Delight with twelve operators"),
+    ("bench/problems/rows_", "closed examples with twelve operators"),
     ("bench/problems/two_", "two functions"),
     ("bench/problems/inv_", "invariants"),
     ("bench/problems/", "identities"),

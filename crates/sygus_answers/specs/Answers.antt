@@ -14,6 +14,7 @@ use Rattle.sy_loop_bounds.specs.declared.reach.Reach.TheVariants.{Sizes, Joins}
 use Rattle.sy_loop_outcome.specs.Right.{IsRight}
 use Rattle.sy_loop_outcome.specs.declared.outcome.Outcome.{Outcome}
 use Rattle.sy_loop.specs.Least.{FindsLeast}
+use Rattle.sy_loop_beyond.specs.Exceeding.{FindsBeyond}
 use Rattle.sygus_words.specs.declared.settings.Mode.{Mode}
 use Rattle.sygus_words.specs.declared.settings.Mode.TheVariants.{Solve, Least}
 use Rattle.sygus_replies.specs.Answered.{AreRight}
@@ -23,11 +24,16 @@ abbrev pub reach_of : Mode → Reach
 reach_of Solve = Joins
 reach_of Least = Sizes
 
--- the outcome is right within these limits, and bodies that are found are of the least bound in which any solve the problem
+-- bodies that are found are of the least bound in which any solve the problem: in mode `solve`, unless a bank was full before
+abbrev pub FindsWell : {T P S N : Type 0} → (N → Val) → Mode → Limits → Question → Outcome T P S N → Type 0
+FindsWell number Solve limits question outcome = FindsBeyond number question limits outcome
+FindsWell number Least limits question outcome = FindsLeast number Sizes question outcome
+
+-- the outcome is right within these limits, and so are bodies that are found
 pub record RightOutcome {T P S N : Type 0} (owned : Op → Bool) (number : N → Val) (accepted : Query → P → Type 0) (budget : S → FailName) (shows : Query → Limits → FailName → S → Type 0)
     (mode : Mode) (limits : Limits) (question : Question) (outcome : Outcome T P S N) : Type 0 where
   pub right : IsRight owned number accepted budget shows (reach_of mode) question limits outcome
-  pub least : FindsLeast number (reach_of mode) question outcome
+  pub well : FindsWell number mode limits question outcome
 
 -- the same for a theory and a solver
 abbrev pub RightOutcomeFor : {T N D P S : Type 0} → TheoryOf T N → DecideOf D T P S N → Mode → Limits → Question → Outcome T P S N → Type 0

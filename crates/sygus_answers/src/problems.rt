@@ -13,7 +13,8 @@ ghost use Rattle.sygus_answers.specs.Answers.{RightOutcomeFor, AreRightFor};
 use std::alloc::Global;
 use sy_grammar_base::Problem;
 use sy_io::Sink;
-use sy_loop::{synthesise, synthesise_least};
+use sy_loop::synthesise_least;
+use sy_loop_beyond::synthesise_beyond;
 use sy_loop_outcome::Outcome;
 use sy_query_decide::Decide;
 use sy_query_limits::Limits;
@@ -119,7 +120,7 @@ fn sought<T: Theory, D: Decide<T>>(
 {
     match mode {
         Mode::Solve => {
-            let outcome = synthesise(alloc, problem, limits, decide)?;
+            let outcome = synthesise_beyond(alloc, problem, limits, decide)?;
             Ok(outcome)
         }
         Mode::Least => {

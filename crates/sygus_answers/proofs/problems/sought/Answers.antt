@@ -3,11 +3,11 @@ use Rattle.sygus_answers.proofs.problems.sought.Goals as goal
 pub returns-in_ok-outcome-in-Solve : goal.returns-in_ok-outcome-in-Solve
 returns-in_ok-outcome-in-Solve g c = rw c.in-Solve.is (record {
   right = c.in_ok-outcome-in-Solve.ensures.right;
-  least = c.in_ok-outcome-in-Solve.ensures.least;
+  well = c.in_ok-outcome-in-Solve.ensures.beyond;
 })
 
 pub returns-in_ok-outcome-in-Least : goal.returns-in_ok-outcome-in-Least
 returns-in_ok-outcome-in-Least g c = rw c.in-Least.is (record {
   right = c.in_ok-outcome-in-Least.ensures.right;
-  least = c.in_ok-outcome-in-Least.ensures.least;
+  well = c.in_ok-outcome-in-Least.ensures.least;
 })

@@ -1,0 +1,10 @@
+; The bits of another number below the lowest one, moved up, at width 8, with twelve operators (Hacker's Delight, section 2-1).
+; A solution of size 10: (bvshl (bvand y (bvand (bvnot x) (bvsub x #x01))) #x01)
+(set-logic BV)
+(synth-fun f ((x (_ BitVec 8)) (y (_ BitVec 8))) (_ BitVec 8)
+  ((S (_ BitVec 8)))
+  ((S (_ BitVec 8) (x y #x01 (bvnot S) (bvneg S) (bvand S S) (bvor S S) (bvxor S S) (bvadd S S) (bvsub S S) (bvmul S S) (bvudiv S S) (bvshl S S) (bvlshr S S) (bvashr S S)))))
+(declare-var x (_ BitVec 8))
+(declare-var y (_ BitVec 8))
+(constraint (= (f x y) (bvshl (bvand (bvsub (bvand x (bvneg x)) #x01) y) #x01)))
+(check-synth)

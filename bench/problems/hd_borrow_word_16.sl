@@ -1,0 +1,10 @@
+; Where a difference borrows, bit by bit, at width 16, with twelve operators (Hacker's Delight, section 2-13).
+; A solution of size 13: (bvor (bvand (bvnot x) y) (bvand (bvnot (bvxor x y)) (bvsub x y)))
+(set-logic BV)
+(synth-fun f ((x (_ BitVec 16)) (y (_ BitVec 16))) (_ BitVec 16)
+  ((S (_ BitVec 16)))
+  ((S (_ BitVec 16) (x y #x0001 (bvnot S) (bvneg S) (bvand S S) (bvor S S) (bvxor S S) (bvadd S S) (bvsub S S) (bvmul S S) (bvudiv S S) (bvshl S S) (bvlshr S S) (bvashr S S)))))
+(declare-var x (_ BitVec 16))
+(declare-var y (_ BitVec 16))
+(constraint (= (f x y) (bvor (bvand (bvnot x) y) (bvand (bvor (bvnot x) y) (bvsub x y)))))
+(check-synth)

@@ -1,0 +1,10 @@
+; The difference of small numbers, or 0, at width 64, with twelve operators (Hacker's Delight, section 2-19).
+; A solution of size 10: (bvand (bvsub x y) (bvnot (bvashr (bvsub x y) #x000000000000003f)))
+(set-logic BV)
+(synth-fun f ((x (_ BitVec 64)) (y (_ BitVec 64))) (_ BitVec 64)
+  ((S (_ BitVec 64)))
+  ((S (_ BitVec 64) (x y #x0000000000000001 #x000000000000003f (bvnot S) (bvneg S) (bvand S S) (bvor S S) (bvxor S S) (bvadd S S) (bvsub S S) (bvmul S S) (bvudiv S S) (bvshl S S) (bvlshr S S) (bvashr S S)))))
+(declare-var x (_ BitVec 64))
+(declare-var y (_ BitVec 64))
+(constraint (= (f x y) (ite (bvslt (bvsub x y) #x0000000000000000) #x0000000000000000 (bvsub x y))))
+(check-synth)

@@ -1,0 +1,10 @@
+; The last run of ones turned off where it meets another number, at width 8, with twelve operators (Hacker's Delight, section 2-1).
+; A solution of size 9: (bvand (bvadd (bvor (bvsub x #x01) x) #x01) y)
+(set-logic BV)
+(synth-fun f ((x (_ BitVec 8)) (y (_ BitVec 8))) (_ BitVec 8)
+  ((S (_ BitVec 8)))
+  ((S (_ BitVec 8) (x y #x01 (bvnot S) (bvneg S) (bvand S S) (bvor S S) (bvxor S S) (bvadd S S) (bvsub S S) (bvmul S S) (bvudiv S S) (bvshl S S) (bvlshr S S) (bvashr S S)))))
+(declare-var x (_ BitVec 8))
+(declare-var y (_ BitVec 8))
+(constraint (= (f x y) (bvand y (bvadd x (bvand x (bvneg x))))))
+(check-synth)

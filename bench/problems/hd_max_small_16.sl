@@ -1,0 +1,10 @@
+; The maximum of numbers whose difference doesn't overflow, at width 16, with twelve operators (Hacker's Delight, section 2-19).
+; A solution of size 11: (bvsub x (bvand (bvsub x y) (bvashr (bvsub x y) #x000f)))
+(set-logic BV)
+(synth-fun f ((x (_ BitVec 16)) (y (_ BitVec 16))) (_ BitVec 16)
+  ((S (_ BitVec 16)))
+  ((S (_ BitVec 16) (x y #x0001 #x000f (bvnot S) (bvneg S) (bvand S S) (bvor S S) (bvxor S S) (bvadd S S) (bvsub S S) (bvmul S S) (bvudiv S S) (bvshl S S) (bvlshr S S) (bvashr S S)))))
+(declare-var x (_ BitVec 16))
+(declare-var y (_ BitVec 16))
+(constraint (= (f x y) (ite (bvslt (bvsub x y) #x0000) y x)))
+(check-synth)

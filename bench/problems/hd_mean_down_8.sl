@@ -1,0 +1,10 @@
+; The mean rounded down, without overflow, at width 8, with twelve operators (Hacker's Delight, section 2-5).
+; A solution of size 9: (bvadd (bvand x y) (bvlshr (bvxor x y) #x01))
+(set-logic BV)
+(synth-fun f ((x (_ BitVec 8)) (y (_ BitVec 8))) (_ BitVec 8)
+  ((S (_ BitVec 8)))
+  ((S (_ BitVec 8) (x y #x01 (bvnot S) (bvneg S) (bvand S S) (bvor S S) (bvxor S S) (bvadd S S) (bvsub S S) (bvmul S S) (bvudiv S S) (bvshl S S) (bvlshr S S) (bvashr S S)))))
+(declare-var x (_ BitVec 8))
+(declare-var y (_ BitVec 8))
+(constraint (= (f x y) (bvadd (bvadd (bvlshr x #x01) (bvlshr y #x01)) (bvand (bvand x y) #x01))))
+(check-synth)

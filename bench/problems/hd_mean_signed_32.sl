@@ -1,0 +1,10 @@
+; The mean of signed numbers rounded down, without overflow, at width 32, with twelve operators (Hacker's Delight, section 2-5).
+; A solution of size 9: (bvadd (bvand x y) (bvashr (bvxor x y) #x00000001))
+(set-logic BV)
+(synth-fun f ((x (_ BitVec 32)) (y (_ BitVec 32))) (_ BitVec 32)
+  ((S (_ BitVec 32)))
+  ((S (_ BitVec 32) (x y #x00000001 (bvnot S) (bvneg S) (bvand S S) (bvor S S) (bvxor S S) (bvadd S S) (bvsub S S) (bvmul S S) (bvudiv S S) (bvshl S S) (bvlshr S S) (bvashr S S)))))
+(declare-var x (_ BitVec 32))
+(declare-var y (_ BitVec 32))
+(constraint (= (f x y) (bvadd (bvadd (bvashr x #x00000001) (bvashr y #x00000001)) (bvand (bvand x y) #x00000001))))
+(check-synth)

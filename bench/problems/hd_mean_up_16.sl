@@ -1,0 +1,10 @@
+; The mean rounded up, without overflow, at width 16, with twelve operators (Hacker's Delight, section 2-5).
+; A solution of size 9: (bvsub (bvor x y) (bvlshr (bvxor x y) #x0001))
+(set-logic BV)
+(synth-fun f ((x (_ BitVec 16)) (y (_ BitVec 16))) (_ BitVec 16)
+  ((S (_ BitVec 16)))
+  ((S (_ BitVec 16) (x y #x0001 (bvnot S) (bvneg S) (bvand S S) (bvor S S) (bvxor S S) (bvadd S S) (bvsub S S) (bvmul S S) (bvudiv S S) (bvshl S S) (bvlshr S S) (bvashr S S)))))
+(declare-var x (_ BitVec 16))
+(declare-var y (_ BitVec 16))
+(constraint (= (f x y) (bvadd (bvadd (bvlshr x #x0001) (bvlshr y #x0001)) (bvand (bvor x y) #x0001))))
+(check-synth)

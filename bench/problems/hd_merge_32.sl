@@ -1,0 +1,11 @@
+; Bits of one number under a mask, the others of another, at width 32, with twelve operators (Hacker's Delight, section 2-20).
+; A solution of size 7: (bvxor (bvand (bvxor x y) z) y)
+(set-logic BV)
+(synth-fun f ((x (_ BitVec 32)) (y (_ BitVec 32)) (z (_ BitVec 32))) (_ BitVec 32)
+  ((S (_ BitVec 32)))
+  ((S (_ BitVec 32) (x y z #x00000001 (bvnot S) (bvneg S) (bvand S S) (bvor S S) (bvxor S S) (bvadd S S) (bvsub S S) (bvmul S S) (bvudiv S S) (bvshl S S) (bvlshr S S) (bvashr S S)))))
+(declare-var x (_ BitVec 32))
+(declare-var y (_ BitVec 32))
+(declare-var z (_ BitVec 32))
+(constraint (= (f x y z) (bvor (bvand x z) (bvand y (bvnot z)))))
+(check-synth)

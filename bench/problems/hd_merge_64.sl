@@ -1,0 +1,11 @@
+; Bits of one number under a mask, the others of another, at width 64, with twelve operators (Hacker's Delight, section 2-20).
+; A solution of size 7: (bvxor (bvand (bvxor x y) z) y)
+(set-logic BV)
+(synth-fun f ((x (_ BitVec 64)) (y (_ BitVec 64)) (z (_ BitVec 64))) (_ BitVec 64)
+  ((S (_ BitVec 64)))
+  ((S (_ BitVec 64) (x y z #x0000000000000001 (bvnot S) (bvneg S) (bvand S S) (bvor S S) (bvxor S S) (bvadd S S) (bvsub S S) (bvmul S S) (bvudiv S S) (bvshl S S) (bvlshr S S) (bvashr S S)))))
+(declare-var x (_ BitVec 64))
+(declare-var y (_ BitVec 64))
+(declare-var z (_ BitVec 64))
+(constraint (= (f x y z) (bvor (bvand x z) (bvand y (bvnot z)))))
+(check-synth)

@@ -1,0 +1,11 @@
+; Bits of one number under a mask, the others of another, at width 8, with twelve operators (Hacker's Delight, section 2-20).
+; A solution of size 7: (bvxor (bvand (bvxor x y) z) y)
+(set-logic BV)
+(synth-fun f ((x (_ BitVec 8)) (y (_ BitVec 8)) (z (_ BitVec 8))) (_ BitVec 8)
+  ((S (_ BitVec 8)))
+  ((S (_ BitVec 8) (x y z #x01 (bvnot S) (bvneg S) (bvand S S) (bvor S S) (bvxor S S) (bvadd S S) (bvsub S S) (bvmul S S) (bvudiv S S) (bvshl S S) (bvlshr S S) (bvashr S S)))))
+(declare-var x (_ BitVec 8))
+(declare-var y (_ BitVec 8))
+(declare-var z (_ BitVec 8))
+(constraint (= (f x y z) (bvor (bvand x z) (bvand y (bvnot z)))))
+(check-synth)

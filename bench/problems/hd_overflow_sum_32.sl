@@ -1,0 +1,10 @@
+; The sign bit where a signed sum overflows, at width 32, with twelve operators (Hacker's Delight, section 2-13).
+; A solution of size 11: (bvand (bvxor x (bvadd x y)) (bvxor y (bvadd x y)))
+(set-logic BV)
+(synth-fun f ((x (_ BitVec 32)) (y (_ BitVec 32))) (_ BitVec 32)
+  ((S (_ BitVec 32)))
+  ((S (_ BitVec 32) (x y #x00000001 (bvnot S) (bvneg S) (bvand S S) (bvor S S) (bvxor S S) (bvadd S S) (bvsub S S) (bvmul S S) (bvudiv S S) (bvshl S S) (bvlshr S S) (bvashr S S)))))
+(declare-var x (_ BitVec 32))
+(declare-var y (_ BitVec 32))
+(constraint (= (f x y) (bvand (bvnot (bvxor x y)) (bvxor x (bvadd x y)))))
+(check-synth)

@@ -1,0 +1,9 @@
+; The sign as -1, 0 or 1, at width 16, with twelve operators (Hacker's Delight, section 2-8).
+; A solution of size 8: (bvor (bvashr x #x000f) (bvlshr (bvneg x) #x000f))
+(set-logic BV)
+(synth-fun f ((x (_ BitVec 16))) (_ BitVec 16)
+  ((S (_ BitVec 16)))
+  ((S (_ BitVec 16) (x #x0001 #x000f (bvnot S) (bvneg S) (bvand S S) (bvor S S) (bvxor S S) (bvadd S S) (bvsub S S) (bvmul S S) (bvudiv S S) (bvshl S S) (bvlshr S S) (bvashr S S)))))
+(declare-var x (_ BitVec 16))
+(constraint (= (f x) (ite (bvslt x #x0000) (bvneg #x0001) (ite (= x #x0000) #x0000 #x0001))))
+(check-synth)

@@ -1,0 +1,10 @@
+; A number with the sign of another, at width 16, with twelve operators (Hacker's Delight, section 2-10).
+; A solution of size 9: (bvsub (bvxor x (bvashr y #x000f)) (bvashr y #x000f))
+(set-logic BV)
+(synth-fun f ((x (_ BitVec 16)) (y (_ BitVec 16))) (_ BitVec 16)
+  ((S (_ BitVec 16)))
+  ((S (_ BitVec 16) (x y #x0001 #x000f (bvnot S) (bvneg S) (bvand S S) (bvor S S) (bvxor S S) (bvadd S S) (bvsub S S) (bvmul S S) (bvudiv S S) (bvshl S S) (bvlshr S S) (bvashr S S)))))
+(declare-var x (_ BitVec 16))
+(declare-var y (_ BitVec 16))
+(constraint (= (f x y) (ite (bvslt y #x0000) (bvneg x) x)))
+(check-synth)

@@ -1,0 +1,37 @@
+-- Banks that are full.
+use Rattle.std.proofs.Common.{◌≡◌, ◌∙◌, ap, subst, arith, ℕ, List, [], ◌∷◌, length, slice_get, Some}
+use Rattle.std.specs.Option.{option_map}
+use Rattle.std.proofs.lemmas.Option.{slice_get-map}
+use Rattle.sy_terms.specs.Values.{Val}
+use Rattle.sy_terms.specs.Denoted.{vals_of}
+use Rattle.sy_terms.specs.declared.sort.Value.{Value}
+use Rattle.sy_terms.specs.declared.term.Term.{Term}
+use Rattle.sy_grammar_base.specs.Questions.{Goal, Question, question_of}
+use Rattle.sy_grammar_base.specs.Solving.{AreValues}
+use Rattle.sy_grammar_base.specs.declared.problem.Problem.{Problem}
+use Rattle.sy_query_limits.specs.declared.Limits.{Limits}
+use Rattle.sy_points.specs.declared.stored.Stored.{Stored}
+use Rattle.sy_bank_rows.specs.Banks.{Merged}
+use Rattle.sy_loop_beyond.specs.Banked.{IsOneBank}
+use Rattle.sy_loop_history.specs.Histories.{Counterexample}
+use Rattle.sy_loop_history.specs.Stored.{counterexample_of, history_of}
+use Rattle.sy_loop_beyond.specs.Exceeding.{IsMet}
+
+pub one_goal : (goals : List Goal) (goal : Goal) → length goals ≡ 1 → slice_get goals 0 ≡ Some goal → goals ≡ goal ∷ []
+one_goal [] goal one at = absurd (omega (arith, one))
+one_goal (g ∷ []) goal one at = let same : g ≡ goal = cc in ap (λ (x : Goal). x ∷ []) same
+one_goal (g ∷ h ∷ rest) goal one at = absurd (omega (arith, one))
+
+-- the bank of the one function
+pub one_bank : (question : Question) (limits : Limits) (history : List Counterexample) (function : ℕ) (bank : Merged) → length question.goals ≡ 1 → function ≡ 0 → IsMet question limits history function bank → IsOneBank question bank
+one_bank question limits history function bank one first is = record {
+  goal = is.met.goal;
+  one = one_goal question.goals is.met.goal one (subst (λ n. slice_get question.goals n ≡ Some is.met.goal) first is.met.at);
+  honest = is.met.sound;
+}
+
+-- stored assignments are of the problem's variables
+pub stored_assigned : {T N : Type 0} (number : N → Val) (problem : Problem T N) (limits : Limits) (stored : Stored T N) (function : ℕ) (bank : Merged) → IsMet (question_of number problem) limits (history_of number stored) function bank →
+    (place : ℕ) (pair : List (Value N) × List (Term T N)) → slice_get stored.items place ≡ Some pair → AreValues problem.vars (vals_of number pair.0)
+stored_assigned number problem limits stored function bank is place pair at =
+    (is.met.honest.each place (counterexample_of number pair) (slice_get-map (counterexample_of number) stored.items place ∙ ap (option_map (counterexample_of number)) at)).values

@@ -1,0 +1,95 @@
+// Whether bodies meet a problem at assignments.
+ghost use Rattle.std.specs.Prelude.{All};
+ghost use Rattle.sy_terms.specs.Denoted.{vals_of};
+ghost use Rattle.sy_grammar_base.specs.Fits.{IsTruth, ProblemFits};
+ghost use Rattle.sy_grammar_base.specs.Solving.{AreValues};
+ghost use Rattle.sy_loop_candidate.specs.Clauses.{FitAsBodies};
+ghost use Rattle.sy_loop_beyond.specs.Clauses.{AreAssignedFor};
+
+use std::alloc::Global;
+use sy_grammar_base::Problem;
+use sy_meaning::{Eval, Trace, evaluate_with};
+use sy_terms::{Bodies, Term, Theory, Value, Values, Want};
+
+/// Whether the bodies meet the problem at each of the assignments, the last first. It is a guess: nothing is decided by
+/// it but which bodies a solver is asked about.
+pub(crate) fn meet_all<T: Theory>(
+    alloc: Global,
+    problem: &Problem<T>,
+    bodies: &Bodies<T>,
+    assignments: &[Values<T>],
+) -> Result<bool, Want>
+    requires problem { ProblemFits T.Theory problem.now }
+    requires bodies { FitAsBodies T.Theory problem.now bodies.now }
+    requires assignments { AreAssignedFor T.Theory problem.now assignments.now }
+{
+    for values in assignments.iter().rev() {
+        if !meet(alloc, problem, bodies, values.as_slice())? {
+            return Ok(false);
+        }
+    }
+    Ok(true)
+}
+
+/// Whether the bodies make an assumption false, or every constraint true.
+fn meet<T: Theory>(
+    alloc: Global,
+    problem: &Problem<T>,
+    bodies: &Bodies<T>,
+    values: &[Value<T::Num>],
+) -> Result<bool, Want>
+    requires problem { ProblemFits T.Theory problem.now }
+    requires bodies { FitAsBodies T.Theory problem.now bodies.now }
+    requires values { AreValues problem.now.vars (vals_of T.denotes values.now) }
+{
+    let constraints = problem.constraints.as_slice();
+    if all_true(alloc, problem, bodies, values, constraints)? {
+        return Ok(true);
+    }
+    let assumptions = problem.assumptions.as_slice();
+    let assumed = all_true(alloc, problem, bodies, values, assumptions)?;
+    Ok(!assumed)
+}
+
+/// Whether all of the terms are true; what leaves the 128 bits isn't.
+fn all_true<T: Theory>(
+    alloc: Global,
+    problem: &Problem<T>,
+    bodies: &Bodies<T>,
+    values: &[Value<T::Num>],
+    terms: &[Term<T>],
+) -> Result<bool, Want>
+    requires problem { ProblemFits T.Theory problem.now }
+    requires bodies { FitAsBodies T.Theory problem.now bodies.now }
+    requires values { AreValues problem.now.vars (vals_of T.denotes values.now) }
+    requires terms { All (IsTruth T.owned T.denotes problem.now) terms.now }
+{
+    for term in terms {
+        if !is_true(alloc, problem, bodies, values, term)? {
+            return Ok(false);
+        }
+    }
+    Ok(true)
+}
+
+/// Whether the term is true.
+fn is_true<T: Theory>(
+    alloc: Global,
+    problem: &Problem<T>,
+    bodies: &Bodies<T>,
+    values: &[Value<T::Num>],
+    term: &Term<T>,
+) -> Result<bool, Want>
+    requires problem { ProblemFits T.Theory problem.now }
+    requires bodies { FitAsBodies T.Theory problem.now bodies.now }
+    requires values { AreValues problem.now.vars (vals_of T.denotes values.now) }
+    requires term { IsTruth T.owned T.denotes problem.now term.now }
+{
+    let mut calls = Trace::new(alloc);
+    match evaluate_with(alloc, &problem.defs, bodies, values, term, &mut calls) {
+        Ok(Value::Truth(truth)) => Ok(truth),
+        Ok(Value::Num(_)) => Ok(false),
+        Err(Eval::Range) => Ok(false),
+        Err(Eval::Want) => Err(Want {}),
+    }
+}

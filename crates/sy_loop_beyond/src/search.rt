@@ -1,0 +1,93 @@
+// The search beyond a full bank.
+ghost use Rattle.std.specs.Prelude.{IfOk, OnOk};
+ghost use Rattle.sy_bank_rows.specs.Stored.{entries_of};
+ghost use Rattle.sy_grammar_base.specs.Fits.{ProblemFits};
+ghost use Rattle.sy_loop_beyond.specs.Clauses.{AreAssignedFor, AreSmallFor, IsBankFor, IsFoundFor, WereAssignedFor};
+
+use crate::assignments::copied_assignments;
+use crate::body::{MOST_SPENT, Task, Tried, try_body};
+use crate::scanning::solve_scanned;
+use std::alloc::Global;
+use sy_bank::Bank;
+use sy_bank_rows::Kept;
+use sy_grammar_base::Problem;
+use sy_points::Stored;
+use sy_query_decide::Decide;
+use sy_query_limits::Limits;
+use sy_terms::{Bodies, Theory, Values, Want};
+
+/// How many clauses the solver may learn of one body's query: what is hard to decide is passed over.
+const MOST_CLAUSES: u32 = 2_000;
+
+/// How many inner nodes its tree may have, over integers.
+const MOST_NODES: u32 = 500;
+
+/// Bodies that solve the problem, with the solver's proof, of sizes up to `bound`: a kept term of the bank's greatest size,
+/// or what a rule of the start symbol gives of kept terms. Each is judged at the stored assignments and at those that
+/// refuted others before it, and then decided. `None` where none was found to solve the problem, or too many weren't
+/// decided; nothing follows from it.
+pub(crate) fn solve_beyond<T: Theory, D: Decide<T>>(
+    alloc: Global,
+    problem: &Problem<T>,
+    limits: &Limits,
+    decide: &mut D,
+    bank: &Bank<T>,
+    stored: &Stored<T>,
+    bound: u32,
+) -> Result<Option<(Bodies<T>, D::Proof)>, Want>
+    requires problem { ProblemFits T.Theory problem.now }
+    requires bank { IsBankFor T.Theory problem.now bank.now }
+    requires stored { WereAssignedFor T.Theory problem.now stored.now }
+    ensures { IfOk result (IsFoundFor T.Theory D.Decide problem.now bound) }
+{
+    let level = bank.upto();
+    if level > bound {
+        return Ok(None);
+    }
+    let limits = Limits {
+        clauses: limits.clauses.min(MOST_CLAUSES),
+        nodes: limits.nodes.min(MOST_NODES),
+        ..*limits
+    };
+    let task = Task {
+        alloc,
+        problem,
+        limits: &limits,
+        bound,
+    };
+    let mut assignments = copied_assignments(alloc, problem, stored)?;
+    let last = bank.kept(0, level);
+    if let Some(found) = solve_kept(&task, decide, last, &mut assignments)? {
+        return Ok(Some(found));
+    }
+    let found = solve_scanned(&task, decide, bank, &mut assignments)?;
+    Ok(found)
+}
+
+/// The first of the kept terms that solves the problem as the one body; `None` where none was found to.
+fn solve_kept<T: Theory, D: Decide<T>>(
+    task: &Task<T>,
+    decide: &mut D,
+    kept: &[Kept<T>],
+    assignments: &mut Vec<Values<T>>,
+) -> Result<Option<(Bodies<T>, D::Proof)>, Want>
+    requires problem { ProblemFits T.Theory task.now.problem.now }
+    requires kept { AreSmallFor T.Theory task.now.problem.now task.now.bound (entries_of T.denotes kept.now) }
+    requires assigned { AreAssignedFor T.Theory task.now.problem.now assignments.old.items }
+    ensures assigned { OnOk result (AreAssignedFor T.Theory task.now.problem.now assignments.new.items) }
+    ensures found { IfOk result (IsFoundFor T.Theory D.Decide task.now.problem.now task.now.bound) }
+{
+    let mut left = MOST_SPENT;
+    for entry in kept {
+        let term = entry.term(task.alloc)?;
+        match try_body(task, decide, &term, assignments)? {
+            Tried::Solves(bodies, proof) => return Ok(Some((bodies, proof))),
+            Tried::Passed => {}
+            Tried::Spent => left = left.saturating_sub(1),
+        }
+        if left == 0 {
+            return Ok(None);
+        }
+    }
+    Ok(None)
+}

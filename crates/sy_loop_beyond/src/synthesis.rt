@@ -1,0 +1,69 @@
+// The search that goes on for solutions alone where a bank is full.
+ghost use Rattle.std.specs.Prelude.{IfOk};
+ghost use Rattle.sy_grammar_base.specs.Fits.{ProblemFits};
+ghost use Rattle.sy_loop_beyond.specs.Clauses.{FindsBeyondFor, IsFoundFor, IsMetFor};
+ghost use Rattle.sy_loop_bounds.specs.declared.reach.Reach.TheVariants.{Joins};
+ghost use Rattle.sy_loop_outcome.specs.Right.{IsRightFor};
+
+use crate::search::solve_beyond;
+use std::alloc::Global;
+use sy_bank::Bank;
+use sy_grammar_base::Problem;
+use sy_loop::synthesise;
+use sy_loop_outcome::{FailCause, Outcome};
+use sy_points::Stored;
+use sy_query_decide::Decide;
+use sy_query_limits::Limits;
+use sy_terms::{Bodies, Theory, Want};
+
+/// The outcome of `synthesise`; but where that is that a bank is full and one function is to be found, a solution that is
+/// found beyond the bank, of a size up to the greatest, if one is. Else the outcome stays as it was: what is learned beyond
+/// the bank is no part of it.
+pub fn synthesise_beyond<T: Theory, D: Decide<T>>(
+    alloc: Global,
+    problem: &Problem<T>,
+    limits: &Limits,
+    decide: &mut D,
+) -> Result<Outcome<T, D::Proof, D::Spent>, Want>
+    requires problem { ProblemFits T.Theory problem.now }
+    ensures right { IfOk result (IsRightFor T.Theory D.Decide Joins problem.now limits.now) }
+    ensures beyond { IfOk result (FindsBeyondFor T.Theory problem.now limits.now) }
+{
+    let cause = match synthesise(alloc, problem, limits, decide)? {
+        Outcome::Fail(cause) => cause,
+        Outcome::Found(bodies, proof) => return Ok(Outcome::Found(bodies, proof)),
+        Outcome::Infeasible => return Ok(Outcome::Infeasible),
+    };
+    match cause {
+        FailCause::Bank(stored, function, bank, nonterminal, next) => {
+            let found = solved(alloc, problem, limits, decide, &stored, function, &bank)?;
+            if let Some((bodies, proof)) = found {
+                return Ok(Outcome::Found(bodies, proof));
+            }
+            let cause = FailCause::Bank(stored, function, bank, nonterminal, next);
+            Ok(Outcome::Fail(cause))
+        }
+        other => Ok(Outcome::Fail(other)),
+    }
+}
+
+/// A solution that is found beyond the full bank of the function of this number, where it is the one to be found.
+fn solved<T: Theory, D: Decide<T>>(
+    alloc: Global,
+    problem: &Problem<T>,
+    limits: &Limits,
+    decide: &mut D,
+    stored: &Stored<T>,
+    function: u32,
+    bank: &Bank<T>,
+) -> Result<Option<(Bodies<T>, D::Proof)>, Want>
+    requires problem { ProblemFits T.Theory problem.now }
+    requires met { IsMetFor T.Theory problem.now limits.now stored.now function bank.now }
+    ensures { IfOk result (IsFoundFor T.Theory D.Decide problem.now limits.now.size) }
+{
+    if problem.wanted.len() != 1 || function != 0 {
+        return Ok(None);
+    }
+    let found = solve_beyond(alloc, problem, limits, decide, bank, stored, limits.size)?;
+    Ok(found)
+}
