@@ -9,13 +9,15 @@ use sy_intsolve_trees::IntSpent;
 use sy_linear_known::{Tree, is_numbered};
 use sy_meaning_integers::IntTheory;
 use sy_query_base::Query;
+use sy_query_corners::corner_model;
 use sy_query_decide::{Decide, Verdict};
 use sy_query_limits::{FailName, Limits};
 use sy_terms::Want;
 
-/// A solver of queries of linear arithmetic over the integers: it grows a tree that splits on open tests and branches on
-/// values of variables, until the tree refutes the query or an assignment satisfies it, with at most as many inner nodes
-/// as the limit `nodes` and as many steps of the simplex method at a leaf as the limit `pivots`.
+/// A solver of queries of linear arithmetic over the integers. It tries a few dozen assignments at which queries are often
+/// true; then it grows a tree that splits on open tests and branches on values of variables, until the tree refutes the
+/// query or an assignment satisfies it, with at most as many inner nodes as the limit `nodes` and as many steps of the
+/// simplex method at a leaf as the limit `pivots`.
 ///
 /// A query of 2^31 nodes or variables is answered as want of memory.
 #[derive(Clone, Copy, Debug, PartialEq, Eq)]
@@ -47,6 +49,9 @@ impl Decide<IntTheory> for IntDecide {
     ) -> Result<Verdict<IntTheory, Tree, IntSpent>, Want> {
         if !is_numbered(query) {
             return Err(AllocError);
+        }
+        if let Some(values) = corner_model(alloc, query)? {
+            return Ok(Verdict::Model(values));
         }
         let verdict = solve_query(alloc, query, limits)?;
         Ok(verdict)

@@ -1,5 +1,5 @@
 // The guide of a search.
-ghost use Rattle.std.specs.Prelude.{◌<◌, ◌^◌, length, IfOk};
+ghost use Rattle.std.specs.Prelude.{◌<◌, ◌^◌, length, IfOk, IfSome};
 ghost use Rattle.sy_intsolve_asked.specs.Asked.{IsPath, IsOpen};
 
 use crate::choice::Tally;
@@ -161,28 +161,26 @@ impl Guide {
         }
     }
 
-    /// A test on which the facts' path can be split: one that settles much, or else the first one. A test that the facts'
-    /// bounds on differences of variables tell goes before all others, since one of its sides then ends at once. Tests in
-    /// few premises follow, then those in an argument of an implication with few open tests, then those that are asked
-    /// often.
+    /// A test on which the facts' path can be split, and that is likely to settle much; none where no test is found to be
+    /// open. A test that the facts' bounds on differences of variables tell goes before all others, since one of its sides
+    /// then ends at once. Tests in few premises follow, then those in an argument of an implication with few open tests,
+    /// then those that are asked often.
     pub fn choose(
         &mut self,
         alloc: Global,
         query: &Query<IntTheory>,
         facts: &[Fact],
-        first: Test,
-    ) -> Result<Test, Want>
+    ) -> Result<Option<Test>, Want>
         requires few { length query.now.vars < 2 ^ 31 }
         requires path { IsPath query.now.vars facts.now }
-        requires first { IsOpen query.now.vars facts.now first }
-        ensures { IfOk result (IsOpen query.now.vars facts.now) }
+        ensures { IfOk result (λ found. IfSome found (IsOpen query.now.vars facts.now)) }
     {
         if let Some(test) = self.guess(alloc, query, facts)? {
             let vars = query.vars.as_slice();
             if can_split(alloc, vars, facts, &test)? {
-                return Ok(test);
+                return Ok(Some(test));
             }
         }
-        Ok(first)
+        Ok(None)
     }
 }

@@ -1,5 +1,5 @@
 -- What the ends of a search show, and the variables of its forks.
-use Rattle.std.specs.Prelude.{◌≡◌, ℕ, zero, suc, ◌*◌, ◌<◌, ◌≤◌, Bool, true, false, ◌&&◌, List, [], ◌∷◌, length, slice_get, get_or, ℤ, pos, negsuc, ◌*ℤ◌, unsigned_abs, int_lt, Option, Some, None}
+use Rattle.std.specs.Prelude.{◌≡◌, ℕ, zero, suc, ◌*◌, ◌<◌, ◌≤◌, Bool, true, false, ◌&&◌, List, [], ◌∷◌, length, slice_get, get_or, ℤ, pos, negsuc, ◌*ℤ◌, unsigned_abs, int_lt, Option, Some, None, IfSome}
 use Rattle.std.specs.List.{list_all}
 use Rattle.std.proofs.Common.{refl, sym, ◌∙◌, ap, subst, arith}
 use Rattle.std.proofs.lemmas.Nat.Gcd.{IsGcd-from_zero, IsGcd-swap, same_from_IsGcd}
@@ -90,11 +90,15 @@ spent-known Free q limits way tree path node w n e f s = tt
 pub split-fork : (order : Order) (q : Query) (path : List Fact) (t : Test) (p : List Fraction) → IsSplit order q path t → IsAt q.vars path p → IsFork order q path (forks.Split t) p
 split-fork order q path t p s a = (suits_is q.vars t s.turns.suits, s.leaves, a)
 
-pub first-split : (q : Query) (path : List Fact) (t : Test) → IsPath q.vars path → query_known q path ≡ known.Undecided t → IsSplit First q path t
-first-split q path t h e = record { leaves = e; turns = asked q path t h e }
+-- the first open test can be split on in either order
+pub open-split : (order : Order) (q : Query) (path : List Fact) (t : Test) → IsPath q.vars path → query_known q path ≡ known.Undecided t → IsSplit order q path t
+open-split First q path t h e = record { leaves = e; turns = asked q path t h e }
+open-split Free q path t h e = record { leaves = tt; turns = asked q path t h e }
 
-pub free-split : (q : Query) (path : List Fact) (t u : Test) → query_known q path ≡ known.Undecided u → IsOpen q.vars path t → IsSplit Free q path t
-free-split q path t u e o = record { leaves = (u, e); turns = o }
+-- what opens both sides can be split on where any test may be
+pub free-splits : (q : Query) (path : List Fact) (found : Option Test) → IfSome found (IsOpen q.vars path) → IfSome found (IsSplit Free q path)
+free-splits q path (Some t) o = record { leaves = tt; turns = o }
+free-splits q path None o = tt
 
 -- ---- broken values are those of integer variables
 disagree : true ≡ false → ⊥

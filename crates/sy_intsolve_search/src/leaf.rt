@@ -6,10 +6,10 @@ ghost use Rattle.sy_linear_known.specs.Seen.{query_known};
 ghost use Rattle.sy_linear_known.specs.Stored.{query_of};
 ghost use Rattle.sy_intsolve_points.specs.Points.{IsAt, IsCornerOf};
 ghost use Rattle.sy_intsolve_trees.specs.Growing.{IsFork};
-ghost use Rattle.sy_intsolve_search.specs.Ways.{IsAsked, IsLeaf, CanTurn};
+ghost use Rattle.sy_intsolve_search.specs.Ways.{IsAsked, IsLeaf, IsSplit, CanTurn};
 ghost use Rattle.sy_intsolve_search.specs.States.{IsTurn, room_open};
 
-use crate::choosing::chosen_test;
+use crate::choosing::guessed_test;
 use crate::cut::{cut_at, under};
 use crate::fork::{enter, goes_left};
 use crate::open::{broken, corner_at, known_at, point_at};
@@ -155,26 +155,24 @@ fn settled(
     }
 }
 
-/// A turn at a leaf that leaves this test open as the first one: a split on an open test, at a point of the path.
+/// A turn at a leaf that can be split on the test: a split on it at a point of the path, where there is one.
 fn undecided(
     alloc: Global,
     query: &Query<IntTheory>,
     plan: &Plan,
-    guide: &mut Guide,
     way: Way,
     point: Option<Seq<Frac>>,
-    first: Test,
+    test: Test,
 ) -> Result<Turn, Want>
     requires asked { IsAsked (query_of query.now) }
     requires leaf { IsLeaf plan.now.order (query_of query.now) plan.now.limits.nodes way }
     requires kept { IfSome point (IsAt query.now.vars way.facts.items) }
-    requires known { query_known (query_of query.now) way.facts.items ≡ known.Undecided first }
+    requires split { IsSplit plan.now.order (query_of query.now) way.facts.items test }
     ensures { IfOk result (IsTurn plan.now.order (query_of query.now) plan.now.limits (room_open plan.now.limits.nodes way)) }
 {
     let answer = point_at(alloc, query, plan.limits.pivots, &way, point)?;
     match answer {
         Feasible::Point(near) => {
-            let test = chosen_test(alloc, query, plan, guide, &way, first)?;
             let turn = grow(alloc, query, plan, way, Fork::Split(test), near)?;
             Ok(turn)
         }
@@ -192,12 +190,11 @@ fn undecided(
     }
 }
 
-/// A turn at an open leaf, with a point of its path where one is kept.
-pub(crate) fn look(
+/// A turn at an open leaf, by what its path tells of the query.
+fn told(
     alloc: Global,
     query: &Query<IntTheory>,
     plan: &Plan,
-    guide: &mut Guide,
     way: Way,
     point: Option<Seq<Frac>>,
 ) -> Result<Turn, Want>
@@ -214,7 +211,7 @@ pub(crate) fn look(
         }
         Known::False => Ok(Turn::On(State::Closed(way, Tree::Shown))),
         Known::Undecided(test) => {
-            let turn = undecided(alloc, query, plan, guide, way, point, test)?;
+            let turn = undecided(alloc, query, plan, way, point, test)?;
             Ok(turn)
         }
         Known::OutOfRange(node) => {
@@ -222,4 +219,27 @@ pub(crate) fn look(
             Ok(Turn::Over(Verdict::Spent(spent)))
         }
     }
+}
+
+/// A turn at an open leaf, with a point of its path where one is kept. What the path tells of the query, which takes the
+/// most time, is asked only where the guide finds no test to split on.
+pub(crate) fn look(
+    alloc: Global,
+    query: &Query<IntTheory>,
+    plan: &Plan,
+    guide: &mut Guide,
+    way: Way,
+    point: Option<Seq<Frac>>,
+) -> Result<Turn, Want>
+    requires asked { IsAsked (query_of query.now) }
+    requires leaf { IsLeaf plan.now.order (query_of query.now) plan.now.limits.nodes way }
+    requires kept { IfSome point (IsAt query.now.vars way.facts.items) }
+    ensures { IfOk result (IsTurn plan.now.order (query_of query.now) plan.now.limits (room_open plan.now.limits.nodes way)) }
+{
+    if let Some(test) = guessed_test(alloc, query, plan, guide, &way)? {
+        let turn = undecided(alloc, query, plan, way, point, test)?;
+        return Ok(turn);
+    }
+    let turn = told(alloc, query, plan, way, point)?;
+    Ok(turn)
 }

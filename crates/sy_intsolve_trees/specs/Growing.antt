@@ -36,12 +36,12 @@ fork_fact true (forks.Branch i k) = AtLeast (at_or_below i k)
 fork_fact false (forks.Branch i k) = AtLeast (negation (at_or_below i k))
 
 -- ---- inner nodes
--- the path leaves the test open as the first one, or leaves some test open
+-- in the order First the path leaves the test open as the first one; the order Free asks nothing of a split's test
 abbrev pub Leaves : Order → Query → List Fact → Test → Type 0
 Leaves orders.First q path t = query_known q path ≡ known.Undecided t
-Leaves orders.Free q path t = (u : Test) × (query_known q path ≡ known.Undecided u)
+Leaves orders.Free q path t = Unit {0}
 
--- a split stands where the query is open, at a point of the path; a branch where the query is known true, at a corner of
+-- a split stands on a test that its order allows, at a point of the path; a branch where the query is known true, at a corner of
 -- the path, on the first value there that isn't whole
 abbrev pub IsFork : Order → Query → List Fact → Fork → List Fraction → Type 0
 IsFork order q path (forks.Split t) p = Suits q.vars t × Leaves order q path t × IsAt q.vars path p

@@ -4,12 +4,12 @@ use sy_frac::Frac;
 use sy_linear_known::Tree;
 use sy_seq::Seq;
 
-/// Which open test a search splits on.
+/// Which tests a search splits on.
 #[derive(Clone, Copy, Debug, PartialEq, Eq)]
 pub enum Order {
-    /// The first one.
+    /// The first one that is open.
     First,
-    /// Any one.
+    /// Any.
     Free,
 }
 

@@ -3,6 +3,7 @@
 
 mod constants;
 mod numbers;
+mod places;
 mod trial;
 
 pub use trial::corner_model;

@@ -25,7 +25,7 @@ pub(crate) fn number_at(sort: Sort, constants: &[i128], place: usize) -> i128 {
 fn own(sort: Sort, place: usize) -> i128 {
     match sort {
         Sort::Bool => place as i128,
-        Sort::Int => place as i128 / 2 * if place % 2 == 0 { -1 } else { 1 },
+        Sort::Int => (place as i128 + 1) / 2 * if place % 2 == 0 { -1 } else { 1 },
         Sort::Bits(width) => of_vector(1 << width.min(64), place),
     }
 }

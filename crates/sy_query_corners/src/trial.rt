@@ -8,13 +8,20 @@ ghost use Rattle.sy_query_base.specs.Asked.{query_of, Fits, Satisfies};
 
 use crate::constants::constants_of;
 use crate::numbers::{count, number_at};
+use crate::places::{Shuffle, place_at, stepped};
 use std::alloc::Global;
 use sy_meaning::{Eval, evaluate};
 use sy_query_base::Query;
 use sy_terms::{Defs, Seq, Sort, Theory, Value, Values, Want};
 
-/// The most assignments that are tried.
+/// The most assignments that are tried by steps.
 const TRIES: usize = 64;
+
+/// How many further ones are tried of a query of many variables, whose numbers are shuffled.
+const SHUFFLES: usize = 64;
+
+/// The least number of variables that are many: two numbers stand in few orders, and the steps have come to each.
+const MANY: usize = 3;
 
 /// An assignment that satisfies the query, if one is found at once: its variables get 0, 1, the ends of their range and
 /// the like, and the query's constants and their neighbours. Where none is found the query may be satisfied all the same.
@@ -32,11 +39,21 @@ pub fn corner_model<T: Theory>(alloc: Global, query: &Query<T>) -> Result<Option
     };
     for attempt in 0..tries {
         let step = step_of(attempt / numbers);
-        let values = corner::<T>(alloc, vars, constants.as_slice(), attempt % numbers, step)?;
-        if let Some(values) = values {
-            if holds(alloc, query, values.as_slice())? {
-                return Ok(Some(values));
-            }
+        let places = stepped(alloc, vars.len(), attempt % numbers, step, numbers)?;
+        let found = satisfying(alloc, query, constants.as_slice(), places.as_slice())?;
+        if found.is_some() {
+            return Ok(found);
+        }
+    }
+    if vars.len() < MANY {
+        return Ok(None);
+    }
+    let mut shuffle = Shuffle::new(alloc, numbers)?;
+    for _ in 0..SHUFFLES {
+        shuffle.turn();
+        let found = satisfying(alloc, query, constants.as_slice(), shuffle.places())?;
+        if found.is_some() {
+            return Ok(found);
         }
     }
     Ok(None)
@@ -52,25 +69,42 @@ fn step_of(round: usize) -> usize {
     }
 }
 
-/// The assignment that gives the first variable the number of place `start`, and each later one that of the place so
-/// many steps on. `None` where a sort has no such number.
+/// The assignment of these places, if it satisfies the query.
+fn satisfying<T: Theory>(
+    alloc: Global,
+    query: &Query<T>,
+    constants: &[i128],
+    places: &[usize],
+) -> Result<Option<Values<T>>, Want>
+    requires { Fits T.owned T.numeric (query_of T.denotes query.now) }
+    ensures { IfOk result (λ found. IfSome found (λ values. Satisfies (query_of T.denotes query.now) (vals_of T.denotes values))) }
+{
+    let Some(values) = corner::<T>(alloc, query.vars.as_slice(), constants, places)? else {
+        return Ok(None);
+    };
+    if holds(alloc, query, values.as_slice())? {
+        Ok(Some(values))
+    } else {
+        Ok(None)
+    }
+}
+
+/// The assignment that gives each variable the number of its place, or of place 0 where it has none. `None` where a sort has no such number.
 fn corner<T: Theory>(
     alloc: Global,
     vars: &[Sort],
     constants: &[i128],
-    start: usize,
-    step: usize,
+    places: &[usize],
 ) -> Result<Option<Values<T>>, Want>
     ensures { IfOk result (λ found. IfSome found (λ values. AreValues vars.now (vals_of T.denotes values))) }
 {
     let mut values = Seq::new(alloc);
-    let mut place = start;
     for sort in vars {
+        let place = place_at(places, values.len());
         let Some(value) = value_at::<T>(*sort, constants, place) else {
             return Ok(None);
         };
         values.push(value)?;
-        place = place.wrapping_add(step) % count(constants).max(1);
     }
     Ok(Some(values))
 }

@@ -6,14 +6,11 @@ use Rattle.sy_intsolve_search.specs.Ways.{TellsPoint}
 use Rattle.sy_intsolve_search.proofs.Ways.{leaf-closed, inner-farkas}
 use Rattle.sy_intsolve_search.proofs.leaf.undecided.Goals as goal
 
-pub chosen_test-requires : goal.chosen_test-requires
-chosen_test-requires c = record { asked = c.requires.asked; path = c.requires.leaf.path; known = c.requires.known }
-
 pub grow-requires : goal.grow-requires
 grow-requires c = record {
   leaf = c.requires.leaf;
-  fork = split-fork c.args.plan.now.order (query_of c.args.query.now) c.args.way.facts.items c.in_ok-test-in-Point.test c.in-Point.near c.in_ok-test-in-Point.ensures (subst (TellsPoint c.args.query.now.vars c.args.way.facts.items c.args.plan.now.limits.pivots) c.in-Point.is c.in_ok-answer.ensures);
-  turns = c.in_ok-test-in-Point.ensures.turns;
+  fork = split-fork c.args.plan.now.order (query_of c.args.query.now) c.args.way.facts.items c.args.test c.in-Point.near c.requires.split (subst (TellsPoint c.args.query.now.vars c.args.way.facts.items c.args.plan.now.limits.pivots) c.in-Point.is c.in_ok-answer.ensures);
+  turns = c.requires.split.turns;
 }
 
 pub returns-in-Conflict : goal.returns-in-Conflict
