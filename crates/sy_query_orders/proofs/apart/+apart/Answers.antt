@@ -1,0 +1,25 @@
+use Rattle.std.proofs.Common.{arith, take}
+use Rattle.std.proofs.lemmas.List.{take_more}
+use Rattle.sy_terms.specs.Denoted.{expr_of-App, expr_of-Call, expr_of-Let}
+use Rattle.sy_query_orders.proofs.Alike.{applied_alike, bound_alike, called_alike, more_alike}
+use Rattle.sy_query_orders.proofs.apart.+apart.Goals as goal
+
+pub apart-returns-in_ok-found-in-App : goal.apart-returns-in_ok-found-in-App
+apart-returns-in_ok-found-in-App g t c =
+    rw (c.in-App.is, expr_of-App) (applied_alike _ _ _ _ c.in_ok-found-in-App.ensures (rw c.as_slice.ensures at c.in_ok-arguments-in-App.ensures))
+
+pub apart-returns-in_ok-arguments-in-Call : goal.apart-returns-in_ok-arguments-in-Call
+apart-returns-in_ok-arguments-in-Call g t c =
+    rw (c.in-Call.is, expr_of-Call, expr_of-Call) (called_alike _ _ _ (rw c.as_slice-in-Call.ensures at c.in_ok-arguments-in-Call.ensures))
+
+pub apart-returns-in_ok-new-in-Let : goal.apart-returns-in_ok-new-in-Let
+apart-returns-in_ok-new-in-Let g t c =
+    rw (c.in-Let.is, expr_of-Let, expr_of-Let, c.in_ok-new-in-Let.ensures.ok)
+    (bound_alike _ _ _ _ (rw c.as_slice-in-Let.ensures at c.in_ok-bound-in-Let.ensures) (rw c.deref.ensures at c.in_ok-inner-in-Let.ensures))
+
+pub all_apart-loop-term-preserved : goal.all_apart-loop-term-preserved
+all_apart-loop-term-preserved g t c =
+    let number = g.T.Theory.denotes in
+    let more = take_more c.args.terms.now c.loop-term.term-index c.term-item.result (grind arith) in
+    rw (more, ← c.term-item.is, c.in_ok-push.ensures.ok)
+    (more_alike number c.loop-term.all.items.items (take c.loop-term.term-index c.args.terms.now) c.in_ok-found.found c.term-item.result c.loop-term.invariant c.in_ok-found.ensures)

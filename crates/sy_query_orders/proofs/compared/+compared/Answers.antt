@@ -1,0 +1,20 @@
+use Rattle.std.proofs.Common.{arith, ◌<◌}
+use Rattle.sy_terms.specs.Expr.{nodes}
+use Rattle.sy_terms.specs.Denoted.{expr_of}
+use Rattle.sy_query_orders.proofs.Meanings.{choice_apart, here_falls, there_falls}
+use Rattle.sy_query_orders.proofs.compared.+compared.Goals as goal
+
+pub compared-requires : goal.compared-requires
+compared-requires g t c κs within =
+    let falls : nodes (expr_of g.T.Theory.denotes c.in-Some.parts.there.now) < nodes (expr_of g.T.Theory.denotes c.args.term.now) = rw (c.in-Some.ensures) (there_falls _ _ _) in
+    (omega (arith, falls, c.decreases), within)
+
+pub compared-requires-2 : goal.compared-requires-2
+compared-requires-2 g t c κs within =
+    let falls : nodes (expr_of g.T.Theory.denotes c.in-Some.parts.here.now) < nodes (expr_of g.T.Theory.denotes c.args.term.now) = rw (c.in-Some.ensures) (here_falls _ _ _) in
+    (omega (arith, falls, c.decreases), within)
+
+pub returns : goal.returns
+returns g t c =
+    rw (c.in_ok-found-2.ensures, c.in_ok-test.ensures, c.in-Some.ensures)
+    (choice_apart c.args.with.now.operator (expr_of g.T.Theory.denotes c.args.with.now.known.now) c.args.with.now.is_first _ _ _ _ _ c.in_ok-there.ensures c.in_ok-here.ensures)
