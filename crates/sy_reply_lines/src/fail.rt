@@ -9,9 +9,9 @@ use sy_query_limits::FailName;
 use sy_seq::Want;
 use sy_text::write_numeral;
 
-/// The name of what ended a search.
+/// The name of what ended a search, as it is written.
 #[tactic(auto, unfolding(crate::specs::Lines::fail_name))]
-fn name_of(name: FailName) -> &'static str
+pub fn name_text(name: FailName) -> &'static str
     ensures { result.now ≡ lines.fail_name name }
 {
     match name {
@@ -35,7 +35,7 @@ pub fn fail_line(alloc: Global, check: u32, name: FailName) -> Result<Bytes, Wan
     put(&mut out, "fail: check-synth ")?;
     write_numeral(&mut out, check as u128)?;
     put(&mut out, " ")?;
-    put(&mut out, name_of(name))?;
+    put(&mut out, name_text(name))?;
     put(&mut out, "\n")?;
     Ok(out)
 }

@@ -5,5 +5,5 @@ mod fail;
 mod refusal;
 mod text;
 
-pub use fail::fail_line;
+pub use fail::{fail_line, name_text};
 pub use refusal::refusal_text;

@@ -1,0 +1,101 @@
+#!/usr/bin/env python3
+"""Runs `sygus` on files of 1,000 closed examples that are made from numbers, and prints the middle and the greatest time.
+
+    bench/drill.py [--sygus PROGRAM] [--count COUNT]
+
+The numbers are 0, 10,000,019, 20,000,038 and so on, a hundred without --count. Without --sygus it builds the program by
+./sygus. The files are made here, as mode `drill` is to make them: a function of a byte is to be found that is the
+complement of its argument below a bound, and one more than its argument from there on. Each answer is checked at all
+examples; the status is 1 where one is wrong, or where there is none.
+"""
+import argparse
+import os
+import re
+import resource
+import statistics
+import subprocess
+import sys
+import tempfile
+
+TOP = os.path.dirname(os.path.dirname(os.path.abspath(__file__)))
+STEP = 10_000_019
+
+HEAD = """(set-logic BV)
+(synth-fun f ((x (_ BitVec 8))) (_ BitVec 8)
+  ((S (_ BitVec 8)) (C Bool))
+  ((S (_ BitVec 8) (x (bvnot x) (bvadd x #x01) (ite C S S)))
+   (C Bool ((bvult x #x{:02x})))))
+"""
+
+
+def examples_of(number):
+    """The arguments of the number's examples, with the values that are wanted there."""
+    state, bound = number, number % 256
+    for _ in range(1000):
+        state = (state * 6364136223846793005 + 1442695040888963407) % 2**64
+        argument = state >> 56
+        yield argument, 255 - argument if argument < bound else (argument + 1) % 256
+
+
+def file_of(number):
+    constraints = "".join(f"(constraint (= (f #x{a:02x}) #x{b:02x}))\n" for a, b in examples_of(number))
+    return HEAD.format(number % 256) + constraints + "(check-synth)\n"
+
+
+def value(tokens, x):
+    """The value of the body whose tokens these are, from left to right, at the argument x."""
+    token = tokens.pop(0)
+    if token == "x":
+        return x
+    if token.startswith("#x"):
+        return int(token[2:], 16)
+    operator, arguments = tokens.pop(0), []
+    while tokens[0] != ")":
+        arguments.append(value(tokens, x))
+    tokens.pop(0)
+    if operator == "ite":
+        return arguments[1] if arguments[0] else arguments[2]
+    return {"bvnot": lambda a: 255 - a, "bvadd": lambda a, b: (a + b) % 256, "bvult": lambda a, b: a < b}[operator](*arguments)
+
+
+def is_right(answer, number):
+    found = re.fullmatch(r"\(\n\(define-fun f \(\(x \(_ BitVec 8\)\)\) \(_ BitVec 8\) (.*)\)\n\)\n", answer)
+    if not found:
+        return False
+    tokens = re.findall(r"[()]|[^\s()]+", found[1])
+    return all(value(list(tokens), a) == b for a, b in examples_of(number))
+
+
+def seconds(program, path):
+    """What the program prints of a file, and its processor time."""
+    before = resource.getrusage(resource.RUSAGE_CHILDREN)
+    answer = subprocess.run([program, path], capture_output=True, text=True).stdout
+    after = resource.getrusage(resource.RUSAGE_CHILDREN)
+    return answer, after.ru_utime + after.ru_stime - before.ru_utime - before.ru_stime
+
+
+def main():
+    parser = argparse.ArgumentParser(description="Times sygus on files that are made from numbers.")
+    parser.add_argument("--sygus", metavar="PROGRAM")
+    parser.add_argument("--count", type=int, default=100)
+    options = parser.parse_args()
+    program = options.sygus
+    if not program:
+        subprocess.run([f"{TOP}/sygus", f"{TOP}/examples/first.sl"], stdout=subprocess.DEVNULL)
+        program = f"{TOP}/crates/sygus/out/sygus"
+    times, wrong = [], []
+    with tempfile.TemporaryDirectory() as folder:
+        path = os.path.join(folder, "drill.sl")
+        for number in range(0, options.count * STEP, STEP):
+            with open(path, "w") as file:
+                file.write(file_of(number))
+            answer, time = seconds(program, path)
+            times.append(time)
+            if not is_right(answer, number):
+                wrong.append(number)
+                print(f"{number}: {answer.strip()}")
+    print(f"{len(times)} numbers, {len(wrong)} wrong; the middle time is {statistics.median(times):.3f} s, the greatest {max(times):.3f} s")
+    sys.exit(1 if wrong else 0)
+
+
+main()

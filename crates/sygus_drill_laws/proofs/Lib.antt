@@ -1,0 +1,5 @@
+pub mod Laid
+pub mod Commands
+pub mod Reading
+pub mod Steps
+pub mod Files
