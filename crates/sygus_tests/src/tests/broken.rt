@@ -1,4 +1,5 @@
 // Files that are cut off, and sources and sinks that give and take little or fail.
+use super::integers::{GREATER, SUMS};
 use super::runs::{ALL, Calls, Failing, Left, SURE, leaves};
 use std::alloc::Global;
 use std::process::Abort;
@@ -11,6 +12,15 @@ const EXAMPLE: &[u8] =
 
 /// The reply to it.
 const REPLY: &[u8] = b"(\n(define-fun f ((x (_ BitVec 8))) (_ BitVec 8) (bvadd x #x01))\n)\n";
+
+/// The reply to the greater of two.
+const GREATER_REPLY: &[u8] = b"(\n(define-fun f ((x Int) (y Int)) Int (ite (<= x y) y x))\n)\n";
+
+/// Words, a file, and the reply to it: one over bit vectors, and one over integers.
+const ANSWERED: [(&str, &[u8], &[u8]); 2] = [
+    ("sygus f.sl", EXAMPLE, REPLY),
+    ("sygus --size 3 f.sl", GREATER, GREATER_REPLY),
+];
 
 /// A symbol in bars that doesn't end.
 const OPEN: &[u8] = b"(set-info :source |ab";
@@ -36,8 +46,10 @@ fn is_cut<R: Abort>(rt: &R, alloc: Global, file: &[u8]) -> bool {
 #[test]
 fn files_cut_anywhere(rt: HostRuntime) {
     let alloc = rt.alloc();
-    for end in 0..EXAMPLE.len() - 2 {
-        assert!(rt; is_cut(&rt, alloc, &EXAMPLE[..end]));
+    for file in [EXAMPLE, GREATER] {
+        for end in 0..file.len().saturating_sub(1) {
+            assert!(rt; is_cut(&rt, alloc, &file[..end]));
+        }
     }
 }
 
@@ -74,7 +86,7 @@ type Row = (
 fn slow_and_failing_calls(rt: HostRuntime) {
     let fails = b"fail: check-synth 1 Size\n";
     let open = b"refused: command 1 line 1 column 19 cause 1 Text Unclosed\n";
-    let rows: [Row; 9] = [
+    let rows: [Row; 10] = [
         ("sygus f.sl", EXAMPLE, [SLOW; 3], 0, REPLY, b""),
         (
             "sygus --size 2 f.sl",
@@ -89,6 +101,14 @@ fn slow_and_failing_calls(rt: HostRuntime) {
         (
             "sygus --size 2 f.sl",
             EXAMPLE,
+            [ALL, SLOW, NONE],
+            5,
+            b"fail\n",
+            b"",
+        ),
+        (
+            "sygus --size 14 f.sl",
+            SUMS,
             [ALL, SLOW, NONE],
             5,
             b"fail\n",
@@ -118,41 +138,45 @@ fn reads_that_fail(rt: HostRuntime) {
         out: b"",
         err: b"fault: read\n",
     };
-    let answered = Left {
-        status: 0,
-        out: REPLY,
-        err: b"",
-    };
-    let calls = EXAMPLE.len().div_ceil(64) + 2;
-    for number in 1..=calls + 1 {
-        let failing = Failing {
-            source: Calls {
-                failing: &[number as u64],
-                piece: 64,
-            },
-            ..SURE
+    for (line, file, reply) in ANSWERED {
+        let answered = Left {
+            status: 0,
+            out: reply,
+            err: b"",
         };
-        let left = if number <= calls { failed } else { answered };
-        assert!(rt; leaves(&rt, rt.alloc(), "sygus f.sl", EXAMPLE, &failing, &left));
+        let calls = file.len() as u64 / 64 + 3;
+        for number in 1..=calls + 1 {
+            let failing = Failing {
+                source: Calls {
+                    failing: &[number],
+                    piece: 64,
+                },
+                ..SURE
+            };
+            let left = if number <= calls { failed } else { answered };
+            assert!(rt; leaves(&rt, rt.alloc(), line, file, &failing, &left));
+        }
     }
 }
 
 /// Each write takes one byte.
 #[test]
 fn writes_that_fail(rt: HostRuntime) {
-    for count in 0..=REPLY.len() {
-        let failing = Failing {
-            out: Calls {
-                failing: &[count as u64 + 1],
-                piece: 1,
-            },
-            ..SURE
-        };
-        let left = Left {
-            status: if count < REPLY.len() { 5 } else { 0 },
-            out: &REPLY[..count],
-            err: b"",
-        };
-        assert!(rt; leaves(&rt, rt.alloc(), "sygus f.sl", EXAMPLE, &failing, &left));
+    for (line, file, reply) in ANSWERED {
+        for count in 0..=reply.len() {
+            let failing = Failing {
+                out: Calls {
+                    failing: &[(count as u64).saturating_add(1)],
+                    piece: 1,
+                },
+                ..SURE
+            };
+            let left = Left {
+                status: if count < reply.len() { 5 } else { 0 },
+                out: &reply[..count],
+                err: b"",
+            };
+            assert!(rt; leaves(&rt, rt.alloc(), line, file, &failing, &left));
+        }
     }
 }

@@ -20,7 +20,7 @@ const TWICE: &[u8] =
 
 /// A product in either order.
 const PRODUCT: &[u8] =
-    b"(set-logic BV)\n(synth-fun f ((x (_ BitVec 8)) (y (_ BitVec 8))) (_ BitVec 8) ((S (_ BitVec 8))) ((S (_ BitVec 8) ((bvmul x y)))))\n(declare-var x (_ BitVec 8))\n(declare-var y (_ BitVec 8))\n(constraint (= (f x y) (bvmul y x)))\n(check-synth)\n";
+    b"(set-logic BV)\n(synth-fun f ((x (_ BitVec 8)) (y (_ BitVec 8))) (_ BitVec 8) ((S (_ BitVec 8))) ((S (_ BitVec 8) ((bvmul x y)))))\n(declare-var x (_ BitVec 8))\n(declare-var y (_ BitVec 8))\n(constraint (= (f x y) (bvadd (bvmul (bvand x #x0f) y) (bvmul (bvand x #xf0) y))))\n(check-synth)\n";
 
 #[test]
 fn budgets_are_named(rt: HostRuntime) {

@@ -6,7 +6,7 @@ const ABOVE: &[u8] =
     b"(set-logic LIA)\n(synth-fun f ((x Int)) Int ((S Int)) ((S Int (x (+ x 1)))))\n(declare-var x Int)\n(constraint (> (f x) x))\n(check-synth)\n";
 
 /// A sum of ones, of size 15.
-const SUMS: &[u8] =
+pub(crate) const SUMS: &[u8] =
     b"(set-logic LIA)\n(synth-fun f () Int ((S Int)) ((S Int (1 (+ 1 S)))))\n(constraint (= f 8))\n(check-synth)\n";
 
 /// An invariant of a loop that counts to 10.
@@ -45,7 +45,7 @@ const DEFAULT: &[u8] =
     b"(set-logic LIA)\n(synth-fun f ((x Int)) Int)\n(declare-var x Int)\n(constraint (= (f x) x))\n(check-synth)\n";
 
 /// The greater of two.
-const GREATER: &[u8] =
+pub(crate) const GREATER: &[u8] =
     b"(set-logic LIA)\n(synth-fun f ((x Int) (y Int)) Int\n  ((S Int) (C Bool))\n  ((S Int (x y (ite C S S)))\n   (C Bool ((<= x y)))))\n(declare-var x Int)\n(declare-var y Int)\n(constraint (>= (f x y) x))\n(constraint (>= (f x y) y))\n(constraint (or (= (f x y) x) (= (f x y) y)))\n(check-synth)\n";
 
 /// Twice a number, as a sum or by cases.
