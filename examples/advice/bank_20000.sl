@@ -1,11 +1,11 @@
-; The mean of two bytes by ten operators: more than 20,000 different terms come before its body.
+; Rounded up to a multiple by twelve operators: more than 20,000 different terms come before its body, and no operator over
+; two of these gives it.
 ; answer: fail Bank
 (set-logic BV)
-(define-fun wide ((x (_ BitVec 8))) (_ BitVec 9) ((_ zero_extend 1) x))
-(synth-fun mean ((x (_ BitVec 8)) (y (_ BitVec 8))) (_ BitVec 8)
+(synth-fun f ((x (_ BitVec 8)) (y (_ BitVec 8))) (_ BitVec 8)
   ((S (_ BitVec 8)))
-  ((S (_ BitVec 8) (x y (bvand S S) (bvor S S) (bvxor S S) (bvadd S S) (bvsub S S) (bvmul S S) (bvshl S S) (bvneg S) (bvnot S) (bvlshr S #x01)))))
+  ((S (_ BitVec 8) (x y #x01 (bvnot S) (bvneg S) (bvand S S) (bvor S S) (bvxor S S) (bvadd S S) (bvsub S S) (bvmul S S) (bvudiv S S) (bvshl S S) (bvlshr S S) (bvashr S S)))))
 (declare-var x (_ BitVec 8))
 (declare-var y (_ BitVec 8))
-(constraint (= (wide (mean x y)) (bvlshr (bvadd (wide x) (wide y)) #b000000001)))
+(constraint (= (f x y) (bvmul y (bvudiv (bvsub (bvadd x y) #x01) y))))
 (check-synth)

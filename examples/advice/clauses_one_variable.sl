@@ -1,10 +1,10 @@
 ; The same where one factor is a constant.
 ; words: --clauses 10000
 (set-logic BV)
-(synth-fun f ((x (_ BitVec 16))) (_ BitVec 16)
-  ((S (_ BitVec 16)))
-  ((S (_ BitVec 16) (x #x0004 #x0001 (bvadd S S) (bvmul S S)))))
-(declare-var x (_ BitVec 16))
-(constraint (= (f x) (bvadd x (bvmul x #x0004))))
-(constraint (= (f x) (bvmul x (bvadd #x0004 #x0001))))
+(define-sort Word () (_ BitVec 16))
+(synth-fun product ((x Word)) Word
+  ((S Word))
+  ((S Word (x #x0003 (bvmul S S)))))
+(declare-var x Word)
+(constraint (= (product x) (bvadd (bvmul (bvand x #x00ff) #x0003) (bvmul (bvand x #xff00) #x0003))))
 (check-synth)
