@@ -1,11 +1,11 @@
 -- How the value of a sum changes.
-use Rattle.std.proofs.Common.{◌≡◌, ℕ, ◌+◌, ◌*◌, ◌^◌, ◌<◌, ◌%◌, List, [], ◌∷◌, ◌++◌, length, take, get_or, arith, refl, ap, sym, subst, ◌∙◌}
+use Rattle.std.proofs.Common.{◌≡◌, ℕ, ◌+◌, ◌*◌, ◌^◌, ◌<◌, ◌%◌, List, [], ◌∷◌, length, take, get_or, arith, refl, ap, sym, subst, ◌∙◌}
 use Rattle.std.specs.List.{insert, remove}
 use Rattle.std.proofs.lemmas.List.{get_or_read_under}
 use Rattle.std.proofs.lemmas.List.Sums.{sum_by-insert, sum_by-remove, sum_by_more}
 use Rattle.sy_bits_sums.specs.declared.monomial.Monomial.{Monomial}
 use Rattle.sy_bits_sums.specs.Polynomials.{product, monomial_value, total, Agree}
-use Rattle.sy_bits_sums.proofs.Agreeing.{agree-same, agree-trans, agree-reduced, agree-add, agree-mul}
+use Rattle.sy_bits_sums.proofs.Agreeing.{agree-same, agree-sym, agree-trans, agree-reduced, agree-add, agree-mul}
 
 pub has-factors : (ms : List Monomial) (place : ℕ) (m : Monomial) (fs gs : List ℕ) → m ≡ get_or ms place m → place < length ms → fs ≡ m.factors.items → fs ≡ gs → (d : Monomial) → (get_or ms place d).factors.items ≡ gs
 has-factors ms place m fs gs at h is same d =
@@ -110,3 +110,23 @@ two-sums w u x n0 n1 n2 a b m1 m2 k e f first second none one by =
     (agree-trans w (n1 + b * m2) ((n0 + a * m1) + b * m2) (a + b * k)
     (agree-add w n1 (n0 + a * m1) (b * m2) (b * m2) here (agree-same w (b * m2) (b * m2) refl))
     (agree-same w ((n0 + a * m1) + b * m2) (a + b * k) g))
+
+-- the next monomial stands on one of the sides
+pub more-sides : (w : ℕ) (values : ℕ → ℕ) (list : List Monomial) (i : ℕ) (x : Monomial) (left right after-left after-right plus minus p q : ℕ) → i < length list → x ≡ get_or list i x → Agree w left (total values (take i list) + right) → Agree w p (1 + q) → Agree w plus (monomial_value values x * p) → Agree w minus (monomial_value values x * q) → Agree w after-left (left + plus) → Agree w after-right (right + minus) → Agree w after-left (total values (take (i + 1) list) + after-right)
+more-sides w values list i x left right after-left after-right plus minus p q h at before signs on-left on-right to-left to-right =
+    let s : ℕ = total values (take i list) in
+    let y : ℕ = monomial_value values x in
+    let last : s + y ≡ total values (take (i + 1) list) = sym (sum_by_more (monomial_value values) list i x h ∙ ap (λ (z : Monomial). s + monomial_value values z) (sym at)) in
+    let e : (s + right) + y * (1 + q) ≡ (s + y) + (right + y * q) = omega arith in
+    let added : Agree w (left + plus) ((s + right) + y * (1 + q)) =
+    agree-add w left (s + right) plus (y * (1 + q)) before
+    (agree-trans w plus (y * p) (y * (1 + q)) on-left (agree-mul w y y p (1 + q) (agree-same w y y refl) signs)) in
+    let moved : Agree w (right + y * q) after-right =
+    agree-sym w after-right (right + y * q)
+    (agree-trans w after-right (right + minus) (right + y * q) to-right (agree-add w right right minus (y * q) (agree-same w right right refl) on-right)) in
+    agree-trans w after-left (left + plus) (total values (take (i + 1) list) + after-right) to-left
+    (agree-trans w (left + plus) ((s + right) + y * (1 + q)) (total values (take (i + 1) list) + after-right) added
+    (agree-trans w ((s + right) + y * (1 + q)) ((s + y) + (right + y * q)) (total values (take (i + 1) list) + after-right)
+    (agree-same w ((s + right) + y * (1 + q)) ((s + y) + (right + y * q)) e)
+    (agree-add w (s + y) (total values (take (i + 1) list)) (right + y * q) after-right
+    (agree-same w (s + y) (total values (take (i + 1) list)) last) moved)))

@@ -1,5 +1,5 @@
 -- Polynomials over numbered values, modulo powers of two.
-use Rattle.std.specs.Prelude.{ℕ, ◌*◌, ◌%◌, ◌^◌, ◌<◌, ◌≡◌, List, [], ◌∷◌}
+use Rattle.std.specs.Prelude.{ℕ, ◌*◌, ◌%◌, ◌^◌, ◌≡◌, List, [], ◌∷◌}
 use Rattle.std.specs.List.{sum_by}
 use Rattle.sy_bits_sums.specs.declared.monomial.Monomial.{Monomial}
 

@@ -3,7 +3,10 @@
 
 mod modular;
 mod monomial;
+mod sides;
 mod sum;
 
+pub use modular::greatest;
 pub use monomial::Monomial;
+pub use sides::Sides;
 pub use sum::Sum;

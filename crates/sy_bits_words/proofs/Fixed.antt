@@ -1,5 +1,5 @@
 -- The bits of words, one by one.
-use Rattle.std.proofs.Common.{◌≡◌, ℕ, Bool, true, false, cond, ◌+◌, ◌*◌, ◌%◌, ◌^◌, ◌≤◌, ◌<◌, List, [], ◌∷◌, ◌++◌, length, take, get_or, arith, refl, ap, sym, ◌∙◌, length-take}
+use Rattle.std.proofs.Common.{◌≡◌, ℕ, Bool, true, false, cond, ◌+◌, ◌*◌, ◌%◌, ◌^◌, ◌≤◌, ◌<◌, List, length, take, get_or, arith, ap, sym, ◌∙◌, length-take}
 use Rattle.std.proofs.Math.Nat.{pow-le-pow_right, mod-eq_of_lt, zero-mod}
 use Rattle.sy_gates.specs.declared.gate.Bit.{Bit}
 use Rattle.sy_gates.specs.declared.gate.Bit.TheVariants.{Fixed}

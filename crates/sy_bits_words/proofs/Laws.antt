@@ -55,7 +55,7 @@ constant-stands circuit list word sum n width bound number value = record {
   value = λ v values f m. agree-reduced (length word) (value_of values sum) (word_number v word) (number v ∙ ap (λ k. n % 2 ^ k) (sym width) ∙ ap (λ k. k % 2 ^ length word) (sym (value values)));
 }
 
-whole : (circuit : Plan) (list : List Known) (op : Op) (args : List Signal) (r : Sum) (w : ℕ) → w ≡ r.width → ((v : ℕ → Bool) → sort_of_value (op_value op (signal_values v args)) ≡ sorts.Bits w) → ((v : ℕ → Bool) (values : ℕ → ℕ) → Follows v circuit → AreNumbers v list values → op_value op (signal_values v args) ≡ Bits w (value_of values r % 2 ^ w)) → IsSumOf circuit list op args r
+pub whole : (circuit : Plan) (list : List Known) (op : Op) (args : List Signal) (r : Sum) (w : ℕ) → w ≡ r.width → ((v : ℕ → Bool) → sort_of_value (op_value op (signal_values v args)) ≡ sorts.Bits w) → ((v : ℕ → Bool) (values : ℕ → ℕ) → Follows v circuit → AreNumbers v list values → op_value op (signal_values v args) ≡ Bits w (value_of values r % 2 ^ w)) → IsSumOf circuit list op args r
 whole circuit list op args r w width sort value = record {
   sort = λ v. sort v ∙ ap sorts.Bits width;
   value = λ v values f n. value v values f n ∙ ap (λ k. Bits k (value_of values r % 2 ^ k)) width;

@@ -2,3 +2,5 @@ pub mod Fixed
 pub mod Numbers
 pub mod Tables
 pub mod Laws
+pub mod Equalities
+pub mod Joining

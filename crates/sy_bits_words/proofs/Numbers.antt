@@ -1,5 +1,5 @@
 -- The numbers of operators on words, as sums modulo powers of two.
-use Rattle.std.proofs.Common.{◌≡◌, ℕ, Bool, true, false, ◌+◌, ◌-◌, ◌*◌, ◌%◌, ◌^◌, ◌<◌, ◌≤◌, cond, arith, refl, ap, sym, ◌∙◌, zero, suc}
+use Rattle.std.proofs.Common.{◌≡◌, ℕ, Bool, true, false, ◌+◌, ◌-◌, ◌*◌, ◌%◌, ◌^◌, ◌<◌, cond, arith, refl, ap, sym, ◌∙◌, zero, suc}
 use Rattle.std.proofs.Math.Nat.{add-mod_right, add-mul-mod_self_right, mod-eq_of_lt, zero-mod}
 use Rattle.sy_bits_sums.specs.Polynomials.{Agree}
 use Rattle.sy_bits_sums.proofs.Agreeing.{agree-same, agree-sym, agree-trans, agree-add, agree-mul}

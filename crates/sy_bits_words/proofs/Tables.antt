@@ -1,19 +1,41 @@
 -- What is known of a table of words as it grows.
-use Rattle.std.proofs.Common.{◌≡◌, ℕ, Bool, ◌+◌, ◌%◌, ◌^◌, ◌≤◌, ◌<◌, List, [], ◌∷◌, ◌++◌, length, Option, Some, None, slice_get, arith, refl, ap, sym, subst, ◌∙◌, zero, suc, inl, inr, ◌⊎◌}
-use Rattle.std.proofs.lemmas.Option.{slice_get_within}
+use Rattle.std.proofs.Common.{◌≡◌, ℕ, Bool, ◌+◌, ◌≤◌, ◌<◌, List, [], ◌∷◌, ◌++◌, length, Option, Some, None, slice_get, get_or, bit_and, arith, refl, ap, sym, subst, ◌∙◌, zero, suc, inl, inr, ◌⊎◌}
+use Rattle.std.proofs.lemmas.Option.{slice_get_within, slice_get-get_or}
+use Rattle.std.proofs.lemmas.Nat.{and_le_l, and_comm, or_disjoint, and_or_self}
 use Rattle.sy_gates.specs.declared.gate.Bit.{Bit}
-use Rattle.sy_gates.specs.Circuits.{Plan, variables, Follows, Grown, word_number, word_bound}
+use Rattle.sy_gates.specs.Circuits.{Plan, variables, Grown, word_number, word_bound}
 use Rattle.sy_bits_sums.specs.declared.sum.Sum.{Sum}
 use Rattle.sy_bits_sums.specs.Polynomials.{total, Agree}
 use Rattle.sy_bits_sums.proofs.Agreeing.{agree-same, agree-sym, agree-trans}
 use Rattle.sy_bits_words.specs.declared.known.Known.{Known}
-use Rattle.sy_bits_words.specs.Standing.{AreNumbers, StandsFor, AllStand}
+use Rattle.sy_bits_words.specs.Standing.{place_number, AreNumbers, StandsFor, AllStand}
+
+-- a word that is both words of its place
+
+and-self : (n : ℕ) → bit_and n n ≡ n
+and-self n =
+    let none : bit_and 0 n ≡ 0 = omega (arith, and_le_l 0 n) in
+    let plain : 0 + n ≡ n = omega arith in
+    sym (ap (λ k. bit_and k n) (or_disjoint 0 n none ∙ plain)) ∙ and_or_self n 0
+
+pub place-alone : (v : ℕ → Bool) (known : Known) (word : List Bit) → known.word ≡ word → known.other ≡ word → place_number v known ≡ word_number v word
+place-alone v known word first second =
+    ap (λ xs. bit_and (word_number v xs) (word_number v known.other)) first
+    ∙ ap (λ xs. bit_and (word_number v word) (word_number v xs)) second ∙ and-self (word_number v word)
+
+pub place-pair : (v : ℕ → Bool) (known : Known) (a b : List Bit) → known.word ≡ a → known.other ≡ b → place_number v known ≡ bit_and (word_number v a) (word_number v b)
+place-pair v known a b first second =
+    ap (λ xs. bit_and (word_number v xs) (word_number v known.other)) first
+    ∙ ap (λ xs. bit_and (word_number v a) (word_number v xs)) second
+
+pub place-turned : (v : ℕ → Bool) (known : Known) (a b : List Bit) → known.word ≡ b → known.other ≡ a → place_number v known ≡ bit_and (word_number v a) (word_number v b)
+place-turned v known a b first second = place-pair v known b a first second ∙ and_comm (word_number v b) (word_number v a)
 
 -- there are such values
 
 abbrev number_at : (ℕ → Bool) → Option Known → ℕ
 number_at v None = 0
-number_at v (Some known) = word_number v known.word
+number_at v (Some known) = place_number v known
 
 abbrev pub numbers_of : (ℕ → Bool) → List Known → ℕ → ℕ
 numbers_of v list place = number_at v (slice_get list place)
@@ -79,13 +101,40 @@ all-grown old new list g all = record { each = λ place known e. stands-grown ol
 
 -- a new word, whose sum is a number or the word itself
 
-pub all-entered : (circuit : Plan) (list after : List Known) (word : List Bit) (last : Known) → after ≡ list ++ last ∷ [] → last.word ≡ word → length word ≡ last.sum.width → word_bound word ≤ variables circuit → ((v : ℕ → Bool) (values : ℕ → ℕ) → values (length list) ≡ word_number v word → Agree last.sum.width (total values last.sum.monomials.items) (word_number v word)) → AllStand circuit list → AllStand circuit after
-all-entered circuit list after word last is same width inside value all =
+pub all-entered : (circuit : Plan) (list after : List Known) (word : List Bit) (last : Known) → after ≡ list ++ last ∷ [] → last.word ≡ word → last.other ≡ word → length word ≡ last.sum.width → word_bound word ≤ variables circuit → ((v : ℕ → Bool) (values : ℕ → ℕ) → values (length list) ≡ word_number v word → Agree last.sum.width (total values last.sum.monomials.items) (word_number v word)) → AllStand circuit list → AllStand circuit after
+all-entered circuit list after word last is same also width inside value all =
     all-pushed circuit list after last is all (record {
       width = ap (λ xs. length xs) same ∙ width;
       inside = rw same inside;
       value = λ v values f n.
-          let here : values (length list) ≡ word_number v word = n.at (length list) last (ap (λ xs. slice_get xs (length list)) is ∙ last-at list last) ∙ ap (word_number v) same in
+          let here : values (length list) ≡ word_number v word = n.at (length list) last (ap (λ xs. slice_get xs (length list)) is ∙ last-at list last) ∙ place-alone v last word same also in
           let own : Agree (length word) (total values last.sum.monomials.items) (word_number v word) = rw width (value v values here) in
           rw same (agree-sym (length word) (total values last.sum.monomials.items) (word_number v word) own);
+    })
+
+-- what is known at a place of a table that has one word more
+
+get-front : (list : List Known) (last : Known) (i : ℕ) (d : Known) → i < length list → get_or (list ++ last ∷ []) i d ≡ get_or list i d
+get-front [] last i d h = absurd (omega arith)
+get-front (x ∷ list) last zero d h = refl
+get-front (x ∷ list) last (suc i) d h = get-front list last i d (omega arith)
+
+pub get-last : (list : List Known) (last d : Known) → get_or (list ++ last ∷ []) (length list) d ≡ last
+get-last [] last d = refl
+get-last (x ∷ list) last d = get-last list last d
+
+pub kept-pushed : (old list after : List Known) (last : Known) → after ≡ list ++ last ∷ [] → length old ≤ length list → ((i : ℕ) (d : Known) → i < length old → get_or list i d ≡ get_or old i d) → (i : ℕ) (d : Known) → i < length old → get_or after i d ≡ get_or old i d
+kept-pushed old list after last is longer kept i d h =
+    ap (λ xs. get_or xs i d) is ∙ get-front list last i d (omega (arith, h, longer)) ∙ kept i d h
+
+-- a word that stands for the value at its own place
+pub own-stands : (circuit : Plan) (list : List Known) (place : ℕ) (word : List Bit) (last : Known) → place < length list → ((d : Known) → (get_or list place d).word ≡ word) → ((d : Known) → (get_or list place d).other ≡ word) → last.word ≡ word → last.sum.width ≡ length word → word_bound word ≤ variables circuit → ((values : ℕ → ℕ) → Agree (length word) (total values last.sum.monomials.items) (values place)) → StandsFor circuit list last.word last.sum
+own-stands circuit list place word last h first second same width inside value =
+    rw same (record {
+      width = sym width;
+      inside = inside;
+      value = λ v values f n.
+          let here : values place ≡ word_number v word = n.at place (get_or list place last) (slice_get-get_or list place last h) ∙ place-alone v (get_or list place last) word (first last) (second last) in
+          agree-sym (length word) (total values last.sum.monomials.items) (word_number v word)
+          (agree-trans (length word) (total values last.sum.monomials.items) (values place) (word_number v word) (value values) (agree-same (length word) (values place) (word_number v word) here));
     })

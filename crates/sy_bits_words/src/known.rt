@@ -2,17 +2,20 @@
 ghost use Rattle.std.specs.Prelude.{◌≡◌, ◌≤◌, ℕ, Bool, cond, length, IsTrue, IfOk, IfSome};
 ghost use Rattle.sy_bits_sums.specs.Polynomials.{total, Agree};
 ghost use Rattle.sy_gates.specs.declared.gate.Bit.TheVariants as bits;
-ghost use Rattle.sy_gates.specs.Circuits.{word_number};
+ghost use Rattle.sy_gates.specs.Circuits.{word_number, word_bound};
+ghost use Rattle.sy_bits_words.specs.Standing.{turned_number};
 
 use std::alloc::Global;
 use sy_bits_sums::Sum;
-use sy_gates::Bit;
+use sy_gates::{Bit, inverted, joined};
 use sy_seq::{Seq, Want};
 
-/// A word, and the sum that it stands for.
+/// A word, and the sum that it stands for. The value of its place in a table is the number of the bits that are true in
+/// `other` too, which is the word itself where the place stands for it.
 #[derive(Drop)]
 pub struct Known {
     pub word: Seq<Bit>,
+    pub other: Seq<Bit>,
     pub sum: Sum,
 }
 
@@ -49,6 +52,41 @@ fn fixed_bit(bit: Bit) -> Option<bool>
     match bit {
         Bit::Fixed(value) => Some(value),
         Bit::Of(_) => None,
+    }
+}
+
+/// Whether all bits of a word are fixed.
+pub(crate) fn is_fixed(word: &[Bit]) -> bool {
+    for bit in word {
+        if fixed_bit(*bit).is_none() {
+            return false;
+        }
+    }
+    true
+}
+
+/// Whether the first bit of a word that isn't fixed is a negation.
+pub(crate) fn is_turned(word: &[Bit]) -> bool {
+    for bit in word {
+        if let Bit::Of(literal) = bit {
+            return !literal.positive;
+        }
+    }
+    false
+}
+
+/// The word, each bit turned where `turned`.
+pub(crate) fn turned_word(alloc: Global, word: &[Bit], turned: bool) -> Result<Seq<Bit>, Want>
+    ensures width { IfOk result (λ r. length r ≡ length word.now) }
+    ensures bound { IfOk result (λ r. word_bound r ≤ word_bound word.now) }
+    ensures value { IfOk result (λ r. (v : ℕ → Bool) → word_number v r ≡ turned_number (length word.now) turned (word_number v word.now)) }
+{
+    if turned {
+        let word = inverted(alloc, word)?;
+        Ok(word)
+    } else {
+        let word = joined(alloc, word, &[])?;
+        Ok(word)
     }
 }
 
@@ -102,6 +140,11 @@ pub(crate) fn word_key(word: &[Bit]) -> u64 {
         key = mixed(key, code);
     }
     key
+}
+
+/// A number by which the bits that are true in two words are looked up.
+pub(crate) fn pair_key(a: &[Bit], b: &[Bit]) -> u64 {
+    mixed(mixed(1, word_key(a)), word_key(b))
 }
 
 /// A number by which a sum is looked up; two sums may have one.

@@ -1,7 +1,9 @@
 // Words of a circuit whose sums are known, so that words with equal sums are one word.
 #![tactic(auto)]
 
+mod equality;
 mod known;
+mod meets;
 mod operations;
 mod sharing;
 mod words;

@@ -7,10 +7,11 @@ ghost use Rattle.sy_bits_operators.specs.Signals.{signals_bound, signal_bound};
 ghost use Rattle.sy_bits_words.specs.Standing.{AllStand, IsSumOf};
 
 use crate::known::fixed_number;
+use crate::meets::joined_sum;
 use crate::words::Words;
 use std::alloc::Global;
 use sy_bits_operators::Signal;
-use sy_bits_sums::Sum;
+use sy_bits_sums::{Sum, greatest};
 use sy_gates::Bit;
 use sy_seq::Want;
 use sy_terms::Op;
@@ -20,14 +21,6 @@ const MOST_MONOMIALS: usize = 64;
 
 /// How many factors a monomial has at most.
 const MOST_FACTORS: usize = 16;
-
-/// The greatest number of a width.
-fn greatest(width: u32) -> u64
-    requires { width ≤ 64 }
-    ensures { result ≡ 2 ^ width - 1 }
-{
-    ((1u128 << width) - 1) as u64
-}
 
 /// By what a number of a width is multiplied as it is moved up by a number of places.
 fn factor_of(width: u32, by: u64) -> u64
@@ -47,7 +40,7 @@ fn degree(sum: &Sum) -> usize {
 }
 
 /// Whether so few monomials with so few factors arise that the two are made one.
-fn are_few(op: &Op, a: &Sum, b: &Sum) -> bool {
+pub(crate) fn are_few(op: &Op, a: &Sum, b: &Sum) -> bool {
     let left = a.monomials.len();
     let right = b.monomials.len();
     let long = degree(a);
@@ -68,7 +61,15 @@ fn are_few(op: &Op, a: &Sum, b: &Sum) -> bool {
 fn makes_sum(op: &Op) -> bool {
     matches!(
         op,
-        Op::BvNeg | Op::BvNot | Op::BvAdd | Op::BvSub | Op::BvMul | Op::BvShl
+        Op::BvNeg
+            | Op::BvNot
+            | Op::BvAdd
+            | Op::BvSub
+            | Op::BvMul
+            | Op::BvShl
+            | Op::BvAnd
+            | Op::BvOr
+            | Op::BvXor
     )
 }
 
@@ -178,6 +179,7 @@ fn vectors_sum(
     }
     match op {
         Op::BvShl => Ok(moved_sum(words, alloc, s, t)?),
+        Op::BvAnd | Op::BvOr | Op::BvXor => Ok(joined_sum(words, alloc, op, s, t)?),
         _ => Ok(pair_sum(words, alloc, op, s, t)?),
     }
 }

@@ -10,6 +10,7 @@ ghost use Rattle.sy_bits_operators.specs.Signals.{signal_value, signal_values, s
 ghost use Rattle.sy_bits_operators.specs.Costs.{gates};
 ghost use Rattle.sy_bits_words.specs.Standing.{StandsFor, AllStand};
 
+use crate::equality::sides_of;
 use crate::operations::sum_of;
 use crate::words::Words;
 use std::alloc::Global;
@@ -32,9 +33,9 @@ fn note(words: &mut Words, alloc: Global, signal: &Signal, sum: Sum) -> Result<(
     }
 }
 
-/// The circuit of an operator on signals of sorts that it takes: its signal has the operator's value wherever
-/// the circuit's gates are followed. Where a word with the same sum is known, it is that word, and no gate is made.
-pub fn applied(
+/// The circuit of an operator on signals of sorts that it takes. Where a word with the same sum is known, its signal is
+/// that word, and no gate is made.
+fn summed(
     words: &mut Words,
     circuit: &mut Circuit,
     alloc: Global,
@@ -64,4 +65,39 @@ pub fn applied(
     let signal = made(circuit, alloc, op, args)?;
     note(words, alloc, &signal, sum)?;
     Ok(signal)
+}
+
+/// The circuit of an operator on signals of sorts that it takes: its signal has the operator's value wherever
+/// the circuit's gates are followed. Where a word with the same sum is known, it is that word, and no gate is made. Two
+/// words are equal where the sides of the normal form of their difference are, if these are known words.
+pub fn applied(
+    words: &mut Words,
+    circuit: &mut Circuit,
+    alloc: Global,
+    op: &Op,
+    args: &[Signal],
+) -> Result<Signal, Want>
+    requires ours { owned op.now ≡ true }
+    requires takes { Takes op.now (signal_sorts args.now) }
+    requires sorts { AllHaveSignals (signal_sorts args.now) }
+    requires inside { signals_bound args.now ≤ variables circuit.old }
+    requires stand { AllStand circuit.old words.old }
+    requires room { variables circuit.old + gates op.now (signal_sorts args.now) < 2 ^ 31 }
+    ensures stand { OnOk result (AllStand circuit.new words.new) }
+    ensures grown { Grown circuit.old circuit.new }
+    ensures cost { OnOk result (variables circuit.new ≤ variables circuit.old + gates op.now (signal_sorts args.now)) }
+    ensures inside { IfOk result (λ r. signal_bound r ≤ variables circuit.new) }
+    ensures sort { IfOk result (λ r. (v : ℕ → Bool) → signal_sort r ≡ sort_of_value (op_value op.now (signal_values v args.now))) }
+    ensures value { IfOk result (λ r. (v : ℕ → Bool) → Follows v circuit.new → signal_value v r ≡ op_value op.now (signal_values v args.now)) }
+{
+    match sides_of(words, alloc, op, args)? {
+        Some(sides) => {
+            let signal = made(circuit, alloc, op, sides.as_slice())?;
+            Ok(signal)
+        }
+        None => {
+            let signal = summed(words, circuit, alloc, op, args)?;
+            Ok(signal)
+        }
+    }
 }

@@ -1,10 +1,10 @@
 // The table of words whose sums are known.
-ghost use Rattle.std.specs.Prelude.{◌≡◌, ◌≤◌, ◌<◌, ◌^◌, ℕ, [], ◌++◌, ◌∷◌, length, get_or, IsTrue, IfOk, OnOk, IfSome};
-ghost use Rattle.sy_gates.specs.Circuits.{Plan, variables, word_bound};
+ghost use Rattle.std.specs.Prelude.{◌≡◌, ◌≤◌, ◌<◌, ◌^◌, ℕ, Bool, bit_and, [], ◌++◌, ◌∷◌, length, get_or, IsTrue, IfOk, OnOk, IfSome};
+ghost use Rattle.sy_gates.specs.Circuits.{Plan, variables, word_bound, word_number};
 ghost use Rattle.sy_bits_sums.specs.Polynomials.{total};
-ghost use Rattle.sy_bits_words.specs.Standing.{StandsFor, AllStand};
+ghost use Rattle.sy_bits_words.specs.Standing.{StandsFor, AllStand, place_number};
 
-use crate::known::{Known, own_sum, same_word, sum_key, word_key};
+use crate::known::{Known, is_fixed, own_sum, pair_key, same_word, sum_key, word_key};
 use std::alloc::Global;
 use std::collections::HashMap;
 use std::marker::Model;
@@ -15,11 +15,13 @@ use sy_seq::{Seq, Want};
 /// How many words are kept.
 const MOST_WORDS: usize = 1 << 20;
 
-/// Words of a circuit and the sums that they stand for. A value of these sums is the number of the word at its place.
+/// Words of a circuit and the sums that they stand for. A value of these sums is the number at its place: that of a word,
+/// or of the bits that are true in two words.
 #[derive(Drop)]
 pub struct Words {
     known: Vec<Known>,
     by_word: HashMap<u64, u32>,
+    by_pair: HashMap<u64, u32>,
     by_sum: HashMap<u64, u32>,
 }
 
@@ -33,9 +35,9 @@ impl Model for Words {
 }
 
 impl Words {
-    ghost use Rattle.sy_gates.specs.Circuits.{Plan, variables, word_bound};
+    ghost use Rattle.sy_gates.specs.Circuits.{Plan, variables, word_bound, word_number};
     ghost use Rattle.sy_bits_words.specs.declared.known.Known.{Known};
-    ghost use Rattle.sy_bits_words.specs.Standing.{StandsFor, AllStand};
+    ghost use Rattle.sy_bits_words.specs.Standing.{StandsFor, AllStand, place_number};
 
     /// The table of no words. It takes no memory.
     pub fn new(alloc: Global) -> Words
@@ -45,6 +47,7 @@ impl Words {
         Words {
             known: Vec::new(alloc),
             by_word: HashMap::new(alloc),
+            by_pair: HashMap::new(alloc),
             by_sum: HashMap::new(alloc),
         }
     }
@@ -57,16 +60,17 @@ impl Words {
         &self.known[place]
     }
 
-    /// Whether the word stands at the place.
-    fn has_word(&self, place: usize, word: &[Bit]) -> bool
+    /// Whether the two words stand at the place.
+    fn has_pair(&self, place: usize, word: &[Bit], other: &[Bit]) -> bool
         ensures within { IsTrue result → place < length self.now }
-        ensures same { IsTrue result → (d : Known) → (get_or self.now place d).word ≡ word.now }
+        ensures word { IsTrue result → (d : Known) → (get_or self.now place d).word ≡ word.now }
+        ensures other { IsTrue result → (d : Known) → (get_or self.now place d).other ≡ other.now }
     {
         if place >= self.known.len() {
             return false;
         }
         let known = &self.known[place];
-        same_word(known.word.as_slice(), word)
+        same_word(known.word.as_slice(), word) && same_word(known.other.as_slice(), other)
     }
 
     /// Whether the word at the place has this sum.
@@ -85,10 +89,25 @@ impl Words {
     /// The place of a word; `None` where it isn't found.
     fn place_of(&self, word: &[Bit]) -> Option<usize>
         ensures within { IfSome result (λ place. place < length self.now) }
-        ensures same { IfSome result (λ place. (d : Known) → (get_or self.now place d).word ≡ word.now) }
+        ensures word { IfSome result (λ place. (d : Known) → (get_or self.now place d).word ≡ word.now) }
+        ensures other { IfSome result (λ place. (d : Known) → (get_or self.now place d).other ≡ word.now) }
     {
         let place = *self.by_word.get(&word_key(word))? as usize;
-        if self.has_word(place, word) {
+        if self.has_pair(place, word, word) {
+            Some(place)
+        } else {
+            None
+        }
+    }
+
+    /// The place of two words; `None` where it isn't found.
+    fn place_of_pair(&self, word: &[Bit], other: &[Bit]) -> Option<u32>
+        ensures within { IfSome result (λ place. place < length self.now) }
+        ensures word { IfSome result (λ place. (d : Known) → (get_or self.now place d).word ≡ word.now) }
+        ensures other { IfSome result (λ place. (d : Known) → (get_or self.now place d).other ≡ other.now) }
+    {
+        let place = *self.by_pair.get(&pair_key(word, other))?;
+        if self.has_pair(place as usize, word, other) {
             Some(place)
         } else {
             None
@@ -127,6 +146,18 @@ impl Words {
         Ok(())
     }
 
+    /// Puts two words last.
+    fn push_pair(&mut self, known: Known) -> Result<(), Want>
+        requires { length self.old < 2 ^ 32 }
+        ensures { OnOk result (self.new ≡ self.old ++ known ∷ []) }
+    {
+        let place = self.known.len() as u32;
+        let pair = pair_key(known.word.as_slice(), known.other.as_slice());
+        self.by_pair.insert(pair, place)?;
+        self.known.push(known)?;
+        Ok(())
+    }
+
     /// The place of a word of at most 64 bits, which gets one where it has none: its sum is its number where its bits are
     /// fixed, and else the word itself. `None` where the table is full.
     pub(crate) fn enter(&mut self, alloc: Global, word: &[Bit]) -> Result<Option<usize>, Want>
@@ -136,6 +167,7 @@ impl Words {
         ensures kept { OnOk result ((i : ℕ) (d : Known) → i < length self.old → get_or self.new i d ≡ get_or self.old i d) }
         ensures within { IfOk result (λ found. IfSome found (λ place. place < length self.new)) }
         ensures same { IfOk result (λ found. IfSome found (λ place. (d : Known) → (get_or self.new place d).word ≡ word.now)) }
+        ensures other { IfOk result (λ found. IfSome found (λ place. (d : Known) → (get_or self.new place d).other ≡ word.now)) }
     {
         if let Some(place) = self.place_of(word) {
             return Ok(Some(place));
@@ -145,9 +177,71 @@ impl Words {
             return Ok(None);
         }
         let sum = own_sum(alloc, word, place as u32)?;
+        let other = joined(alloc, word, &[])?;
         let word = joined(alloc, word, &[])?;
-        self.push(Known { word, sum })?;
+        self.push(Known { word, other, sum })?;
         Ok(Some(place))
+    }
+
+    /// The place of two words, the first of at most 64 bits, which get one where they have none. `None` where the table is
+    /// full.
+    fn enter_pair(
+        &mut self,
+        alloc: Global,
+        word: &[Bit],
+        other: &[Bit],
+    ) -> Result<Option<u32>, Want>
+        requires { length word.now ≤ 64 }
+        ensures stand { OnOk result ((circuit : Plan) → word_bound word.now ≤ variables circuit → AllStand circuit self.old → AllStand circuit self.new) }
+        ensures longer { OnOk result (length self.old ≤ length self.new) }
+        ensures kept { OnOk result ((i : ℕ) (d : Known) → i < length self.old → get_or self.new i d ≡ get_or self.old i d) }
+        ensures within { IfOk result (λ found. IfSome found (λ place. place < length self.new)) }
+        ensures word { IfOk result (λ found. IfSome found (λ place. (d : Known) → (get_or self.new place d).word ≡ word.now)) }
+        ensures other { IfOk result (λ found. IfSome found (λ place. (d : Known) → (get_or self.new place d).other ≡ other.now)) }
+    {
+        if let Some(place) = self.place_of_pair(word, other) {
+            return Ok(Some(place));
+        }
+        let Some(own) = self.enter(alloc, word)? else {
+            return Ok(None);
+        };
+        let place = self.known.len();
+        if place >= MOST_WORDS {
+            return Ok(None);
+        }
+        let sum = Sum::value(alloc, word.len() as u32, own as u32)?;
+        let other = joined(alloc, other, &[])?;
+        let word = joined(alloc, word, &[])?;
+        self.push_pair(Known { word, other, sum })?;
+        Ok(Some(place as u32))
+    }
+
+    /// The place whose value is the number of the bits that are true in both of two words of at most 64 bits. `None` where
+    /// the table is full.
+    pub(crate) fn enter_both(
+        &mut self,
+        alloc: Global,
+        a: &[Bit],
+        b: &[Bit],
+    ) -> Result<Option<u32>, Want>
+        requires first { length a.now ≤ 64 }
+        requires second { length b.now ≤ 64 }
+        ensures stand { OnOk result ((circuit : Plan) → word_bound a.now ≤ variables circuit → word_bound b.now ≤ variables circuit → AllStand circuit self.old → AllStand circuit self.new) }
+        ensures longer { OnOk result (length self.old ≤ length self.new) }
+        ensures kept { OnOk result ((i : ℕ) (d : Known) → i < length self.old → get_or self.new i d ≡ get_or self.old i d) }
+        ensures within { IfOk result (λ found. IfSome found (λ place. place < length self.new)) }
+        ensures number { IfOk result (λ found. IfSome found (λ place. (d : Known) (v : ℕ → Bool) → place_number v (get_or self.new place d) ≡ bit_and (word_number v a.now) (word_number v b.now))) }
+    {
+        if word_key(a) <= word_key(b) {
+            let Some(place) = self.enter_pair(alloc, a, b)? else {
+                return Ok(None);
+            };
+            return Ok(Some(place));
+        }
+        let Some(turned) = self.enter_pair(alloc, b, a)? else {
+            return Ok(None);
+        };
+        Ok(Some(turned))
     }
 
     /// The word of a sum, in memory of its own: a constant's, or one of the table; `None` where neither is.
@@ -166,15 +260,17 @@ impl Words {
         Ok(None)
     }
 
-    /// Notes that a word stands for a sum. Where the table is full, nothing is noted.
+    /// Notes that a word stands for a sum. A word whose bits are all fixed isn't noted, since it stands for its number; nor
+    /// is any where the table is full.
     pub(crate) fn note(&mut self, alloc: Global, word: &[Bit], sum: Sum) -> Result<(), Want>
         ensures { OnOk result ((circuit : Plan) → StandsFor circuit self.old word.now sum → AllStand circuit self.old → AllStand circuit self.new) }
     {
-        if self.known.len() >= MOST_WORDS {
+        if self.known.len() >= MOST_WORDS || is_fixed(word) {
             return Ok(());
         }
+        let other = joined(alloc, word, &[])?;
         let word = joined(alloc, word, &[])?;
-        self.push(Known { word, sum })?;
+        self.push(Known { word, other, sum })?;
         Ok(())
     }
 }

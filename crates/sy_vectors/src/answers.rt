@@ -1,5 +1,5 @@
 // What the solver answers to small queries.
-use crate::queries::query;
+use crate::queries::{query, query_of_width};
 use std::alloc::Global;
 use std::test::Fail;
 use sy_bits::{BvDecide, BvProof, BvSpent, fits};
@@ -92,7 +92,7 @@ fn has_answer(
 fn answers_small_queries(rt: HostRuntime) -> Result<(), Fail> {
     let alloc = rt.alloc();
     // the variables' sorts, the body, how many clauses may be learned, and the answer
-    let cases: [(&str, &str, u32, Answer); 49] = [
+    let cases: [(&str, &str, u32, Answer); 50] = [
         // what isn't a query
         ("4", "A", 9, Answer::Unfit),
         ("0", "T", 9, Answer::Unfit),
@@ -153,6 +153,13 @@ fn answers_small_queries(rt: HostRuntime) -> Result<(), Fail> {
         ("44", "ABtBAs^!", 99, Answer::Never),
         ("44", "ABGABs^!", 99, Answer::Never),
         ("44", "ABpBAp#", 99, Answer::Never),
+        // the greatest of three numbers by a tree of comparisons
+        (
+            "@@@",
+            "ABAuCAuAC?CBuBC??uBBAuCAuAC?CBuBC??u&CBAuCAuAC?CBuBC??u&BAuCAuAC?CBuBC??A=BAuCAuAC?CBuBC??B=|BAuCAuAC?CBuBC??C=|&!",
+            99,
+            Answer::Never,
+        ),
     ];
     for (sorts, body, clauses, answer) in cases {
         let query = query(alloc, sorts, body)?;
@@ -162,6 +169,79 @@ fn answers_small_queries(rt: HostRuntime) -> Result<(), Fail> {
             sorts,
             body
         );
+    }
+    Ok(())
+}
+
+#[test]
+fn refutes_by_sums_and_equal_gates(rt: HostRuntime) -> Result<(), Fail> {
+    let alloc = rt.alloc();
+    // the variables' sorts and the body, which nothing satisfies: no clause is learned beside the empty one
+    let cases: [(&str, &str); 21] = [
+        // what equal words have in common is gone, and so is the sign
+        ("444", "AB+AC+=BC=^"),
+        ("44", "AB-0=AB=^"),
+        ("44", "AnBn=AB=^"),
+        ("44", "AB+A9+#B9#^"),
+        ("4", "A1+A="),
+        // sums by bits
+        ("44", "ABxABw1l+AB+#"),
+        ("44", "ABoABw+AB+#"),
+        ("44", "ABxA~Bw1l-AB-#"),
+        ("44", "AB~wB+ABo#"),
+        ("44", "ABoABw-ABx#"),
+        ("44", "A~B~wABo~#"),
+        // the same gates
+        ("4", "AAwA#"),
+        ("4", "AAx0#"),
+        ("4", "AA~w0#"),
+        ("44", "ABwBAw#"),
+        ("44", "AB<BA>^"),
+        ("44", "ABuBA<!^"),
+        ("b44", "ABB?B#"),
+        ("4", "A8%A7w#"),
+        ("4", "A4/A2g#"),
+        ("4", "A2g2lAA3w-#"),
+    ];
+    for (sorts, body) in cases {
+        let query = query(alloc, sorts, body)?;
+        assert!(rt;
+            has_answer(alloc, &query, 1, Answer::Never)?,
+            "{} {}",
+            sorts,
+            body
+        );
+    }
+    Ok(())
+}
+
+/// Whether nothing satisfies the query, by no learned clause beside the empty one and so many variables at most.
+fn is_plain(alloc: Global, query: &Query<BvTheory>, variables: u32) -> Result<bool, Want> {
+    if !fits(alloc, query)? {
+        return Ok(false);
+    }
+    let verdict = BvDecide::new().decide(alloc, query, &limits(1))?;
+    match &verdict {
+        Verdict::Never(proof) => {
+            Ok(proof.cnf.vars <= variables && check(alloc, &proof.cnf, &proof.log)?)
+        }
+        Verdict::Model(_) | Verdict::Spent(_) => Ok(false),
+    }
+}
+
+#[test]
+fn equal_terms_of_every_width(rt: HostRuntime) -> Result<(), Fail> {
+    let alloc = rt.alloc();
+    // a product, quotients, and shifts, each against itself
+    let bodies = [
+        "AB*AB*#", "AB/AB/#", "AB%AB%#", "ABlABl#", "ABgABg#", "ABaABa#",
+    ];
+    for width in 1..65 {
+        for i in 0..6 {
+            let body = bodies[i];
+            let query = query_of_width(alloc, width, body)?;
+            assert!(rt; is_plain(alloc, &query, 17_000)?, "{} {}", width, body);
+        }
     }
     Ok(())
 }

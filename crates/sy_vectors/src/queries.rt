@@ -112,17 +112,31 @@ fn term(alloc: Global, sign: u8, stack: &mut Vec<Term<BvTheory>>) -> Result<Term
     }
 }
 
+/// The term of this text.
+fn term_of(alloc: Global, body: &str) -> Result<Term<BvTheory>, Want> {
+    let mut stack = Vec::new(alloc);
+    for sign in body.as_bytes() {
+        let term = term(alloc, *sign, &mut stack)?;
+        stack.push(term)?;
+    }
+    Ok(stack.pop().unwrap_or(Term::Var(0)))
+}
+
 /// The query of these variables' sorts and this body.
 pub fn query(alloc: Global, sorts: &str, body: &str) -> Result<Query<BvTheory>, Want> {
     let mut vars = Seq::new(alloc);
     for sign in sorts.as_bytes() {
         vars.push(sort_of(*sign))?;
     }
-    let mut stack = Vec::new(alloc);
-    for sign in body.as_bytes() {
-        let term = term(alloc, *sign, &mut stack)?;
-        stack.push(term)?;
-    }
-    let body = stack.pop().unwrap_or(Term::Var(0));
+    let body = term_of(alloc, body)?;
+    Ok(Query { vars, body })
+}
+
+/// The query of two vectors of a width and this body.
+pub fn query_of_width(alloc: Global, width: u8, body: &str) -> Result<Query<BvTheory>, Want> {
+    let mut vars = Seq::new(alloc);
+    vars.push(Sort::Bits(width))?;
+    vars.push(Sort::Bits(width))?;
+    let body = term_of(alloc, body)?;
     Ok(Query { vars, body })
 }

@@ -1,4 +1,4 @@
-use Rattle.std.proofs.Common.{arith, ap, refl, ◌+◌, ◌*◌, ◌∙◌}
+use Rattle.std.proofs.Common.{arith, ap, refl, ◌∙◌}
 use Rattle.sy_bits_sums.specs.declared.monomial.Monomial.{Monomial}
 use Rattle.sy_bits_sums.specs.Polynomials.{product}
 use Rattle.sy_bits_sums.proofs.Agreeing.{agree-same}

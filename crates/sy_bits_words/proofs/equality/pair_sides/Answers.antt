@@ -1,0 +1,12 @@
+use Rattle.sy_bits_words.proofs.Equalities.{equal-sort, distinct-sort}
+use Rattle.sy_bits_words.proofs.equality.pair_sides.Goals as goal
+
+pub returns-in-Equal-clause-value : goal.returns-in-Equal-clause-value
+returns-in-Equal-clause-value c = λ circuit all.
+    let e = (rw c.in-Some.is at c.in_ok-sides.ensures.equal) circuit all in
+    rw c.in-Equal.is (record { alike = e.alike; inside = e.inside; sort = λ v. equal-sort _ _; value = e.equal })
+
+pub returns-in-Distinct-clause-value : goal.returns-in-Distinct-clause-value
+returns-in-Distinct-clause-value c = λ circuit all.
+    let e = (rw c.in-Some.is at c.in_ok-sides.ensures.equal) circuit all in
+    rw c.in-Distinct.is (record { alike = e.alike; inside = e.inside; sort = λ v. distinct-sort _ _; value = e.distinct })
