@@ -1,5 +1,5 @@
 ; The greatest of three numbers, at width 32.
-; leaves: 3
+; leaves: 4
 (set-logic BV)
 (synth-fun f ((x1 (_ BitVec 32)) (x2 (_ BitVec 32)) (x3 (_ BitVec 32))) (_ BitVec 32)
   ((S (_ BitVec 32)) (B Bool))

@@ -1,5 +1,5 @@
 ; The greatest of three numbers, over integers.
-; leaves: 3
+; leaves: 4
 (set-logic LIA)
 (synth-fun f ((x1 Int) (x2 Int) (x3 Int)) Int)
 (declare-var x1 Int)

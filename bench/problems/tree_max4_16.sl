@@ -1,5 +1,5 @@
 ; The greatest of four numbers, at width 16.
-; leaves: 4
+; leaves: 8
 (set-logic BV)
 (synth-fun f ((x1 (_ BitVec 16)) (x2 (_ BitVec 16)) (x3 (_ BitVec 16)) (x4 (_ BitVec 16))) (_ BitVec 16)
   ((S (_ BitVec 16)) (B Bool))

@@ -1,5 +1,5 @@
 ; The greatest of four numbers, at width 32.
-; leaves: 4
+; leaves: 8
 (set-logic BV)
 (synth-fun f ((x1 (_ BitVec 32)) (x2 (_ BitVec 32)) (x3 (_ BitVec 32)) (x4 (_ BitVec 32))) (_ BitVec 32)
   ((S (_ BitVec 32)) (B Bool))

@@ -1,5 +1,5 @@
 ; The greatest of four numbers, over integers.
-; leaves: 4
+; leaves: 8
 (set-logic LIA)
 (synth-fun f ((x1 Int) (x2 Int) (x3 Int) (x4 Int)) Int)
 (declare-var x1 Int)

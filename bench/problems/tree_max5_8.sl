@@ -1,5 +1,5 @@
 ; The greatest of five numbers, at width 8.
-; leaves: 5
+; leaves: 16
 (set-logic BV)
 (synth-fun f ((x1 (_ BitVec 8)) (x2 (_ BitVec 8)) (x3 (_ BitVec 8)) (x4 (_ BitVec 8)) (x5 (_ BitVec 8))) (_ BitVec 8)
   ((S (_ BitVec 8)) (B Bool))

@@ -1,5 +1,5 @@
 ; The greatest of five numbers, over integers.
-; leaves: 5
+; leaves: 16
 (set-logic LIA)
 (synth-fun f ((x1 Int) (x2 Int) (x3 Int) (x4 Int) (x5 Int)) Int)
 (declare-var x1 Int)

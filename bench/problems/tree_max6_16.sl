@@ -1,5 +1,5 @@
 ; The greatest of six numbers, at width 16.
-; leaves: 6
+; leaves: 32
 (set-logic BV)
 (synth-fun f ((x1 (_ BitVec 16)) (x2 (_ BitVec 16)) (x3 (_ BitVec 16)) (x4 (_ BitVec 16)) (x5 (_ BitVec 16)) (x6 (_ BitVec 16))) (_ BitVec 16)
   ((S (_ BitVec 16)) (B Bool))

@@ -1,5 +1,5 @@
 ; The greatest of six numbers, at width 32.
-; leaves: 6
+; leaves: 32
 (set-logic BV)
 (synth-fun f ((x1 (_ BitVec 32)) (x2 (_ BitVec 32)) (x3 (_ BitVec 32)) (x4 (_ BitVec 32)) (x5 (_ BitVec 32)) (x6 (_ BitVec 32))) (_ BitVec 32)
   ((S (_ BitVec 32)) (B Bool))

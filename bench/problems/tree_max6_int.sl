@@ -1,5 +1,5 @@
 ; The greatest of six numbers, over integers.
-; leaves: 6
+; leaves: 32
 (set-logic LIA)
 (synth-fun f ((x1 Int) (x2 Int) (x3 Int) (x4 Int) (x5 Int) (x6 Int)) Int)
 (declare-var x1 Int)

@@ -1,5 +1,5 @@
 ; The middle one of three numbers, at width 16.
-; leaves: 4
+; leaves: 6
 (set-logic BV)
 (synth-fun f ((x (_ BitVec 16)) (y (_ BitVec 16)) (z (_ BitVec 16))) (_ BitVec 16)
   ((S (_ BitVec 16)) (B Bool))

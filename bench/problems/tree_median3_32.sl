@@ -1,5 +1,5 @@
 ; The middle one of three numbers, at width 32.
-; leaves: 4
+; leaves: 6
 (set-logic BV)
 (synth-fun f ((x (_ BitVec 32)) (y (_ BitVec 32)) (z (_ BitVec 32))) (_ BitVec 32)
   ((S (_ BitVec 32)) (B Bool))

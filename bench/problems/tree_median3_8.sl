@@ -1,5 +1,5 @@
 ; The middle one of three numbers, at width 8.
-; leaves: 4
+; leaves: 6
 (set-logic BV)
 (synth-fun f ((x (_ BitVec 8)) (y (_ BitVec 8)) (z (_ BitVec 8))) (_ BitVec 8)
   ((S (_ BitVec 8)) (B Bool))

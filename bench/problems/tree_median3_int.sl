@@ -1,5 +1,5 @@
 ; The middle one of three numbers, over integers.
-; leaves: 4
+; leaves: 6
 (set-logic LIA)
 (synth-fun f ((x Int) (y Int) (z Int)) Int)
 (declare-var x Int)

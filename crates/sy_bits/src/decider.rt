@@ -9,9 +9,10 @@ ghost use Rattle.sy_bits.specs.Proofs as proofs;
 ghost use Rattle.sy_bits.specs.Soundness.{sound};
 
 use crate::answers::{BvProof, BvSpent};
-use crate::room::is_countable;
+use crate::clauses::circuit_of;
+use crate::room::countable_size;
 use std::alloc::{AllocError, Global};
-use sy_bits_circuit::{Circuit, blast};
+use sy_bits_circuit::Circuit;
 use sy_cdcl::{Solved, solve};
 use sy_meaning_words::BvTheory;
 use sy_query_base::Query;
@@ -24,8 +25,8 @@ use sy_terms::Want;
 const MOST_LEARNED: u32 = 2_147_483_647;
 
 /// A solver of queries over bit vectors. It tries a few dozen assignments at which queries are often true; then it makes
-/// the circuit clauses of the query, and searches a model or a refutation of them that learns at most as many clauses as
-/// the limit `clauses`.
+/// the circuit clauses of the query, or of one that the same values satisfy and that is easier to search, and searches a
+/// model or a refutation of them that learns at most as many clauses as the limit `clauses`.
 ///
 /// A query whose variables and clauses may be 2^31 or more is answered as want of memory, and so is a search that
 /// learns 2^31 - 1 clauses below its limit.
@@ -56,13 +57,13 @@ impl Decide<BvTheory> for BvDecide {
         query: &Query<BvTheory>,
         limits: &Limits,
     ) -> Result<Verdict<BvTheory, BvProof, BvSpent>, Want> {
-        if !is_countable(alloc, query)? {
+        let Some(size) = countable_size(alloc, query)? else {
             return Err(AllocError);
-        }
+        };
         if let Some(values) = corner_model(alloc, query)? {
             return Ok(Verdict::Model(values));
         }
-        let circuit = blast(alloc, query)?;
+        let circuit = circuit_of(alloc, query, size)?;
         let fuel = limits.clauses.min(MOST_LEARNED);
         let solved = solve(alloc, circuit.cnf(), fuel)?;
         let verdict = answer(alloc, query, limits, circuit, solved)?;

@@ -2,6 +2,7 @@
 #![tactic(auto)]
 
 mod answers;
+mod clauses;
 mod decider;
 mod fitting;
 mod room;

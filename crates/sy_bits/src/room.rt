@@ -1,5 +1,5 @@
-// Whether the clauses of a query can be counted.
-ghost use Rattle.std.specs.Prelude.{◌≡◌, ◌+◌, ◌*◌, ◌<◌, ◌^◌, ◌↔◌, IfOk, IsTrue, MatchOption};
+// How large a query is whose clauses can be counted.
+ghost use Rattle.std.specs.Prelude.{◌≡◌, ◌+◌, ◌*◌, ◌≤◌, ◌<◌, ◌^◌, IfOk, MatchOption};
 ghost use Rattle.sy_query_base.specs.Asked.{query_of, Fits};
 ghost use Rattle.sy_meaning_words.specs.Vectors.{vector, owned, is_bits};
 ghost use Rattle.sy_bits_operators.specs.Signals as signals;
@@ -39,17 +39,19 @@ fn room_after(sorts: &[Sort], room: u32) -> Option<u32>
     Some(left)
 }
 
-/// Whether the variables and the clauses of the query's circuit are sure to be fewer than 2^31 each.
-pub(crate) fn is_countable(alloc: Global, query: &Query<BvTheory>) -> Result<bool, Want>
+/// The query's size, where the variables and the clauses of its circuit are sure to be fewer than 2^31 each.
+pub(crate) fn countable_size(alloc: Global, query: &Query<BvTheory>) -> Result<Option<u32>, Want>
     requires { Fits owned is_bits (query_of vector query.now) }
-    ensures { IfOk result (λ yes. IsTrue yes ↔ (1000 * query_size (query_of vector query.now) < 2 ^ 31)) }
+    ensures { IfOk result (λ found. MatchOption found
+        (2 ^ 31 ≤ 1000 * query_size (query_of vector query.now))
+        (λ size. (size ≡ query_size (query_of vector query.now)) × (1000 * query_size (query_of vector query.now) < 2 ^ 31))) }
 {
     let Some(room) = room_after(query.vars.as_slice(), LARGEST) else {
-        return Ok(false);
+        return Ok(None);
     };
     match weigh(alloc, query, room) {
-        Ok(_) => Ok(true),
-        Err(Built::Heavy) => Ok(false),
+        Ok(weight) => Ok(Some(weight + (LARGEST - room))),
+        Err(Built::Heavy) => Ok(None),
         Err(Built::Want) => Err(AllocError),
     }
 }

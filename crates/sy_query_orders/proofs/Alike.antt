@@ -24,7 +24,8 @@ unfolding meaning
 bound_alike bound others inner other are is defined wanted values =
     ap (λ (found : List Val). meaning defined wanted (values ++ found) inner) (are defined wanted values) ∙ is defined wanted (values ++ meanings defined wanted values others)
 
-meanings_last : {T N : Type 0} (number : N → Val) (defined wanted : List Function) (values : List Val) (terms : List (Term T N)) (last : Term T N) →
+-- what a list means with one term more
+pub meanings_last : {T N : Type 0} (number : N → Val) (defined wanted : List Function) (values : List Val) (terms : List (Term T N)) (last : Term T N) →
     meanings defined wanted values (exprs_of number (terms ++ last ∷ [])) ≡ meanings defined wanted values (exprs_of number terms) ++ meaning defined wanted values (expr_of number last) ∷ []
 unfolding meanings
 meanings_last number defined wanted values [] last = refl

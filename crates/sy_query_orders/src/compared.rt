@@ -63,11 +63,12 @@ pub(crate) fn applied<T: Theory>(
     Ok(Term::App(operator, arguments))
 }
 
-/// Whether the operator compares two vectors.
+/// Whether the operator compares its two arguments.
 fn compares(operator: Op) -> bool {
     matches!(
         operator,
         Op::Equal
+            | Op::Distinct
             | Op::BvUlt
             | Op::BvUle
             | Op::BvUgt

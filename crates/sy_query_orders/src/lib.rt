@@ -4,8 +4,10 @@
 mod apart;
 mod compared;
 mod facts;
+mod names;
 mod query;
 mod terms;
 mod triples;
+mod written;
 
 pub use query::ordered;

@@ -1,30 +1,45 @@
 // Queries that are satisfied by the same values.
-ghost use Rattle.std.specs.Prelude.{◌≡◌, ◌↔◌, List, IfOk};
+ghost use Rattle.std.specs.Prelude.{◌≡◌, ◌↔◌, List, length, IfOk};
 ghost use Rattle.sy_terms.specs.Values.{Val};
+ghost use Rattle.sy_terms.specs.Denoted.{expr_of};
 ghost use Rattle.sy_query_base.specs.Asked.{query_of, Satisfies};
+ghost use Rattle.sy_query_orders.specs.Replaced.{SaysTheSameAt};
 
 use crate::apart::apart;
 use crate::facts::with_facts;
+use crate::names::{counted, variables};
 use crate::triples::triples;
+use crate::written::written;
 use std::alloc::Global;
 use sy_query_base::Query;
-use sy_terms::{Seq, Sort, Theory, Want};
+use sy_terms::{Seq, Sort, Term, Theory, Want};
 
-/// A query that the same values satisfy. Where it compares a choice, it chooses between comparisons; and where vectors
-/// are compared with each other, it says that their order is transitive.
+/// A query that the same values satisfy. What a `let` gives a name to is written in the name's place where it is a
+/// constant or a variable. Where a small term is compared with a choice, there is a choice between comparisons; and where
+/// variables are compared with each other as unsigned numbers, it says that their order is transitive.
 pub fn ordered<T: Theory>(alloc: Global, query: &Query<T>) -> Result<Query<T>, Want>
     ensures variables { IfOk result (λ found. found.vars ≡ query.now.vars) }
     ensures same { IfOk result (λ found. (values : List Val) → Satisfies (query_of T.denotes found) values ↔ Satisfies (query_of T.denotes query.now) values) }
 {
     let vars = copied(alloc, query.vars.as_slice())?;
-    let body = apart(alloc, &query.body)?;
-    let count = u32::try_from(vars.len()).unwrap_or(0);
+    let body = ordered_body(alloc, vars.len(), &query.body)?;
+    Ok(Query { vars, body })
+}
+
+/// The same of a body over so many variables.
+fn ordered_body<T: Theory>(alloc: Global, many: usize, body: &Term<T>) -> Result<Term<T>, Want>
+    ensures { IfOk result (λ found. SaysTheSameAt many (expr_of T.denotes found) (expr_of T.denotes body.now)) }
+{
+    let count = counted(0, many)?;
+    let mut names = variables(alloc, 0, count)?;
+    let body = written(alloc, count, &mut names, body)?;
+    let body = apart(alloc, &body)?;
     let triples = triples(alloc, count, &body)?;
     if triples.is_empty() {
-        return Ok(Query { vars, body });
+        return Ok(body);
     }
     let body = with_facts(alloc, body, triples.as_slice())?;
-    Ok(Query { vars, body })
+    Ok(body)
 }
 
 /// The same sorts, in memory of their own.

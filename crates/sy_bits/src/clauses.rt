@@ -1,0 +1,80 @@
+// The circuit whose clauses are searched: the query's own, or that of a query which is easier to search.
+ghost use Rattle.std.specs.Prelude.{◌≡◌, ◌≤◌, ◌<◌, ◌*◌, ◌^◌, ◌↔◌, length, IfOk, IfSome, IsTrue};
+ghost use Rattle.sy_query_base.specs.Asked.{query_of, Fits};
+ghost use Rattle.sy_meaning_words.specs.Vectors.{vector, owned, is_bits};
+ghost use Rattle.sy_cdcl.specs.Answer.{VarsFit};
+ghost use Rattle.sy_bits_laws.specs.Clauses.{HasCircuitClauses, query_size};
+
+use crate::fitting::fits;
+use crate::room::countable_size;
+use std::alloc::Global;
+use sy_bits_circuit::{Circuit, blast};
+use sy_clauses::Cnf;
+use sy_meaning_words::BvTheory;
+use sy_query_base::Query;
+use sy_query_orders::ordered;
+use sy_terms::Want;
+
+/// The most nodes of a query that is written anew.
+const MOST_NODES: u64 = 20_000;
+
+/// How many times as large a query may become when it is written anew.
+const MOST_TIMES: u32 = 8;
+
+/// The most variables and clauses for each unit of a query's size.
+const MOST_EACH: u64 = 1000;
+
+/// A circuit whose clauses say what the query of this size says: that of the query which `ordered` makes of it, where it
+/// has no more variables and clauses than the query's own circuit may have, and else the query's own.
+pub(crate) fn circuit_of(alloc: Global, query: &Query<BvTheory>, size: u32) -> Result<Circuit, Want>
+    requires fits { Fits owned is_bits (query_of vector query.now) }
+    requires size { size ≡ query_size (query_of vector query.now) }
+    requires room { 1000 * query_size (query_of vector query.now) < 2 ^ 31 }
+    ensures variables { IfOk result (λ circuit. circuit.variables ≡ query.now.vars) }
+    ensures clauses { IfOk result (λ circuit. HasCircuitClauses (query_of vector query.now) circuit.clauses) }
+    ensures vars { IfOk result (λ circuit. VarsFit circuit.clauses) }
+{
+    if query.body.size(MOST_NODES + 1) <= MOST_NODES {
+        if let Some(circuit) = ordered_circuit(alloc, query, size)? {
+            return Ok(circuit);
+        }
+    }
+    let circuit = blast(alloc, query)?;
+    Ok(circuit)
+}
+
+/// The circuit of the query that `ordered` makes of one of this size, where it is small enough.
+fn ordered_circuit(
+    alloc: Global,
+    query: &Query<BvTheory>,
+    size: u32,
+) -> Result<Option<Circuit>, Want>
+    requires size { size ≡ query_size (query_of vector query.now) }
+    ensures variables { IfOk result (λ found. IfSome found (λ circuit. circuit.variables ≡ query.now.vars)) }
+    ensures clauses { IfOk result (λ found. IfSome found (λ circuit. HasCircuitClauses (query_of vector query.now) circuit.clauses)) }
+    ensures vars { IfOk result (λ found. IfSome found (λ circuit. VarsFit circuit.clauses)) }
+{
+    let other = ordered(alloc, query)?;
+    if !fits(alloc, &other)? {
+        return Ok(None);
+    }
+    let Some(large) = countable_size(alloc, &other)? else {
+        return Ok(None);
+    };
+    if large > size.saturating_mul(MOST_TIMES) {
+        return Ok(None);
+    }
+    let circuit = blast(alloc, &other)?;
+    if !is_within(circuit.cnf(), size) {
+        return Ok(None);
+    }
+    Ok(Some(circuit))
+}
+
+/// Whether there are at most so many variables and clauses as a query of this size may have.
+fn is_within(cnf: &Cnf, size: u32) -> bool
+    ensures { IsTrue result ↔ (cnf.now.vars ≤ 1000 * size) × (length cnf.now.clauses ≤ 1000 * size) }
+{
+    let most = MOST_EACH * u64::from(size);
+    u64::from(cnf.vars) <= most && cnf.clauses.len() as u64 <= most
+}

@@ -1,0 +1,10 @@
+use Rattle.std.proofs.Common.{arith, take}
+use Rattle.std.proofs.lemmas.List.{take_more}
+use Rattle.sy_query_orders.proofs.Replaced.{more_same}
+use Rattle.sy_query_orders.proofs.names.copies.Goals as goal
+
+pub loop-term-preserved : goal.loop-term-preserved
+loop-term-preserved g c =
+    let more = take_more c.args.terms.now c.loop-term.term-index c.term-item.result (grind arith) in
+    rw (more, ← c.term-item.is, c.in_ok-push.ensures.items)
+    (more_same g.T.Theory.denotes c.loop-term.same.items (take c.loop-term.term-index c.args.terms.now) c.in_ok-copy.copy c.term-item.result c.loop-term.invariant c.in_ok-copy.ensures)

@@ -1,0 +1,13 @@
+use Rattle.std.proofs.Common.{◌∙◌, ap, subst, length}
+use Rattle.sy_terms.specs.Denoted.{expr_of}
+use Rattle.sy_query_base.specs.Asked.{query_of}
+use Rattle.sy_query_orders.specs.Replaced.{SaysTheSameAt}
+use Rattle.sy_query_orders.proofs.Replaced.{satisfied_alike}
+use Rattle.sy_query_orders.proofs.query.ordered.Goals as goal
+
+pub returns-clause-same : goal.returns-clause-same
+returns-clause-same g c =
+    let number = g.T.Theory.denotes in
+    let same = c.in_ok-vars.ensures ∙ c.as_slice.ensures in
+    let says = subst (λ count. SaysTheSameAt count (expr_of number c.in_ok-body.body) (expr_of number c.args.query.now.body)) (c.len.ensures ∙ ap length same) c.in_ok-body.ensures in
+    satisfied_alike (query_of number c.args.query.now) (query_of number (record { vars = c.in_ok-vars.vars; body = c.in_ok-body.body })) same says

@@ -1,0 +1,98 @@
+-- Each clause is a part of what proofs/Replaced.antt says of the term's form.
+use Rattle.std.proofs.Common.{arith, ◌∙◌, refl, sym, ap, take}
+use Rattle.std.proofs.lemmas.List.{take_more}
+use Rattle.sy_terms.specs.Denoted.{expr_of-Const, expr_of-Var, expr_of-App, expr_of-Call, expr_of-Let, exprs_of}
+use Rattle.sy_terms_laws.proofs.Steps.{app-falls, call-falls, let-falls, all-falls}
+use Rattle.sy_query_orders.specs.Replaced.{are_atomic}
+use Rattle.sy_query_orders.proofs.Replaced as law
+use Rattle.sy_query_orders.proofs.written.+written.Goals as goal
+
+-- ---- constants, variables, applications and calls
+
+pub written-returns-in-Const-clause-replaced : goal.written-returns-in-Const-clause-replaced
+written-returns-in-Const-clause-replaced g t c = rw (c.in-Const.is, expr_of-Const) (law.constant_replaced _ _ _)
+
+pub written-returns-in_ok-found-in-Var-clause-replaced : goal.written-returns-in_ok-found-in-Var-clause-replaced
+written-returns-in_ok-found-in-Var-clause-replaced g t c =
+    rw (c.in-Var.is, expr_of-Var) (law.variable_replaced _ _ _ _ (rw c.as_slice.ensures.value at c.in_ok-found-in-Var.ensures))
+
+pub written-all_written-requires : goal.written-all_written-requires
+written-all_written-requires g t c κs within =
+    let falls = app-falls g.T.Theory.denotes c.args.term.now c.in-App.operator c.in-App.arguments 0 c.in-App.is in
+    (rw (c.as_slice-in-App.ensures) (omega (arith, falls, c.decreases)), (within.0, (within.1, c.requires)))
+
+pub written-returns-in_ok-arguments-in-App-clause-replaced : goal.written-returns-in_ok-arguments-in-App-clause-replaced
+written-returns-in_ok-arguments-in-App-clause-replaced g t c =
+    rw (c.in-App.is, expr_of-App, expr_of-App) (law.applied_replaced _ _ _ _ _ (rw c.as_slice-in-App.ensures at c.in_ok-arguments-in-App.ensures.replaced))
+
+pub written-all_written-requires-in-Call : goal.written-all_written-requires-in-Call
+written-all_written-requires-in-Call g t c κs within =
+    let falls = call-falls g.T.Theory.denotes c.args.term.now c.in-Call.function c.in-Call.arguments 0 c.in-Call.is in
+    (rw (c.as_slice-in-Call.ensures) (omega (arith, falls, c.decreases)), (within.0, (within.1, c.requires)))
+
+pub written-returns-in_ok-arguments-in-Call-clause-replaced : goal.written-returns-in_ok-arguments-in-Call-clause-replaced
+written-returns-in_ok-arguments-in-Call-clause-replaced g t c =
+    rw (c.in-Call.is, expr_of-Call, expr_of-Call) (law.called_replaced _ _ _ _ _ (rw c.as_slice-in-Call.ensures at c.in_ok-arguments-in-Call.ensures.replaced))
+
+-- ---- bindings
+
+pub written-all_written-requires-in-Let : goal.written-all_written-requires-in-Let
+written-all_written-requires-in-Let g t c κs within =
+    let falls = let-falls g.T.Theory.denotes c.args.term.now c.in-Let.bound c.in-Let.inner 0 c.in-Let.is in
+    let first = falls.0 in
+    (rw (c.as_slice-in-Let.ensures) (omega (arith, first, c.decreases)), (within.0, (within.1, c.requires)))
+
+pub written-written-requires : goal.written-written-requires
+written-written-requires g t c κs within =
+    let number = g.T.Theory.denotes in
+    let falls = let-falls number c.args.term.now c.in-Let.bound c.in-Let.inner 0 c.in-Let.is in
+    let second = falls.1 in
+    let same = c.in_ok-stands-in-Let.ensures ∙ ap (exprs_of number) c.as_slice-then-are_atomic.ensures in
+    let atomic = sym c.if-are_atomic.true ∙ c.are_atomic.ensures ∙ ap (λ terms. are_atomic c.args.count (exprs_of number terms)) c.as_slice-in-Let-2.ensures in
+    let all = law.atomic_out number c.args.count c.args.names.now.items c.in_ok-stands-in-Let.stands.items c.in_ok-bound-in-Let.bound.items.items c.requires same atomic in
+    (rw c.deref.ensures (omega (arith, second, c.decreases)), (within.0, (within.1, rw (c.in_ok-append-in-Let.ensures.items, c.in_ok-bound-in-Let.ensures.kept) all)))
+
+pub written-returns-then-are_atomic-clause-replaced : goal.written-returns-then-are_atomic-clause-replaced
+written-returns-then-are_atomic-clause-replaced g t c =
+    let number = g.T.Theory.denotes in
+    let same = c.in_ok-stands-in-Let.ensures ∙ ap (exprs_of number) c.as_slice-then-are_atomic.ensures in
+    let are = rw c.as_slice-in-Let.ensures at c.in_ok-bound-in-Let.ensures.replaced in
+    let is = rw (c.in_ok-append-in-Let.ensures.items, c.in_ok-bound-in-Let.ensures.kept, c.deref.ensures) at c.in_ok-found-in-Let.ensures.replaced in
+    rw (c.in-Let.is, expr_of-Let) (law.let_out number c.args.count c.args.names.now.items c.in_ok-stands-in-Let.stands.items _ _ _ _ same are is)
+
+pub written-written-requires-in-Let : goal.written-written-requires-in-Let
+written-written-requires-in-Let g t c κs within =
+    let number = g.T.Theory.denotes in
+    let falls = let-falls number c.args.term.now c.in-Let.bound c.in-Let.inner 0 c.in-Let.is in
+    let second = falls.1 in
+    let all = law.atomic_kept number c.args.count c.in_ok-many-in-Let.many c.args.names.now.items c.in_ok-stands-in-Let-2.stands.items c.requires c.in_ok-stands-in-Let-2.ensures.atomic in
+    (rw c.deref-in-Let.ensures (omega (arith, second, c.decreases)), (within.0, (within.1, rw (c.in_ok-append-in-Let-2.ensures.items, c.in_ok-bound-in-Let.ensures.kept) all)))
+
+pub written-returns-in_ok-new-in-Let-clause-replaced : goal.written-returns-in_ok-new-in-Let-clause-replaced
+written-returns-in_ok-new-in-Let-clause-replaced g t c =
+    let number = g.T.Theory.denotes in
+    let are = rw c.as_slice-in-Let.ensures at c.in_ok-bound-in-Let.ensures.replaced in
+    let is = rw (c.in_ok-append-in-Let-2.ensures.items, c.in_ok-bound-in-Let.ensures.kept, c.deref-in-Let.ensures) at c.in_ok-inner-in-Let.ensures.replaced in
+    rw (c.in-Let.is, expr_of-Let, expr_of-Let, c.in_ok-new-in-Let.ensures.ok)
+    (law.let_kept number c.args.count c.in_ok-many-in-Let.many c.args.names.now.items c.in_ok-stands-in-Let-2.stands.items c.in_ok-bound-in-Let.bound.items.items _ _ _ c.requires (c.in_ok-many-in-Let.ensures.0 ∙ c.len.ensures) c.in_ok-stands-in-Let-2.ensures.next are is)
+
+-- ---- terms, one by one
+
+pub all_written-loop-term-init : goal.all_written-loop-term-init
+all_written-loop-term-init g t c = record { kept = refl; replaced = rw (c.in_ok-all.ensures) (law.none_replaced c.args.count (exprs_of g.T.Theory.denotes c.args.names.now.items)) }
+
+pub all_written-written-requires : goal.all_written-written-requires
+all_written-written-requires g t c κs within =
+    let falls = all-falls g.T.Theory.denotes c.args.terms.now c.loop-term.term-index c.term-item.result 0 c.loop-term-test.true c.term-item.is in
+    (omega (arith, falls, c.decreases), (within.0, (within.1, rw (c.loop-term.invariant.kept) c.requires)))
+
+pub all_written-loop-term-preserved : goal.all_written-loop-term-preserved
+all_written-loop-term-preserved g t c =
+    let number = g.T.Theory.denotes in
+    let longer = take_more c.args.terms.now c.loop-term.term-index c.term-item.result c.loop-term-test.true in
+    let is = rw (c.loop-term.invariant.kept) at c.in_ok-found.ensures.replaced in
+    record {
+      kept = c.in_ok-found.ensures.kept ∙ c.loop-term.invariant.kept;
+      replaced = rw (longer, ← c.term-item.is, c.in_ok-push.ensures.ok)
+          (law.more_replaced number c.args.count (exprs_of number c.args.names.now.items) c.loop-term.all.items.items (take c.loop-term.term-index c.args.terms.now) c.in_ok-found.found c.term-item.result c.loop-term.invariant.replaced is);
+    }
