@@ -125,6 +125,17 @@ fn parity(alloc: Global, count: u32) -> Result<Node, Want> {
     pair(alloc, Op::Equal, twice, odd)
 }
 
+/// That a number isn't at least each of so many bounds that it is at least.
+fn bounds(alloc: Global, count: u32) -> Result<Node, Want> {
+    let mut all = Terms::new(alloc);
+    for bound in 0..count {
+        let premise = pair(alloc, Op::Ge, Term::Var(0), number(bound))?;
+        let conclusion = pair(alloc, Op::Ge, Term::Var(0), number(bound))?;
+        all.push(pair(alloc, Op::Implies, premise, conclusion)?)?;
+    }
+    one(alloc, Op::Not, Term::App(Op::And, all))
+}
+
 /// The query of this family and number; an unknown family has the query `true`.
 pub(crate) fn query(alloc: Global, family: &str, count: u32) -> Result<Query<IntTheory>, Want> {
     match family {
@@ -139,6 +150,10 @@ pub(crate) fn query(alloc: Global, family: &str, count: u32) -> Result<Query<Int
         "parity" => Ok(Query {
             vars: integers(alloc, count.saturating_add(1))?,
             body: parity(alloc, count)?,
+        }),
+        "bounds" => Ok(Query {
+            vars: integers(alloc, 1)?,
+            body: bounds(alloc, count)?,
         }),
         _ => Ok(Query {
             vars: integers(alloc, 0)?,

@@ -4,19 +4,18 @@
 //
 // The families: `max`, that the greatest of so many numbers, found one by one, isn't one of them or is below one; `step`,
 // that a bound of so many variables, of which a step raises any one that is below the bound and keeps the others, doesn't
-// last a step; `parity`, that twice a sum of so many numbers is odd.
+// last a step; `parity`, that twice a sum of so many numbers is odd; `bounds`, that a number isn't at least each of so many
+// bounds that it is at least.
 #![tactic(auto)]
 
 mod families;
-mod size;
 
-use bench_words::{number, word};
+use bench_counting::Counting;
+use bench_words::{end, number, word, words};
 use families::query;
-use size::inner_nodes;
 use std::alloc::Global;
-use std::env;
 use std::process::ExitCode;
-use sy_intsolve::{IntDecide, fits};
+use sy_intsolve::fits;
 use sy_query_decide::{Decide, Verdict};
 use sy_query_limits::Limits;
 use sy_terms::Want;
@@ -46,31 +45,29 @@ fn answer(
     if !fits(alloc, &query)? {
         return Ok(None);
     }
-    match IntDecide::new().decide(alloc, &query, limits)? {
-        Verdict::Never(tree) => Ok(Some(("never", inner_nodes(&tree)))),
-        Verdict::Model(_) => Ok(Some(("model", 0))),
-        Verdict::Spent(_) => Ok(Some(("spent", 0))),
-    }
+    let mut counting = Counting::new();
+    let name = match counting.decide(alloc, &query, limits)? {
+        Verdict::Never(_) => "never",
+        Verdict::Model(_) => "model",
+        Verdict::Spent(_) => "spent",
+    };
+    Ok(Some((name, counting.nodes)))
+}
+
+/// What is printed: the answer, and how many inner nodes a refutation has.
+fn line(alloc: Global, words: &[String]) -> Result<Option<String>, Want> {
+    let limits = limits(number(words, 3), number(words, 4));
+    let line = match answer(alloc, word(words, 1), number(words, 2), &limits)? {
+        Some((name, nodes)) => format!(in alloc; "{name}: {nodes} inner nodes")?,
+        None => format!(in alloc; "not a query")?,
+    };
+    Ok(Some(line))
 }
 
 fn main(rt: HostRuntime) -> ExitCode {
-    let Ok(words) = env::args(&rt) else {
-        return ExitCode::from(3);
+    let words = match words(&rt) {
+        Ok(words) => words,
+        Err(status) => return ExitCode::from(status),
     };
-    let Ok(words) = words.collect::<Vec<String>>(rt.alloc()) else {
-        return ExitCode::from(6);
-    };
-    let words = words.as_slice();
-    let limits = limits(number(words, 3), number(words, 4));
-    match answer(rt.alloc(), word(words, 1), number(words, 2), &limits) {
-        Ok(Some((name, nodes))) => {
-            let _ = println!(rt; "{name}: {nodes} inner nodes");
-            ExitCode::from(0)
-        }
-        Ok(None) => {
-            let _ = println!(rt; "not a query");
-            ExitCode::from(0)
-        }
-        Err(_) => ExitCode::from(6),
-    }
+    end(&rt, line(rt.alloc(), words.as_slice()))
 }

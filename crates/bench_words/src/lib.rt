@@ -1,7 +1,30 @@
-// What programs of measurements share: their words, and numbers that look random.
+// What programs of measurements share: their words, numbers that look random, and how they print their figures and end.
 #![tactic(auto)]
 
-ghost use Rattle.std.specs.Prelude.{◌≡◌, ◌≤◌, length, []};
+ghost use Rattle.std.specs.Prelude.{◌≡◌, ◌≤◌, ◌⊎◌, length, [], IfErr};
+
+use std::alloc::AllocError;
+use std::env::{self, Env};
+use std::process::ExitCode;
+
+/// The status where words or a file are refused.
+pub const REFUSED: u8 = 3;
+
+/// The status where memory runs out.
+pub const WANT: u8 = 6;
+
+/// The words of the run, the program's name first; the status that it ends with where they can't be read.
+pub fn words<R: Env + AllocGlobal>(rt: &R) -> Result<Vec<String>, u8>
+    ensures { IfErr result (λ status. (status ≡ 3) ⊎ (status ≡ 6)) }
+{
+    let Ok(words) = env::args(rt) else {
+        return Err(REFUSED);
+    };
+    match words.collect::<Vec<String>>(rt.alloc()) {
+        Ok(words) => Ok(words),
+        Err(_) => Err(WANT),
+    }
+}
 
 /// The number that the word at a place is, or 0 where it is none or too large.
 pub fn number(words: &[String], place: usize) -> u32
@@ -28,4 +51,17 @@ pub fn next(state: u64) -> u64 {
     state
         .wrapping_mul(6364136223846793005)
         .wrapping_add(1442695040888963407)
+}
+
+/// Prints the line of the figures, and ends by the status 0; where there are none, because the words were refused or
+/// memory ran out, by theirs.
+pub fn end(rt: &impl Print, figures: Result<Option<String>, AllocError>) -> ExitCode {
+    match figures {
+        Ok(Some(line)) => {
+            let _ = println!(rt; "{line}");
+            ExitCode::from(0)
+        }
+        Ok(None) => ExitCode::from(REFUSED),
+        Err(_) => ExitCode::from(WANT),
+    }
 }

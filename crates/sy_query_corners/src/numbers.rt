@@ -1,5 +1,7 @@
 // Numbers at which terms that differ often do.
-use sy_terms::Sort;
+use crate::places::place_at;
+use std::alloc::Global;
+use sy_terms::{Sort, Want};
 
 /// How many numbers each sort has apart from a query's constants.
 const OWN: usize = 10;
@@ -9,8 +11,45 @@ pub(crate) fn count(constants: &[i128]) -> usize {
     constants.len().saturating_mul(3).saturating_add(OWN)
 }
 
+/// The numbers of these places for variables of these sorts.
+pub(crate) fn numbers_at(
+    alloc: Global,
+    vars: &[Sort],
+    constants: &[i128],
+    places: &[usize],
+) -> Result<Vec<i128>, Want> {
+    let mut numbers = Vec::with_capacity(alloc, vars.len())?;
+    for sort in vars {
+        let place = place_at(places, numbers.len());
+        numbers.push(number_at(*sort, constants, place))?;
+    }
+    Ok(numbers)
+}
+
+/// The number that stands there; 0 past the end.
+pub(crate) fn number_in(numbers: &[i128], index: usize) -> i128 {
+    match numbers.get(index) {
+        Some(number) => *number,
+        None => 0,
+    }
+}
+
+/// The same numbers with this one at the place.
+pub(crate) fn with_number(
+    alloc: Global,
+    numbers: &[i128],
+    place: usize,
+    number: i128,
+) -> Result<Vec<i128>, Want> {
+    let mut changed = Vec::with_capacity(alloc, numbers.len())?;
+    for (index, old) in numbers.iter().enumerate() {
+        changed.push(if index == place { number } else { *old })?;
+    }
+    Ok(changed)
+}
+
 /// The number of this place for a sort. The constants and their neighbours come after the sort's own numbers.
-pub(crate) fn number_at(sort: Sort, constants: &[i128], place: usize) -> i128 {
+fn number_at(sort: Sort, constants: &[i128], place: usize) -> i128 {
     if place < OWN {
         return own(sort, place);
     }
@@ -21,12 +60,29 @@ pub(crate) fn number_at(sort: Sort, constants: &[i128], place: usize) -> i128 {
     }
 }
 
-/// A number of the sort's own: around zero, and at a vector's ends and middle.
+/// A number of the sort's own: an integer far from others and then around zero, or one at a vector's ends and middle.
 fn own(sort: Sort, place: usize) -> i128 {
     match sort {
         Sort::Bool => place as i128,
-        Sort::Int => (place as i128 + 1) / 2 * if place % 2 == 0 { -1 } else { 1 },
+        Sort::Int => of_integers(place),
         Sort::Bits(width) => of_vector(1 << width.min(64), place),
+    }
+}
+
+/// An integer. Those that lie far apart come first: sums and multiples of few of them are equal, so one model tells many
+/// terms apart.
+fn of_integers(place: usize) -> i128 {
+    match place {
+        0 => 7,
+        1 => 64,
+        2 => -37,
+        3 => 1000,
+        4 => 0,
+        5 => 1,
+        6 => -1,
+        7 => 13,
+        8 => -250,
+        _ => 2,
     }
 }
 

@@ -7,8 +7,8 @@ ghost use Rattle.sy_grammar_base.specs.Solving.{AreValues};
 ghost use Rattle.sy_query_base.specs.Asked.{query_of, Fits, Satisfies};
 
 use crate::constants::constants_of;
-use crate::numbers::{count, number_at};
-use crate::places::{Shuffle, place_at, stepped};
+use crate::numbers::{count, number_in, numbers_at, with_number};
+use crate::places::{Shuffle, stepped};
 use std::alloc::Global;
 use sy_meaning::{Eval, evaluate};
 use sy_query_base::Query;
@@ -24,7 +24,8 @@ const SHUFFLES: usize = 64;
 const MANY: usize = 3;
 
 /// An assignment that satisfies the query, if one is found at once: its variables get 0, 1, the ends of their range and
-/// the like, and the query's constants and their neighbours. Where none is found the query may be satisfied all the same.
+/// the like, and the query's constants and their neighbours. Where no variable is a vector, each then gets 0 or false, or the
+/// number of the variable before, if the query stays satisfied. Where none is found the query may be satisfied all the same.
 pub fn corner_model<T: Theory>(alloc: Global, query: &Query<T>) -> Result<Option<Values<T>>, Want>
     requires { Fits T.owned T.numeric (query_of T.denotes query.now) }
     ensures { IfOk result (λ found. IfSome found (λ values. Satisfies (query_of T.denotes query.now) (vals_of T.denotes values))) }
@@ -40,7 +41,7 @@ pub fn corner_model<T: Theory>(alloc: Global, query: &Query<T>) -> Result<Option
     for attempt in 0..tries {
         let step = step_of(attempt / numbers);
         let places = stepped(alloc, vars.len(), attempt % numbers, step, numbers)?;
-        let found = satisfying(alloc, query, constants.as_slice(), places.as_slice())?;
+        let found = model_at(alloc, query, constants.as_slice(), places.as_slice())?;
         if found.is_some() {
             return Ok(found);
         }
@@ -51,7 +52,7 @@ pub fn corner_model<T: Theory>(alloc: Global, query: &Query<T>) -> Result<Option
     let mut shuffle = Shuffle::new(alloc, numbers)?;
     for _ in 0..SHUFFLES {
         shuffle.turn();
-        let found = satisfying(alloc, query, constants.as_slice(), shuffle.places())?;
+        let found = model_at(alloc, query, constants.as_slice(), shuffle.places())?;
         if found.is_some() {
             return Ok(found);
         }
@@ -69,8 +70,8 @@ fn step_of(round: usize) -> usize {
     }
 }
 
-/// The assignment of these places, if it satisfies the query.
-fn satisfying<T: Theory>(
+/// The assignment of these places, if it satisfies the query; made simple where no variable is a vector.
+fn model_at<T: Theory>(
     alloc: Global,
     query: &Query<T>,
     constants: &[i128],
@@ -79,7 +80,77 @@ fn satisfying<T: Theory>(
     requires { Fits T.owned T.numeric (query_of T.denotes query.now) }
     ensures { IfOk result (λ found. IfSome found (λ values. Satisfies (query_of T.denotes query.now) (vals_of T.denotes values))) }
 {
-    let Some(values) = corner::<T>(alloc, query.vars.as_slice(), constants, places)? else {
+    let numbers = numbers_at(alloc, query.vars.as_slice(), constants, places)?;
+    let Some(values) = satisfying(alloc, query, numbers.as_slice())? else {
+        return Ok(None);
+    };
+    if has_vector(query.vars.as_slice()) {
+        return Ok(Some(values));
+    }
+    let simple = simplified(alloc, query, Model { numbers, values })?;
+    Ok(Some(simple.values))
+}
+
+/// Whether a variable is a vector. With simple models a search over vectors found fewer solutions beyond a full bank.
+fn has_vector(vars: &[Sort]) -> bool {
+    vars.iter().any(|sort| matches!(sort, Sort::Bits(_)))
+}
+
+/// Values that satisfy a query, and their numbers.
+#[derive(Drop)]
+struct Model<T: Theory> {
+    numbers: Vec<i128>,
+    values: Values<T>,
+}
+
+/// The model with 0 or false for one variable after the other where the query stays satisfied; then with the number of the
+/// variable before. So the models of a search differ in few numbers, and candidates are asked at few points.
+fn simplified<T: Theory>(alloc: Global, query: &Query<T>, model: Model<T>) -> Result<Model<T>, Want>
+    requires fits { Fits T.owned T.numeric (query_of T.denotes query.now) }
+    requires model { Satisfies (query_of T.denotes query.now) (vals_of T.denotes model.values) }
+    ensures { IfOk result (λ simple. Satisfies (query_of T.denotes query.now) (vals_of T.denotes simple.values)) }
+{
+    let count = model.numbers.len();
+    let mut simple = model;
+    for place in 0..count {
+        simple = changed(alloc, query, simple, place, 0)?;
+    }
+    for place in 1..count {
+        let before = number_in(simple.numbers.as_slice(), place - 1);
+        simple = changed(alloc, query, simple, place, before)?;
+    }
+    Ok(simple)
+}
+
+/// The model with this number for the variable of the place, where the query stays satisfied; else the model as it is.
+fn changed<T: Theory>(
+    alloc: Global,
+    query: &Query<T>,
+    model: Model<T>,
+    place: usize,
+    number: i128,
+) -> Result<Model<T>, Want>
+    requires fits { Fits T.owned T.numeric (query_of T.denotes query.now) }
+    requires model { Satisfies (query_of T.denotes query.now) (vals_of T.denotes model.values) }
+    ensures { IfOk result (λ model. Satisfies (query_of T.denotes query.now) (vals_of T.denotes model.values)) }
+{
+    let numbers = with_number(alloc, model.numbers.as_slice(), place, number)?;
+    match satisfying(alloc, query, numbers.as_slice())? {
+        Some(values) => Ok(Model { numbers, values }),
+        None => Ok(model),
+    }
+}
+
+/// The assignment of these numbers, if it satisfies the query.
+fn satisfying<T: Theory>(
+    alloc: Global,
+    query: &Query<T>,
+    numbers: &[i128],
+) -> Result<Option<Values<T>>, Want>
+    requires { Fits T.owned T.numeric (query_of T.denotes query.now) }
+    ensures { IfOk result (λ found. IfSome found (λ values. Satisfies (query_of T.denotes query.now) (vals_of T.denotes values))) }
+{
+    let Some(values) = corner::<T>(alloc, query.vars.as_slice(), numbers)? else {
         return Ok(None);
     };
     if holds(alloc, query, values.as_slice())? {
@@ -89,19 +160,18 @@ fn satisfying<T: Theory>(
     }
 }
 
-/// The assignment that gives each variable the number of its place, or of place 0 where it has none. `None` where a sort has no such number.
+/// The assignment that gives each variable its number, or 0 where it has none. `None` where a sort has no such number.
 fn corner<T: Theory>(
     alloc: Global,
     vars: &[Sort],
-    constants: &[i128],
-    places: &[usize],
+    numbers: &[i128],
 ) -> Result<Option<Values<T>>, Want>
     ensures { IfOk result (λ found. IfSome found (λ values. AreValues vars.now (vals_of T.denotes values))) }
 {
     let mut values = Seq::new(alloc);
     for sort in vars {
-        let place = place_at(places, values.len());
-        let Some(value) = value_at::<T>(*sort, constants, place) else {
+        let number = number_in(numbers, values.len());
+        let Some(value) = value_of::<T>(*sort, number) else {
             return Ok(None);
         };
         values.push(value)?;
@@ -109,15 +179,15 @@ fn corner<T: Theory>(
     Ok(Some(values))
 }
 
-/// The value of the sort at a place; `None` where there is none.
-fn value_at<T: Theory>(sort: Sort, constants: &[i128], place: usize) -> Option<Value<T::Num>>
+/// The value of the sort that is this number, of truth values whether it is odd; `None` where there is none.
+fn value_of<T: Theory>(sort: Sort, number: i128) -> Option<Value<T::Num>>
     ensures sort { IfSome result (λ value. sort_of_value (val_of T.denotes value) ≡ sort) }
     ensures valid { IfSome result (λ value. valid (val_of T.denotes value) ≡ true) }
 {
     match sort {
-        Sort::Bool => Some(Value::Truth(place % 2 == 1)),
+        Sort::Bool => Some(Value::Truth(number.rem_euclid(2) == 1)),
         Sort::Int | Sort::Bits(_) => {
-            let number = T::of_number(sort, number_at(sort, constants, place))?;
+            let number = T::of_number(sort, number)?;
             Some(Value::Num(number))
         }
     }
