@@ -14,7 +14,7 @@ row() {
 if [ $# -eq 2 ]; then
     row "$@"
 else
-    for words in 'max 3' 'max 5' 'max 7' 'step 2' 'step 4' 'step 6' 'parity 2' 'parity 20'; do
+    for words in 'max 3' 'max 5' 'max 7' 'step 2' 'step 4' 'step 6' 'parity 2' 'parity 20' 'bounds 100' 'bounds 1000'; do
         row $words
     done
 fi

@@ -12,7 +12,7 @@ ghost use Rattle.sy_intsolve_search.specs.States.{IsTurn, room_open};
 use crate::choosing::guessed_test;
 use crate::cut::{cut_at, under};
 use crate::fork::{enter, goes_left};
-use crate::open::{broken, corner_at, known_at, point_at};
+use crate::open::{broken, corner_at, known_at, near, point_at};
 use crate::plan::Plan;
 use crate::spent::{model, spent_known, spent_nodes, spent_pivots, spent_range, whole_model};
 use crate::state::{State, Turn};
@@ -20,6 +20,7 @@ use crate::way::Way;
 use std::alloc::Global;
 use sy_frac::Frac;
 use sy_intsolve_order::Guide;
+use sy_intsolve_subsets::Near;
 use sy_intsolve_trees::Fork;
 use sy_linear_known::{Known, Test, Tree};
 use sy_meaning_integers::IntTheory;
@@ -221,9 +222,9 @@ fn told(
     }
 }
 
-/// A turn at an open leaf, with a point of its path where one is kept. What the path tells of the query, which takes the
+/// A turn at an open leaf, with a point of its path where one is known. What the path tells of the query, which takes the
 /// most time, is asked only where the guide finds no test to split on.
-pub(crate) fn look(
+fn opened(
     alloc: Global,
     query: &Query<IntTheory>,
     plan: &Plan,
@@ -242,4 +243,35 @@ pub(crate) fn look(
     }
     let turn = told(alloc, query, plan, way, point)?;
     Ok(turn)
+}
+
+/// A turn at an open leaf, with a point of its path where one is kept: where few of the path's facts refute it, they close the
+/// leaf.
+pub(crate) fn look(
+    alloc: Global,
+    query: &Query<IntTheory>,
+    plan: &Plan,
+    guide: &mut Guide,
+    way: Way,
+    point: Option<Seq<Frac>>,
+) -> Result<Turn, Want>
+    requires asked { IsAsked (query_of query.now) }
+    requires leaf { IsLeaf plan.now.order (query_of query.now) plan.now.limits.nodes way }
+    requires kept { IfSome point (IsAt query.now.vars way.facts.items) }
+    ensures { IfOk result (IsTurn plan.now.order (query_of query.now) plan.now.limits (room_open plan.now.limits.nodes way)) }
+{
+    let told = near(alloc, query, plan.limits.pivots, &way, point)?;
+    match told {
+        Near::Point(here) => {
+            let turn = opened(alloc, query, plan, guide, way, Some(here))?;
+            Ok(turn)
+        }
+        Near::Conflict(multipliers) => {
+            Ok(Turn::On(State::Closed(way, Tree::Farkas(multipliers))))
+        }
+        Near::Unknown => {
+            let turn = opened(alloc, query, plan, guide, way, None)?;
+            Ok(turn)
+        }
+    }
 }

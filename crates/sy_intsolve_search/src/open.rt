@@ -5,12 +5,14 @@ ghost use Rattle.sy_linear_known.specs.Seen.{query_known};
 ghost use Rattle.sy_linear_known.specs.Stored.{query_of};
 ghost use Rattle.sy_intsolve_asked.specs.Asked.{IsPath};
 ghost use Rattle.sy_intsolve_points.specs.Points.{IsAt};
+ghost use Rattle.sy_intsolve_subsets.specs.Telling.{IsNear};
 ghost use Rattle.sy_intsolve_search.specs.Ways.{IsAsked, IsBrokenIn, TellsCorner, TellsPoint};
 
 use crate::way::Way;
 use std::alloc::Global;
 use sy_frac::Frac;
 use sy_intsolve_points::{corner, first_broken};
+use sy_intsolve_subsets::{Near, by_few_facts};
 use sy_linear_known::{Known, known_under};
 use sy_meaning_integers::IntTheory;
 use sy_query_base::Query;
@@ -44,6 +46,51 @@ pub(crate) fn corner_at(
     let facts = way.facts.as_slice();
     let end = corner(alloc, vars, facts, pivots)?;
     Ok(end)
+}
+
+/// The most facts of which the simplex method takes all at once.
+const FEW: usize = 48;
+
+/// A point of the way's path, or multipliers that refute it, where few of its facts tell; of a path of few facts, nothing.
+fn told_by_few(
+    alloc: Global,
+    query: &Query<IntTheory>,
+    pivots: u32,
+    way: &Way,
+) -> Result<Near, Want>
+    requires asked { IsAsked (query_of query.now) }
+    requires path { IsPath query.now.vars way.now.facts.items }
+    ensures { IfOk result (IsNear query.now.vars way.now.facts.items) }
+{
+    let vars = query.vars.as_slice();
+    let facts = way.facts.as_slice();
+    if facts.len() <= FEW {
+        return Ok(Near::Unknown);
+    }
+    let told = by_few_facts(alloc, vars, facts, pivots)?;
+    Ok(told)
+}
+
+/// The kept point of the way's path, or else what few of its facts tell.
+pub(crate) fn near(
+    alloc: Global,
+    query: &Query<IntTheory>,
+    pivots: u32,
+    way: &Way,
+    point: Option<Seq<Frac>>,
+) -> Result<Near, Want>
+    requires asked { IsAsked (query_of query.now) }
+    requires path { IsPath query.now.vars way.now.facts.items }
+    requires kept { IfSome point (IsAt query.now.vars way.now.facts.items) }
+    ensures { IfOk result (IsNear query.now.vars way.now.facts.items) }
+{
+    match point {
+        Some(point) => Ok(Near::Point(point)),
+        None => {
+            let told = told_by_few(alloc, query, pivots, way)?;
+            Ok(told)
+        }
+    }
 }
 
 /// A point of the way's path: the kept one, or else a corner; multipliers that refute it, or the budget that was met.
