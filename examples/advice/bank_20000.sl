@@ -1,11 +1,10 @@
-; Rounded up to a multiple by twelve operators: more than 20,000 different terms come before its body, and no operator over
+; Divided by four, towards 0, by twelve operators: more than 20,000 different terms come before its body, and no operator over
 ; two of these gives it.
 ; answer: fail Bank
 (set-logic BV)
-(synth-fun f ((x (_ BitVec 8)) (y (_ BitVec 8))) (_ BitVec 8)
-  ((S (_ BitVec 8)))
-  ((S (_ BitVec 8) (x y #x01 (bvnot S) (bvneg S) (bvand S S) (bvor S S) (bvxor S S) (bvadd S S) (bvsub S S) (bvmul S S) (bvudiv S S) (bvshl S S) (bvlshr S S) (bvashr S S)))))
-(declare-var x (_ BitVec 8))
-(declare-var y (_ BitVec 8))
-(constraint (= (f x y) (bvmul y (bvudiv (bvsub (bvadd x y) #x01) y))))
+(synth-fun f ((x (_ BitVec 32))) (_ BitVec 32)
+  ((S (_ BitVec 32)))
+  ((S (_ BitVec 32) (x #x00000002 #x0000001f #x0000001e (bvnot S) (bvneg S) (bvand S S) (bvor S S) (bvxor S S) (bvadd S S) (bvsub S S) (bvmul S S) (bvudiv S S) (bvshl S S) (bvlshr S S) (bvashr S S)))))
+(declare-var x (_ BitVec 32))
+(constraint (= (f x) (bvsdiv x #x00000004)))
 (check-synth)

@@ -16,9 +16,8 @@ use Rattle.sy_bank.specs.Bank.{merged_of}
 use Rattle.sy_bank.specs.declared.bank.Bank.{Bank}
 use Rattle.sy_loop_history.specs.Solutions.{IsSolution}
 use Rattle.sy_loop_history.specs.Stored.{history_of}
-use Rattle.sy_loop_outcome.specs.declared.outcome.Outcome.{Outcome}
-use Rattle.sy_loop_beyond.specs.Banked.{IsOneBank}
-use Rattle.sy_loop_beyond.specs.Exceeding.{FindsBeyond, IsMet}
+use Rattle.sy_loop_samples.specs.Banked.{IsOneBank}
+use Rattle.sy_loop_beyond.specs.Exceeding.{IsMet}
 use Rattle.sy_loop_beyond.specs.declared.body.Tried.{Tried}
 use Rattle.sy_loop_beyond.specs.declared.body.Tried.TheVariants.{Solves, Passed, Spent}
 
@@ -47,9 +46,6 @@ module _ {T N : Type 0} (theory : TheoryOf T N) (problem : Problem T N) (limits 
   -- after these stored pairs the function's bank is full
   abbrev pub IsMetFor : Stored T N → ℕ → Bank T N → Type 0
   IsMetFor stored function bank = IsMet (question_of theory.denotes problem) limits (history_of theory.denotes stored) function (merged_of theory.denotes bank)
-
-  abbrev pub FindsBeyondFor : {P S : Type 0} → Outcome T P S N → Type 0
-  FindsBeyondFor = FindsBeyond theory.denotes (question_of theory.denotes problem) limits
 
 module _ {T N D P S : Type 0} (theory : TheoryOf T N) (solver : DecideOf D T P S N) (problem : Problem T N) (bound : ℕ) where
   -- the bodies are members of sizes within the bound and solve the problem, and the proof is accepted for their query

@@ -1,6 +1,7 @@
 // The search for solutions alone where a bank is full: kept terms, and what rules give of them, each decided for itself.
 #![tactic(auto)]
 
+mod again;
 mod assignments;
 mod body;
 mod columns;
@@ -9,6 +10,6 @@ mod judging;
 mod scanning;
 mod search;
 mod shapes;
-mod synthesis;
+mod tuples;
 
-pub use synthesis::synthesise_beyond;
+pub use search::{solve_anew, solve_beyond};

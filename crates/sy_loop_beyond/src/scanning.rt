@@ -7,15 +7,18 @@ use crate::body::{MOST_SPENT, Task, Tried, try_body};
 use crate::columns::{columns, number, point_of};
 use crate::guess::guessed_term;
 use crate::shapes::{pools_of, shapes_of};
+use crate::tuples::wishes_from;
 use std::alloc::Global;
 use sy_bank::Bank;
 use sy_loop_scan::{Scan, Shape};
-use sy_loop_wanted::wishes_at;
 use sy_query_decide::Decide;
 use sy_terms::{Bodies, Theory, Values, Want};
 
 /// How many combinations are tried at most.
-const MOST_GUESSES: u32 = 256;
+const MOST_GUESSES: u32 = 4_096;
+
+/// How many of them a solver is asked about at most.
+const MOST_ASKED: u32 = 256;
 
 /// The first combination in the scan's order that solves the problem as the one body; `None` where none was found to. The
 /// scan knows what constraints want at the assignments.
@@ -28,7 +31,8 @@ pub(crate) fn solve_scanned<T: Theory, D: Decide<T>>(
     requires problem { ProblemFits T.Theory task.now.problem.now }
     requires one { length task.now.problem.now.wanted ≡ 1 }
     requires assigned { AreAssignedFor T.Theory task.now.problem.now assignments.old.items }
-    ensures { IfOk result (IsFoundFor T.Theory D.Decide task.now.problem.now task.now.bound) }
+    ensures assigned { OnOk result (AreAssignedFor T.Theory task.now.problem.now assignments.new.items) }
+    ensures found { IfOk result (IsFoundFor T.Theory D.Decide task.now.problem.now task.now.bound) }
 {
     let Some(wanted) = task.problem.wanted.get(0) else {
         return Ok(None);
@@ -40,6 +44,7 @@ pub(crate) fn solve_scanned<T: Theory, D: Decide<T>>(
     let mut tuples = Vec::new(task.alloc);
     let mut told = 0;
     let mut left = MOST_SPENT;
+    let mut asked = 0u32;
     for _ in 0..MOST_GUESSES {
         tell(
             task,
@@ -68,7 +73,10 @@ pub(crate) fn solve_scanned<T: Theory, D: Decide<T>>(
             Tried::Passed => {}
             Tried::Spent => left = left.saturating_sub(1),
         }
-        if left == 0 {
+        if assignments.len() > told {
+            asked = asked.saturating_add(1);
+        }
+        if left == 0 || asked == MOST_ASKED {
             return Ok(None);
         }
     }
@@ -118,16 +126,13 @@ fn tell<T: Theory>(
     requires problem { ProblemFits T.Theory task.now.problem.now }
     requires assigned { AreAssignedFor T.Theory task.now.problem.now assignments.now }
 {
-    for place in from..assignments.len() {
-        let wishes = wishes_at(task.alloc, task.problem, assignments[place].as_slice())?;
-        for wish in wishes {
-            if point_of::<T>(tuples.as_slice(), wish.tuple.as_slice()).is_some() {
-                continue;
-            }
-            let columns = columns(task, bank, wish.tuple.as_slice())?;
-            scan.add_point(number::<T>(&wish.value), columns)?;
-            tuples.push(wish.tuple)?;
+    for wish in wishes_from(task, assignments, from)? {
+        if point_of::<T>(tuples.as_slice(), wish.tuple.as_slice()).is_some() {
+            continue;
         }
+        let columns = columns(task, bank, wish.tuple.as_slice())?;
+        scan.add_point(number::<T>(&wish.value), columns)?;
+        tuples.push(wish.tuple)?;
     }
     Ok(())
 }

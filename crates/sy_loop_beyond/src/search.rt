@@ -1,9 +1,10 @@
 // The search beyond a full bank.
-ghost use Rattle.std.specs.Prelude.{IfOk, OnOk};
+ghost use Rattle.std.specs.Prelude.{◌≡◌, length, IfOk, OnOk};
 ghost use Rattle.sy_bank_rows.specs.Stored.{entries_of};
 ghost use Rattle.sy_grammar_base.specs.Fits.{ProblemFits};
 ghost use Rattle.sy_loop_beyond.specs.Clauses.{AreAssignedFor, AreSmallFor, IsBankFor, IsFoundFor, WereAssignedFor};
 
+use crate::again::solve_again;
 use crate::assignments::copied_assignments;
 use crate::body::{MOST_SPENT, Task, Tried, try_body};
 use crate::scanning::solve_scanned;
@@ -26,7 +27,7 @@ const MOST_NODES: u32 = 500;
 /// or what a rule of the start symbol gives of kept terms. Each is judged at the stored assignments and at those that
 /// refuted others before it, and then decided. `None` where none was found to solve the problem, or too many weren't
 /// decided; nothing follows from it.
-pub(crate) fn solve_beyond<T: Theory, D: Decide<T>>(
+pub fn solve_beyond<T: Theory, D: Decide<T>>(
     alloc: Global,
     problem: &Problem<T>,
     limits: &Limits,
@@ -44,11 +45,7 @@ pub(crate) fn solve_beyond<T: Theory, D: Decide<T>>(
     if level > bound {
         return Ok(None);
     }
-    let limits = Limits {
-        clauses: limits.clauses.min(MOST_CLAUSES),
-        nodes: limits.nodes.min(MOST_NODES),
-        ..*limits
-    };
+    let limits = limits_of_one_body(limits);
     let task = Task {
         alloc,
         problem,
@@ -60,12 +57,51 @@ pub(crate) fn solve_beyond<T: Theory, D: Decide<T>>(
     if let Some(found) = solve_kept(&task, decide, last, &mut assignments)? {
         return Ok(Some(found));
     }
-    let found = solve_scanned(&task, decide, bank, &mut assignments)?;
+    if let Some(found) = solve_scanned(&task, decide, bank, &mut assignments)? {
+        return Ok(Some(found));
+    }
+    let found = solve_again(&task, decide, &mut assignments)?;
     Ok(found)
 }
 
+/// The same where no bank is full: bodies over banks that are built anew, of kept terms alone, without those that left the 128
+/// bits.
+pub fn solve_anew<T: Theory, D: Decide<T>>(
+    alloc: Global,
+    problem: &Problem<T>,
+    limits: &Limits,
+    decide: &mut D,
+    stored: &Stored<T>,
+    bound: u32,
+) -> Result<Option<(Bodies<T>, D::Proof)>, Want>
+    requires problem { ProblemFits T.Theory problem.now }
+    requires one { length problem.now.wanted ≡ 1 }
+    requires stored { WereAssignedFor T.Theory problem.now stored.now }
+    ensures { IfOk result (IsFoundFor T.Theory D.Decide problem.now bound) }
+{
+    let limits = limits_of_one_body(limits);
+    let task = Task {
+        alloc,
+        problem,
+        limits: &limits,
+        bound,
+    };
+    let mut assignments = copied_assignments(alloc, problem, stored)?;
+    let found = solve_again(&task, decide, &mut assignments)?;
+    Ok(found)
+}
+
+/// The limits for the query of one body.
+fn limits_of_one_body(limits: &Limits) -> Limits {
+    Limits {
+        clauses: limits.clauses.min(MOST_CLAUSES),
+        nodes: limits.nodes.min(MOST_NODES),
+        ..*limits
+    }
+}
+
 /// The first of the kept terms that solves the problem as the one body; `None` where none was found to.
-fn solve_kept<T: Theory, D: Decide<T>>(
+pub(crate) fn solve_kept<T: Theory, D: Decide<T>>(
     task: &Task<T>,
     decide: &mut D,
     kept: &[Kept<T>],

@@ -17,8 +17,8 @@ pub struct Wish<T: Theory> {
 
 /// What the constraints want of the one function to be found at these values of the variables, where they name it outright.
 /// `(= (f ..) t)` wants a value, where no call is in `t` and the arguments; `(f ..)` wants to be true, and `(not (f ..))` to
-/// be false; so does a part of `and`, `or` and `=>`, where the others leave it no choice. What is wanted is a guide to a
-/// search: a solution is proved by its query.
+/// be false; so does a part of `and`, `or` and `=>`, where the others leave it no choice. Nothing is wanted where an assumption
+/// is false. What is wanted is a guide to a search: a solution is proved by its query.
 pub fn wishes_at<T: Theory>(
     alloc: Global,
     problem: &Problem<T>,
@@ -28,6 +28,11 @@ pub fn wishes_at<T: Theory>(
     requires values { AreValues problem.now.vars (vals_of T.denotes values.now) }
 {
     let mut wishes = Vec::new(alloc);
+    for assumption in problem.assumptions.as_slice() {
+        if is_value(alloc, problem, values, assumption, false)? {
+            return Ok(wishes);
+        }
+    }
     for constraint in problem.constraints.as_slice() {
         gather(alloc, problem, values, constraint, true, &mut wishes)?;
     }
@@ -49,7 +54,7 @@ fn gather<T: Theory>(
 {
     match term {
         Term::App(operator, parts) => match operator {
-            Op::Not => gather_all(alloc, problem, values, parts, !truth, wishes),
+            Op::Not => gather_parts(alloc, problem, values, parts, !truth, !truth, wishes),
             Op::And => gather_parts(alloc, problem, values, parts, true, truth, wishes),
             Op::Or => gather_parts(alloc, problem, values, parts, false, truth, wishes),
             Op::Implies => gather_implied(alloc, problem, values, parts, truth, wishes),
@@ -69,25 +74,6 @@ fn gather<T: Theory>(
         }
         Term::Const(_) | Term::Var(_) | Term::Let(_, _) => Ok(()),
     }
-}
-
-/// Adds what is wanted where all of the terms are to be of this truth.
-#[cycle(gather)]
-fn gather_all<T: Theory>(
-    alloc: Global,
-    problem: &Problem<T>,
-    values: &[Value<T::Num>],
-    terms: &Terms<T>,
-    truth: bool,
-    wishes: &mut Vec<Wish<T>>,
-) -> Result<(), Want>
-    requires problem { ProblemFits T.Theory problem.now }
-    requires values { AreValues problem.now.vars (vals_of T.denotes values.now) }
-{
-    for term in terms.as_slice() {
-        gather(alloc, problem, values, term, truth, wishes)?;
-    }
-    Ok(())
 }
 
 /// Adds what is wanted where the terms' conjunction (`neutral` is true) or disjunction (it is false) is to be of this truth:

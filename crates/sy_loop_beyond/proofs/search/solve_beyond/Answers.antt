@@ -12,3 +12,7 @@ solve_kept-requires-clause-kept g c =
 pub solve_scanned-requires-clause-one : goal.solve_scanned-requires-clause-one
 solve_scanned-requires-clause-one g c =
     omega (arith, ap (λ (goals : List Goal). length goals) c.requires.bank.one, length-map c.args.problem.now.wanted (goal_of g.T.Theory.denotes))
+
+pub solve_again-requires-clause-one : goal.solve_again-requires-clause-one
+solve_again-requires-clause-one g c =
+    omega (arith, ap (λ (goals : List Goal). length goals) c.requires.bank.one, length-map c.args.problem.now.wanted (goal_of g.T.Theory.denotes))

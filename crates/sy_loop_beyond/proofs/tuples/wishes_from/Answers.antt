@@ -3,7 +3,7 @@ use Rattle.sy_terms.specs.Denoted.{vals_of}
 use Rattle.sy_terms.specs.declared.sort.Value.{Value}
 use Rattle.sy_grammar_base.specs.Solving.{AreValues}
 use Rattle.sy_loop_candidate.proofs.Items.{item_of}
-use Rattle.sy_loop_beyond.proofs.scanning.tell.Goals as goal
+use Rattle.sy_loop_beyond.proofs.tuples.wishes_from.Goals as goal
 
 pub wishes_at-requires-clause-values : goal.wishes_at-requires-clause-values
 wishes_at-requires-clause-values g c =

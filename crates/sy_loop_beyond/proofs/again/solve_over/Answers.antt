@@ -1,0 +1,16 @@
+use Rattle.std.proofs.Common.{arith}
+use Rattle.sy_grammar_base.specs.Questions.{question_of}
+use Rattle.sy_bank.specs.Bank.{merged_of}
+use Rattle.sy_loop_beyond.proofs.Small.{kept_small}
+use Rattle.sy_loop_beyond.proofs.again.solve_over.Goals as goal
+use Rattle.sy_loop_beyond.proofs.again.solve_over.Goals.{else-loop-size-test, then-loop-size-test+in_ok-found+in_default+else-size-size-end}
+
+pub solve_kept-requires-clause-kept : goal.solve_kept-requires-clause-kept
+solve_kept-requires-clause-kept g c =
+    rw c.kept-kept.ensures (kept_small (question_of g.T.Theory.denotes c.args.task.now.problem.now) (merged_of g.T.Theory.denotes c.args.bank.now) c.loop-size.size c.args.task.now.bound c.requires.bank (omega (arith, c.loop-size-test.true)))
+
+pub solve_scanned-requires-clause-assigned : goal.solve_scanned-requires-clause-assigned
+solve_scanned-requires-clause-assigned g c = elim c.loop-size-test.branch [
+  | else-loop-size-test w ↦ rw w.assignments-is c.loop-size.invariant
+  | then-loop-size-test+in_ok-found+in_default+else-size-size-end w ↦ rw w.assignments-is (rw w.in_ok-found.was at w.solve_kept.ensures.assigned)
+]

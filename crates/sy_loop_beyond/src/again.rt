@@ -1,0 +1,107 @@
+// The search over further banks, in which terms are told apart at more tuples.
+ghost use Rattle.std.specs.Prelude.{◌≡◌, length, IfOk, IfSome, OnOk};
+ghost use Rattle.sy_grammar_base.specs.Fits.{ProblemFits};
+ghost use Rattle.sy_loop_beyond.specs.Clauses.{AreAssignedFor, IsBankFor, IsFoundFor};
+
+use crate::body::Task;
+use crate::scanning::solve_scanned;
+use crate::search::solve_kept;
+use crate::tuples::wished_tuples;
+use sy_bank::Bank;
+use sy_loop_samples::{bank_over, mixed_assignment};
+use sy_query_decide::Decide;
+use sy_terms::{Bodies, Theory, Values, Want};
+
+/// How many banks are built at most.
+const MOST_BANKS: u32 = 2;
+
+/// How many assignments that look random are added.
+const MIXED: u64 = 4;
+
+/// The first body that is found to solve the problem over banks at the tuples of all assignments so far and of some that look
+/// random: a full bank keeps terms that differ at the tuples that counterexamples asked, which are often alike. `None` where
+/// none was found to.
+pub(crate) fn solve_again<T: Theory, D: Decide<T>>(
+    task: &Task<T>,
+    decide: &mut D,
+    assignments: &mut Vec<Values<T>>,
+) -> Result<Option<(Bodies<T>, D::Proof)>, Want>
+    requires problem { ProblemFits T.Theory task.now.problem.now }
+    requires one { length task.now.problem.now.wanted ≡ 1 }
+    requires assigned { AreAssignedFor T.Theory task.now.problem.now assignments.old.items }
+    ensures { IfOk result (IsFoundFor T.Theory D.Decide task.now.problem.now task.now.bound) }
+{
+    add_mixed(task, assignments)?;
+    for _ in 0..MOST_BANKS {
+        let tuples = wished_tuples(task, assignments.as_slice())?;
+        if tuples.is_empty() {
+            return Ok(None);
+        }
+        let Some(bank) = bank_at(task, tuples.as_slice())? else {
+            return Ok(None);
+        };
+        let known = assignments.len();
+        if let Some(found) = solve_over(task, decide, &bank, assignments)? {
+            return Ok(Some(found));
+        }
+        if assignments.len() == known {
+            return Ok(None);
+        }
+    }
+    Ok(None)
+}
+
+/// A bank of the one function at these tuples; `None` where one of them isn't of its arguments.
+fn bank_at<T: Theory>(task: &Task<T>, tuples: &[Values<T>]) -> Result<Option<Bank<T>>, Want>
+    requires problem { ProblemFits T.Theory task.now.problem.now }
+    requires one { length task.now.problem.now.wanted ≡ 1 }
+    ensures { IfOk result (λ found. IfSome found (IsBankFor T.Theory task.now.problem.now)) }
+{
+    let found = bank_over(
+        task.alloc,
+        task.problem,
+        tuples,
+        task.bound,
+        task.limits.bank,
+    )?;
+    Ok(found)
+}
+
+/// Adds assignments that look random.
+fn add_mixed<T: Theory>(task: &Task<T>, assignments: &mut Vec<Values<T>>) -> Result<(), Want>
+    requires assigned { AreAssignedFor T.Theory task.now.problem.now assignments.old.items }
+    ensures assigned { OnOk result (AreAssignedFor T.Theory task.now.problem.now assignments.new.items) }
+{
+    for seed in 0..MIXED {
+        let found = mixed_assignment::<T>(task.alloc, task.problem.vars.as_slice(), seed)?;
+        let Some(values) = found else {
+            return Ok(());
+        };
+        assignments.push(values)?;
+    }
+    Ok(())
+}
+
+/// The first body over the bank that is found to solve the problem: a kept term or a combination of such.
+fn solve_over<T: Theory, D: Decide<T>>(
+    task: &Task<T>,
+    decide: &mut D,
+    bank: &Bank<T>,
+    assignments: &mut Vec<Values<T>>,
+) -> Result<Option<(Bodies<T>, D::Proof)>, Want>
+    requires problem { ProblemFits T.Theory task.now.problem.now }
+    requires one { length task.now.problem.now.wanted ≡ 1 }
+    requires bank { IsBankFor T.Theory task.now.problem.now bank.now }
+    requires assigned { AreAssignedFor T.Theory task.now.problem.now assignments.old.items }
+    ensures assigned { OnOk result (AreAssignedFor T.Theory task.now.problem.now assignments.new.items) }
+    ensures found { IfOk result (IsFoundFor T.Theory D.Decide task.now.problem.now task.now.bound) }
+{
+    for size in 0..=task.bound {
+        let kept = bank.kept(0, size);
+        if let Some(found) = solve_kept(task, decide, kept, assignments)? {
+            return Ok(Some(found));
+        }
+    }
+    let found = solve_scanned(task, decide, bank, assignments)?;
+    Ok(found)
+}

@@ -1,0 +1,21 @@
+-- Tuples of arguments, one by one.
+use Rattle.std.proofs.Common.{◌≡◌, ◌<◌, ◌+◌, ◌++◌, ◌∷◌, [], ◌∙◌, ℕ, List, ap, get_or, length, map, subst, sym, take}
+use Rattle.std.proofs.lemmas.List.{map-append, take_more}
+use Rattle.sy_terms.specs.Denoted.{AreValid, sorts_of, vals_of}
+use Rattle.sy_terms.specs.Theories.{sort_of_value}
+use Rattle.sy_terms.specs.Values.{Val}
+use Rattle.sy_terms.specs.declared.sort.Sort.{Sort}
+use Rattle.sy_terms.specs.declared.sort.Value.{Value}
+use Rattle.sy_bank_offer.proofs.Points.{points-more}
+use Rattle.sy_bank_rows.specs.Rows.{ArePointsOf}
+
+-- a copy of the tuple that comes next is a point more
+pub copied_point : {N : Type 0} (number : N → Val) (sorts found : List Sort) (points tuples : List (List (Value N))) (index : ℕ) (tuple copy : List (Value N)) → copy ≡ tuple → index < length tuples → tuple ≡ get_or tuples index tuple →
+    AreValid number tuple → found ≡ sorts_of number tuple → found ≡ sorts → ArePointsOf sorts (map (vals_of number) points) → points ≡ take index tuples →
+    ArePointsOf sorts (map (vals_of number) (points ++ copy ∷ [])) × (points ++ copy ∷ [] ≡ take (index + 1) tuples)
+copied_point {N} number sorts found points tuples index tuple copy same within at valid is are fits all = (
+  rw map-append
+      (points-more sorts (map (vals_of number) points) (vals_of number copy) (subst (AreValid number) (sym same) valid)
+      (subst (λ (vs : List (Value N)). map sort_of_value (vals_of number vs) ≡ sorts) (sym same) (sym is ∙ are)) fits),
+  ap (λ (ps : List (List (Value N))). ps ++ copy ∷ []) all ∙ ap (λ (vs : List (Value N)). take index tuples ++ vs ∷ []) (same ∙ at) ∙ sym (take_more tuples index tuple within),
+)
