@@ -1,12 +1,13 @@
 #!/usr/bin/env python3
-"""Runs `sygus` on files of 1,000 closed examples that are made from numbers, and prints the middle and the greatest time.
+"""Runs `sygus --mode drill` on numbers, and prints the middle and the greatest time.
 
     bench/drill.py [--sygus PROGRAM] [--count COUNT]
 
 The numbers are 0, 10,000,019, 20,000,038 and so on, a hundred without --count. Without --sygus it builds the program by
-./sygus. The files are made here, as mode `drill` is to make them: a function of a byte is to be found that is the
-complement of its argument below a bound, and one more than its argument from there on. Each answer is checked at all
-examples; the status is 1 where one is wrong, or where there is none.
+./sygus. From each number a problem of 1,000 closed examples is made: a function of a byte is to be found that is the
+complement of its argument below a bound, and one more than its argument from there on. The line of each run should say
+that all examples are met. The number's file is made here, too, and solved, and the answer is checked at all examples. The
+status is 1 where a line or an answer is wrong.
 """
 import argparse
 import os
@@ -66,12 +67,12 @@ def is_right(answer, number):
     return all(value(list(tokens), a) == b for a, b in examples_of(number))
 
 
-def seconds(program, path):
-    """What the program prints of a file, and its processor time."""
+def seconds(program, *words):
+    """What the program prints, and its processor time."""
     before = resource.getrusage(resource.RUSAGE_CHILDREN)
-    answer = subprocess.run([program, path], capture_output=True, text=True).stdout
+    printed = subprocess.run([program, *words], capture_output=True, text=True, stdin=subprocess.DEVNULL).stdout
     after = resource.getrusage(resource.RUSAGE_CHILDREN)
-    return answer, after.ru_utime + after.ru_stime - before.ru_utime - before.ru_stime
+    return printed, after.ru_utime + after.ru_stime - before.ru_utime - before.ru_stime
 
 
 def main():
@@ -87,13 +88,14 @@ def main():
     with tempfile.TemporaryDirectory() as folder:
         path = os.path.join(folder, "drill.sl")
         for number in range(0, options.count * STEP, STEP):
+            line, time = seconds(program, "--mode", "drill", str(number))
+            times.append(time)
             with open(path, "w") as file:
                 file.write(file_of(number))
-            answer, time = seconds(program, path)
-            times.append(time)
-            if not is_right(answer, number):
+            answer, _ = seconds(program, path)
+            if line != f"drill {number}: 1000 examples, 1000 met\n" or not is_right(answer, number):
                 wrong.append(number)
-                print(f"{number}: {answer.strip()}")
+                print(f"{number}: {line.strip()}; {answer.strip()}")
     print(f"{len(times)} numbers, {len(wrong)} wrong; the middle time is {statistics.median(times):.3f} s, the greatest {max(times):.3f} s")
     sys.exit(1 if wrong else 0)
 

@@ -1,2 +1,4 @@
+pub mod Drilled
 pub mod Found
 pub mod Statuses
+pub mod Left

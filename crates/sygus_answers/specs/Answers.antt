@@ -14,20 +14,24 @@ use Rattle.sy_loop_bounds.specs.declared.reach.Reach.TheVariants.{Sizes, Joins}
 use Rattle.sy_loop_outcome.specs.Right.{IsRight}
 use Rattle.sy_loop_outcome.specs.declared.outcome.Outcome.{Outcome}
 use Rattle.sy_loop.specs.Least.{FindsLeast}
-use Rattle.sy_loop_beyond.specs.Exceeding.{FindsBeyond}
+use Rattle.sygus_answers.specs.Finding.{FindsBeyond}
 use Rattle.sygus_words.specs.declared.settings.Mode.{Mode}
-use Rattle.sygus_words.specs.declared.settings.Mode.TheVariants.{Solve, Least}
+use Rattle.sygus_words.specs.declared.settings.Mode.TheVariants.{Solve, Least, Drill}
 use Rattle.sygus_replies.specs.Answered.{AreRight}
 
--- what counts as within a bound: in mode `solve` conditional trees too, by their parts; in mode `least` sums of sizes alone
+-- what counts as within a bound: in modes `solve` and `drill` conditional trees too, by their parts; in mode `least` sums of
+-- sizes alone
 abbrev pub reach_of : Mode → Reach
 reach_of Solve = Joins
 reach_of Least = Sizes
+reach_of (Drill n) = Joins
 
--- bodies that are found are of the least bound in which any solve the problem: in mode `solve`, unless a bank was full before
+-- bodies that are found are of the least bound in which any solve the problem: in modes `solve` and `drill`, unless a bank was
+-- full before
 abbrev pub FindsWell : {T P S N : Type 0} → (N → Val) → Mode → Limits → Question → Outcome T P S N → Type 0
 FindsWell number Solve limits question outcome = FindsBeyond number question limits outcome
 FindsWell number Least limits question outcome = FindsLeast number Sizes question outcome
+FindsWell number (Drill n) limits question outcome = FindsBeyond number question limits outcome
 
 -- the outcome is right within these limits, and so are bodies that are found
 pub record RightOutcome {T P S N : Type 0} (owned : Op → Bool) (number : N → Val) (accepted : Query → P → Type 0) (budget : S → FailName) (shows : Query → Limits → FailName → S → Type 0)

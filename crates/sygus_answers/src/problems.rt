@@ -10,11 +10,11 @@ ghost use Rattle.sygus_replies.specs.Replies.{IsSettled, IsFail, reply_for, repl
 ghost use Rattle.sygus_replies.specs.Texts.{texts, answer_lines, memory_line};
 ghost use Rattle.sygus_answers.specs.Answers.{RightOutcomeFor, AreRightFor};
 
+use crate::synthesis::synthesise_beyond;
 use std::alloc::Global;
 use sy_grammar_base::Problem;
 use sy_io::Sink;
 use sy_loop::synthesise_least;
-use sy_loop_beyond::synthesise_beyond;
 use sy_loop_outcome::Outcome;
 use sy_query_decide::Decide;
 use sy_query_limits::Limits;
@@ -92,7 +92,7 @@ pub fn solve<T: Theory, D: Decide<T>, O: Sink, E: Sink>(
 }
 
 /// 1 where some answer is a fail, else 0.
-fn status_of<T: Theory, D: Decide<T>>(answers: &[Outcome<T, D::Proof, D::Spent>]) -> u8
+pub(crate) fn status_of<T: Theory, D: Decide<T>>(answers: &[Outcome<T, D::Proof, D::Spent>]) -> u8
     ensures bound { result ≤ 1 }
     ensures all_settled { result ≡ 0 → All IsSettled (replies_for T.Theory D.Decide answers.now) }
     ensures some_fail { result ≡ 1 → Any IsFail (replies_for T.Theory D.Decide answers.now) }
@@ -108,7 +108,7 @@ fn status_of<T: Theory, D: Decide<T>>(answers: &[Outcome<T, D::Proof, D::Spent>]
 }
 
 /// What the search of this mode answers to the problem.
-fn sought<T: Theory, D: Decide<T>>(
+pub(crate) fn sought<T: Theory, D: Decide<T>>(
     alloc: Global,
     problem: &Problem<T>,
     mode: Mode,
@@ -125,6 +125,10 @@ fn sought<T: Theory, D: Decide<T>>(
         }
         Mode::Least => {
             let outcome = synthesise_least(alloc, problem, limits, decide)?;
+            Ok(outcome)
+        }
+        Mode::Drill(_) => {
+            let outcome = synthesise_beyond(alloc, problem, limits, decide)?;
             Ok(outcome)
         }
     }

@@ -3,3 +3,4 @@ pub mod Commands
 pub mod Reading
 pub mod Steps
 pub mod Files
+pub mod Lengths

@@ -1,5 +1,5 @@
 -- What the file of a number asks.
-use Rattle.std.specs.Prelude.{ℕ, ◌≡◌, ◌%◌, List, [], ◌∷◌, map, Some, Ok}
+use Rattle.std.specs.Prelude.{ℕ, ◌≡◌, ◌≤◌, ◌%◌, List, [], ◌∷◌, length, map, Some, Ok}
 use Rattle.sy_terms.specs.Values.{Bits}
 use Rattle.sy_terms.specs.Expr as expr
 use Rattle.sy_terms.specs.Expr.{Expr}
@@ -57,6 +57,10 @@ pub record Asks (number : ℕ) (wish : Wish) : Type 0 where
   pub question : Question
   pub one : wish.questions ≡ question ∷ []
   pub asks : AsksFor (number % 256) (examples number) question
+
+-- the file of each number is no longer than a file may be
+abbrev pub FilesAreShort : Type 0
+FilesAreShort = (number : ℕ) → length (drill_file number) ≤ 4194304
 
 -- the file of each number is in the profile, and asks so
 abbrev pub FilesAsk : Type 0

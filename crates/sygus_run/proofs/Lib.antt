@@ -1,4 +1,5 @@
 pub mod Answerable
+pub mod Drilling
 pub mod Ends
 pub mod Jobs
 pub mod Named

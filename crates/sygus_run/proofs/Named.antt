@@ -62,7 +62,7 @@ negated : (b : Bool) → not b ≡ true → b ≡ false
 negated false is = refl
 negated true is = cc
 
-vectors_fit : (op : Op) (values : List Val) → vectors.owned op ≡ true → fits op values ≡ true
+pub vectors_fit : (op : Op) (values : List Val) → vectors.owned op ≡ true → fits op values ≡ true
 vectors_fit op values owned = fit_but_integers op values (negated (in_ints op) owned)
 
 bit_named : {T : Type 0} (mode : Mode) (limits : Limits) (question : Question) (outcome : Outcome T BvProof BvSpent Word) → QuestionFits vectors.owned vectors.is_bits question

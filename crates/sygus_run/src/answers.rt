@@ -1,10 +1,16 @@
 // The answers of a run.
+ghost use Rattle.std.specs.Prelude.{◌≡◌, ◌≢◌};
+ghost use Rattle.std.specs.Io.KnownBytes.{Appends};
+ghost use Rattle.sy_io.specs.Causes.{Rose};
+
 use sy_bits::{BvProof, BvSpent};
 use sy_intsolve::{IntSpent, Tree};
+use sy_io::Sink;
 use sy_loop_outcome::Outcome;
 use sy_meaning_integers::IntTheory;
 use sy_meaning_words::BvTheory;
 use sy_terms::Seq;
+use sygus_replies::last;
 
 /// The answers to the problems of a file, in order.
 #[derive(Drop)]
@@ -22,4 +28,16 @@ pub enum Answers {
 pub struct Ended {
     pub status: u8,
     pub answers: Answers,
+}
+
+/// The end after the last line of a run that answers nothing.
+pub(crate) fn unanswered<E: Sink>(err: &mut E, line: &[u8], status: u8) -> Ended
+    ensures answers { result.answers ≡ Answers.Idle }
+    ensures written { result.status ≢ 5 → (result.status ≡ status) × Appends (E.written err.old) (E.written err.new) line.now }
+    ensures fault { result.status ≡ 5 → status ≢ 5 → Rose (E.faults err.old) (E.faults err.new) }
+{
+    Ended {
+        status: last(err, line, status),
+        answers: Answers::Idle,
+    }
 }

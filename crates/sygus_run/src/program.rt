@@ -1,26 +1,29 @@
 // The run over words, a source and two sinks.
-ghost use Rattle.std.specs.Prelude.{◌≡◌, ◌≢◌, ◌≤◌, ◌⊎◌, ◌++◌, map, string_bytes, All, Any};
+ghost use Rattle.std.specs.Prelude.{ℕ, ◌≡◌, ◌≤◌, ◌⊎◌, ◌++◌, map, string_bytes, All, Any};
 ghost use Rattle.std.specs.Io.KnownBytes.{Appends};
 ghost use Rattle.sy_io.specs.Causes.{Rose};
 ghost use Rattle.sygus_replies.specs.Replies.{IsSettled, IsFail};
 ghost use Rattle.sygus_replies.specs.Texts.{answer_lines, words_line, read_line, memory_line};
 ghost use Rattle.sygus_run.specs.Answers.{replies_of, AreNamedFor};
 ghost use Rattle.sygus_run.specs.Runs.{HaveNoReading, Answered, IsRefused, IsCutOff, WantsMemory};
+ghost use Rattle.sygus_run.specs.Drills.{AskDrill, AskNoDrill, EndsDrill};
+ghost use Rattle.sy_query_limits.specs.declared.Limits.{Limits};
 
-use crate::answers::{Answers, Ended};
+use crate::answers::{Answers, Ended, unanswered};
+use crate::drills::drill;
 use crate::job::answer;
 use std::alloc::Global;
 use sy_io::{ReadEnd, Sink, Source, read_whole};
 use sy_reply_lines::refusal_text;
 use sy_scope::{ScopeEnd, read_file};
-use sygus_replies::last;
-use sygus_words::{WordFault, read_words};
+use sygus_words::{Mode, WordFault, read_words};
 
 /// The most bytes that a file may have.
 const LONGEST: usize = 4194304;
 
 /// Reads the words, then the input, checks the whole file, and answers its problems in order.
-/// Each reply goes out before the next problem is sought.
+/// Each reply goes out before the next problem is sought. In mode `drill` the file is made from a number, and one line
+/// goes out in place of a reply.
 pub fn run<S: Source, O: Sink, E: Sink>(
     alloc: Global,
     words: &[String],
@@ -30,8 +33,14 @@ pub fn run<S: Source, O: Sink, E: Sink>(
 ) -> Ended
     ensures status { result.status ≤ 6 }
 
-    // 0 and 1: every problem of the file has its right answer
-    ensures answered { result.status ≤ 1 → Answered (map string_bytes words.now) (S.held source.old) result.answers
+    // mode drill: the problem of the number's file has its right answer, one line tells it, and the source isn't used
+    ensures drill { (number : ℕ) (limits : Limits) → AskDrill (map string_bytes words.now) number limits →
+        EndsDrill number limits result.status result.answers (O.written out.old) (O.written out.new) (E.written err.old) (E.written err.new) }
+    ensures unread { (number : ℕ) (limits : Limits) → AskDrill (map string_bytes words.now) number limits → source.new ≡ source.old }
+
+    // 0 and 1 in the other modes: every problem of the file has its right answer
+    ensures answered { AskNoDrill (map string_bytes words.now) → result.status ≤ 1 →
+        Answered (map string_bytes words.now) (S.held source.old) result.answers
         (O.written out.old) (O.written out.new) (E.written err.old) (E.written err.new) }
     ensures all_settled { result.status ≡ 0 → All IsSettled (replies_of result.answers) }
     ensures some_fail { result.status ≡ 1 → Any IsFail (replies_of result.answers) }
@@ -57,7 +66,7 @@ pub fn run<S: Source, O: Sink, E: Sink>(
 
     // 5: a write failed
     ensures write { result.status ≡ 5 → Rose (O.faults out.old) (O.faults out.new) ⊎ Rose (E.faults err.old) (E.faults err.new) }
-    ensures cut_off { result.status ≡ 5 → IsCutOff (map string_bytes words.now) (S.held source.old) result.answers
+    ensures cut_off { AskNoDrill (map string_bytes words.now) → result.status ≡ 5 → IsCutOff (map string_bytes words.now) (S.held source.old) result.answers
         (O.written out.old) (O.written out.new) }
 
     // 6: memory was wanted
@@ -70,6 +79,9 @@ pub fn run<S: Source, O: Sink, E: Sink>(
         Err(WordFault::Refused) => return unanswered(err, b"refused: words\n", 3),
         Err(WordFault::Want) => return unanswered(err, b"want of memory\n", 6),
     };
+    if let Mode::Drill(number) = settings.mode {
+        return drill(alloc, number, &settings.limits, out, err);
+    }
     let bytes = match read_whole(alloc, source, settings.file.as_str(), LONGEST) {
         Ok(bytes) => bytes,
         Err(ReadEnd::Fault) => return unanswered(err, b"fault: read\n", 4),
@@ -85,17 +97,5 @@ pub fn run<S: Source, O: Sink, E: Sink>(
             Err(_) => unanswered(err, b"want of memory\n", 6),
         },
         Err(ScopeEnd::Want) => unanswered(err, b"want of memory\n", 6),
-    }
-}
-
-/// The end after the last line of a run that answers nothing.
-fn unanswered<E: Sink>(err: &mut E, line: &[u8], status: u8) -> Ended
-    ensures answers { result.answers ≡ Answers.Idle }
-    ensures written { result.status ≢ 5 → (result.status ≡ status) × Appends (E.written err.old) (E.written err.new) line.now }
-    ensures fault { result.status ≡ 5 → status ≢ 5 → Rose (E.faults err.old) (E.faults err.new) }
-{
-    Ended {
-        status: last(err, line, status),
-        answers: Answers::Idle,
     }
 }

@@ -1,4 +1,4 @@
--- The command line of the program: `sygus [--mode solve|least] [--size N] [--rounds N] [--points N] [--bank N]
+-- The command line of the program: `sygus [--mode solve|least|drill] [--size N] [--rounds N] [--points N] [--bank N]
 -- [--weight N] [--clauses N] [--nodes N] [--pivots N] FILE`.
 use Rattle.std.specs.Prelude.{◌≡◌, ◌≤◌, ◌⊎◌, ℕ, true, List, [], ◌∷◌, Option, Some, None, codes}
 use Rattle.std.specs.Fmt.{decimal}
@@ -7,7 +7,7 @@ use Rattle.clap.specs.Simple.{new_shape}
 use Rattle.clap.specs.declared.builder.ArgAction.TheVariants.{Set}
 use Rattle.sy_query_limits.specs.declared.Limits.{Limits}
 use Rattle.sygus_words.specs.declared.settings.Mode.{Mode}
-use Rattle.sygus_words.specs.declared.settings.Mode.TheVariants.{Solve, Least}
+use Rattle.sygus_words.specs.declared.settings.Mode.TheVariants.{Solve, Least, Drill}
 use Rattle.sygus_words.specs.declared.settings.Settings.{Settings}
 use Rattle.sygus_words.specs.declared.settings.WordFault.{WordFault}
 use Rattle.sygus_words.specs.declared.settings.WordFault.TheVariants.{Refused, Want}
@@ -37,9 +37,18 @@ abbrev pub LimitIs : ℕ → ℕ → Option Text → ℕ → Type 0
 LimitIs default greatest None n = n ≡ default
 LimitIs default greatest (Some text) n = (text ≡ decimal n) × (1 ≤ n) × (n ≤ greatest)
 
-abbrev pub ModeIs : Option Text → Mode → Type 0
-ModeIs None mode = mode ≡ Solve
-ModeIs (Some text) mode = ((text ≡ codes "solve") × (mode ≡ Solve)) ⊎ ((text ≡ codes "least") × (mode ≡ Least))
+-- the greatest number that mode `drill` takes
+abbrev pub greatest_drill : ℕ
+greatest_drill = 999999999
+
+-- the drill of the number of which FILE is the decimal spelling
+abbrev pub DrillIs : Option Text → Mode → Type 0
+DrillIs file mode = (n : ℕ) × (file ≡ Some (decimal n)) × (n ≤ greatest_drill) × (mode ≡ Drill n)
+
+-- the mode that an option's value and FILE give
+abbrev pub ModeIs : Option Text → Option Text → Mode → Type 0
+ModeIs None file mode = mode ≡ Solve
+ModeIs (Some text) file mode = ((text ≡ codes "solve") × (mode ≡ Solve)) ⊎ (((text ≡ codes "least") × (mode ≡ Least)) ⊎ ((text ≡ codes "drill") × DrillIs file mode))
 
 -- the limits, with their defaults and greatest values
 pub record AreLimits (value : Text → Option Text) (limits : Limits) : Type 0 where
@@ -54,7 +63,7 @@ pub record AreLimits (value : Text → Option Text) (limits : Limits) : Type 0 w
 
 -- the settings that values of options and FILE give
 pub record AreSettings (value : Text → Option Text) (settings : Settings) : Type 0 where
-  pub mode : ModeIs (value (codes "mode")) settings.mode
+  pub mode : ModeIs (value (codes "mode")) (value (codes "FILE")) settings.mode
   pub limits : AreLimits value settings.limits
   pub file : value (codes "FILE") ≡ Some settings.file
 

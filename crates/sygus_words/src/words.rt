@@ -3,7 +3,7 @@ ghost use Rattle.std.specs.Prelude.{◌≡◌, ◌≤◌, ◌<◌, ◌^◌, ℕ,
 ghost use Rattle.std.specs.Fmt.{decimal};
 ghost use Rattle.std.specs.String.{string_bytes};
 ghost use Rattle.clap.specs.Words.{fault_of, first_value, found_of, matches_of, rows_of};
-ghost use Rattle.sygus_words.specs.CommandLine.{sygus, LimitIs, ModeIs, AreLimits, AreSettings, IsReading, IsRefused};
+ghost use Rattle.sygus_words.specs.CommandLine.{sygus, greatest_drill, LimitIs, DrillIs, ModeIs, AreLimits, AreSettings, IsReading, IsRefused};
 ghost use Rattle.sygus_words.specs.declared.settings.Settings.{Settings};
 ghost use Rattle.sygus_words.specs.declared.settings.WordFault.TheVariants.{Refused};
 ghost use Rattle.sygus_words.specs.declared.settings.Mode.{Mode};
@@ -64,13 +64,36 @@ fn limits(matches: &ArgMatches<'_>) -> Option<Limits>
     })
 }
 
+/// The number of a drill, of which the text is the decimal spelling, without sign and leading zeros.
+fn drill_number(text: &str) -> Option<u32>
+    ensures { MatchOption result ((n : ℕ) → text.now ≡ decimal n → n ≤ greatest_drill → ⊥) (λ n. (text.now ≡ decimal n) × (n ≤ greatest_drill)) }
+{
+    if text == "0" {
+        Some(0)
+    } else {
+        number(text, 999_999_999)
+    }
+}
+
+/// Mode `drill`, whose number stands in FILE's place.
+fn drill(matches: &ArgMatches<'_>) -> Option<Mode>
+    ensures { MatchOption result ((m : Mode) → DrillIs (first_value (found_of matches.now) (codes "FILE")) m → ⊥) (λ m. DrillIs (first_value (found_of matches.now) (codes "FILE")) m) }
+{
+    let file = matches.get_str("FILE")?;
+    let number = drill_number(file)?;
+    Some(Mode::Drill(number))
+}
+
 /// The mode, which is `solve` where none is named.
 fn mode(matches: &ArgMatches<'_>) -> Option<Mode>
-    ensures { MatchOption result ((m : Mode) → ModeIs (first_value (found_of matches.now) (codes "mode")) m → ⊥) (λ m. ModeIs (first_value (found_of matches.now) (codes "mode")) m) }
+    ensures { MatchOption result
+        ((m : Mode) → ModeIs (first_value (found_of matches.now) (codes "mode")) (first_value (found_of matches.now) (codes "FILE")) m → ⊥)
+        (λ m. ModeIs (first_value (found_of matches.now) (codes "mode")) (first_value (found_of matches.now) (codes "FILE")) m) }
 {
     match matches.get_str("mode") {
         None | Some("solve") => Some(Mode::Solve),
         Some("least") => Some(Mode::Least),
+        Some("drill") => drill(matches),
         Some(_) => None,
     }
 }
@@ -109,8 +132,9 @@ fn parsed<'a>(alloc: Global, words: &'a [String]) -> Result<ArgMatches<'a>, Word
 
 /// The settings that the words of a command line ask for; the first word is the program's name. An option is
 /// written `--NAME VALUE` or `--NAME=VALUE`, and the last one that is no option is the name of the file. `Refused`
-/// comes where `clap` refuses the words, the mode is neither `solve` nor `least`, or the value of a limit isn't the decimal spelling,
-/// without sign and leading zeros, of a number from 1 to its greatest value:
+/// comes where `clap` refuses the words, where the mode is none of `solve`, `least` and `drill`, where the value of a
+/// limit isn't the decimal spelling, without sign and leading zeros, of a number from 1 to its greatest value, or where in
+/// mode `drill` the name of the file isn't so spelled a number from 0 to 999,999,999:
 ///
 /// | Option | Default | Greatest |
 /// |---|---|---|

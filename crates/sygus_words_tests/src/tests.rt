@@ -174,6 +174,9 @@ fn modes(rt: HostRuntime) {
         ("sygus f.sl", Mode::Solve),
         ("sygus --mode solve f.sl", Mode::Solve),
         ("sygus --mode=least f.sl", Mode::Least),
+        ("sygus --mode drill 128", Mode::Drill(128)),
+        ("sygus --mode=drill 0", Mode::Drill(0)),
+        ("sygus 999999999 --mode drill", Mode::Drill(999_999_999)),
     ];
     for (line, mode) in rows {
         let settings = read(rt.alloc(), line).ok();
@@ -206,6 +209,14 @@ fn lines_that_are_refused(rt: HostRuntime) {
         "sygus --nodes 8001 f.sl",
         "sygus --pivots 100001 f.sl",
         "sygus --mode drill f.sl",
+        "sygus --mode drill",
+        "sygus --mode drill 007",
+        "sygus --mode drill 00",
+        "sygus --mode drill +1",
+        "sygus --mode drill -- -1",
+        "sygus --mode drill 1000000000",
+        "sygus --mode drill 4294967424",
+        "sygus --mode drill 1 2",
         "sygus --mode Solve f.sl",
         "sygus --mode= f.sl",
         "sygus --mode solve --mode solve f.sl",

@@ -22,6 +22,10 @@ const ANSWERED: [(&str, &[u8], &[u8]); 2] = [
     ("sygus --size 3 f.sl", GREATER, GREATER_REPLY),
 ];
 
+/// The greatest vector has none above it.
+const ABOVE: &[u8] =
+    b"(set-logic BV)\n(synth-fun f ((x (_ BitVec 8))) (_ BitVec 8)\n  ((S (_ BitVec 8)))\n  ((S (_ BitVec 8) (x (bvadd x #x01)))))\n(declare-var x (_ BitVec 8))\n(constraint (bvugt (f x) x))\n(check-synth)\n";
+
 /// A symbol in bars that doesn't end.
 const OPEN: &[u8] = b"(set-info :source |ab";
 
@@ -86,7 +90,7 @@ type Row = (
 fn slow_and_failing_calls(rt: HostRuntime) {
     let fails = b"fail: check-synth 1 Size\n";
     let open = b"refused: command 1 line 1 column 19 cause 1 Text Unclosed\n";
-    let rows: [Row; 10] = [
+    let rows: [Row; 11] = [
         ("sygus f.sl", EXAMPLE, [SLOW; 3], 0, REPLY, b""),
         (
             "sygus --size 2 f.sl",
@@ -115,6 +119,14 @@ fn slow_and_failing_calls(rt: HostRuntime) {
             b"",
         ),
         ("sygus f.sl", EXAMPLE, [SLOW, SLOW, NONE], 0, REPLY, b""),
+        (
+            "sygus f.sl",
+            ABOVE,
+            [ALL, ALL, NONE],
+            0,
+            b"infeasible\n",
+            b"",
+        ),
         ("sygus f.sl", OPEN, [ALL, ALL, NONE], 5, b"", b""),
         ("sygus", EXAMPLE, [ALL, ALL, NONE], 5, b"", b""),
         ("sygus f.sl", EXAMPLE, [NONE, ALL, NONE], 5, b"", b""),

@@ -117,6 +117,12 @@ const DOUBLED: Large = Large {
     ..SPACES
 };
 
+/// The same over integers.
+const DOUBLED_INTEGERS: Large = Large {
+    head: "(set-logic LIA)\n(define-fun d0 () Bool true)\n",
+    ..DOUBLED
+};
+
 /// The seventeenth as a constraint.
 const HEAVY: Large = Large {
     tail: "(constraint d17)\n(check-synth)\n",
@@ -125,8 +131,8 @@ const HEAVY: Large = Large {
 
 /// The same over integers.
 const HEAVY_INTEGERS: Large = Large {
-    head: "(set-logic LIA)\n(define-fun d0 () Bool true)\n",
-    ..HEAVY
+    tail: "(constraint d17)\n(check-synth)\n",
+    ..DOUBLED_INTEGERS
 };
 
 /// So many arguments.
@@ -163,7 +169,7 @@ type Row = (Large, u32, u8, &'static [u8], &'static [u8]);
 
 #[test]
 fn largest_files(rt: HostRuntime) -> Result<(), AllocError> {
-    let rows: [Row; 21] = [
+    let rows: [Row; 23] = [
         (SPACES, 131072, 0, b"", b""),
         (
             MORE_SPACES,
@@ -213,6 +219,14 @@ fn largest_files(rt: HostRuntime) -> Result<(), AllocError> {
         (DOUBLED, 17, 0, b"", b""),
         (
             DOUBLED,
+            18,
+            2,
+            b"",
+            b"refused: command 20 line 20 column 25 cause 16 TooMany\n",
+        ),
+        (DOUBLED_INTEGERS, 17, 0, b"", b""),
+        (
+            DOUBLED_INTEGERS,
             18,
             2,
             b"",

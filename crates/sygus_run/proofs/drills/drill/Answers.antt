@@ -1,0 +1,9 @@
+use Rattle.std.proofs.Common.{◌≡◌, inl, inr}
+use Rattle.sygus_run.proofs.Drilling.{high, ends_idle, ends_drilled}
+use Rattle.sygus_run.proofs.Ends.{idle_line}
+use Rattle.sygus_run.proofs.drills.drill.Goals as goal
+
+pub returns-in-Err-clause-memory_line : goal.returns-in-Err-clause-memory_line
+returns-in-Err-clause-memory_line g c is =
+    let not : c.unanswered.result.status ≡ 5 → ⊥ = λ h. cc in
+    idle_line _ _ _ _ c.unanswered.ensures.answers (c.unanswered.ensures.written not).1
