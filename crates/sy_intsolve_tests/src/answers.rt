@@ -129,8 +129,14 @@ fn answers_small_queries(rt: HostRuntime) -> Result<(), Fail> {
         ("ii", "A5<BA1+=&B6<i!", 9, 99, Answer::Never),
         ("ii", "A5<BA1+=&B5<i!", 9, 99, Answer::Only(&[4, 5])),
         // steps at a leaf
-        ("ii", "A99*>B99*>&", 9, 1, Answer::Spent(FailName::Pivots)),
-        ("ii", "A99*>B99*>&", 9, 2, Answer::Found),
+        (
+            "ii",
+            "A99*9*9*>B99*9*9*>&",
+            9,
+            1,
+            Answer::Spent(FailName::Pivots),
+        ),
+        ("ii", "A99*9*9*>B99*9*9*>&", 9, 2, Answer::Found),
         // what isn't linear
         ("ii", "AB*2*3=", 9, 9, Answer::Spent(FailName::Range)),
         ("ii", "A2*B=B3=&", 40, 99, Answer::Never),
