@@ -1,8 +1,8 @@
 #!/usr/bin/env python3
-"""Prints the tables of crates/sy_vectors_operators/src/integers.rt, with values from z3.
+"""Prints the rows of crates/sy_vectors_operators/src/integers.rt, with values from z3.
 
 A left associative operator is written out pair by pair, as SMT-LIB defines it, so that each partial
-value is seen: the row has None where one of them lies outside -2^127 to 2^127 - 1. SMT-LIB leaves
+value is seen: the row has `none` where one of them lies outside -2^127 to 2^127 - 1. SMT-LIB leaves
 division by 0 open; here `div` gives 0 and `mod` the dividend, and those rows don't ask z3.
 """
 import subprocess
@@ -11,51 +11,50 @@ LEAST, MOST = -2**127, 2**127 - 1
 M = 2**126
 
 ARITHMETIC = [
-    ("Neg", [0]), ("Neg", [5]), ("Neg", [-5]), ("Neg", [MOST]), ("Neg", [LEAST]), ("Neg", [LEAST + 1]),
-    ("Abs", [0]), ("Abs", [7]), ("Abs", [-7]), ("Abs", [LEAST]), ("Abs", [LEAST + 1]), ("Abs", [MOST]),
-    ("Add", [2, 3]), ("Add", [-2, 3]), ("Add", [1, 2, 3]), ("Add", [MOST, 1]), ("Add", [MOST, 1, -1]),
-    ("Add", [MOST, -1, 1]), ("Add", [LEAST, -1]), ("Add", [LEAST, MOST]), ("Add", [LEAST, LEAST]), ("Add", [1, 2, 3, 4]),
-    ("Add", [M, M]), ("Add", [M, M - 1]), ("Add", [-M, -M]),
-    ("Sub", [5, 3]), ("Sub", [3, 5]), ("Sub", [10, 3, 2]), ("Sub", [10, 3, 2, 1]), ("Sub", [LEAST, 1]), ("Sub", [-MOST, 1]),
-    ("Sub", [0, LEAST]), ("Sub", [-1, LEAST]), ("Sub", [LEAST, 1, -1]), ("Sub", [MOST, -1]), ("Sub", [LEAST, LEAST]),
-    ("Mul", [6, 7]), ("Mul", [-6, 7]), ("Mul", [-6, -7]), ("Mul", [2, 3, 4]), ("Mul", [2**64, 2**63]), ("Mul", [2**64, -2**63]),
-    ("Mul", [2**64, 2**62]), ("Mul", [LEAST, -1]), ("Mul", [LEAST, 1]), ("Mul", [2**64, 2**64, 0]), ("Mul", [0, 2**64, 2**64]),
-    ("Mul", [-1, LEAST]), ("Mul", [MOST, -1]),
-    ("Div", [7, 2]), ("Div", [-7, 2]), ("Div", [7, -2]), ("Div", [-7, -2]), ("Div", [6, 3]), ("Div", [-6, 3]), ("Div", [6, -3]),
-    ("Div", [-6, -3]), ("Div", [1, 5]), ("Div", [-1, 5]), ("Div", [-1, -5]), ("Div", [1, -5]), ("Div", [100, 7, 3]), ("Div", [-100, 7, -3]),
-    ("Div", [LEAST, -1]), ("Div", [LEAST, 1]), ("Div", [LEAST, 2]), ("Div", [LEAST, LEAST]), ("Div", [MOST, LEAST]), ("Div", [LEAST, MOST]),
-    ("Div", [7, 0]), ("Div", [-7, 0]), ("Div", [7, 0, 3]), ("Div", [LEAST, 2, -1]), ("Div", [LEAST, -1, 0]),
-    ("Mod", [7, 2]), ("Mod", [-7, 2]), ("Mod", [7, -2]), ("Mod", [-7, -2]), ("Mod", [6, 3]), ("Mod", [-6, 3]), ("Mod", [1, 5]),
-    ("Mod", [-1, 5]), ("Mod", [-1, -5]), ("Mod", [LEAST, -1]), ("Mod", [LEAST, LEAST]), ("Mod", [LEAST, MOST]), ("Mod", [MOST, LEAST]),
-    ("Mod", [7, 0]), ("Mod", [-7, 0]), ("Mod", [LEAST, 0]),
+    ("neg", [0]), ("neg", [5]), ("neg", [-5]), ("neg", [MOST]), ("neg", [LEAST]), ("neg", [LEAST + 1]),
+    ("abs", [0]), ("abs", [7]), ("abs", [-7]), ("abs", [LEAST]), ("abs", [LEAST + 1]), ("abs", [MOST]),
+    ("+", [2, 3]), ("+", [-2, 3]), ("+", [1, 2, 3]), ("+", [MOST, 1]), ("+", [MOST, 1, -1]),
+    ("+", [MOST, -1, 1]), ("+", [LEAST, -1]), ("+", [LEAST, MOST]), ("+", [LEAST, LEAST]), ("+", [1, 2, 3, 4]),
+    ("+", [M, M]), ("+", [M, M - 1]), ("+", [-M, -M]),
+    ("-", [5, 3]), ("-", [3, 5]), ("-", [10, 3, 2]), ("-", [10, 3, 2, 1]), ("-", [LEAST, 1]), ("-", [-MOST, 1]),
+    ("-", [0, LEAST]), ("-", [-1, LEAST]), ("-", [LEAST, 1, -1]), ("-", [MOST, -1]), ("-", [LEAST, LEAST]),
+    ("*", [6, 7]), ("*", [-6, 7]), ("*", [-6, -7]), ("*", [2, 3, 4]), ("*", [2**64, 2**63]), ("*", [2**64, -2**63]),
+    ("*", [2**64, 2**62]), ("*", [LEAST, -1]), ("*", [LEAST, 1]), ("*", [2**64, 2**64, 0]), ("*", [0, 2**64, 2**64]),
+    ("*", [-1, LEAST]), ("*", [MOST, -1]),
+    ("div", [7, 2]), ("div", [-7, 2]), ("div", [7, -2]), ("div", [-7, -2]), ("div", [6, 3]), ("div", [-6, 3]), ("div", [6, -3]),
+    ("div", [-6, -3]), ("div", [1, 5]), ("div", [-1, 5]), ("div", [-1, -5]), ("div", [1, -5]), ("div", [100, 7, 3]), ("div", [-100, 7, -3]),
+    ("div", [LEAST, -1]), ("div", [LEAST, 1]), ("div", [LEAST, 2]), ("div", [LEAST, LEAST]), ("div", [MOST, LEAST]), ("div", [LEAST, MOST]),
+    ("div", [7, 0]), ("div", [-7, 0]), ("div", [7, 0, 3]), ("div", [LEAST, 2, -1]), ("div", [LEAST, -1, 0]),
+    ("mod", [7, 2]), ("mod", [-7, 2]), ("mod", [7, -2]), ("mod", [-7, -2]), ("mod", [6, 3]), ("mod", [-6, 3]), ("mod", [1, 5]),
+    ("mod", [-1, 5]), ("mod", [-1, -5]), ("mod", [LEAST, -1]), ("mod", [LEAST, LEAST]), ("mod", [LEAST, MOST]), ("mod", [MOST, LEAST]),
+    ("mod", [7, 0]), ("mod", [-7, 0]), ("mod", [LEAST, 0]),
 ]
 
 TESTS = [
-    ("Le", [1, 1]), ("Le", [2, 1]), ("Le", [1, 2, 3]), ("Le", [1, 3, 2]), ("Le", [LEAST, MOST]), ("Le", [2, 1, 3]), ("Le", [1, 2, 2, 1]),
-    ("Lt", [1, 1]), ("Lt", [1, 2]), ("Lt", [1, 2, 2]), ("Lt", [-2, -1, 0]), ("Lt", [MOST, LEAST]), ("Lt", [3, 1, 2]),
-    ("Ge", [1, 1]), ("Ge", [1, 2]), ("Ge", [3, 2, 1]), ("Ge", [3, 1, 2]), ("Ge", [MOST, LEAST]), ("Ge", [1, 2, 1]),
-    ("Gt", [1, 1]), ("Gt", [2, 1]), ("Gt", [3, 2, 2]), ("Gt", [0, -1, -2]), ("Gt", [LEAST, MOST]), ("Gt", [1, 3, 2]),
-    ("Equal", [1, 1]), ("Equal", [1, 2]), ("Equal", [4, 4, 4]), ("Equal", [4, 4, 5]), ("Equal", [5, 4, 4]), ("Equal", [LEAST, MOST]),
-    ("Distinct", [1, 1]), ("Distinct", [1, 2]), ("Distinct", [1, 2, 1]), ("Distinct", [1, 2, 3]), ("Distinct", [1, 2, 3, 2]), ("Distinct", [1, 1, 2]),
+    ("<=", [1, 1]), ("<=", [2, 1]), ("<=", [1, 2, 3]), ("<=", [1, 3, 2]), ("<=", [LEAST, MOST]), ("<=", [2, 1, 3]), ("<=", [1, 2, 2, 1]),
+    ("<", [1, 1]), ("<", [1, 2]), ("<", [1, 2, 2]), ("<", [-2, -1, 0]), ("<", [MOST, LEAST]), ("<", [3, 1, 2]),
+    (">=", [1, 1]), (">=", [1, 2]), (">=", [3, 2, 1]), (">=", [3, 1, 2]), (">=", [MOST, LEAST]), (">=", [1, 2, 1]),
+    (">", [1, 1]), (">", [2, 1]), (">", [3, 2, 2]), (">", [0, -1, -2]), (">", [LEAST, MOST]), (">", [1, 3, 2]),
+    ("=", [1, 1]), ("=", [1, 2]), ("=", [4, 4, 4]), ("=", [4, 4, 5]), ("=", [5, 4, 4]), ("=", [LEAST, MOST]),
+    ("distinct", [1, 1]), ("distinct", [1, 2]), ("distinct", [1, 2, 1]), ("distinct", [1, 2, 3]), ("distinct", [1, 2, 3, 2]), ("distinct", [1, 1, 2]),
 ]
 
 T, F = True, False
 TRUTHS = [
-    ("Not", [T]), ("Not", [F]),
-    ("And", [T]), ("And", [F]), ("And", [T, T]), ("And", [T, F]), ("And", [T, T, F]), ("And", [T, T, T]), ("And", [F, T, T]),
-    ("Or", [T]), ("Or", [F]), ("Or", [F, F]), ("Or", [F, T]), ("Or", [F, F, T]), ("Or", [F, F, F]),
-    ("Xor", [T, T]), ("Xor", [T, F]), ("Xor", [F, F]), ("Xor", [T, T, T]), ("Xor", [T, T, F]), ("Xor", [T, F, T, T]),
-    ("Implies", [T, F]), ("Implies", [F, F]), ("Implies", [T, T]), ("Implies", [F, T, F]), ("Implies", [F, F, F]), ("Implies", [T, T, F]),
-    ("Implies", [T, F, F]), ("Implies", [F, T, F, F]),
-    ("Equal", [T, T]), ("Equal", [T, F]), ("Equal", [F, F, F]), ("Equal", [F, F, T]), ("Equal", [T, F, T]),
-    ("Distinct", [T, F]), ("Distinct", [T, T]), ("Distinct", [T, F, T]),
-    ("Ite", [T, T, F]), ("Ite", [F, T, F]), ("Ite", [T, F, T]), ("Ite", [F, F, T]),
+    ("not", [T]), ("not", [F]),
+    ("and", [T]), ("and", [F]), ("and", [T, T]), ("and", [T, F]), ("and", [T, T, F]), ("and", [T, T, T]), ("and", [F, T, T]),
+    ("or", [T]), ("or", [F]), ("or", [F, F]), ("or", [F, T]), ("or", [F, F, T]), ("or", [F, F, F]),
+    ("xor", [T, T]), ("xor", [T, F]), ("xor", [F, F]), ("xor", [T, T, T]), ("xor", [T, T, F]), ("xor", [T, F, T, T]),
+    ("=>", [T, F]), ("=>", [F, F]), ("=>", [T, T]), ("=>", [F, T, F]), ("=>", [F, F, F]), ("=>", [T, T, F]),
+    ("=>", [T, F, F]), ("=>", [F, T, F, F]),
+    ("=", [T, T]), ("=", [T, F]), ("=", [F, F, F]), ("=", [F, F, T]), ("=", [T, F, T]),
+    ("distinct", [T, F]), ("distinct", [T, T]), ("distinct", [T, F, T]),
+    ("ite", [T, T, F]), ("ite", [F, T, F]), ("ite", [T, F, T]), ("ite", [F, F, T]),
 ]
 
-NAMES = {
-    "Neg": "-", "Abs": "abs", "Add": "+", "Sub": "-", "Mul": "*", "Div": "div", "Mod": "mod", "Le": "<=", "Lt": "<", "Ge": ">=",
-    "Gt": ">", "Equal": "=", "Distinct": "distinct", "Not": "not", "And": "and", "Or": "or", "Xor": "xor", "Implies": "=>", "Ite": "ite",
-}
+
+def smt(word):
+    return "-" if word == "neg" else word
 
 
 def written(value):
@@ -73,16 +72,16 @@ def ask(name, arguments):
 
 
 def step(op, x, y):
-    if y == 0 and op == "Div":
+    if y == 0 and op == "div":
         return 0
-    if y == 0 and op == "Mod":
+    if y == 0 and op == "mod":
         return x
-    return ask(NAMES[op], [x, y])
+    return ask(smt(op), [x, y])
 
 
 def number(op, arguments):
     if len(arguments) == 1:
-        value = ask(NAMES[op], arguments)
+        value = ask(smt(op), arguments)
         return value if LEAST <= value <= MOST else None
     value = arguments[0]
     for other in arguments[1:]:
@@ -92,23 +91,15 @@ def number(op, arguments):
     return value
 
 
-def rust(value):
-    if isinstance(value, bool):
-        return "true" if value else "false"
-    return {LEAST: "i128::MIN", MOST: "i128::MAX"}.get(value, str(value))
+def word(value):
+    return "none" if value is None else str(value).lower()
 
 
-def rows(title, table, answer):
-    print(f"// {title}: {len(table)}")
+def rows(table, answer):
     for op, arguments in table:
-        print(f"        (Op::{op}, &[{', '.join(rust(a) for a in arguments)}], {answer(op, arguments)}),")
+        print(op, *map(word, arguments), word(answer(op, arguments)))
 
 
-def optional(op, arguments):
-    value = number(op, arguments)
-    return "None" if value is None else f"Some({rust(value)})"
-
-
-rows("arithmetic", ARITHMETIC, optional)
-rows("tests", TESTS, lambda op, arguments: rust(ask(NAMES[op], arguments)))
-rows("truths", TRUTHS, lambda op, arguments: rust(ask(NAMES[op], arguments)))
+rows(ARITHMETIC, number)
+rows(TESTS, lambda op, arguments: ask(smt(op), arguments))
+rows(TRUTHS, lambda op, arguments: ask(smt(op), arguments))

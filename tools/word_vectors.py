@@ -1,5 +1,5 @@
 #!/usr/bin/env python3
-"""Writes the tables of crates/sy_vectors_operators/src/words.rt: values of SMT-LIB's operators on bit vectors, as z3 gives them.
+"""Prints the rows of crates/sy_vectors_operators/src/words.rt: values of SMT-LIB's operators on bit vectors, as z3 gives them.
 
 Run it at the top of the repository, with z3 on the path: tools/word_vectors.py
 """
@@ -7,26 +7,23 @@ import random
 import subprocess
 
 WIDTHS = [1, 8, 32, 63, 64]
-PAIRS = {
-    "BvAnd": "bvand", "BvOr": "bvor", "BvXor": "bvxor", "BvNand": "bvnand", "BvNor": "bvnor", "BvXnor": "bvxnor",
-    "BvAdd": "bvadd", "BvSub": "bvsub", "BvMul": "bvmul", "BvUdiv": "bvudiv", "BvUrem": "bvurem",
-    "BvSdiv": "bvsdiv", "BvSrem": "bvsrem", "BvSmod": "bvsmod", "BvShl": "bvshl", "BvLshr": "bvlshr",
-    "BvAshr": "bvashr", "BvComp": "bvcomp",
-}
-DIVISIONS = ["BvUdiv", "BvUrem", "BvSdiv", "BvSrem", "BvSmod"]
-SHIFTS = ["BvShl", "BvLshr", "BvAshr"]
-ORDERS = {
-    "BvUlt": "bvult", "BvUle": "bvule", "BvUgt": "bvugt", "BvUge": "bvuge",
-    "BvSlt": "bvslt", "BvSle": "bvsle", "BvSgt": "bvsgt", "BvSge": "bvsge",
-}
+PAIRS = [
+    "bvand", "bvor", "bvxor", "bvnand", "bvnor", "bvxnor", "bvadd", "bvsub", "bvmul", "bvudiv", "bvurem", "bvsdiv",
+    "bvsrem", "bvsmod", "bvshl", "bvlshr", "bvashr", "bvcomp",
+]
+DIVISIONS = ["bvudiv", "bvurem", "bvsdiv", "bvsrem", "bvsmod"]
+SHIFTS = ["bvshl", "bvlshr", "bvashr"]
+ORDERS = [
+    "bvult", "bvule", "bvugt", "bvuge", "bvslt", "bvsle", "bvsgt", "bvsge",
+]
 
 
 # worked by hand, at width 4
 PAIRS_OF_FOUR = [
-    ("BvSdiv", 0b1001, 0b0010), ("BvSrem", 0b1001, 0b0010), ("BvSmod", 0b1001, 0b0010), ("BvSmod", 0b0111, 0b1110),
-    ("BvSmod", 0b1001, 0b1110), ("BvSdiv", 0b1001, 0b0000), ("BvSdiv", 0b0111, 0b0000), ("BvSrem", 0b1001, 0b0000),
-    ("BvSmod", 0b1001, 0b0000), ("BvUdiv", 0b0101, 0b0000), ("BvUrem", 0b0101, 0b0000), ("BvAshr", 0b1000, 0b0001),
-    ("BvAshr", 0b1000, 0b0100), ("BvShl", 0b0011, 0b0100),
+    ("bvsdiv", 0b1001, 0b0010), ("bvsrem", 0b1001, 0b0010), ("bvsmod", 0b1001, 0b0010), ("bvsmod", 0b0111, 0b1110),
+    ("bvsmod", 0b1001, 0b1110), ("bvsdiv", 0b1001, 0b0000), ("bvsdiv", 0b0111, 0b0000), ("bvsrem", 0b1001, 0b0000),
+    ("bvsmod", 0b1001, 0b0000), ("bvudiv", 0b0101, 0b0000), ("bvurem", 0b0101, 0b0000), ("bvashr", 0b1000, 0b0001),
+    ("bvashr", 0b1000, 0b0100), ("bvshl", 0b0011, 0b0100),
 ]
 
 
@@ -56,7 +53,7 @@ def operand(rng, width):
 
 
 def pair(name, width, s, t):
-    return (name, width, s, width, t, f"({PAIRS[name]} {vector(width, s)} {vector(width, t)})")
+    return (name, width, s, width, t, f"({name} {vector(width, s)} {vector(width, t)})")
 
 
 def pairs_of_four():
@@ -83,8 +80,8 @@ def by_zero():
         for width, s in [(1, 1), (8, 200), (32, 77), (63, 2**62 + 5), (64, 2**63 + 9)]:
             rows.append(pair(name, width, s, 0))
     for width in WIDTHS:
-        rows.append(pair("BvSdiv", width, 2 ** (width - 1), 2**width - 1))
-        rows.append(pair("BvSmod", width, 2 ** (width - 1), 2**width - 1))
+        rows.append(pair("bvsdiv", width, 2 ** (width - 1), 2**width - 1))
+        rows.append(pair("bvsmod", width, 2 ** (width - 1), 2**width - 1))
     return rows
 
 
@@ -100,46 +97,46 @@ def joined(rng):
     rows = []
     for v, w in [(1, 1), (8, 8), (32, 32), (63, 1), (1, 63), (8, 56)]:
         s, t = operand(rng, v), operand(rng, w)
-        rows.append(("Concat", v, s, w, t, f"(concat {vector(v, s)} {vector(w, t)})"))
+        rows.append(("concat", v, s, w, t, f"(concat {vector(v, s)} {vector(w, t)})"))
     return rows
 
 
 def singles(rng):
     rows = [
-        ("RotateLeft(1)", 4, 0b1001, f"((_ rotate_left 1) {vector(4, 0b1001)})"),
-        ("Extract(2, 1)", 4, 0b1100, f"((_ extract 2 1) {vector(4, 0b1100)})"),
+        ("rotate_left,1", 4, 0b1001, f"((_ rotate_left 1) {vector(4, 0b1001)})"),
+        ("extract,2,1", 4, 0b1100, f"((_ extract 2 1) {vector(4, 0b1100)})"),
     ]
     for width in WIDTHS:
         def row(name, term, s):
             rows.append((name, width, s, f"({term} {vector(width, s)})"))
 
         s = operand(rng, width)
-        row("BvNot", "bvnot", s)
-        row("BvNeg", "bvneg", s)
-        row("BvNeg", "bvneg", 2 ** (width - 1))
+        row("bvnot", "bvnot", s)
+        row("bvneg", "bvneg", s)
+        row("bvneg", "bvneg", 2 ** (width - 1))
         high = rng.randrange(width)
         low = rng.randrange(high + 1)
-        row(f"Extract({high}, {low})", f"(_ extract {high} {low})", operand(rng, width))
+        row(f"extract,{high},{low}", f"(_ extract {high} {low})", operand(rng, width))
         copies = 64 // width
-        row(f"Repeat({copies})", f"(_ repeat {copies})", operand(rng, width) | 1)
+        row(f"repeat,{copies}", f"(_ repeat {copies})", operand(rng, width) | 1)
         by = 64 - width
-        row(f"ZeroExtend({by})", f"(_ zero_extend {by})", 2**width - 1)
-        row(f"SignExtend({by})", f"(_ sign_extend {by})", 2 ** (width - 1))
-        row(f"SignExtend({by})", f"(_ sign_extend {by})", 2 ** (width - 1) - 1)
+        row(f"zero_extend,{by}", f"(_ zero_extend {by})", 2**width - 1)
+        row(f"sign_extend,{by}", f"(_ sign_extend {by})", 2 ** (width - 1))
+        row(f"sign_extend,{by}", f"(_ sign_extend {by})", 2 ** (width - 1) - 1)
         for by in [rng.randrange(width), width, 203]:
             s = operand(rng, width)
-            row(f"RotateLeft({by})", f"(_ rotate_left {by})", s)
-            row(f"RotateRight({by})", f"(_ rotate_right {by})", s)
+            row(f"rotate_left,{by}", f"(_ rotate_left {by})", s)
+            row(f"rotate_right,{by}", f"(_ rotate_right {by})", s)
     return rows
 
 
 def orders(rng):
     rows = []
-    for name, word in ORDERS.items():
+    for name in ORDERS:
         for width in WIDTHS:
             s = operand(rng, width)
             t = rng.choice([s, operand(rng, width), s ^ 2 ** (width - 1)])
-            rows.append((name, width, s, t, f"({word} {vector(width, s)} {vector(width, t)})"))
+            rows.append((name, width, s, t, f"({name} {vector(width, s)} {vector(width, t)})"))
     return rows
 
 
@@ -147,40 +144,30 @@ def values(rows):
     return zip(rows, solved([row[-1] for row in rows]))
 
 
-def print_singles(name, rows):
-    print(f"fn {name}() -> [(Op, u8, u64, u8, u64); {len(rows)}] {{\n    [")
+def print_singles(rows):
     for (operator, width, s, _), value in values(rows):
-        print(f"        (Op::{operator}, {width}, {s}, {value[0]}, {value[1]}),")
-    print("    ]\n}\n")
+        print(f"{operator} {width}:{s} {value[0]}:{value[1]}")
 
 
-def print_pairs(name, rows):
-    print(f"fn {name}() -> [(Op, u8, u64, u8, u64, u8, u64); {len(rows)}] {{\n    [")
+def print_pairs(rows):
     for (operator, v, s, w, t, _), value in values(rows):
-        print(f"        (Op::{operator}, {v}, {s}, {w}, {t}, {value[0]}, {value[1]}),")
-    print("    ]\n}\n")
+        print(f"{operator} {v}:{s} {w}:{t} {value[0]}:{value[1]}")
 
 
-def print_orders(name, rows):
-    print(f"fn {name}() -> [(Op, u8, u64, u64, bool); {len(rows)}] {{\n    [")
+def print_orders(rows):
     for (operator, width, s, t, _), value in values(rows):
-        print(f"        (Op::{operator}, {width}, {s}, {t}, {str(value).lower()}),")
-    print("    ]\n}\n")
+        print(f"{operator} {width}:{s} {width}:{t} {str(value).lower()}")
 
 
 def main():
     rng = random.Random(64)
-    names = list(PAIRS)
-    rows = singles(rng)
-    half = len(rows) // 2
-    print_singles("single_rows", rows[:half])
-    print_singles("more_single_rows", rows[half:])
-    print_pairs("bitwise_rows", ordinary(rng, names[:6]))
-    print_pairs("arithmetic_rows", pairs_of_four() + ordinary(rng, ["BvAdd", "BvSub", "BvMul", "BvComp"]))
-    print_pairs("division_rows", ordinary(rng, DIVISIONS))
-    print_pairs("by_zero_rows", by_zero())
-    print_pairs("shift_rows", ordinary(rng, SHIFTS) + far_shifts() + joined(rng))
-    print_orders("order_rows", orders(rng))
+    print_singles(singles(rng))
+    print_pairs(ordinary(rng, PAIRS[:6]))
+    print_pairs(pairs_of_four() + ordinary(rng, ["bvadd", "bvsub", "bvmul", "bvcomp"]))
+    print_pairs(ordinary(rng, DIVISIONS))
+    print_pairs(by_zero())
+    print_pairs(ordinary(rng, SHIFTS) + far_shifts() + joined(rng))
+    print_orders(orders(rng))
 
 
 main()

@@ -10,15 +10,15 @@ use Rattle.sy_terms.specs.declared.sort.Sort.{Sort}
 use Rattle.sy_terms.specs.declared.sort.Sort.TheVariants as sorts
 use Rattle.sy_terms.specs.declared.term.Def.{Def}
 use Rattle.sy_meaning_integers.specs.Lia as lia
-use Rattle.sy_terms_laws.specs.Evaluation.{Gives}
+use Rattle.sy_terms_laws.specs.Evaluation.{GivesValue}
 use Rattle.sy_query_base.specs.Weights.{query_scope}
-use Rattle.sy_query_base.specs.Asked.{Query, Fits}
+use Rattle.sy_query_base.specs.Asked.{Query, QueryFits}
 
 -- the value that evaluation gives
-pub given : {T : Type 0} (defs : List (Def T ℤ)) (query : Query) (truth : Bool) (value : Val) → defs ≡ [] → query.variables ≡ sorts.Bool ∷ [] → Fits lia.owned lia.numeric query
-    → Gives lia.owned Whole defs [] (Truth truth ∷ []) query.body value → value ≡ meaning [] [] (Truth truth ∷ []) query.body
+pub given : {T : Type 0} (defs : List (Def T ℤ)) (query : Query) (truth : Bool) (value : Val) → defs ≡ [] → query.variables ≡ sorts.Bool ∷ [] → QueryFits lia.owned lia.numeric query
+    → GivesValue lia.owned Whole defs [] (Truth truth ∷ []) query.body value → value ≡ meaning [] [] (Truth truth ∷ []) query.body
 given {T} defs query truth value none one fits gives =
-    let now : Gives {T = T} lia.owned Whole [] [] (Truth truth ∷ []) query.body value = subst (λ (ds : List (Def T ℤ)). Gives lia.owned Whole ds [] (Truth truth ∷ []) query.body value) none gives in
+    let now : GivesValue {T = T} lia.owned Whole [] [] (Truth truth ∷ []) query.body value = subst (λ (ds : List (Def T ℤ)). GivesValue lia.owned Whole ds [] (Truth truth ∷ []) query.body value) none gives in
     let has = now [] tt (record { sort = sorts.Bool; is = subst (λ (ss : List Sort). sort_in (query_scope lia.owned) ss query.body ≡ Some sorts.Bool) one fits.body }) in
     has.meaning
 

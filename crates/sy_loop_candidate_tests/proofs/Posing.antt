@@ -36,18 +36,18 @@ triple-is {T} {N} number operator terms nothing one two test first second empty 
     (whole ∙ ap (λ (ts : List (Term T N)). ts ++ second ∷ []) (middle ∙ ap (λ (ts : List (Term T N)). ts ++ first ∷ []) (front ∙ ap (λ (ts : List (Term T N)). ts ++ test ∷ []) empty)))
 
 -- (f x)
-pub call-is : {T N : Type 0} (number : N → Val) (arguments : Terms T N) (nothing : List (Term T N)) → nothing ≡ [] → arguments.items.items ≡ nothing ++ Var 0 ∷ [] → expr_of number (Call (funs.Wanted 0) arguments) ≡ posed.call
+pub call-is : {T N : Type 0} (number : N → Val) (arguments : Terms T N) (nothing : List (Term T N)) → nothing ≡ [] → arguments.items.items ≡ nothing ++ Var 0 ∷ [] → expr_of number (Call (funs.Wanted 0) arguments) ≡ posed.call_of_x
 call-is {T} {N} number arguments nothing empty are =
     expr_of-Call number (funs.Wanted 0) arguments ∙ (ap (λ (ts : List (Term T N)). Invoke (funs.Wanted 0) (exprs_of number ts)) (are ∙ ap (λ (ts : List (Term T N)). ts ++ Var 0 ∷ []) empty)
     ∙ ap (λ e. Invoke (funs.Wanted 0) (more e none)) (expr_of-Var T number 0))
 
 -- both constraints are truth values' terms
-pub identity-fits : (term call argument : Expr) → term ≡ Apply Equal (more call (more argument none)) → call ≡ posed.call → argument ≡ Variable 0 → posed.IsConstraint term
+pub identity-fits : (term call argument : Expr) → term ≡ Apply Equal (more call (more argument none)) → call ≡ posed.call_of_x → argument ≡ Variable 0 → posed.IsConstraint term
 unfolding sort_in sorts_in sort_of
 identity-fits term call argument is c a = rw (is, c, a) refl
 
 pub negative-fits : (n : ℤ) (term sum most share call one nought nought' : Expr) → term ≡ Apply Lt (more sum (more nought' none)) → sum ≡ Apply Add (more most (more share none)) → share ≡ Apply Ite (more call (more one (more nought none)))
-    → call ≡ posed.call → most ≡ Constant (Whole n) → one ≡ posed.number 1 → nought ≡ posed.number 0 → nought' ≡ posed.number 0 → posed.IsConstraint term
+    → call ≡ posed.call_of_x → most ≡ Constant (Whole n) → one ≡ posed.number_term 1 → nought ≡ posed.number_term 0 → nought' ≡ posed.number_term 0 → posed.IsConstraint term
 unfolding sort_in sorts_in sort_of
 negative-fits n term sum most share call one nought nought' is s sh c m o z z' = rw (is, s, sh, c, m, o, z, z') refl
 
@@ -55,7 +55,7 @@ posed-goal : GoalFits lia.owned lia.numeric [] posed.goal
 posed-goal = record { formed = refl; arguments = refl; start = refl }
 
 module _ {T : Type 0} (problem : Problem T ℤ) (f : Wanted T ℤ) (c : Term T ℤ) (no_wanted : List (Wanted T ℤ)) (no_constraints : List (Term T ℤ)) where
-  pub posed-fits : problem.defs ≡ [] → problem.vars ≡ posed.truth → no_wanted ≡ [] → problem.wanted ≡ no_wanted ++ f ∷ [] → goal_of Whole f ≡ posed.goal → problem.assumptions ≡ []
+  pub posed-fits : problem.defs ≡ [] → problem.vars ≡ posed.one_truth → no_wanted ≡ [] → problem.wanted ≡ no_wanted ++ f ∷ [] → goal_of Whole f ≡ posed.goal → problem.assumptions ≡ []
       → no_constraints ≡ [] → problem.constraints ≡ no_constraints ++ c ∷ [] → posed.IsConstraint (expr_of Whole c) → QuestionFits lia.owned lia.numeric (question_of Whole problem)
   posed-fits defs vars w wanted is assumptions n constraints fits =
       let signature-is : wanted_signature f ≡ posed.signature = ap (λ (g : Goal). g.signature) is in
@@ -79,13 +79,13 @@ pub one-is : {T : Type 0} (terms nothing : List (Term T ℤ)) (term : Term T ℤ
 one-is terms nothing term is empty are e = rw (are, empty) (ap (λ (x : Expr). x ∷ []) e)
 
 -- a member fits over its function's argument
-member-fits : (defs : List Signature) (takes : List Sort) (gives : Sort) (term : Expr) (constant : Option Bool) → defs ≡ [] → takes ≡ posed.truth → gives ≡ sorts.Bool → term ≡ posed.body constant
+member-fits : (defs : List Signature) (takes : List Sort) (gives : Sort) (term : Expr) (constant : Option Bool) → defs ≡ [] → takes ≡ posed.one_truth → gives ≡ sorts.Bool → term ≡ posed.member_body constant
     → sort_in (record { owned = lia.owned; defined = defs; wanted = [] }) takes term ≡ Some gives
 unfolding sort_in
 member-fits defs takes gives term None d t g b = rw (d, t, g, b) refl
 member-fits defs takes gives term (Some truth) d t g b = rw (d, t, g, b) refl
 
-members-fit : {T : Type 0} (defs : List (Def T ℤ)) (terms : List (Term T ℤ)) (wanted : List (Wanted T ℤ)) (constant : Option Bool) → map signature defs ≡ [] → map (expr_of Whole) terms ≡ posed.body constant ∷ []
+members-fit : {T : Type 0} (defs : List (Def T ℤ)) (terms : List (Term T ℤ)) (wanted : List (Wanted T ℤ)) (constant : Option Bool) → map signature defs ≡ [] → map (expr_of Whole) terms ≡ posed.member_body constant ∷ []
     → map (goal_of Whole) wanted ≡ posed.goal ∷ [] → BodiesFit lia.owned Whole defs terms (map wanted_signature wanted)
 members-fit {T} defs [] wanted constant d b w = cc
 members-fit {T} defs (x ∷ y ∷ rest) wanted constant d b w = cc
@@ -93,20 +93,20 @@ members-fit {T} defs (term ∷ []) [] constant d b w = cc
 members-fit {T} defs (term ∷ []) (f ∷ g ∷ rest) constant d b w = cc
 members-fit {T} defs (term ∷ []) (f ∷ []) constant d b w =
     let is : goal_of Whole f ≡ posed.goal = cc in
-    let term-is : expr_of Whole term ≡ posed.body constant = cc in
+    let term-is : expr_of Whole term ≡ posed.member_body constant = cc in
     (member-fits (map signature defs) f.args f.sort (expr_of Whole term) constant d (ap (λ (g : Goal). g.signature.takes) is) (ap (λ (g : Goal). g.signature.gives) is) term-is, tt)
 
-pub bodies-fit : {T : Type 0} (problem : Problem T ℤ) (bodies : List (Term T ℤ)) (constant : Option Bool) → posed.AsksForOne (question_of Whole problem) → map (expr_of Whole) bodies ≡ posed.body constant ∷ []
+pub bodies-fit : {T : Type 0} (problem : Problem T ℤ) (bodies : List (Term T ℤ)) (constant : Option Bool) → posed.AsksForOne (question_of Whole problem) → map (expr_of Whole) bodies ≡ posed.member_body constant ∷ []
     → BodiesFit lia.owned Whole problem.defs bodies (signatures problem)
 bodies-fit problem bodies constant asks are = members-fit problem.defs bodies problem.wanted constant asks.signatures are asks.goals
 
 -- a member is a candidate, of size 1
-member : (size : ℕ) (constant : Option Bool) → 1 ≤ size → AreWithin [] size (posed.goal ∷ []) (posed.body constant ∷ [])
+member : (size : ℕ) (constant : Option Bool) → 1 ≤ size → AreWithin [] size (posed.goal ∷ []) (posed.member_body constant ∷ [])
 unfolding yield_from tree_size
 member size None within = (VariableLeaf 0 0, refl, within, tt)
 member size (Some truth) within = (ConstantLeaf 1 (Truth truth), refl, within, tt)
 
-pub candidate : (question : Question) (size : ℕ) (history : List Counterexample) (terms : List Expr) (constant : Option Bool) → posed.AsksForOne question → terms ≡ posed.body constant ∷ [] → 1 ≤ size → IsCandidate Beyond question size history terms
+pub candidate : (question : Question) (size : ℕ) (history : List Counterexample) (terms : List Expr) (constant : Option Bool) → posed.AsksForOne question → terms ≡ posed.member_body constant ∷ [] → 1 ≤ size → IsCandidate Beyond question size history terms
 candidate question size history terms constant asks are within = record {
   number = size;
   number_open = record { within = omega arith; below = tt };

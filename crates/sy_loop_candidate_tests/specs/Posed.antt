@@ -11,15 +11,15 @@ use Rattle.sy_grammar_base.specs.Trees.{Syntax, EachConstant, EachVariable}
 use Rattle.sy_grammar_base.specs.Questions.{Goal, Question, signatures}
 
 -- one truth value
-abbrev pub truth : List Sort
-truth = sorts.Bool ∷ []
+abbrev pub one_truth : List Sort
+one_truth = sorts.Bool ∷ []
 
 abbrev pub signature : Signature
-signature = record { takes = truth; gives = sorts.Bool }
+signature = record { takes = one_truth; gives = sorts.Bool }
 
 -- every argument and every constant
 abbrev pub syntax : Syntax
-syntax = record { arguments = truth; nonterminals = record { sort = sorts.Bool; rules = EachVariable sorts.Bool ∷ EachConstant sorts.Bool ∷ [] } ∷ [] }
+syntax = record { arguments = one_truth; nonterminals = record { sort = sorts.Bool; rules = EachVariable sorts.Bool ∷ EachConstant sorts.Bool ∷ [] } ∷ [] }
 
 abbrev pub goal : Goal
 goal = record { signature = signature; grammar = syntax }
@@ -31,17 +31,17 @@ pub record AsksForOne (question : Question) : Type 0 where
   pub pool : question.pool ≡ []
 
 -- (f x)
-abbrev pub call : Expr
-call = Invoke (Wanted 0) (more (Variable 0) none)
+abbrev pub call_of_x : Expr
+call_of_x = Invoke (Wanted 0) (more (Variable 0) none)
 
-abbrev pub number : ℕ → Expr
-number n = Constant (Whole (pos n))
+abbrev pub number_term : ℕ → Expr
+number_term n = Constant (Whole (pos n))
 
 -- a truth value's term over one truth value, which may call the function
 abbrev pub IsConstraint : Expr → Type 0
-IsConstraint term = sort_in (record { owned = lia.owned; defined = []; wanted = signature ∷ [] }) truth term ≡ Some sorts.Bool
+IsConstraint term = sort_in (record { owned = lia.owned; defined = []; wanted = signature ∷ [] }) one_truth term ≡ Some sorts.Bool
 
 -- a member of the grammar: the constant, or the argument where there is none
-abbrev pub body : Option Bool → Expr
-body None = Variable 0
-body (Some constant) = Constant (Truth constant)
+abbrev pub member_body : Option Bool → Expr
+member_body None = Variable 0
+member_body (Some constant) = Constant (Truth constant)

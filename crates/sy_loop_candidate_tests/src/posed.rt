@@ -16,7 +16,7 @@ use sy_terms::{Bodies, Fun, Op, Seq, Sort, Term, Terms, Theory, Value, Want};
 
 /// One truth value.
 fn truth(alloc: Global) -> Result<Seq<Sort>, Want>
-    ensures { IfOk result (λ all. all ≡ posed.truth) }
+    ensures { IfOk result (λ all. all ≡ posed.one_truth) }
 {
     let mut sorts = Seq::new(alloc);
     sorts.push(Sort::Bool)?;
@@ -67,7 +67,7 @@ fn choice(
 
 /// `(f x)`
 fn call(alloc: Global) -> Result<Term<IntTheory>, Want>
-    ensures { IfOk result (λ term. expr_of Whole term ≡ posed.call) }
+    ensures { IfOk result (λ term. expr_of Whole term ≡ posed.call_of_x) }
 {
     let mut arguments = Terms::new(alloc);
     arguments.push(Term::Var(0))?;
@@ -142,7 +142,7 @@ pub(crate) fn posed(
 /// The constant, or the argument where there is none.
 #[tactic(auto, unfolding(sy_terms::specs::Denoted::expr_of))]
 fn body(constant: Option<bool>) -> Term<IntTheory>
-    ensures { expr_of Whole result ≡ posed.body constant }
+    ensures { expr_of Whole result ≡ posed.member_body constant }
 {
     match constant {
         Some(constant) => Term::Const(Value::Truth(constant)),
@@ -152,7 +152,7 @@ fn body(constant: Option<bool>) -> Term<IntTheory>
 
 /// That body alone.
 pub(crate) fn bodies(alloc: Global, constant: Option<bool>) -> Result<Bodies<IntTheory>, Want>
-    ensures { IfOk result (λ bodies. map (expr_of Whole) bodies ≡ posed.body constant ∷ []) }
+    ensures { IfOk result (λ bodies. map (expr_of Whole) bodies ≡ posed.member_body constant ∷ []) }
 {
     let mut bodies = Bodies::new(alloc);
     bodies.push(body(constant))?;

@@ -5,7 +5,7 @@ ghost use Rattle.sy_terms.specs.Denoted.{val_of, vals_of, expr_of};
 ghost use Rattle.sy_terms.specs.Meaning.{meaning};
 ghost use Rattle.sy_terms.specs.declared.sort.Sort.TheVariants as sorts;
 ghost use Rattle.sy_meaning_integers.specs.Lia as lia;
-ghost use Rattle.sy_query_base.specs.Asked.{Fits, query_of};
+ghost use Rattle.sy_query_base.specs.Asked.{QueryFits, query_of};
 
 use std::alloc::Global;
 use sy_meaning::{Eval, evaluate};
@@ -81,7 +81,7 @@ fn is_over_one(query: &Query<IntTheory>) -> bool
 
 /// Whether the query is true at the value; `None` where a number leaves the 128 bits.
 fn is_true_at(alloc: Global, query: &Query<IntTheory>, truth: bool) -> Result<Option<bool>, Want>
-    requires fits { Fits lia.owned lia.numeric (query_of Whole query.now) }
+    requires fits { QueryFits lia.owned lia.numeric (query_of Whole query.now) }
     requires one { query.now.vars ≡ sorts.Bool ∷ [] }
     ensures { IfOk result (λ found. IfSome found (λ holds. IsTrue holds ↔ meaning [] [] (Truth truth ∷ []) (expr_of Whole query.now.body) ≡ Truth true)) }
 {

@@ -11,7 +11,6 @@ ghost use Rattle.sy_grammar_base.specs.Fits.{ProblemFits};
 use crate::posed::{bodies, identity, negative, posed};
 use crate::solver::{Both, IsFalse, Nothing};
 use std::alloc::Global;
-use std::test::Fail;
 use sy_grammar_base::Problem;
 use sy_loop_bounds::Reach;
 use sy_loop_candidate::{End, Known, Step, try_candidate};
@@ -20,30 +19,17 @@ use sy_points::{Points, Stored};
 use sy_query_limits::Limits;
 use sy_terms::{Term, Theory, Want};
 
-/// What came of a candidate.
-#[derive(Clone, Copy, Debug, PartialEq, Eq)]
-enum Came {
-    Next,
-    Again,
-    Found,
-    Rounds,
-    Points,
-    Weight,
-    Decide,
-    Checked,
-}
-
-/// What came of it, without what shows this.
-fn came_of(step: &Step<IntTheory, IsFalse, Nothing>) -> Came {
+/// What came of a candidate, without what shows this.
+fn came_of(step: &Step<IntTheory, IsFalse, Nothing>) -> &'static str {
     match step {
-        Step::Next => Came::Next,
-        Step::Again => Came::Again,
-        Step::End(End::Found(_, _)) => Came::Found,
-        Step::End(End::Rounds) => Came::Rounds,
-        Step::End(End::Points(_, _, _)) => Came::Points,
-        Step::End(End::Weight(_)) => Came::Weight,
-        Step::End(End::Decide(_, _)) => Came::Decide,
-        Step::End(End::Checked(_, _)) => Came::Checked,
+        Step::Next => "next",
+        Step::Again => "again",
+        Step::End(End::Found(_, _)) => "found",
+        Step::End(End::Rounds) => "rounds",
+        Step::End(End::Points(_, _, _)) => "points",
+        Step::End(End::Weight(_)) => "weight",
+        Step::End(End::Decide(_, _)) => "decide",
+        Step::End(End::Checked(_, _)) => "checked",
     }
 }
 
@@ -82,7 +68,7 @@ fn tried(
     solver: &mut Both,
     constant: Option<bool>,
     known: &mut Known<IntTheory>,
-) -> Result<Option<Came>, Want>
+) -> Result<Option<&'static str>, Want>
     requires fits { ProblemFits ⟦<IntTheory as Theory>⟧ problem.now }
     requires asks { AsksForOne (question_of Whole problem.now) }
     requires size { 1 ≤ limits.now.size }
@@ -104,7 +90,7 @@ fn last_of(
     limits: &Limits,
     queries: u32,
     constants: &[Option<bool>],
-) -> Result<Option<(Came, usize)>, Want>
+) -> Result<Option<(&'static str, usize)>, Want>
     requires constraint { IsConstraint (expr_of Whole constraint) }
     requires size { 1 ≤ limits.now.size }
 {
@@ -123,88 +109,103 @@ fn last_of(
     Ok(Some((came, known.stored.len())))
 }
 
-#[test]
-fn a_counterexample_is_stored_and_refutes_again(rt: HostRuntime) -> Result<(), Fail> {
-    let alloc = rt.alloc();
-    let first = last_of(alloc, identity(alloc)?, &AMPLE, 9, &[Some(true)])?;
-    assert_eq!(rt; first, Some((Came::Again, 1)));
-    let again = last_of(
-        alloc,
-        identity(alloc)?,
-        &AMPLE,
-        9,
-        &[Some(true), Some(true)],
-    )?;
-    assert_eq!(rt; again, Some((Came::Next, 1)));
-    // it meets the problem at the stored assignment, and at no other
-    let other = last_of(
-        alloc,
-        identity(alloc)?,
-        &AMPLE,
-        9,
-        &[Some(true), Some(false)],
-    )?;
-    assert_eq!(rt; other, Some((Came::Again, 2)));
-    Ok(())
+/// The constraint of this name.
+fn constraint_of(alloc: Global, name: &str) -> Result<Term<IntTheory>, Want>
+    ensures { IfOk result (λ term. IsConstraint (expr_of Whole term)) }
+{
+    if name == "identity" {
+        let term = identity(alloc)?;
+        Ok(term)
+    } else {
+        let term = negative(alloc)?;
+        Ok(term)
+    }
 }
 
-#[test]
-fn a_solution_is_found(rt: HostRuntime) -> Result<(), Fail> {
-    let alloc = rt.alloc();
-    let first = last_of(alloc, identity(alloc)?, &AMPLE, 9, &[None])?;
-    assert_eq!(rt; first, Some((Came::Found, 0)));
-    let last = last_of(
-        alloc,
-        identity(alloc)?,
-        &AMPLE,
-        9,
-        &[Some(true), Some(false), None],
-    )?;
-    assert_eq!(rt; last, Some((Came::Found, 2)));
-    Ok(())
+/// The candidates: constants, and `x` for the argument.
+fn candidates_of(alloc: Global, text: &str) -> Result<Vec<Option<bool>>, Want> {
+    let mut candidates = Vec::new(alloc);
+    for word in text.split(' ') {
+        candidates.push(match word {
+            "true" => Some(true),
+            "false" => Some(false),
+            _ => None,
+        })?;
+    }
+    Ok(candidates)
 }
 
-#[test]
-fn budgets_end_the_search(rt: HostRuntime) -> Result<(), Fail> {
-    let alloc = rt.alloc();
-    let one_point = Limits { points: 1, ..AMPLE };
-    let asking = last_of(
-        alloc,
-        identity(alloc)?,
-        &one_point,
-        9,
-        &[Some(true), Some(false)],
-    )?;
-    assert_eq!(rt; asking, Some((Came::Points, 2)));
-    // the number of rounds is reached before what the bodies ask is looked at
-    let one_round = Limits {
-        rounds: 1,
-        points: 0,
+/// The part with this number, from 0, or an empty one where the line has fewer.
+fn part(line: &str, number: usize) -> &str {
+    let mut rest = line;
+    for _ in 0..number {
+        rest = match rest.split_once('|') {
+            Some((_, others)) => others,
+            None => "",
+        };
+    }
+    match rest.split_once('|') {
+        Some((first, _)) => first,
+        None => rest,
+    }
+}
+
+/// The parts of a line, which stand between `|`; those that it lacks are empty.
+fn parts_of(line: &str) -> [&str; 7] {
+    [
+        part(line, 0),
+        part(line, 1),
+        part(line, 2),
+        part(line, 3),
+        part(line, 4),
+        part(line, 5),
+        part(line, 6),
+    ]
+}
+
+/// What comes of the last candidate of a line, and how many assignments are stored then.
+fn told(alloc: Global, parts: &[&str; 7]) -> Result<String, Want> {
+    let limits = Limits {
+        rounds: parts[1].parse().unwrap_or(0),
+        points: parts[2].parse().unwrap_or(0),
+        weight: parts[3].parse().unwrap_or(0),
         ..AMPLE
     };
-    let last = last_of(alloc, identity(alloc)?, &one_round, 9, &[Some(true)])?;
-    assert_eq!(rt; last, Some((Came::Rounds, 1)));
-    let light = Limits { weight: 1, ..AMPLE };
-    let heavy = last_of(alloc, identity(alloc)?, &light, 9, &[None])?;
-    assert_eq!(rt; heavy, Some((Came::Weight, 0)));
-    let undecided = last_of(alloc, identity(alloc)?, &AMPLE, 0, &[None])?;
-    assert_eq!(rt; undecided, Some((Came::Decide, 0)));
-    Ok(())
+    let queries = parts[4].parse().unwrap_or(0);
+    let constraint = constraint_of(alloc, parts[0])?;
+    let candidates = candidates_of(alloc, parts[5])?;
+    let last = last_of(alloc, constraint, &limits, queries, candidates.as_slice())?;
+    let mut text = String::new(alloc);
+    if let Some((came, stored)) = last {
+        write!(text, "{came} {stored}")?;
+    }
+    Ok(text)
 }
 
+/// A constraint, the limits of rounds, points and weight, how many queries the solver answers, and candidates; then what
+/// comes of the last, and how many assignments are stored.
+///
+/// A counterexample is stored and refutes again, and what meets the problem at the stored assignment alone is refuted by
+/// another; a solution is found; budgets end the search, and the number of rounds is reached before what the bodies ask is
+/// looked at; and a number leaves the range at a stored assignment, or else where the solver meets it.
+const TRIED: &str = "\
+identity|4|2|100|9|true|again 1
+identity|4|2|100|9|true true|next 1
+identity|4|2|100|9|true false|again 2
+identity|4|2|100|9|x|found 0
+identity|4|2|100|9|true false x|found 2
+identity|4|1|100|9|true false|points 2
+identity|1|0|100|9|true|rounds 1
+identity|4|2|1|9|x|weight 0
+identity|4|2|100|0|x|decide 0
+negative|4|2|100|9|false true|checked 1
+negative|4|2|100|9|true|decide 0";
+
 #[test]
-fn a_number_that_leaves_the_range_ends_the_search(rt: HostRuntime) -> Result<(), Fail> {
-    let alloc = rt.alloc();
-    let stored = last_of(
-        alloc,
-        negative(alloc)?,
-        &AMPLE,
-        9,
-        &[Some(false), Some(true)],
-    )?;
-    assert_eq!(rt; stored, Some((Came::Checked, 1)));
-    // where no assignment is stored, the solver meets it
-    let asked = last_of(alloc, negative(alloc)?, &AMPLE, 9, &[Some(true)])?;
-    assert_eq!(rt; asked, Some((Came::Decide, 0)));
-    Ok(())
+fn what_comes_of_candidates(rt: HostRuntime) {
+    for line in TRIED.lines() {
+        let parts = parts_of(line);
+        let text = told(rt.alloc(), &parts).expect(&rt, "memory");
+        assert!(rt; text.as_str() == parts[6], "{line}");
+    }
 }

@@ -25,7 +25,7 @@ use Rattle.sy_loop_history.specs.Stored.{counterexample_of}
 use Rattle.sy_points.specs.Asked.{Asked}
 use Rattle.sy_bank_rows.specs.declared.kept.Kept.{Kept}
 use Rattle.sy_loop_refutation.specs.Bodies.{AreBodies, bodies_of}
-use Rattle.sy_loop_refutation.specs.Observing.{HaveRows}
+use Rattle.sy_loop_refutation.specs.Observing.{KeptHaveRows}
 use Rattle.sy_loop_refutation.specs.Refuting.{AreAssignments, AreTaken}
 use Rattle.sy_grammar_base.specs.Fits.{GoalFits, QuestionFits, wanted_of, with_functions}
 
@@ -66,8 +66,8 @@ assigned-fit {T} {N} number question items none cases = ⊎_elim
 pub no-bodies : {T : Type 0} (problem : Problem T ℤ) (chosen : List (Bor (Kept T ℤ))) → chosen ≡ [] → problem.wanted ≡ [] → AreBodies lia.owned problem.defs (bodies_of Whole chosen) (signatures problem)
 no-bodies problem chosen none wanted = rw (none, wanted) tt
 
-pub no-rows : {T : Type 0} (defs : List (Def T ℤ)) (points : Asked) (chosen : List (Bor (Kept T ℤ))) → chosen ≡ [] → HaveRows lia.owned Whole defs points chosen
-no-rows {T} defs points chosen none = subst (λ (all : List (Bor (Kept T ℤ))). HaveRows lia.owned Whole defs points all) (sym none) (λ function kept at. absurd (none-some kept at))
+pub no-rows : {T : Type 0} (defs : List (Def T ℤ)) (points : Asked) (chosen : List (Bor (Kept T ℤ))) → chosen ≡ [] → KeptHaveRows lia.owned Whole defs points chosen
+no-rows {T} defs points chosen none = subst (λ (all : List (Bor (Kept T ℤ))). KeptHaveRows lia.owned Whole defs points all) (sym none) (λ function kept at. absurd (none-some kept at))
 
 pub no-functions : {T : Type 0} (problem : Problem T ℤ) (points : Asked) → points.tuples ≡ [] → problem.wanted ≡ [] → length points.tuples ≡ length (question_of Whole problem).goals
 no-functions problem points none wanted = rw (none, wanted) refl

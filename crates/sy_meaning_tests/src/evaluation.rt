@@ -5,7 +5,7 @@ ghost use Rattle.sy_terms.specs.Denoted.{expr_of};
 ghost use Rattle.sy_terms.specs.Definitions.{DefinitionsFit};
 ghost use Rattle.sy_terms.specs.Fitting.{sort_in};
 ghost use Rattle.sy_terms_laws.specs.Evaluation.{BodiesFit};
-ghost use Rattle.sy_meaning.specs.Signatures.{signatures_of, scope_of};
+ghost use Rattle.sy_meaning.specs.Signatures.{signatures_of, scope_and_wanted};
 
 use std::alloc::Global;
 use std::test::Fail;
@@ -195,7 +195,7 @@ fn fitting<T: Theory>(
     sort: Sort,
     text: &str,
 ) -> Result<Option<Term<T>>, Want>
-    ensures { IfOk result (λ found. IfSome found (λ term. sort_in (scope_of T.owned defs.now []) (sort ∷ []) (expr_of T.denotes term) ≡ Some sort)) }
+    ensures { IfOk result (λ found. IfSome found (λ term. sort_in (scope_and_wanted T.owned defs.now []) (sort ∷ []) (expr_of T.denotes term) ≡ Some sort)) }
 {
     let Some(term) = term::<T>(alloc, sort, text)? else {
         return Ok(None);

@@ -30,7 +30,7 @@ exceeds-is {T} {N} number built arguments nothing empty whole is =
     ∙ ap (λ e. Invoke (funs.Wanted 0) (more e none)) (expr_of-Var T number 0)) in
     is ∙ (λ k. Apply ops.Gt (more (argument k) (more (expr_of-Var T number 0 k) none)))
 
-pub next-is : (T : Type 0) (built : Expr) → (let x : Term T ℤ = Var 0 in let one : Term T ℤ = Const (Num (pos 1)) in built ≡ Apply ops.Add (more (expr_of Whole x) (more (expr_of Whole one) none))) → built ≡ posed.body
+pub next-is : (T : Type 0) (built : Expr) → (let x : Term T ℤ = Var 0 in let one : Term T ℤ = Const (Num (pos 1)) in built ≡ Apply ops.Add (more (expr_of Whole x) (more (expr_of Whole one) none))) → built ≡ posed.sum_body
 next-is T built is = is ∙ (λ k. Apply ops.Add (more (expr_of-Var T Whole 0 k) (more (expr_of-Const T Whole (Num (pos 1)) k) none)))
 
 goal-fits : GoalFits lia.owned lia.numeric [] posed.goal
@@ -54,7 +54,7 @@ module _ {T : Type 0} (problem : Problem T ℤ) (f : Wanted T ℤ) (c b : Term T
       }
 
   -- and so does this body
-  pub body-fits : problem.defs ≡ [] → no_wanted ≡ [] → problem.wanted ≡ no_wanted ++ f ∷ [] → goal_of Whole f ≡ posed.goal → nothing ≡ [] → bodies ≡ nothing ++ b ∷ [] → expr_of Whole b ≡ posed.body
+  pub body-fits : problem.defs ≡ [] → no_wanted ≡ [] → problem.wanted ≡ no_wanted ++ f ∷ [] → goal_of Whole f ≡ posed.goal → nothing ≡ [] → bodies ≡ nothing ++ b ∷ [] → expr_of Whole b ≡ posed.sum_body
       → BodiesFit lia.owned Whole problem.defs bodies (signatures problem)
   unfolding sort_in sorts_in sort_of
   body-fits defs w wanted is e bodies_are b_is =

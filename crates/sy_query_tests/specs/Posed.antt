@@ -27,5 +27,5 @@ abbrev pub constraint : Expr
 constraint = Apply Gt (more (Invoke (Wanted 0) (more (Variable 0) none)) (more (Variable 0) none))
 
 -- (+ x 1)
-abbrev pub body : Expr
-body = Apply Add (more (Variable 0) (more (Constant (Whole (pos 1))) none))
+abbrev pub sum_body : Expr
+sum_body = Apply Add (more (Variable 0) (more (Constant (Whole (pos 1))) none))

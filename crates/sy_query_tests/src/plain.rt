@@ -2,7 +2,7 @@
 ghost use Rattle.std.specs.Prelude.{IfOk};
 ghost use Rattle.sy_terms.specs.Values.{Whole};
 ghost use Rattle.sy_meaning_integers.specs.Lia.{owned, numeric};
-ghost use Rattle.sy_query.specs.Asked.{Fits, query_of};
+ghost use Rattle.sy_query.specs.Asked.{QueryFits, query_of};
 
 use std::alloc::Global;
 use std::test::Fail;
@@ -74,7 +74,7 @@ const NONE: Limits = Limits {
 /// The query of a constant, maybe over a variable.
 #[tactic(auto, unfolding(sy_terms::specs::Denoted::expr_of, sy_terms::specs::Fitting::sort_in))]
 fn constant(alloc: Global, truth: bool, over: bool) -> Result<Query<IntTheory>, Want>
-    ensures { IfOk result (λ query. Fits owned numeric (query_of Whole query)) }
+    ensures { IfOk result (λ query. QueryFits owned numeric (query_of Whole query)) }
 {
     let mut vars = Seq::new(alloc);
     if over {
@@ -92,7 +92,7 @@ fn answer_of<D: Decide<IntTheory>>(
     solver: &mut D,
     query: &Query<IntTheory>,
 ) -> Result<(usize, Option<FailName>), Want>
-    requires { Fits owned numeric (query_of Whole query.now) }
+    requires { QueryFits owned numeric (query_of Whole query.now) }
 {
     match solver.decide(alloc, query, &NONE)? {
         Verdict::Never(_) => Ok((99, None)),

@@ -27,7 +27,7 @@ fn exceeds(alloc: Global) -> Result<Term<IntTheory>, Want>
 
 /// `(+ x 1)`
 fn next(alloc: Global) -> Result<Term<IntTheory>, Want>
-    ensures { IfOk result (λ term. expr_of Whole term ≡ posed.body) }
+    ensures { IfOk result (λ term. expr_of Whole term ≡ posed.sum_body) }
 {
     let term = pair(alloc, Op::Add, Term::Var(0), Term::Const(Value::Num(1)))?;
     Ok(term)

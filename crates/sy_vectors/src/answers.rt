@@ -1,25 +1,11 @@
-// What the solver answers to small queries.
+// What the solver answers to small queries, and what they weigh.
 use crate::queries::{query, query_of_width};
 use std::alloc::Global;
-use std::test::Fail;
-use sy_bits::{BvDecide, BvProof, BvSpent, fits};
+use sy_bits::{BvDecide, BvSpent, fits};
 use sy_clauses::check;
 use sy_meaning::{BvTheory, Word};
-use sy_query::{Decide, FailName, Limits, Query, Verdict};
+use sy_query::{Built, Decide, FailName, Limits, Query, Verdict, weigh};
 use sy_terms::{Value, Want};
-
-/// What is answered.
-#[derive(Clone, Copy, Debug, PartialEq, Eq)]
-enum Answer {
-    /// The solver doesn't take the query.
-    Unfit,
-    /// These numbers satisfy the query, 1 for true.
-    Model(&'static [u64]),
-    /// Nothing does, by a log that the checker accepts.
-    Never,
-    /// So many clauses are learned, and no more may be.
-    Spent(usize),
-}
 
 /// Limits with so many learned clauses.
 fn limits(clauses: u32) -> Limits {
@@ -35,213 +21,212 @@ fn limits(clauses: u32) -> Limits {
     }
 }
 
-/// Whether the values are these numbers, 1 for true.
-fn are_numbers(values: &[Value<Word>], numbers: &[u64]) -> bool {
-    if values.len() != numbers.len() {
-        return false;
-    }
-    for (value, number) in values.iter().zip(numbers) {
-        let found = match value {
+/// A model as tables tell it: `model` and its numbers, 1 for true.
+fn model(alloc: Global, values: &[Value<Word>]) -> Result<String, Want> {
+    let mut text = String::from_str(alloc, "model")?;
+    for value in values {
+        let number = match value {
             Value::Truth(truth) => u64::from(*truth),
             Value::Num(word) => word.bits(),
         };
-        if found != *number {
-            return false;
-        }
+        write!(text, " {number}")?;
     }
-    true
+    Ok(text)
 }
 
-/// Whether the verdict is this answer.
-fn is_answer(
-    alloc: Global,
-    verdict: &Verdict<BvTheory, BvProof, BvSpent>,
-    answer: Answer,
-) -> Result<bool, Want> {
-    match verdict {
-        Verdict::Model(values) => match answer {
-            Answer::Model(numbers) => Ok(are_numbers(values.as_slice(), numbers)),
-            _ => Ok(false),
-        },
-        Verdict::Never(proof) => {
-            Ok(answer == Answer::Never && check(alloc, &proof.cnf, &proof.log)?)
-        }
-        Verdict::Spent(spent) => {
-            let BvSpent::Clauses(_, log) = spent;
-            let named = BvDecide::name_of(spent) == FailName::Clauses;
-            Ok(named && answer == Answer::Spent(log.lines.len()))
-        }
-    }
-}
-
-/// Whether the solver answers so within so many learned clauses.
-fn has_answer(
+/// What is answered where so many clauses may be learned: `unfit`; a model; `never`, by a log that the checker accepts
+/// and a formula of so many variables at most; or `spent` and how many clauses are learned.
+fn answer(
     alloc: Global,
     query: &Query<BvTheory>,
     clauses: u32,
-    answer: Answer,
-) -> Result<bool, Want> {
+    variables: u32,
+) -> Result<String, Want> {
     if !fits(alloc, query)? {
-        return Ok(answer == Answer::Unfit);
+        return String::from_str(alloc, "unfit");
     }
     let verdict = BvDecide::new().decide(alloc, query, &limits(clauses))?;
-    is_answer(alloc, &verdict, answer)
-}
-
-#[test]
-fn answers_small_queries(rt: HostRuntime) -> Result<(), Fail> {
-    let alloc = rt.alloc();
-    // the variables' sorts, the body, how many clauses may be learned, and the answer
-    let cases: [(&str, &str, u32, Answer); 50] = [
-        // what isn't a query
-        ("4", "A", 9, Answer::Unfit),
-        ("0", "T", 9, Answer::Unfit),
-        ("4", "AB=", 9, Answer::Unfit),
-        // without variables, and with truth values and vectors
-        ("", "T", 9, Answer::Model(&[])),
-        ("", "T!", 9, Answer::Never),
-        ("b4b", "AB9=C!&&", 9, Answer::Model(&[1, 9, 0])),
-        ("b44", "AB3=?", 9, Answer::Unfit),
-        ("b44", "AB3=C2=?A&C7=&", 99, Answer::Model(&[1, 3, 7])),
-        // one model
-        ("4", "A1+A>!", 99, Answer::Model(&[15])),
-        ("4", "AA*9=A5<&", 99, Answer::Model(&[3])),
-        ("4", "AA*B9=A5<&L", 99, Answer::Model(&[3])),
-        ("4", "A0sA9<&", 99, Answer::Model(&[8])),
-        ("4", "AAzz=A0#&AF#&A7<&", 99, Answer::Model(&[5])),
-        // sums and products in both orders
-        ("44", "AB+BA+#", 9999, Answer::Never),
-        ("33", "AB*BA*#", 9999, Answer::Never),
-        ("44", "AB-B+A#", 9999, Answer::Never),
-        // equal polynomials, without a learned clause
-        ("444", "ABC++BCA++#", 1, Answer::Never),
-        ("44", "AB1+*AAB*+#", 1, Answer::Never),
-        ("44", "AB+AB+*AA*2AB**+BB*+#", 1, Answer::Never),
-        ("44", "AB+AB-*AA*BB*-#", 1, Answer::Never),
-        ("4", "A3lA8*#", 1, Answer::Never),
-        ("4", "AnA~1+#", 1, Answer::Never),
-        // division by 0, and quotients with their remainders
-        ("4", "A0/F#", 99, Answer::Never),
-        ("4", "A0%A#", 99, Answer::Never),
-        ("33", "AB/B*AB%+A#", 9999, Answer::Never),
-        ("33", "AB/B*AB%+A#", 1, Answer::Spent(1)),
-        ("33", "ABdB*ABr+A#", 9999, Answer::Never),
-        // a remainder has the sign of the divisor, or of what is divided
-        ("44", "B0#ABm0#&ABm0sB0s^&", 9999, Answer::Never),
-        ("44", "B0#ABr0#&ABr0sA0s^&", 9999, Answer::Never),
-        // shifts
-        ("4", "A1lAA+#", 99, Answer::Never),
-        ("4", "A1gA2/#", 99, Answer::Never),
-        ("4", "A3aA0s0~0?#", 99, Answer::Never),
-        // pieces
-        ("4", "AAceAz#", 99, Answer::Never),
-        ("4", "AyAz#", 99, Answer::Never),
-        ("4", "AZ0Ac#", 99, Answer::Never),
-        ("4", "ANA0sF0?Ac#", 99, Answer::Never),
-        ("4", "ARAAc#", 99, Answer::Never),
-        // bit by bit
-        ("4", "AnA~1+#", 99, Answer::Never),
-        ("44", "ABWA~B~o#", 99, Answer::Never),
-        ("44", "ABOA~B~w#", 99, Answer::Never),
-        ("44", "ABxAB~wA~Bwo#", 99, Answer::Never),
-        ("44", "ABXABx~#", 99, Answer::Never),
-        ("bb", "ABiA!B|^", 99, Answer::Never),
-        // comparisons
-        ("44", "ABuBA<^!", 99, Answer::Never),
-        ("44", "ABUAB<^!", 99, Answer::Never),
-        ("44", "ABSBAs^", 99, Answer::Never),
-        ("44", "ABtBAs^!", 99, Answer::Never),
-        ("44", "ABGABs^!", 99, Answer::Never),
-        ("44", "ABpBAp#", 99, Answer::Never),
-        // the greatest of three numbers by a tree of comparisons
-        (
-            "@@@",
-            "ABAuCAuAC?CBuBC??uBBAuCAuAC?CBuBC??u&CBAuCAuAC?CBuBC??u&BAuCAuAC?CBuBC??A=BAuCAuAC?CBuBC??B=|BAuCAuAC?CBuBC??C=|&!",
-            99,
-            Answer::Never,
-        ),
-    ];
-    for (sorts, body, clauses, answer) in cases {
-        let query = query(alloc, sorts, body)?;
-        assert!(rt;
-            has_answer(alloc, &query, clauses, answer)?,
-            "{} {}",
-            sorts,
-            body
-        );
+    match &verdict {
+        Verdict::Model(values) => model(alloc, values.as_slice()),
+        Verdict::Never(proof)
+            if proof.cnf.vars <= variables && check(alloc, &proof.cnf, &proof.log)? => {
+            String::from_str(alloc, "never")
+        }
+        Verdict::Spent(spent) if BvDecide::name_of(spent) == FailName::Clauses => {
+            let BvSpent::Clauses(_, log) = spent;
+            let count = log.lines.len();
+            format!(in alloc; "spent {count}")
+        }
+        _ => String::from_str(alloc, "wrong"),
     }
-    Ok(())
 }
 
-#[test]
-fn refutes_by_sums_and_equal_gates(rt: HostRuntime) -> Result<(), Fail> {
-    let alloc = rt.alloc();
-    // the variables' sorts and the body, which nothing satisfies: no clause is learned beside the empty one
-    let cases: [(&str, &str); 21] = [
-        // what equal words have in common is gone, and so is the sign
-        ("444", "AB+AC+=BC=^"),
-        ("44", "AB-0=AB=^"),
-        ("44", "AnBn=AB=^"),
-        ("44", "AB+A9+#B9#^"),
-        ("4", "A1+A="),
-        // sums by bits
-        ("44", "ABxABw1l+AB+#"),
-        ("44", "ABoABw+AB+#"),
-        ("44", "ABxA~Bw1l-AB-#"),
-        ("44", "AB~wB+ABo#"),
-        ("44", "ABoABw-ABx#"),
-        ("44", "A~B~wABo~#"),
-        // the same gates
-        ("4", "AAwA#"),
-        ("4", "AAx0#"),
-        ("4", "AA~w0#"),
-        ("44", "ABwBAw#"),
-        ("44", "AB<BA>^"),
-        ("44", "ABuBA<!^"),
-        ("b44", "ABB?B#"),
-        ("4", "A8%A7w#"),
-        ("4", "A4/A2g#"),
-        ("4", "A2g2lAA3w-#"),
-    ];
-    for (sorts, body) in cases {
-        let query = query(alloc, sorts, body)?;
-        assert!(rt;
-            has_answer(alloc, &query, 1, Answer::Never)?,
-            "{} {}",
-            sorts,
-            body
-        );
-    }
-    Ok(())
-}
-
-/// Whether nothing satisfies the query, by no learned clause beside the empty one and so many variables at most.
-fn is_plain(alloc: Global, query: &Query<BvTheory>, variables: u32) -> Result<bool, Want> {
+/// Whether the query weighs so much: it is too heavy exactly where less is allowed.
+fn has_weight(alloc: Global, query: &Query<BvTheory>, weight: u32) -> Result<bool, Want> {
     if !fits(alloc, query)? {
         return Ok(false);
     }
-    let verdict = BvDecide::new().decide(alloc, query, &limits(1))?;
-    match &verdict {
-        Verdict::Never(proof) => {
-            Ok(proof.cnf.vars <= variables && check(alloc, &proof.cnf, &proof.log)?)
+    let is_heavy = matches!(
+        weigh(alloc, query, weight.wrapping_sub(1)),
+        Err(Built::Heavy)
+    );
+    let is_met = matches!(weigh(alloc, query, weight), Ok(found) if found == weight);
+    Ok(is_heavy && is_met)
+}
+
+/// The parts of a row.
+fn parts_of(row: &str) -> Option<(&str, &str, u32, &str)> {
+    let (sorts, rest) = row.split_once(' ')?;
+    let (body, rest) = rest.split_once(' ')?;
+    let (number, told) = rest.split_once(' ')?;
+    Some((sorts, body, number.parse().ok()?, told))
+}
+
+/// Whether the row is right.
+fn is_right(alloc: Global, row: &str) -> Result<bool, Want> {
+    let Some((sorts, body, number, told)) = parts_of(row) else {
+        return Ok(false);
+    };
+    let query = query(alloc, sorts, body)?;
+    if told == "weighs" {
+        return has_weight(alloc, &query, number);
+    }
+    Ok(answer(alloc, &query, number, u32::MAX)?.as_str() == told)
+}
+
+/// What the solver answers: the sorts of the variables, the body, how many clauses may be learned, and the answer.
+const ANSWERS: &str = "\
+4 A 9 unfit
+0 T 9 unfit
+4 AB= 9 unfit
+ T 9 model
+ T! 9 never
+b4b AB9=C!&& 9 model 1 9 0
+b44 AB3=? 9 unfit
+b44 AB3=C2=?A&C7=& 99 model 1 3 7
+4 A1+A>! 99 model 15
+4 AA*9=A5<& 99 model 3
+4 AA*B9=A5<&L 99 model 3
+4 A0sA9<& 99 model 8
+4 AAzz=A0#&AF#&A7<& 99 model 5
+44 AB+BA+# 9999 never
+33 AB*BA*# 9999 never
+44 AB-B+A# 9999 never
+444 ABC++BCA++# 1 never
+44 AB1+*AAB*+# 1 never
+44 AB+AB+*AA*2AB**+BB*+# 1 never
+44 AB+AB-*AA*BB*-# 1 never
+4 A3lA8*# 1 never
+4 AnA~1+# 1 never
+4 A0/F# 99 never
+4 A0%A# 99 never
+33 AB/B*AB%+A# 9999 never
+33 AB/B*AB%+A# 1 spent 1
+33 ABdB*ABr+A# 9999 never
+44 B0#ABm0#&ABm0sB0s^& 9999 never
+44 B0#ABr0#&ABr0sA0s^& 9999 never
+4 A1lAA+# 99 never
+4 A1gA2/# 99 never
+4 A3aA0s0~0?# 99 never
+4 AAceAz# 99 never
+4 AyAz# 99 never
+4 AZ0Ac# 99 never
+4 ANA0sF0?Ac# 99 never
+4 ARAAc# 99 never
+4 AnA~1+# 99 never
+44 ABWA~B~o# 99 never
+44 ABOA~B~w# 99 never
+44 ABxAB~wA~Bwo# 99 never
+44 ABXABx~# 99 never
+bb ABiA!B|^ 99 never
+44 ABuBA<^! 99 never
+44 ABUAB<^! 99 never
+44 ABSBAs^ 99 never
+44 ABtBAs^! 99 never
+44 ABGABs^! 99 never
+44 ABpBAp# 99 never
+@@@ ABAuCAuAC?CBuBC??uBBAuCAuAC?CBuBC??u&CBAuCAuAC?CBuBC??u&BAuCAuAC?CBuBC??A=BAuCAuAC?CBuBC??B=|BAuCAuAC?CBuBC??C=|&! 99 never
+";
+
+/// Sums and equal gates: no clause is learned beside the empty one.
+const EQUAL_GATES: &str = "\
+444 AB+AC+=BC=^ 1 never
+44 AB-0=AB=^ 1 never
+44 AnBn=AB=^ 1 never
+44 AB+A9+#B9#^ 1 never
+4 A1+A= 1 never
+44 ABxABw1l+AB+# 1 never
+44 ABoABw+AB+# 1 never
+44 ABxA~Bw1l-AB-# 1 never
+44 AB~wB+ABo# 1 never
+44 ABoABw-ABx# 1 never
+44 A~B~wABo~# 1 never
+4 AAwA# 1 never
+4 AAx0# 1 never
+4 AA~w0# 1 never
+44 ABwBAw# 1 never
+44 AB<BA>^ 1 never
+44 ABuBA<!^ 1 never
+b44 ABB?B# 1 never
+4 A8%A7w# 1 never
+4 A4/A2g# 1 never
+4 A2g2lAA3w-# 1 never
+";
+
+/// What queries weigh: a truth value 1 and a vector its width; a product, quotient, remainder or shift its square; and a
+/// test of difference the square of the number of its arguments.
+const WEIGHTS: &str = "\
+bb AB& 3 weighs
+ T 1 weighs
+ T! 2 weighs
+4 AA= 9 weighs
+4 A1+A> 17 weighs
+b44 ABC?B= 18 weighs
+4 A3+B3=L 22 weighs
+4 AAceA= 25 weighs
+4 AZAAc= 29 weighs
+4 ARAAc= 29 weighs
+44 ABpBBp= 19 weighs
+44 AB# 12 weighs
+bb AB# 6 weighs
+44 AB*A= 29 weighs
+88 AB*A= 89 weighs
+44 AB/A= 29 weighs
+44 AB%A= 29 weighs
+44 ABdA= 29 weighs
+44 ABrA= 29 weighs
+44 ABmA= 29 weighs
+44 ABlABg= 49 weighs
+44 ABaA= 29 weighs
+";
+
+#[test]
+fn small_queries(rt: HostRuntime) {
+    for table in [ANSWERS, EQUAL_GATES, WEIGHTS] {
+        for row in table.lines() {
+            assert!(rt; matches!(is_right(rt.alloc(), row), Ok(true)), "{row}");
         }
-        Verdict::Model(_) | Verdict::Spent(_) => Ok(false),
     }
 }
 
-#[test]
-fn equal_terms_of_every_width(rt: HostRuntime) -> Result<(), Fail> {
-    let alloc = rt.alloc();
-    // a product, quotients, and shifts, each against itself
-    let bodies = [
-        "AB*AB*#", "AB/AB/#", "AB%AB%#", "ABlABl#", "ABgABg#", "ABaABa#",
-    ];
+/// Whether nothing satisfies the body over two vectors of each width, by no learned clause beside the empty one and
+/// 17,000 variables at most.
+fn is_plain(alloc: Global, body: &str) -> Result<bool, Want> {
     for width in 1..65 {
-        for i in 0..6 {
-            let body = bodies[i];
-            let query = query_of_width(alloc, width, body)?;
-            assert!(rt; is_plain(alloc, &query, 17_000)?, "{} {}", width, body);
+        let query = query_of_width(alloc, width, body)?;
+        if answer(alloc, &query, 1, 17_000)?.as_str() != "never" {
+            return Ok(false);
         }
     }
-    Ok(())
+    Ok(true)
+}
+
+/// A product, quotients and shifts, each against itself.
+const THEMSELVES: &str = "AB*AB*# AB/AB/# AB%AB%# ABlABl# ABgABg# ABaABa#";
+
+#[test]
+fn equal_terms_of_every_width(rt: HostRuntime) {
+    for body in THEMSELVES.split(' ') {
+        assert!(rt; matches!(is_plain(rt.alloc(), body), Ok(true)), "{body}");
+    }
 }

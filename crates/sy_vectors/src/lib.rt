@@ -4,12 +4,22 @@
 #[cfg(test)]
 mod answers;
 #[cfg(test)]
+mod chains;
+#[cfg(test)]
 mod conditions;
 #[cfg(test)]
+mod defaults;
+#[cfg(test)]
+mod derivations;
+#[cfg(test)]
+mod formulas;
+#[cfg(test)]
 mod joins;
+#[cfg(test)]
+mod logs;
 #[cfg(test)]
 mod points;
 #[cfg(test)]
 mod queries;
 #[cfg(test)]
-mod weights;
+mod sizes;

@@ -8,6 +8,8 @@ mod forms;
 #[cfg(test)]
 mod fractions;
 #[cfg(test)]
+mod queries;
+#[cfg(test)]
 mod simplex;
 #[cfg(test)]
 mod trees;

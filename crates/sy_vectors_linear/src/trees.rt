@@ -1,50 +1,19 @@
 // Refutation trees of small queries, with what the checker says of each.
+use crate::queries::query;
 use std::alloc::Global;
-use std::test::Fail;
 use sy_frac::Frac;
 use sy_linear::{CheckEnd, Form, Test, Tree, check_tree};
-use sy_meaning::IntTheory;
-use sy_query::Query;
-use sy_terms::{Op, Seq, Sort, Term, Terms, Value, Want};
-
-fn number(n: i128) -> Term<IntTheory> {
-    Term::Const(Value::Num(n))
-}
-
-fn pair(
-    alloc: Global,
-    operator: Op,
-    first: Term<IntTheory>,
-    second: Term<IntTheory>,
-) -> Result<Term<IntTheory>, Want> {
-    let mut terms = Terms::new(alloc);
-    terms.push(first)?;
-    terms.push(second)?;
-    Ok(Term::App(operator, terms))
-}
+use sy_terms::{Seq, Want};
 
 /// `(and (<= x 0) (<= 1 x))`
-fn apart(alloc: Global) -> Result<Term<IntTheory>, Want> {
-    let low = pair(alloc, Op::Le, Term::Var(0), number(0))?;
-    let high = pair(alloc, Op::Le, number(1), Term::Var(0))?;
-    pair(alloc, Op::And, low, high)
-}
+const APART: &str = "x 0 <= 1 x <= and";
 
 /// `(and (<= 1 (* 2 x)) (<= (* 2 x) 1))`
-fn between(alloc: Global) -> Result<Term<IntTheory>, Want> {
-    let double = pair(alloc, Op::Mul, number(2), Term::Var(0))?;
-    let again = pair(alloc, Op::Mul, number(2), Term::Var(0))?;
-    let low = pair(alloc, Op::Le, number(1), double)?;
-    let high = pair(alloc, Op::Le, again, number(1))?;
-    pair(alloc, Op::And, low, high)
-}
+const BETWEEN: &str = "1 2 x * <= 2 x * 1 <= and";
 
 /// `(and (<= (+ largest largest) x) b)`
-fn large(alloc: Global) -> Result<Term<IntTheory>, Want> {
-    let sum = pair(alloc, Op::Add, number(i128::MAX), number(i128::MAX))?;
-    let low = pair(alloc, Op::Le, sum, Term::Var(0))?;
-    pair(alloc, Op::And, low, Term::Var(1))
-}
+const LARGE: &str =
+    "170141183460469231731687303715884105727 170141183460469231731687303715884105727 + x <= b and";
 
 /// The form of a multiple of a variable and a constant.
 fn form(alloc: Global, coefficient: i128, variable: u32, constant: i128) -> Result<Form, Want> {
@@ -54,10 +23,10 @@ fn form(alloc: Global, coefficient: i128, variable: u32, constant: i128) -> Resu
 }
 
 /// Whole numbers as fractions.
-fn wholes(alloc: Global, numbers: &[i128]) -> Result<Seq<Frac>, Want> {
+fn wholes(alloc: Global, numbers: &str) -> Result<Seq<Frac>, Want> {
     let mut fractions = Seq::new(alloc);
-    for number in numbers {
-        if let Some(fraction) = Frac::new(*number, 1) {
+    for number in numbers.split(' ') {
+        if let Some(fraction) = Frac::new(number.parse().unwrap_or(0), 1) {
             fractions.push(fraction)?;
         }
     }
@@ -88,104 +57,163 @@ fn below_between(alloc: Global, inner: Tree) -> Result<Tree, Want> {
     split(alloc, low, split(alloc, high, inner)?)
 }
 
-/// The checker's answer on a tree of a query over an integer and a truth value.
-fn answer(
+/// The checker's answer on a tree of a query.
+fn answer(alloc: Global, body: &str, tree: &Tree) -> Result<String, Want> {
+    let query = query(alloc, body)?;
+    match check_tree(alloc, &query, tree) {
+        Ok(true) => String::from_str(alloc, "true"),
+        Ok(false) => String::from_str(alloc, "false"),
+        Err(CheckEnd::Range(at)) => format!(in alloc; "range {at}"),
+        Err(CheckEnd::Want) => Err(Want {}),
+    }
+}
+
+/// Whether that is the answer.
+fn answers(alloc: Global, body: &str, tree: &Tree, wanted: &str) -> Result<bool, Want> {
+    Ok(answer(alloc, body, tree)?.as_str() == wanted)
+}
+
+/// Whether the multipliers contradict both tests.
+fn contradiction(alloc: Global, multipliers: &str, wanted: &str) -> Result<bool, Want> {
+    let leaf = Tree::Farkas(wholes(alloc, multipliers)?);
+    let high = Test::AtLeast(form(alloc, 1, 0, -1)?);
+    let low = Test::AtLeast(form(alloc, -1, 0, 0)?);
+    let tree = split(alloc, low, split(alloc, high, leaf)?)?;
+    answers(alloc, APART, &tree, wanted)
+}
+
+#[test]
+fn contradictions(rt: HostRuntime) {
+    let rows = [
+        ("1 1", "true"),
+        ("1 0", "false"),
+        ("2 2", "true"),
+        (
+            "170141183460469231731687303715884105727 170141183460469231731687303715884105727",
+            "true",
+        ),
+        ("1", "false"),
+        ("1 1 1", "false"),
+        ("-1 -1", "false"),
+    ];
+    for (multipliers, wanted) in rows {
+        assert!(rt;
+            matches!(contradiction(rt.alloc(), multipliers, wanted), Ok(true)),
+            "{multipliers}"
+        );
+    }
+}
+
+/// Whether a cut by these multipliers and this divisor, and then the last ones, are answered so.
+fn cut(
     alloc: Global,
-    body: Term<IntTheory>,
-    tree: &Tree,
-) -> Result<Result<bool, CheckEnd>, Want> {
-    let mut vars = Seq::new(alloc);
-    vars.push(Sort::Int)?;
-    vars.push(Sort::Bool)?;
-    let query = Query { vars, body };
-    Ok(check_tree(alloc, &query, tree))
+    multipliers: &str,
+    divisor: i128,
+    last: &str,
+    wanted: &str,
+) -> Result<bool, Want> {
+    let leaf = Box::new(alloc, Tree::Farkas(wholes(alloc, last)?))?;
+    let inner = Tree::Cut(wholes(alloc, multipliers)?, divisor, half(alloc)?, leaf);
+    let tree = below_between(alloc, inner)?;
+    answers(alloc, BETWEEN, &tree, wanted)
 }
 
 #[test]
-fn contradictions(rt: HostRuntime) -> Result<(), Fail> {
-    let alloc = rt.alloc();
-    let table: [(&[i128], bool); 7] = [
-        (&[1, 1], true),
-        (&[1, 0], false),
-        (&[2, 2], true),
-        (&[i128::MAX, i128::MAX], true),
-        (&[1], false),
-        (&[1, 1, 1], false),
-        (&[-1, -1], false),
+fn cuts(rt: HostRuntime) {
+    let rows = [
+        ("1 0", 2, "0 1 2", "true"),
+        ("1 0", 1, "0 1 2", "false"),
+        ("1 0", 0, "0 1 2", "false"),
+        ("1 0", 3, "0 1 2", "false"),
+        ("1", 2, "0 1 2", "false"),
+        ("1 0", 2, "0 1 1", "false"),
+        (
+            "1 0",
+            2,
+            "0 170141183460469231731687303715884105727 2",
+            "range 3",
+        ),
+        (
+            "170141183460469231731687303715884105727 0",
+            2,
+            "0 1 2",
+            "range 2",
+        ),
+        (
+            "170141183460469231731687303715884105727 0",
+            0,
+            "0 1 2",
+            "false",
+        ),
     ];
-    for (multipliers, wanted) in table {
-        let leaf = Tree::Farkas(wholes(alloc, multipliers)?);
-        let high = Test::AtLeast(form(alloc, 1, 0, -1)?);
-        let low = Test::AtLeast(form(alloc, -1, 0, 0)?);
-        let tree = split(alloc, low, split(alloc, high, leaf)?)?;
-        assert_eq!(rt; answer(alloc, apart(alloc)?, &tree)?, Ok(wanted));
+    for (multipliers, divisor, last, wanted) in rows {
+        let is_right = cut(rt.alloc(), multipliers, divisor, last, wanted);
+        assert!(rt;
+            matches!(is_right, Ok(true)),
+            "{multipliers} {divisor} {last}"
+        );
     }
-    Ok(())
+}
+
+/// Whether a branch at this bound is answered so.
+fn branch(alloc: Global, variable: u32, bound: i128, wanted: &str) -> Result<bool, Want> {
+    let left = Box::new(alloc, Tree::Farkas(wholes(alloc, "1 0 2")?))?;
+    let right = Box::new(alloc, Tree::Farkas(wholes(alloc, "0 1 2")?))?;
+    let inner = Tree::Branch(variable, bound, half(alloc)?, left, right);
+    let tree = below_between(alloc, inner)?;
+    answers(alloc, BETWEEN, &tree, wanted)
 }
 
 #[test]
-fn cuts(rt: HostRuntime) -> Result<(), Fail> {
-    let alloc = rt.alloc();
-    let table: [(&[i128], i128, &[i128], Result<bool, CheckEnd>); 9] = [
-        (&[1, 0], 2, &[0, 1, 2], Ok(true)),
-        (&[1, 0], 1, &[0, 1, 2], Ok(false)),
-        (&[1, 0], 0, &[0, 1, 2], Ok(false)),
-        (&[1, 0], 3, &[0, 1, 2], Ok(false)),
-        (&[1], 2, &[0, 1, 2], Ok(false)),
-        (&[1, 0], 2, &[0, 1, 1], Ok(false)),
-        (&[1, 0], 2, &[0, i128::MAX, 2], Err(CheckEnd::Range(3))),
-        (&[i128::MAX, 0], 2, &[0, 1, 2], Err(CheckEnd::Range(2))),
-        (&[i128::MAX, 0], 0, &[0, 1, 2], Ok(false)),
+fn branches(rt: HostRuntime) {
+    let rows = [
+        (0, 0, "true"),
+        (0, 1, "false"),
+        (0, -1, "false"),
+        (1, 0, "false"),
+        (2, 0, "false"),
     ];
-    for (multipliers, divisor, last, wanted) in table {
-        let leaf = Box::new(alloc, Tree::Farkas(wholes(alloc, last)?))?;
-        let inner = Tree::Cut(wholes(alloc, multipliers)?, divisor, half(alloc)?, leaf);
-        let tree = below_between(alloc, inner)?;
-        assert_eq!(rt; answer(alloc, between(alloc)?, &tree)?, wanted);
+    for (variable, bound, wanted) in rows {
+        assert!(rt;
+            matches!(branch(rt.alloc(), variable, bound, wanted), Ok(true)),
+            "{variable} {bound}"
+        );
     }
-    Ok(())
+}
+
+/// Whether a split on a multiple of a variable is answered so.
+fn split_on(alloc: Global, coefficient: i128, variable: u32, wanted: &str) -> Result<bool, Want> {
+    let test = Test::AtLeast(form(alloc, coefficient, variable, 0)?);
+    let tree = split(alloc, test, Tree::Shown)?;
+    answers(alloc, LARGE, &tree, wanted)
+}
+
+/// Whether a split on a truth value is answered so.
+fn split_on_truth(alloc: Global, variable: u32, wanted: &str) -> Result<bool, Want> {
+    let tree = split(alloc, Test::Holds(variable), Tree::Shown)?;
+    answers(alloc, LARGE, &tree, wanted)
 }
 
 #[test]
-fn branches(rt: HostRuntime) -> Result<(), Fail> {
+fn splits(rt: HostRuntime) {
     let alloc = rt.alloc();
-    let table: [(u32, i128, bool); 5] = [
-        (0, 0, true),
-        (0, 1, false),
-        (0, -1, false),
-        (1, 0, false),
-        (2, 0, false),
+    let rows = [
+        (1, 0, "range 1"),
+        (i128::MIN, 0, "range 0"),
+        (1, 1, "false"),
+        (i128::MIN, 2, "false"),
     ];
-    for (variable, bound, wanted) in table {
-        let left = Box::new(alloc, Tree::Farkas(wholes(alloc, &[1, 0, 2])?))?;
-        let right = Box::new(alloc, Tree::Farkas(wholes(alloc, &[0, 1, 2])?))?;
-        let inner = Tree::Branch(variable, bound, half(alloc)?, left, right);
-        let tree = below_between(alloc, inner)?;
-        assert_eq!(rt; answer(alloc, between(alloc)?, &tree)?, Ok(wanted));
+    for (coefficient, variable, wanted) in rows {
+        let is_right = split_on(alloc, coefficient, variable, wanted);
+        assert!(rt; matches!(is_right, Ok(true)), "{coefficient} {variable}");
     }
-    Ok(())
-}
-
-#[test]
-fn splits(rt: HostRuntime) -> Result<(), Fail> {
-    let alloc = rt.alloc();
-    let table: [(i128, u32, Result<bool, CheckEnd>); 4] = [
-        (1, 0, Err(CheckEnd::Range(1))),
-        (i128::MIN, 0, Err(CheckEnd::Range(0))),
-        (1, 1, Ok(false)),
-        (i128::MIN, 2, Ok(false)),
-    ];
-    for (coefficient, variable, wanted) in table {
-        let test = Test::AtLeast(form(alloc, coefficient, variable, 0)?);
-        let tree = split(alloc, test, Tree::Shown)?;
-        assert_eq!(rt; answer(alloc, large(alloc)?, &tree)?, wanted);
-    }
-    for (variable, wanted) in [(1, Err(CheckEnd::Range(1))), (0, Ok(false))] {
-        let tree = split(alloc, Test::Holds(variable), Tree::Shown)?;
-        assert_eq!(rt; answer(alloc, large(alloc)?, &tree)?, wanted);
-    }
-    for tree in [Tree::Shown, Tree::Unfinished] {
-        assert_eq!(rt; answer(alloc, between(alloc)?, &tree)?, Ok(false));
-    }
-    Ok(())
+    assert!(rt; matches!(split_on_truth(alloc, 1, "range 1"), Ok(true)));
+    assert!(rt; matches!(split_on_truth(alloc, 0, "false"), Ok(true)));
+    assert!(rt; matches!(answers(alloc, BETWEEN, &Tree::Shown, "false"), Ok(true)));
+    assert!(rt;
+        matches!(
+            answers(alloc, BETWEEN, &Tree::Unfinished, "false"),
+            Ok(true)
+        )
+    );
 }

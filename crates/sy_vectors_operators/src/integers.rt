@@ -4,8 +4,8 @@ ghost use Rattle.sy_terms.specs.Values.{Whole};
 ghost use Rattle.sy_terms.specs.Denoted.{val_of};
 ghost use Rattle.sy_terms.specs.Theories.{sort_of_value};
 
+use crate::operators::parts_of;
 use std::alloc::{AllocError, Global};
-use std::test::Fail;
 use sy_meaning::IntTheory;
 use sy_terms::{Applied, Op, Sort, Sorted, Theory, Value};
 
@@ -35,298 +35,209 @@ fn answer(
     }
 }
 
-fn numbers(alloc: Global, row: &[i128]) -> Result<Vec<Value<i128>>, AllocError> {
-    row.iter().map(|n| Value::Num(*n)).collect(alloc)
+/// A truth value or a number.
+fn value(text: &str) -> Option<Value<i128>> {
+    match text {
+        "true" => Some(Value::Truth(true)),
+        "false" => Some(Value::Truth(false)),
+        _ => Some(Value::Num(text.parse().ok()?)),
+    }
 }
 
-fn truths(alloc: Global, row: &[bool]) -> Result<Vec<Value<i128>>, AllocError> {
-    row.iter().map(|b| Value::Truth(*b)).collect(alloc)
+/// Whether the operator's value is the row's last word, `none` where it is out of range.
+fn is_right(alloc: Global, row: &str) -> Result<bool, AllocError> {
+    let Some((op, arguments, told)) = parts_of(row) else {
+        return Ok(false);
+    };
+    let mut values = Vec::new(alloc);
+    for argument in arguments.split(' ') {
+        match value(argument) {
+            Some(value) => values.push(value)?,
+            None => return Ok(false),
+        }
+    }
+    Ok(match answer(alloc, &op, &values)? {
+        Some(Applied::Is(found)) => value(told) == Some(found),
+        Some(Applied::OutOfRange) => told == "none",
+        None => false,
+    })
 }
+
+/// An operator, what it is applied to, and its value.
+const ROWS: &str = "\
+neg 0 0
+neg 5 -5
+neg -5 5
+neg 170141183460469231731687303715884105727 -170141183460469231731687303715884105727
+neg -170141183460469231731687303715884105728 none
+neg -170141183460469231731687303715884105727 170141183460469231731687303715884105727
+abs 0 0
+abs 7 7
+abs -7 7
+abs -170141183460469231731687303715884105728 none
+abs -170141183460469231731687303715884105727 170141183460469231731687303715884105727
+abs 170141183460469231731687303715884105727 170141183460469231731687303715884105727
++ 2 3 5
++ -2 3 1
++ 1 2 3 6
++ 170141183460469231731687303715884105727 1 none
++ 170141183460469231731687303715884105727 1 -1 none
++ 170141183460469231731687303715884105727 -1 1 170141183460469231731687303715884105727
++ -170141183460469231731687303715884105728 -1 none
++ -170141183460469231731687303715884105728 170141183460469231731687303715884105727 -1
++ -170141183460469231731687303715884105728 -170141183460469231731687303715884105728 none
++ 1 2 3 4 10
++ 85070591730234615865843651857942052864 85070591730234615865843651857942052864 none
++ 85070591730234615865843651857942052864 85070591730234615865843651857942052863 170141183460469231731687303715884105727
++ -85070591730234615865843651857942052864 -85070591730234615865843651857942052864 -170141183460469231731687303715884105728
+- 5 3 2
+- 3 5 -2
+- 10 3 2 5
+- 10 3 2 1 4
+- -170141183460469231731687303715884105728 1 none
+- -170141183460469231731687303715884105727 1 -170141183460469231731687303715884105728
+- 0 -170141183460469231731687303715884105728 none
+- -1 -170141183460469231731687303715884105728 170141183460469231731687303715884105727
+- -170141183460469231731687303715884105728 1 -1 none
+- 170141183460469231731687303715884105727 -1 none
+- -170141183460469231731687303715884105728 -170141183460469231731687303715884105728 0
+* 6 7 42
+* -6 7 -42
+* -6 -7 42
+* 2 3 4 24
+* 18446744073709551616 9223372036854775808 none
+* 18446744073709551616 -9223372036854775808 -170141183460469231731687303715884105728
+* 18446744073709551616 4611686018427387904 85070591730234615865843651857942052864
+* -170141183460469231731687303715884105728 -1 none
+* -170141183460469231731687303715884105728 1 -170141183460469231731687303715884105728
+* 18446744073709551616 18446744073709551616 0 none
+* 0 18446744073709551616 18446744073709551616 0
+* -1 -170141183460469231731687303715884105728 none
+* 170141183460469231731687303715884105727 -1 -170141183460469231731687303715884105727
+div 7 2 3
+div -7 2 -4
+div 7 -2 -3
+div -7 -2 4
+div 6 3 2
+div -6 3 -2
+div 6 -3 -2
+div -6 -3 2
+div 1 5 0
+div -1 5 -1
+div -1 -5 1
+div 1 -5 0
+div 100 7 3 4
+div -100 7 -3 5
+div -170141183460469231731687303715884105728 -1 none
+div -170141183460469231731687303715884105728 1 -170141183460469231731687303715884105728
+div -170141183460469231731687303715884105728 2 -85070591730234615865843651857942052864
+div -170141183460469231731687303715884105728 -170141183460469231731687303715884105728 1
+div 170141183460469231731687303715884105727 -170141183460469231731687303715884105728 0
+div -170141183460469231731687303715884105728 170141183460469231731687303715884105727 -2
+div 7 0 0
+div -7 0 0
+div 7 0 3 0
+div -170141183460469231731687303715884105728 2 -1 85070591730234615865843651857942052864
+div -170141183460469231731687303715884105728 -1 0 none
+mod 7 2 1
+mod -7 2 1
+mod 7 -2 1
+mod -7 -2 1
+mod 6 3 0
+mod -6 3 0
+mod 1 5 1
+mod -1 5 4
+mod -1 -5 4
+mod -170141183460469231731687303715884105728 -1 0
+mod -170141183460469231731687303715884105728 -170141183460469231731687303715884105728 0
+mod -170141183460469231731687303715884105728 170141183460469231731687303715884105727 170141183460469231731687303715884105726
+mod 170141183460469231731687303715884105727 -170141183460469231731687303715884105728 170141183460469231731687303715884105727
+mod 7 0 7
+mod -7 0 -7
+mod -170141183460469231731687303715884105728 0 -170141183460469231731687303715884105728
+<= 1 1 true
+<= 2 1 false
+<= 1 2 3 true
+<= 1 3 2 false
+<= -170141183460469231731687303715884105728 170141183460469231731687303715884105727 true
+<= 2 1 3 false
+<= 1 2 2 1 false
+< 1 1 false
+< 1 2 true
+< 1 2 2 false
+< -2 -1 0 true
+< 170141183460469231731687303715884105727 -170141183460469231731687303715884105728 false
+< 3 1 2 false
+>= 1 1 true
+>= 1 2 false
+>= 3 2 1 true
+>= 3 1 2 false
+>= 170141183460469231731687303715884105727 -170141183460469231731687303715884105728 true
+>= 1 2 1 false
+> 1 1 false
+> 2 1 true
+> 3 2 2 false
+> 0 -1 -2 true
+> -170141183460469231731687303715884105728 170141183460469231731687303715884105727 false
+> 1 3 2 false
+= 1 1 true
+= 1 2 false
+= 4 4 4 true
+= 4 4 5 false
+= 5 4 4 false
+= -170141183460469231731687303715884105728 170141183460469231731687303715884105727 false
+distinct 1 1 false
+distinct 1 2 true
+distinct 1 2 1 false
+distinct 1 2 3 true
+distinct 1 2 3 2 false
+distinct 1 1 2 false
+not true false
+not false true
+and true true
+and false false
+and true true true
+and true false false
+and true true false false
+and true true true true
+and false true true false
+or true true
+or false false
+or false false false
+or false true true
+or false false true true
+or false false false false
+xor true true false
+xor true false true
+xor false false false
+xor true true true true
+xor true true false false
+xor true false true true true
+=> true false false
+=> false false true
+=> true true true
+=> false true false true
+=> false false false true
+=> true true false false
+=> true false false true
+=> false true false false true
+= true true true
+= true false false
+= false false false true
+= false false true false
+= true false true false
+distinct true false true
+distinct true true false
+distinct true false true false
+ite true true false true
+ite false true false false
+ite true false true false
+ite false false true true
+";
 
 #[test]
-fn answers_as_z3_does(rt: HostRuntime) -> Result<(), Fail> {
-    let alloc = rt.alloc();
-    for (op, row, want) in arithmetic() {
-        let values = numbers(alloc, row)?;
-        let want = match want {
-            Some(n) => Applied::Is(Value::Num(n)),
-            None => Applied::OutOfRange,
-        };
-        assert_eq!(rt;
-            answer(alloc, &op, &values)?,
-            Some(want),
-            "{op:?} of {row:?}"
-        );
+fn answers_as_z3_does(rt: HostRuntime) {
+    for row in ROWS.lines() {
+        assert!(rt; matches!(is_right(rt.alloc(), row), Ok(true)), "{row}");
     }
-    for (op, row, want) in comparisons() {
-        let values = numbers(alloc, row)?;
-        let want = Applied::Is(Value::Truth(want));
-        assert_eq!(rt;
-            answer(alloc, &op, &values)?,
-            Some(want),
-            "{op:?} of {row:?}"
-        );
-    }
-    for (op, row, want) in connectives() {
-        let values = truths(alloc, row)?;
-        let want = Applied::Is(Value::Truth(want));
-        assert_eq!(rt;
-            answer(alloc, &op, &values)?,
-            Some(want),
-            "{op:?} of {row:?}"
-        );
-    }
-    Ok(())
-}
-
-fn arithmetic() -> [(Op, &'static [i128], Option<i128>); 90] {
-    [
-        (Op::Neg, &[0], Some(0)),
-        (Op::Neg, &[5], Some(-5)),
-        (Op::Neg, &[-5], Some(5)),
-        (
-            Op::Neg,
-            &[i128::MAX],
-            Some(-170141183460469231731687303715884105727),
-        ),
-        (Op::Neg, &[i128::MIN], None),
-        (
-            Op::Neg,
-            &[-170141183460469231731687303715884105727],
-            Some(i128::MAX),
-        ),
-        (Op::Abs, &[0], Some(0)),
-        (Op::Abs, &[7], Some(7)),
-        (Op::Abs, &[-7], Some(7)),
-        (Op::Abs, &[i128::MIN], None),
-        (
-            Op::Abs,
-            &[-170141183460469231731687303715884105727],
-            Some(i128::MAX),
-        ),
-        (Op::Abs, &[i128::MAX], Some(i128::MAX)),
-        (Op::Add, &[2, 3], Some(5)),
-        (Op::Add, &[-2, 3], Some(1)),
-        (Op::Add, &[1, 2, 3], Some(6)),
-        (Op::Add, &[i128::MAX, 1], None),
-        (Op::Add, &[i128::MAX, 1, -1], None),
-        (Op::Add, &[i128::MAX, -1, 1], Some(i128::MAX)),
-        (Op::Add, &[i128::MIN, -1], None),
-        (Op::Add, &[i128::MIN, i128::MAX], Some(-1)),
-        (Op::Add, &[i128::MIN, i128::MIN], None),
-        (Op::Add, &[1, 2, 3, 4], Some(10)),
-        (
-            Op::Add,
-            &[
-                85070591730234615865843651857942052864,
-                85070591730234615865843651857942052864,
-            ],
-            None,
-        ),
-        (
-            Op::Add,
-            &[
-                85070591730234615865843651857942052864,
-                85070591730234615865843651857942052863,
-            ],
-            Some(i128::MAX),
-        ),
-        (
-            Op::Add,
-            &[
-                -85070591730234615865843651857942052864,
-                -85070591730234615865843651857942052864,
-            ],
-            Some(i128::MIN),
-        ),
-        (Op::Sub, &[5, 3], Some(2)),
-        (Op::Sub, &[3, 5], Some(-2)),
-        (Op::Sub, &[10, 3, 2], Some(5)),
-        (Op::Sub, &[10, 3, 2, 1], Some(4)),
-        (Op::Sub, &[i128::MIN, 1], None),
-        (
-            Op::Sub,
-            &[-170141183460469231731687303715884105727, 1],
-            Some(i128::MIN),
-        ),
-        (Op::Sub, &[0, i128::MIN], None),
-        (Op::Sub, &[-1, i128::MIN], Some(i128::MAX)),
-        (Op::Sub, &[i128::MIN, 1, -1], None),
-        (Op::Sub, &[i128::MAX, -1], None),
-        (Op::Sub, &[i128::MIN, i128::MIN], Some(0)),
-        (Op::Mul, &[6, 7], Some(42)),
-        (Op::Mul, &[-6, 7], Some(-42)),
-        (Op::Mul, &[-6, -7], Some(42)),
-        (Op::Mul, &[2, 3, 4], Some(24)),
-        (Op::Mul, &[18446744073709551616, 9223372036854775808], None),
-        (
-            Op::Mul,
-            &[18446744073709551616, -9223372036854775808],
-            Some(i128::MIN),
-        ),
-        (
-            Op::Mul,
-            &[18446744073709551616, 4611686018427387904],
-            Some(85070591730234615865843651857942052864),
-        ),
-        (Op::Mul, &[i128::MIN, -1], None),
-        (Op::Mul, &[i128::MIN, 1], Some(i128::MIN)),
-        (
-            Op::Mul,
-            &[18446744073709551616, 18446744073709551616, 0],
-            None,
-        ),
-        (
-            Op::Mul,
-            &[0, 18446744073709551616, 18446744073709551616],
-            Some(0),
-        ),
-        (Op::Mul, &[-1, i128::MIN], None),
-        (
-            Op::Mul,
-            &[i128::MAX, -1],
-            Some(-170141183460469231731687303715884105727),
-        ),
-        (Op::Div, &[7, 2], Some(3)),
-        (Op::Div, &[-7, 2], Some(-4)),
-        (Op::Div, &[7, -2], Some(-3)),
-        (Op::Div, &[-7, -2], Some(4)),
-        (Op::Div, &[6, 3], Some(2)),
-        (Op::Div, &[-6, 3], Some(-2)),
-        (Op::Div, &[6, -3], Some(-2)),
-        (Op::Div, &[-6, -3], Some(2)),
-        (Op::Div, &[1, 5], Some(0)),
-        (Op::Div, &[-1, 5], Some(-1)),
-        (Op::Div, &[-1, -5], Some(1)),
-        (Op::Div, &[1, -5], Some(0)),
-        (Op::Div, &[100, 7, 3], Some(4)),
-        (Op::Div, &[-100, 7, -3], Some(5)),
-        (Op::Div, &[i128::MIN, -1], None),
-        (Op::Div, &[i128::MIN, 1], Some(i128::MIN)),
-        (
-            Op::Div,
-            &[i128::MIN, 2],
-            Some(-85070591730234615865843651857942052864),
-        ),
-        (Op::Div, &[i128::MIN, i128::MIN], Some(1)),
-        (Op::Div, &[i128::MAX, i128::MIN], Some(0)),
-        (Op::Div, &[i128::MIN, i128::MAX], Some(-2)),
-        (Op::Div, &[7, 0], Some(0)),
-        (Op::Div, &[-7, 0], Some(0)),
-        (Op::Div, &[7, 0, 3], Some(0)),
-        (
-            Op::Div,
-            &[i128::MIN, 2, -1],
-            Some(85070591730234615865843651857942052864),
-        ),
-        (Op::Div, &[i128::MIN, -1, 0], None),
-        (Op::Mod, &[7, 2], Some(1)),
-        (Op::Mod, &[-7, 2], Some(1)),
-        (Op::Mod, &[7, -2], Some(1)),
-        (Op::Mod, &[-7, -2], Some(1)),
-        (Op::Mod, &[6, 3], Some(0)),
-        (Op::Mod, &[-6, 3], Some(0)),
-        (Op::Mod, &[1, 5], Some(1)),
-        (Op::Mod, &[-1, 5], Some(4)),
-        (Op::Mod, &[-1, -5], Some(4)),
-        (Op::Mod, &[i128::MIN, -1], Some(0)),
-        (Op::Mod, &[i128::MIN, i128::MIN], Some(0)),
-        (
-            Op::Mod,
-            &[i128::MIN, i128::MAX],
-            Some(170141183460469231731687303715884105726),
-        ),
-        (Op::Mod, &[i128::MAX, i128::MIN], Some(i128::MAX)),
-        (Op::Mod, &[7, 0], Some(7)),
-        (Op::Mod, &[-7, 0], Some(-7)),
-        (Op::Mod, &[i128::MIN, 0], Some(i128::MIN)),
-    ]
-}
-
-fn comparisons() -> [(Op, &'static [i128], bool); 37] {
-    [
-        (Op::Le, &[1, 1], true),
-        (Op::Le, &[2, 1], false),
-        (Op::Le, &[1, 2, 3], true),
-        (Op::Le, &[1, 3, 2], false),
-        (Op::Le, &[i128::MIN, i128::MAX], true),
-        (Op::Le, &[2, 1, 3], false),
-        (Op::Le, &[1, 2, 2, 1], false),
-        (Op::Lt, &[1, 1], false),
-        (Op::Lt, &[1, 2], true),
-        (Op::Lt, &[1, 2, 2], false),
-        (Op::Lt, &[-2, -1, 0], true),
-        (Op::Lt, &[i128::MAX, i128::MIN], false),
-        (Op::Lt, &[3, 1, 2], false),
-        (Op::Ge, &[1, 1], true),
-        (Op::Ge, &[1, 2], false),
-        (Op::Ge, &[3, 2, 1], true),
-        (Op::Ge, &[3, 1, 2], false),
-        (Op::Ge, &[i128::MAX, i128::MIN], true),
-        (Op::Ge, &[1, 2, 1], false),
-        (Op::Gt, &[1, 1], false),
-        (Op::Gt, &[2, 1], true),
-        (Op::Gt, &[3, 2, 2], false),
-        (Op::Gt, &[0, -1, -2], true),
-        (Op::Gt, &[i128::MIN, i128::MAX], false),
-        (Op::Gt, &[1, 3, 2], false),
-        (Op::Equal, &[1, 1], true),
-        (Op::Equal, &[1, 2], false),
-        (Op::Equal, &[4, 4, 4], true),
-        (Op::Equal, &[4, 4, 5], false),
-        (Op::Equal, &[5, 4, 4], false),
-        (Op::Equal, &[i128::MIN, i128::MAX], false),
-        (Op::Distinct, &[1, 1], false),
-        (Op::Distinct, &[1, 2], true),
-        (Op::Distinct, &[1, 2, 1], false),
-        (Op::Distinct, &[1, 2, 3], true),
-        (Op::Distinct, &[1, 2, 3, 2], false),
-        (Op::Distinct, &[1, 1, 2], false),
-    ]
-}
-
-fn connectives() -> [(Op, &'static [bool], bool); 41] {
-    [
-        (Op::Not, &[true], false),
-        (Op::Not, &[false], true),
-        (Op::And, &[true], true),
-        (Op::And, &[false], false),
-        (Op::And, &[true, true], true),
-        (Op::And, &[true, false], false),
-        (Op::And, &[true, true, false], false),
-        (Op::And, &[true, true, true], true),
-        (Op::And, &[false, true, true], false),
-        (Op::Or, &[true], true),
-        (Op::Or, &[false], false),
-        (Op::Or, &[false, false], false),
-        (Op::Or, &[false, true], true),
-        (Op::Or, &[false, false, true], true),
-        (Op::Or, &[false, false, false], false),
-        (Op::Xor, &[true, true], false),
-        (Op::Xor, &[true, false], true),
-        (Op::Xor, &[false, false], false),
-        (Op::Xor, &[true, true, true], true),
-        (Op::Xor, &[true, true, false], false),
-        (Op::Xor, &[true, false, true, true], true),
-        (Op::Implies, &[true, false], false),
-        (Op::Implies, &[false, false], true),
-        (Op::Implies, &[true, true], true),
-        (Op::Implies, &[false, true, false], true),
-        (Op::Implies, &[false, false, false], true),
-        (Op::Implies, &[true, true, false], false),
-        (Op::Implies, &[true, false, false], true),
-        (Op::Implies, &[false, true, false, false], true),
-        (Op::Equal, &[true, true], true),
-        (Op::Equal, &[true, false], false),
-        (Op::Equal, &[false, false, false], true),
-        (Op::Equal, &[false, false, true], false),
-        (Op::Equal, &[true, false, true], false),
-        (Op::Distinct, &[true, false], true),
-        (Op::Distinct, &[true, true], false),
-        (Op::Distinct, &[true, false, true], false),
-        (Op::Ite, &[true, true, false], true),
-        (Op::Ite, &[false, true, false], false),
-        (Op::Ite, &[true, false, true], false),
-        (Op::Ite, &[false, false, true], true),
-    ]
 }

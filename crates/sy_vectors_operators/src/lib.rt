@@ -6,6 +6,8 @@ mod circuits;
 #[cfg(test)]
 mod integers;
 #[cfg(test)]
+mod operators;
+#[cfg(test)]
 mod sorts;
 #[cfg(test)]
 mod words;

@@ -1,130 +1,80 @@
-// How operators are spelled, and the sorts that they take and give.
-use sy_terms::{Fun, Op, Sort, Sorted, operator_sort, spell};
+// The sorts that operators take and give.
+use crate::operators::parts_of;
+use std::alloc::{AllocError, Global};
+use sy_terms::{Fun, Op, Sort, Sorted, operator_sort};
 
-#[test]
-fn operators_are_spelled_as_in_files(rt: HostRuntime) {
-    let words = [
-        (Op::Not, "not"),
-        (Op::And, "and"),
-        (Op::Or, "or"),
-        (Op::Xor, "xor"),
-        (Op::Implies, "=>"),
-        (Op::Equal, "="),
-        (Op::Distinct, "distinct"),
-        (Op::Ite, "ite"),
-        (Op::Neg, "-"),
-        (Op::Sub, "-"),
-        (Op::Add, "+"),
-        (Op::Mul, "*"),
-        (Op::Le, "<="),
-        (Op::Lt, "<"),
-        (Op::Ge, ">="),
-        (Op::Gt, ">"),
-        (Op::Concat, "concat"),
-        (Op::Extract(3, 0), "extract"),
-        (Op::BvNot, "bvnot"),
-        (Op::BvNeg, "bvneg"),
-        (Op::BvAnd, "bvand"),
-        (Op::BvOr, "bvor"),
-        (Op::BvXor, "bvxor"),
-        (Op::BvAdd, "bvadd"),
-        (Op::BvMul, "bvmul"),
-        (Op::BvSub, "bvsub"),
-        (Op::BvNand, "bvnand"),
-        (Op::BvNor, "bvnor"),
-        (Op::BvXnor, "bvxnor"),
-        (Op::BvComp, "bvcomp"),
-        (Op::BvUdiv, "bvudiv"),
-        (Op::BvUrem, "bvurem"),
-        (Op::BvSdiv, "bvsdiv"),
-        (Op::BvSrem, "bvsrem"),
-        (Op::BvSmod, "bvsmod"),
-        (Op::BvShl, "bvshl"),
-        (Op::BvLshr, "bvlshr"),
-        (Op::BvAshr, "bvashr"),
-        (Op::Repeat(2), "repeat"),
-        (Op::ZeroExtend(2), "zero_extend"),
-        (Op::SignExtend(2), "sign_extend"),
-        (Op::RotateLeft(3), "rotate_left"),
-        (Op::RotateRight(3), "rotate_right"),
-        (Op::BvUlt, "bvult"),
-        (Op::BvUle, "bvule"),
-        (Op::BvUgt, "bvugt"),
-        (Op::BvUge, "bvuge"),
-        (Op::BvSlt, "bvslt"),
-        (Op::BvSle, "bvsle"),
-        (Op::BvSgt, "bvsgt"),
-        (Op::BvSge, "bvsge"),
-    ];
-    for (op, word) in words {
-        assert_eq!(rt; spell(&op), word);
+/// A sort, where that of vectors is its width.
+fn sort(text: &str) -> Option<Sort> {
+    match text {
+        "Bool" => Some(Sort::Bool),
+        "Int" => Some(Sort::Int),
+        _ => Some(Sort::Bits(text.parse().ok()?)),
     }
 }
 
-#[test]
-fn operators_take_one_or_two_of_one_sort(rt: HostRuntime) {
-    let cases = [
-        (Op::Sub, Sort::Int, Sorted::Is(Sort::Int)),
-        (Op::Concat, Sort::Bits(33), Sorted::BadWidth),
-        (Op::Concat, Sort::Bits(32), Sorted::Is(Sort::Bits(64))),
-        (Op::BvComp, Sort::Bits(5), Sorted::Is(Sort::Bits(1))),
-        (Op::Equal, Sort::Bool, Sorted::Is(Sort::Bool)),
-        (Op::Not, Sort::Bool, Sorted::Mismatch),
-        (Op::BvAdd, Sort::Int, Sorted::Mismatch),
-        (Op::BvNand, Sort::Bits(4), Sorted::Is(Sort::Bits(4))),
-        (Op::BvSlt, Sort::Bits(4), Sorted::Is(Sort::Bool)),
-        (Op::Le, Sort::Int, Sorted::Is(Sort::Bool)),
-    ];
-    for (op, sort, sorted) in cases {
-        assert_eq!(rt; operator_sort(&op, &[sort, sort]), sorted);
+/// Whether the operator's sort is the row's last word.
+fn is_right(alloc: Global, row: &str) -> Result<bool, AllocError> {
+    let Some((op, arguments, told)) = parts_of(row) else {
+        return Ok(false);
+    };
+    let mut sorts = Vec::new(alloc);
+    for argument in arguments.split(' ') {
+        match sort(argument) {
+            Some(sort) => sorts.push(sort)?,
+            None => return Ok(false),
+        }
     }
-    let cases = [
-        (Op::And, Sort::Bool, Sorted::Is(Sort::Bool)),
-        (Op::Xor, Sort::Bool, Sorted::Mismatch),
-        (Op::Neg, Sort::Int, Sorted::Is(Sort::Int)),
-        (Op::Sub, Sort::Int, Sorted::Mismatch),
-        (Op::Extract(3, 1), Sort::Bits(4), Sorted::Is(Sort::Bits(3))),
-        (Op::Extract(4, 1), Sort::Bits(4), Sorted::BadWidth),
-        (Op::Extract(1, 2), Sort::Bits(4), Sorted::BadWidth),
-        (Op::Repeat(0), Sort::Bits(1), Sorted::BadWidth),
-        (Op::Repeat(16), Sort::Bits(4), Sorted::Is(Sort::Bits(64))),
-        (Op::Repeat(17), Sort::Bits(4), Sorted::BadWidth),
-        (Op::ZeroExtend(0), Sort::Bits(4), Sorted::Is(Sort::Bits(4))),
-        (
-            Op::ZeroExtend(60),
-            Sort::Bits(4),
-            Sorted::Is(Sort::Bits(64)),
-        ),
-        (Op::SignExtend(61), Sort::Bits(4), Sorted::BadWidth),
-        (
-            Op::RotateLeft(255),
-            Sort::Bits(4),
-            Sorted::Is(Sort::Bits(4)),
-        ),
-        (Op::BvNot, Sort::Bool, Sorted::Mismatch),
-    ];
-    for (op, sort, sorted) in cases {
-        assert_eq!(rt; operator_sort(&op, &[sort]), sorted);
-    }
+    Ok(match operator_sort(&op, &sorts) {
+        Sorted::Is(found) => sort(told) == Some(found),
+        Sorted::BadWidth => told == "width",
+        Sorted::Mismatch => told == "mismatch",
+    })
 }
 
+/// An operator, the sorts of its arguments, and its own, `mismatch` where it doesn't take them, or `width` where its
+/// width would be out of range.
+const ROWS: &str = "\
+- Int Int Int
+concat 33 33 width
+concat 32 32 64
+bvcomp 5 5 1
+= Bool Bool Bool
+not Bool Bool mismatch
+bvadd Int Int mismatch
+bvnand 4 4 4
+bvslt 4 4 Bool
+<= Int Int Bool
+and Bool Bool
+xor Bool mismatch
+neg Int Int
+- Int mismatch
+extract,3,1 4 3
+extract,4,1 4 width
+extract,1,2 4 width
+repeat,0 1 width
+repeat,16 4 64
+repeat,17 4 width
+zero_extend,0 4 4
+zero_extend,60 4 64
+sign_extend,61 4 width
+rotate_left,255 4 4
+bvnot Bool mismatch
+or Bool Bool Bool Bool
+distinct 4 4 4 Bool
+= 4 4 3 mismatch
+ite Bool 4 4 4
+ite Bool 4 Bool mismatch
+bvadd 4 4 4 4
+bvsub 4 4 4 mismatch
+concat 4 4 4 mismatch
+* Int Int Int Int
+> Int Int Int Bool
+";
+
 #[test]
-fn operators_take_three_arguments(rt: HostRuntime) {
-    let four = Sort::Bits(4);
-    let cases = [
-        (Op::Or, [Sort::Bool; 3], Sorted::Is(Sort::Bool)),
-        (Op::Distinct, [four; 3], Sorted::Is(Sort::Bool)),
-        (Op::Equal, [four, four, Sort::Bits(3)], Sorted::Mismatch),
-        (Op::Ite, [Sort::Bool, four, four], Sorted::Is(four)),
-        (Op::Ite, [Sort::Bool, four, Sort::Bool], Sorted::Mismatch),
-        (Op::BvAdd, [four; 3], Sorted::Is(four)),
-        (Op::BvSub, [four; 3], Sorted::Mismatch),
-        (Op::Concat, [four; 3], Sorted::Mismatch),
-        (Op::Mul, [Sort::Int; 3], Sorted::Is(Sort::Int)),
-        (Op::Gt, [Sort::Int; 3], Sorted::Is(Sort::Bool)),
-    ];
-    for (op, sorts, sorted) in cases {
-        assert_eq!(rt; operator_sort(&op, &sorts), sorted);
+fn operators_take_and_give_sorts(rt: HostRuntime) {
+    for row in ROWS.lines() {
+        assert!(rt; matches!(is_right(rt.alloc(), row), Ok(true)), "{row}");
     }
 }
 

@@ -1,51 +1,43 @@
 // One-line files, and large ones, with what is read of them.
 use std::alloc::{AllocError, Global};
-use sy_scope::{Cause, Job, ScopeEnd, read_file};
+use sy_scope::{Job, ScopeEnd, read_file};
 
-/// What is read: so many problems in a logic, or the first fault, by its command, its offset and its cause.
-#[derive(Debug, Drop)]
-enum Outcome {
-    Idle,
-    Ints(usize),
-    Bits(usize),
-    Refused(u32, usize, Cause),
-    TooLong,
-}
-
-fn reading_of(alloc: Global, text: &[u8]) -> Result<Outcome, AllocError> {
+/// What is read: so many problems in a logic, or the first fault, by its command, its offset behind the head, and its
+/// cause.
+fn reading_of(alloc: Global, head: usize, text: &[u8]) -> Result<String, AllocError> {
     if text.len() > 4_194_304 {
-        return Ok(Outcome::TooLong);
+        return String::from_str(alloc, "TooLong");
     }
     match read_file(alloc, text) {
-        Ok(Job::Idle) => Ok(Outcome::Idle),
-        Ok(Job::Ints(problems, _)) => Ok(Outcome::Ints(problems.len())),
-        Ok(Job::Bits(problems, _)) => Ok(Outcome::Bits(problems.len())),
-        Err(ScopeEnd::Refused(refused)) => Ok(Outcome::Refused(
-            refused.command,
-            refused.place.at,
-            refused.cause,
-        )),
+        Ok(Job::Idle) => String::from_str(alloc, "Idle"),
+        Ok(Job::Ints(problems, _)) => {
+            let count = problems.len();
+            format!(in alloc; "Ints({count})")
+        }
+        Ok(Job::Bits(problems, _)) => {
+            let count = problems.len();
+            format!(in alloc; "Bits({count})")
+        }
+        Err(ScopeEnd::Refused(refused)) => {
+            let at = refused.place.at.wrapping_sub(head);
+            let command = refused.command;
+            let cause = refused.cause;
+            format!(in alloc; "Refused({command}, {at}, {cause:?})")
+        }
         Err(ScopeEnd::Want) => Err(AllocError {}),
     }
 }
 
-/// Whether the text is read as a table tells.
-fn reads_as(alloc: Global, text: &[u8], outcome: &str) -> Result<bool, AllocError> {
-    let found = reading_of(alloc, text)?;
-    Ok(format!(in alloc; "{found:?}")?.as_str() == outcome)
-}
-
-/// The first line whose file is read otherwise than it tells.
-fn first_other<'a>(alloc: Global, table: &'a str) -> Result<Option<&'a str>, AllocError> {
-    for line in table.lines() {
-        let Some((outcome, text)) = line.split_once(": ") else {
-            return Ok(Some(line));
-        };
-        if !reads_as(alloc, text.as_bytes(), outcome)? {
-            return Ok(Some(line));
-        }
-    }
-    Ok(None)
+/// Whether the line's text is read as it tells, where a file is the head, the text and the tail.
+pub fn reads_as(alloc: Global, head: &str, tail: &str, line: &str) -> Result<bool, AllocError> {
+    let Some((outcome, text)) = line.split_once(": ") else {
+        return Ok(false);
+    };
+    let mut file = String::new(alloc);
+    file.push_str(head)?;
+    file.push_str(text)?;
+    file.push_str(tail)?;
+    Ok(reading_of(alloc, head.len(), file.as_bytes())?.as_str() == outcome)
 }
 
 /// Commands without a logic, behind what becomes of each file.
@@ -86,12 +78,6 @@ Refused(1, 0, Shape): (define-sort A (x) Int)
 Refused(1, 0, Shape): (define-sort A 5 Int)
 ";
 
-#[test]
-fn commands_before_a_logic(rt: HostRuntime) -> Result<(), AllocError> {
-    assert_eq!(rt; first_other(rt.alloc(), COMMANDS)?, None);
-    Ok(())
-}
-
 /// New names, and sorts.
 const NAMES: &str = "\
 Refused(2, 27, NameTaken): (set-logic BV)(declare-var ite Bool)
@@ -117,12 +103,6 @@ Refused(2, 28, NameTaken): (set-logic LIA)(declare-var div Int)
 Refused(2, 28, NameTaken): (set-logic LIA)(declare-var abs Int)
 Refused(3, 47, NameTaken): (set-logic BV)(define-sort A Bool)(define-sort A Bool)
 ";
-
-#[test]
-fn names_and_sorts(rt: HostRuntime) -> Result<(), AllocError> {
-    assert_eq!(rt; first_other(rt.alloc(), NAMES)?, None);
-    Ok(())
-}
 
 /// Bodies of definitions, and terms of constraints and assumptions.
 const TERMS: &str = "\
@@ -163,12 +143,6 @@ Refused(2, 33, UnknownName): (set-logic LIA)(constraint (= 0 (abs 1)))
 Refused(3, 43, FunctionNotHere): (set-logic BV)(synth-fun g () Bool)(assume g)
 ";
 
-#[test]
-fn bodies_and_terms(rt: HostRuntime) -> Result<(), AllocError> {
-    assert_eq!(rt; first_other(rt.alloc(), TERMS)?, None);
-    Ok(())
-}
-
 /// Functions to be found, with and without grammars.
 const FUNCTIONS: &str = "\
 Refused(2, 14, Shape): (set-logic BV)(synth-fun f ())
@@ -193,12 +167,6 @@ Refused(2, 56, UnknownName): (set-logic BV)(synth-fun f () Bool ((S Bool)) ((S B
 Refused(6, 109, TooMany): (set-logic BV)(synth-fun a () Bool)(synth-fun b () Bool)(synth-fun c () Bool)(synth-fun d () Bool)(synth-fun e () Bool)
 Refused(3, 46, NameTaken): (set-logic BV)(synth-fun a () Bool)(synth-fun a () Bool)
 ";
-
-#[test]
-fn functions_to_be_found(rt: HostRuntime) -> Result<(), AllocError> {
-    assert_eq!(rt; first_other(rt.alloc(), FUNCTIONS)?, None);
-    Ok(())
-}
 
 /// Conditions of invariants, and whole files.
 const FILES: &str = "\
@@ -229,13 +197,19 @@ Refused(2, 17, Text(Unclosed(17))): (set-logic BV)(5 (
 ";
 
 #[test]
-fn invariants_and_whole_files(rt: HostRuntime) -> Result<(), AllocError> {
-    assert_eq!(rt; first_other(rt.alloc(), FILES)?, None);
-    Ok(())
+fn files_of_one_line(rt: HostRuntime) {
+    for table in [COMMANDS, NAMES, TERMS, FUNCTIONS, FILES] {
+        for line in table.lines() {
+            assert!(rt;
+                matches!(reads_as(rt.alloc(), "", "", line), Ok(true)),
+                "{line}"
+            );
+        }
+    }
 }
 
-/// Files of many equal pieces, a line each: what becomes of the file; how many pieces; and its beginning, the piece, its
-/// middle, what closes each piece, and its end. In a piece `#` is its number from 0, and `@` its number from 1.
+/// Files of many equal pieces, a line each: what becomes of the file; how many pieces; and its parts, of which each
+/// second one is a piece. In a piece `#` is its number from 0, and `@` its number from 1.
 const LARGE: &str = "\
 Idle|0|||||
 Ints(0)|4096|(set-logic LIA)|(declare-var v# Int)|||
@@ -253,38 +227,9 @@ Idle|131072||                                |||
 TooLong|131072| |                                |||
 Refused(1, 1199, Text(Unclosed(1199)))|1200||(|||
 Refused(1, 1200, Text(TooDeep(1200)))|1201||(|||
+Refused(22, 710, TooMany)|17|(set-logic LIA)(define-fun d0 () Int 1)|(define-fun d@ () Int (+ d# d#))|(define-fun big () Int (+ d17 d16 d15 d14 d12 d7 d4 d1 d1))(define-fun p () Int big)(define-fun q () Int (+ big 1))||
+Refused(4, 7276, TooMany)|1198|(set-logic LIA)(define-fun deep () Int |(+ 1 |1|)|)(define-fun p () Int deep)(define-fun q () Int (+ deep 1))
 ";
-
-/// The parts of a line.
-#[derive(Drop)]
-struct Large<'a> {
-    outcome: &'a str,
-    count: u32,
-    head: &'a str,
-    piece: &'a str,
-    middle: &'a str,
-    closing: &'a str,
-    tail: &'a str,
-}
-
-fn large_of(line: &str) -> Option<Large<'_>> {
-    let (outcome, rest) = line.split_once('|')?;
-    let (count, rest) = rest.split_once('|')?;
-    let (head, rest) = rest.split_once('|')?;
-    let (piece, rest) = rest.split_once('|')?;
-    let (middle, rest) = rest.split_once('|')?;
-    let (closing, tail) = rest.split_once('|')?;
-    let count = count.parse().ok()?;
-    Some(Large {
-        outcome,
-        count,
-        head,
-        piece,
-        middle,
-        closing,
-        tail,
-    })
-}
 
 /// Appends the piece of this number.
 fn append_piece(text: &mut String, piece: &str, number: u32) -> Result<(), AllocError> {
@@ -301,36 +246,38 @@ fn append_piece(text: &mut String, piece: &str, number: u32) -> Result<(), Alloc
     Ok(())
 }
 
-fn text_of(alloc: Global, file: &Large<'_>) -> Result<String, AllocError> {
+/// The file of these parts.
+fn text_of(alloc: Global, count: u32, parts: &str) -> Result<String, AllocError> {
     let mut text = String::new(alloc);
-    text.push_str(file.head)?;
-    for number in 0..file.count {
-        append_piece(&mut text, file.piece, number)?;
+    let mut is_piece = false;
+    for part in parts.split('|') {
+        let times = if is_piece { count } else { 1 };
+        for number in 0..times {
+            append_piece(&mut text, part, number)?;
+        }
+        is_piece = !is_piece;
     }
-    text.push_str(file.middle)?;
-    for _ in 0..file.count {
-        text.push_str(file.closing)?;
-    }
-    text.push_str(file.tail)?;
     Ok(text)
 }
 
-/// The first line whose file is read otherwise than it tells.
-fn first_other_large<'a>(alloc: Global, table: &'a str) -> Result<Option<&'a str>, AllocError> {
-    for line in table.lines() {
-        let Some(file) = large_of(line) else {
-            return Ok(Some(line));
-        };
-        let text = text_of(alloc, &file)?;
-        if !reads_as(alloc, text.as_bytes(), file.outcome)? {
-            return Ok(Some(line));
-        }
-    }
-    Ok(None)
+/// Whether the line's file is read as it tells.
+fn is_read(alloc: Global, line: &str) -> Result<bool, AllocError> {
+    let Some((outcome, rest)) = line.split_once('|') else {
+        return Ok(false);
+    };
+    let Some((count, parts)) = rest.split_once('|') else {
+        return Ok(false);
+    };
+    let Ok(count) = count.parse() else {
+        return Ok(false);
+    };
+    let text = text_of(alloc, count, parts)?;
+    Ok(reading_of(alloc, 0, text.as_bytes())?.as_str() == outcome)
 }
 
 #[test]
-fn the_largest_files(rt: HostRuntime) -> Result<(), AllocError> {
-    assert_eq!(rt; first_other_large(rt.alloc(), LARGE)?, None);
-    Ok(())
+fn the_largest_files(rt: HostRuntime) {
+    for line in LARGE.lines() {
+        assert!(rt; matches!(is_read(rt.alloc(), line), Ok(true)), "{line}");
+    }
 }

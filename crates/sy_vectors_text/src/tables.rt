@@ -2,7 +2,6 @@
 ghost use Rattle.std.specs.Prelude.{◌≤◌, length};
 
 use std::alloc::Global;
-use std::test::*;
 use sy_io::Bytes;
 use sy_terms::Want;
 use sy_text::*;
@@ -45,130 +44,140 @@ fn written(alloc: Global, bytes: &[u8]) -> Option<Bytes> {
     }
 }
 
+/// The bytes that the letters stand for, each for the byte of its number.
+fn bytes_of(alloc: Global, letters: &str) -> Result<Vec<u8>, Want> {
+    let mut bytes = Vec::new(alloc);
+    for letter in letters.chars() {
+        bytes.push((u32::from(letter) % 256) as u8)?;
+    }
+    Ok(bytes)
+}
+
+/// The fault of the bytes as tables tell it, or `none`.
+fn told(alloc: Global, bytes: &[u8]) -> Result<String, Want> {
+    match fault_of(alloc, bytes) {
+        Some(fault) => format!(in alloc; "{fault:?}"),
+        None => String::from_str(alloc, "none"),
+    }
+}
+
+/// Faults, each with the letters in which it is found; `§` ends a row.
+const FAULTS: &str = "\
+Unclosed(0) (set-logic BV§\
+Unclosed(18) (set-info :source |ab§\
+Unclosed(3) (a (b§\
+Unclosed(0) (a (b) §\
+Unclosed(0) (a ;)§\
+Unclosed(1) (\"ab§\
+Unclosed(0) \"a\"\"§\
+Unclosed(1) (#§\
+Unclosed(0) #x§\
+Unclosed(0) #b§\
+Unclosed(0) :§\
+Unclosed(0) 1.§\
+Stray(1)  )§\
+Stray(2) ;\n)§\
+Stray(2) ;\r)§\
+BadByte(0) 'a§\
+BadByte(1) (\x00)§\
+BadByte(0) \x0b§\
+BadByte(0) \x7f§\
+BadByte(0) \u{80}§\
+BadByte(1) a\u{80}§\
+BadByte(1) a'b§\
+BadByte(1) a#b§\
+BadByte(1) a:b§\
+BadByte(1) :(§\
+BadByte(1) ::a§\
+BadByte(2) :a:b§\
+BadByte(2) 12a§\
+BadByte(2) (01)§\
+BadByte(1) 00§\
+BadByte(1) 01.5§\
+BadByte(1) 0x1§\
+BadByte(2) 1.x§\
+BadByte(2) 1.;§\
+BadByte(3) 1.2.3§\
+BadByte(1) #o7§\
+BadByte(1) #X1§\
+BadByte(2) #xg§\
+BadByte(3) #x0g§\
+BadByte(2) #b2§\
+BadByte(3) #b12§\
+BadByte(2) |a\\b|§\
+BadByte(2) |a\x7f|§\
+BadByte(2) \"a\x01\"§\
+LiteralRange(0) 170141183460469231731687303715884105728§\
+LiteralRange(1) (170141183460469231731687303715884105728§\
+BadByte(39) 170141183460469231731687303715884105728a§\
+LiteralRange(0) #x12345678901234567§\
+LiteralRange(1) (#x00000000000000000)§\
+BadByte(19) #x12345678901234567g§\
+LiteralRange(0) #b00000000000000000000000000000000000000000000000000000000000000000§\
+BadByte(67) #b000000000000000000000000000000000000000000000000000000000000000002§\
+Stray(6) (1 2) )§\
+Stray(3) (a))";
+
+/// Whether the letters have the fault that the row tells.
+fn has_fault(alloc: Global, row: &str) -> Result<bool, Want> {
+    let Some((fault, letters)) = row.split_once(' ') else {
+        return Ok(false);
+    };
+    let bytes = bytes_of(alloc, letters)?;
+    Ok(told(alloc, &bytes)?.as_str() == fault)
+}
+
 #[test]
 fn faults_by_the_table(rt: HostRuntime) {
-    let rows: [(&[u8], TextFault); 54] = [
-        (b"(set-logic BV", TextFault::Unclosed(0)),
-        (b"(set-info :source |ab", TextFault::Unclosed(18)),
-        (b"(a (b", TextFault::Unclosed(3)),
-        (b"(a (b) ", TextFault::Unclosed(0)),
-        (b"(a ;)", TextFault::Unclosed(0)),
-        (b"(\"ab", TextFault::Unclosed(1)),
-        (b"\"a\"\"", TextFault::Unclosed(0)),
-        (b"(#", TextFault::Unclosed(1)),
-        (b"#x", TextFault::Unclosed(0)),
-        (b"#b", TextFault::Unclosed(0)),
-        (b":", TextFault::Unclosed(0)),
-        (b"1.", TextFault::Unclosed(0)),
-        (b" )", TextFault::Stray(1)),
-        (b";\n)", TextFault::Stray(2)),
-        (b";\r)", TextFault::Stray(2)),
-        (b"'a", TextFault::BadByte(0)),
-        (b"(\x00)", TextFault::BadByte(1)),
-        (b"\x0b", TextFault::BadByte(0)),
-        (b"\x7f", TextFault::BadByte(0)),
-        (b"\x80", TextFault::BadByte(0)),
-        (b"a\x80", TextFault::BadByte(1)),
-        (b"a'b", TextFault::BadByte(1)),
-        (b"a#b", TextFault::BadByte(1)),
-        (b"a:b", TextFault::BadByte(1)),
-        (b":(", TextFault::BadByte(1)),
-        (b"::a", TextFault::BadByte(1)),
-        (b":a:b", TextFault::BadByte(2)),
-        (b"12a", TextFault::BadByte(2)),
-        (b"(01)", TextFault::BadByte(2)),
-        (b"00", TextFault::BadByte(1)),
-        (b"01.5", TextFault::BadByte(1)),
-        (b"0x1", TextFault::BadByte(1)),
-        (b"1.x", TextFault::BadByte(2)),
-        (b"1.;", TextFault::BadByte(2)),
-        (b"1.2.3", TextFault::BadByte(3)),
-        (b"#o7", TextFault::BadByte(1)),
-        (b"#X1", TextFault::BadByte(1)),
-        (b"#xg", TextFault::BadByte(2)),
-        (b"#x0g", TextFault::BadByte(3)),
-        (b"#b2", TextFault::BadByte(2)),
-        (b"#b12", TextFault::BadByte(3)),
-        (b"|a\\b|", TextFault::BadByte(2)),
-        (b"|a\x7f|", TextFault::BadByte(2)),
-        (b"\"a\x01\"", TextFault::BadByte(2)),
-        (
-            b"170141183460469231731687303715884105728",
-            TextFault::LiteralRange(0),
-        ),
-        (
-            b"(170141183460469231731687303715884105728",
-            TextFault::LiteralRange(1),
-        ),
-        (
-            b"170141183460469231731687303715884105728a",
-            TextFault::BadByte(39),
-        ),
-        (b"#x12345678901234567", TextFault::LiteralRange(0)),
-        (b"(#x00000000000000000)", TextFault::LiteralRange(1)),
-        (b"#x12345678901234567g", TextFault::BadByte(19)),
-        (
-            b"#b00000000000000000000000000000000000000000000000000000000000000000",
-            TextFault::LiteralRange(0),
-        ),
-        (
-            b"#b000000000000000000000000000000000000000000000000000000000000000002",
-            TextFault::BadByte(67),
-        ),
-        (b"(1 2) )", TextFault::Stray(6)),
-        (b"(a))", TextFault::Stray(3)),
-    ];
-    for (bytes, fault) in rows {
-        assert_eq!(rt; fault_of(rt.alloc(), bytes), Some(fault));
+    for row in FAULTS.split('§') {
+        assert!(rt; matches!(has_fault(rt.alloc(), row), Ok(true)), "{row}");
+    }
+}
+
+/// Items as they are written, each with the letters from which it is read, behind `¶`; `§` ends a row.
+const SPELLINGS: &str = "\
+(a |b c| #x0f \"q\"\"r\" :k 1.50)¶(a |b c| #x0F \"q\"\"r\" :k 1.50)§\
+a¶|a|§\
+let¶|let|§\
+|1|¶|1|§\
+||¶||§\
+|a\n\t\u{80}\u{ff}|¶|a\n\t\u{80}\u{ff}|§\
+~!@$%^&*_-+=<>.?/09AZaz¶|~!@$%^&*_-+=<>.?/09AZaz|§\
+-5¶-5§\
+:1¶:1§\
+0¶0§\
+170141183460469231731687303715884105727¶170141183460469231731687303715884105727§\
+170141183460469231731687303715884105728.0¶170141183460469231731687303715884105728.0§\
+0.00¶0.00§\
+#xabc¶#xAbC§\
+#xffffffffffffffff¶#xffffffffffffffff§\
+#x1¶#b0001§\
+#b00011¶#b00011§\
+#xfffffffffffffffe¶#b1111111111111111111111111111111111111111111111111111111111111110§\
+\"\"¶\"\"§\
+\"a\n|\\\"¶\"a\n|\\\"§\
+()¶()§\
+(a (b) \"c\" d e f 1 ())¶ ( a(b)\"c\"d|e|f;g\r1(\t) ;)\n )§\
+a¶a\"b\"§\
+#b1¶; (\r\n#b1)";
+
+/// Whether what is read of the letters is written as the row tells.
+fn has_spelling(alloc: Global, row: &str) -> Result<bool, Want> {
+    let Some((text, letters)) = row.split_once('¶') else {
+        return Ok(false);
+    };
+    let text = bytes_of(alloc, text)?;
+    let bytes = bytes_of(alloc, letters)?;
+    match written(alloc, &bytes) {
+        Some(out) => Ok(out.as_slice() == text.as_slice()),
+        None => Ok(false),
     }
 }
 
 #[test]
 fn spellings_by_the_table(rt: HostRuntime) {
-    let rows: [(&[u8], &[u8]); 24] = [
-        (
-            b"(a |b c| #x0F \"q\"\"r\" :k 1.50)",
-            b"(a |b c| #x0f \"q\"\"r\" :k 1.50)",
-        ),
-        (b"|a|", b"a"),
-        (b"|let|", b"let"),
-        (b"|1|", b"|1|"),
-        (b"||", b"||"),
-        (b"|a\n\t\x80\xff|", b"|a\n\t\x80\xff|"),
-        (b"|~!@$%^&*_-+=<>.?/09AZaz|", b"~!@$%^&*_-+=<>.?/09AZaz"),
-        (b"-5", b"-5"),
-        (b":1", b":1"),
-        (b"0", b"0"),
-        (
-            b"170141183460469231731687303715884105727",
-            b"170141183460469231731687303715884105727",
-        ),
-        (
-            b"170141183460469231731687303715884105728.0",
-            b"170141183460469231731687303715884105728.0",
-        ),
-        (b"0.00", b"0.00"),
-        (b"#xAbC", b"#xabc"),
-        (b"#xffffffffffffffff", b"#xffffffffffffffff"),
-        (b"#b0001", b"#x1"),
-        (b"#b00011", b"#b00011"),
-        (
-            b"#b1111111111111111111111111111111111111111111111111111111111111110",
-            b"#xfffffffffffffffe",
-        ),
-        (b"\"\"", b"\"\""),
-        (b"\"a\n|\\\"", b"\"a\n|\\\""),
-        (b"()", b"()"),
-        (
-            b" ( a(b)\"c\"d|e|f;g\r1(\t) ;)\n )",
-            b"(a (b) \"c\" d e f 1 ())",
-        ),
-        (b"a\"b\"", b"a"),
-        (b"; (\r\n#b1)", b"#b1"),
-    ];
-    for (bytes, text) in rows {
-        let out = written(rt.alloc(), bytes);
-        assert!(rt; out.is_some_and(|out| out.as_slice() == text));
+    for row in SPELLINGS.split('§') {
+        assert!(rt; matches!(has_spelling(rt.alloc(), row), Ok(true)), "{row}");
     }
 }
 
@@ -250,43 +259,52 @@ fn changed(alloc: Global, at: usize, byte: u8) -> Result<Vec<u8>, Want> {
     Ok(bytes)
 }
 
+/// Whether each cut of the file ends it or leaves something open.
+fn is_cut(alloc: Global, cut: &[u8]) -> bool {
+    match fault_of(alloc, cut) {
+        None | Some(TextFault::Unclosed(_)) => agree(alloc, cut),
+        _ => false,
+    }
+}
+
+/// Whether the file with another byte at one offset is read alike.
+fn is_read_alike(alloc: Global, at: usize, byte: u8) -> Result<bool, Want> {
+    let bytes = changed(alloc, at, byte)?;
+    Ok(agree(alloc, &bytes))
+}
+
 #[test]
-fn each_cut_and_each_changed_byte_is_read_alike(rt: HostRuntime) -> Result<(), Fail> {
+fn each_cut_and_each_changed_byte_is_read_alike(rt: HostRuntime) {
     let alloc = rt.alloc();
     for cut in 0..FILE.len() {
-        assert!(rt; agree(alloc, &FILE[..cut]));
-        assert!(rt;
-            matches!(
-                fault_of(alloc, &FILE[..cut]),
-                None | Some(TextFault::Unclosed(_))
-            )
-        );
+        assert!(rt; is_cut(alloc, &FILE[..cut]));
         for byte in 0..=255 {
-            assert!(rt; agree(alloc, &changed(alloc, cut, byte).ok().ok_or("memory")?));
+            assert!(rt; matches!(is_read_alike(alloc, cut, byte), Ok(true)));
         }
     }
-    Ok(())
 }
 
-/// So many equal bytes.
-fn filled(alloc: Global, byte: u8, count: usize) -> Result<Vec<u8>, Want> {
+/// What is told of so many equal bytes.
+fn has_fault_filled(alloc: Global, byte: u8, count: usize, fault: &str) -> Result<bool, Want> {
     let mut bytes = Vec::new(alloc);
     bytes.resize(count, byte)?;
-    Ok(bytes)
+    Ok(told(alloc, &bytes)?.as_str() == fault)
 }
 
 #[test]
-fn largest_inputs(rt: HostRuntime) -> Result<(), Fail> {
-    let alloc = rt.alloc();
-    let blanks = filled(alloc, b' ', 4_194_304).ok().ok_or("memory")?;
-    assert_eq!(rt; fault_of(alloc, &blanks), None);
-    let open = filled(alloc, b'(', 1200).ok().ok_or("memory")?;
-    assert_eq!(rt; fault_of(alloc, &open), Some(TextFault::Unclosed(1199)));
-    let open = filled(alloc, b'(', 1201).ok().ok_or("memory")?;
-    assert_eq!(rt; fault_of(alloc, &open), Some(TextFault::TooDeep(1200)));
-    let atoms = filled(alloc, b'a', 4_194_304).ok().ok_or("memory")?;
-    assert_eq!(rt; fault_of(alloc, &atoms), None);
-    Ok(())
+fn largest_inputs(rt: HostRuntime) {
+    let rows = [
+        (b' ', 4_194_304, "none"),
+        (b'(', 1200, "Unclosed(1199)"),
+        (b'(', 1201, "TooDeep(1200)"),
+        (b'a', 4_194_304, "none"),
+    ];
+    for (byte, count, fault) in rows {
+        assert!(rt;
+            matches!(has_fault_filled(rt.alloc(), byte, count, fault), Ok(true)),
+            "{fault}"
+        );
+    }
 }
 
 #[test]

@@ -1,8 +1,8 @@
 // Runs over sources and sinks in memory.
-mod answers;
 mod broken;
-mod budgets;
+mod drills;
 mod integers;
 mod large;
 mod refusals;
 mod runs;
+mod vectors;

@@ -1,18 +1,85 @@
 // Command lines and what they ask for.
-use std::alloc::Global;
-use sy_query_limits::Limits;
+use std::alloc::{AllocError, Global};
 use sygus_words::{Mode, Settings, WordFault, read_words};
 
-const DEFAULT: Limits = Limits {
-    size: 12,
-    rounds: 256,
-    points: 512,
-    bank: 20_000,
-    weight: 400_000,
-    clauses: 100_000,
-    nodes: 4_000,
-    pivots: 10_000,
-};
+/// Command lines, each behind what it asks for: the mode, the limits of size, rounds, points, bank, weight, clauses, nodes
+/// and pivots, and the file.
+const LINES: &str = "\
+solve 12 256 512 20000 400000 100000 4000 10000 f.sl|sygus f.sl
+solve 12 256 512 20000 400000 100000 4000 10000 f.sl|other f.sl
+solve 12 256 512 20000 400000 100000 4000 10000 -|sygus -
+solve 12 256 512 20000 400000 100000 4000 10000 -|sygus -- -
+solve 12 256 512 20000 400000 100000 4000 10000 --size|sygus -- --size
+solve 12 256 512 20000 400000 100000 4000 10000 |sygus 
+solve 12 256 512 20000 400000 100000 4000 10000 help|sygus help
+solve 12 256 512 20000 400000 100000 4000 10000 f.sl|sygus --mode solve f.sl
+solve 12 256 512 20000 400000 100000 4000 10000 f.sl|sygus --mode=solve f.sl
+least 12 256 512 20000 400000 100000 4000 10000 f.sl|sygus --mode=least f.sl
+drill 128 12 256 512 20000 400000 100000 4000 10000 128|sygus --mode drill 128
+drill 0 12 256 512 20000 400000 100000 4000 10000 0|sygus --mode=drill 0
+drill 999999999 12 256 512 20000 400000 100000 4000 10000 999999999|sygus 999999999 --mode drill
+solve 1 256 512 20000 400000 100000 4000 10000 f.sl|sygus --size 1 f.sl
+solve 64 256 512 20000 400000 100000 4000 10000 f.sl|sygus --size=64 f.sl
+solve 3 256 512 20000 400000 100000 4000 10000 f.sl|sygus f.sl --size 3
+solve 12 1 512 20000 400000 100000 4000 10000 f.sl|sygus --rounds 1 f.sl
+solve 12 1024 512 20000 400000 100000 4000 10000 f.sl|sygus --rounds=1024 f.sl
+solve 12 256 1 20000 400000 100000 4000 10000 f.sl|sygus --points 1 f.sl
+solve 12 256 1024 20000 400000 100000 4000 10000 f.sl|sygus --points=1024 f.sl
+solve 12 256 512 1 400000 100000 4000 10000 f.sl|sygus --bank 1 f.sl
+solve 12 256 512 40000 400000 100000 4000 10000 f.sl|sygus --bank=40000 f.sl
+solve 12 256 512 20000 1 100000 4000 10000 f.sl|sygus --weight 1 f.sl
+solve 12 256 512 20000 1000000 100000 4000 10000 f.sl|sygus --weight=1000000 f.sl
+solve 12 256 512 20000 400000 1 4000 10000 f.sl|sygus --clauses 1 f.sl
+solve 12 256 512 20000 400000 400000 4000 10000 f.sl|sygus --clauses=400000 f.sl
+solve 12 256 512 20000 400000 100000 1 10000 f.sl|sygus --nodes 1 f.sl
+solve 12 256 512 20000 400000 100000 8000 10000 f.sl|sygus --nodes=8000 f.sl
+solve 12 256 512 20000 400000 100000 4000 1 f.sl|sygus --pivots 1 f.sl
+solve 12 256 512 20000 400000 100000 4000 100000 f.sl|sygus --pivots=100000 f.sl
+solve 8 256 512 20000 400000 100000 7 9 f.sl|sygus --pivots 9 --size 8 --nodes=7 -- f.sl
+refused|sygus
+refused|sygus f.sl g.sl
+refused|sygus -- f.sl --size
+refused|sygus --size
+refused|sygus --size 3
+refused|sygus --size f.sl
+refused|sygus --size 65 f.sl
+refused|sygus --size=-1 f.sl
+refused|sygus --size= f.sl
+refused|sygus --size 1_0 f.sl
+refused|sygus --size 0x1 f.sl
+refused|sygus --size 4294967297 f.sl
+refused|sygus --siz 3 f.sl
+refused|sygus -s 3 f.sl
+refused|sygus --rounds 1025 f.sl
+refused|sygus --points 1025 f.sl
+refused|sygus --bank 40001 f.sl
+refused|sygus --weight 1000001 f.sl
+refused|sygus --clauses 400001 f.sl
+refused|sygus --nodes 8001 f.sl
+refused|sygus --pivots 100001 f.sl
+refused|sygus --mode drill f.sl
+refused|sygus --mode drill
+refused|sygus --mode drill 007
+refused|sygus --mode drill 00
+refused|sygus --mode drill +1
+refused|sygus --mode drill -- -1
+refused|sygus --mode drill 1000000000
+refused|sygus --mode drill 4294967424
+refused|sygus --mode drill 1 2
+refused|sygus --mode Solve f.sl
+refused|sygus --mode= f.sl
+refused|sygus --mode solve --mode solve f.sl
+refused|sygus --help f.sl
+refused|sygus -h
+refused|sygus --version
+refused|sygus --size 1 --size 1 f.sl
+refused|sygus --rounds 1 --rounds 1 f.sl
+refused|sygus --points 1 --points=1 f.sl
+refused|sygus --bank 1 --bank 1 f.sl
+refused|sygus --weight 1 --weight 1 f.sl
+refused|sygus --clauses 1 --clauses=1 f.sl
+refused|sygus --nodes 1 --nodes 1 f.sl
+refused|sygus --pivots 1 --pivots 1 f.sl";
 
 /// What the words of a line ask for.
 fn read(alloc: Global, line: &str) -> Result<Settings, WordFault> {
@@ -24,209 +91,41 @@ fn read(alloc: Global, line: &str) -> Result<Settings, WordFault> {
     Ok(settings)
 }
 
-#[test]
-fn lines_that_are_read(rt: HostRuntime) {
-    let rows = [
-        ("sygus f.sl", DEFAULT, "f.sl"),
-        ("other f.sl", DEFAULT, "f.sl"),
-        ("sygus -", DEFAULT, "-"),
-        ("sygus -- -", DEFAULT, "-"),
-        ("sygus -- --size", DEFAULT, "--size"),
-        ("sygus ", DEFAULT, ""),
-        ("sygus help", DEFAULT, "help"),
-        ("sygus --mode solve f.sl", DEFAULT, "f.sl"),
-        ("sygus --mode=solve f.sl", DEFAULT, "f.sl"),
-        ("sygus --size 1 f.sl", Limits { size: 1, ..DEFAULT }, "f.sl"),
-        (
-            "sygus --size=64 f.sl",
-            Limits {
-                size: 64,
-                ..DEFAULT
-            },
-            "f.sl",
-        ),
-        ("sygus f.sl --size 3", Limits { size: 3, ..DEFAULT }, "f.sl"),
-        (
-            "sygus --rounds 1 f.sl",
-            Limits {
-                rounds: 1,
-                ..DEFAULT
-            },
-            "f.sl",
-        ),
-        (
-            "sygus --rounds=1024 f.sl",
-            Limits {
-                rounds: 1024,
-                ..DEFAULT
-            },
-            "f.sl",
-        ),
-        (
-            "sygus --points 1 f.sl",
-            Limits {
-                points: 1,
-                ..DEFAULT
-            },
-            "f.sl",
-        ),
-        (
-            "sygus --points=1024 f.sl",
-            Limits {
-                points: 1024,
-                ..DEFAULT
-            },
-            "f.sl",
-        ),
-        ("sygus --bank 1 f.sl", Limits { bank: 1, ..DEFAULT }, "f.sl"),
-        (
-            "sygus --bank=40000 f.sl",
-            Limits {
-                bank: 40_000,
-                ..DEFAULT
-            },
-            "f.sl",
-        ),
-        (
-            "sygus --weight 1 f.sl",
-            Limits {
-                weight: 1,
-                ..DEFAULT
-            },
-            "f.sl",
-        ),
-        (
-            "sygus --weight=1000000 f.sl",
-            Limits {
-                weight: 1_000_000,
-                ..DEFAULT
-            },
-            "f.sl",
-        ),
-        (
-            "sygus --clauses 1 f.sl",
-            Limits {
-                clauses: 1,
-                ..DEFAULT
-            },
-            "f.sl",
-        ),
-        (
-            "sygus --clauses=400000 f.sl",
-            Limits {
-                clauses: 400_000,
-                ..DEFAULT
-            },
-            "f.sl",
-        ),
-        (
-            "sygus --nodes 1 f.sl",
-            Limits {
-                nodes: 1,
-                ..DEFAULT
-            },
-            "f.sl",
-        ),
-        (
-            "sygus --nodes=8000 f.sl",
-            Limits {
-                nodes: 8_000,
-                ..DEFAULT
-            },
-            "f.sl",
-        ),
-        (
-            "sygus --pivots 1 f.sl",
-            Limits {
-                pivots: 1,
-                ..DEFAULT
-            },
-            "f.sl",
-        ),
-        (
-            "sygus --pivots=100000 f.sl",
-            Limits {
-                pivots: 100_000,
-                ..DEFAULT
-            },
-            "f.sl",
-        ),
-        (
-            "sygus --pivots 9 --size 8 --nodes=7 -- f.sl",
-            Limits {
-                pivots: 9,
-                size: 8,
-                nodes: 7,
-                ..DEFAULT
-            },
-            "f.sl",
-        ),
-    ];
-    for (line, limits, file) in rows {
-        let settings = read(rt.alloc(), line).ok();
-        assert!(rt; settings.is_some_and(|s| s.limits == limits && s.file.as_str() == file));
+/// The settings as a text.
+fn text_of(alloc: Global, settings: &Settings) -> Result<String, AllocError> {
+    let mut text = String::new(alloc);
+    match settings.mode {
+        Mode::Solve => text.push_str("solve")?,
+        Mode::Least => text.push_str("least")?,
+        Mode::Drill(number) => write!(text, "drill {number}")?,
     }
+    let limits = &settings.limits;
+    for limit in [
+        limits.size,
+        limits.rounds,
+        limits.points,
+        limits.bank,
+        limits.weight,
+        limits.clauses,
+        limits.nodes,
+        limits.pivots,
+    ] {
+        write!(text, " {limit}")?;
+    }
+    text.push_str(" ")?;
+    text.push_str(settings.file.as_str())?;
+    Ok(text)
 }
 
-#[test]
-fn modes(rt: HostRuntime) {
-    let rows = [
-        ("sygus f.sl", Mode::Solve),
-        ("sygus --mode solve f.sl", Mode::Solve),
-        ("sygus --mode=least f.sl", Mode::Least),
-        ("sygus --mode drill 128", Mode::Drill(128)),
-        ("sygus --mode=drill 0", Mode::Drill(0)),
-        ("sygus 999999999 --mode drill", Mode::Drill(999_999_999)),
-    ];
-    for (line, mode) in rows {
-        let settings = read(rt.alloc(), line).ok();
-        assert!(rt; settings.is_some_and(|s| s.mode == mode));
-    }
-}
-
-#[test]
-fn lines_that_are_refused(rt: HostRuntime) {
-    let rows = [
-        "sygus",
-        "sygus f.sl g.sl",
-        "sygus -- f.sl --size",
-        "sygus --size",
-        "sygus --size 3",
-        "sygus --size f.sl",
-        "sygus --size 65 f.sl",
-        "sygus --size=-1 f.sl",
-        "sygus --size= f.sl",
-        "sygus --size 1_0 f.sl",
-        "sygus --size 0x1 f.sl",
-        "sygus --size 4294967297 f.sl",
-        "sygus --siz 3 f.sl",
-        "sygus -s 3 f.sl",
-        "sygus --rounds 1025 f.sl",
-        "sygus --points 1025 f.sl",
-        "sygus --bank 40001 f.sl",
-        "sygus --weight 1000001 f.sl",
-        "sygus --clauses 400001 f.sl",
-        "sygus --nodes 8001 f.sl",
-        "sygus --pivots 100001 f.sl",
-        "sygus --mode drill f.sl",
-        "sygus --mode drill",
-        "sygus --mode drill 007",
-        "sygus --mode drill 00",
-        "sygus --mode drill +1",
-        "sygus --mode drill -- -1",
-        "sygus --mode drill 1000000000",
-        "sygus --mode drill 4294967424",
-        "sygus --mode drill 1 2",
-        "sygus --mode Solve f.sl",
-        "sygus --mode= f.sl",
-        "sygus --mode solve --mode solve f.sl",
-        "sygus --help f.sl",
-        "sygus -h",
-        "sygus --version",
-    ];
-    for line in rows {
-        let fault = read(rt.alloc(), line).err();
-        assert!(rt; fault == Some(WordFault::Refused), "{line}");
+/// Whether the line asks for this.
+fn asks_for(alloc: Global, line: &str, wanted: &str) -> bool {
+    match read(alloc, line) {
+        Ok(settings) => match text_of(alloc, &settings) {
+            Ok(text) => text.as_str() == wanted,
+            Err(_) => false,
+        },
+        Err(WordFault::Refused) => wanted == "refused",
+        Err(WordFault::Want) => false,
     }
 }
 
@@ -235,36 +134,22 @@ fn is_refused(alloc: Global, name: &str, behind: &str) -> bool {
     let Ok(line) = format!(in alloc; "sygus --{name} {behind} f.sl") else {
         return false;
     };
-    let fault = read(alloc, line.as_str()).err();
-    fault == Some(WordFault::Refused)
+    asks_for(alloc, line.as_str(), "refused")
 }
 
 #[test]
-fn other_spellings_of_a_value(rt: HostRuntime) {
-    let names = [
-        "size", "rounds", "points", "bank", "weight", "clauses", "nodes", "pivots",
-    ];
-    let spellings = ["", "0", "+1", "-1", "01", "1.0", "one"];
-    for name in names {
-        for spelling in spellings {
-            assert!(rt; is_refused(rt.alloc(), name, spelling), "{name} {spelling}");
-        }
+fn lines_by_the_table(rt: HostRuntime) {
+    for row in LINES.lines() {
+        let (wanted, line) = row.split_once('|').unwrap_or(("", row));
+        assert!(rt; asks_for(rt.alloc(), line, wanted), "{row}");
     }
 }
 
 #[test]
-fn an_option_stands_once(rt: HostRuntime) {
-    let rows = [
-        ("size", "1 --size 1"),
-        ("rounds", "1 --rounds 1"),
-        ("points", "1 --points=1"),
-        ("bank", "1 --bank 1"),
-        ("weight", "1 --weight 1"),
-        ("clauses", "1 --clauses=1"),
-        ("nodes", "1 --nodes 1"),
-        ("pivots", "1 --pivots 1"),
-    ];
-    for (name, behind) in rows {
-        assert!(rt; is_refused(rt.alloc(), name, behind), "{name}");
+fn other_spellings_of_a_value(rt: HostRuntime) {
+    for name in "size rounds points bank weight clauses nodes pivots".split(' ') {
+        for spelling in ",0,+1,-1,01,1.0,one".split(',') {
+            assert!(rt; is_refused(rt.alloc(), name, spelling), "{name} {spelling}");
+        }
     }
 }

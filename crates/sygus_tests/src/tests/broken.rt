@@ -1,14 +1,15 @@
 // Files that are cut off, and sources and sinks that give and take little or fail.
-use super::integers::{GREATER, SUMS};
-use super::runs::{ALL, Calls, Failing, Left, SURE, leaves};
+use super::runs::{ALL, Calls, Failing, Left, SURE, leaves, parts_of, row_leaves, run_of};
 use std::alloc::Global;
 use std::process::Abort;
-use sy_io::{MemSink, MemSource};
-use sygus_run::run;
 
 /// One example.
 const EXAMPLE: &[u8] =
     b"(set-logic BV)\n(synth-fun f ((x (_ BitVec 8))) (_ BitVec 8)\n  ((S (_ BitVec 8)))\n  ((S (_ BitVec 8) (x (bvadd x #x01)))))\n(constraint (= (f #x05) #x06))\n(check-synth)\n";
+
+/// The greater of two.
+const GREATER: &[u8] =
+    b"(set-logic LIA)\n(synth-fun f ((x Int) (y Int)) Int\n  ((S Int) (C Bool))\n  ((S Int (x y (ite C S S)))\n   (C Bool ((<= x y)))))\n(declare-var x Int)\n(declare-var y Int)\n(constraint (>= (f x y) x))\n(constraint (>= (f x y) y))\n(constraint (or (= (f x y) x) (= (f x y) y)))\n(check-synth)\n";
 
 /// The reply to it.
 const REPLY: &[u8] = b"(\n(define-fun f ((x (_ BitVec 8))) (_ BitVec 8) (bvadd x #x01))\n)\n";
@@ -22,29 +23,97 @@ const ANSWERED: [(&str, &[u8], &[u8]); 2] = [
     ("sygus --size 3 f.sl", GREATER, GREATER_REPLY),
 ];
 
-/// The greatest vector has none above it.
-const ABOVE: &[u8] =
-    b"(set-logic BV)\n(synth-fun f ((x (_ BitVec 8))) (_ BitVec 8)\n  ((S (_ BitVec 8)))\n  ((S (_ BitVec 8) (x (bvadd x #x01)))))\n(declare-var x (_ BitVec 8))\n(constraint (bvugt (f x) x))\n(check-synth)\n";
-
-/// A symbol in bars that doesn't end.
-const OPEN: &[u8] = b"(set-info :source |ab";
+/// Runs where a write that fails has the last word, whatever the status would have been. Behind the file stand the calls of
+/// the source and of both sinks.
+const FAILING: &str = "sygus f.sl^0^(
+(define-fun f ((x (_ BitVec 8))) (_ BitVec 8) (bvadd x #x01))
+)
+^^(set-logic BV)
+(synth-fun f ((x (_ BitVec 8))) (_ BitVec 8)
+  ((S (_ BitVec 8)))
+  ((S (_ BitVec 8) (x (bvadd x #x01)))))
+(constraint (= (f #x05) #x06))
+(check-synth)
+^slow^slow^slow~sygus --size 2 f.sl^1^fail
+^fail: check-synth 1 Size
+^(set-logic BV)
+(synth-fun f ((x (_ BitVec 8))) (_ BitVec 8)
+  ((S (_ BitVec 8)))
+  ((S (_ BitVec 8) (x (bvadd x #x01)))))
+(constraint (= (f #x05) #x06))
+(check-synth)
+^slow^slow^slow~sygus f.sl^2^^refused: command 1 line 1 column 19 cause 1 Text Unclosed
+^(set-info :source |ab^slow^slow^slow~sygus f.sl^5^(
+(^^(set-logic BV)
+(synth-fun f ((x (_ BitVec 8))) (_ BitVec 8)
+  ((S (_ BitVec 8)))
+  ((S (_ BitVec 8) (x (bvadd x #x01)))))
+(constraint (= (f #x05) #x06))
+(check-synth)
+^all^second^all~sygus --size 2 f.sl^5^fail
+^^(set-logic BV)
+(synth-fun f ((x (_ BitVec 8))) (_ BitVec 8)
+  ((S (_ BitVec 8)))
+  ((S (_ BitVec 8) (x (bvadd x #x01)))))
+(constraint (= (f #x05) #x06))
+(check-synth)
+^all^slow^none~sygus --size 14 f.sl^5^fail
+^^(set-logic LIA)
+(synth-fun f () Int ((S Int)) ((S Int (1 (+ 1 S)))))
+(constraint (= f 8))
+(check-synth)
+^all^slow^none~sygus f.sl^0^(
+(define-fun f ((x (_ BitVec 8))) (_ BitVec 8) (bvadd x #x01))
+)
+^^(set-logic BV)
+(synth-fun f ((x (_ BitVec 8))) (_ BitVec 8)
+  ((S (_ BitVec 8)))
+  ((S (_ BitVec 8) (x (bvadd x #x01)))))
+(constraint (= (f #x05) #x06))
+(check-synth)
+^slow^slow^none~sygus f.sl^0^infeasible
+^^(set-logic BV)
+(synth-fun f ((x (_ BitVec 8))) (_ BitVec 8)
+  ((S (_ BitVec 8)))
+  ((S (_ BitVec 8) (x (bvadd x #x01)))))
+(declare-var x (_ BitVec 8))
+(constraint (bvugt (f x) x))
+(check-synth)
+^all^all^none~sygus f.sl^5^^^(set-info :source |ab^all^all^none~sygus^5^^^(set-logic BV)
+(synth-fun f ((x (_ BitVec 8))) (_ BitVec 8)
+  ((S (_ BitVec 8)))
+  ((S (_ BitVec 8) (x (bvadd x #x01)))))
+(constraint (= (f #x05) #x06))
+(check-synth)
+^all^all^none~sygus f.sl^5^^^(set-logic BV)
+(synth-fun f ((x (_ BitVec 8))) (_ BitVec 8)
+  ((S (_ BitVec 8)))
+  ((S (_ BitVec 8) (x (bvadd x #x01)))))
+(constraint (= (f #x05) #x06))
+(check-synth)
+^none^all^none~sygus f.sl^5^(
+(^^(set-logic LIA)
+(synth-fun f ((x Int)) Int ((S Int)) ((S Int (x (+ x 1)))))
+(declare-var x Int)
+(constraint (> (f x) x))
+(check-synth)
+^all^second^all";
 
 /// Whether the file is refused as cut off inside a list or a symbol, or has no more than whole commands without a
 /// `check-synth`.
 fn is_cut<R: Abort>(rt: &R, alloc: Global, file: &[u8]) -> bool {
-    let word = String::from_str(alloc, "sygus").expect(rt, "a word");
-    let name = String::from_str(alloc, "f.sl").expect(rt, "a word");
-    let mut words = Vec::new(alloc);
-    words.push(word).expect(rt, "a list");
-    words.push(name).expect(rt, "a list");
-    let mut source = MemSource::new(alloc, "f.sl", file, 64, &[]).expect(rt, "a source");
-    let mut out = MemSink::new(alloc, 4096, 64, &[]).expect(rt, "a sink");
-    let mut err = MemSink::new(alloc, 4096, 64, &[]).expect(rt, "a sink");
-    let ended = run(alloc, words.as_slice(), &mut source, &mut out, &mut err);
-    let line = err.written();
-    let refused = ended.status == 2 && line.ends_with(b" cause 1 Text Unclosed\n");
-    let silent = ended.status == 0 && line.is_empty();
-    out.written().is_empty() && (refused || silent)
+    let failing = Failing {
+        source: Calls {
+            failing: &[],
+            piece: 64,
+        },
+        ..SURE
+    };
+    let leaving = run_of(rt, alloc, "sygus f.sl", file, &failing);
+    let line = leaving.err.written();
+    let refused = leaving.status == 2 && line.ends_with(b" cause 1 Text Unclosed\n");
+    let silent = leaving.status == 0 && line.is_empty();
+    leaving.out.written().is_empty() && (refused || silent)
 }
 
 #[test]
@@ -75,70 +144,26 @@ const SECOND: Calls = Calls {
     piece: 3,
 };
 
-/// The words, the file, the calls of the source and of both sinks, and the status and bytes that are left.
-type Row = (
-    &'static str,
-    &'static [u8],
-    [Calls<'static>; 3],
-    u8,
-    &'static [u8],
-    &'static [u8],
-);
+/// The calls of this name.
+fn calls_of(name: &str) -> Calls<'static> {
+    match name {
+        "slow" => SLOW,
+        "none" => NONE,
+        "second" => SECOND,
+        _ => ALL,
+    }
+}
 
-/// A write that fails has the last word, whatever the status would have been.
 #[test]
 fn slow_and_failing_calls(rt: HostRuntime) {
-    let fails = b"fail: check-synth 1 Size\n";
-    let open = b"refused: command 1 line 1 column 19 cause 1 Text Unclosed\n";
-    let rows: [Row; 11] = [
-        ("sygus f.sl", EXAMPLE, [SLOW; 3], 0, REPLY, b""),
-        (
-            "sygus --size 2 f.sl",
-            EXAMPLE,
-            [SLOW; 3],
-            1,
-            b"fail\n",
-            fails,
-        ),
-        ("sygus f.sl", OPEN, [SLOW; 3], 2, b"", open),
-        ("sygus f.sl", EXAMPLE, [ALL, SECOND, ALL], 5, b"(\n(", b""),
-        (
-            "sygus --size 2 f.sl",
-            EXAMPLE,
-            [ALL, SLOW, NONE],
-            5,
-            b"fail\n",
-            b"",
-        ),
-        (
-            "sygus --size 14 f.sl",
-            SUMS,
-            [ALL, SLOW, NONE],
-            5,
-            b"fail\n",
-            b"",
-        ),
-        ("sygus f.sl", EXAMPLE, [SLOW, SLOW, NONE], 0, REPLY, b""),
-        (
-            "sygus f.sl",
-            ABOVE,
-            [ALL, ALL, NONE],
-            0,
-            b"infeasible\n",
-            b"",
-        ),
-        ("sygus f.sl", OPEN, [ALL, ALL, NONE], 5, b"", b""),
-        ("sygus", EXAMPLE, [ALL, ALL, NONE], 5, b"", b""),
-        ("sygus f.sl", EXAMPLE, [NONE, ALL, NONE], 5, b"", b""),
-    ];
-    for (line, file, [source, out, err], status, replies, lines) in rows {
-        let failing = Failing { source, out, err };
-        let left = Left {
-            status,
-            out: replies,
-            err: lines,
+    for row in FAILING.split('~') {
+        let parts = parts_of(row);
+        let failing = Failing {
+            source: calls_of(parts[5]),
+            out: calls_of(parts[6]),
+            err: calls_of(parts[7]),
         };
-        assert!(rt; leaves(&rt, rt.alloc(), line, file, &failing, &left));
+        assert!(rt; row_leaves(&rt, rt.alloc(), &parts, parts[4], &failing));
     }
 }
 

@@ -1,291 +1,179 @@
 // The largest files, and those that are one larger.
-use super::runs::{Left, SURE, leaves};
+use super::runs::{SURE, parts_of, row_leaves};
 use std::alloc::{AllocError, Global};
 
-/// A piece of a text: bytes, or a number that counts from 0 or from 1.
-#[derive(Clone, Copy)]
-enum Piece {
-    Text(&'static str),
-    Number,
-    Next,
-}
+/// Files in parts: behind what a run leaves stand the beginning, how often the pieces stand, a piece, the middle, another
+/// piece, and the end. In pieces `#` is a number that counts from 0, and `@` the next one. The last rows are heavy
+/// queries, and the greatest weight that words may name, which lets them through.
+const LARGE: &str =
+    "sygus f.sl^0^^^^131072^                                ^^^~sygus f.sl^2^^refused: input longer than 4194304 bytes
+^^131072^                                ^^^ ~sygus f.sl^2^^refused: command 1 line 1 column 1200 cause 1 Text Unclosed
+^^1200^(^^^~sygus f.sl^2^^refused: command 1 line 1 column 1201 cause 1 Text TooDeep
+^^1201^(^^^~sygus f.sl^0^^^(set-logic LIA)
+^4096^(declare-var v# Int)
+^^^~sygus f.sl^2^^refused: command 4098 line 4098 column 14 cause 16 TooMany
+^(set-logic LIA)
+^4097^(declare-var v# Int)
+^^^~sygus f.sl^0^(
+)
+(
+)
+(
+)
+(
+)
+(
+)
+(
+)
+(
+)
+(
+)
+(
+)
+(
+)
+(
+)
+(
+)
+(
+)
+(
+)
+(
+)
+(
+)
+^^(set-logic LIA)
+^16^(check-synth)
+^^^~sygus f.sl^2^^refused: command 18 line 18 column 2 cause 16 TooMany
+^(set-logic LIA)
+^17^(check-synth)
+^^^~sygus f.sl^0^^^(set-logic LIA)
+(define-fun g () Bool ^1199^(not ^true^)^)
+~sygus f.sl^2^^refused: command 3 line 3 column 13 cause 16 TooMany
+^(set-logic LIA)
+(define-fun g () Bool ^1199^(not ^true^)^)
+(constraint g)
+~sygus f.sl^0^^^(set-logic BV)
+(define-fun d0 () Bool true)
+^17^(define-fun d@ () Bool (and d# d#))
+^^^~sygus f.sl^2^^refused: command 20 line 20 column 25 cause 16 TooMany
+^(set-logic BV)
+(define-fun d0 () Bool true)
+^18^(define-fun d@ () Bool (and d# d#))
+^^^~sygus f.sl^0^^^(set-logic LIA)
+(define-fun d0 () Bool true)
+^17^(define-fun d@ () Bool (and d# d#))
+^^^~sygus f.sl^2^^refused: command 20 line 20 column 25 cause 16 TooMany
+^(set-logic LIA)
+(define-fun d0 () Bool true)
+^18^(define-fun d@ () Bool (and d# d#))
+^^^~sygus f.sl^1^fail
+^fail: check-synth 1 Weight
+^(set-logic BV)
+(define-fun d0 () Bool true)
+^17^(define-fun d@ () Bool (and d# d#))
+^^^(constraint d17)
+(check-synth)
+~sygus f.sl^1^fail
+^fail: check-synth 1 Weight
+^(set-logic LIA)
+(define-fun d0 () Bool true)
+^17^(define-fun d@ () Bool (and d# d#))
+^^^(constraint d17)
+(check-synth)
+~sygus f.sl^0^^^(set-logic LIA)
+(synth-fun f (
+^64^(x# Int)
+^) Int)
+^^~sygus f.sl^2^^refused: command 2 line 67 column 1 cause 16 TooMany
+^(set-logic LIA)
+(synth-fun f (
+^65^(x# Int)
+^) Int)
+^^~sygus f.sl^0^^^(set-logic LIA)
+(synth-fun f () Int (
+^64^(n# Int)
+^) (
+^(n# Int (0))
+^))
+~sygus f.sl^2^^refused: command 2 line 67 column 1 cause 16 TooMany
+^(set-logic LIA)
+(synth-fun f () Int (
+^65^(n# Int)
+^) (
+^(n# Int (0))
+^))
+~sygus f.sl^0^^^(set-logic LIA)
+(synth-fun f () Int ((S Int)) ((S Int (
+^1024^0
+^))))
+^^~sygus f.sl^2^^refused: command 2 line 1027 column 1 cause 16 TooMany
+^(set-logic LIA)
+(synth-fun f () Int ((S Int)) ((S Int (
+^1025^0
+^))))
+^^~sygus f.sl^0^^^(set-logic LIA)
+^0^(declare-var v# Int)
+^^^~sygus --weight 1000000 f.sl^0^(
+)
+^^(set-logic BV)
+(define-fun d0 () Bool true)
+^17^(define-fun d@ () Bool (and d# d#))
+^^^(constraint d17)
+(check-synth)
+~sygus --weight 1000000 f.sl^0^(
+)
+^^(set-logic LIA)
+(define-fun d0 () Bool true)
+^17^(define-fun d@ () Bool (and d# d#))
+^^^(constraint d17)
+(check-synth)
+";
 
-/// A file: its beginning, as often as is wanted the pieces, its middle, as often the other pieces, and its end.
-#[derive(Clone, Copy)]
-struct Large {
-    head: &'static str,
-    pieces: &'static [Piece],
-    middle: &'static str,
-    others: &'static [Piece],
-    tail: &'static str,
-}
-
-/// Appends the pieces so many times.
-fn append(text: &mut String, pieces: &[Piece], count: u32) -> Result<(), AllocError> {
-    for number in 0..count {
-        for piece in pieces {
-            match piece {
-                Piece::Text(bytes) => text.push_str(bytes)?,
-                Piece::Number => write!(text, "{number}")?,
-                Piece::Next => {
-                    let next = number.saturating_add(1);
-                    write!(text, "{next}")?
-                }
+/// Appends the piece of this number.
+fn append_piece(text: &mut String, piece: &str, number: u32) -> Result<(), AllocError> {
+    for letter in piece.chars() {
+        match letter {
+            '#' => write!(text, "{number}")?,
+            '@' => {
+                let next = number.saturating_add(1);
+                write!(text, "{next}")?
             }
+            _ => text.push(letter)?,
         }
     }
     Ok(())
 }
 
-/// The file's text, with its pieces so many times.
-fn text_of(alloc: Global, file: &Large, count: u32) -> Result<String, AllocError> {
+/// Appends the pieces so many times.
+fn append(text: &mut String, piece: &str, count: u32) -> Result<(), AllocError> {
+    for number in 0..count {
+        append_piece(text, piece, number)?;
+    }
+    Ok(())
+}
+
+/// The text of a row's file.
+fn text_of(alloc: Global, parts: &[&str; 10]) -> Result<String, AllocError> {
+    let count = parts[5].parse().unwrap_or(0);
     let mut text = String::new(alloc);
-    text.push_str(file.head)?;
-    append(&mut text, file.pieces, count)?;
-    text.push_str(file.middle)?;
-    append(&mut text, file.others, count)?;
-    text.push_str(file.tail)?;
+    text.push_str(parts[4])?;
+    append(&mut text, parts[6], count)?;
+    text.push_str(parts[7])?;
+    append(&mut text, parts[8], count)?;
+    text.push_str(parts[9])?;
     Ok(text)
 }
 
-/// So many spaces, thirty-two at once.
-const SPACES: Large = Large {
-    head: "",
-    pieces: &[Piece::Text("                                ")],
-    middle: "",
-    others: &[],
-    tail: "",
-};
-
-/// One space more.
-const MORE_SPACES: Large = Large {
-    tail: " ",
-    ..SPACES
-};
-
-/// So many brackets.
-const BRACKETS: Large = Large {
-    pieces: &[Piece::Text("(")],
-    ..SPACES
-};
-
-/// So many names.
-const NAMES: Large = Large {
-    head: "(set-logic LIA)\n",
-    pieces: &[
-        Piece::Text("(declare-var v"),
-        Piece::Number,
-        Piece::Text(" Int)\n"),
-    ],
-    ..SPACES
-};
-
-/// So many questions.
-const QUESTIONS: Large = Large {
-    head: "(set-logic LIA)\n",
-    pieces: &[Piece::Text("(check-synth)\n")],
-    ..SPACES
-};
-
-/// A body that is so deep, but for one.
-const NESTED: Large = Large {
-    head: "(set-logic LIA)\n(define-fun g () Bool ",
-    pieces: &[Piece::Text("(not ")],
-    middle: "true",
-    others: &[Piece::Text(")")],
-    tail: ")\n",
-};
-
-/// A call of it.
-const CALLED: Large = Large {
-    tail: ")\n(constraint g)\n",
-    ..NESTED
-};
-
-/// So many definitions, each of which stands for twice the one before it.
-const DOUBLED: Large = Large {
-    head: "(set-logic BV)\n(define-fun d0 () Bool true)\n",
-    pieces: &[
-        Piece::Text("(define-fun d"),
-        Piece::Next,
-        Piece::Text(" () Bool (and d"),
-        Piece::Number,
-        Piece::Text(" d"),
-        Piece::Number,
-        Piece::Text("))\n"),
-    ],
-    ..SPACES
-};
-
-/// The same over integers.
-const DOUBLED_INTEGERS: Large = Large {
-    head: "(set-logic LIA)\n(define-fun d0 () Bool true)\n",
-    ..DOUBLED
-};
-
-/// The seventeenth as a constraint.
-const HEAVY: Large = Large {
-    tail: "(constraint d17)\n(check-synth)\n",
-    ..DOUBLED
-};
-
-/// The same over integers.
-const HEAVY_INTEGERS: Large = Large {
-    tail: "(constraint d17)\n(check-synth)\n",
-    ..DOUBLED_INTEGERS
-};
-
-/// So many arguments.
-const ARGUMENTS: Large = Large {
-    head: "(set-logic LIA)\n(synth-fun f (\n",
-    pieces: &[Piece::Text("(x"), Piece::Number, Piece::Text(" Int)\n")],
-    middle: ") Int)\n",
-    ..SPACES
-};
-
-/// So many nonterminals.
-const NONTERMINALS: Large = Large {
-    head: "(set-logic LIA)\n(synth-fun f () Int (\n",
-    pieces: &[Piece::Text("(n"), Piece::Number, Piece::Text(" Int)\n")],
-    middle: ") (\n",
-    others: &[Piece::Text("(n"), Piece::Number, Piece::Text(" Int (0))\n")],
-    tail: "))\n",
-};
-
-/// So many rules.
-const RULES: Large = Large {
-    head: "(set-logic LIA)\n(synth-fun f () Int ((S Int)) ((S Int (\n",
-    pieces: &[Piece::Text("0\n")],
-    middle: "))))\n",
-    ..SPACES
-};
-
-/// The replies to sixteen questions without functions.
-const SIXTEEN: &[u8] =
-    b"(\n)\n(\n)\n(\n)\n(\n)\n(\n)\n(\n)\n(\n)\n(\n)\n(\n)\n(\n)\n(\n)\n(\n)\n(\n)\n(\n)\n(\n)\n(\n)\n";
-
-/// A file, how often its pieces stand in it, and the status and bytes that it leaves.
-type Row = (Large, u32, u8, &'static [u8], &'static [u8]);
-
 #[test]
-fn largest_files(rt: HostRuntime) -> Result<(), AllocError> {
-    let rows: [Row; 23] = [
-        (SPACES, 131072, 0, b"", b""),
-        (
-            MORE_SPACES,
-            131072,
-            2,
-            b"",
-            b"refused: input longer than 4194304 bytes\n",
-        ),
-        (
-            BRACKETS,
-            1200,
-            2,
-            b"",
-            b"refused: command 1 line 1 column 1200 cause 1 Text Unclosed\n",
-        ),
-        (
-            BRACKETS,
-            1201,
-            2,
-            b"",
-            b"refused: command 1 line 1 column 1201 cause 1 Text TooDeep\n",
-        ),
-        (NAMES, 4096, 0, b"", b""),
-        (
-            NAMES,
-            4097,
-            2,
-            b"",
-            b"refused: command 4098 line 4098 column 14 cause 16 TooMany\n",
-        ),
-        (QUESTIONS, 16, 0, SIXTEEN, b""),
-        (
-            QUESTIONS,
-            17,
-            2,
-            b"",
-            b"refused: command 18 line 18 column 2 cause 16 TooMany\n",
-        ),
-        (NESTED, 1199, 0, b"", b""),
-        (
-            CALLED,
-            1199,
-            2,
-            b"",
-            b"refused: command 3 line 3 column 13 cause 16 TooMany\n",
-        ),
-        (DOUBLED, 17, 0, b"", b""),
-        (
-            DOUBLED,
-            18,
-            2,
-            b"",
-            b"refused: command 20 line 20 column 25 cause 16 TooMany\n",
-        ),
-        (DOUBLED_INTEGERS, 17, 0, b"", b""),
-        (
-            DOUBLED_INTEGERS,
-            18,
-            2,
-            b"",
-            b"refused: command 20 line 20 column 25 cause 16 TooMany\n",
-        ),
-        (HEAVY, 17, 1, b"fail\n", b"fail: check-synth 1 Weight\n"),
-        (
-            HEAVY_INTEGERS,
-            17,
-            1,
-            b"fail\n",
-            b"fail: check-synth 1 Weight\n",
-        ),
-        (ARGUMENTS, 64, 0, b"", b""),
-        (
-            ARGUMENTS,
-            65,
-            2,
-            b"",
-            b"refused: command 2 line 67 column 1 cause 16 TooMany\n",
-        ),
-        (NONTERMINALS, 64, 0, b"", b""),
-        (
-            NONTERMINALS,
-            65,
-            2,
-            b"",
-            b"refused: command 2 line 67 column 1 cause 16 TooMany\n",
-        ),
-        (RULES, 1024, 0, b"", b""),
-        (
-            RULES,
-            1025,
-            2,
-            b"",
-            b"refused: command 2 line 1027 column 1 cause 16 TooMany\n",
-        ),
-        (NAMES, 0, 0, b"", b""),
-    ];
-    for (file, count, status, out, err) in rows {
-        let text = text_of(rt.alloc(), &file, count)?;
-        let left = Left { status, out, err };
-        assert!(rt; leaves(&rt, rt.alloc(), "sygus f.sl", text.as_bytes(), &SURE, &left));
+fn largest_files(rt: HostRuntime) {
+    for row in LARGE.split('~') {
+        let parts = parts_of(row);
+        let text = text_of(rt.alloc(), &parts).expect(&rt, "a text");
+        assert!(rt; row_leaves(&rt, rt.alloc(), &parts, text.as_str(), &SURE));
     }
-    Ok(())
-}
-
-/// The greatest weight that words may name lets the heavy queries through.
-#[test]
-fn heavy_queries(rt: HostRuntime) -> Result<(), AllocError> {
-    let line = "sygus --weight 1000000 f.sl";
-    let left = Left {
-        status: 0,
-        out: b"(\n)\n",
-        err: b"",
-    };
-    for file in [HEAVY, HEAVY_INTEGERS] {
-        let text = text_of(rt.alloc(), &file, 17)?;
-        assert!(rt; leaves(&rt, rt.alloc(), line, text.as_bytes(), &SURE, &left));
-    }
-    Ok(())
 }

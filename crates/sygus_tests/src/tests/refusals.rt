@@ -1,178 +1,80 @@
 // Files and words that are refused.
-use super::runs::{Row, all_leave};
+use super::runs::all_leave;
+
+/// Files with a fault, then words that are no command line, and a name that holds no file.
+const REFUSALS: &str = "sygus f.sl^2^^refused: command 2 line 2 column 40 cause 1 Text LiteralRange
+^(set-logic LIA)
+(synth-fun f () Int ((S Int)) ((S Int (170141183460469231731687303715884105728))))~sygus f.sl^2^^refused: command 5 line 5 column 16 cause 11 Nonlinear
+^(set-logic LIA)
+(synth-fun f ((x Int)) Int ((S Int)) ((S Int (x))))
+(declare-var x Int)
+(check-synth)
+(constraint (= (* x (f x)) 0))
+(check-synth)
+~sygus f.sl^2^^refused: command 1 line 1 column 2 cause 2 CommandNotInProfile
+^(optimize-synth ())~sygus f.sl^2^^refused: command 2 line 2 column 16 cause 7 Width
+^(set-logic BV)
+(declare-var x (_ BitVec 65))~sygus f.sl^2^^refused: command 1 line 1 column 19 cause 1 Text Unclosed
+^(set-info :source |ab~sygus f.sl^2^^refused: command 2 line 2 column 1 cause 3 Shape
+^(set-logic LIA)
+(declare-var x)~sygus f.sl^2^^refused: command 1 line 1 column 2 cause 4 Logic
+^(declare-var x Int)~sygus f.sl^2^^refused: command 1 line 1 column 12 cause 4 Logic
+^(set-logic LRA)~sygus f.sl^2^^refused: command 1 line 1 column 14 cause 5 Feature
+^(set-feature :oracles true)~sygus f.sl^2^^refused: command 2 line 2 column 16 cause 6 UnknownSort
+^(set-logic LIA)
+(declare-var x Real)~sygus f.sl^2^^refused: command 2 line 2 column 16 cause 8 UnknownName
+^(set-logic LIA)
+(constraint (= y 0))~sygus f.sl^2^^refused: command 2 line 2 column 14 cause 9 NameTaken
+^(set-logic LIA)
+(declare-var div Int)~sygus f.sl^2^^refused: command 2 line 2 column 13 cause 10 SortMismatch
+^(set-logic LIA)
+(constraint (+ 1 true))~sygus f.sl^2^^refused: command 2 line 2 column 13 cause 10 SortMismatch
+^(set-logic LIA)
+(constraint (+ 1 1))~sygus f.sl^2^^refused: command 2 line 2 column 16 cause 12 LiteralRange
+^(set-logic BV)
+(constraint (= (_ bv4 2) #b00))~sygus f.sl^2^^refused: command 3 line 3 column 22 cause 13 FunctionNotHere
+^(set-logic LIA)
+(synth-fun f () Int)
+(define-fun g () Int f)~sygus f.sl^2^^refused: command 2 line 2 column 32 cause 14 Predeclared
+^(set-logic LIA)
+(synth-fun f () Int ((S Int)) ((T Int (0))))~sygus f.sl^2^^refused: command 6 line 6 column 12 cause 16 TooMany
+^(set-logic LIA)
+(synth-fun a () Int)
+(synth-fun b () Int)
+(synth-fun c () Int)
+(synth-fun d () Int)
+(synth-fun e () Int)
+~sygus f.sl^2^^refused: command 4 line 4 column 17 cause 15 InvShape
+^(set-logic LIA)
+(synth-fun f ((x Int)) Int)
+(define-fun p ((x Int)) Bool true)
+(inv-constraint f p p p)~sygus f.sl^2^^refused: command 4 line 4 column 21 cause 15 InvShape
+^(set-logic LIA)
+(synth-inv f ((x Int)))
+(define-fun p ((x Int)) Bool true)
+(inv-constraint f p p p)~sygus^3^^refused: words
+^(set-logic BV)
+(synth-fun f ((x (_ BitVec 8))) (_ BitVec 8)
+  ((S (_ BitVec 8)))
+  ((S (_ BitVec 8) (x (bvadd x #x01)))))
+(constraint (= (f #x05) #x06))
+(check-synth)
+~sygus --size 65 f.sl^3^^refused: words
+^(set-logic BV)
+(synth-fun f ((x (_ BitVec 8))) (_ BitVec 8)
+  ((S (_ BitVec 8)))
+  ((S (_ BitVec 8) (x (bvadd x #x01)))))
+(constraint (= (f #x05) #x06))
+(check-synth)
+~sygus g.sl^0^^^(set-logic BV)
+(synth-fun f ((x (_ BitVec 8))) (_ BitVec 8)
+  ((S (_ BitVec 8)))
+  ((S (_ BitVec 8) (x (bvadd x #x01)))))
+(constraint (= (f #x05) #x06))
+(check-synth)
+";
 
 #[test]
-fn faulty_files(rt: HostRuntime) {
-    let rows: [Row; 20] = [
-        (
-            "sygus f.sl",
-            b"(set-logic LIA)\n(synth-fun f () Int ((S Int)) ((S Int (170141183460469231731687303715884105728))))",
-            2,
-            b"",
-            b"refused: command 2 line 2 column 40 cause 1 Text LiteralRange\n",
-        ),
-        (
-            "sygus f.sl",
-            b"(set-logic LIA)\n(synth-fun f ((x Int)) Int ((S Int)) ((S Int (x))))\n(declare-var x Int)\n(check-synth)\n(constraint (= (* x (f x)) 0))\n(check-synth)\n",
-            2,
-            b"",
-            b"refused: command 5 line 5 column 16 cause 11 Nonlinear\n",
-        ),
-        (
-            "sygus f.sl",
-            b"(optimize-synth ())",
-            2,
-            b"",
-            b"refused: command 1 line 1 column 2 cause 2 CommandNotInProfile\n",
-        ),
-        (
-            "sygus f.sl",
-            b"(set-logic BV)\n(declare-var x (_ BitVec 65))",
-            2,
-            b"",
-            b"refused: command 2 line 2 column 16 cause 7 Width\n",
-        ),
-        (
-            "sygus f.sl",
-            b"(set-info :source |ab",
-            2,
-            b"",
-            b"refused: command 1 line 1 column 19 cause 1 Text Unclosed\n",
-        ),
-        (
-            "sygus f.sl",
-            b"(set-logic LIA)\n(declare-var x)",
-            2,
-            b"",
-            b"refused: command 2 line 2 column 1 cause 3 Shape\n",
-        ),
-        (
-            "sygus f.sl",
-            b"(declare-var x Int)",
-            2,
-            b"",
-            b"refused: command 1 line 1 column 2 cause 4 Logic\n",
-        ),
-        (
-            "sygus f.sl",
-            b"(set-logic LRA)",
-            2,
-            b"",
-            b"refused: command 1 line 1 column 12 cause 4 Logic\n",
-        ),
-        (
-            "sygus f.sl",
-            b"(set-feature :oracles true)",
-            2,
-            b"",
-            b"refused: command 1 line 1 column 14 cause 5 Feature\n",
-        ),
-        (
-            "sygus f.sl",
-            b"(set-logic LIA)\n(declare-var x Real)",
-            2,
-            b"",
-            b"refused: command 2 line 2 column 16 cause 6 UnknownSort\n",
-        ),
-        (
-            "sygus f.sl",
-            b"(set-logic LIA)\n(constraint (= y 0))",
-            2,
-            b"",
-            b"refused: command 2 line 2 column 16 cause 8 UnknownName\n",
-        ),
-        (
-            "sygus f.sl",
-            b"(set-logic LIA)\n(declare-var div Int)",
-            2,
-            b"",
-            b"refused: command 2 line 2 column 14 cause 9 NameTaken\n",
-        ),
-        (
-            "sygus f.sl",
-            b"(set-logic LIA)\n(constraint (+ 1 true))",
-            2,
-            b"",
-            b"refused: command 2 line 2 column 13 cause 10 SortMismatch\n",
-        ),
-        (
-            "sygus f.sl",
-            b"(set-logic LIA)\n(constraint (+ 1 1))",
-            2,
-            b"",
-            b"refused: command 2 line 2 column 13 cause 10 SortMismatch\n",
-        ),
-        (
-            "sygus f.sl",
-            b"(set-logic BV)\n(constraint (= (_ bv4 2) #b00))",
-            2,
-            b"",
-            b"refused: command 2 line 2 column 16 cause 12 LiteralRange\n",
-        ),
-        (
-            "sygus f.sl",
-            b"(set-logic LIA)\n(synth-fun f () Int)\n(define-fun g () Int f)",
-            2,
-            b"",
-            b"refused: command 3 line 3 column 22 cause 13 FunctionNotHere\n",
-        ),
-        (
-            "sygus f.sl",
-            b"(set-logic LIA)\n(synth-fun f () Int ((S Int)) ((T Int (0))))",
-            2,
-            b"",
-            b"refused: command 2 line 2 column 32 cause 14 Predeclared\n",
-        ),
-        (
-            "sygus f.sl",
-            b"(set-logic LIA)\n(synth-fun a () Int)\n(synth-fun b () Int)\n(synth-fun c () Int)\n(synth-fun d () Int)\n(synth-fun e () Int)\n",
-            2,
-            b"",
-            b"refused: command 6 line 6 column 12 cause 16 TooMany\n",
-        ),
-        (
-            "sygus f.sl",
-            b"(set-logic LIA)\n(synth-fun f ((x Int)) Int)\n(define-fun p ((x Int)) Bool true)\n(inv-constraint f p p p)",
-            2,
-            b"",
-            b"refused: command 4 line 4 column 17 cause 15 InvShape\n",
-        ),
-        (
-            "sygus f.sl",
-            b"(set-logic LIA)\n(synth-inv f ((x Int)))\n(define-fun p ((x Int)) Bool true)\n(inv-constraint f p p p)",
-            2,
-            b"",
-            b"refused: command 4 line 4 column 21 cause 15 InvShape\n",
-        ),
-    ];
-    assert!(rt; all_leave(&rt, rt.alloc(), &rows));
-}
-
-/// Words that are no command line, and a name that holds no file.
-#[test]
-fn faulty_words(rt: HostRuntime) {
-    let rows: [Row; 3] = [
-        (
-            "sygus",
-            b"(set-logic BV)\n(synth-fun f ((x (_ BitVec 8))) (_ BitVec 8)\n  ((S (_ BitVec 8)))\n  ((S (_ BitVec 8) (x (bvadd x #x01)))))\n(constraint (= (f #x05) #x06))\n(check-synth)\n",
-            3,
-            b"",
-            b"refused: words\n",
-        ),
-        (
-            "sygus --size 65 f.sl",
-            b"(set-logic BV)\n(synth-fun f ((x (_ BitVec 8))) (_ BitVec 8)\n  ((S (_ BitVec 8)))\n  ((S (_ BitVec 8) (x (bvadd x #x01)))))\n(constraint (= (f #x05) #x06))\n(check-synth)\n",
-            3,
-            b"",
-            b"refused: words\n",
-        ),
-        (
-            "sygus g.sl",
-            b"(set-logic BV)\n(synth-fun f ((x (_ BitVec 8))) (_ BitVec 8)\n  ((S (_ BitVec 8)))\n  ((S (_ BitVec 8) (x (bvadd x #x01)))))\n(constraint (= (f #x05) #x06))\n(check-synth)\n",
-            0,
-            b"",
-            b"",
-        ),
-    ];
-    assert!(rt; all_leave(&rt, rt.alloc(), &rows));
+fn faulty_files_and_words(rt: HostRuntime) {
+    assert!(rt; all_leave(&rt, rt.alloc(), REFUSALS));
 }

@@ -1,7 +1,0 @@
-// Sets of clauses with their models, or with logs that refute them.
-#![tactic(auto)]
-
-#[cfg(test)]
-mod formulas;
-#[cfg(test)]
-mod logs;

@@ -1,0 +1,73 @@
+// Lines as they are written out by hand.
+use std::alloc::Global;
+use sy_io::Bytes;
+use sy_query::FailName;
+use sy_reply::{fail_line, refusal_text};
+use sy_scope::{Cause, Refused};
+use sy_text::{Place, TextFault};
+
+/// Whether the bytes are those of the text.
+fn is_text(bytes: Option<Bytes>, text: &str) -> bool {
+    bytes.is_some_and(|bytes| bytes.as_slice() == text.as_bytes())
+}
+
+/// The line of the command 2, refused at an offset.
+fn refusal(alloc: Global, bytes: &[u8], at: usize, cause: Cause) -> Option<Bytes> {
+    if at > bytes.len() {
+        return None;
+    }
+    let refused = Refused {
+        command: 2,
+        place: Place { at },
+        cause,
+    };
+    refusal_text(alloc, bytes, &refused).ok()
+}
+
+#[test]
+fn refusals(rt: HostRuntime) {
+    let file =
+        b"(set-logic LIA)\n(synth-fun f () Int ((S Int)) ((S Int (170141183460469231731687303715884105728))))";
+    let rows = [
+        (
+            55,
+            Cause::Text(TextFault::LiteralRange(55)),
+            "refused: command 2 line 2 column 40 cause 1 Text LiteralRange\n",
+        ),
+        (
+            0,
+            Cause::Text(TextFault::Unclosed(0)),
+            "refused: command 2 line 1 column 1 cause 1 Text Unclosed\n",
+        ),
+        (
+            17,
+            Cause::CommandNotInProfile,
+            "refused: command 2 line 2 column 2 cause 2 CommandNotInProfile\n",
+        ),
+        (
+            15,
+            Cause::Width,
+            "refused: command 2 line 1 column 16 cause 7 Width\n",
+        ),
+        (
+            16,
+            Cause::TooMany,
+            "refused: command 2 line 2 column 1 cause 16 TooMany\n",
+        ),
+    ];
+    for (at, cause, line) in rows {
+        assert!(rt; is_text(refusal(rt.alloc(), file, at, cause), line));
+    }
+}
+
+#[test]
+fn failures(rt: HostRuntime) {
+    let rows = [
+        (1, FailName::Size, "fail: check-synth 1 Size\n"),
+        (2, FailName::Range, "fail: check-synth 2 Range\n"),
+        (16, FailName::Pivots, "fail: check-synth 16 Pivots\n"),
+    ];
+    for (check, name, line) in rows {
+        assert!(rt; is_text(fail_line(rt.alloc(), check, name).ok(), line));
+    }
+}
