@@ -8,13 +8,13 @@ use Rattle.sy_grammar_base.specs.Trees.{Syntax}
 use Rattle.sy_bank_rows.specs.Banks.{Lost, Merged, IsDropped}
 use Rattle.sy_bank.specs.Answers.{OnBank, IfFull}
 use Rattle.sy_bank.specs.Bank.{merged_of}
-use Rattle.sy_bank.specs.Promised.{IsBank, IsFull, IsNext, Stays}
+use Rattle.sy_bank.specs.Promised.{IsBank, BankIsFull, IsNextBank, Stays}
 use Rattle.sy_bank.specs.declared.bank.Bank.{Bank}
 use Rattle.sy_bank.specs.declared.bank.BankEnd.{BankEnd}
 use Rattle.sy_bank.specs.declared.bank.BankEnd.TheVariants.{Full, Want}
 
 pub end-bank : {T N : Type 0} (number : N → Val) (syntax : Syntax) (defined : List Function) (pool : List Val) (points : List (List Val)) (upto cap : ℕ) (before : Merged) (end : BankEnd T N) →
-    before.points ≡ points → before.upto ≡ upto → OnBank number (Err end) (IsNext syntax defined pool cap before) → IfFull number (Err end) (IsFull syntax defined pool cap) →
+    before.points ≡ points → before.upto ≡ upto → OnBank number (Err end) (IsNextBank syntax defined pool cap before) → IfFull number (Err end) (BankIsFull syntax defined pool cap) →
     OnBank number (Err end) (IsBank syntax defined pool points upto cap)
 end-bank number syntax defined pool points upto cap before (Full bank nonterminal kept) over up next full = record {
   over = next.over ∙ over;
@@ -26,7 +26,7 @@ end-bank number syntax defined pool points upto cap before (Full bank nontermina
 end-bank number syntax defined pool points upto cap before Want over up next full = tt
 
 pub end-stays : {T N : Type 0} (number : N → Val) (syntax : Syntax) (defined : List Function) (pool : List Val) (cap : ℕ) (first before : Merged) (end : BankEnd T N) →
-    Stays first before → OnBank number (Err end) (IsNext syntax defined pool cap before) → OnBank number (Err end) (Stays first)
+    Stays first before → OnBank number (Err end) (IsNextBank syntax defined pool cap before) → OnBank number (Err end) (Stays first)
 end-stays number syntax defined pool cap first before (Full bank nonterminal kept) stays next = λ n size place e at. next.stays n size place e (stays n size place e at)
 end-stays number syntax defined pool cap first before Want stays next = tt
 

@@ -8,7 +8,7 @@ use Rattle.sy_bank_rows.specs.Banks.{Entry, Merged}
 use Rattle.sy_bank_rows.specs.Stored.{entry_of}
 use Rattle.sy_bank_level.specs.Places.{places_of}
 use Rattle.sy_bank_growth_laws.specs.Indexed.{IsIndexed}
-use Rattle.sy_bank_growth_laws.specs.Ready.{IsReady}
+use Rattle.sy_bank_growth_laws.specs.Ready.{BankIsReady}
 use Rattle.sy_bank.specs.Bank.{merged_of}
 use Rattle.sy_bank.specs.declared.bank.Bank.{Bank}
 use Rattle.sy_bank.specs.declared.bank.BankEnd.{BankEnd}
@@ -27,6 +27,6 @@ IfFull number (Err (Full bank nonterminal next)) fact = fact (merged_of number b
 IfFull number (Err Want) fact = Unit {0}
 
 -- a bank as building leaves it, to which the kept terms of further sizes can be added
-pub record IsBuilt {T N : Type 0} (number : N → Val) (scope : Scope) (syntax : Syntax) (defined : List Function) (pool : List Val) (bank : Bank T N) : Type 0 where
-  pub ready : IsReady scope syntax defined pool (merged_of number bank)
+pub record BankIsBuilt {T N : Type 0} (number : N → Val) (scope : Scope) (syntax : Syntax) (defined : List Function) (pool : List Val) (bank : Bank T N) : Type 0 where
+  pub ready : BankIsReady scope syntax defined pool (merged_of number bank)
   pub indexed : IsIndexed (merged_of number bank).levels (places_of bank.table) bank.count

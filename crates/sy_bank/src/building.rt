@@ -5,11 +5,11 @@ ghost use Rattle.sy_terms.specs.Definitions.{DefinitionsFit, scope_of, bodies};
 ghost use Rattle.sy_terms.specs.Meaning.{functions};
 ghost use Rattle.sy_grammar_base.specs.Formed.{is_formed};
 ghost use Rattle.sy_grammar_base.specs.Grown.{syntax_from};
-ghost use Rattle.sy_bank_rows.specs.Banks.{count};
+ghost use Rattle.sy_bank_rows.specs.Banks.{kept_count};
 ghost use Rattle.sy_bank_rows.specs.Rows.{ArePointsOf};
-ghost use Rattle.sy_bank.specs.Answers.{OnBank, IfFull, IsBuilt};
+ghost use Rattle.sy_bank.specs.Answers.{OnBank, IfFull, BankIsBuilt};
 ghost use Rattle.sy_bank.specs.Bank.{merged_of};
-ghost use Rattle.sy_bank.specs.Promised.{IsBank, IsWhole, IsFull, Stays};
+ghost use Rattle.sy_bank.specs.Promised.{IsBank, BankIsWhole, BankIsFull, Stays};
 
 use crate::bank::{Bank, BankEnd};
 use std::alloc::Global;
@@ -29,8 +29,8 @@ fn copied_points<T: Theory>(alloc: Global, points: &[Values<T>]) -> Result<Seq<V
 }
 
 /// A bank of the terms of derivations up to this size, over these points, of at most `cap` kept terms. Where none was
-/// dropped, each yield of such a derivation is computable at all points, and a kept term of its nonterminal, of no
-/// larger size, has its row. `Full` comes exactly where `cap` terms are kept, none was dropped and one more is new.
+/// dropped, each yield of such a derivation is computable at all points, and its row is that of a kept term of its
+/// nonterminal, at most as large. `Full` comes exactly where `cap` terms are kept, none was dropped and one more is new.
 pub fn build<T: Theory>(
     alloc: Global,
     grammar: &Grammar<T>,
@@ -44,9 +44,9 @@ pub fn build<T: Theory>(
     requires formed { is_formed T.numeric (scope_of T.owned defs.now) (syntax_from T.denotes grammar.now) ≡ true }
     requires points { ArePointsOf grammar.now.args (map (vals_of T.denotes) points.now) }
     ensures bank { OnBank T.denotes result (IsBank (syntax_from T.denotes grammar.now) (functions (bodies T.denotes defs.now)) (vals_of T.denotes pool.now) (map (vals_of T.denotes) points.now) upto cap) }
-    ensures whole { IfOk result (λ bank. IsWhole (syntax_from T.denotes grammar.now) (functions (bodies T.denotes defs.now)) (vals_of T.denotes pool.now) (merged_of T.denotes bank)) }
-    ensures full { IfFull T.denotes result (IsFull (syntax_from T.denotes grammar.now) (functions (bodies T.denotes defs.now)) (vals_of T.denotes pool.now) cap) }
-    ensures built { IfOk result (IsBuilt T.denotes (scope_of T.owned defs.now) (syntax_from T.denotes grammar.now) (functions (bodies T.denotes defs.now)) (vals_of T.denotes pool.now)) }
+    ensures whole { IfOk result (λ bank. BankIsWhole (syntax_from T.denotes grammar.now) (functions (bodies T.denotes defs.now)) (vals_of T.denotes pool.now) (merged_of T.denotes bank)) }
+    ensures full { IfFull T.denotes result (BankIsFull (syntax_from T.denotes grammar.now) (functions (bodies T.denotes defs.now)) (vals_of T.denotes pool.now) cap) }
+    ensures built { IfOk result (BankIsBuilt T.denotes (scope_of T.owned defs.now) (syntax_from T.denotes grammar.now) (functions (bodies T.denotes defs.now)) (vals_of T.denotes pool.now)) }
 {
     let bank = Bank {
         points: copied_points::<T>(alloc, points.as_slice())?,
@@ -74,14 +74,14 @@ impl<T: Theory> Bank<T> {
         requires definitions { DefinitionsFit T.owned T.denotes defs.now }
         requires formed { is_formed T.numeric (scope_of T.owned defs.now) (syntax_from T.denotes grammar.now) ≡ true }
         requires points { ArePointsOf grammar.now.args (merged_of T.denotes self).points }
-        requires built { IsBuilt T.denotes (scope_of T.owned defs.now) (syntax_from T.denotes grammar.now) (functions (bodies T.denotes defs.now)) (vals_of T.denotes pool.now) self }
+        requires built { BankIsBuilt T.denotes (scope_of T.owned defs.now) (syntax_from T.denotes grammar.now) (functions (bodies T.denotes defs.now)) (vals_of T.denotes pool.now) self }
         requires none_lost { (merged_of T.denotes self).dropped ≡ None }
         requires larger { self.upto ≤ upto }
-        requires room { count (merged_of T.denotes self).levels ≤ cap }
+        requires room { kept_count (merged_of T.denotes self).levels ≤ cap }
         ensures bank { OnBank T.denotes result (IsBank (syntax_from T.denotes grammar.now) (functions (bodies T.denotes defs.now)) (vals_of T.denotes pool.now) (merged_of T.denotes self).points upto cap) }
-        ensures whole { IfOk result (λ bank. IsWhole (syntax_from T.denotes grammar.now) (functions (bodies T.denotes defs.now)) (vals_of T.denotes pool.now) (merged_of T.denotes bank)) }
-        ensures full { IfFull T.denotes result (IsFull (syntax_from T.denotes grammar.now) (functions (bodies T.denotes defs.now)) (vals_of T.denotes pool.now) cap) }
-        ensures built { IfOk result (IsBuilt T.denotes (scope_of T.owned defs.now) (syntax_from T.denotes grammar.now) (functions (bodies T.denotes defs.now)) (vals_of T.denotes pool.now)) }
+        ensures whole { IfOk result (λ bank. BankIsWhole (syntax_from T.denotes grammar.now) (functions (bodies T.denotes defs.now)) (vals_of T.denotes pool.now) (merged_of T.denotes bank)) }
+        ensures full { IfFull T.denotes result (BankIsFull (syntax_from T.denotes grammar.now) (functions (bodies T.denotes defs.now)) (vals_of T.denotes pool.now) cap) }
+        ensures built { IfOk result (BankIsBuilt T.denotes (scope_of T.owned defs.now) (syntax_from T.denotes grammar.now) (functions (bodies T.denotes defs.now)) (vals_of T.denotes pool.now)) }
         ensures stays { OnBank T.denotes result (Stays (merged_of T.denotes self)) }
     {
         let mut bank = self;

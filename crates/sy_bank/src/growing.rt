@@ -6,13 +6,13 @@ ghost use Rattle.sy_terms.specs.Definitions.{DefinitionsFit, scope_of, bodies};
 ghost use Rattle.sy_terms.specs.Meaning.{functions};
 ghost use Rattle.sy_grammar_base.specs.Formed.{is_formed};
 ghost use Rattle.sy_grammar_base.specs.Grown.{syntax_from};
-ghost use Rattle.sy_bank_rows.specs.Banks.{count};
+ghost use Rattle.sy_bank_rows.specs.Banks.{kept_count};
 ghost use Rattle.sy_bank_rows.specs.Stored.{lost_of};
 ghost use Rattle.sy_bank_level.specs.Task.{level_of, levels_of};
 ghost use Rattle.sy_bank_rows.specs.Rows.{ArePointsOf};
-ghost use Rattle.sy_bank.specs.Answers.{OnBank, IfFull, IsBuilt};
+ghost use Rattle.sy_bank.specs.Answers.{OnBank, IfFull, BankIsBuilt};
 ghost use Rattle.sy_bank.specs.Bank.{merged_of};
-ghost use Rattle.sy_bank.specs.Promised.{IsBank, IsWhole, IsFull, IsNext, Stays};
+ghost use Rattle.sy_bank.specs.Promised.{IsBank, BankIsWhole, BankIsFull, IsNextBank, Stays};
 
 use crate::bank::{Bank, BankEnd};
 use crate::rules::fill;
@@ -57,13 +57,13 @@ impl<T: Theory> Bank<T> {
         requires definitions { DefinitionsFit T.owned T.denotes defs.now }
         requires formed { is_formed T.numeric (scope_of T.owned defs.now) (syntax_from T.denotes grammar.now) ≡ true }
         requires points { ArePointsOf grammar.now.args (merged_of T.denotes self).points }
-        requires built { IsBuilt T.denotes (scope_of T.owned defs.now) (syntax_from T.denotes grammar.now) (functions (bodies T.denotes defs.now)) (vals_of T.denotes pool.now) self }
+        requires built { BankIsBuilt T.denotes (scope_of T.owned defs.now) (syntax_from T.denotes grammar.now) (functions (bodies T.denotes defs.now)) (vals_of T.denotes pool.now) self }
         requires none_lost { (merged_of T.denotes self).dropped ≡ None }
         requires open { length self.levels.items ≤ self.upto }
-        requires room { count (merged_of T.denotes self).levels ≤ cap }
-        ensures next { OnBank T.denotes result (IsNext (syntax_from T.denotes grammar.now) (functions (bodies T.denotes defs.now)) (vals_of T.denotes pool.now) cap (merged_of T.denotes self)) }
-        ensures built { IfOk result (IsBuilt T.denotes (scope_of T.owned defs.now) (syntax_from T.denotes grammar.now) (functions (bodies T.denotes defs.now)) (vals_of T.denotes pool.now)) }
-        ensures full { IfFull T.denotes result (IsFull (syntax_from T.denotes grammar.now) (functions (bodies T.denotes defs.now)) (vals_of T.denotes pool.now) cap) }
+        requires room { kept_count (merged_of T.denotes self).levels ≤ cap }
+        ensures next { OnBank T.denotes result (IsNextBank (syntax_from T.denotes grammar.now) (functions (bodies T.denotes defs.now)) (vals_of T.denotes pool.now) cap (merged_of T.denotes self)) }
+        ensures built { IfOk result (BankIsBuilt T.denotes (scope_of T.owned defs.now) (syntax_from T.denotes grammar.now) (functions (bodies T.denotes defs.now)) (vals_of T.denotes pool.now)) }
+        ensures full { IfFull T.denotes result (BankIsFull (syntax_from T.denotes grammar.now) (functions (bodies T.denotes defs.now)) (vals_of T.denotes pool.now) cap) }
     {
         let Bank {
             points,
@@ -120,12 +120,12 @@ impl<T: Theory> Bank<T> {
         requires definitions { DefinitionsFit T.owned T.denotes defs.now }
         requires formed { is_formed T.numeric (scope_of T.owned defs.now) (syntax_from T.denotes grammar.now) ≡ true }
         requires points { ArePointsOf grammar.now.args (merged_of T.denotes self).points }
-        requires built { IsBuilt T.denotes (scope_of T.owned defs.now) (syntax_from T.denotes grammar.now) (functions (bodies T.denotes defs.now)) (vals_of T.denotes pool.now) self }
-        requires room { count (merged_of T.denotes self).levels ≤ cap }
+        requires built { BankIsBuilt T.denotes (scope_of T.owned defs.now) (syntax_from T.denotes grammar.now) (functions (bodies T.denotes defs.now)) (vals_of T.denotes pool.now) self }
+        requires room { kept_count (merged_of T.denotes self).levels ≤ cap }
         ensures bank { OnBank T.denotes result (IsBank (syntax_from T.denotes grammar.now) (functions (bodies T.denotes defs.now)) (vals_of T.denotes pool.now) (merged_of T.denotes self).points self.upto cap) }
-        ensures whole { IfOk result (λ bank. IsWhole (syntax_from T.denotes grammar.now) (functions (bodies T.denotes defs.now)) (vals_of T.denotes pool.now) (merged_of T.denotes bank)) }
-        ensures full { IfFull T.denotes result (IsFull (syntax_from T.denotes grammar.now) (functions (bodies T.denotes defs.now)) (vals_of T.denotes pool.now) cap) }
-        ensures built { IfOk result (IsBuilt T.denotes (scope_of T.owned defs.now) (syntax_from T.denotes grammar.now) (functions (bodies T.denotes defs.now)) (vals_of T.denotes pool.now)) }
+        ensures whole { IfOk result (λ bank. BankIsWhole (syntax_from T.denotes grammar.now) (functions (bodies T.denotes defs.now)) (vals_of T.denotes pool.now) (merged_of T.denotes bank)) }
+        ensures full { IfFull T.denotes result (BankIsFull (syntax_from T.denotes grammar.now) (functions (bodies T.denotes defs.now)) (vals_of T.denotes pool.now) cap) }
+        ensures built { IfOk result (BankIsBuilt T.denotes (scope_of T.owned defs.now) (syntax_from T.denotes grammar.now) (functions (bodies T.denotes defs.now)) (vals_of T.denotes pool.now)) }
         ensures stays { OnBank T.denotes result (Stays (merged_of T.denotes self)) }
     {
         let upto = self.upto as usize;

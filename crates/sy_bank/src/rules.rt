@@ -3,8 +3,8 @@ ghost use Rattle.std.specs.Prelude.{◌≡◌, ◌<◌, ℕ, length, Some, OnOk,
 ghost use Rattle.sy_grammar_base.specs.Trees.{rule_at};
 ghost use Rattle.sy_grammar_base.specs.Grown.{production_of};
 ghost use Rattle.sy_grammar_base.specs.Written.{pattern_of};
-ghost use Rattle.sy_bank_level.specs.Filling.{IsSteady, Grows};
-ghost use Rattle.sy_bank_level.specs.Task.{world, IsStop, state_of};
+ghost use Rattle.sy_bank_level.specs.Filling.{IsSteady, LevelGrows};
+ghost use Rattle.sy_bank_level.specs.Task.{world, IsStop, level_state_of};
 ghost use Rattle.sy_bank_offer.specs.Tasks.{IsTask, IsRule};
 ghost use Rattle.sy_bank_growth_laws.specs.Tried.{IsTried, AllAreTried, IsFilled};
 
@@ -21,10 +21,10 @@ use sy_terms::Theory;
 /// Keeps what all rules give at the task's size, unless kept terms have its rows.
 pub(crate) fn fill<T: Theory>(task: &Task<T>, filling: &mut Filling<T>) -> Result<(), Stop<T>>
     requires task { IsTask T.owned T.numeric T.denotes task.now }
-    requires steady { IsSteady (world T.owned T.denotes task.now) (state_of T.denotes filling.old) }
-    ensures steady { OnOk result (IsSteady (world T.owned T.denotes task.now) (state_of T.denotes filling.new)) }
-    ensures filled { OnOk result (IsFilled (world T.owned T.denotes task.now) (state_of T.denotes filling.new) task.now.size) }
-    ensures stop { IfErr result (IsStop T.denotes (world T.owned T.denotes task.now) (state_of T.denotes filling.new)) }
+    requires steady { IsSteady (world T.owned T.denotes task.now) (level_state_of T.denotes filling.old) }
+    ensures steady { OnOk result (IsSteady (world T.owned T.denotes task.now) (level_state_of T.denotes filling.new)) }
+    ensures filled { OnOk result (IsFilled (world T.owned T.denotes task.now) (level_state_of T.denotes filling.new) task.now.size) }
+    ensures stop { IfErr result (IsStop T.denotes (world T.owned T.denotes task.now) (level_state_of T.denotes filling.new)) }
 {
     try_all(task, filling)?;
     pass_chains(task, filling)?;
@@ -34,10 +34,10 @@ pub(crate) fn fill<T: Theory>(task: &Task<T>, filling: &mut Filling<T>) -> Resul
 /// Tries the rules of all nonterminals.
 fn try_all<T: Theory>(task: &Task<T>, filling: &mut Filling<T>) -> Result<(), Stop<T>>
     requires task { IsTask T.owned T.numeric T.denotes task.now }
-    requires steady { IsSteady (world T.owned T.denotes task.now) (state_of T.denotes filling.old) }
-    ensures steady { OnOk result (IsSteady (world T.owned T.denotes task.now) (state_of T.denotes filling.new)) }
-    ensures tried { OnOk result (AllAreTried (world T.owned T.denotes task.now) (state_of T.denotes filling.new) task.now.size (length task.now.grammar.now.nons)) }
-    ensures stop { IfErr result (IsStop T.denotes (world T.owned T.denotes task.now) (state_of T.denotes filling.new)) }
+    requires steady { IsSteady (world T.owned T.denotes task.now) (level_state_of T.denotes filling.old) }
+    ensures steady { OnOk result (IsSteady (world T.owned T.denotes task.now) (level_state_of T.denotes filling.new)) }
+    ensures tried { OnOk result (AllAreTried (world T.owned T.denotes task.now) (level_state_of T.denotes filling.new) task.now.size (length task.now.grammar.now.nons)) }
+    ensures stop { IfErr result (IsStop T.denotes (world T.owned T.denotes task.now) (level_state_of T.denotes filling.new)) }
 {
     for nonterminal in 0..task.grammar.nons().len() {
         try_rules(task, filling, nonterminal as u32)?;
@@ -53,11 +53,11 @@ fn try_rules<T: Theory>(
 ) -> Result<(), Stop<T>>
     requires task { IsTask T.owned T.numeric T.denotes task.now }
     requires known { nonterminal < length task.now.grammar.now.nons }
-    requires steady { IsSteady (world T.owned T.denotes task.now) (state_of T.denotes filling.old) }
-    ensures steady { OnOk result (IsSteady (world T.owned T.denotes task.now) (state_of T.denotes filling.new)) }
-    ensures grows { OnOk result (Grows (world T.owned T.denotes task.now) (state_of T.denotes filling.old) (state_of T.denotes filling.new)) }
-    ensures tried { OnOk result ((rule : ℕ) → IsTried (world T.owned T.denotes task.now) (state_of T.denotes filling.new) task.now.size nonterminal rule) }
-    ensures stop { IfErr result (IsStop T.denotes (world T.owned T.denotes task.now) (state_of T.denotes filling.new)) }
+    requires steady { IsSteady (world T.owned T.denotes task.now) (level_state_of T.denotes filling.old) }
+    ensures steady { OnOk result (IsSteady (world T.owned T.denotes task.now) (level_state_of T.denotes filling.new)) }
+    ensures grows { OnOk result (LevelGrows (world T.owned T.denotes task.now) (level_state_of T.denotes filling.old) (level_state_of T.denotes filling.new)) }
+    ensures tried { OnOk result ((rule : ℕ) → IsTried (world T.owned T.denotes task.now) (level_state_of T.denotes filling.new) task.now.size nonterminal rule) }
+    ensures stop { IfErr result (IsStop T.denotes (world T.owned T.denotes task.now) (level_state_of T.denotes filling.new)) }
 {
     let rules = task.grammar.nons().as_slice()[nonterminal as usize]
         .rules
@@ -79,11 +79,11 @@ fn try_rule<T: Theory>(
     requires task { IsTask T.owned T.numeric T.denotes task.now }
     requires known { nonterminal < length task.now.grammar.now.nons }
     requires rule { rule_at (world T.owned T.denotes task.now).syntax nonterminal number ≡ Some (production_of T.denotes rule.now) }
-    requires steady { IsSteady (world T.owned T.denotes task.now) (state_of T.denotes filling.old) }
-    ensures steady { OnOk result (IsSteady (world T.owned T.denotes task.now) (state_of T.denotes filling.new)) }
-    ensures grows { OnOk result (Grows (world T.owned T.denotes task.now) (state_of T.denotes filling.old) (state_of T.denotes filling.new)) }
-    ensures tried { OnOk result (IsTried (world T.owned T.denotes task.now) (state_of T.denotes filling.new) task.now.size nonterminal number) }
-    ensures stop { IfErr result (IsStop T.denotes (world T.owned T.denotes task.now) (state_of T.denotes filling.new)) }
+    requires steady { IsSteady (world T.owned T.denotes task.now) (level_state_of T.denotes filling.old) }
+    ensures steady { OnOk result (IsSteady (world T.owned T.denotes task.now) (level_state_of T.denotes filling.new)) }
+    ensures grows { OnOk result (LevelGrows (world T.owned T.denotes task.now) (level_state_of T.denotes filling.old) (level_state_of T.denotes filling.new)) }
+    ensures tried { OnOk result (IsTried (world T.owned T.denotes task.now) (level_state_of T.denotes filling.new) task.now.size nonterminal number) }
+    ensures stop { IfErr result (IsStop T.denotes (world T.owned T.denotes task.now) (level_state_of T.denotes filling.new)) }
 {
     match rule {
         Rule::Term(part) => try_part(task, filling, nonterminal, number, part),
@@ -116,11 +116,11 @@ fn try_part<T: Theory>(
 ) -> Result<(), Stop<T>>
     requires task { IsTask T.owned T.numeric T.denotes task.now }
     requires rule { IsRule (world T.owned T.denotes task.now).syntax nonterminal number (pattern_of T.denotes part.now) }
-    requires steady { IsSteady (world T.owned T.denotes task.now) (state_of T.denotes filling.old) }
-    ensures steady { OnOk result (IsSteady (world T.owned T.denotes task.now) (state_of T.denotes filling.new)) }
-    ensures grows { OnOk result (Grows (world T.owned T.denotes task.now) (state_of T.denotes filling.old) (state_of T.denotes filling.new)) }
-    ensures tried { OnOk result (IsTried (world T.owned T.denotes task.now) (state_of T.denotes filling.new) task.now.size nonterminal number) }
-    ensures stop { IfErr result (IsStop T.denotes (world T.owned T.denotes task.now) (state_of T.denotes filling.new)) }
+    requires steady { IsSteady (world T.owned T.denotes task.now) (level_state_of T.denotes filling.old) }
+    ensures steady { OnOk result (IsSteady (world T.owned T.denotes task.now) (level_state_of T.denotes filling.new)) }
+    ensures grows { OnOk result (LevelGrows (world T.owned T.denotes task.now) (level_state_of T.denotes filling.old) (level_state_of T.denotes filling.new)) }
+    ensures tried { OnOk result (IsTried (world T.owned T.denotes task.now) (level_state_of T.denotes filling.new) task.now.size nonterminal number) }
+    ensures stop { IfErr result (IsStop T.denotes (world T.owned T.denotes task.now) (level_state_of T.denotes filling.new)) }
 {
     let part = Rc::new(task.alloc, copied_part(task.alloc, part)?)?;
     let template = Template {

@@ -16,7 +16,7 @@ use Rattle.sy_grammar_laws.proofs.Numbering.{numbered}
 use Rattle.std.proofs.lemmas.List.{length-map}
 use Rattle.sy_bank_rows.specs.Banks.{Entry, kept_at, IsKept}
 use Rattle.sy_bank_rows.specs.Covering.{terms}
-use Rattle.sy_bank_level.specs.Filling.{World, State, all, IsRight, IsSteady, Grows, IsDone}
+use Rattle.sy_bank_level.specs.Filling.{World, LevelState, all_levels, EntryIsRight, IsSteady, LevelGrows, TermIsDone}
 use Rattle.sy_bank_level.proofs.Kept.{below-or-last, kept_at-last}
 use Rattle.sy_bank_level.proofs.Keeping.{done-on}
 use Rattle.sy_bank_offer.specs.Tasks.{IsSet}
@@ -48,7 +48,7 @@ few-rules number numeric w nons place item set same at =
     omega (arith, few, length-map item.rules (production_of number))
 
 -- the kept terms of the size
-pub fresh-right : (w : World) (s : State) (to i : ℕ) (entry : Entry) → IsSteady w s → slice_get (slice_index_or s.fresh to []) i ≡ Some entry → IsRight w to (length w.levels) entry
+pub fresh-right : (w : World) (s : LevelState) (to i : ℕ) (entry : Entry) → IsSteady w s → slice_get (slice_index_or s.fresh to []) i ≡ Some entry → EntryIsRight w to (length w.levels) entry
 fresh-right w s to i entry steady at = steady.each to (length w.levels) i entry (ap (λ (list : List Entry). slice_get list i) (kept_at-last w.levels s.fresh to) ∙ at)
 
 filled-occurrence : (to : ℕ) (all : List Expr) → filled (Occurrence to) all ≡ first_of all
@@ -56,7 +56,7 @@ unfolding filled
 filled-occurrence to all = refl
 
 -- a kept term is right also along a chain rule
-pub chained-right : (w : World) (n rule to size : ℕ) (entry : Entry) → IsChainRule w.syntax n rule to → IsRight w to size entry → IsRight w n size (chained rule entry)
+pub chained-right : (w : World) (n rule to size : ℕ) (entry : Entry) → IsChainRule w.syntax n rule to → EntryIsRight w to size entry → EntryIsRight w n size (chained rule entry)
 chained-right w n rule to size entry is right = record {
   sized = right.sized;
   sound = record {
@@ -68,31 +68,31 @@ chained-right w n rule to size entry is right = record {
 }
 
 -- the kept term at a place of the size
-pub passed-right : (w : World) (s : State) (n rule to place size : ℕ) (entry : Entry) → IsSteady w s → size ≡ length w.levels → IsChainRule w.syntax n rule to → Some entry ≡ slice_get (slice_index_or s.fresh to []) place →
-    IsRight w n size (chained rule entry)
+pub passed-right : (w : World) (s : LevelState) (n rule to place size : ℕ) (entry : Entry) → IsSteady w s → size ≡ length w.levels → IsChainRule w.syntax n rule to → Some entry ≡ slice_get (slice_index_or s.fresh to []) place →
+    EntryIsRight w n size (chained rule entry)
 passed-right w s n rule to place size entry steady is chain at =
-    chained-right w n rule to size entry chain (subst (λ k. IsRight w to k entry) (sym is) (fresh-right w s to place entry steady (sym at)))
+    chained-right w n rule to size entry chain (subst (λ k. EntryIsRight w to k entry) (sym is) (fresh-right w s to place entry steady (sym at)))
 
 -- where a kept term has its row
-pub passed-found : (w : World) (s : State) (n to place size : ℕ) (here : Entry) → IsSteady w s → size ≡ length w.levels → Some here ≡ slice_get (slice_index_or s.fresh to []) place →
-    ((other : Entry) × IsKept (all w s) n other × (other.row ≡ here.row)) → (entry : Entry) → slice_get (slice_index_or s.fresh to []) place ≡ Some entry → IsDone w s n size entry.term
+pub passed-found : (w : World) (s : LevelState) (n to place size : ℕ) (here : Entry) → IsSteady w s → size ≡ length w.levels → Some here ≡ slice_get (slice_index_or s.fresh to []) place →
+    ((other : Entry) × IsKept (all_levels w s) n other × (other.row ≡ here.row)) → (entry : Entry) → slice_get (slice_index_or s.fresh to []) place ≡ Some entry → TermIsDone w s n size entry.term
 passed-found w s n to place size here steady is at found entry same =
     let right = fresh-right w s to place here steady (sym at) in
     let done = found-done w s n here.term here.row steady right.row found in
     let equal : here ≡ entry = same_Some here entry (at ∙ same) in
-    subst (λ (e : Entry). IsDone w s n size e.term) equal (subst (λ k. IsDone w s n k here.term) (sym is) done)
+    subst (λ (e : Entry). TermIsDone w s n size e.term) equal (subst (λ k. TermIsDone w s n k here.term) (sym is) done)
 
 -- the first ones of these kept terms are done
-abbrev pub AreDoneBelow : World → List Entry → State → ℕ → ℕ → ℕ → Type 0
-AreDoneBelow w entries s n size count = (i : ℕ) (entry : Entry) → i < count → slice_get entries i ≡ Some entry → IsDone w s n size entry.term
+abbrev pub AreDoneBelow : World → List Entry → LevelState → ℕ → ℕ → ℕ → Type 0
+AreDoneBelow w entries s n size count = (i : ℕ) (entry : Entry) → i < count → slice_get entries i ≡ Some entry → TermIsDone w s n size entry.term
 
 -- where nothing new is kept in two steps, none is in the first and the second
-pub unchanged : (w : World) (r s t : State) → Grows w r s → Grows w s t → r.count ≡ t.count → (r.count ≡ s.count) × (s.count ≡ t.count)
+pub unchanged : (w : World) (r s t : LevelState) → LevelGrows w r s → LevelGrows w s t → r.count ≡ t.count → (r.count ≡ s.count) × (s.count ≡ t.count)
 unchanged w r s t one two same = (omega (arith, one.counted, two.counted, same), omega (arith, one.counted, two.counted, same))
 
 -- one kept term more
-pub below-next : (w : World) (r s t : State) (n to size count : ℕ) → Grows w r s → Grows w s t → (r.count ≡ s.count → AreDoneBelow w (slice_index_or r.fresh to []) s n size count) →
-    ((entry : Entry) → slice_get (slice_index_or s.fresh to []) count ≡ Some entry → IsDone w t n size entry.term) →
+pub below-next : (w : World) (r s t : LevelState) (n to size count : ℕ) → LevelGrows w r s → LevelGrows w s t → (r.count ≡ s.count → AreDoneBelow w (slice_index_or r.fresh to []) s n size count) →
+    ((entry : Entry) → slice_get (slice_index_or s.fresh to []) count ≡ Some entry → TermIsDone w t n size entry.term) →
     r.count ≡ t.count → AreDoneBelow w (slice_index_or r.fresh to []) t n size (count + 1)
 below-next w r s t n to size count one two before done same i entry below at =
     let still = unchanged w r s t one two same in
@@ -102,30 +102,30 @@ below-next w r s t n to size count one two before done same i entry below at =
     ]
 
 -- all kept terms of the size
-pub below-all : (w : World) (r t : State) (n to size count : ℕ) → IsSteady w t → Grows w r t → size ≡ length w.levels → length (slice_index_or r.fresh to []) ≤ count →
+pub below-all : (w : World) (r t : LevelState) (n to size count : ℕ) → IsSteady w t → LevelGrows w r t → size ≡ length w.levels → length (slice_index_or r.fresh to []) ≤ count →
     (r.count ≡ t.count → AreDoneBelow w (slice_index_or r.fresh to []) t n size count) → r.count ≡ t.count → IsPassed w t n to size
 below-all w r t n to size count steady grows is whole done same entry kept sized =
     let right = steady.each to kept.size kept.place entry kept.at in
     let level : kept.size ≡ length w.levels = sym right.sized ∙ sized ∙ is in
     let fresh : slice_get (slice_index_or t.fresh to []) kept.place ≡ Some entry =
-    sym (ap (λ (list : List Entry). slice_get list kept.place) (kept_at-last w.levels t.fresh to)) ∙ sym (ap (λ (k : ℕ). slice_get (kept_at (all w t) to k) kept.place) level) ∙ kept.at in
+    sym (ap (λ (list : List Entry). slice_get list kept.place) (kept_at-last w.levels t.fresh to)) ∙ sym (ap (λ (k : ℕ). slice_get (kept_at (all_levels w t) to k) kept.place) level) ∙ kept.at in
     let at : slice_get (slice_index_or r.fresh to []) kept.place ≡ Some entry =
     ap (λ (lists : List (List Entry)). slice_get (slice_index_or lists to []) kept.place) (grows.same same) ∙ fresh in
     let below = slice_get_within (slice_index_or r.fresh to []) kept.place entry at in
     done same kept.place entry (omega (arith, below, whole)) at
 
 -- what is passed stays so where nothing new is kept
-pub passed-on : (w : World) (s t : State) (n to size : ℕ) → Grows w s t → s.count ≡ t.count → IsPassed w s n to size → IsPassed w t n to size
+pub passed-on : (w : World) (s t : LevelState) (n to size : ℕ) → LevelGrows w s t → s.count ≡ t.count → IsPassed w s n to size → IsPassed w t n to size
 passed-on w s t n to size grows same passed entry kept sized =
     let fresh = grows.same same in
-    let at = ap (λ (lists : List (List Entry)). slice_get (kept_at (all w (record s { fresh = lists })) to kept.size) kept.place) fresh ∙ kept.at in
+    let at = ap (λ (lists : List (List Entry)). slice_get (kept_at (all_levels w (record s { fresh = lists })) to kept.size) kept.place) fresh ∙ kept.at in
     done-on w s t n size entry.term grows (passed entry (record { size = kept.size; place = kept.place; at = at }) sized)
 
 -- along the first rules of a nonterminal
-abbrev pub ArePassedBelow : World → State → ℕ → ℕ → ℕ → Type 0
+abbrev pub ArePassedBelow : World → LevelState → ℕ → ℕ → ℕ → Type 0
 ArePassedBelow w s n size count = (rule to : ℕ) → rule < count → rule_at w.syntax n rule ≡ Some (Template (Occurrence to)) → IsPassed w s n to size
 
-pub rules-next : (w : World) (r s t : State) (n size count : ℕ) → Grows w r s → Grows w s t → (r.count ≡ s.count → ArePassedBelow w s n size count) →
+pub rules-next : (w : World) (r s t : LevelState) (n size count : ℕ) → LevelGrows w r s → LevelGrows w s t → (r.count ≡ s.count → ArePassedBelow w s n size count) →
     (s.count ≡ t.count → (to : ℕ) → rule_at w.syntax n count ≡ Some (Template (Occurrence to)) → IsPassed w t n to size) →
     r.count ≡ t.count → ArePassedBelow w t n size (count + 1)
 rules-next w r s t n size count one two before done same rule to below at =
@@ -136,7 +136,7 @@ rules-next w r s t n size count one two before done same rule to below at =
     ]
 
 -- along all rules of a nonterminal
-pub rules-all : (w : World) (t : State) (n size count : ℕ) (productions : List Production) → ((rule : ℕ) → rule_at w.syntax n rule ≡ slice_get productions rule) → length productions ≤ count → ArePassedBelow w t n size count →
+pub rules-all : (w : World) (t : LevelState) (n size count : ℕ) (productions : List Production) → ((rule : ℕ) → rule_at w.syntax n rule ≡ slice_get productions rule) → length productions ≤ count → ArePassedBelow w t n size count →
     (rule to : ℕ) → rule_at w.syntax n rule ≡ Some (Template (Occurrence to)) → IsPassed w t n to size
 rules-all w t n size count productions same whole done rule to at =
     let below = slice_get_within productions rule (Template (Occurrence to)) (sym (same rule) ∙ at) in
@@ -147,10 +147,10 @@ pub one-named : (first second : ℕ) (production : Production) → production �
 one-named first second production is at = let same = sym (ap Some is) ∙ at in cc
 
 -- along the rules of the first nonterminals
-abbrev pub AllPassedBelow : World → State → ℕ → ℕ → Type 0
+abbrev pub AllPassedBelow : World → LevelState → ℕ → ℕ → Type 0
 AllPassedBelow w s size count = (n rule to : ℕ) → n < count → rule_at w.syntax n rule ≡ Some (Template (Occurrence to)) → IsPassed w s n to size
 
-pub nonterminals-next : (w : World) (r s t : State) (size count : ℕ) → Grows w r s → Grows w s t → (r.count ≡ s.count → AllPassedBelow w s size count) →
+pub nonterminals-next : (w : World) (r s t : LevelState) (size count : ℕ) → LevelGrows w r s → LevelGrows w s t → (r.count ≡ s.count → AllPassedBelow w s size count) →
     (s.count ≡ t.count → (rule to : ℕ) → rule_at w.syntax count rule ≡ Some (Template (Occurrence to)) → IsPassed w t count to size) →
     r.count ≡ t.count → AllPassedBelow w t size (count + 1)
 nonterminals-next w r s t size count one two before done same n rule to below at =
@@ -161,7 +161,7 @@ nonterminals-next w r s t size count one two before done same n rule to below at
     ]
 
 -- along all rules
-pub nonterminals-all : (w : World) (t : State) (size count : ℕ) → length w.syntax.nonterminals ≤ count → AllPassedBelow w t size count → ArePassed w t size
+pub nonterminals-all : (w : World) (t : LevelState) (size count : ℕ) → length w.syntax.nonterminals ≤ count → AllPassedBelow w t size count → ArePassed w t size
 nonterminals-all w t size count whole done n rule to at = done n rule to (each (slice_get w.syntax.nonterminals n) refl at) at
   where
     each : (o : Option Nonterminal) → slice_get w.syntax.nonterminals n ≡ o → rule_of o rule ≡ Some (Template (Occurrence to)) → n < count

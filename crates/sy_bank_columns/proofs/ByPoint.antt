@@ -20,7 +20,7 @@ use Rattle.sy_terms_laws.specs.Evaluation.{HasValue, HaveValues}
 use Rattle.sy_terms_laws.proofs.Equations.{with_sort_Some, both_true}
 use Rattle.sy_terms_laws.proofs.Steps.{map-both}
 use Rattle.sy_bank_rows.specs.Columns.{column, constants, AreSized, HasRow, HaveRows}
-use Rattle.sy_bank_columns.specs.Found.{IsApplied}
+use Rattle.sy_bank_columns.specs.Found.{IsColumnOf}
 
 sorts-last : (scope : Scope) (ss : List Sort) (terms : Exprs) (last : Expr) (found : List Sort) (s : Sort) → sorts_in scope ss terms ≡ Some found → sort_in scope ss last ≡ Some s → sorts_in scope ss (append terms (expr.more last expr.none)) ≡ Some (found ++ s ∷ [])
 unfolding sorts_in
@@ -114,8 +114,8 @@ below_or zero (suc k) within = inl (omega arith)
 below_or (suc j) zero within = absurd (omega arith)
 below_or (suc j) (suc k) within = elim (below_or j k (omega arith)) [ inl before ↦ inl (omega arith) | inr same ↦ inr (ap suc same) ]
 
-pub applied-next : (operator : Op) (rows : List (List Val)) (k : ℕ) (row : List Val) (v : Val) → IsApplied operator rows k row →
-    (valid v ≡ true) × (fits operator (column rows k) ≡ true) × (v ≡ op_value operator (column rows k)) → IsApplied operator rows (k + 1) (row ++ v ∷ [])
+pub applied-next : (operator : Op) (rows : List (List Val)) (k : ℕ) (row : List Val) (v : Val) → IsColumnOf operator rows k row →
+    (valid v ≡ true) × (fits operator (column rows k) ≡ true) × (v ≡ op_value operator (column rows k)) → IsColumnOf operator rows (k + 1) (row ++ v ∷ [])
 applied-next operator rows k row v found is = record {
   sized = length-last row v ∙ ap (λ n. n + 1) found.sized;
   each = λ j within. elim (below_or j k within) [

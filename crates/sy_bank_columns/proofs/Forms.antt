@@ -17,7 +17,7 @@ use Rattle.sy_terms.specs.declared.sort.Value.{Value}
 use Rattle.sy_terms.specs.declared.term.Def.{Def}
 use Rattle.sy_terms.specs.declared.term.Fun.{Fun}
 use Rattle.sy_terms.specs.declared.term.Fun.TheVariants.{Defined}
-use Rattle.sy_terms_laws.specs.Evaluation.{TermFits, HasValue, HaveValues, FitsWith, Gives, can_compute}
+use Rattle.sy_terms_laws.specs.Evaluation.{TermFits, HasValue, HaveValues, FitsWith, GivesValue, can_compute}
 use Rattle.sy_terms_laws.proofs.Cases as cases
 use Rattle.sy_terms_laws.proofs.Equations.{value_at_position_is}
 use Rattle.sy_terms_laws.proofs.OperatorSorts.{op_value-sort}
@@ -36,7 +36,7 @@ use Rattle.sy_bank_columns.specs.declared.ends.RowEnd.{RowEnd}
 use Rattle.sy_bank_columns.specs.declared.ends.RowEnd.TheVariants.{Lost, Want}
 use Rattle.sy_bank_rows.proofs.Fillings.{filled-Constant, filled-Variable, filled-Occurrence, filled-Apply, filled-Invoke}
 use Rattle.sy_bank_columns.proofs.Fillings.{first-chosen}
-use Rattle.sy_bank_columns.specs.Found.{IsApplied, IsOneLostAt, WhereLost, IsLoss}
+use Rattle.sy_bank_columns.specs.Found.{IsColumnOf, IsOneLostAt, WhereLost, IsLoss}
 
 -- what is at a place of a list
 pub point-at : {X : Type 0} (points : List X) (k : ℕ) → k < length points → (point : X) × (slice_get points k ≡ Some point)
@@ -92,7 +92,7 @@ apply-sorted scope defined points operator arguments rows fit have k within =
     cases.Apply-sorted (fit k p.0 p.1) (have.each k p.0 p.1)
 
 pub apply-row : (scope : Scope) (defined : List Function) (points : List (List Val)) (operator : Op) (arguments : Exprs) (rows : List (List Val)) (row : List Val) →
-    FitsAt scope points (Apply operator arguments) → HaveRows scope defined points arguments rows → IsApplied operator rows (length points) row → HasRow scope defined points (Apply operator arguments) row
+    FitsAt scope points (Apply operator arguments) → HaveRows scope defined points arguments rows → IsColumnOf operator rows (length points) row → HasRow scope defined points (Apply operator arguments) row
 apply-row scope defined points operator arguments rows row fit have found = record {
   sized = found.sized;
   each = λ k point at.
@@ -166,7 +166,7 @@ same-call scope defined point function arguments values have = (
 
 pub call-row : {T N : Type 0} (owned : Op → Bool) (number : N → Val) (defs : List (Def T N)) (points : List (List Val)) (function : Fun) (arguments : Exprs) (rows : List (List Val)) (row : List Val) →
     FitsAt (scope_of owned defs) points (Invoke function arguments) → HaveRows (scope_of owned defs) (functions (bodies number defs)) points arguments rows → length row ≡ length points →
-    ((k : ℕ) → k < length points → Gives owned number defs [] [] (Invoke function (constants (column rows k))) (value_at_position row k)) →
+    ((k : ℕ) → k < length points → GivesValue owned number defs [] [] (Invoke function (constants (column rows k))) (value_at_position row k)) →
     HasRow (scope_of owned defs) (functions (bodies number defs)) points (Invoke function arguments) row
 call-row owned number defs points function arguments rows row fit have sized gives = record {
   sized = sized;

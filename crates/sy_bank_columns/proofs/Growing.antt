@@ -10,7 +10,7 @@ use Rattle.sy_terms.specs.declared.term.Term.{Term}
 use Rattle.sy_grammar_base.specs.Trees as trees
 use Rattle.sy_bank_rows.specs.Covering.{terms}
 use Rattle.sy_bank_rows.specs.Stored.{entry_of, chosen_of}
-use Rattle.sy_bank_rows.specs.Shared.{term_from, tree_from, terms_from, trees_from}
+use Rattle.sy_bank_rows.specs.Shared.{term_from, tree_from, terms_from, shared_trees}
 use Rattle.sy_bank_rows.proofs.Copies.{with_last, terms_from-last, trees_from-last}
 use Rattle.sy_bank_rows.specs.declared.grown.Grown.{Grown}
 use Rattle.sy_bank_rows.specs.declared.kept.Kept.{Kept}
@@ -41,6 +41,6 @@ terms-next number chosen i kept growns shared within is same so_far =
     rw (take_more chosen i kept within, ← is, terms-last number (take i chosen) kept, terms_from-last number growns shared, so_far, same) refl
 
 pub trees-next : {T N : Type 0} (number : N → Val) (chosen : List (Bor (Kept T N))) (i : ℕ) (kept : Bor (Kept T N)) (growns : List (Rc (Grown T N) Global)) (shared : Rc (Grown T N) Global) → i < length chosen → kept ≡ get_or chosen i kept →
-    shared.value ≡ kept.now.grown.value → trees_from number growns ≡ children (chosen_of number (take i chosen)) → trees_from number (growns ++ shared ∷ []) ≡ children (chosen_of number (take (i + 1) chosen))
+    shared.value ≡ kept.now.grown.value → shared_trees number growns ≡ children (chosen_of number (take i chosen)) → shared_trees number (growns ++ shared ∷ []) ≡ children (chosen_of number (take (i + 1) chosen))
 trees-next number chosen i kept growns shared within is same so_far =
     rw (take_more chosen i kept within, ← is, children-last number (take i chosen) kept, trees_from-last number growns shared, so_far, same) refl

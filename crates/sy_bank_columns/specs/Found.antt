@@ -21,7 +21,7 @@ WhereLost (Lost point) is = is point
 WhereLost Want is = Unit {0}
 
 -- the operator's values at the columns of the rows, each of which fits
-pub record IsApplied (operator : Op) (rows : List (List Val)) (count : ℕ) (row : List Val) : Type 0 where
+pub record IsColumnOf (operator : Op) (rows : List (List Val)) (count : ℕ) (row : List Val) : Type 0 where
   pub sized : length row ≡ count
   pub each : (k : ℕ) → k < count →
       (valid (value_at_position row k) ≡ true) × (fits operator (column rows k) ≡ true) × (value_at_position row k ≡ op_value operator (column rows k))

@@ -3,6 +3,6 @@ use Rattle.std.specs.Prelude.{List}
 use Rattle.sy_bank_columns.specs.declared.lent.Row.{Row}
 use Rattle.sy_bank_columns.specs.declared.lent.Row.TheVariants.{Lent, Own}
 
-abbrev pub values_of : {V : Type 0} → Row V → List V
-values_of (Lent values) = values.now
-values_of (Own values) = values.items
+abbrev pub row_values : {V : Type 0} → Row V → List V
+row_values (Lent values) = values.now
+row_values (Own values) = values.items

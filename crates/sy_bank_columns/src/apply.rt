@@ -4,8 +4,8 @@ ghost use Rattle.sy_terms.specs.Denoted.{IsSorted, vals_of};
 ghost use Rattle.sy_terms.specs.Pairs.{ArePairsSorted, ArePairsApplied, IsFirstUnfit};
 ghost use Rattle.sy_terms.specs.Theories.{fits};
 ghost use Rattle.sy_bank_rows.specs.Columns.{column, AreSized};
-ghost use Rattle.sy_bank_columns.specs.Lent.{values_of};
-ghost use Rattle.sy_bank_columns.specs.Found.{IsApplied, WhereLost};
+ghost use Rattle.sy_bank_columns.specs.Lent.{row_values};
+ghost use Rattle.sy_bank_columns.specs.Found.{IsColumnOf, WhereLost};
 
 use crate::ends::{RowEnd, lost_at};
 use crate::lent::Row;
@@ -19,9 +19,9 @@ pub fn fill<T: Theory>(
     count: usize,
     values: &mut Vec<Value<T::Num>>,
 ) -> Result<(), AllocError>
-    requires sized { AreSized count (map (λ row. vals_of T.denotes (values_of row)) rows.now) }
+    requires sized { AreSized count (map (λ row. vals_of T.denotes (row_values row)) rows.now) }
     requires within { number < count }
-    ensures { OnOk result (vals_of T.denotes values.new.items ≡ column (map (λ row. vals_of T.denotes (values_of row)) rows.now) number) }
+    ensures { OnOk result (vals_of T.denotes values.new.items ≡ column (map (λ row. vals_of T.denotes (row_values row)) rows.now) number) }
 {
     values.clear();
     for row in rows {
@@ -38,10 +38,10 @@ pub fn applied_row<T: Theory>(
     count: usize,
 ) -> Result<Vec<Value<T::Num>>, RowEnd>
     requires owned { (k : ℕ) → k < count → T.owned operator.now ≡ true }
-    requires sized { AreSized count (map (λ row. vals_of T.denotes (values_of row)) rows.now) }
-    requires sorted { (k : ℕ) → k < count → IsSorted operator.now (column (map (λ row. vals_of T.denotes (values_of row)) rows.now) k) }
-    ensures ok { IfOk result (λ found. IsApplied operator.now (map (λ row. vals_of T.denotes (values_of row)) rows.now) count (vals_of T.denotes found.items)) }
-    ensures lost { IfErr result (λ end. WhereLost end (λ k. (k < count) × (fits operator.now (column (map (λ row. vals_of T.denotes (values_of row)) rows.now) k) ≡ false))) }
+    requires sized { AreSized count (map (λ row. vals_of T.denotes (row_values row)) rows.now) }
+    requires sorted { (k : ℕ) → k < count → IsSorted operator.now (column (map (λ row. vals_of T.denotes (row_values row)) rows.now) k) }
+    ensures ok { IfOk result (λ found. IsColumnOf operator.now (map (λ row. vals_of T.denotes (row_values row)) rows.now) count (vals_of T.denotes found.items)) }
+    ensures lost { IfErr result (λ end. WhereLost end (λ k. (k < count) × (fits operator.now (column (map (λ row. vals_of T.denotes (row_values row)) rows.now) k) ≡ false))) }
 {
     let mut found = Vec::with_capacity(alloc, count)?;
     let mut values = Vec::with_capacity(alloc, rows.len())?;

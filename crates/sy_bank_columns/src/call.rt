@@ -5,9 +5,9 @@ ghost use Rattle.sy_terms.specs.Definitions.{DefinitionsFit};
 ghost use Rattle.sy_terms.specs.Expr.{Invoke};
 ghost use Rattle.sy_terms.specs.Meaning.{value_at_position};
 ghost use Rattle.sy_terms.specs.declared.term.Fun.TheVariants.{Defined};
-ghost use Rattle.sy_terms_laws.specs.Evaluation.{FitsWith, Gives, can_compute};
+ghost use Rattle.sy_terms_laws.specs.Evaluation.{FitsWith, GivesValue, can_compute};
 ghost use Rattle.sy_bank_rows.specs.Columns.{column, constants, AreSized};
-ghost use Rattle.sy_bank_columns.specs.Lent.{values_of};
+ghost use Rattle.sy_bank_columns.specs.Lent.{row_values};
 ghost use Rattle.sy_bank_columns.specs.Found.{WhereLost};
 
 use crate::ends::{RowEnd, lost_at};
@@ -24,9 +24,9 @@ fn call_at<T: Theory>(
     number: usize,
     count: usize,
 ) -> Result<Term<T>, AllocError>
-    requires sized { AreSized count (map (λ row. vals_of T.denotes (values_of row)) rows.now) }
+    requires sized { AreSized count (map (λ row. vals_of T.denotes (row_values row)) rows.now) }
     requires within { number < count }
-    ensures { IfOk result (λ term. expr_of T.denotes term ≡ Invoke (Defined definition) (constants (column (map (λ row. vals_of T.denotes (values_of row)) rows.now) number))) }
+    ensures { IfOk result (λ term. expr_of T.denotes term ≡ Invoke (Defined definition) (constants (column (map (λ row. vals_of T.denotes (row_values row)) rows.now) number))) }
 {
     let mut arguments = Terms::with_capacity(alloc, rows.len())?;
     for row in rows {
@@ -44,11 +44,11 @@ pub fn called_row<T: Theory>(
     count: usize,
 ) -> Result<Vec<Value<T::Num>>, RowEnd>
     requires definitions { DefinitionsFit T.owned T.denotes defs.now }
-    requires sized { AreSized count (map (λ row. vals_of T.denotes (values_of row)) rows.now) }
-    requires fit { (k : ℕ) → k < count → FitsWith T.owned T.denotes defs.now [] [] (Invoke (Defined definition) (constants (column (map (λ row. vals_of T.denotes (values_of row)) rows.now) k))) }
+    requires sized { AreSized count (map (λ row. vals_of T.denotes (row_values row)) rows.now) }
+    requires fit { (k : ℕ) → k < count → FitsWith T.owned T.denotes defs.now [] [] (Invoke (Defined definition) (constants (column (map (λ row. vals_of T.denotes (row_values row)) rows.now) k))) }
     ensures sized { IfOk result (λ found. length found.items ≡ count) }
-    ensures ok { IfOk result (λ found. (k : ℕ) → k < count → Gives T.owned T.denotes defs.now [] [] (Invoke (Defined definition) (constants (column (map (λ row. vals_of T.denotes (values_of row)) rows.now) k))) (value_at_position (vals_of T.denotes found.items) k)) }
-    ensures lost { IfErr result (λ end. WhereLost end (λ k. (k < count) × (can_compute T.denotes defs.now [] [] (Invoke (Defined definition) (constants (column (map (λ row. vals_of T.denotes (values_of row)) rows.now) k))) ≡ false))) }
+    ensures ok { IfOk result (λ found. (k : ℕ) → k < count → GivesValue T.owned T.denotes defs.now [] [] (Invoke (Defined definition) (constants (column (map (λ row. vals_of T.denotes (row_values row)) rows.now) k))) (value_at_position (vals_of T.denotes found.items) k)) }
+    ensures lost { IfErr result (λ end. WhereLost end (λ k. (k < count) × (can_compute T.denotes defs.now [] [] (Invoke (Defined definition) (constants (column (map (λ row. vals_of T.denotes (row_values row)) rows.now) k))) ≡ false))) }
 {
     let mut found = Vec::with_capacity(alloc, count)?;
     let nothing = Vec::new(alloc);

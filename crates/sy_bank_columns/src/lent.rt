@@ -11,11 +11,11 @@ pub enum Row<'a, V> {
 
 impl<'a, V> Row<'a, V> {
     ghost use Rattle.std.specs.Prelude.{◌≡◌};
-    ghost use Rattle.sy_bank_columns.specs.Lent.{values_of};
+    ghost use Rattle.sy_bank_columns.specs.Lent.{row_values};
 
     /// Its values.
     pub fn as_slice(&self) -> &[V]
-        ensures { result.now ≡ values_of self.now }
+        ensures { result.now ≡ row_values self.now }
     {
         match self {
             Row::Lent(values) => values,
@@ -26,11 +26,11 @@ impl<'a, V> Row<'a, V> {
 
 impl<'a, V: Copy + Drop> Row<'a, V> {
     ghost use Rattle.std.specs.Prelude.{◌≡◌, IfOk};
-    ghost use Rattle.sy_bank_columns.specs.Lent.{values_of};
+    ghost use Rattle.sy_bank_columns.specs.Lent.{row_values};
 
     /// Its values as a list. Those that are lent are copied. On `Want` the row is dropped.
     pub fn into_values(self, alloc: Global) -> Result<Seq<V>, Want>
-        ensures { IfOk result (λ values. values ≡ values_of self.entry) }
+        ensures { IfOk result (λ values. values ≡ row_values self.entry) }
     {
         match self {
             Row::Lent(values) => {

@@ -14,7 +14,7 @@ ghost use Rattle.sy_bank_rows.specs.Covering.{terms};
 ghost use Rattle.sy_bank_rows.specs.Columns.{FitsAt, FitAt, HasRow, HaveRows};
 ghost use Rattle.sy_bank_rows.specs.Stored.{chosen_of};
 ghost use Rattle.sy_bank_columns.specs.Chosen.{AreRows, ArePoints};
-ghost use Rattle.sy_bank_columns.specs.Lent.{values_of};
+ghost use Rattle.sy_bank_columns.specs.Lent.{row_values};
 ghost use Rattle.sy_bank_columns.specs.Found.{WhereLost, IsOneLostAt};
 
 use crate::apply::{applied_row, pair_row};
@@ -68,7 +68,7 @@ pub fn part_row<'a, T: Theory>(
     requires rows { AreRows (scope_of T.owned defs.now) (functions (bodies T.denotes defs.now)) (map (vals_of T.denotes) points.now) (chosen_of T.denotes chosen.now) }
     requires enough { length (occurring (pattern_of T.denotes part.now)) ≤ length chosen.now }
     requires fits { FitsAt (scope_of T.owned defs.now) (map (vals_of T.denotes) points.now) (filled (pattern_of T.denotes part.now) (terms (chosen_of T.denotes chosen.now))) }
-    ensures ok { IfOk result (λ row. HasRow (scope_of T.owned defs.now) (functions (bodies T.denotes defs.now)) (map (vals_of T.denotes) points.now) (filled (pattern_of T.denotes part.now) (terms (chosen_of T.denotes chosen.now))) (vals_of T.denotes (values_of row))) }
+    ensures ok { IfOk result (λ row. HasRow (scope_of T.owned defs.now) (functions (bodies T.denotes defs.now)) (map (vals_of T.denotes) points.now) (filled (pattern_of T.denotes part.now) (terms (chosen_of T.denotes chosen.now))) (vals_of T.denotes (row_values row))) }
     ensures lost { IfErr result (λ end. WhereLost end (IsLostAt (functions (bodies T.denotes defs.now)) (map (vals_of T.denotes) points.now) (filled (pattern_of T.denotes part.now) (terms (chosen_of T.denotes chosen.now))))) }
 {
     match part {
@@ -144,7 +144,7 @@ fn part_rows<'a, T: Theory>(
     requires rows { AreRows (scope_of T.owned defs.now) (functions (bodies T.denotes defs.now)) (map (vals_of T.denotes) points.now) (chosen_of T.denotes chosen.now) }
     requires enough { length (all_occurring (patterns_of T.denotes parts.now.items.items)) ≤ length chosen.now }
     requires fit { FitAt (scope_of T.owned defs.now) (map (vals_of T.denotes) points.now) (all_filled (patterns_of T.denotes parts.now.items.items) (terms (chosen_of T.denotes chosen.now))) }
-    ensures ok { IfOk result (λ rows. HaveRows (scope_of T.owned defs.now) (functions (bodies T.denotes defs.now)) (map (vals_of T.denotes) points.now) (all_filled (patterns_of T.denotes parts.now.items.items) (terms (chosen_of T.denotes chosen.now))) (map (λ row. vals_of T.denotes (values_of row)) rows.items)) }
+    ensures ok { IfOk result (λ rows. HaveRows (scope_of T.owned defs.now) (functions (bodies T.denotes defs.now)) (map (vals_of T.denotes) points.now) (all_filled (patterns_of T.denotes parts.now.items.items) (terms (chosen_of T.denotes chosen.now))) (map (λ row. vals_of T.denotes (row_values row)) rows.items)) }
     ensures lost { IfErr result (λ end. WhereLost end (IsOneLostAt (functions (bodies T.denotes defs.now)) (map (vals_of T.denotes) points.now) (all_filled (patterns_of T.denotes parts.now.items.items) (terms (chosen_of T.denotes chosen.now))))) }
 {
     let mut rows = Vec::with_capacity(alloc, parts.len())?;

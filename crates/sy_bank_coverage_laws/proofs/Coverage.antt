@@ -6,9 +6,9 @@ use Rattle.sy_terms.specs.Expr.{Expr}
 use Rattle.sy_terms.specs.Meaning.{Function}
 use Rattle.sy_grammar_base.specs.Patterns.{Pattern, occurring, filled, own_size}
 use Rattle.sy_grammar_base.specs.Trees as trees
-use Rattle.sy_grammar_base.specs.Trees.{Syntax, Production, Template, EachConstant, EachVariable, Tree, Trees, Node, ConstantLeaf, VariableLeaf, Derives, rule_at, node_yield, constant_yield, variable_yield, joined, yield_from, yields_from, tree_size, tree_sizes, node_size, constant_size}
+use Rattle.sy_grammar_base.specs.Trees.{Syntax, Production, Template, EachConstant, EachVariable, Tree, Trees, Node, ConstantLeaf, VariableLeaf, Derives, rule_at, node_yield, constant_yield, variable_yield, terms_joined, yield_from, yields_from, tree_size, tree_sizes, node_size, constant_size}
 use Rattle.sy_bank_rows.specs.Rows.{IsRow}
-use Rattle.sy_bank_rows.specs.Banks.{Entry, Merged, IsKept, IsHonest}
+use Rattle.sy_bank_rows.specs.Banks.{Entry, Merged, IsKept, IsHonestBank}
 use Rattle.sy_bank_rows.specs.Covering.{IsCovered, Covers, AreKept, sizes, terms, Offers, IsSaturated}
 use Rattle.sy_bank_coverage_laws.proofs.Alike.{AllAlike, filled_alike, rows_alike, row_of_alike}
 
@@ -26,7 +26,7 @@ record IsJoined (first : Option Expr) (rest : Option (List Expr)) (found : List 
   pub rest_is : rest ≡ Some more
   pub whole : found ≡ term ∷ more
 
-parted : (first : Option Expr) (rest : Option (List Expr)) (found : List Expr) → joined first rest ≡ Some found → IsJoined first rest found
+parted : (first : Option Expr) (rest : Option (List Expr)) (found : List Expr) → terms_joined first rest ≡ Some found → IsJoined first rest found
 parted None rest found e = cc
 parted (Some term) None found e = cc
 parted (Some term) (Some more) found e = record { term = term; more = more; first_is = refl; rest_is = refl; whole = cc }
@@ -41,7 +41,7 @@ filled_by pattern None term e = cc
 filled_by pattern (Some found) term e = record { found = found; parts_are = refl; whole = cc }
 
 -- a kept term has its row
-kept_row : (syntax : Syntax) (defined : List Function) (pool : List Val) (bank : Merged) (nonterminal : ℕ) (entry : Entry) → IsHonest syntax defined pool bank → IsKept bank.levels nonterminal entry → IsRow defined bank.points entry.term entry.row
+kept_row : (syntax : Syntax) (defined : List Function) (pool : List Val) (bank : Merged) (nonterminal : ℕ) (entry : Entry) → IsHonestBank syntax defined pool bank → IsKept bank.levels nonterminal entry → IsRow defined bank.points entry.term entry.row
 kept_row syntax defined pool bank nonterminal entry honest kept = (honest.each nonterminal kept.size kept.place entry kept.at).1.row
 
 -- where kept terms match the parts of a template, what the rule gives of the kept terms matches what it gives of the parts
@@ -65,7 +65,7 @@ matched syntax defined pool bank nonterminal rule pattern size found saturated a
 
 -- one part more
 also_covered : (syntax : Syntax) (defined : List Function) (pool : List Val) (bank : Merged) (nonterminal : ℕ) (nonterminals : List ℕ) (size others : ℕ) (term : Expr) (more : List Expr) →
-    IsHonest syntax defined pool bank → IsCovered defined bank.points bank.levels nonterminal size term → AreCovered syntax defined bank nonterminals others more →
+    IsHonestBank syntax defined pool bank → IsCovered defined bank.points bank.levels nonterminal size term → AreCovered syntax defined bank nonterminals others more →
     AreCovered syntax defined bank (nonterminal ∷ nonterminals) (size + others) (term ∷ more)
 also_covered syntax defined pool bank nonterminal nonterminals size others term more honest one rest =
     let a = one.small in
@@ -113,7 +113,7 @@ node_covered syntax defined pool bank saturated nonterminal rule (Some (Template
 mutual
   unfolding yield_from yields_from tree_size tree_sizes
 
-  covered : (syntax : Syntax) (defined : List Function) (pool : List Val) (bank : Merged) → IsHonest syntax defined pool bank → IsSaturated syntax defined pool bank →
+  covered : (syntax : Syntax) (defined : List Function) (pool : List Val) (bank : Merged) → IsHonestBank syntax defined pool bank → IsSaturated syntax defined pool bank →
       (nonterminal : ℕ) (tree : Tree) (term : Expr) → yield_from syntax nonterminal tree ≡ Some term → tree_size syntax pool nonterminal tree ≤ bank.upto →
       IsCovered defined bank.points bank.levels nonterminal (tree_size syntax pool nonterminal tree) term
   covered syntax defined pool bank honest saturated nonterminal (Node rule children) term e small =
@@ -124,7 +124,7 @@ mutual
   covered syntax defined pool bank honest saturated nonterminal (VariableLeaf rule position) term e small =
       saturated nonterminal rule _ term (variable_offered syntax pool bank (rule_at syntax nonterminal rule) position term e) small
 
-  all_covered : (syntax : Syntax) (defined : List Function) (pool : List Val) (bank : Merged) → IsHonest syntax defined pool bank → IsSaturated syntax defined pool bank →
+  all_covered : (syntax : Syntax) (defined : List Function) (pool : List Val) (bank : Merged) → IsHonestBank syntax defined pool bank → IsSaturated syntax defined pool bank →
       (nonterminals : List ℕ) (children : Trees) (found : List Expr) → yields_from syntax nonterminals children ≡ Some found → tree_sizes syntax pool nonterminals children ≤ bank.upto →
       AreCovered syntax defined bank nonterminals (tree_sizes syntax pool nonterminals children) found
   all_covered syntax defined pool bank honest saturated [] trees.none found e small =
@@ -141,6 +141,6 @@ mutual
 
 -- what is saturated covers every derivation up to the greatest size
 pub saturated_covers : (syntax : Syntax) (defined : List Function) (pool : List Val) (bank : Merged) →
-    IsHonest syntax defined pool bank → IsSaturated syntax defined pool bank → Covers syntax defined pool bank
+    IsHonestBank syntax defined pool bank → IsSaturated syntax defined pool bank → Covers syntax defined pool bank
 saturated_covers syntax defined pool bank honest saturated nonterminal tree term derives small =
     covered syntax defined pool bank honest saturated nonterminal tree term derives small

@@ -7,15 +7,15 @@ use Rattle.sy_terms.specs.Expr.{Expr}
 use Rattle.sy_terms.specs.Meaning.{Function}
 use Rattle.sy_terms.specs.Fitting.{Scope}
 use Rattle.sy_grammar_base.specs.Trees.{Syntax, rule_at}
-use Rattle.sy_bank_rows.specs.Banks.{Entry, Lost, Merged, kept_at, count, IsHonest, IsDropped, IsNew}
+use Rattle.sy_bank_rows.specs.Banks.{Entry, Lost, Merged, kept_at, kept_count, IsHonestBank, IsDropped, IsNewEntry}
 use Rattle.sy_bank_rows.specs.Covering.{IsCovered, Covers, Offers}
-use Rattle.sy_bank_level.specs.Filling.{World, State, all, IsSteady, IsBeyond}
+use Rattle.sy_bank_level.specs.Filling.{World, LevelState, all_levels, IsSteady, IsBeyond}
 use Rattle.sy_bank_level.specs.declared.table.Place.{Place}
 use Rattle.sy_bank_level.proofs.Beginnings.{kept_at-idle, count-idle}
 use Rattle.sy_bank_level.proofs.Kept.{size-within}
 use Rattle.sy_bank_coverage_laws.proofs.Coverage.{saturated_covers}
 use Rattle.sy_bank_growth_laws.specs.Indexed.{IsIndexed}
-use Rattle.sy_bank_growth_laws.specs.Ready.{IsSaturatedBelow, IsReady}
+use Rattle.sy_bank_growth_laws.specs.Ready.{IsSaturatedBelow, BankIsReady}
 use Rattle.sy_bank_growth_laws.specs.Tried.{IsFilled}
 use Rattle.sy_bank_growth_laws.proofs.LevelsLemmas.{kept-more}
 use Rattle.sy_bank_growth_laws.proofs.TriedLemmas.{lower-offers}
@@ -25,15 +25,15 @@ abbrev pub world_at : Scope → Syntax → List Function → List Val → Merged
 world_at scope syntax defined pool bank cap = record { scope = scope; syntax = syntax; defined = defined; pool = pool; points = bank.points; levels = bank.levels; cap = cap }
 
 -- what there is to begin with
-abbrev pub begun : Syntax → Merged → (ℕ → List Place) → ℕ → State
+abbrev pub begun : Syntax → Merged → (ℕ → List Place) → ℕ → LevelState
 begun syntax bank table count = record { fresh = replicate (length syntax.nonterminals) []; table = table; count = count; dropped = bank.dropped }
 
 -- the bank with the kept terms of one size more
-abbrev pub extended : World → ℕ → State → Merged
-extended w upto s = record { points = w.points; upto = upto; levels = all w s; dropped = s.dropped }
+abbrev pub extended : World → ℕ → LevelState → Merged
+extended w upto s = record { points = w.points; upto = upto; levels = all_levels w s; dropped = s.dropped }
 
 pub steady-begun : (scope : Scope) (syntax : Syntax) (defined : List Function) (pool : List Val) (bank : Merged) (cap : ℕ) (table : ℕ → List Place) (number : ℕ) →
-    IsReady scope syntax defined pool bank → IsIndexed bank.levels table number → number ≤ cap → bank.dropped ≡ None →
+    BankIsReady scope syntax defined pool bank → IsIndexed bank.levels table number → number ≤ cap → bank.dropped ≡ None →
     IsSteady (world_at scope syntax defined pool bank cap) (begun syntax bank table number)
 steady-begun scope syntax defined pool bank cap table number ready indexed room none_lost =
     let idle : (n size : ℕ) → kept_at (bank.levels ++ replicate (length syntax.nonterminals) [] ∷ []) n size ≡ kept_at bank.levels n size =
@@ -53,7 +53,7 @@ steady-begun scope syntax defined pool bank cap table number ready indexed room 
       lost = subst (λ (d : Option Lost). IfSome d (IsDropped syntax defined pool bank.points (length bank.levels))) (sym none_lost) tt;
     }
 
-pub indexed-next : (w : World) (s : State) → IsSteady w s → IsIndexed (all w s) s.table s.count
+pub indexed-next : (w : World) (s : LevelState) → IsSteady w s → IsIndexed (all_levels w s) s.table s.count
 indexed-next w s steady = record { counted = steady.counted; placed = steady.placed }
 
 -- a dropped term of a lesser size is one up to a greater size
@@ -63,7 +63,7 @@ lost-upto syntax defined pool points size upto None within lost = tt
 lost-upto syntax defined pool points size upto (Some l) within lost =
     record { nonterminal = lost.nonterminal; tree = lost.tree; derives = lost.derives; small = let small = lost.small in omega (arith, within, small); is = lost.is }
 
-pub honest-next : (w : World) (s : State) (upto : ℕ) → IsSteady w s → length w.levels ≤ upto → IsHonest w.syntax w.defined w.pool (extended w upto s)
+pub honest-next : (w : World) (s : LevelState) (upto : ℕ) → IsSteady w s → length w.levels ≤ upto → IsHonestBank w.syntax w.defined w.pool (extended w upto s)
 honest-next w s upto steady below = record {
   within = omega (arith, below, length-append w.levels (s.fresh ∷ []));
   each = λ n size place e at. let right = steady.each n size place e at in (right.sized, right.sound);
@@ -82,9 +82,9 @@ less-or-last (suc size) (suc bound) below = elim (less-or-last size bound (omega
   | inr h ↦ inr (omega (arith, h))
 ]
 
-saturated-next : (w : World) (s : State) (upto : ℕ) (bank : Merged) → bank.levels ≡ w.levels → bank.points ≡ w.points → IsSteady w s → s.dropped ≡ None →
+saturated-next : (w : World) (s : LevelState) (upto : ℕ) (bank : Merged) → bank.levels ≡ w.levels → bank.points ≡ w.points → IsSteady w s → s.dropped ≡ None →
     IsSaturatedBelow w.syntax w.defined w.pool bank (length bank.levels) → IsFilled w s (length w.levels) →
-    IsSaturatedBelow w.syntax w.defined w.pool (extended w upto s) (length (all w s))
+    IsSaturatedBelow w.syntax w.defined w.pool (extended w upto s) (length (all_levels w s))
 saturated-next w s upto bank same points steady none_lost saturated filled n r size term below offers =
     elim (less-or-last size (length w.levels) (omega (arith, below, length-append w.levels (s.fresh ∷ [])))) [
       | inl less ↦
@@ -93,15 +93,15 @@ saturated-next w s upto bank same points steady none_lost saturated filled n r s
           covered-more w.defined w.points w.levels s.fresh n size term
           (subst (λ (l : List (List (List Entry))). IsCovered w.defined w.points l n size term) same (subst (λ (p : List (List Val)). IsCovered w.defined p bank.levels n size term) points covered))
       | inr last ↦
-          subst (λ (k : ℕ). IsCovered w.defined w.points (all w s) n k term) (sym last)
-          (filled n r term (subst (λ (k : ℕ). Offers w.syntax w.pool (all w s) (rule_at w.syntax n r) k term) last offers) none_lost)
+          subst (λ (k : ℕ). IsCovered w.defined w.points (all_levels w s) n k term) (sym last)
+          (filled n r term (subst (λ (k : ℕ). Offers w.syntax w.pool (all_levels w s) (rule_at w.syntax n r) k term) last offers) none_lost)
     ]
 
 -- the bank with one size more is ready, where a term was dropped or the size is filled
-pub ready-next : (scope : Scope) (syntax : Syntax) (defined : List Function) (pool : List Val) (bank : Merged) (cap : ℕ) (s : State) →
-    IsReady scope syntax defined pool bank → bank.dropped ≡ None → length bank.levels ≤ bank.upto → IsSteady (world_at scope syntax defined pool bank cap) s →
+pub ready-next : (scope : Scope) (syntax : Syntax) (defined : List Function) (pool : List Val) (bank : Merged) (cap : ℕ) (s : LevelState) →
+    BankIsReady scope syntax defined pool bank → bank.dropped ≡ None → length bank.levels ≤ bank.upto → IsSteady (world_at scope syntax defined pool bank cap) s →
     (s.dropped ≡ None → IsFilled (world_at scope syntax defined pool bank cap) s (length bank.levels)) →
-    IsReady scope syntax defined pool (extended (world_at scope syntax defined pool bank cap) bank.upto s)
+    BankIsReady scope syntax defined pool (extended (world_at scope syntax defined pool bank cap) bank.upto s)
 ready-next scope syntax defined pool bank cap s ready none_lost below steady filled =
     let w = world_at scope syntax defined pool bank cap in
     record {
@@ -112,7 +112,7 @@ ready-next scope syntax defined pool bank cap s ready none_lost below steady fil
     }
 
 -- what goes beyond the cap is new to the bank
-pub new-next : (w : World) (s : State) (upto n : ℕ) (entry : Entry) → length w.levels ≤ upto → IsBeyond w s n entry → IsNew w.syntax w.defined w.pool (extended w upto s) n entry
+pub new-next : (w : World) (s : LevelState) (upto n : ℕ) (entry : Entry) → length w.levels ≤ upto → IsBeyond w s n entry → IsNewEntry w.syntax w.defined w.pool (extended w upto s) n entry
 new-next w s upto n entry below beyond = record {
   sound = beyond.right.sound;
   small = let sized = beyond.right.sized in omega (arith, below, sized);
@@ -121,7 +121,7 @@ new-next w s upto n entry below beyond = record {
 
 -- a bank without terms
 pub ready-empty : (scope : Scope) (syntax : Syntax) (defined : List Function) (pool : List Val) (points : List (List Val)) (upto : ℕ) →
-    IsReady scope syntax defined pool (record { points = points; upto = upto; levels = []; dropped = None })
+    BankIsReady scope syntax defined pool (record { points = points; upto = upto; levels = []; dropped = None })
 ready-empty scope syntax defined pool points upto = record {
   honest = record {
     within = omega arith;
@@ -134,8 +134,8 @@ ready-empty scope syntax defined pool points upto = record {
 }
 
 -- a bank that is ready, for a greater size
-pub ready-larger : (scope : Scope) (syntax : Syntax) (defined : List Function) (pool : List Val) (bank : Merged) (upto : ℕ) → bank.upto ≤ upto → IsReady scope syntax defined pool bank →
-    IsReady scope syntax defined pool (record bank { upto = upto })
+pub ready-larger : (scope : Scope) (syntax : Syntax) (defined : List Function) (pool : List Val) (bank : Merged) (upto : ℕ) → bank.upto ≤ upto → BankIsReady scope syntax defined pool bank →
+    BankIsReady scope syntax defined pool (record bank { upto = upto })
 ready-larger scope syntax defined pool bank upto larger ready = record {
   honest = record { within = let within = ready.honest.within in omega (arith, larger, within); each = ready.honest.each; distinct = ready.honest.distinct };
   rows = ready.rows;
@@ -144,7 +144,7 @@ ready-larger scope syntax defined pool bank upto larger ready = record {
 }
 
 -- a bank that is ready and has each size covers
-pub whole-covers : (scope : Scope) (syntax : Syntax) (defined : List Function) (pool : List Val) (bank : Merged) → IsReady scope syntax defined pool bank → bank.dropped ≡ None → bank.upto < length bank.levels →
+pub whole-covers : (scope : Scope) (syntax : Syntax) (defined : List Function) (pool : List Val) (bank : Merged) → BankIsReady scope syntax defined pool bank → bank.dropped ≡ None → bank.upto < length bank.levels →
     Covers syntax defined pool bank
 whole-covers scope syntax defined pool bank ready none_lost all_sizes =
     saturated_covers syntax defined pool bank ready.honest (λ n r size term offers small. ready.saturated none_lost n r size term (omega (arith, small, all_sizes)) offers)

@@ -7,6 +7,6 @@ use Rattle.sy_bank_level.specs.declared.table.Place.{Place}
 
 -- so many terms are kept, and the table has the place of each
 pub record IsIndexed (levels : List (List (List Entry))) (table : ℕ → List Place) (count : ℕ) : Type 0 where
-  pub counted : banks.count levels ≡ count
+  pub counted : banks.kept_count levels ≡ count
   pub placed : (nonterminal size place : ℕ) (entry : Entry) → slice_get (kept_at levels nonterminal size) place ≡ Some entry →
       HasPlace table (hash_from nonterminal entry.row) (record { nonterminal = nonterminal; size = size; index = place })

@@ -5,7 +5,7 @@ use Rattle.sy_terms.specs.Expr.{Expr}
 use Rattle.sy_terms.specs.Meaning.{Function}
 use Rattle.sy_terms.specs.Fitting.{Scope}
 use Rattle.sy_grammar_base.specs.Trees.{Syntax, rule_at}
-use Rattle.sy_bank_rows.specs.Banks.{Entry, Merged, IsKept, IsHonest, IsDropped}
+use Rattle.sy_bank_rows.specs.Banks.{Entry, Merged, IsKept, IsHonestBank, IsDropped}
 use Rattle.sy_bank_rows.specs.Columns.{HasRow}
 use Rattle.sy_bank_rows.specs.Covering.{IsCovered, Offers}
 
@@ -15,8 +15,8 @@ IsSaturatedBelow syntax defined pool bank bound = (nonterminal rule size : ℕ) 
     Offers syntax pool bank.levels (rule_at syntax nonterminal rule) size term → IsCovered defined bank.points bank.levels nonterminal size term
 
 -- the bank is honest, rows are of values that terms fit with, and nothing that a rule gives at the sizes so far is missing
-pub record IsReady (scope : Scope) (syntax : Syntax) (defined : List Function) (pool : List Val) (bank : Merged) : Type 0 where
-  pub honest : IsHonest syntax defined pool bank
+pub record BankIsReady (scope : Scope) (syntax : Syntax) (defined : List Function) (pool : List Val) (bank : Merged) : Type 0 where
+  pub honest : IsHonestBank syntax defined pool bank
   pub rows : (nonterminal : ℕ) (entry : Entry) → IsKept bank.levels nonterminal entry → HasRow scope defined bank.points entry.term entry.row
   pub lost : IfSome bank.dropped (IsDropped syntax defined pool bank.points bank.upto)
   pub saturated : bank.dropped ≡ None → IsSaturatedBelow syntax defined pool bank (length bank.levels)

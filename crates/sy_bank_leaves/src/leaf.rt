@@ -26,7 +26,7 @@ pub fn literal<T: Theory>(alloc: Global, value: Value<T::Num>) -> Result<Term<T>
 /// The positive integer whose negation the value is; `None` exactly where the value isn't a negative integer.
 fn opposite<T: Theory>(value: Value<T::Num>) -> Option<T::Num>
     requires { trees.is_written (val_of T.denotes value) ≡ true }
-    ensures { option_map T.denotes result ≡ spec.opposite (val_of T.denotes value) }
+    ensures { option_map T.denotes result ≡ spec.positive_of (val_of T.denotes value) }
 {
     match value {
         Value::Truth(_) => None,

@@ -1,8 +1,8 @@
 // Magnitudes of constants.
 ghost use Rattle.std.specs.Prelude.{◌≡◌, ◌≢◌, ◌+◌, ◌<◌, ◌≤◌, ◌^◌};
 ghost use Rattle.sy_terms.specs.Values.{Val};
-ghost use Rattle.sy_grammar_base.specs.Trees.{digits, magnitude};
-ghost use Rattle.sy_bank_leaves.specs.Leaves.{IsGiven};
+ghost use Rattle.sy_grammar_base.specs.Trees.{digits, value_magnitude};
+ghost use Rattle.sy_bank_leaves.specs.Leaves.{IsGivenConstant};
 
 use sy_terms::Sort;
 
@@ -12,7 +12,7 @@ pub fn magnitudes(sort: Sort, size: u32) -> (u128, u128)
     requires { size ≢ 1 }
     ensures positive { 0 < result.0 }
     ensures bounded { result.1 ≤ 2 ^ 127 }
-    ensures whole { (value : Val) → IsGiven sort value → digits (magnitude value) + 1 ≡ size → (result.0 ≤ magnitude value) × (magnitude value < result.1) }
+    ensures whole { (value : Val) → IsGivenConstant sort value → digits (value_magnitude value) + 1 ≡ size → (result.0 ≤ value_magnitude value) × (value_magnitude value < result.1) }
 {
     if size < 2 || size > 128 {
         return (1, 1);
@@ -24,7 +24,7 @@ pub fn magnitudes(sort: Sort, size: u32) -> (u128, u128)
 /// A number above all magnitudes of constants of the sort.
 fn bound(sort: Sort) -> u128
     ensures bounded { result ≤ 2 ^ 127 }
-    ensures above { (value : Val) → IsGiven sort value → magnitude value < result }
+    ensures above { (value : Val) → IsGivenConstant sort value → value_magnitude value < result }
 {
     match sort {
         Sort::Bool => 1,

@@ -5,10 +5,10 @@ ghost use Rattle.sy_terms.specs.Expr.{Expr};
 ghost use Rattle.sy_terms.specs.Denoted.{val_of};
 ghost use Rattle.sy_grammar_base.specs.Trees as trees;
 ghost use Rattle.sy_grammar_base.specs.Trees.{EachConstant};
-ghost use Rattle.sy_bank_level.specs.Filling.{IsSteady, Grows, IsDone};
-ghost use Rattle.sy_bank_level.specs.Task.{world, IsStop, state_of};
+ghost use Rattle.sy_bank_level.specs.Filling.{IsSteady, LevelGrows, TermIsDone};
+ghost use Rattle.sy_bank_level.specs.Task.{world, IsStop, level_state_of};
 ghost use Rattle.sy_bank_offer.specs.Tasks.{IsTask};
-ghost use Rattle.sy_bank_leaves.specs.Leaves.{IsLeafRule, GivesDone, IsGiven, IsDoneFor, IsDoneAt};
+ghost use Rattle.sy_bank_leaves.specs.Leaves.{IsLeafRule, GivesDone, IsGivenConstant, IsDoneFor, IsDoneAt};
 
 use crate::leaf::literal;
 use crate::magnitudes::magnitudes;
@@ -27,11 +27,11 @@ pub fn constants<T: Theory>(
 ) -> Result<(), Stop<T>>
     requires task { IsTask T.owned T.numeric T.denotes task.now }
     requires rule { IsLeafRule (world T.owned T.denotes task.now).syntax rule.now.nonterminal rule.now.number (EachConstant rule.now.sort) }
-    requires steady { IsSteady (world T.owned T.denotes task.now) (state_of T.denotes filling.old) }
-    ensures steady { OnOk result (IsSteady (world T.owned T.denotes task.now) (state_of T.denotes filling.new)) }
-    ensures grows { OnOk result (Grows (world T.owned T.denotes task.now) (state_of T.denotes filling.old) (state_of T.denotes filling.new)) }
-    ensures done { OnOk result (GivesDone (world T.owned T.denotes task.now) (state_of T.denotes filling.new) rule.now.nonterminal (EachConstant rule.now.sort) task.now.size) }
-    ensures stop { IfErr result (IsStop T.denotes (world T.owned T.denotes task.now) (state_of T.denotes filling.new)) }
+    requires steady { IsSteady (world T.owned T.denotes task.now) (level_state_of T.denotes filling.old) }
+    ensures steady { OnOk result (IsSteady (world T.owned T.denotes task.now) (level_state_of T.denotes filling.new)) }
+    ensures grows { OnOk result (LevelGrows (world T.owned T.denotes task.now) (level_state_of T.denotes filling.old) (level_state_of T.denotes filling.new)) }
+    ensures done { OnOk result (GivesDone (world T.owned T.denotes task.now) (level_state_of T.denotes filling.new) rule.now.nonterminal (EachConstant rule.now.sort) task.now.size) }
+    ensures stop { IfErr result (IsStop T.denotes (world T.owned T.denotes task.now) (level_state_of T.denotes filling.new)) }
 {
     if task.size == 1 {
         offer_ones(task, filling, rule)?;
@@ -49,12 +49,12 @@ fn offer_ones<T: Theory>(
 ) -> Result<(), Stop<T>>
     requires task { IsTask T.owned T.numeric T.denotes task.now }
     requires rule { IsLeafRule (world T.owned T.denotes task.now).syntax rule.now.nonterminal rule.now.number (EachConstant rule.now.sort) }
-    requires steady { IsSteady (world T.owned T.denotes task.now) (state_of T.denotes filling.old) }
+    requires steady { IsSteady (world T.owned T.denotes task.now) (level_state_of T.denotes filling.old) }
     requires one { task.now.size ≡ 1 }
-    ensures steady { OnOk result (IsSteady (world T.owned T.denotes task.now) (state_of T.denotes filling.new)) }
-    ensures grows { OnOk result (Grows (world T.owned T.denotes task.now) (state_of T.denotes filling.old) (state_of T.denotes filling.new)) }
-    ensures done { OnOk result ((value : Val) → IsDoneFor (world T.owned T.denotes task.now) (state_of T.denotes filling.new) rule.now.nonterminal rule.now.sort task.now.size value) }
-    ensures stop { IfErr result (IsStop T.denotes (world T.owned T.denotes task.now) (state_of T.denotes filling.new)) }
+    ensures steady { OnOk result (IsSteady (world T.owned T.denotes task.now) (level_state_of T.denotes filling.new)) }
+    ensures grows { OnOk result (LevelGrows (world T.owned T.denotes task.now) (level_state_of T.denotes filling.old) (level_state_of T.denotes filling.new)) }
+    ensures done { OnOk result ((value : Val) → IsDoneFor (world T.owned T.denotes task.now) (level_state_of T.denotes filling.new) rule.now.nonterminal rule.now.sort task.now.size value) }
+    ensures stop { IfErr result (IsStop T.denotes (world T.owned T.denotes task.now) (level_state_of T.denotes filling.new)) }
 {
     offer_truths(task, filling, rule)?;
     offer_number(task, filling, rule, 0)?;
@@ -73,11 +73,11 @@ fn offer_truths<T: Theory>(
 ) -> Result<(), Stop<T>>
     requires task { IsTask T.owned T.numeric T.denotes task.now }
     requires rule { IsLeafRule (world T.owned T.denotes task.now).syntax rule.now.nonterminal rule.now.number (EachConstant rule.now.sort) }
-    requires steady { IsSteady (world T.owned T.denotes task.now) (state_of T.denotes filling.old) }
-    ensures steady { OnOk result (IsSteady (world T.owned T.denotes task.now) (state_of T.denotes filling.new)) }
-    ensures grows { OnOk result (Grows (world T.owned T.denotes task.now) (state_of T.denotes filling.old) (state_of T.denotes filling.new)) }
-    ensures done { OnOk result ((truth : Bool) → IsDoneFor (world T.owned T.denotes task.now) (state_of T.denotes filling.new) rule.now.nonterminal rule.now.sort task.now.size (Truth truth)) }
-    ensures stop { IfErr result (IsStop T.denotes (world T.owned T.denotes task.now) (state_of T.denotes filling.new)) }
+    requires steady { IsSteady (world T.owned T.denotes task.now) (level_state_of T.denotes filling.old) }
+    ensures steady { OnOk result (IsSteady (world T.owned T.denotes task.now) (level_state_of T.denotes filling.new)) }
+    ensures grows { OnOk result (LevelGrows (world T.owned T.denotes task.now) (level_state_of T.denotes filling.old) (level_state_of T.denotes filling.new)) }
+    ensures done { OnOk result ((truth : Bool) → IsDoneFor (world T.owned T.denotes task.now) (level_state_of T.denotes filling.new) rule.now.nonterminal rule.now.sort task.now.size (Truth truth)) }
+    ensures stop { IfErr result (IsStop T.denotes (world T.owned T.denotes task.now) (level_state_of T.denotes filling.new)) }
 {
     match rule.sort {
         Sort::Bool => {
@@ -97,12 +97,12 @@ fn offer_counted<T: Theory>(
 ) -> Result<(), Stop<T>>
     requires task { IsTask T.owned T.numeric T.denotes task.now }
     requires rule { IsLeafRule (world T.owned T.denotes task.now).syntax rule.now.nonterminal rule.now.number (EachConstant rule.now.sort) }
-    requires steady { IsSteady (world T.owned T.denotes task.now) (state_of T.denotes filling.old) }
+    requires steady { IsSteady (world T.owned T.denotes task.now) (level_state_of T.denotes filling.old) }
     requires counted { task.now.size ≢ 1 }
-    ensures steady { OnOk result (IsSteady (world T.owned T.denotes task.now) (state_of T.denotes filling.new)) }
-    ensures grows { OnOk result (Grows (world T.owned T.denotes task.now) (state_of T.denotes filling.old) (state_of T.denotes filling.new)) }
-    ensures done { OnOk result ((value : Val) → IsDoneFor (world T.owned T.denotes task.now) (state_of T.denotes filling.new) rule.now.nonterminal rule.now.sort task.now.size value) }
-    ensures stop { IfErr result (IsStop T.denotes (world T.owned T.denotes task.now) (state_of T.denotes filling.new)) }
+    ensures steady { OnOk result (IsSteady (world T.owned T.denotes task.now) (level_state_of T.denotes filling.new)) }
+    ensures grows { OnOk result (LevelGrows (world T.owned T.denotes task.now) (level_state_of T.denotes filling.old) (level_state_of T.denotes filling.new)) }
+    ensures done { OnOk result ((value : Val) → IsDoneFor (world T.owned T.denotes task.now) (level_state_of T.denotes filling.new) rule.now.nonterminal rule.now.sort task.now.size value) }
+    ensures stop { IfErr result (IsStop T.denotes (world T.owned T.denotes task.now) (level_state_of T.denotes filling.new)) }
 {
     let (first, end) = magnitudes(rule.sort, task.size);
     let mut magnitude = first;
@@ -122,13 +122,13 @@ fn offer_magnitude<T: Theory>(
 ) -> Result<(), Stop<T>>
     requires task { IsTask T.owned T.numeric T.denotes task.now }
     requires rule { IsLeafRule (world T.owned T.denotes task.now).syntax rule.now.nonterminal rule.now.number (EachConstant rule.now.sort) }
-    requires steady { IsSteady (world T.owned T.denotes task.now) (state_of T.denotes filling.old) }
+    requires steady { IsSteady (world T.owned T.denotes task.now) (level_state_of T.denotes filling.old) }
     requires positive { 0 < magnitude }
     requires bounded { magnitude < 2 ^ 127 }
-    ensures steady { OnOk result (IsSteady (world T.owned T.denotes task.now) (state_of T.denotes filling.new)) }
-    ensures grows { OnOk result (Grows (world T.owned T.denotes task.now) (state_of T.denotes filling.old) (state_of T.denotes filling.new)) }
-    ensures done { OnOk result ((value : Val) → trees.magnitude value ≡ magnitude → IsDoneFor (world T.owned T.denotes task.now) (state_of T.denotes filling.new) rule.now.nonterminal rule.now.sort task.now.size value) }
-    ensures stop { IfErr result (IsStop T.denotes (world T.owned T.denotes task.now) (state_of T.denotes filling.new)) }
+    ensures steady { OnOk result (IsSteady (world T.owned T.denotes task.now) (level_state_of T.denotes filling.new)) }
+    ensures grows { OnOk result (LevelGrows (world T.owned T.denotes task.now) (level_state_of T.denotes filling.old) (level_state_of T.denotes filling.new)) }
+    ensures done { OnOk result ((value : Val) → trees.value_magnitude value ≡ magnitude → IsDoneFor (world T.owned T.denotes task.now) (level_state_of T.denotes filling.new) rule.now.nonterminal rule.now.sort task.now.size value) }
+    ensures stop { IfErr result (IsStop T.denotes (world T.owned T.denotes task.now) (level_state_of T.denotes filling.new)) }
 {
     let number = magnitude as i128;
     offer_number(task, filling, rule, number)?;
@@ -145,11 +145,11 @@ fn offer_number<T: Theory>(
 ) -> Result<(), Stop<T>>
     requires task { IsTask T.owned T.numeric T.denotes task.now }
     requires rule { IsLeafRule (world T.owned T.denotes task.now).syntax rule.now.nonterminal rule.now.number (EachConstant rule.now.sort) }
-    requires steady { IsSteady (world T.owned T.denotes task.now) (state_of T.denotes filling.old) }
-    ensures steady { OnOk result (IsSteady (world T.owned T.denotes task.now) (state_of T.denotes filling.new)) }
-    ensures grows { OnOk result (Grows (world T.owned T.denotes task.now) (state_of T.denotes filling.old) (state_of T.denotes filling.new)) }
-    ensures done { OnOk result (IsDoneAt (world T.owned T.denotes task.now) (state_of T.denotes filling.new) rule.now.nonterminal rule.now.sort task.now.size number) }
-    ensures stop { IfErr result (IsStop T.denotes (world T.owned T.denotes task.now) (state_of T.denotes filling.new)) }
+    requires steady { IsSteady (world T.owned T.denotes task.now) (level_state_of T.denotes filling.old) }
+    ensures steady { OnOk result (IsSteady (world T.owned T.denotes task.now) (level_state_of T.denotes filling.new)) }
+    ensures grows { OnOk result (LevelGrows (world T.owned T.denotes task.now) (level_state_of T.denotes filling.old) (level_state_of T.denotes filling.new)) }
+    ensures done { OnOk result (IsDoneAt (world T.owned T.denotes task.now) (level_state_of T.denotes filling.new) rule.now.nonterminal rule.now.sort task.now.size number) }
+    ensures stop { IfErr result (IsStop T.denotes (world T.owned T.denotes task.now) (level_state_of T.denotes filling.new)) }
 {
     if !is_written(number) {
         return Ok(());
@@ -172,12 +172,12 @@ fn offer_constant<T: Theory>(
 ) -> Result<(), Stop<T>>
     requires task { IsTask T.owned T.numeric T.denotes task.now }
     requires rule { IsLeafRule (world T.owned T.denotes task.now).syntax rule.now.nonterminal rule.now.number (EachConstant rule.now.sort) }
-    requires steady { IsSteady (world T.owned T.denotes task.now) (state_of T.denotes filling.old) }
-    requires given { IsGiven rule.now.sort (val_of T.denotes value) }
-    ensures steady { OnOk result (IsSteady (world T.owned T.denotes task.now) (state_of T.denotes filling.new)) }
-    ensures grows { OnOk result (Grows (world T.owned T.denotes task.now) (state_of T.denotes filling.old) (state_of T.denotes filling.new)) }
-    ensures done { OnOk result (IsDoneFor (world T.owned T.denotes task.now) (state_of T.denotes filling.new) rule.now.nonterminal rule.now.sort task.now.size (val_of T.denotes value)) }
-    ensures stop { IfErr result (IsStop T.denotes (world T.owned T.denotes task.now) (state_of T.denotes filling.new)) }
+    requires steady { IsSteady (world T.owned T.denotes task.now) (level_state_of T.denotes filling.old) }
+    requires given { IsGivenConstant rule.now.sort (val_of T.denotes value) }
+    ensures steady { OnOk result (IsSteady (world T.owned T.denotes task.now) (level_state_of T.denotes filling.new)) }
+    ensures grows { OnOk result (LevelGrows (world T.owned T.denotes task.now) (level_state_of T.denotes filling.old) (level_state_of T.denotes filling.new)) }
+    ensures done { OnOk result (IsDoneFor (world T.owned T.denotes task.now) (level_state_of T.denotes filling.new) rule.now.nonterminal rule.now.sort task.now.size (val_of T.denotes value)) }
+    ensures stop { IfErr result (IsStop T.denotes (world T.owned T.denotes task.now) (level_state_of T.denotes filling.new)) }
 {
     if constant_size::<T>(&value, task.pool) != task.size {
         return Ok(());
@@ -197,9 +197,9 @@ fn is_written(number: i128) -> bool
 /// Whether nothing new may come for the nonterminal: there are no points, and a term is kept.
 fn is_settled<T: Theory>(task: &Task<T>, filling: &Filling<T>, nonterminal: u32) -> bool
     requires task { IsTask T.owned T.numeric T.denotes task.now }
-    requires steady { IsSteady (world T.owned T.denotes task.now) (state_of T.denotes filling.now) }
+    requires steady { IsSteady (world T.owned T.denotes task.now) (level_state_of T.denotes filling.now) }
     ensures { MatchBool result
-        ((term : Expr) → IsDone (world T.owned T.denotes task.now) (state_of T.denotes filling.now) nonterminal task.now.size term)
+        ((term : Expr) → TermIsDone (world T.owned T.denotes task.now) (level_state_of T.denotes filling.now) nonterminal task.now.size term)
         (Unit {0}) }
 {
     if !task.points.is_empty() {

@@ -3,8 +3,8 @@ ghost use Rattle.std.specs.Prelude.{◌≡◌, ◌<◌, length, IfErr, OnOk};
 ghost use Rattle.sy_terms.specs.Denoted.{expr_of};
 ghost use Rattle.sy_grammar_base.specs.Trees.{Derives, tree_size};
 ghost use Rattle.sy_grammar_base.specs.Grown.{tree_of};
-ghost use Rattle.sy_bank_level.specs.Filling.{IsSteady, Grows, IsDone};
-ghost use Rattle.sy_bank_level.specs.Task.{world, IsStop, state_of};
+ghost use Rattle.sy_bank_level.specs.Filling.{IsSteady, LevelGrows, TermIsDone};
+ghost use Rattle.sy_bank_level.specs.Task.{world, IsStop, level_state_of};
 ghost use Rattle.sy_bank_offer.specs.Tasks.{IsTask};
 
 use std::rc::Rc;
@@ -25,13 +25,13 @@ pub fn offer_leaf<T: Theory>(
 ) -> Result<(), Stop<T>>
     requires task { IsTask T.owned T.numeric T.denotes task.now }
     requires known { nonterminal < length (world T.owned T.denotes task.now).syntax.nonterminals }
-    requires steady { IsSteady (world T.owned T.denotes task.now) (state_of T.denotes filling.old) }
+    requires steady { IsSteady (world T.owned T.denotes task.now) (level_state_of T.denotes filling.old) }
     requires derives { Derives (world T.owned T.denotes task.now).syntax nonterminal (tree_of T.denotes derivation) (expr_of T.denotes term) }
     requires sized { tree_size (world T.owned T.denotes task.now).syntax (world T.owned T.denotes task.now).pool nonterminal (tree_of T.denotes derivation) ≡ task.now.size }
-    ensures steady { OnOk result (IsSteady (world T.owned T.denotes task.now) (state_of T.denotes filling.new)) }
-    ensures grows { OnOk result (Grows (world T.owned T.denotes task.now) (state_of T.denotes filling.old) (state_of T.denotes filling.new)) }
-    ensures done { OnOk result (IsDone (world T.owned T.denotes task.now) (state_of T.denotes filling.new) nonterminal task.now.size (expr_of T.denotes term)) }
-    ensures stop { IfErr result (IsStop T.denotes (world T.owned T.denotes task.now) (state_of T.denotes filling.new)) }
+    ensures steady { OnOk result (IsSteady (world T.owned T.denotes task.now) (level_state_of T.denotes filling.new)) }
+    ensures grows { OnOk result (LevelGrows (world T.owned T.denotes task.now) (level_state_of T.denotes filling.old) (level_state_of T.denotes filling.new)) }
+    ensures done { OnOk result (TermIsDone (world T.owned T.denotes task.now) (level_state_of T.denotes filling.new) nonterminal task.now.size (expr_of T.denotes term)) }
+    ensures stop { IfErr result (IsStop T.denotes (world T.owned T.denotes task.now) (level_state_of T.denotes filling.new)) }
 {
     let alloc = task.alloc;
     let row = match term_row(alloc, task.defs, task.points, &term) {

@@ -3,8 +3,8 @@ ghost use Rattle.std.specs.Prelude.{◌≡◌, true, slice_get, Some, IfErr, OnO
 ghost use Rattle.sy_grammar_base.specs.Trees.{EachVariable};
 ghost use Rattle.sy_terms.specs.Sorts as sorts;
 ghost use Rattle.sy_terms.specs.Expr.{Variable};
-ghost use Rattle.sy_bank_level.specs.Filling.{IsSteady, Grows, IsDone};
-ghost use Rattle.sy_bank_level.specs.Task.{world, IsStop, state_of};
+ghost use Rattle.sy_bank_level.specs.Filling.{IsSteady, LevelGrows, TermIsDone};
+ghost use Rattle.sy_bank_level.specs.Task.{world, IsStop, level_state_of};
 ghost use Rattle.sy_bank_offer.specs.Tasks.{IsTask};
 ghost use Rattle.sy_bank_leaves.specs.Leaves.{IsLeafRule, GivesDone};
 
@@ -23,11 +23,11 @@ pub fn variables<T: Theory>(
 ) -> Result<(), Stop<T>>
     requires task { IsTask T.owned T.numeric T.denotes task.now }
     requires rule { IsLeafRule (world T.owned T.denotes task.now).syntax rule.now.nonterminal rule.now.number (EachVariable rule.now.sort) }
-    requires steady { IsSteady (world T.owned T.denotes task.now) (state_of T.denotes filling.old) }
-    ensures steady { OnOk result (IsSteady (world T.owned T.denotes task.now) (state_of T.denotes filling.new)) }
-    ensures grows { OnOk result (Grows (world T.owned T.denotes task.now) (state_of T.denotes filling.old) (state_of T.denotes filling.new)) }
-    ensures done { OnOk result (GivesDone (world T.owned T.denotes task.now) (state_of T.denotes filling.new) rule.now.nonterminal (EachVariable rule.now.sort) task.now.size) }
-    ensures stop { IfErr result (IsStop T.denotes (world T.owned T.denotes task.now) (state_of T.denotes filling.new)) }
+    requires steady { IsSteady (world T.owned T.denotes task.now) (level_state_of T.denotes filling.old) }
+    ensures steady { OnOk result (IsSteady (world T.owned T.denotes task.now) (level_state_of T.denotes filling.new)) }
+    ensures grows { OnOk result (LevelGrows (world T.owned T.denotes task.now) (level_state_of T.denotes filling.old) (level_state_of T.denotes filling.new)) }
+    ensures done { OnOk result (GivesDone (world T.owned T.denotes task.now) (level_state_of T.denotes filling.new) rule.now.nonterminal (EachVariable rule.now.sort) task.now.size) }
+    ensures stop { IfErr result (IsStop T.denotes (world T.owned T.denotes task.now) (level_state_of T.denotes filling.new)) }
 {
     if task.size != 1 {
         return Ok(());
@@ -48,13 +48,13 @@ fn offer_argument<T: Theory>(
 ) -> Result<(), Stop<T>>
     requires task { IsTask T.owned T.numeric T.denotes task.now }
     requires rule { IsLeafRule (world T.owned T.denotes task.now).syntax rule.now.nonterminal rule.now.number (EachVariable rule.now.sort) }
-    requires steady { IsSteady (world T.owned T.denotes task.now) (state_of T.denotes filling.old) }
+    requires steady { IsSteady (world T.owned T.denotes task.now) (level_state_of T.denotes filling.old) }
     requires one { task.now.size ≡ 1 }
     requires at { slice_get (world T.owned T.denotes task.now).syntax.arguments position ≡ Some sort.now }
-    ensures steady { OnOk result (IsSteady (world T.owned T.denotes task.now) (state_of T.denotes filling.new)) }
-    ensures grows { OnOk result (Grows (world T.owned T.denotes task.now) (state_of T.denotes filling.old) (state_of T.denotes filling.new)) }
-    ensures done { OnOk result (sorts.same_sort rule.now.sort sort.now ≡ true → IsDone (world T.owned T.denotes task.now) (state_of T.denotes filling.new) rule.now.nonterminal task.now.size (Variable position)) }
-    ensures stop { IfErr result (IsStop T.denotes (world T.owned T.denotes task.now) (state_of T.denotes filling.new)) }
+    ensures steady { OnOk result (IsSteady (world T.owned T.denotes task.now) (level_state_of T.denotes filling.new)) }
+    ensures grows { OnOk result (LevelGrows (world T.owned T.denotes task.now) (level_state_of T.denotes filling.old) (level_state_of T.denotes filling.new)) }
+    ensures done { OnOk result (sorts.same_sort rule.now.sort sort.now ≡ true → TermIsDone (world T.owned T.denotes task.now) (level_state_of T.denotes filling.new) rule.now.nonterminal task.now.size (Variable position)) }
+    ensures stop { IfErr result (IsStop T.denotes (world T.owned T.denotes task.now) (level_state_of T.denotes filling.new)) }
 {
     if !same_sort(&rule.sort, sort) {
         return Ok(());

@@ -1,7 +1,7 @@
 -- Sizes of which nothing is kept.
 use Rattle.std.proofs.Common.{◌≡◌, ℕ, zero, suc, List, [], ◌∷◌, ◌++◌, refl, arith, replicate}
 use Rattle.std.specs.Prelude.{slice_index_or}
-use Rattle.sy_bank_rows.specs.Banks.{kept_at, count, count_of}
+use Rattle.sy_bank_rows.specs.Banks.{kept_at, kept_count, count_of}
 
 no-list : {X : Type 0} (m n : ℕ) → slice_index_or {A = List X} (replicate n []) m [] ≡ []
 no-list m zero = refl
@@ -18,6 +18,6 @@ count_of-none : (X : Type 0) (width : ℕ) → count_of {X = X} (replicate width
 count_of-none X zero = refl
 count_of-none X (suc width) = omega (arith, count_of-none X width)
 
-pub count-idle : {X : Type 0} (levels : List (List (List X))) (n : ℕ) → count (levels ++ replicate n [] ∷ []) ≡ count levels
+pub count-idle : {X : Type 0} (levels : List (List (List X))) (n : ℕ) → kept_count (levels ++ replicate n [] ∷ []) ≡ kept_count levels
 count-idle {X} [] n = omega (arith, count_of-none X n)
 count-idle (level ∷ levels) n = omega (arith, count-idle levels n)

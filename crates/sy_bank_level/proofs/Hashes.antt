@@ -7,7 +7,7 @@ use Rattle.std.proofs.lemmas.Option.{none-some}
 use Rattle.sy_terms.specs.Values.{Val}
 use Rattle.sy_terms.specs.Denoted.{val_of, vals_of}
 use Rattle.sy_terms.specs.declared.sort.Value.{Value}
-use Rattle.sy_bank_level.specs.Hashing.{hash_from, lanes, mixed, code, HasPlace, IsAdded}
+use Rattle.sy_bank_level.specs.Hashing.{hash_from, lanes, mixed, code, HasPlace, PlaceIsAdded}
 use Rattle.sy_bank_level.specs.declared.table.Place.{Place}
 
 -- the lanes before the first value, before another, and after the last one
@@ -37,7 +37,7 @@ front [] x y i at = absurd (none-some y at)
 front (z ∷ xs) x y zero at = at
 front (z ∷ xs) x y (suc i) at = front xs x y i at
 
-pub has-added : (before after : ℕ → List Place) (hash : ℕ) (place : Place) → IsAdded before hash place after → HasPlace after hash place
+pub has-added : (before after : ℕ → List Place) (hash : ℕ) (place : Place) → PlaceIsAdded before hash place after → HasPlace after hash place
 has-added before after hash place added =
     (length (before hash), ap (λ (list : List Place). slice_get list (length (before hash))) (added hash ∙ ap (λ (b : Bool). if b then before hash ++ place ∷ [] else before hash) (eq-eqb hash hash refl)) ∙ end (before hash) place)
 
@@ -45,7 +45,7 @@ or-more : (b : Bool) (xs : List Place) (place other : Place) (i : ℕ) → slice
 or-more true xs place other i at = front xs place other i at
 or-more false xs place other i at = at
 
-pub still-has : (before after : ℕ → List Place) (hash number : ℕ) (place other : Place) → IsAdded before hash place after → HasPlace before number other → HasPlace after number other
+pub still-has : (before after : ℕ → List Place) (hash number : ℕ) (place other : Place) → PlaceIsAdded before hash place after → HasPlace before number other → HasPlace after number other
 still-has before after hash number place other added has =
     (has.0, ap (λ (list : List Place). slice_get list has.0) (added number) ∙ or-more (nat_eq hash number) (before number) place other has.0 has.1)
 

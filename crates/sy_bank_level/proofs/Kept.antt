@@ -2,7 +2,7 @@
 use Rattle.std.proofs.Common.{◌≡◌, ℕ, zero, suc, ◌+◌, ◌<◌, List, [], ◌∷◌, ◌++◌, length, refl, ap, Some, slice_get, arith, ◌⊎◌, inl, inr}
 use Rattle.std.specs.Prelude.{slice_index_or, slice_set}
 use Rattle.std.proofs.lemmas.Option.{none-some}
-use Rattle.sy_bank_rows.specs.Banks.{kept_at, count, count_of}
+use Rattle.sy_bank_rows.specs.Banks.{kept_at, kept_count, count_of}
 
 -- lists of the nonterminals, with one item more for one of them
 abbrev pub pushed : {X : Type 0} → List (List X) → ℕ → X → List (List X)
@@ -100,7 +100,7 @@ kept_at-beyond {X} [] lists n (suc size) above = none-at n
 kept_at-beyond (level ∷ levels) lists n zero above = absurd (omega arith)
 kept_at-beyond (level ∷ levels) lists n (suc size) above = kept_at-beyond levels lists n size (omega arith)
 
-pub count-last : {X : Type 0} (levels : List (List (List X))) (lists : List (List X)) (m : ℕ) (x : X) → m < length lists → count (levels ++ pushed lists m x ∷ []) ≡ count (levels ++ lists ∷ []) + 1
+pub count-last : {X : Type 0} (levels : List (List (List X))) (lists : List (List X)) (m : ℕ) (x : X) → m < length lists → kept_count (levels ++ pushed lists m x ∷ []) ≡ kept_count (levels ++ lists ∷ []) + 1
 count-last [] lists m x within = omega (arith, count_of-pushed lists m x within)
 count-last (level ∷ levels) lists m x within = omega (arith, count-last levels lists m x within)
 

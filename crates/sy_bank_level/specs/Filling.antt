@@ -5,7 +5,7 @@ use Rattle.sy_terms.specs.Expr.{Expr}
 use Rattle.sy_terms.specs.Meaning.{Function}
 use Rattle.sy_terms.specs.Fitting.{Scope}
 use Rattle.sy_grammar_base.specs.Trees.{Syntax}
-use Rattle.sy_bank_rows.specs.Banks.{Entry, Lost, kept_at, count, IsKept, IsSound, IsDropped}
+use Rattle.sy_bank_rows.specs.Banks.{Entry, Lost, kept_at, kept_count, IsKept, EntryIsSound, IsDropped}
 use Rattle.sy_bank_rows.specs.Covering.{IsCovered}
 use Rattle.sy_bank_rows.specs.Columns.{HasRow}
 use Rattle.sy_bank_level.specs.Hashing.{HasPlace, hash_from}
@@ -22,59 +22,59 @@ pub record World : Type 0 where
   pub cap : ℕ
 
 -- what changes: the kept terms of this size, where rows are found, how many terms are kept in all, and what was dropped
-pub record State : Type 0 where
+pub record LevelState : Type 0 where
   pub fresh : List (List Entry)
   pub table : ℕ → List Place
   pub count : ℕ
   pub dropped : Option Lost
 
 -- the kept terms of all sizes up to this one
-abbrev pub all : World → State → List (List (List Entry))
-all world state = world.levels ++ state.fresh ∷ []
+abbrev pub all_levels : World → LevelState → List (List (List Entry))
+all_levels world state = world.levels ++ state.fresh ∷ []
 
 -- a kept term is sound, stands at its size, and has a value of its sort at each point
-pub record IsRight (world : World) (nonterminal size : ℕ) (entry : Entry) : Type 0 where
+pub record EntryIsRight (world : World) (nonterminal size : ℕ) (entry : Entry) : Type 0 where
   pub sized : entry.size ≡ size
-  pub sound : IsSound world.syntax world.defined world.pool world.points nonterminal entry
+  pub sound : EntryIsSound world.syntax world.defined world.pool world.points nonterminal entry
   pub row : HasRow world.scope world.defined world.points entry.term entry.row
 
 -- no kept term of the nonterminal has this row
-abbrev pub IsNewRow : World → State → ℕ → List Val → Type 0
-IsNewRow world state nonterminal row = (other : Entry) → IsKept (all world state) nonterminal other → other.row ≡ row → ⊥
+abbrev pub IsNewRow : World → LevelState → ℕ → List Val → Type 0
+IsNewRow world state nonterminal row = (other : Entry) → IsKept (all_levels world state) nonterminal other → other.row ≡ row → ⊥
 
 -- what holds at each moment
-pub record IsSteady (world : World) (state : State) : Type 0 where
+pub record IsSteady (world : World) (state : LevelState) : Type 0 where
   pub wide : length state.fresh ≡ length world.syntax.nonterminals
-  pub each : (nonterminal size place : ℕ) (entry : Entry) → slice_get (kept_at (all world state) nonterminal size) place ≡ Some entry → IsRight world nonterminal size entry
+  pub each : (nonterminal size place : ℕ) (entry : Entry) → slice_get (kept_at (all_levels world state) nonterminal size) place ≡ Some entry → EntryIsRight world nonterminal size entry
   pub distinct : (nonterminal m n i j : ℕ) (first second : Entry) →
-      slice_get (kept_at (all world state) nonterminal m) i ≡ Some first → slice_get (kept_at (all world state) nonterminal n) j ≡ Some second →
+      slice_get (kept_at (all_levels world state) nonterminal m) i ≡ Some first → slice_get (kept_at (all_levels world state) nonterminal n) j ≡ Some second →
       first.row ≡ second.row → (m ≡ n) × (i ≡ j)
-  pub placed : (nonterminal size place : ℕ) (entry : Entry) → slice_get (kept_at (all world state) nonterminal size) place ≡ Some entry →
+  pub placed : (nonterminal size place : ℕ) (entry : Entry) → slice_get (kept_at (all_levels world state) nonterminal size) place ≡ Some entry →
       HasPlace state.table (hash_from nonterminal entry.row) (record { nonterminal = nonterminal; size = size; index = place })
-  pub counted : count (all world state) ≡ state.count
+  pub counted : kept_count (all_levels world state) ≡ state.count
   pub within : state.count ≤ world.cap
   pub lost : IfSome state.dropped (IsDropped world.syntax world.defined world.pool world.points (length world.levels))
 
 -- nothing is taken back
-pub record Grows (world : World) (before after : State) : Type 0 where
-  pub kept : (nonterminal : ℕ) (entry : Entry) → IsKept (all world before) nonterminal entry → IsKept (all world after) nonterminal entry
+pub record LevelGrows (world : World) (before after : LevelState) : Type 0 where
+  pub kept : (nonterminal : ℕ) (entry : Entry) → IsKept (all_levels world before) nonterminal entry → IsKept (all_levels world after) nonterminal entry
   pub lost : after.dropped ≡ None → before.dropped ≡ None
   pub counted : before.count ≤ after.count
   pub same : before.count ≡ after.count → before.fresh ≡ after.fresh
 
 -- the term is covered, unless a term was dropped
-abbrev pub IsDone : World → State → ℕ → ℕ → Expr → Type 0
-IsDone world state nonterminal size term = state.dropped ≡ None → IsCovered world.defined world.points (all world state) nonterminal size term
+abbrev pub TermIsDone : World → LevelState → ℕ → ℕ → Expr → Type 0
+TermIsDone world state nonterminal size term = state.dropped ≡ None → IsCovered world.defined world.points (all_levels world state) nonterminal size term
 
 -- the cap is reached, nothing was dropped, and the term is new
-pub record IsBeyond (world : World) (state : State) (nonterminal : ℕ) (entry : Entry) : Type 0 where
+pub record IsBeyond (world : World) (state : LevelState) (nonterminal : ℕ) (entry : Entry) : Type 0 where
   pub none_lost : state.dropped ≡ None
   pub full : state.count ≡ world.cap
-  pub right : IsRight world nonterminal (length world.levels) entry
+  pub right : EntryIsRight world nonterminal (length world.levels) entry
   pub differs : IsNewRow world state nonterminal entry.row
 
 -- a term with this row is kept for the nonterminal at the place
-pub record IsThere (levels : List (List (List Entry))) (nonterminal : ℕ) (place : Place) (row : List Val) : Type 0 where
+pub record RowIsThere (levels : List (List (List Entry))) (nonterminal : ℕ) (place : Place) (row : List Val) : Type 0 where
   pub entry : Entry
   pub nonterminal_is : place.nonterminal ≡ nonterminal
   pub at : slice_get (kept_at levels nonterminal place.size) place.index ≡ Some entry

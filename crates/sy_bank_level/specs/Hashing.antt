@@ -1,18 +1,18 @@
 -- Numbers by which rows are found.
 use Rattle.std.specs.Prelude.{ℕ, ◌+◌, ◌-◌, ◌*◌, ◌/◌, ◌%◌, ◌^◌, ◌≡◌, List, [], ◌∷◌, ◌++◌, slice_get, nat_eq, bit_xor, if◌then◌else◌, Some}
 use Rattle.sy_terms.specs.Values.{Val, Truth, Whole, Bits}
-use Rattle.sy_grammar_base.specs.Trees.{magnitude, is_negative}
+use Rattle.sy_grammar_base.specs.Trees.{value_magnitude, is_negative}
 use Rattle.sy_bank_level.specs.declared.table.Place.{Place}
 
 -- the upper half of 64 bits, laid over the lower one
-abbrev pub folded : ℕ → ℕ
-folded n = bit_xor (n % 2 ^ 64) ((n % 2 ^ 64) / 2 ^ 32)
+abbrev pub halves_folded : ℕ → ℕ
+halves_folded n = bit_xor (n % 2 ^ 64) ((n % 2 ^ 64) / 2 ^ 32)
 
 -- a number for a value
 abbrev pub code : Val → ℕ
 code (Truth truth) = if truth then 1 else 0
-code (Whole number) = if is_negative (Whole number) then 2 ^ 64 - 1 - folded (magnitude (Whole number)) else folded (magnitude (Whole number))
-code (Bits width number) = folded number
+code (Whole number) = if is_negative (Whole number) then 2 ^ 64 - 1 - halves_folded (value_magnitude (Whole number)) else halves_folded (value_magnitude (Whole number))
+code (Bits width number) = halves_folded number
 
 -- a number for two numbers
 abbrev pub mixed : ℕ → ℕ → ℕ
@@ -32,5 +32,5 @@ abbrev pub HasPlace : (ℕ → List Place) → ℕ → Place → Type 0
 HasPlace table hash place = (i : ℕ) × (slice_get (table hash) i ≡ Some place)
 
 -- the place is added for the number, after the others; nothing else changes
-abbrev pub IsAdded : (ℕ → List Place) → ℕ → Place → (ℕ → List Place) → Type 0
-IsAdded before hash place after = (number : ℕ) → after number ≡ (if nat_eq hash number then before number ++ place ∷ [] else before number)
+abbrev pub PlaceIsAdded : (ℕ → List Place) → ℕ → Place → (ℕ → List Place) → Type 0
+PlaceIsAdded before hash place after = (number : ℕ) → after number ≡ (if nat_eq hash number then before number ++ place ∷ [] else before number)

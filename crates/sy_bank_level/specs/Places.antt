@@ -6,11 +6,11 @@ use Rattle.sy_bank_level.specs.declared.table.Place.{Place}
 use Rattle.sy_bank_level.specs.declared.table.Table.{Table}
 
 -- the first place and the others, if they are there
-abbrev pub listed : Option Place → Option (Vec Place) → List Place
-listed (Some first) (Some others) = first ∷ others.items
-listed (Some first) None = first ∷ []
-listed None others = []
+abbrev pub places_listed : Option Place → Option (Vec Place) → List Place
+places_listed (Some first) (Some others) = first ∷ others.items
+places_listed (Some first) None = first ∷ []
+places_listed None others = []
 
 -- the places for each number
 abbrev pub places_of : Table → ℕ → List Place
-places_of table number = listed (get nat_eq table.firsts number) (get nat_eq table.others number)
+places_of table number = places_listed (get nat_eq table.firsts number) (get nat_eq table.others number)

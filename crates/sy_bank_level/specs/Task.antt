@@ -10,7 +10,7 @@ use Rattle.sy_grammar_base.specs.Grown.{syntax_from}
 use Rattle.sy_bank_rows.specs.Banks.{Entry}
 use Rattle.sy_bank_rows.specs.Stored.{entry_of, entries_of, lost_of}
 use Rattle.sy_bank_level.specs.Places.{places_of}
-use Rattle.sy_bank_level.specs.Filling.{World, State, IsSteady, IsBeyond}
+use Rattle.sy_bank_level.specs.Filling.{World, LevelState, IsSteady, IsBeyond}
 use Rattle.sy_bank_level.specs.declared.task.Task.{Task}
 use Rattle.sy_bank_level.specs.declared.level.Level.{Level}
 use Rattle.sy_bank_level.specs.declared.filling.Filling.{Filling}
@@ -24,8 +24,8 @@ level_of number level = map (entries_of number) level.lists.items
 abbrev pub levels_of : {T N : Type 0} → (N → Val) → List (Level T N) → List (List (List Entry))
 levels_of number levels = map (level_of number) levels
 
-abbrev pub state_of : {T N : Type 0} → (N → Val) → Filling T N → State
-state_of number filling = record { fresh = level_of number filling.fresh; table = places_of filling.table; count = filling.count; dropped = option_map (lost_of number) filling.dropped }
+abbrev pub level_state_of : {T N : Type 0} → (N → Val) → Filling T N → LevelState
+level_state_of number filling = record { fresh = level_of number filling.fresh; table = places_of filling.table; count = filling.count; dropped = option_map (lost_of number) filling.dropped }
 
 abbrev pub world : {T N : Type 0} → (Op → Bool) → (N → Val) → Task T N → World
 world owned number task = record {
@@ -39,7 +39,7 @@ world owned number task = record {
 }
 
 -- why filling stops, and what holds then
-abbrev pub IsStop : {T N : Type 0} → (N → Val) → World → State → Stop T N → Type 0
+abbrev pub IsStop : {T N : Type 0} → (N → Val) → World → LevelState → Stop T N → Type 0
 IsStop number w state (Full nonterminal kept) = IsSteady w state × IsBeyond w state nonterminal (entry_of number kept)
 IsStop number w state Enough = IsSteady w state × (state.dropped ≢ None)
 IsStop number w state Want = Unit {0}

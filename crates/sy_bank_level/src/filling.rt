@@ -6,8 +6,8 @@ ghost use Rattle.sy_bank_rows.specs.Banks.{Entry, IsKept, IsDropped, kept_at};
 ghost use Rattle.sy_bank_rows.specs.Stored.{entry_of, lost_of};
 ghost use Rattle.sy_bank_level.specs.Hashing.{hash_from};
 ghost use Rattle.sy_bank_level.specs.Places.{places_of};
-ghost use Rattle.sy_bank_level.specs.Filling.{IsSteady, IsRight, IsNewRow, Grows, IsDone, IsThere, AreOther};
-ghost use Rattle.sy_bank_level.specs.Task.{world, IsStop, level_of, levels_of, state_of};
+ghost use Rattle.sy_bank_level.specs.Filling.{IsSteady, EntryIsRight, IsNewRow, LevelGrows, TermIsDone, RowIsThere, AreOther};
+ghost use Rattle.sy_bank_level.specs.Task.{world, IsStop, level_of, levels_of, level_state_of};
 
 use crate::level::Level;
 use crate::rows::same_rows;
@@ -80,7 +80,7 @@ impl<T: Theory> Filling<T> {
         place: &Place,
         row: &[Value<T::Num>],
     ) -> bool
-        ensures { IsTrue result ↔ IsThere (levels_of T.denotes levels.now ++ level_of T.denotes self.now.fresh ∷ []) nonterminal place.now (vals_of T.denotes row.now) }
+        ensures { IsTrue result ↔ RowIsThere (levels_of T.denotes levels.now ++ level_of T.denotes self.now.fresh ∷ []) nonterminal place.now (vals_of T.denotes row.now) }
     {
         if place.nonterminal != nonterminal {
             return false;
@@ -127,14 +127,14 @@ impl<T: Theory> Filling<T> {
     ) -> Result<(), Stop<T>>
         requires sized { task.now.size ≡ length task.now.levels.now }
         requires known { nonterminal < length task.now.grammar.now.nons }
-        requires steady { IsSteady (world T.owned T.denotes task.now) (state_of T.denotes self.old) }
-        requires right { IsRight (world T.owned T.denotes task.now) nonterminal task.now.size (entry_of T.denotes kept) }
+        requires steady { IsSteady (world T.owned T.denotes task.now) (level_state_of T.denotes self.old) }
+        requires right { EntryIsRight (world T.owned T.denotes task.now) nonterminal task.now.size (entry_of T.denotes kept) }
         requires hash { hash ≡ hash_from nonterminal (vals_of T.denotes kept.row) }
-        requires differs { IsNewRow (world T.owned T.denotes task.now) (state_of T.denotes self.old) nonterminal (vals_of T.denotes kept.row) }
-        ensures steady { OnOk result (IsSteady (world T.owned T.denotes task.now) (state_of T.denotes self.new)) }
-        ensures grows { OnOk result (Grows (world T.owned T.denotes task.now) (state_of T.denotes self.old) (state_of T.denotes self.new)) }
-        ensures done { OnOk result (IsDone (world T.owned T.denotes task.now) (state_of T.denotes self.new) nonterminal task.now.size (entry_of T.denotes kept).term) }
-        ensures stop { IfErr result (IsStop T.denotes (world T.owned T.denotes task.now) (state_of T.denotes self.new)) }
+        requires differs { IsNewRow (world T.owned T.denotes task.now) (level_state_of T.denotes self.old) nonterminal (vals_of T.denotes kept.row) }
+        ensures steady { OnOk result (IsSteady (world T.owned T.denotes task.now) (level_state_of T.denotes self.new)) }
+        ensures grows { OnOk result (LevelGrows (world T.owned T.denotes task.now) (level_state_of T.denotes self.old) (level_state_of T.denotes self.new)) }
+        ensures done { OnOk result (TermIsDone (world T.owned T.denotes task.now) (level_state_of T.denotes self.new) nonterminal task.now.size (entry_of T.denotes kept).term) }
+        ensures stop { IfErr result (IsStop T.denotes (world T.owned T.denotes task.now) (level_state_of T.denotes self.new)) }
     {
         if self.count >= task.cap {
             return if self.dropped.is_some() {
@@ -157,11 +157,11 @@ impl<T: Theory> Filling<T> {
     /// Drops the term, unless one was dropped before.
     pub fn lose(&mut self, task: &Task<T>, dropped: Dropped<T>)
         requires sized { task.now.size ≡ length task.now.levels.now }
-        requires steady { IsSteady (world T.owned T.denotes task.now) (state_of T.denotes self.old) }
+        requires steady { IsSteady (world T.owned T.denotes task.now) (level_state_of T.denotes self.old) }
         requires lost { IsDropped (world T.owned T.denotes task.now).syntax (world T.owned T.denotes task.now).defined (world T.owned T.denotes task.now).pool (world T.owned T.denotes task.now).points task.now.size (lost_of T.denotes dropped) }
-        ensures steady { IsSteady (world T.owned T.denotes task.now) (state_of T.denotes self.new) }
-        ensures grows { Grows (world T.owned T.denotes task.now) (state_of T.denotes self.old) (state_of T.denotes self.new) }
-        ensures lost { (state_of T.denotes self.new).dropped ≢ None }
+        ensures steady { IsSteady (world T.owned T.denotes task.now) (level_state_of T.denotes self.new) }
+        ensures grows { LevelGrows (world T.owned T.denotes task.now) (level_state_of T.denotes self.old) (level_state_of T.denotes self.new) }
+        ensures lost { (level_state_of T.denotes self.new).dropped ≢ None }
     {
         if self.dropped.is_none() {
             self.dropped = Some(dropped);

@@ -8,7 +8,7 @@ use sy_terms::{Theory, Value};
 
 /// The upper half of the number's last 64 bits, laid over the lower one.
 fn folded(number: u128) -> u64
-    ensures { result ≡ spec.folded number }
+    ensures { result ≡ spec.halves_folded number }
 {
     let last = (number % (1 << 64)) as u64;
     last ^ (last >> 32)

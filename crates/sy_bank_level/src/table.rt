@@ -26,7 +26,7 @@ impl Table {
     ghost use Rattle.std.specs.Prelude.{◌≡◌, [], OnOk, OnErr, slice_get, drop};
     ghost use Rattle.std.specs.Option.{option_map};
     ghost use Rattle.sy_bank_level.specs.Places.{places_of};
-    ghost use Rattle.sy_bank_level.specs.Hashing.{IsAdded};
+    ghost use Rattle.sy_bank_level.specs.Hashing.{PlaceIsAdded};
 
     /// No places. It takes no memory.
     pub fn new(alloc: Global) -> Table
@@ -57,7 +57,7 @@ impl Table {
 
     /// Adds the place for the number. On `Want` nothing changes.
     pub fn add(&mut self, alloc: Global, hash: u64, place: Place) -> Result<(), Want>
-        ensures ok { OnOk result (IsAdded (places_of self.old) hash place (places_of self.new)) }
+        ensures ok { OnOk result (PlaceIsAdded (places_of self.old) hash place (places_of self.new)) }
         ensures err { OnErr result ((number : ℕ) → places_of self.new number ≡ places_of self.old number) }
     {
         if !self.firsts.contains_key(&hash) {

@@ -16,25 +16,25 @@ use Rattle.sy_bank_rows.specs.Covering.{AreKept, sizes, terms}
 use Rattle.sy_bank_rows.specs.Columns.{FitsAt, HasRow}
 use Rattle.sy_bank_columns.specs.Chosen.{AreRows, children}
 use Rattle.sy_bank_level.specs.Hashing.{hash_from}
-use Rattle.sy_bank_level.specs.Filling.{World, State, all, IsRight, IsSteady, IsNewRow, IsDone, AreOther}
+use Rattle.sy_bank_level.specs.Filling.{World, LevelState, all_levels, EntryIsRight, IsSteady, IsNewRow, TermIsDone, AreOther}
 use Rattle.sy_bank_level.proofs.Kept.{kept_at-before, size-within}
 use Rattle.sy_bank_offer.specs.Tasks.{IsSet, IsRule}
 use Rattle.sy_bank_offer.proofs.Nodes.{AreSound, node-derives, node-sized, as-many, derived-fits}
 
 -- a kept term of a lesser size is right
-pub right-below : (w : World) (s : State) (n : ℕ) (entry : Entry) → IsSteady w s → (kept : IsKept w.levels n entry) → IsRight w n kept.size entry
+pub right-below : (w : World) (s : LevelState) (n : ℕ) (entry : Entry) → IsSteady w s → (kept : IsKept w.levels n entry) → EntryIsRight w n kept.size entry
 right-below w s n entry steady kept =
     let within = size-within w.levels n kept.size kept.place entry kept.at in
     let same = kept_at-before w.levels s.fresh n kept.size within in
     steady.each n kept.size kept.place entry (ap (λ (list : List Entry). slice_get list kept.place) same ∙ kept.at)
 
-pub sound-below : (w : World) (s : State) (ns : List ℕ) (entries : List Entry) → IsSteady w s → AreKept w.levels ns entries → AreSound w.syntax w.defined w.pool w.points ns entries
+pub sound-below : (w : World) (s : LevelState) (ns : List ℕ) (entries : List Entry) → IsSteady w s → AreKept w.levels ns entries → AreSound w.syntax w.defined w.pool w.points ns entries
 sound-below w s [] [] steady kept = tt
 sound-below w s [] (entry ∷ entries) steady kept = absurd kept
 sound-below w s (n ∷ ns) [] steady kept = absurd kept
 sound-below w s (n ∷ ns) (entry ∷ entries) steady kept = ((right-below w s n entry steady kept.0).sound, sound-below w s ns entries steady kept.1)
 
-pub rows-below : (w : World) (s : State) (ns : List ℕ) (entries : List Entry) → IsSteady w s → AreKept w.levels ns entries → AreRows w.scope w.defined w.points entries
+pub rows-below : (w : World) (s : LevelState) (ns : List ℕ) (entries : List Entry) → IsSteady w s → AreKept w.levels ns entries → AreRows w.scope w.defined w.points entries
 rows-below w s [] [] steady kept i entry at = absurd (none-some entry at)
 rows-below w s [] (first ∷ entries) steady kept i entry at = absurd kept
 rows-below w s (n ∷ ns) [] steady kept i entry at = absurd kept
@@ -51,12 +51,12 @@ pub record IsGiven (numeric : Sort → Bool) (w : World) (n rule : ℕ) (pattern
   pub kept : AreKept w.levels (occurring pattern) entries
   pub sized : own_size pattern + sizes entries ≡ length w.levels
 
-pub given-fits : (numeric : Sort → Bool) (w : World) (s : State) (n rule : ℕ) (pattern : Pattern) (entries : List Entry) → IsSteady w s → IsGiven numeric w n rule pattern entries → FitsAt w.scope w.points (filled pattern (terms entries))
+pub given-fits : (numeric : Sort → Bool) (w : World) (s : LevelState) (n rule : ℕ) (pattern : Pattern) (entries : List Entry) → IsSteady w s → IsGiven numeric w n rule pattern entries → FitsAt w.scope w.points (filled pattern (terms entries))
 given-fits numeric w s n rule pattern entries steady given =
     derived-fits numeric w.scope w.syntax w.points n (Node rule (children entries)) (filled pattern (terms entries)) given.negation given.set.formed given.set.points given.rule_is.known
     (node-derives w.syntax w.defined w.pool w.points n rule pattern entries given.rule_is.at (sound-below w s (occurring pattern) entries steady given.kept))
 
-pub given-enough : (numeric : Sort → Bool) (w : World) (s : State) (n rule : ℕ) (pattern : Pattern) (entries : List Entry) → IsSteady w s → IsGiven numeric w n rule pattern entries → length (occurring pattern) ≤ length entries
+pub given-enough : (numeric : Sort → Bool) (w : World) (s : LevelState) (n rule : ℕ) (pattern : Pattern) (entries : List Entry) → IsSteady w s → IsGiven numeric w n rule pattern entries → length (occurring pattern) ≤ length entries
 given-enough numeric w s n rule pattern entries steady given = omega (arith, as-many w.syntax w.defined w.pool w.points (occurring pattern) entries (sound-below w s (occurring pattern) entries steady given.kept))
 
 row-is : (f : List Val → Val) (points : List (List Val)) (row : List Val) → length row ≡ length points → ((k : ℕ) (point : List Val) → slice_get points k ≡ Some point → value_at_position row k ≡ f point) → row ≡ map f points
@@ -75,9 +75,9 @@ has-row w term row has = record {
   is = row-is (λ point. meaning w.defined [] point term) w.points row has.sized (λ k point at. (has.each k point at).meaning);
 }
 
-pub given-right : (numeric : Sort → Bool) (w : World) (s : State) (n rule : ℕ) (pattern : Pattern) (entries : List Entry) (row : List Val) → IsSteady w s → IsGiven numeric w n rule pattern entries →
+pub given-right : (numeric : Sort → Bool) (w : World) (s : LevelState) (n rule : ℕ) (pattern : Pattern) (entries : List Entry) (row : List Val) → IsSteady w s → IsGiven numeric w n rule pattern entries →
     HasRow w.scope w.defined w.points (filled pattern (terms entries)) row →
-    IsRight w n (length w.levels) (record { term = filled pattern (terms entries); tree = Node rule (children entries); size = length w.levels; row = row })
+    EntryIsRight w n (length w.levels) (record { term = filled pattern (terms entries); tree = Node rule (children entries); size = length w.levels; row = row })
 given-right numeric w s n rule pattern entries row steady given has =
     let sound = sound-below w s (occurring pattern) entries steady given.kept in
     record {
@@ -90,7 +90,7 @@ given-right numeric w s n rule pattern entries row steady given has =
       row = has;
     }
 
-pub given-dropped : (numeric : Sort → Bool) (w : World) (s : State) (n rule : ℕ) (pattern : Pattern) (entries : List Entry) (point : ℕ) → IsSteady w s → IsGiven numeric w n rule pattern entries →
+pub given-dropped : (numeric : Sort → Bool) (w : World) (s : LevelState) (n rule : ℕ) (pattern : Pattern) (entries : List Entry) (point : ℕ) → IsSteady w s → IsGiven numeric w n rule pattern entries →
     IsLostAt w.defined w.points (filled pattern (terms entries)) point →
     IsDropped w.syntax w.defined w.pool w.points (length w.levels) (record { term = filled pattern (terms entries); point = point })
 given-dropped numeric w s n rule pattern entries point steady given lost =
@@ -104,22 +104,22 @@ given-dropped numeric w s n rule pattern entries point steady given lost =
     }
 
 -- where none of the row's places has a term with it, none is kept
-pub new-row : (w : World) (s : State) (n hash : ℕ) (row : List Val) → IsSteady w s → hash ≡ hash_from n row → AreOther (all w s) n (s.table hash) row → IsNewRow w s n row
+pub new-row : (w : World) (s : LevelState) (n hash : ℕ) (row : List Val) → IsSteady w s → hash ≡ hash_from n row → AreOther (all_levels w s) n (s.table hash) row → IsNewRow w s n row
 new-row w s n hash row steady is others other kept same =
     let placed = steady.placed n kept.size kept.place other kept.at in
     let here : hash_from n other.row ≡ hash = ap (hash_from n) same ∙ sym is in
     others placed.0 (record { nonterminal = n; size = kept.size; index = kept.place }) other (ap (λ (h : ℕ). slice_get (s.table h) placed.0) (sym here) ∙ placed.1) refl kept.at same
 
 -- where one is kept with it, the term is covered
-pub found-done : (w : World) (s : State) (n : ℕ) (term : Expr) (row : List Val) → IsSteady w s → HasRow w.scope w.defined w.points term row →
-    ((entry : Entry) × IsKept (all w s) n entry × (entry.row ≡ row)) → IsDone w s n (length w.levels) term
+pub found-done : (w : World) (s : LevelState) (n : ℕ) (term : Expr) (row : List Val) → IsSteady w s → HasRow w.scope w.defined w.points term row →
+    ((entry : Entry) × IsKept (all_levels w s) n entry × (entry.row ≡ row)) → TermIsDone w s n (length w.levels) term
 found-done w s n term row steady has found none_lost =
     let right = steady.each n found.1.size found.1.place found.0 found.1.at in
     record {
       entry = found.0;
       kept = found.1;
       small =
-          let within = size-within (all w s) n found.1.size found.1.place found.0 found.1.at in
+          let within = size-within (all_levels w s) n found.1.size found.1.place found.0 found.1.at in
           omega (arith, within, length-append w.levels (s.fresh ∷ []), right.sized);
       row = subst (IsRow w.defined w.points term) (sym found.2) (has-row w term row has);
     }

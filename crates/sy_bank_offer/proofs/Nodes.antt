@@ -13,7 +13,7 @@ use Rattle.sy_grammar_base.specs.Trees.{Syntax, Nonterminal, Template, Tree, Nod
 use Rattle.sy_grammar_base.specs.Formed.{is_formed}
 use Rattle.sy_grammar_laws.proofs.Members.{derived_fits}
 use Rattle.sy_grammar_laws.proofs.Filling.{sort_at}
-use Rattle.sy_bank_rows.specs.Banks.{Entry, IsSound}
+use Rattle.sy_bank_rows.specs.Banks.{Entry, EntryIsSound}
 use Rattle.sy_bank_rows.specs.Covering.{sizes, terms}
 use Rattle.sy_bank_rows.specs.Columns.{FitsAt}
 use Rattle.sy_bank_columns.specs.Chosen.{children}
@@ -24,7 +24,7 @@ abbrev pub AreSound : Syntax → List Function → List Val → List (List Val) 
 AreSound syntax defined pool points [] [] = Unit {0}
 AreSound syntax defined pool points [] (entry ∷ entries) = ⊥
 AreSound syntax defined pool points (n ∷ ns) [] = ⊥
-AreSound syntax defined pool points (n ∷ ns) (entry ∷ entries) = IsSound syntax defined pool points n entry × AreSound syntax defined pool points ns entries
+AreSound syntax defined pool points (n ∷ ns) (entry ∷ entries) = EntryIsSound syntax defined pool points n entry × AreSound syntax defined pool points ns entries
 
 yields-chosen : (syntax : Syntax) (defined : List Function) (pool : List Val) (points : List (List Val)) (ns : List ℕ) (entries : List Entry) → AreSound syntax defined pool points ns entries →
     yields_from syntax ns (children entries) ≡ Some (terms entries)

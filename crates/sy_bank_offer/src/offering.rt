@@ -4,8 +4,8 @@ ghost use Rattle.sy_grammar_base.specs.Patterns.{occurring, filled, own_size};
 ghost use Rattle.sy_grammar_base.specs.Written.{pattern_of};
 ghost use Rattle.sy_bank_rows.specs.Covering.{AreKept, sizes, terms};
 ghost use Rattle.sy_bank_rows.specs.Stored.{chosen_of};
-ghost use Rattle.sy_bank_level.specs.Filling.{IsSteady, Grows, IsDone};
-ghost use Rattle.sy_bank_level.specs.Task.{world, IsStop, state_of, levels_of};
+ghost use Rattle.sy_bank_level.specs.Filling.{IsSteady, LevelGrows, TermIsDone};
+ghost use Rattle.sy_bank_level.specs.Task.{world, IsStop, level_state_of, levels_of};
 ghost use Rattle.sy_bank_offer.specs.Tasks.{IsTask, IsRule};
 
 use crate::template::Template;
@@ -23,13 +23,13 @@ pub fn offer<T: Theory>(
 ) -> Result<(), Stop<T>>
     requires task { IsTask T.owned T.numeric T.denotes task.now }
     requires rule { IsRule (world T.owned T.denotes task.now).syntax template.now.nonterminal template.now.number (pattern_of T.denotes template.now.part.now.value) }
-    requires steady { IsSteady (world T.owned T.denotes task.now) (state_of T.denotes filling.old) }
+    requires steady { IsSteady (world T.owned T.denotes task.now) (level_state_of T.denotes filling.old) }
     requires chosen { AreKept (levels_of T.denotes task.now.levels.now) (occurring (pattern_of T.denotes template.now.part.now.value)) (chosen_of T.denotes chosen.now) }
     requires sized { own_size (pattern_of T.denotes template.now.part.now.value) + sizes (chosen_of T.denotes chosen.now) ≡ task.now.size }
-    ensures steady { OnOk result (IsSteady (world T.owned T.denotes task.now) (state_of T.denotes filling.new)) }
-    ensures grows { OnOk result (Grows (world T.owned T.denotes task.now) (state_of T.denotes filling.old) (state_of T.denotes filling.new)) }
-    ensures done { OnOk result (IsDone (world T.owned T.denotes task.now) (state_of T.denotes filling.new) template.now.nonterminal task.now.size (filled (pattern_of T.denotes template.now.part.now.value) (terms (chosen_of T.denotes chosen.now)))) }
-    ensures stop { IfErr result (IsStop T.denotes (world T.owned T.denotes task.now) (state_of T.denotes filling.new)) }
+    ensures steady { OnOk result (IsSteady (world T.owned T.denotes task.now) (level_state_of T.denotes filling.new)) }
+    ensures grows { OnOk result (LevelGrows (world T.owned T.denotes task.now) (level_state_of T.denotes filling.old) (level_state_of T.denotes filling.new)) }
+    ensures done { OnOk result (TermIsDone (world T.owned T.denotes task.now) (level_state_of T.denotes filling.new) template.now.nonterminal task.now.size (filled (pattern_of T.denotes template.now.part.now.value) (terms (chosen_of T.denotes chosen.now)))) }
+    ensures stop { IfErr result (IsStop T.denotes (world T.owned T.denotes task.now) (level_state_of T.denotes filling.new)) }
 {
     let alloc = task.alloc;
     let row = match part_row(alloc, task.defs, task.points, template.part, chosen) {

@@ -11,7 +11,7 @@ use Rattle.sy_grammar_base.specs.Trees.{Tree, Trees}
 use Rattle.sy_grammar_base.specs.Grown.{tree_of, trees_of}
 use Rattle.sy_grammar_base.specs.declared.derivation.Derivation.{Derivation}
 use Rattle.sy_grammar_base.specs.declared.part.Part.{Part}
-use Rattle.sy_bank_rows.specs.Shared.{term_from, terms_from, tree_from, trees_from}
+use Rattle.sy_bank_rows.specs.Shared.{term_from, terms_from, tree_from, shared_trees}
 use Rattle.sy_bank_rows.specs.declared.grown.Grown.{Grown}
 
 -- one tree after these
@@ -36,6 +36,6 @@ pub terms_from-last : {T N : Type 0} (number : N → Val) (all : List (Rc (Grown
 terms_from-last number [] last = refl
 terms_from-last number (first ∷ all) last = ap (λ terms. term_from number first.value ∷ terms) (terms_from-last number all last)
 
-pub trees_from-last : {T N : Type 0} (number : N → Val) (all : List (Rc (Grown T N) Global)) (last : Rc (Grown T N) Global) → trees_from number (all ++ last ∷ []) ≡ with_last (trees_from number all) (tree_from number last.value)
+pub trees_from-last : {T N : Type 0} (number : N → Val) (all : List (Rc (Grown T N) Global)) (last : Rc (Grown T N) Global) → shared_trees number (all ++ last ∷ []) ≡ with_last (shared_trees number all) (tree_from number last.value)
 trees_from-last number [] last = refl
 trees_from-last number (first ∷ all) last = ap (trees.more (tree_from number first.value)) (trees_from-last number all last)

@@ -34,9 +34,9 @@ count_of [] = 0
 count_of (entries ∷ rest) = length entries + count_of rest
 
 -- how many are kept over all sizes and nonterminals
-abbrev pub count : {X : Type 0} → List (List (List X)) → ℕ
-count [] = 0
-count (level ∷ levels) = count_of level + count levels
+abbrev pub kept_count : {X : Type 0} → List (List (List X)) → ℕ
+kept_count [] = 0
+kept_count (level ∷ levels) = count_of level + kept_count levels
 
 -- the term is kept for the nonterminal
 pub record IsKept (levels : List (List (List Entry))) (nonterminal : ℕ) (entry : Entry) : Type 0 where
@@ -45,16 +45,16 @@ pub record IsKept (levels : List (List (List Entry))) (nonterminal : ℕ) (entry
   pub at : slice_get (kept_at levels nonterminal size) place ≡ Some entry
 
 -- the term has its derivation from the nonterminal, of its size, and its row
-pub record IsSound (syntax : Syntax) (defined : List Function) (pool : List Val) (points : List (List Val)) (nonterminal : ℕ) (entry : Entry) : Type 0 where
+pub record EntryIsSound (syntax : Syntax) (defined : List Function) (pool : List Val) (points : List (List Val)) (nonterminal : ℕ) (entry : Entry) : Type 0 where
   pub derives : Derives syntax nonterminal entry.tree entry.term
   pub sized : tree_size syntax pool nonterminal entry.tree ≡ entry.size
   pub row : IsRow defined points entry.term entry.row
 
 -- each kept term is sound and stands at its size, at most the greatest; the rows of one nonterminal are distinct
-pub record IsHonest (syntax : Syntax) (defined : List Function) (pool : List Val) (bank : Merged) : Type 0 where
+pub record IsHonestBank (syntax : Syntax) (defined : List Function) (pool : List Val) (bank : Merged) : Type 0 where
   pub within : length bank.levels ≤ bank.upto + 1
   pub each : (nonterminal size place : ℕ) (entry : Entry) → slice_get (kept_at bank.levels nonterminal size) place ≡ Some entry →
-      (entry.size ≡ size) × IsSound syntax defined pool bank.points nonterminal entry
+      (entry.size ≡ size) × EntryIsSound syntax defined pool bank.points nonterminal entry
   pub distinct : (nonterminal m n i j : ℕ) (first second : Entry) →
       slice_get (kept_at bank.levels nonterminal m) i ≡ Some first → slice_get (kept_at bank.levels nonterminal n) j ≡ Some second →
       first.row ≡ second.row → (m ≡ n) × (i ≡ j)
@@ -68,7 +68,7 @@ pub record IsDropped (syntax : Syntax) (defined : List Function) (pool : List Va
   pub is : IsLostAt defined points lost.term lost.point
 
 -- the term is sound, of at most this size, and no kept term of the nonterminal has its row
-pub record IsNew (syntax : Syntax) (defined : List Function) (pool : List Val) (bank : Merged) (nonterminal : ℕ) (entry : Entry) : Type 0 where
-  pub sound : IsSound syntax defined pool bank.points nonterminal entry
+pub record IsNewEntry (syntax : Syntax) (defined : List Function) (pool : List Val) (bank : Merged) (nonterminal : ℕ) (entry : Entry) : Type 0 where
+  pub sound : EntryIsSound syntax defined pool bank.points nonterminal entry
   pub small : entry.size ≤ bank.upto
   pub differs : (other : Entry) → IsKept bank.levels nonterminal other → other.row ≡ entry.row → ⊥

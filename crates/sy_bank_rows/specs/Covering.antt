@@ -8,7 +8,7 @@ use Rattle.sy_grammar_base.specs.Trees.{Syntax, Production, Template, EachConsta
 use Rattle.sy_bank_rows.specs.Rows.{IsRow}
 use Rattle.sy_bank_rows.specs.Banks.{Entry, Merged, IsKept}
 
--- the term is computable at all points, and the nonterminal has a kept term of no larger size with its row
+-- the term is computable at all points, and its row is that of a kept term of the nonterminal, at most as large
 pub record IsCovered (defined : List Function) (points : List (List Val)) (levels : List (List (List Entry))) (nonterminal size : ℕ) (term : Expr) : Type 0 where
   pub entry : Entry
   pub kept : IsKept levels nonterminal entry

@@ -42,9 +42,9 @@ abbrev pub terms_from : {T N : Type 0} → (N → Val) → List (Rc (Grown T N) 
 terms_from number [] = []
 terms_from number (first ∷ rest) = term_from number first.value ∷ terms_from number rest
 
-abbrev pub trees_from : {T N : Type 0} → (N → Val) → List (Rc (Grown T N) Global) → Trees
-trees_from number [] = trees.none
-trees_from number (first ∷ rest) = trees.more (tree_from number first.value) (trees_from number rest)
+abbrev pub shared_trees : {T N : Type 0} → (N → Val) → List (Rc (Grown T N) Global) → Trees
+shared_trees number [] = trees.none
+shared_trees number (first ∷ rest) = trees.more (tree_from number first.value) (shared_trees number rest)
 
 pub term_from-Leaf : {T N : Type 0} (number : N → Val) (term : Term T N) (derivation : Derivation T N) → let grown : Grown T N = Leaf term derivation in term_from number grown ≡ expr_of number term
 unfolding term_from
@@ -59,7 +59,7 @@ unfolding terms_in term_from
 terms_in-items number end_of-Growns-items-1 = refl
 terms_in-items number (more_of-Growns-items-1 pointer first rest) = ap (λ terms. term_from number first ∷ terms) (terms_in-items number rest)
 
-trees_in-items : {T N : Type 0} (number : N → Val) {m : _} (row : Row_of-Growns-items-1 T N m) → trees_in number row ≡ trees_from number (items-the_row-Growns-items-1 T N m row)
+trees_in-items : {T N : Type 0} (number : N → Val) {m : _} (row : Row_of-Growns-items-1 T N m) → trees_in number row ≡ shared_trees number (items-the_row-Growns-items-1 T N m row)
 unfolding trees_in tree_from
 trees_in-items number end_of-Growns-items-1 = refl
 trees_in-items number (more_of-Growns-items-1 pointer first rest) = ap (trees.more (tree_from number first)) (trees_in-items number rest)
@@ -71,7 +71,7 @@ term_from-Filled {T} {N} number rule part parts = ap (filled (pattern_of number 
     (terms_in-items number (hidden-the_row-Growns-items-1-0 T N parts.items) ∙ ap (terms_from number) (items_hidden-the_row-Growns-items-1-0 T N parts.items))
 
 pub tree_from-Filled : {T N : Type 0} (number : N → Val) (rule : ℕ) (part : Rc (Part T N) Global) (parts : Growns T N) →
-    tree_from number (Filled rule part parts) ≡ trees.Node rule (trees_from number parts.items.items)
+    tree_from number (Filled rule part parts) ≡ trees.Node rule (shared_trees number parts.items.items)
 unfolding tree_from trees_in
 tree_from-Filled {T} {N} number rule part parts = ap (trees.Node rule)
-    (trees_in-items number (hidden-the_row-Growns-items-1-0 T N parts.items) ∙ ap (trees_from number) (items_hidden-the_row-Growns-items-1-0 T N parts.items))
+    (trees_in-items number (hidden-the_row-Growns-items-1-0 T N parts.items) ∙ ap (shared_trees number) (items_hidden-the_row-Growns-items-1-0 T N parts.items))

@@ -2,7 +2,7 @@
 ghost use Rattle.std.specs.Prelude.{◌≡◌, IfOk, map};
 ghost use Rattle.sy_terms.specs.Denoted.{expr_of};
 ghost use Rattle.sy_grammar_base.specs.Grown.{tree_of, trees_of};
-ghost use Rattle.sy_bank_rows.specs.Shared.{term_from, terms_from, tree_from, trees_from};
+ghost use Rattle.sy_bank_rows.specs.Shared.{term_from, terms_from, tree_from, shared_trees};
 ghost use Rattle.sy_bank_rows.specs.Stored.{entry_of};
 
 use crate::fill::filled_part;
@@ -85,7 +85,7 @@ impl<T: Theory> Growns<T> {
     /// The derivations, in memory of their own.
     #[cycle(derivation)]
     fn derivations(&self, alloc: Global) -> Result<Derivations<T>, Want>
-        ensures { IfOk result (λ derivations. trees_of T.denotes derivations.items.items ≡ trees_from T.denotes self.now.items.items) }
+        ensures { IfOk result (λ derivations. trees_of T.denotes derivations.items.items ≡ shared_trees T.denotes self.now.items.items) }
     {
         let all = self.as_slice();
         let mut derivations = Derivations::with_capacity(alloc, all.len())?;

@@ -6,26 +6,26 @@ use Rattle.std.proofs.lemmas.List.Elements.{All-nil, All-cons, All-head, All-tai
 use Rattle.sy_grammar_base.specs.Patterns.{Pattern, occurring, filled, own_size}
 use Rattle.sy_bank_rows.specs.Banks.{Entry, kept_at, IsKept}
 use Rattle.sy_bank_rows.specs.Covering.{AreKept, sizes, terms}
-use Rattle.sy_bank_level.specs.Filling.{World, State, IsSteady, Grows, IsDone}
+use Rattle.sy_bank_level.specs.Filling.{World, LevelState, IsSteady, LevelGrows, TermIsDone}
 use Rattle.sy_bank_level.proofs.Keeping.{done-on}
-use Rattle.sy_bank_rules.specs.Choosing.{AreDone, IsBegun, AreDoneFrom}
+use Rattle.sy_bank_rules.specs.Choosing.{AreDone, PatternIsBegun, AreDoneFrom}
 use Rattle.sy_bank_rules.proofs.Least.{right-at, size-least, sizes-least}
 
 -- what is done stays done
-pub from-on : (w : World) (s t : State) (n : ℕ) (pattern : Pattern) (chosen : List Entry) (places : List ℕ) (left : ℕ) → Grows w s t →
+pub from-on : (w : World) (s t : LevelState) (n : ℕ) (pattern : Pattern) (chosen : List Entry) (places : List ℕ) (left : ℕ) → LevelGrows w s t →
     AreDoneFrom w s n pattern chosen places left → AreDoneFrom w t n pattern chosen places left
 from-on w s t n pattern chosen places left grows done =
     record { each = λ others kept sized. done-on w s t n (length w.levels) (filled pattern (terms (chosen ++ others))) grows (done.each others kept sized) }
 
 -- before any choice
-pub begun-first : (w : World) (pattern : Pattern) (left : ℕ) → own_size pattern + left ≡ length w.levels → IsBegun w pattern [] (occurring pattern) left
+pub begun-first : (w : World) (pattern : Pattern) (left : ℕ) → own_size pattern + left ≡ length w.levels → PatternIsBegun w pattern [] (occurring pattern) left
 begun-first w pattern left sized = record { before = []; whole = refl; kept = tt; sized = omega arith }
 
-pub all-done : (w : World) (s : State) (n : ℕ) (pattern : Pattern) (left : ℕ) → own_size pattern + left ≡ length w.levels → AreDoneFrom w s n pattern [] (occurring pattern) left → AreDone w s n (length w.levels) pattern
+pub all-done : (w : World) (s : LevelState) (n : ℕ) (pattern : Pattern) (left : ℕ) → own_size pattern + left ≡ length w.levels → AreDoneFrom w s n pattern [] (occurring pattern) left → AreDone w s n (length w.levels) pattern
 all-done w s n pattern left sized done chosen kept whole = done.each chosen kept (omega arith)
 
 -- where the pattern itself is larger, it gives nothing
-pub none-done : (w : World) (s : State) (n size : ℕ) (pattern : Pattern) → size < own_size pattern → AreDone w s n size pattern
+pub none-done : (w : World) (s : LevelState) (n size : ℕ) (pattern : Pattern) → size < own_size pattern → AreDone w s n size pattern
 none-done w s n size pattern larger chosen kept whole = absurd (omega arith)
 
 kept-append : (levels : List (List (List Entry))) (ns : List ℕ) (entries : List Entry) (n : ℕ) (entry : Entry) → AreKept levels ns entries → IsKept levels n entry → AreKept levels (ns ++ n ∷ []) (entries ++ entry ∷ [])
@@ -39,8 +39,8 @@ sizes-append [] entry = omega arith
 sizes-append (first ∷ entries) entry = omega (arith, sizes-append entries entry)
 
 -- one more term is chosen
-pub begun-next : (w : World) (s : State) (pattern : Pattern) (chosen : List Entry) (n : ℕ) (places : List ℕ) (left size place : ℕ) (entry : Entry) → IsSteady w s →
-    IsBegun w pattern chosen (n ∷ places) left → slice_get (kept_at w.levels n size) place ≡ Some entry → size ≤ left → IsBegun w pattern (chosen ++ entry ∷ []) places (left - size)
+pub begun-next : (w : World) (s : LevelState) (pattern : Pattern) (chosen : List Entry) (n : ℕ) (places : List ℕ) (left size place : ℕ) (entry : Entry) → IsSteady w s →
+    PatternIsBegun w pattern chosen (n ∷ places) left → slice_get (kept_at w.levels n size) place ≡ Some entry → size ≤ left → PatternIsBegun w pattern (chosen ++ entry ∷ []) places (left - size)
 begun-next w s pattern chosen n places left size place entry steady begun at small =
     let right = right-at w s n size place entry steady at in
     record {
@@ -51,7 +51,7 @@ begun-next w s pattern chosen n places left size place entry steady begun at sma
     }
 
 -- all terms are chosen
-pub chosen-kept : (w : World) (pattern : Pattern) (chosen : List Entry) (left : ℕ) → IsBegun w pattern chosen [] left → AreKept w.levels (occurring pattern) chosen
+pub chosen-kept : (w : World) (pattern : Pattern) (chosen : List Entry) (left : ℕ) → PatternIsBegun w pattern chosen [] left → AreKept w.levels (occurring pattern) chosen
 chosen-kept w pattern chosen left begun = subst (λ (ns : List ℕ). AreKept w.levels ns chosen) (sym (append-nil begun.before) ∙ begun.whole) begun.kept
 
 none-other : (levels : List (List (List Entry))) (others : List Entry) → AreKept levels [] others → others ≡ []
@@ -62,8 +62,8 @@ none-left : (places : List ℕ) → length places ≡ 0 → places ≡ []
 none-left [] none = refl
 none-left (place ∷ places) none = absurd (omega (arith, none))
 
-pub chosen-done : (w : World) (s : State) (n size : ℕ) (pattern : Pattern) (chosen given : List Entry) (places : List ℕ) (left : ℕ) → length places ≡ 0 → left ≡ 0 → size ≡ length w.levels → given ≡ chosen →
-    IsDone w s n size (filled pattern (terms given)) → AreDoneFrom w s n pattern chosen places left
+pub chosen-done : (w : World) (s : LevelState) (n size : ℕ) (pattern : Pattern) (chosen given : List Entry) (places : List ℕ) (left : ℕ) → length places ≡ 0 → left ≡ 0 → size ≡ length w.levels → given ≡ chosen →
+    TermIsDone w s n size (filled pattern (terms given)) → AreDoneFrom w s n pattern chosen places left
 chosen-done w s n size pattern chosen given places left none all sized same done = record {
   each = λ others kept whole.
       let nothing = none-other w.levels others (subst (λ ns. AreKept w.levels ns others) (none-left places none) kept) in
@@ -71,28 +71,28 @@ chosen-done w s n size pattern chosen given places left none all sized same done
 }
 
 -- where too much or too little of the size is left, nothing is given
-pub left-over : (w : World) (s : State) (n : ℕ) (pattern : Pattern) (chosen : List Entry) (places : List ℕ) (left : ℕ) → length places ≡ 0 → (left ≡ 0 → ⊥) → AreDoneFrom w s n pattern chosen places left
+pub left-over : (w : World) (s : LevelState) (n : ℕ) (pattern : Pattern) (chosen : List Entry) (places : List ℕ) (left : ℕ) → length places ≡ 0 → (left ≡ 0 → ⊥) → AreDoneFrom w s n pattern chosen places left
 left-over w s n pattern chosen places left none over = record {
   each = λ others kept whole.
       let nothing = none-other w.levels others (subst (λ ns. AreKept w.levels ns others) (none-left places none) kept) in
       absurd (over (sym whole ∙ ap sizes nothing));
 }
 
-pub left-short : (w : World) (s t : State) (n : ℕ) (pattern : Pattern) (chosen : List Entry) (places : List ℕ) (left : ℕ) → IsSteady w s → left < length places → AreDoneFrom w t n pattern chosen places left
+pub left-short : (w : World) (s t : LevelState) (n : ℕ) (pattern : Pattern) (chosen : List Entry) (places : List ℕ) (left : ℕ) → IsSteady w s → left < length places → AreDoneFrom w t n pattern chosen places left
 left-short w s t n pattern chosen places left steady short = record { each = λ others kept sized. absurd (omega (arith, sized, sizes-least w s places others steady kept)) }
 
 -- each term that the pattern gives of the chosen terms, of a kept one whose size is below the bound, and of others, is done
-pub record AreDoneBelow (w : World) (s : State) (n : ℕ) (pattern : Pattern) (chosen : List Entry) (first : ℕ) (places : List ℕ) (left least bound : ℕ) : Type 0 where
+pub record AreDoneBelow (w : World) (s : LevelState) (n : ℕ) (pattern : Pattern) (chosen : List Entry) (first : ℕ) (places : List ℕ) (left least bound : ℕ) : Type 0 where
   pub each : (size place : ℕ) (entry : Entry) → slice_get (kept_at w.levels first size) place ≡ Some entry → least ≤ size → size < bound →
       AreDoneFrom w s n pattern (chosen ++ entry ∷ []) places (left - size)
 
-pub below-on : (w : World) (s t : State) (n : ℕ) (pattern : Pattern) (chosen : List Entry) (first : ℕ) (places : List ℕ) (left least bound : ℕ) → Grows w s t →
+pub below-on : (w : World) (s t : LevelState) (n : ℕ) (pattern : Pattern) (chosen : List Entry) (first : ℕ) (places : List ℕ) (left least bound : ℕ) → LevelGrows w s t →
     AreDoneBelow w s n pattern chosen first places left least bound → AreDoneBelow w t n pattern chosen first places left least bound
 below-on w s t n pattern chosen first places left least bound grows done = record {
   each = λ size place entry at above below. from-on w s t n pattern (chosen ++ entry ∷ []) places (left - size) grows (done.each size place entry at above below);
 }
 
-pub below-first : (w : World) (s : State) (n : ℕ) (pattern : Pattern) (chosen : List Entry) (first : ℕ) (places : List ℕ) (left least : ℕ) → AreDoneBelow w s n pattern chosen first places left least least
+pub below-first : (w : World) (s : LevelState) (n : ℕ) (pattern : Pattern) (chosen : List Entry) (first : ℕ) (places : List ℕ) (left least : ℕ) → AreDoneBelow w s n pattern chosen first places left least least
 below-first w s n pattern chosen first places left least = record { each = λ size place entry at above below. absurd (omega arith) }
 
 or-last : (m n : ℕ) → m < n + 1 → (m < n) ⊎ (m ≡ n)
@@ -121,7 +121,7 @@ all-at f P (x ∷ xs) (e ∷ entries) same each =
     All-cons (λ y. P (f y)) x xs (subst P equal (each 0 e refl)) (all-at f P xs entries rest (λ i entry at. each (suc i) entry at))
 
 -- one size more, of which nothing is kept
-pub below-none : (w : World) (s : State) (n : ℕ) (pattern : Pattern) (chosen : List Entry) (first : ℕ) (places : List ℕ) (left least bound : ℕ) → AreDoneBelow w s n pattern chosen first places left least bound →
+pub below-none : (w : World) (s : LevelState) (n : ℕ) (pattern : Pattern) (chosen : List Entry) (first : ℕ) (places : List ℕ) (left least bound : ℕ) → AreDoneBelow w s n pattern chosen first places left least bound →
     kept_at w.levels first bound ≡ [] → AreDoneBelow w s n pattern chosen first places left least (bound + 1)
 below-none w s n pattern chosen first places left least bound done none = record {
   each = λ size place entry at above below. elim (or-last size bound below) [
@@ -131,8 +131,8 @@ below-none w s n pattern chosen first places left least bound done none = record
 }
 
 -- one size more, of which each kept term was the first of the others
-pub below-some : {X : Type 0} (f : X → Entry) (xs : List X) (w : World) (s t : State) (n : ℕ) (pattern : Pattern) (chosen : List Entry) (first : ℕ) (places : List ℕ) (left least bound : ℕ) →
-    Grows w s t → AreDoneBelow w s n pattern chosen first places left least bound → map f xs ≡ kept_at w.levels first bound →
+pub below-some : {X : Type 0} (f : X → Entry) (xs : List X) (w : World) (s t : LevelState) (n : ℕ) (pattern : Pattern) (chosen : List Entry) (first : ℕ) (places : List ℕ) (left least bound : ℕ) →
+    LevelGrows w s t → AreDoneBelow w s n pattern chosen first places left least bound → map f xs ≡ kept_at w.levels first bound →
     All (λ x. AreDoneFrom w t n pattern (chosen ++ f x ∷ []) places (left - bound)) xs → AreDoneBelow w t n pattern chosen first places left least (bound + 1)
 below-some f xs w s t n pattern chosen first places left least bound grows done same all = record {
   each = λ size place entry at above below. elim (or-last size bound below) [
@@ -147,12 +147,12 @@ sizes-none levels [] (entry ∷ entries) none kept = absurd kept
 sizes-none levels (n ∷ ns) entries none kept = absurd (omega (arith, none))
 
 -- no other size is left for the first of the others
-pub below-whole : (w : World) (s t : State) (n : ℕ) (pattern : Pattern) (chosen : List Entry) (all : List ℕ) (first : ℕ) (places : List ℕ) (left least bound : ℕ) → IsSteady w s →
+pub below-whole : (w : World) (s t : LevelState) (n : ℕ) (pattern : Pattern) (chosen : List Entry) (all : List ℕ) (first : ℕ) (places : List ℕ) (left least bound : ℕ) → IsSteady w s →
     all ≡ first ∷ places → length places + bound ≡ left + 1 → (least ≤ 1) ⊎ ((length places ≡ 0) × (least ≡ left)) →
     AreDoneBelow w t n pattern chosen first places left least bound → AreDoneFrom w t n pattern chosen all left
 below-whole w s t n pattern chosen all first places left least bound steady split whole from done = rw split (record { each = each })
   where
-    each : (others : List Entry) → AreKept w.levels (first ∷ places) others → sizes others ≡ left → IsDone w t n (length w.levels) (filled pattern (terms (chosen ++ others)))
+    each : (others : List Entry) → AreKept w.levels (first ∷ places) others → sizes others ≡ left → TermIsDone w t n (length w.levels) (filled pattern (terms (chosen ++ others)))
     each [] kept sized = absurd kept
     each (entry ∷ others) kept sized =
         let size = kept.0.size in

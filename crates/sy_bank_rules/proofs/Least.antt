@@ -8,10 +8,10 @@ use Rattle.sy_terms.specs.Expr.{Expr}
 use Rattle.sy_grammar_base.specs.Patterns as pattern
 use Rattle.sy_grammar_base.specs.Patterns.{Pattern, occurring, filled, own_size}
 use Rattle.sy_grammar_base.specs.Trees as trees
-use Rattle.sy_grammar_base.specs.Trees.{Syntax, Production, Template, EachConstant, EachVariable, Tree, Trees, Node, ConstantLeaf, VariableLeaf, Derives, rule_at, yield_from, yields_from, node_yield, node_size, joined, tree_size, tree_sizes, constant_size, is_small, digits, magnitude}
+use Rattle.sy_grammar_base.specs.Trees.{Syntax, Production, Template, EachConstant, EachVariable, Tree, Trees, Node, ConstantLeaf, VariableLeaf, Derives, rule_at, yield_from, yields_from, node_yield, node_size, terms_joined, tree_size, tree_sizes, constant_size, is_small, digits, value_magnitude}
 use Rattle.sy_bank_rows.specs.Banks.{Entry, kept_at}
 use Rattle.sy_bank_rows.specs.Covering.{AreKept, sizes}
-use Rattle.sy_bank_level.specs.Filling.{World, State, IsSteady, IsRight}
+use Rattle.sy_bank_level.specs.Filling.{World, LevelState, IsSteady, EntryIsRight}
 use Rattle.sy_bank_level.proofs.Kept.{kept_at-before, size-within}
 
 cond-least : (test : Bool) (n : ℕ) → 1 ≤ (if test then 1 else n + 1)
@@ -19,7 +19,7 @@ cond-least true n = omega arith
 cond-least false n = omega arith
 
 constant-least : (pool : List Val) (value : Val) → 1 ≤ constant_size pool value
-constant-least pool value = cond-least (is_small value || list_any (same value) pool) (digits (magnitude value))
+constant-least pool value = cond-least (is_small value || list_any (same value) pool) (digits (value_magnitude value))
 
 -- a pattern has a size of its own, or it is one nonterminal
 pattern-least : (pattern : Pattern) → 1 ≤ own_size pattern + length (occurring pattern)
@@ -33,7 +33,7 @@ some-of : {A B : Type 0} (f : A → B) (found : Option A) (whole : B) → option
 some-of f None whole e = cc
 some-of f (Some part) whole e = (part, refl)
 
-both-of : (first : Option Expr) (rest : Option (List Expr)) (found : List Expr) → joined first rest ≡ Some found → ((term : Expr) × (first ≡ Some term)) × ((more : List Expr) × (rest ≡ Some more))
+both-of : (first : Option Expr) (rest : Option (List Expr)) (found : List Expr) → terms_joined first rest ≡ Some found → ((term : Expr) × (first ≡ Some term)) × ((more : List Expr) × (rest ≡ Some more))
 both-of None rest found e = cc
 both-of (Some term) None found e = cc
 both-of (Some term) (Some more) found e = ((term, refl), (more, refl))
@@ -66,17 +66,17 @@ mutual
       omega (arith, tree-least syntax pool nonterminal first parts.0.0 parts.0.1, trees-least syntax pool nonterminals rest parts.1.0 parts.1.1)
 
 -- a kept term of a lesser size is right
-pub right-at : (w : World) (s : State) (n size place : ℕ) (entry : Entry) → IsSteady w s → slice_get (kept_at w.levels n size) place ≡ Some entry → IsRight w n size entry
+pub right-at : (w : World) (s : LevelState) (n size place : ℕ) (entry : Entry) → IsSteady w s → slice_get (kept_at w.levels n size) place ≡ Some entry → EntryIsRight w n size entry
 right-at w s n size place entry steady at =
     let within = size-within w.levels n size place entry at in
     let same = kept_at-before w.levels s.fresh n size within in
     steady.each n size place entry (ap (λ (list : List Entry). slice_get list place) same ∙ at)
 
-pub size-least : (w : World) (n size : ℕ) (entry : Entry) → IsRight w n size entry → 1 ≤ size
+pub size-least : (w : World) (n size : ℕ) (entry : Entry) → EntryIsRight w n size entry → 1 ≤ size
 size-least w n size entry right = omega (arith, tree-least w.syntax w.pool n entry.tree entry.term right.sound.derives, right.sound.sized, right.sized)
 
 -- kept terms have a size of at least their number
-pub sizes-least : (w : World) (s : State) (ns : List ℕ) (entries : List Entry) → IsSteady w s → AreKept w.levels ns entries → length ns ≤ sizes entries
+pub sizes-least : (w : World) (s : LevelState) (ns : List ℕ) (entries : List Entry) → IsSteady w s → AreKept w.levels ns entries → length ns ≤ sizes entries
 sizes-least w s [] entries steady kept = omega arith
 sizes-least w s (n ∷ ns) [] steady kept = absurd kept
 sizes-least w s (n ∷ ns) (entry ∷ entries) steady kept =

@@ -2,10 +2,10 @@
 ghost use Rattle.std.specs.Prelude.{◌≡◌, [], ◌∷◌, ◌++◌, All, IfErr, OnOk};
 ghost use Rattle.sy_grammar_base.specs.Written.{pattern_of};
 ghost use Rattle.sy_bank_rows.specs.Stored.{entry_of, chosen_of};
-ghost use Rattle.sy_bank_level.specs.Filling.{IsSteady, Grows};
-ghost use Rattle.sy_bank_level.specs.Task.{world, IsStop, state_of};
+ghost use Rattle.sy_bank_level.specs.Filling.{IsSteady, LevelGrows};
+ghost use Rattle.sy_bank_level.specs.Task.{world, IsStop, level_state_of};
 ghost use Rattle.sy_bank_offer.specs.Tasks.{IsTask, IsRule};
-ghost use Rattle.sy_bank_rules.specs.Choosing.{AreDone, AreDoneFrom, IsBegun};
+ghost use Rattle.sy_bank_rules.specs.Choosing.{AreDone, AreDoneFrom, PatternIsBegun};
 
 use crate::measure::{kept_terms, left_of, places};
 use sy_bank_level::{Filling, Stop, Task};
@@ -22,11 +22,11 @@ pub fn choose<T: Theory>(
 ) -> Result<(), Stop<T>>
     requires task { IsTask T.owned T.numeric T.denotes task.now }
     requires rule { IsRule (world T.owned T.denotes task.now).syntax template.now.nonterminal template.now.number (pattern_of T.denotes template.now.part.now.value) }
-    requires steady { IsSteady (world T.owned T.denotes task.now) (state_of T.denotes filling.old) }
-    ensures steady { OnOk result (IsSteady (world T.owned T.denotes task.now) (state_of T.denotes filling.new)) }
-    ensures grows { OnOk result (Grows (world T.owned T.denotes task.now) (state_of T.denotes filling.old) (state_of T.denotes filling.new)) }
-    ensures done { OnOk result (AreDone (world T.owned T.denotes task.now) (state_of T.denotes filling.new) template.now.nonterminal task.now.size (pattern_of T.denotes template.now.part.now.value)) }
-    ensures stop { IfErr result (IsStop T.denotes (world T.owned T.denotes task.now) (state_of T.denotes filling.new)) }
+    requires steady { IsSteady (world T.owned T.denotes task.now) (level_state_of T.denotes filling.old) }
+    ensures steady { OnOk result (IsSteady (world T.owned T.denotes task.now) (level_state_of T.denotes filling.new)) }
+    ensures grows { OnOk result (LevelGrows (world T.owned T.denotes task.now) (level_state_of T.denotes filling.old) (level_state_of T.denotes filling.new)) }
+    ensures done { OnOk result (AreDone (world T.owned T.denotes task.now) (level_state_of T.denotes filling.new) template.now.nonterminal task.now.size (pattern_of T.denotes template.now.part.now.value)) }
+    ensures stop { IfErr result (IsStop T.denotes (world T.owned T.denotes task.now) (level_state_of T.denotes filling.new)) }
 {
     let Some(left) = left_of(template.part, task.size) else {
         return Ok(());
@@ -57,13 +57,13 @@ fn choose_rest<'a, T: Theory>(
 ) -> Result<(), Stop<T>>
     requires task { IsTask T.owned T.numeric T.denotes task.now }
     requires rule { IsRule (world T.owned T.denotes task.now).syntax template.now.nonterminal template.now.number (pattern_of T.denotes template.now.part.now.value) }
-    requires steady { IsSteady (world T.owned T.denotes task.now) (state_of T.denotes filling.old) }
-    requires begun { IsBegun (world T.owned T.denotes task.now) (pattern_of T.denotes template.now.part.now.value) (chosen_of T.denotes chosen.old.items) places.now left }
-    ensures steady { OnOk result (IsSteady (world T.owned T.denotes task.now) (state_of T.denotes filling.new)) }
-    ensures grows { OnOk result (Grows (world T.owned T.denotes task.now) (state_of T.denotes filling.old) (state_of T.denotes filling.new)) }
+    requires steady { IsSteady (world T.owned T.denotes task.now) (level_state_of T.denotes filling.old) }
+    requires begun { PatternIsBegun (world T.owned T.denotes task.now) (pattern_of T.denotes template.now.part.now.value) (chosen_of T.denotes chosen.old.items) places.now left }
+    ensures steady { OnOk result (IsSteady (world T.owned T.denotes task.now) (level_state_of T.denotes filling.new)) }
+    ensures grows { OnOk result (LevelGrows (world T.owned T.denotes task.now) (level_state_of T.denotes filling.old) (level_state_of T.denotes filling.new)) }
     ensures chosen { OnOk result (chosen.new.items ≡ chosen.old.items) }
-    ensures done { OnOk result (AreDoneFrom (world T.owned T.denotes task.now) (state_of T.denotes filling.new) template.now.nonterminal (pattern_of T.denotes template.now.part.now.value) (chosen_of T.denotes chosen.old.items) places.now left) }
-    ensures stop { IfErr result (IsStop T.denotes (world T.owned T.denotes task.now) (state_of T.denotes filling.new)) }
+    ensures done { OnOk result (AreDoneFrom (world T.owned T.denotes task.now) (level_state_of T.denotes filling.new) template.now.nonterminal (pattern_of T.denotes template.now.part.now.value) (chosen_of T.denotes chosen.old.items) places.now left) }
+    ensures stop { IfErr result (IsStop T.denotes (world T.owned T.denotes task.now) (level_state_of T.denotes filling.new)) }
 {
     let Some((first, others)) = places.split_first() else {
         if left == 0 {
@@ -97,13 +97,13 @@ fn choose_first<'a, T: Theory>(
 ) -> Result<(), Stop<T>>
     requires task { IsTask T.owned T.numeric T.denotes task.now }
     requires rule { IsRule (world T.owned T.denotes task.now).syntax template.now.nonterminal template.now.number (pattern_of T.denotes template.now.part.now.value) }
-    requires steady { IsSteady (world T.owned T.denotes task.now) (state_of T.denotes filling.old) }
-    requires begun { All (λ term. IsBegun (world T.owned T.denotes task.now) (pattern_of T.denotes template.now.part.now.value) (chosen_of T.denotes chosen.old.items ++ entry_of T.denotes term ∷ []) places.now left) terms.now }
-    ensures steady { OnOk result (IsSteady (world T.owned T.denotes task.now) (state_of T.denotes filling.new)) }
-    ensures grows { OnOk result (Grows (world T.owned T.denotes task.now) (state_of T.denotes filling.old) (state_of T.denotes filling.new)) }
+    requires steady { IsSteady (world T.owned T.denotes task.now) (level_state_of T.denotes filling.old) }
+    requires begun { All (λ term. PatternIsBegun (world T.owned T.denotes task.now) (pattern_of T.denotes template.now.part.now.value) (chosen_of T.denotes chosen.old.items ++ entry_of T.denotes term ∷ []) places.now left) terms.now }
+    ensures steady { OnOk result (IsSteady (world T.owned T.denotes task.now) (level_state_of T.denotes filling.new)) }
+    ensures grows { OnOk result (LevelGrows (world T.owned T.denotes task.now) (level_state_of T.denotes filling.old) (level_state_of T.denotes filling.new)) }
     ensures chosen { OnOk result (chosen.new.items ≡ chosen.old.items) }
-    ensures done { OnOk result (All (λ term. AreDoneFrom (world T.owned T.denotes task.now) (state_of T.denotes filling.new) template.now.nonterminal (pattern_of T.denotes template.now.part.now.value) (chosen_of T.denotes chosen.old.items ++ entry_of T.denotes term ∷ []) places.now left) terms.now) }
-    ensures stop { IfErr result (IsStop T.denotes (world T.owned T.denotes task.now) (state_of T.denotes filling.new)) }
+    ensures done { OnOk result (All (λ term. AreDoneFrom (world T.owned T.denotes task.now) (level_state_of T.denotes filling.new) template.now.nonterminal (pattern_of T.denotes template.now.part.now.value) (chosen_of T.denotes chosen.old.items ++ entry_of T.denotes term ∷ []) places.now left) terms.now) }
+    ensures stop { IfErr result (IsStop T.denotes (world T.owned T.denotes task.now) (level_state_of T.denotes filling.new)) }
 {
     for term in terms {
         chosen.push(term)?;

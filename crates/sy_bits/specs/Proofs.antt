@@ -3,7 +3,7 @@ use Rattle.sy_query_limits.specs.declared.FailName.{FailName}
 use Rattle.sy_query_limits.specs.declared.FailName.TheVariants as names
 use Rattle.sy_query_limits.specs.declared.Limits.{Limits}
 use Rattle.sy_query_base.specs.Asked.{Query}
-use Rattle.sy_bits_laws.specs.Clauses.{Proves, IsSpent}
+use Rattle.sy_bits_laws.specs.Clauses.{Proves, ClausesAreSpent}
 use Rattle.sy_bits.specs.declared.answers.BvProof.{BvProof}
 use Rattle.sy_bits.specs.declared.answers.BvSpent.{BvSpent}
 use Rattle.sy_bits.specs.declared.answers.BvSpent.TheVariants.{Clauses}
@@ -17,5 +17,5 @@ budget (Clauses cnf log) = names.Clauses
 
 -- as many clauses were learned as the limit, each new to those before it, from clauses that say what the query says
 abbrev pub Shows : Query → Limits → FailName → BvSpent → Type 0
-Shows query limits names.Clauses (Clauses cnf log) = IsSpent query limits.clauses cnf log
+Shows query limits names.Clauses (Clauses cnf log) = ClausesAreSpent query limits.clauses cnf log
 Shows query limits _ (Clauses cnf log) = ⊥

@@ -1,6 +1,6 @@
 // The circuit whose clauses are searched: the query's own, or that of a query which is easier to search.
 ghost use Rattle.std.specs.Prelude.{◌≡◌, ◌≤◌, ◌<◌, ◌*◌, ◌^◌, ◌↔◌, length, IfOk, IfSome, IsTrue};
-ghost use Rattle.sy_query_base.specs.Asked.{query_of, Fits};
+ghost use Rattle.sy_query_base.specs.Asked.{query_of, QueryFits};
 ghost use Rattle.sy_meaning_words.specs.Vectors.{vector, owned, is_bits};
 ghost use Rattle.sy_cdcl.specs.Answer.{VarsFit};
 ghost use Rattle.sy_bits_laws.specs.Clauses.{HasCircuitClauses, query_size};
@@ -27,7 +27,7 @@ const MOST_EACH: u64 = 1000;
 /// A circuit whose clauses say what the query of this size says: that of the query which `ordered` makes of it, where it
 /// has no more variables and clauses than the query's own circuit may have, and else the query's own.
 pub(crate) fn circuit_of(alloc: Global, query: &Query<BvTheory>, size: u32) -> Result<Circuit, Want>
-    requires fits { Fits owned is_bits (query_of vector query.now) }
+    requires fits { QueryFits owned is_bits (query_of vector query.now) }
     requires size { size ≡ query_size (query_of vector query.now) }
     requires room { 1000 * query_size (query_of vector query.now) < 2 ^ 31 }
     ensures variables { IfOk result (λ circuit. circuit.variables ≡ query.now.vars) }

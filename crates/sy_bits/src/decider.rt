@@ -4,7 +4,7 @@ ghost use Rattle.sy_query_decide.specs.Answers.{Answers};
 ghost use Rattle.sy_query_base.specs.Asked.{query_of};
 ghost use Rattle.sy_meaning_words.specs.Vectors.{vector};
 ghost use Rattle.sy_bits_laws.specs.Clauses.{HasCircuitClauses};
-ghost use Rattle.sy_cdcl.specs.Answer.{IsAnswer};
+ghost use Rattle.sy_cdcl.specs.Answer.{AnswersFormula};
 ghost use Rattle.sy_bits.specs.Proofs as proofs;
 ghost use Rattle.sy_bits.specs.Soundness.{sound};
 
@@ -89,7 +89,7 @@ fn answer(
 ) -> Result<Verdict<BvTheory, BvProof, BvSpent>, Want>
     requires variables { circuit.variables ≡ query.now.vars }
     requires clauses { HasCircuitClauses (query_of vector query.now) circuit.clauses }
-    requires solved { IsAnswer circuit.clauses (min limits.now.clauses 2147483647) solved }
+    requires solved { AnswersFormula circuit.clauses (min limits.now.clauses 2147483647) solved }
     ensures { IfOk result (Answers vector proofs.Accepted proofs.budget proofs.Shows (query_of vector query.now) limits.now) }
 {
     match solved {

@@ -1,7 +1,7 @@
 // Whether a query is one that the solver takes.
 ghost use Rattle.std.specs.Prelude.{◌≡◌, ◌↔◌, IfOk, IsTrue};
 ghost use Rattle.sy_grammar_base.specs.Formed.{is_known};
-ghost use Rattle.sy_query_base.specs.Asked.{query_of, Fits};
+ghost use Rattle.sy_query_base.specs.Asked.{query_of, QueryFits};
 ghost use Rattle.sy_meaning_words.specs.Vectors.{vector, owned, is_bits};
 
 use std::alloc::Global;
@@ -24,7 +24,7 @@ fn is_sort(sort: Sort) -> bool
 /// Whether the query fits: its variables are truth values and vectors of 1 to 64 bits, and its body is a truth value's
 /// term over them, which calls nothing.
 pub fn fits(alloc: Global, query: &Query<BvTheory>) -> Result<bool, Want>
-    ensures { IfOk result (λ yes. IsTrue yes ↔ Fits owned is_bits (query_of vector query.now)) }
+    ensures { IfOk result (λ yes. IsTrue yes ↔ QueryFits owned is_bits (query_of vector query.now)) }
 {
     let vars = query.vars.as_slice();
     if !vars.iter().all(|&sort| is_sort(sort)) {

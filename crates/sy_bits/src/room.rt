@@ -1,6 +1,6 @@
 // How large a query is whose clauses can be counted.
 ghost use Rattle.std.specs.Prelude.{◌≡◌, ◌+◌, ◌*◌, ◌≤◌, ◌<◌, ◌^◌, IfOk, MatchOption};
-ghost use Rattle.sy_query_base.specs.Asked.{query_of, Fits};
+ghost use Rattle.sy_query_base.specs.Asked.{query_of, QueryFits};
 ghost use Rattle.sy_meaning_words.specs.Vectors.{vector, owned, is_bits};
 ghost use Rattle.sy_bits_operators.specs.Signals as signals;
 ghost use Rattle.sy_bits_laws.specs.Clauses.{query_size};
@@ -41,7 +41,7 @@ fn room_after(sorts: &[Sort], room: u32) -> Option<u32>
 
 /// The query's size, where the variables and the clauses of its circuit are sure to be fewer than 2^31 each.
 pub(crate) fn countable_size(alloc: Global, query: &Query<BvTheory>) -> Result<Option<u32>, Want>
-    requires { Fits owned is_bits (query_of vector query.now) }
+    requires { QueryFits owned is_bits (query_of vector query.now) }
     ensures { IfOk result (λ found. MatchOption found
         (2 ^ 31 ≤ 1000 * query_size (query_of vector query.now))
         (λ size. (size ≡ query_size (query_of vector query.now)) × (1000 * query_size (query_of vector query.now) < 2 ^ 31))) }

@@ -13,7 +13,7 @@ use Rattle.sy_gates.specs.Models.{values_of}
 use Rattle.sy_gates.proofs.Words.{word_number-push, word_bound-push}
 use Rattle.sy_bits_operators.specs.declared.signal.Signal.{Signal}
 use Rattle.sy_bits_operators.specs.Signals.{signal_value, signal_values, signal_sort, signal_sorts, signal_bound, signals_bound, sort_width, total_width, has_signals, AllHaveSignals}
-use Rattle.sy_bits_laws.specs.Assignments.{number_of, value_of, assignment}
+use Rattle.sy_bits_laws.specs.Assignments.{number_of_bits, value_of_bits, assignment}
 use Rattle.sy_bits_laws.proofs.Reading.{number_of-more}
 
 -- the bit of a variable
@@ -22,7 +22,7 @@ of_variable k = Of (record { var = k; positive = true })
 
 -- one more variable at the top of a word
 
-pub number-more : (word more : List Bit) (bit : Bit) (first i : ℕ) (m : List Bool) → more ≡ word ++ bit ∷ [] → bit ≡ of_variable (first + i) → length word ≡ i → word_number (values_of m) word ≡ number_of (take i (drop first m)) → word_number (values_of m) more ≡ number_of (take (i + 1) (drop first m))
+pub number-more : (word more : List Bit) (bit : Bit) (first i : ℕ) (m : List Bool) → more ≡ word ++ bit ∷ [] → bit ≡ of_variable (first + i) → length word ≡ i → word_number (values_of m) word ≡ number_of_bits (take i (drop first m)) → word_number (values_of m) more ≡ number_of_bits (take (i + 1) (drop first m))
 number-more word more bit first i m e b l h =
     rw (e, b, word_number-push (values_of m) word (of_variable (first + i)), l, number_of-more (drop first m) i, get_or-drop first m i false, h) refl
 
@@ -58,7 +58,7 @@ drop-drop zero n bits = let e : n ≡ 0 + n = omega arith in ap (λ k. drop k bi
 drop-drop (suc m) n [] = grind (arith, common_steps)
 drop-drop (suc m) n (b ∷ bits) = let e : suc (m + n) ≡ suc m + n = omega arith in drop-drop m n bits ∙ ap (λ k. drop k (b ∷ bits)) e
 
-pub values-more : (m : List Bool) (signals more : List Signal) (signal : Signal) (sort : Sort) (left rest : List Sort) (first width : ℕ) (whole : List Val) → more ≡ signals ++ signal ∷ [] → width ≡ sort_width sort → signal_value (values_of m) signal ≡ value_of sort (take (sort_width sort) (drop first m)) → left ≡ sort ∷ rest → signal_values (values_of m) signals ++ assignment left (drop first m) ≡ whole → signal_values (values_of m) more ++ assignment rest (drop (first + width) m) ≡ whole
+pub values-more : (m : List Bool) (signals more : List Signal) (signal : Signal) (sort : Sort) (left rest : List Sort) (first width : ℕ) (whole : List Val) → more ≡ signals ++ signal ∷ [] → width ≡ sort_width sort → signal_value (values_of m) signal ≡ value_of_bits sort (take (sort_width sort) (drop first m)) → left ≡ sort ∷ rest → signal_values (values_of m) signals ++ assignment left (drop first m) ≡ whole → signal_values (values_of m) more ++ assignment rest (drop (first + width) m) ≡ whole
 values-more m signals more signal sort left rest first width whole e w s l h =
     rw (e, w, map-append (signal_value (values_of m)) signals (signal ∷ []), append_assoc (signal_values (values_of m) signals) (signal_value (values_of m) signal ∷ []) (assignment rest (drop (first + sort_width sort) m)), s, ← drop-drop first (sort_width sort) m)
     (ap (λ ss. signal_values (values_of m) signals ++ assignment ss (drop first m)) (sym l) ∙ h)

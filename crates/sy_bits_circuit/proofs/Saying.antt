@@ -9,9 +9,9 @@ use Rattle.sy_clauses.specs.declared.Lit.{Lit}
 use Rattle.sy_clauses.specs.declared.Cnf.{Cnf}
 use Rattle.sy_clauses.specs.Clauses.{IsModel}
 use Rattle.sy_gates.specs.declared.gate.Bit.{Bit}
-use Rattle.sy_gates.specs.Circuits.{Plan, variables, Follows, Grown, lit_value, bit_value, lit_bound, clause_bound, clauses_bound}
+use Rattle.sy_gates.specs.Circuits.{Plan, variables, FollowsPlan, GrownCircuit, lit_value, bit_value, lit_bound, clause_bound, clauses_bound}
 use Rattle.sy_gates.specs.Models.{values_of, but_last, ExtendsInOneWay}
-use Rattle.sy_query_base.specs.Asked.{Query, Fits, Satisfies}
+use Rattle.sy_query_base.specs.Asked.{Query, QueryFits, Satisfies}
 use Rattle.sy_meaning_words.specs.Vectors.{owned, is_bits}
 use Rattle.sy_bits_operators.specs.declared.signal.Signal.{Signal}
 use Rattle.sy_bits_operators.specs.declared.signal.Signal.TheVariants as signals
@@ -44,12 +44,12 @@ says query v values signal t bool is value are =
 
 -- the clauses of a circuit of the body, with the output that the signal gives
 pub circuit-clauses : (query : Query) (circuit whole : Plan) (signal : Signal) (bit : Bit) (output : Lit) (cnf : Cnf) →
-    Fits owned is_bits query → IsBodyOf query circuit signal →
+    QueryFits owned is_bits query → IsBodyOf query circuit signal →
     ((v : ℕ → Bool) → bit_value v bit ≡ truth (signal_value v signal)) →
-    Grown circuit whole → variables whole ≤ variables circuit + 1 →
-    ((v : ℕ → Bool) → Follows v whole → lit_value v output ≡ bit_value v bit) →
+    GrownCircuit circuit whole → variables whole ≤ variables circuit + 1 →
+    ((v : ℕ → Bool) → FollowsPlan v whole → lit_value v output ≡ bit_value v bit) →
     cnf.vars ≡ variables whole → cnf.clauses ≡ but_last cnf.clauses ++ (output ∷ []) ∷ [] →
-    ((v : ℕ → Bool) → IsModel v (but_last cnf.clauses) ↔ Follows v whole) →
+    ((v : ℕ → Bool) → IsModel v (but_last cnf.clauses) ↔ FollowsPlan v whole) →
     ExtendsInOneWay whole.inputs cnf.vars (but_last cnf.clauses) → length cnf.clauses ≤ 4 * length whole.gates + 1 →
     HasCircuitClauses query cnf
 circuit-clauses query circuit whole signal bit output cnf fits body is grown cost value vars last models ways count =
@@ -59,7 +59,7 @@ circuit-clauses query circuit whole signal bit output cnf fits body is grown cos
       output = output;
       last = last;
       says = λ m long model.
-          let follows : Follows (values_of m) whole = (models (values_of m)).0 model in
+          let follows : FollowsPlan (values_of m) whole = (models (values_of m)).0 model in
           says query (values_of m) (assignment query.variables m) signal (lit_value (values_of m) output)
           body.sort (value (values_of m) follows ∙ is (values_of m)) (body.value m (grown.keeps (values_of m) follows))
           (read-values query.variables m (variables-have query fits));

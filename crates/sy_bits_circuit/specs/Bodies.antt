@@ -2,7 +2,7 @@
 use Rattle.std.specs.Prelude.{◌+◌, ◌≤◌, ◌≡◌, Bool, List, []}
 use Rattle.sy_terms.specs.Meaning.{meaning}
 use Rattle.sy_terms.specs.declared.sort.Sort.TheVariants as sorts
-use Rattle.sy_gates.specs.Circuits.{Plan, variables, Follows}
+use Rattle.sy_gates.specs.Circuits.{Plan, variables, FollowsPlan}
 use Rattle.sy_gates.specs.Models.{values_of}
 use Rattle.sy_query_base.specs.Asked.{Query}
 use Rattle.sy_bits_operators.specs.declared.signal.Signal.{Signal}
@@ -16,6 +16,6 @@ pub record IsBodyOf (query : Query) (circuit : Plan) (signal : Signal) : Type 0 
   pub inputs : circuit.inputs ≡ total_width query.variables
   pub inside : signal_bound signal ≤ variables circuit
   pub sort : signal_sort signal ≡ sorts.Bool
-  pub value : (m : List Bool) → Follows (values_of m) circuit →
+  pub value : (m : List Bool) → FollowsPlan (values_of m) circuit →
       signal_value (values_of m) signal ≡ meaning [] [] (assignment query.variables m) query.body
   pub few : variables circuit + 5 ≤ total_width query.variables + most_gates query.variables query.body

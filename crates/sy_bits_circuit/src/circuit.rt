@@ -6,7 +6,7 @@ ghost use Rattle.sy_cdcl.specs.Answer.{VarsFit};
 ghost use Rattle.sy_gates.specs.Models.{values_of};
 ghost use Rattle.sy_meaning_words.specs.Vectors.{vector, owned, is_bits};
 ghost use Rattle.sy_query_base.specs.Asked as asked;
-ghost use Rattle.sy_query_base.specs.Asked.{query_of, Fits, Satisfies};
+ghost use Rattle.sy_query_base.specs.Asked.{query_of, QueryFits, Satisfies};
 ghost use Rattle.sy_bits_laws.specs.Assignments.{assignment};
 ghost use Rattle.sy_bits_laws.specs.Clauses.{HasCircuitClauses, query_size};
 ghost use Rattle.sy_bits_circuit.specs.Bodies.{IsBodyOf};
@@ -24,8 +24,8 @@ use sy_query_base::Query;
 use sy_seq::{Seq, Want};
 use sy_terms::{Sort, Values};
 
-/// The clauses of a query's circuit. The first variables are the bits of the query's variables, in order, the least
-/// bit of each first; a truth value is one bit.
+/// The clauses of a query's circuit. The bits of the query's variables come first among the variables of the clauses: one
+/// variable of the query after the other, each from its least bit on; a truth value is one bit.
 #[derive(Drop)]
 pub struct Circuit {
     variables: Seq<Sort>,
@@ -64,7 +64,7 @@ struct Body {
 
 /// The circuit of the body of a query.
 fn body_circuit(alloc: Global, query: &Query<BvTheory>) -> Result<Body, Want>
-    requires fits { Fits owned is_bits (query_of vector query.now) }
+    requires fits { QueryFits owned is_bits (query_of vector query.now) }
     requires room { 1000 * query_size (query_of vector query.now) < 2 ^ 31 }
     ensures { IfOk result (λ r. IsBodyOf (query_of vector query.now) r.circuit r.signal) }
 {
@@ -78,7 +78,7 @@ fn body_circuit(alloc: Global, query: &Query<BvTheory>) -> Result<Body, Want>
 /// The circuit of a query that fits and isn't too heavy. Its clauses say what the query says, each variable in them is
 /// below their `vars`, and there are fewer than 2 to the power of 31 of both. `Want` exactly where memory is refused.
 pub fn blast(alloc: Global, query: &Query<BvTheory>) -> Result<Circuit, Want>
-    requires fits { Fits owned is_bits (query_of vector query.now) }
+    requires fits { QueryFits owned is_bits (query_of vector query.now) }
     requires room { 1000 * query_size (query_of vector query.now) < 2 ^ 31 }
     ensures variables { IfOk result (λ r. r.variables ≡ query.now.vars) }
     ensures clauses { IfOk result (λ r. HasCircuitClauses (query_of vector query.now) r.clauses) }

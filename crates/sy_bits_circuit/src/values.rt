@@ -3,7 +3,7 @@ ghost use Rattle.std.specs.Prelude.{◌≡◌, ◌≤◌, true, length, IfOk};
 ghost use Rattle.sy_terms.specs.Denoted.{val_of, vals_of};
 ghost use Rattle.sy_meaning_words.specs.Vectors.{vector};
 ghost use Rattle.sy_bits_operators.specs.Signals.{sort_width, total_width, has_signals, AllHaveSignals};
-ghost use Rattle.sy_bits_laws.specs.Assignments.{number_of, value_of, assignment};
+ghost use Rattle.sy_bits_laws.specs.Assignments.{number_of_bits, value_of_bits, assignment};
 
 use crate::width::width_of;
 use std::alloc::Global;
@@ -14,7 +14,7 @@ use sy_terms::{Sort, Value, Values};
 /// The number of the bits, the least first.
 fn read_number(bits: &[bool]) -> u64
     requires { length bits.now ≤ 64 }
-    ensures { result ≡ number_of bits.now }
+    ensures { result ≡ number_of_bits bits.now }
 {
     let mut number = 0;
     for (i, bit) in bits.iter().enumerate() {
@@ -29,7 +29,7 @@ fn read_number(bits: &[bool]) -> u64
 fn read_value(sort: Sort, bits: &[bool]) -> Value<Word>
     requires has { has_signals sort ≡ true }
     requires long { length bits.now ≡ sort_width sort }
-    ensures { val_of vector result ≡ value_of sort bits.now }
+    ensures { val_of vector result ≡ value_of_bits sort bits.now }
 {
     match sort {
         Sort::Bool => Value::Truth(bits[0]),

@@ -7,12 +7,12 @@ use Rattle.sy_terms.specs.Meaning.{meaning}
 use Rattle.sy_grammar_base.specs.Solving.{AreValues}
 use Rattle.sy_clauses.specs.declared.Lit.{Lit}
 use Rattle.sy_clauses.specs.declared.Cnf.{Cnf}
-use Rattle.sy_clauses.specs.Clauses.{IsModel, IsTrueUnder, HasNoModel, literals}
+use Rattle.sy_clauses.specs.Clauses.{IsModel, ClauseIsTrueUnder, HasNoModel, literals}
 use Rattle.sy_gates.specs.Circuits.{lit_value}
 use Rattle.sy_gates.specs.Models.{values_of, but_last, clause_value}
 use Rattle.sy_gates.proofs.Holding.{value-true, true-value}
 use Rattle.sy_grammar_base.specs.Formed.{is_known}
-use Rattle.sy_query_base.specs.Asked.{Query, Fits, Satisfies, IsNever}
+use Rattle.sy_query_base.specs.Asked.{Query, QueryFits, Satisfies, IsNever}
 use Rattle.sy_terms.specs.declared.sort.Sort.{Sort}
 use Rattle.sy_terms.specs.declared.sort.Sort.TheVariants as sorts
 use Rattle.sy_meaning_words.specs.Vectors.{owned, is_bits}
@@ -36,16 +36,16 @@ or-nothing true = refl
 or-nothing false = refl
 
 -- a model of all clauses makes the output true
-output-true : (v : ℕ → Bool) (l : Lit) → IsTrueUnder v (literals (l ∷ [])) → lit_value v l ≡ true
+output-true : (v : ℕ → Bool) (l : Lit) → ClauseIsTrueUnder v (literals (l ∷ [])) → lit_value v l ≡ true
 output-true v l t = sym (or-nothing (lit_value v l)) ∙ true-value v (l ∷ []) t
 
-true-output : (v : ℕ → Bool) (l : Lit) → lit_value v l ≡ true → IsTrueUnder v (literals (l ∷ []))
+true-output : (v : ℕ → Bool) (l : Lit) → lit_value v l ≡ true → ClauseIsTrueUnder v (literals (l ∷ []))
 true-output v l e = value-true v (l ∷ []) (or-nothing (lit_value v l) ∙ e)
 
 pub reads : (query : Query) (cnf : Cnf) (m : List Bool) → HasCircuitClauses query cnf → length m ≡ cnf.vars → IsModel (values_of m) cnf.clauses → Satisfies query (assignment query.variables m)
 reads query cnf m has long model =
     let split : IsModel (values_of m) (but_last cnf.clauses ++ (has.output ∷ []) ∷ []) = subst (IsModel (values_of m)) has.last model in
-    let P : List Lit → Type 0 = λ c. IsTrueUnder (values_of m) (literals c) in
+    let P : List Lit → Type 0 = λ c. ClauseIsTrueUnder (values_of m) (literals c) in
     let most : IsModel (values_of m) (but_last cnf.clauses) = front P (but_last cnf.clauses) ((has.output ∷ []) ∷ []) split in
     let last = All-head P (has.output ∷ []) [] (back P (but_last cnf.clauses) ((has.output ∷ []) ∷ []) split) in
     (has.says m long most).0 (output-true (values_of m) has.output last)
@@ -62,11 +62,11 @@ all-have [] all = All-nil (λ sort. has_signals sort ≡ true)
 all-have (s ∷ ss) all =
     All-cons (λ sort. has_signals sort ≡ true) s ss (sort-has s (All-head (λ sort. is_known is_bits sort ≡ true) s ss all)) (all-have ss (All-tail (λ sort. is_known is_bits sort ≡ true) s ss all))
 
-pub variables-have : (query : Query) → Fits owned is_bits query → AllHaveSignals query.variables
+pub variables-have : (query : Query) → QueryFits owned is_bits query → AllHaveSignals query.variables
 variables-have query fits = all-have query.variables fits.variables
 
 -- clauses without a model: no assignment satisfies the query
-pub never : (query : Query) (cnf : Cnf) → Fits owned is_bits query → HasCircuitClauses query cnf → HasNoModel cnf → IsNever query
+pub never : (query : Query) (cnf : Cnf) → QueryFits owned is_bits query → HasCircuitClauses query cnf → HasNoModel cnf → IsNever query
 never query cnf fits has none values are holds =
     let all = variables-have query fits in
     let w = written query.variables values are all in
@@ -79,7 +79,7 @@ never query cnf fits has none values are holds =
     let meant : meaning [] [] (assignment query.variables m) query.body ≡ Truth true = ap (λ (vs : List Val). meaning [] [] vs query.body) same ∙ holds in
     let valued : AreValues query.variables (assignment query.variables m) = subst (AreValues query.variables) (sym same) are in
     let output = (has.says m long most).1 (record { sorted = valued; true = meant }) in
-    let P : List Lit → Type 0 = λ c. IsTrueUnder (values_of m) (literals c) in
+    let P : List Lit → Type 0 = λ c. ClauseIsTrueUnder (values_of m) (literals c) in
     let whole : IsModel (values_of m) (but_last cnf.clauses ++ (has.output ∷ []) ∷ []) =
     All-append P (but_last cnf.clauses) ((has.output ∷ []) ∷ []) most (All-cons P (has.output ∷ []) [] (true-output (values_of m) has.output output) (All-nil P)) in
     none (values_of m) (subst (IsModel (values_of m)) (sym has.last) whole)

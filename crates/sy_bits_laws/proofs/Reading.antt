@@ -13,16 +13,16 @@ use Rattle.sy_terms.specs.declared.sort.Sort.{Sort}
 use Rattle.sy_terms.specs.declared.sort.Sort.TheVariants as sorts
 use Rattle.sy_grammar_base.specs.Solving.{AreValues}
 use Rattle.sy_bits_operators.specs.Signals.{has_signals, AllHaveSignals, sort_width, total_width}
-use Rattle.sy_bits_laws.specs.Assignments.{number_of, first_bit, value_of, assignment}
+use Rattle.sy_bits_laws.specs.Assignments.{number_of_bits, first_bit, value_of_bits, assignment}
 
 pub double-pow : (n : ℕ) → 2 ^ (n + 1) ≡ 2 * 2 ^ n
 double-pow n = rw (add-one, pow-succ' 2 n) refl
 
 -- one more bit, where those past the end are 0
-pub number_of-more : (bits : List Bool) (i : ℕ) → number_of (take (i + 1) bits) ≡ number_of (take i bits) + 2 ^ i * cond (get_or bits i false) 1 0
+pub number_of-more : (bits : List Bool) (i : ℕ) → number_of_bits (take (i + 1) bits) ≡ number_of_bits (take i bits) + 2 ^ i * cond (get_or bits i false) 1 0
 number_of-more bits i = rw add-one (by bits i)
   where
-    by : (bits : List Bool) (i : ℕ) → number_of (take (suc i) bits) ≡ number_of (take i bits) + 2 ^ i * cond (get_or bits i false) 1 0
+    by : (bits : List Bool) (i : ℕ) → number_of_bits (take (suc i) bits) ≡ number_of_bits (take i bits) + 2 ^ i * cond (get_or bits i false) 1 0
     by [] zero = omega arith
     by [] (suc i) = omega arith
     by (b ∷ bits) zero = omega arith
@@ -34,7 +34,7 @@ bit-small : (b : Bool) → cond b 1 0 ≤ 1
 bit-small true = omega arith
 bit-small false = omega arith
 
-number_of-below : (bits : List Bool) → number_of bits < 2 ^ length bits
+number_of-below : (bits : List Bool) → number_of_bits bits < 2 ^ length bits
 number_of-below [] = omega arith
 number_of-below (b ∷ bits) =
     let p : 2 ^ suc (length bits) ≡ 2 * 2 ^ length bits = pow-succ' 2 (length bits) in
@@ -46,7 +46,7 @@ grows a b h = pow-le-pow_right (omega arith) h
 taken-short : (n : ℕ) (bits : List Bool) → length (take n bits) ≤ n
 taken-short n bits = grind (arith, length-take n bits)
 
-pub number-fits : (w : ℕ) (bits : List Bool) → number_of (take w bits) < 2 ^ w
+pub number-fits : (w : ℕ) (bits : List Bool) → number_of_bits (take w bits) < 2 ^ w
 number-fits w bits = omega (arith, number_of-below (take w bits), grows (length (take w bits)) w (taken-short w bits))
 
 -- the bits of a number
@@ -73,7 +73,7 @@ half-below n w h =
     let p : 2 ^ suc w ≡ 2 * 2 ^ w = pow-succ' 2 w in
     omega (arith, p, h, halves n)
 
-bits_of-number : (w n : ℕ) → n < 2 ^ w → number_of (bits_of w n) ≡ n
+bits_of-number : (w n : ℕ) → n < 2 ^ w → number_of_bits (bits_of w n) ≡ n
 unfolding bits_of
 bits_of-number zero n h = omega arith
 bits_of-number (suc w) n h =
@@ -90,7 +90,7 @@ value_bits (Bits w n) = bits_of w n
 -- a valid value of a sort with signals is what its bits stand for
 record Encoded (sort : Sort) (value : Val) : Type 0 where
   pub long : length (value_bits value) ≡ sort_width sort
-  pub same : value_of sort (value_bits value) ≡ value
+  pub same : value_of_bits sort (value_bits value) ≡ value
 
 number-below : (w n : ℕ) → valid (Bits w n) ≡ true → n < 2 ^ w
 number-below w n h = grind (arith, nat_tests)
@@ -120,9 +120,9 @@ written-sorts (value ∷ values) v all =
     record {
       bits = value_bits value ++ rest.bits;
       long = length-append (value_bits value) rest.bits ∙ omega (arith, one.long, rest.long);
-      are = ap (λ (xs : List Bool). value_of (sort_of_value value) xs ∷ assignment (map sort_of_value values) (drop (sort_width (sort_of_value value)) (value_bits value ++ rest.bits))) parts.0
-          ∙ ap (λ (xs : List Bool). value_of (sort_of_value value) (value_bits value) ∷ assignment (map sort_of_value values) xs) parts.1
-          ∙ ap (λ (vs : List Val). value_of (sort_of_value value) (value_bits value) ∷ vs) rest.are
+      are = ap (λ (xs : List Bool). value_of_bits (sort_of_value value) xs ∷ assignment (map sort_of_value values) (drop (sort_width (sort_of_value value)) (value_bits value ++ rest.bits))) parts.0
+          ∙ ap (λ (xs : List Bool). value_of_bits (sort_of_value value) (value_bits value) ∷ assignment (map sort_of_value values) xs) parts.1
+          ∙ ap (λ (vs : List Val). value_of_bits (sort_of_value value) (value_bits value) ∷ vs) rest.are
           ∙ ap (λ (x : Val). x ∷ values) one.same;
     }
 
@@ -139,10 +139,10 @@ record IsValueOf (sort : Sort) (value : Val) : Type 0 where
   pub sorted : sort_of_value value ≡ sort
   pub valid : valid value ≡ true
 
-read-one : (sort : Sort) (bits : List Bool) → has_signals sort ≡ true → IsValueOf sort (value_of sort (take (sort_width sort) bits))
+read-one : (sort : Sort) (bits : List Bool) → has_signals sort ≡ true → IsValueOf sort (value_of_bits sort (take (sort_width sort) bits))
 read-one sorts.Bool bits h = record { sorted = refl; valid = refl }
 read-one sorts.Int bits h = cc
-read-one (sorts.Bits w) bits h = record { sorted = refl; valid = sized w (number_of (take w bits)) h (number-fits w bits) }
+read-one (sorts.Bits w) bits h = record { sorted = refl; valid = sized w (number_of_bits (take w bits)) h (number-fits w bits) }
 
 pub read-values : (sorts : List Sort) (bits : List Bool) → AllHaveSignals sorts → AreValues sorts (assignment sorts bits)
 read-values [] bits all = record { sorted = refl; valid = All-nil (λ value. valid value ≡ true) }
@@ -151,7 +151,7 @@ read-values (sort ∷ sorts) bits all =
     let rest = read-values sorts (drop (sort_width sort) bits) (All-tail (λ sort. has_signals sort ≡ true) sort sorts all) in
     record {
       sorted = ap (λ (s : Sort). s ∷ map sort_of_value (assignment sorts (drop (sort_width sort) bits))) one.sorted ∙ ap (λ (ss : List Sort). sort ∷ ss) rest.sorted;
-      valid = All-cons (λ value. valid value ≡ true) (value_of sort (take (sort_width sort) bits)) (assignment sorts (drop (sort_width sort) bits)) one.valid rest.valid;
+      valid = All-cons (λ value. valid value ≡ true) (value_of_bits sort (take (sort_width sort) bits)) (assignment sorts (drop (sort_width sort) bits)) one.valid rest.valid;
     }
 
 -- the values depend on the first bits alone
@@ -168,9 +168,9 @@ assignment-front (sort ∷ sorts) n bits h =
     let w = sort_width sort in
     let split : n ≡ w + (n - w) = omega arith in
     let later : drop w (take n bits) ≡ take (n - w) (drop w bits) = ap (λ k. drop w (take k bits)) split ∙ drop-take w (n - w) bits in
-    ap (λ (xs : List Bool). value_of sort xs ∷ assignment sorts (drop w (take n bits))) (take-take-less w n bits (omega arith))
-    ∙ ap (λ (xs : List Bool). value_of sort (take w bits) ∷ assignment sorts xs) later
-    ∙ ap (λ (vs : List Val). value_of sort (take w bits) ∷ vs) (assignment-front sorts (n - w) (drop w bits) (omega arith))
+    ap (λ (xs : List Bool). value_of_bits sort xs ∷ assignment sorts (drop w (take n bits))) (take-take-less w n bits (omega arith))
+    ∙ ap (λ (xs : List Bool). value_of_bits sort (take w bits) ∷ assignment sorts xs) later
+    ∙ ap (λ (vs : List Val). value_of_bits sort (take w bits) ∷ vs) (assignment-front sorts (n - w) (drop w bits) (omega arith))
 
 -- one more sort
 
@@ -179,12 +179,12 @@ drop-drop zero n bits = let e : n ≡ 0 + n = omega arith in ap (λ k. drop k bi
 drop-drop (suc m) n [] = grind (arith, common_steps)
 drop-drop (suc m) n (b ∷ bits) = let e : suc (m + n) ≡ suc m + n = omega arith in drop-drop m n bits ∙ ap (λ k. drop k (b ∷ bits)) e
 
-pub assignment-last : (ss : List Sort) (sort : Sort) (bits : List Bool) → assignment (ss ++ sort ∷ []) bits ≡ assignment ss bits ++ value_of sort (take (sort_width sort) (drop (total_width ss) bits)) ∷ []
+pub assignment-last : (ss : List Sort) (sort : Sort) (bits : List Bool) → assignment (ss ++ sort ∷ []) bits ≡ assignment ss bits ++ value_of_bits sort (take (sort_width sort) (drop (total_width ss) bits)) ∷ []
 assignment-last [] sort bits = refl
 assignment-last (s ∷ ss) sort bits =
-    ap (λ (vs : List Val). value_of s (take (sort_width s) bits) ∷ vs)
+    ap (λ (vs : List Val). value_of_bits s (take (sort_width s) bits) ∷ vs)
     (assignment-last ss sort (drop (sort_width s) bits)
-    ∙ ap (λ (xs : List Bool). assignment ss (drop (sort_width s) bits) ++ value_of sort (take (sort_width sort) xs) ∷ []) (drop-drop (sort_width s) (total_width ss) bits))
+    ∙ ap (λ (xs : List Bool). assignment ss (drop (sort_width s) bits) ++ value_of_bits sort (take (sort_width sort) xs) ∷ []) (drop-drop (sort_width s) (total_width ss) bits))
 
 pub total_width-last : (ss : List Sort) (sort : Sort) → total_width (ss ++ sort ∷ []) ≡ total_width ss + sort_width sort
 total_width-last [] sort = omega arith

@@ -11,7 +11,7 @@ use Rattle.sy_terms.specs.declared.sort.Sort.{Sort}
 use Rattle.sy_terms.specs.declared.term.Term.{Term}
 use Rattle.sy_query_base.specs.Weights.{weight, weights}
 use Rattle.sy_terms_laws.proofs.Equations.{with_sort_Some}
-use Rattle.sy_bits_laws.specs.Fitting.{scope, HasSort, HaveSorts, most_gates, all_most_gates}
+use Rattle.sy_bits_laws.specs.Fitting.{scope, TermHasSort, HaveSorts, most_gates, all_most_gates}
 
 -- one term at the end
 
@@ -62,7 +62,7 @@ weights-within number ts terms i term h e =
     let same : weight scope ts (expr_of number term) ≡ weight scope ts (expr_of number (get_or terms i term)) = ap (λ t. weight scope ts (expr_of number t)) e in
     omega (arith, w, same)
 
-fit-within : {T N : Type 0} (number : N → Val) (ts : List Sort) (terms : List (Term T N)) (i : ℕ) (d : Term T N) → i < length terms → HaveSorts ts (exprs_of number terms) → HasSort ts (expr_of number (get_or terms i d))
+fit-within : {T N : Type 0} (number : N → Val) (ts : List Sort) (terms : List (Term T N)) (i : ℕ) (d : Term T N) → i < length terms → HaveSorts ts (exprs_of number terms) → TermHasSort ts (expr_of number (get_or terms i d))
 unfolding sorts_in
 fit-within number ts [] i d h fit = absurd (omega arith)
 fit-within number ts (t ∷ terms) zero d h fit =
@@ -72,8 +72,8 @@ fit-within number ts (t ∷ terms) (suc i) d h fit =
     let parts = with_sort_Some (sort_in scope ts (expr_of number t)) (sorts_in scope ts (exprs_of number terms)) fit.found fit.are in
     fit-within number ts terms i d (omega arith) (record { found = parts.sorts; are = parts.rest_is })
 
-pub fits-at : {T N : Type 0} (number : N → Val) (ts : List Sort) (terms : List (Term T N)) (i : ℕ) (term : Term T N) → i < length terms → term ≡ get_or terms i term → HaveSorts ts (exprs_of number terms) → HasSort ts (expr_of number term)
-fits-at {T} {N} number ts terms i term h e fit = subst (λ (t : Term T N). HasSort ts (expr_of number t)) (sym e) (fit-within number ts terms i term h fit)
+pub fits-at : {T N : Type 0} (number : N → Val) (ts : List Sort) (terms : List (Term T N)) (i : ℕ) (term : Term T N) → i < length terms → term ≡ get_or terms i term → HaveSorts ts (exprs_of number terms) → TermHasSort ts (expr_of number term)
+fits-at {T} {N} number ts terms i term h e fit = subst (λ (t : Term T N). TermHasSort ts (expr_of number t)) (sym e) (fit-within number ts terms i term h fit)
 
 pub term-room : {T N : Type 0} (number : N → Val) (ts : List Sort) (terms : List (Term T N)) (i : ℕ) (term : Term T N) (old now width most : ℕ) → i < length terms → term ≡ get_or terms i term → now + width ≤ old + all_most_gates ts (exprs_of number (take i terms)) → old + all_most_gates ts (exprs_of number terms) < most → now + most_gates ts (expr_of number term) < most
 term-room number ts terms i term old now width most h e k l = let w = weights-within number ts terms i term h e in omega (arith, w, k, l)

@@ -14,22 +14,22 @@ use Rattle.sy_terms.specs.declared.sorts.Sorted.{Sorted}
 use Rattle.sy_terms.specs.declared.sorts.Sorted.TheVariants.{Is}
 use Rattle.sy_terms.specs.declared.term.Fun.{Fun}
 use Rattle.sy_terms.specs.declared.term.Fun.TheVariants.{Defined, Wanted}
-use Rattle.sy_meaning_words.specs.Vectors.{owned, Takes, is_sort}
+use Rattle.sy_meaning_words.specs.Vectors.{owned, TakesSorts, has_a_sort}
 use Rattle.sy_query_base.specs.Placed.{count}
 use Rattle.sy_query_base.specs.Weights.{weight, weights, operator_weight, sort_weight, with_sorts}
 use Rattle.sy_terms_laws.proofs.Equations.{if_Some, applied_sort_Some, after_Some, with_sort_Some, called_sort_Some}
 use Rattle.sy_bits_operators.specs.Signals.{has_signals, AllHaveSignals, sort_width, total_width}
 use Rattle.sy_bits_operators.specs.Costs.{gates}
-use Rattle.sy_bits_laws.specs.Fitting.{scope, HasSort, HaveSorts, most_gates, all_most_gates}
+use Rattle.sy_bits_laws.specs.Fitting.{scope, TermHasSort, HaveSorts, most_gates, all_most_gates}
 use Rattle.sy_bits_laws.proofs.Bounded.{few, weighs, lightest}
 
 -- a constant
 
-pub constant-valid : (sorts : List Sort) (value : Val) → HasSort sorts (Constant value) → valid value ≡ true
+pub constant-valid : (sorts : List Sort) (value : Val) → TermHasSort sorts (Constant value) → valid value ≡ true
 unfolding sort_in
 constant-valid sorts value fit = (if_Some (valid value) (sort_of_value value) fit.sort fit.is).0
 
-pub constant-sort : (sorts : List Sort) (value : Val) → HasSort sorts (Constant value) → sort_in scope sorts (Constant value) ≡ Some (sort_of_value value)
+pub constant-sort : (sorts : List Sort) (value : Val) → TermHasSort sorts (Constant value) → sort_in scope sorts (Constant value) ≡ Some (sort_of_value value)
 unfolding sort_in
 constant-sort sorts value fit = fit.is ∙ ap Some (sym (if_Some (valid value) (sort_of_value value) fit.sort fit.is).1)
 
@@ -40,7 +40,7 @@ some-within [] i x e = cc
 some-within (y ∷ xs) zero x e = omega arith
 some-within (y ∷ xs) (suc i) x e = omega (arith, some-within xs i x e)
 
-pub variable-within : (sorts : List Sort) (position : ℕ) → HasSort sorts (Variable position) → position < length sorts
+pub variable-within : (sorts : List Sort) (position : ℕ) → TermHasSort sorts (Variable position) → position < length sorts
 unfolding sort_in
 variable-within sorts position fit = some-within sorts position fit.sort fit.is
 
@@ -64,7 +64,7 @@ variable-meaning values position d h = position-is values position d h
 
 -- an application
 
-pub arguments-fit : (sorts : List Sort) (op : Op) (arguments : Exprs) → HasSort sorts (Apply op arguments) → HaveSorts sorts arguments
+pub arguments-fit : (sorts : List Sort) (op : Op) (arguments : Exprs) → TermHasSort sorts (Apply op arguments) → HaveSorts sorts arguments
 unfolding sort_in
 arguments-fit sorts op arguments fit =
     let a = applied_sort_Some scope op (sorts_in scope sorts arguments) fit.sort fit.is in
@@ -77,15 +77,15 @@ pub record Accepts (op : Op) (found : List Sort) (sort : Sort) : Type 0 where
 some-same : {X : Type 0} (x y : X) → Some x ≡ Some y → x ≡ y
 some-same x y e = cc
 
-pub accepts : (sorts : List Sort) (op : Op) (arguments : Exprs) (found : List Sort) → sorts_in scope sorts arguments ≡ Some found → (fit : HasSort sorts (Apply op arguments)) → Accepts op found fit.sort
+pub accepts : (sorts : List Sort) (op : Op) (arguments : Exprs) (found : List Sort) → sorts_in scope sorts arguments ≡ Some found → (fit : TermHasSort sorts (Apply op arguments)) → Accepts op found fit.sort
 unfolding sort_in
 accepts sorts op arguments found e fit =
     let a = applied_sort_Some scope op (sorts_in scope sorts arguments) fit.sort fit.is in
     let same : a.sorts ≡ found = some-same a.sorts found (sym a.is ∙ e) in
     record { owned = a.owned; fits = ap (sort_of op) (sym same) ∙ a.fits }
 
-pub is-taken : (op : Op) (found : List Sort) (sort : Sort) → Accepts op found sort → Takes op found
-is-taken op found sort a = ap is_sort a.fits
+pub is-taken : (op : Op) (found : List Sort) (sort : Sort) → Accepts op found sort → TakesSorts op found
+is-taken op found sort a = ap has_a_sort a.fits
 
 -- as many sorts as terms
 pub counted : (sorts : List Sort) (terms : Exprs) (found : List Sort) → sorts_in scope sorts terms ≡ Some found → count terms ≡ length found
@@ -126,7 +126,7 @@ unsigned (Defined (suc n)) f e = absurd cc
 unsigned (Wanted zero) f e = absurd cc
 unsigned (Wanted (suc n)) f e = absurd cc
 
-pub no-call : (sorts : List Sort) (function : Fun) (arguments : Exprs) → HasSort sorts (Invoke function arguments) → ⊥
+pub no-call : (sorts : List Sort) (function : Fun) (arguments : Exprs) → TermHasSort sorts (Invoke function arguments) → ⊥
 unfolding sort_in
 no-call sorts function arguments fit =
     let c = called_sort_Some (signature_of scope function) (sorts_in scope sorts arguments) fit.sort fit.is in
@@ -134,13 +134,13 @@ no-call sorts function arguments fit =
 
 -- a binding
 
-pub bound-fit : (sorts : List Sort) (bound : Exprs) (inner : Expr) → HasSort sorts (Bind bound inner) → HaveSorts sorts bound
+pub bound-fit : (sorts : List Sort) (bound : Exprs) (inner : Expr) → TermHasSort sorts (Bind bound inner) → HaveSorts sorts bound
 unfolding sort_in
 bound-fit sorts bound inner fit =
     let a = after_Some (sorts_in scope sorts bound) (λ found. sort_in scope (sorts ++ found) inner) fit.sort fit.is in
     record { found = a.sorts; are = a.is }
 
-pub inner-fit : (sorts : List Sort) (bound : Exprs) (inner : Expr) (found : List Sort) → sorts_in scope sorts bound ≡ Some found → HasSort sorts (Bind bound inner) → HasSort (sorts ++ found) inner
+pub inner-fit : (sorts : List Sort) (bound : Exprs) (inner : Expr) (found : List Sort) → sorts_in scope sorts bound ≡ Some found → TermHasSort sorts (Bind bound inner) → TermHasSort (sorts ++ found) inner
 unfolding sort_in
 inner-fit sorts bound inner found e fit =
     let a = after_Some (sorts_in scope sorts bound) (λ found. sort_in scope (sorts ++ found) inner) fit.sort fit.is in

@@ -17,9 +17,9 @@ use Rattle.sy_bits_laws.specs.Assignments.{assignment}
 abbrev pub query_size : Query → ℕ
 query_size query = query_weight owned query + total_width query.variables
 
--- The first variables are the bits of the query's variables. Each choice of them extends in exactly one way to truth
--- values of all variables that make every clause but the last true. The last clause has one literal, which these
--- values make true exactly where the bits' assignment satisfies the query. There are few variables and clauses.
+-- The first variables are the bits of the query's variables. However these are chosen, there is one choice of the other
+-- variables, and no second one, at which each clause before the last is true. The last clause has one literal, which is
+-- true there exactly where the bits' assignment satisfies the query. There are few variables and clauses.
 pub record HasCircuitClauses (query : Query) (cnf : Cnf) : Type 0 where
   pub one_way : ExtendsInOneWay (total_width query.variables) cnf.vars (but_last cnf.clauses)
   pub output : Lit
@@ -39,8 +39,8 @@ pub record Proves (query : Query) (cnf : Cnf) (log : Log) : Type 0 where
   pub circuit : HasCircuitClauses query cnf
   pub refuted : Refutes cnf log
 
--- so many clauses were learned, each new to the clauses before it, and the clauses say what the query says
-pub record IsSpent (query : Query) (fuel : ℕ) (cnf : Cnf) (log : Log) : Type 0 where
+-- as many learned clauses, of which each is new to those before it; and the clauses say what the query says
+pub record ClausesAreSpent (query : Query) (fuel : ℕ) (cnf : Cnf) (log : Log) : Type 0 where
   pub circuit : HasCircuitClauses query cnf
   pub learned : LearnsNew cnf log
   pub many : length log.lines ≡ fuel

@@ -11,7 +11,7 @@ abbrev pub scope : Scope
 scope = query_scope owned
 
 -- the term has a sort where the values in force have these
-pub record HasSort (sorts : List Sort) (term : Expr) : Type 0 where
+pub record TermHasSort (sorts : List Sort) (term : Expr) : Type 0 where
   pub sort : Sort
   pub is : sort_in scope sorts term ≡ Some sort
 

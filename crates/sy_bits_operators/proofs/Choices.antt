@@ -12,13 +12,13 @@ use Rattle.sy_terms.specs.declared.sort.Sort.TheVariants as sorts
 use Rattle.sy_terms.specs.declared.sorts.Sorted.TheVariants.{Is, Mismatch}
 use Rattle.sy_meaning_core.proofs.Three.{ite-three}
 use Rattle.sy_terms_laws.proofs.Equations.{same_sort_is}
-use Rattle.sy_meaning_words.specs.Vectors.{Takes, is_sort}
+use Rattle.sy_meaning_words.specs.Vectors.{TakesSorts, has_a_sort}
 use Rattle.sy_bits_operators.specs.declared.signal.Signal.{Signal}
 use Rattle.sy_bits_operators.specs.Signals.{signal_value, signal_values, signal_sort, signal_sorts, signal_bound, signals_bound, sort_width}
 use Rattle.sy_bits_operators.specs.Costs.{core_gates}
 use Rattle.sy_bits_operators.proofs.Rows.{sort-is, taken-sort}
 
-pub takes-three : (list : List Signal) → Takes ops.Ite (signal_sorts list) → length list ≡ 3
+pub takes-three : (list : List Signal) → TakesSorts ops.Ite (signal_sorts list) → length list ≡ 3
 takes-three list takes =
     let sorted = taken-sort (sort_of ops.Ite (signal_sorts list)) takes in
     let three = ite-three (signal_sorts list) sorted.0 sorted.1 in
@@ -31,17 +31,17 @@ three-items (x ∷ y ∷ []) a b c h k ia ib ic = absurd (omega arith)
 three-items (x ∷ y ∷ z ∷ u ∷ xs) a b c h k ia ib ic = absurd (omega arith)
 three-items (x ∷ y ∷ z ∷ []) a b c h k ia ib ic = cc
 
-if_is_sort : (b : Bool) (s : Sort) → is_sort (if b then Is s else Mismatch) ≡ true → b ≡ true
+if_is_sort : (b : Bool) (s : Sort) → has_a_sort (if b then Is s else Mismatch) ≡ true → b ≡ true
 if_is_sort true s h = refl
 if_is_sort false s h = cc
 
-same-branches : (s t u : Sort) → Takes ops.Ite (s ∷ t ∷ u ∷ []) → t ≡ u
+same-branches : (s t u : Sort) → TakesSorts ops.Ite (s ∷ t ∷ u ∷ []) → t ≡ u
 unfolding sort_of
 same-branches sorts.Bool t u h = same_sort_is t u (if_is_sort (same_sort t u) t h)
 same-branches sorts.Int t u h = cc
 same-branches (sorts.Bits w) t u h = cc
 
-pub branch-sorts : (list : List Signal) (test a b : Signal) → list ≡ test ∷ a ∷ b ∷ [] → Takes ops.Ite (signal_sorts list) → signal_sort a ≡ signal_sort b
+pub branch-sorts : (list : List Signal) (test a b : Signal) → list ≡ test ∷ a ∷ b ∷ [] → TakesSorts ops.Ite (signal_sorts list) → signal_sort a ≡ signal_sort b
 branch-sorts list test a b e takes = same-branches (signal_sort test) (signal_sort a) (signal_sort b) (rw e at takes)
 
 cond-sort : (t : Bool) (x y : Val) (s : Sort) → sort_of_value x ≡ s → sort_of_value y ≡ s → sort_of_value (cond t x y) ≡ s
@@ -59,7 +59,7 @@ chosen-value v list test a b bit value e f g = rw e (g ∙ ap (λ t. cond t (sig
 
 -- three arguments by their places
 
-pub three-placed : (xs : List Signal) (a b c : Signal) → Takes ops.Ite (signal_sorts xs) → a ≡ get_or xs 0 a → b ≡ get_or xs 1 b → c ≡ get_or xs 2 c → xs ≡ a ∷ b ∷ c ∷ []
+pub three-placed : (xs : List Signal) (a b c : Signal) → TakesSorts ops.Ite (signal_sorts xs) → a ≡ get_or xs 0 a → b ≡ get_or xs 1 b → c ≡ get_or xs 2 c → xs ≡ a ∷ b ∷ c ∷ []
 three-placed xs a b c takes ia ib ic = let three = takes-three xs takes in three-items xs a b c (omega (arith, three)) (omega (arith, three)) ia ib ic
 
 pub record Three (list : List Signal) (a b c : Signal) : Type 0 where

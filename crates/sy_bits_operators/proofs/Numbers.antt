@@ -19,8 +19,8 @@ quotient_is w s t = same_if (nat_eq t 0) (2 ^ w - 1) (s / t)
 pub remainder_is : (w s t : ℕ) → gates.remainder_of s t ≡ bv.remainder w s t
 remainder_is w s t = same_if (nat_eq t 0) s (s % t)
 
-pub negative_is : (w s : ℕ) → gates.is_negative w s ≡ bv.negative w s
-unfolding gates.is_negative
+pub negative_is : (w s : ℕ) → gates.has_top_bit w s ≡ bv.negative w s
+unfolding gates.has_top_bit
 negative_is w s = refl
 
 regrouped : (s t p : ℕ) → t ≤ p → s + p - t ≡ s + (p - t)
@@ -32,18 +32,18 @@ difference_is w s t h = ap (λ n. n % 2 ^ w) (regrouped s t (2 ^ w) (omega arith
 less_than : (p q s : ℕ) → 0 < q → leb q s ≡ true → s < p → p - s < p
 less_than p q s z h k = grind (arith, nat_tests)
 
-magnitude_by : (b : Bool) (w s : ℕ) → s < 2 ^ w → bv.negative w s ≡ b → cond b (gates.minus w s) s ≡ (if b then 2 ^ w - s else s)
+magnitude_by : (b : Bool) (w s : ℕ) → s < 2 ^ w → bv.negative w s ≡ b → cond b (gates.minus_vector w s) s ≡ (if b then 2 ^ w - s else s)
 magnitude_by true w s h e = mod-eq_of_lt (less_than (2 ^ w) (2 ^ (w - 1)) s (pow_pos (w - 1)) e h)
 magnitude_by false w s h e = refl
 
 pub magnitude_is : (w s : ℕ) → s < 2 ^ w → gates.magnitude w s ≡ bv.magnitude w s
-unfolding gates.is_negative
+unfolding gates.has_top_bit
 magnitude_is w s h = magnitude_by (bv.negative w s) w s h refl
 
 -- the sign of a quotient
 
 quotient_by : (a b : Bool) (w m n : ℕ) →
-    cond (xor a b) (gates.minus w (gates.quotient_of w m n)) (gates.quotient_of w m n)
+    cond (xor a b) (gates.minus_vector w (gates.quotient_of w m n)) (gates.quotient_of w m n)
     ≡ cond a (cond b (bv.quotient w m n) (bv.negated w (bv.quotient w m n))) (cond b (bv.negated w (bv.quotient w m n)) (bv.quotient w m n))
 quotient_by true true w m n = quotient_is w m n
 quotient_by true false w m n = ap (bv.negated w) (quotient_is w m n)
@@ -51,28 +51,28 @@ quotient_by false true w m n = ap (bv.negated w) (quotient_is w m n)
 quotient_by false false w m n = quotient_is w m n
 
 pub signed_quotient_is : (w s t : ℕ) → s < 2 ^ w → t < 2 ^ w → gates.signed_quotient w s t ≡ bv.signed_quotient w s t
-unfolding gates.is_negative
+unfolding gates.has_top_bit
 signed_quotient_is w s t h k =
-    let by : ℕ → ℕ → ℕ = λ m n. cond (xor (bv.negative w s) (bv.negative w t)) (gates.minus w (gates.quotient_of w m n)) (gates.quotient_of w m n) in
+    let by : ℕ → ℕ → ℕ = λ m n. cond (xor (bv.negative w s) (bv.negative w t)) (gates.minus_vector w (gates.quotient_of w m n)) (gates.quotient_of w m n) in
     ap (λ m. by m (gates.magnitude w t)) (magnitude_is w s h)
     ∙ ap (λ n. by (bv.magnitude w s) n) (magnitude_is w t k)
     ∙ quotient_by (bv.negative w s) (bv.negative w t) w (bv.magnitude w s) (bv.magnitude w t)
 
 remainder_by : (a : Bool) (w m n : ℕ) →
-    cond a (gates.minus w (gates.remainder_of m n)) (gates.remainder_of m n) ≡ (if a then bv.negated w (bv.remainder w m n) else bv.remainder w m n)
+    cond a (gates.minus_vector w (gates.remainder_of m n)) (gates.remainder_of m n) ≡ (if a then bv.negated w (bv.remainder w m n) else bv.remainder w m n)
 remainder_by true w m n = ap (bv.negated w) (remainder_is w m n)
 remainder_by false w m n = remainder_is w m n
 
 pub signed_remainder_is : (w s t : ℕ) → s < 2 ^ w → t < 2 ^ w → gates.signed_remainder w s t ≡ bv.signed_remainder w s t
-unfolding gates.is_negative
+unfolding gates.has_top_bit
 signed_remainder_is w s t h k =
-    let by : ℕ → ℕ → ℕ = λ m n. cond (bv.negative w s) (gates.minus w (gates.remainder_of m n)) (gates.remainder_of m n) in
+    let by : ℕ → ℕ → ℕ = λ m n. cond (bv.negative w s) (gates.minus_vector w (gates.remainder_of m n)) (gates.remainder_of m n) in
     ap (λ m. by m (gates.magnitude w t)) (magnitude_is w s h)
     ∙ ap (λ n. by (bv.magnitude w s) n) (magnitude_is w t k)
     ∙ remainder_by (bv.negative w s) w (bv.magnitude w s) (bv.magnitude w t)
 
 pub signed_modulus_is : (w s t : ℕ) → s < 2 ^ w → t < 2 ^ w → gates.signed_modulo w s t ≡ bv.signed_modulus w s t
-unfolding gates.is_negative
+unfolding gates.has_top_bit
 signed_modulus_is w s t h k =
     let by : ℕ → ℕ → ℕ = λ m n. gates.moved_to_sign w (bv.negative w s) (bv.negative w t) (gates.remainder_of m n) t in
     ap (λ m. by m (gates.magnitude w t)) (magnitude_is w s h)
@@ -124,7 +124,7 @@ signed_right_by true w s t h = ap (bv.inverted w) (shifted_right_is w (bv.invert
 signed_right_by false w s t h = shifted_right_is w s t h
 
 pub shifted_right_signed_is : (w s t : ℕ) → s < 2 ^ w → gates.signed_shift_down w s t ≡ bv.shifted_right_signed w s t
-unfolding gates.is_negative
+unfolding gates.has_top_bit
 shifted_right_signed_is w s t h = signed_right_by (bv.negative w s) w s t h
 
 -- copies and more bits
@@ -160,8 +160,8 @@ extended_by : (b : Bool) (i w s : ℕ) → cond b (2 ^ i - 1) 0 * 2 ^ w + s ≡ 
 extended_by true i w s = ones_above (2 ^ w) (2 ^ i) s (pow_pos i) ∙ ap (λ n. s + (n - 2 ^ w)) (sym (pow-add 2 w i))
 extended_by false i w s = omega arith
 
-pub sign_extended_is : (i w s : ℕ) (b : Bool) → b ≡ gates.is_negative w s → cond b (2 ^ i - 1) 0 * 2 ^ w + s ≡ bv.sign_extended i w s
-unfolding gates.is_negative
+pub sign_extended_is : (i w s : ℕ) (b : Bool) → b ≡ gates.has_top_bit w s → cond b (2 ^ i - 1) 0 * 2 ^ w + s ≡ bv.sign_extended i w s
+unfolding gates.has_top_bit
 sign_extended_is i w s b e = extended_by b i w s ∙ ap (λ c. if c then s + (2 ^ (w + i) - 2 ^ w) else s) e
 
 -- two's complement order
@@ -222,14 +222,14 @@ most_by x y a b p e f = (
 )
 
 signed_most_is : (w s t : ℕ) → 1 ≤ w → s < 2 ^ w → t < 2 ^ w → (gates.signed_number w s ≤ℤ gates.signed_number w t → bv.signed_less w t s ≡ false) × (bv.signed_less w t s ≡ false → gates.signed_number w s ≤ℤ gates.signed_number w t)
-unfolding gates.is_negative gates.signed_number
+unfolding gates.has_top_bit gates.signed_number
 signed_most_is w s t h hs ht =
     most_by _ _ ((s + 2 ^ (w - 1)) % 2 ^ w) ((t + 2 ^ (w - 1)) % 2 ^ w) (2 ^ (w - 1))
     (offset (leb (2 ^ (w - 1)) s) (2 ^ (w - 1)) (2 ^ w) s (double w h) (pow_pos (w - 1)) hs refl)
     (offset (leb (2 ^ (w - 1)) t) (2 ^ (w - 1)) (2 ^ w) t (double w h) (pow_pos (w - 1)) ht refl)
 
 pub signed_less_is : (w s t : ℕ) → 1 ≤ w → s < 2 ^ w → t < 2 ^ w → (gates.signed_number w s <ℤ gates.signed_number w t → bv.signed_less w s t ≡ true) × (bv.signed_less w s t ≡ true → gates.signed_number w s <ℤ gates.signed_number w t)
-unfolding gates.is_negative gates.signed_number
+unfolding gates.has_top_bit gates.signed_number
 signed_less_is w s t h hs ht =
     compared_by _ _ ((s + 2 ^ (w - 1)) % 2 ^ w) ((t + 2 ^ (w - 1)) % 2 ^ w) (2 ^ (w - 1))
     (offset (leb (2 ^ (w - 1)) s) (2 ^ (w - 1)) (2 ^ w) s (double w h) (pow_pos (w - 1)) hs refl)

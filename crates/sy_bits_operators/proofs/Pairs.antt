@@ -27,7 +27,7 @@ repeat-is v i k s r same e f =
     both (length r) (i * length s) (word_number v r) (bv.repeated i (length s) (word_number v s)) (e ∙ ap (λ n. n * length s) same)
     (f ∙ numbers.repeated_is k (length s) (word_number v s) ∙ ap (λ n. bv.repeated n (length s) (word_number v s)) same)
 
-pub sign_extend-is : (v : ℕ → Bool) (i k : ℕ) (s r : List Bit) (b : Bool) → k ≡ i → length r ≡ length s + k → b ≡ gates.is_negative (length s) (word_number v s) → word_number v r ≡ cond b (2 ^ k - 1) 0 * 2 ^ length s + word_number v s → word_value v r ≡ op_value (ops.SignExtend i) (word_value v s ∷ [])
+pub sign_extend-is : (v : ℕ → Bool) (i k : ℕ) (s r : List Bit) (b : Bool) → k ≡ i → length r ≡ length s + k → b ≡ gates.has_top_bit (length s) (word_number v s) → word_number v r ≡ cond b (2 ^ k - 1) 0 * 2 ^ length s + word_number v s → word_value v r ≡ op_value (ops.SignExtend i) (word_value v s ∷ [])
 unfolding op_value
 sign_extend-is v i k s r b same e top f =
     both (length r) (length s + i) (word_number v r) (bv.sign_extended i (length s) (word_number v s)) (e ∙ ap (λ n. length s + n) same)

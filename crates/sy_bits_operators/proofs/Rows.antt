@@ -14,7 +14,7 @@ use Rattle.sy_terms.specs.declared.sorts.Sorted.{Sorted}
 use Rattle.sy_terms.specs.declared.sorts.Sorted.TheVariants.{Is}
 use Rattle.sy_meaning_core.proofs.Lists.{odd_from, xor-odd, map-last, implied-last, neighbours-same}
 use Rattle.sy_terms_laws.proofs.Equations.{same_sort_is}
-use Rattle.sy_meaning_words.specs.Vectors.{Takes, is_sort}
+use Rattle.sy_meaning_words.specs.Vectors.{TakesSorts, has_a_sort}
 use Rattle.sy_gates.specs.declared.bitwise.Joint.TheVariants.{And, Or, Xor}
 use Rattle.sy_gates.specs.declared.gate.Bit.{Bit}
 use Rattle.sy_gates.specs.Bitwise.{all_joined}
@@ -75,11 +75,11 @@ odd-joined v odd (s ∷ list) =
     odd-joined v (not (same (Truth odd) (Truth (truth (signal_value v s))))) list
     ∙ regrouped odd (truth (signal_value v s)) (all_joined Xor (map truth (signal_values v list)))
 
-pub taken-sort : (sorted : Sorted) → is_sort sorted ≡ true → (s : Sort) × (sorted ≡ Is s)
+pub taken-sort : (sorted : Sorted) → has_a_sort sorted ≡ true → (s : Sort) × (sorted ≡ Is s)
 taken-sort (Is s) h = (s, refl)
 taken-sort _ h = absurd cc
 
-pub joined-Xor : (v : ℕ → Bool) (list : List Signal) → Takes ops.Xor (signal_sorts list) → Truth (all_joined Xor (map truth (signal_values v list))) ≡ op_value ops.Xor (signal_values v list)
+pub joined-Xor : (v : ℕ → Bool) (list : List Signal) → TakesSorts ops.Xor (signal_sorts list) → Truth (all_joined Xor (map truth (signal_values v list))) ≡ op_value ops.Xor (signal_values v list)
 joined-Xor v list takes =
     let sorted = taken-sort (sort_of ops.Xor (signal_sorts list)) takes in
     ap Truth (sym (odd-joined v false list)) ∙ xor-odd (signal_value v) list sorted.0 (ap (sort_of ops.Xor) (sorts-are v list) ∙ sorted.1)

@@ -14,7 +14,7 @@ use Rattle.sy_terms.specs.declared.op.Op.TheVariants as ops
 use Rattle.sy_terms.specs.declared.sort.Sort.{Sort}
 use Rattle.sy_terms.specs.declared.sort.Sort.TheVariants as sorts
 use Rattle.sy_terms.specs.declared.sorts.Sorted.TheVariants.{Is, Mismatch}
-use Rattle.sy_meaning_words.specs.Vectors.{in_vectors, is_bits, is_sort, Takes, TakesMany}
+use Rattle.sy_meaning_words.specs.Vectors.{in_vectors, is_bits, has_a_sort, TakesSorts, TakesMany}
 use Rattle.sy_terms_laws.proofs.Equations.{same_sort_is}
 use Rattle.sy_bits_operators.proofs.Taken.{many, none_taken, single_bits, pair_bits, no_items}
 use Rattle.sy_gates.specs.declared.gate.Bit.{Bit}
@@ -35,19 +35,19 @@ first-wide word rest all = wide (length word) (All-head (λ sort. has_signals so
 -- one vector
 
 pub record One (op : Op) (list : List Signal) (s : List Bit) : Type 0 where
-  pub takes : Takes op (sorts.Bits (length s) ∷ [])
+  pub takes : TakesSorts op (sorts.Bits (length s) ∷ [])
   pub least : 1 ≤ length s
   pub most : length s ≤ 64
   pub inside : word_bound s ≤ signals_bound list
   pub gates : vector_gates op (signal_sorts list) ≡ single_gates op (length s)
   pub values : (v : ℕ → Bool) → signal_values v list ≡ word_value v s ∷ []
 
-one-at : (op : Op) (s : List Bit) → Takes op (signal_sorts (signals.Vector s ∷ [])) → AllHaveSignals (signal_sorts (signals.Vector s ∷ [])) → One op (signals.Vector s ∷ []) s
+one-at : (op : Op) (s : List Bit) → TakesSorts op (signal_sorts (signals.Vector s ∷ [])) → AllHaveSignals (signal_sorts (signals.Vector s ∷ [])) → One op (signals.Vector s ∷ []) s
 one-at op s takes all =
     let size = first-wide s [] all in
     record { takes = takes; least = size.0; most = size.1; inside = omega arith; gates = refl; values = λ v. refl }
 
-pub one : (op : Op) (list : List Signal) (x : Signal) (s : List Bit) → list ≡ x ∷ [] → signals.Vector s ≡ x → Takes op (signal_sorts list) → AllHaveSignals (signal_sorts list) → One op list s
+pub one : (op : Op) (list : List Signal) (x : Signal) (s : List Bit) → list ≡ x ∷ [] → signals.Vector s ≡ x → TakesSorts op (signal_sorts list) → AllHaveSignals (signal_sorts list) → One op list s
 one op list x s e f takes all =
     let same : list ≡ signals.Vector s ∷ [] = e ∙ ap (λ y. y ∷ []) (sym f) in
     subst (λ (xs : List Signal). One op xs s) (sym same) (one-at op s (rw same at takes) (rw same at all))
@@ -55,7 +55,7 @@ one op list x s e f takes all =
 -- two vectors
 
 pub record Two (op : Op) (list : List Signal) (s t : List Bit) : Type 0 where
-  pub takes : Takes op (sorts.Bits (length s) ∷ sorts.Bits (length t) ∷ [])
+  pub takes : TakesSorts op (sorts.Bits (length s) ∷ sorts.Bits (length t) ∷ [])
   pub least : 1 ≤ length s
   pub most : length s ≤ 64
   pub left : word_bound s ≤ signals_bound list
@@ -66,12 +66,12 @@ pub record Two (op : Op) (list : List Signal) (s t : List Bit) : Type 0 where
 once : (n : ℕ) → 1 * n ≡ n
 once n = omega arith
 
-two-at : (op : Op) (s t : List Bit) → Takes op (signal_sorts (signals.Vector s ∷ signals.Vector t ∷ [])) → AllHaveSignals (signal_sorts (signals.Vector s ∷ signals.Vector t ∷ [])) → Two op (signals.Vector s ∷ signals.Vector t ∷ []) s t
+two-at : (op : Op) (s t : List Bit) → TakesSorts op (signal_sorts (signals.Vector s ∷ signals.Vector t ∷ [])) → AllHaveSignals (signal_sorts (signals.Vector s ∷ signals.Vector t ∷ [])) → Two op (signals.Vector s ∷ signals.Vector t ∷ []) s t
 two-at op s t takes all =
     let size = first-wide s (signals.Vector t ∷ []) all in
     record { takes = takes; least = size.0; most = size.1; left = omega arith; right = omega arith; gates = once (pair_gates op (length s)); values = λ v. refl }
 
-pub two : (op : Op) (list : List Signal) (x y : Signal) (s t : List Bit) → list ≡ x ∷ y ∷ [] → signals.Vector s ≡ x → signals.Vector t ≡ y → Takes op (signal_sorts list) → AllHaveSignals (signal_sorts list) → Two op list s t
+pub two : (op : Op) (list : List Signal) (x y : Signal) (s t : List Bit) → list ≡ x ∷ y ∷ [] → signals.Vector s ≡ x → signals.Vector t ≡ y → TakesSorts op (signal_sorts list) → AllHaveSignals (signal_sorts list) → Two op list s t
 two op list x y s t e f g takes all =
     let same : list ≡ signals.Vector s ∷ signals.Vector t ∷ [] = e ∙ ap (λ z. z ∷ y ∷ []) (sym f) ∙ ap (λ z. signals.Vector s ∷ z ∷ []) (sym g) in
     subst (λ (xs : List Signal). Two op xs s t) (sym same) (two-at op s t (rw same at takes) (rw same at all))
@@ -88,7 +88,7 @@ pub record More (op : Op) (list rest : List Signal) (s : List Bit) : Type 0 wher
   pub values : (v : ℕ → Bool) → signal_values v list ≡ word_value v s ∷ signal_values v rest
   pub sort : (v : ℕ → Bool) → sorts.Bits (length s) ≡ sort_of_value (op_value op (signal_values v list))
 
-more-at : (op : Op) (s : List Bit) (rest : List Signal) → 2 ≤ length rest → in_vectors op ≡ true → Takes op (signal_sorts (signals.Vector s ∷ rest)) → AllHaveSignals (signal_sorts (signals.Vector s ∷ rest)) → More op (signals.Vector s ∷ rest) rest s
+more-at : (op : Op) (s : List Bit) (rest : List Signal) → 2 ≤ length rest → in_vectors op ≡ true → TakesSorts op (signal_sorts (signals.Vector s ∷ rest)) → AllHaveSignals (signal_sorts (signals.Vector s ∷ rest)) → More op (signals.Vector s ∷ rest) rest s
 more-at op s [] h ours takes all = absurd (omega arith)
 more-at op s (x ∷ []) h ours takes all = absurd (omega arith)
 more-at op s (x ∷ y ∷ rest) h ours takes all =
@@ -105,7 +105,7 @@ more-at op s (x ∷ y ∷ rest) h ours takes all =
       sort = λ v. many-value-sort op v (signals.Vector s) (x ∷ y ∷ rest) (length s) refl taken (omega arith);
     }
 
-pub more : (op : Op) (list rest : List Signal) (x : Signal) (s : List Bit) → list ≡ x ∷ rest → signals.Vector s ≡ x → 3 ≤ length list → in_vectors op ≡ true → Takes op (signal_sorts list) → AllHaveSignals (signal_sorts list) → More op list rest s
+pub more : (op : Op) (list rest : List Signal) (x : Signal) (s : List Bit) → list ≡ x ∷ rest → signals.Vector s ≡ x → 3 ≤ length list → in_vectors op ≡ true → TakesSorts op (signal_sorts list) → AllHaveSignals (signal_sorts list) → More op list rest s
 more op list rest x s e f h ours takes all =
     let same : list ≡ signals.Vector s ∷ rest = e ∙ ap (λ y. y ∷ rest) (sym f) in
     let long : length list ≡ length (signals.Vector s ∷ rest) = ap (λ xs. length xs) same in
@@ -117,16 +117,16 @@ both : (a b : Bool) → (a && b) ≡ true → (a ≡ true) × (b ≡ true)
 both true b e = (refl, e)
 both false b e = cc
 
-if_is_sort : (b : Bool) (s : Sort) → is_sort (if b then Is s else Mismatch) ≡ true → b ≡ true
+if_is_sort : (b : Bool) (s : Sort) → has_a_sort (if b then Is s else Mismatch) ≡ true → b ≡ true
 if_is_sort true s h = refl
 if_is_sort false s h = cc
 
-pub alike-Equal : (ss : List Sort) → Takes ops.Equal ss → are_alike ss ≡ true
+pub alike-Equal : (ss : List Sort) → TakesSorts ops.Equal ss → are_alike ss ≡ true
 unfolding sort_of
 alike-Equal [] h = refl
 alike-Equal (s ∷ rest) h = (both (nat_le 1 (length rest)) (list_all (same_sort s) rest) (if_is_sort (nat_le 1 (length rest) && list_all (same_sort s) rest) sorts.Bool h)).1
 
-pub alike-Distinct : (ss : List Sort) → Takes ops.Distinct ss → are_alike ss ≡ true
+pub alike-Distinct : (ss : List Sort) → TakesSorts ops.Distinct ss → are_alike ss ≡ true
 unfolding sort_of
 alike-Distinct [] h = refl
 alike-Distinct (s ∷ rest) h = (both (nat_le 1 (length rest)) (list_all (same_sort s) rest) (if_is_sort (nat_le 1 (length rest) && list_all (same_sort s) rest) sorts.Bool h)).1
@@ -136,21 +136,21 @@ first-of-many op s rest takes =
     let is = same_sort_is (sorts.Bits takes.width) s (both (same_sort (sorts.Bits takes.width) s) (list_all (same_sort (sorts.Bits takes.width)) rest) takes.same).0 in
     rw (← is) refl
 
-first-at : (op : Op) (x : Signal) (rest : List Signal) → 2 ≤ length rest → in_vectors op ≡ true → Takes op (signal_sorts (x ∷ rest)) → is_bits (signal_sort x) ≡ true
+first-at : (op : Op) (x : Signal) (rest : List Signal) → 2 ≤ length rest → in_vectors op ≡ true → TakesSorts op (signal_sorts (x ∷ rest)) → is_bits (signal_sort x) ≡ true
 first-at op x [] h ours takes = absurd (omega arith)
 first-at op x (y ∷ []) h ours takes = absurd (omega arith)
 first-at op x (y ∷ z ∷ rest) h ours takes = first-of-many op (signal_sort x) (signal_sorts (y ∷ z ∷ rest)) (many op (signal_sort x) (signal_sort y) (signal_sort z) (signal_sorts rest) ours takes)
 
-pub first-bits : (op : Op) (list rest : List Signal) (x : Signal) → list ≡ x ∷ rest → 3 ≤ length list → in_vectors op ≡ true → Takes op (signal_sorts list) → is_bits (signal_sort x) ≡ true
+pub first-bits : (op : Op) (list rest : List Signal) (x : Signal) → list ≡ x ∷ rest → 3 ≤ length list → in_vectors op ≡ true → TakesSorts op (signal_sorts list) → is_bits (signal_sort x) ≡ true
 first-bits op list rest x e h ours takes =
     let long : length list ≡ length (x ∷ rest) = ap (λ xs. length xs) e in
     first-at op x rest (omega (arith, long, h)) ours (rw e at takes)
 
-pub one-bits : (op : Op) (list : List Signal) (x : Signal) → list ≡ x ∷ [] → in_vectors op ≡ true → Takes op (signal_sorts list) → is_bits (signal_sort x) ≡ true
+pub one-bits : (op : Op) (list : List Signal) (x : Signal) → list ≡ x ∷ [] → in_vectors op ≡ true → TakesSorts op (signal_sorts list) → is_bits (signal_sort x) ≡ true
 one-bits op list x e ours takes = single_bits op (signal_sort x) ours (rw e at takes)
 
-pub two-bits : (op : Op) (list : List Signal) (x y : Signal) → list ≡ x ∷ y ∷ [] → in_vectors op ≡ true → Takes op (signal_sorts list) → (is_bits (signal_sort x) ≡ true) × (is_bits (signal_sort y) ≡ true)
+pub two-bits : (op : Op) (list : List Signal) (x y : Signal) → list ≡ x ∷ y ∷ [] → in_vectors op ≡ true → TakesSorts op (signal_sorts list) → (is_bits (signal_sort x) ≡ true) × (is_bits (signal_sort y) ≡ true)
 two-bits op list x y e ours takes = pair_bits op (signal_sort x) (signal_sort y) ours (rw e at takes)
 
-pub no-bits : (op : Op) (list : List Signal) → length list < 1 → in_vectors op ≡ true → Takes op (signal_sorts list) → ⊥
+pub no-bits : (op : Op) (list : List Signal) → length list < 1 → in_vectors op ≡ true → TakesSorts op (signal_sorts list) → ⊥
 no-bits op list h ours takes = none_taken op ours (rw (no_items list h) at takes)

@@ -3,7 +3,7 @@ ghost use Rattle.std.specs.Prelude.{◌≡◌, ◌≤◌, ◌<◌, ◌+◌, ◌*
 ghost use Rattle.std.specs.List.{list_all};
 ghost use Rattle.sy_terms.specs.Values.{same, neighbours, all_pairs, to_all};
 ghost use Rattle.sy_terms.specs.Sorts.{same_sort};
-ghost use Rattle.sy_gates.specs.Circuits.{variables, Follows, Grown, bit_value, bit_bound};
+ghost use Rattle.sy_gates.specs.Circuits.{variables, FollowsPlan, GrownCircuit, bit_value, bit_bound};
 ghost use Rattle.sy_bits_operators.specs.Signals.{signal_value, signal_values, signal_sort, signal_sorts, signal_bound, signals_bound, sort_width, are_alike};
 ghost use Rattle.sy_bits_operators.specs.Costs.{same_gates, first_width};
 
@@ -17,10 +17,10 @@ fn same(circuit: &mut Circuit, a: &Signal, b: &Signal) -> Result<Bit, Want>
     requires left { signal_bound a.now ≤ variables circuit.old }
     requires right { signal_bound b.now ≤ variables circuit.old }
     requires room { variables circuit.old + 2 * sort_width (signal_sort a.now) < 2 ^ 31 }
-    ensures grown { Grown circuit.old circuit.new }
+    ensures grown { GrownCircuit circuit.old circuit.new }
     ensures cost { OnOk result (variables circuit.new ≤ variables circuit.old + 2 * sort_width (signal_sort a.now)) }
     ensures inside { IfOk result (λ r. bit_bound r ≤ variables circuit.new) }
-    ensures value { IfOk result (λ r. (v : ℕ → Bool) → Follows v circuit.new → bit_value v r ≡ same (signal_value v a.now) (signal_value v b.now)) }
+    ensures value { IfOk result (λ r. (v : ℕ → Bool) → FollowsPlan v circuit.new → bit_value v r ≡ same (signal_value v a.now) (signal_value v b.now)) }
 {
     match (a, b) {
         (Signal::Truth(x), Signal::Truth(y)) => {
@@ -41,10 +41,10 @@ fn agrees(circuit: &mut Circuit, signal: &Signal, others: &[Signal]) -> Result<B
     requires left { signal_bound signal.now ≤ variables circuit.old }
     requires right { signals_bound others.now ≤ variables circuit.old }
     requires room { variables circuit.old + length others.now * same_gates (sort_width (signal_sort signal.now)) < 2 ^ 31 }
-    ensures grown { Grown circuit.old circuit.new }
+    ensures grown { GrownCircuit circuit.old circuit.new }
     ensures cost { OnOk result (variables circuit.new ≤ variables circuit.old + length others.now * same_gates (sort_width (signal_sort signal.now))) }
     ensures inside { IfOk result (λ r. bit_bound r ≤ variables circuit.new) }
-    ensures value { IfOk result (λ r. (v : ℕ → Bool) → Follows v circuit.new → bit_value v r ≡ list_all (same (signal_value v signal.now)) (signal_values v others.now)) }
+    ensures value { IfOk result (λ r. (v : ℕ → Bool) → FollowsPlan v circuit.new → bit_value v r ≡ list_all (same (signal_value v signal.now)) (signal_values v others.now)) }
 {
     let mut all = Bit::Fixed(true);
     for i in 0..others.len() {
@@ -61,10 +61,10 @@ fn differs(circuit: &mut Circuit, signal: &Signal, others: &[Signal]) -> Result<
     requires left { signal_bound signal.now ≤ variables circuit.old }
     requires right { signals_bound others.now ≤ variables circuit.old }
     requires room { variables circuit.old + length others.now * same_gates (sort_width (signal_sort signal.now)) < 2 ^ 31 }
-    ensures grown { Grown circuit.old circuit.new }
+    ensures grown { GrownCircuit circuit.old circuit.new }
     ensures cost { OnOk result (variables circuit.new ≤ variables circuit.old + length others.now * same_gates (sort_width (signal_sort signal.now))) }
     ensures inside { IfOk result (λ r. bit_bound r ≤ variables circuit.new) }
-    ensures value { IfOk result (λ r. (v : ℕ → Bool) → Follows v circuit.new → bit_value v r ≡ to_all (λ x y. not (same x y)) (signal_value v signal.now) (signal_values v others.now)) }
+    ensures value { IfOk result (λ r. (v : ℕ → Bool) → FollowsPlan v circuit.new → bit_value v r ≡ to_all (λ x y. not (same x y)) (signal_value v signal.now) (signal_values v others.now)) }
 {
     let mut all = Bit::Fixed(true);
     for i in 0..others.len() {
@@ -80,10 +80,10 @@ pub(crate) fn all_same(circuit: &mut Circuit, signals: &[Signal]) -> Result<Bit,
     requires sorts { are_alike (signal_sorts signals.now) ≡ true }
     requires inside { signals_bound signals.now ≤ variables circuit.old }
     requires room { variables circuit.old + length signals.now * same_gates (first_width (signal_sorts signals.now)) < 2 ^ 31 }
-    ensures grown { Grown circuit.old circuit.new }
+    ensures grown { GrownCircuit circuit.old circuit.new }
     ensures cost { OnOk result (variables circuit.new ≤ variables circuit.old + length signals.now * same_gates (first_width (signal_sorts signals.now))) }
     ensures inside { IfOk result (λ r. bit_bound r ≤ variables circuit.new) }
-    ensures value { IfOk result (λ r. (v : ℕ → Bool) → Follows v circuit.new → bit_value v r ≡ neighbours same (signal_values v signals.now)) }
+    ensures value { IfOk result (λ r. (v : ℕ → Bool) → FollowsPlan v circuit.new → bit_value v r ≡ neighbours same (signal_values v signals.now)) }
 {
     match signals.split_first() {
         Some((first, rest)) => {
@@ -99,10 +99,10 @@ pub(crate) fn all_distinct(circuit: &mut Circuit, signals: &[Signal]) -> Result<
     requires sorts { are_alike (signal_sorts signals.now) ≡ true }
     requires inside { signals_bound signals.now ≤ variables circuit.old }
     requires room { variables circuit.old + length signals.now * (length signals.now * same_gates (first_width (signal_sorts signals.now))) < 2 ^ 31 }
-    ensures grown { Grown circuit.old circuit.new }
+    ensures grown { GrownCircuit circuit.old circuit.new }
     ensures cost { OnOk result (variables circuit.new ≤ variables circuit.old + length signals.now * (length signals.now * same_gates (first_width (signal_sorts signals.now)))) }
     ensures inside { IfOk result (λ r. bit_bound r ≤ variables circuit.new) }
-    ensures value { IfOk result (λ r. (v : ℕ → Bool) → Follows v circuit.new → bit_value v r ≡ all_pairs (λ x y. not (same x y)) (signal_values v signals.now)) }
+    ensures value { IfOk result (λ r. (v : ℕ → Bool) → FollowsPlan v circuit.new → bit_value v r ≡ all_pairs (λ x y. not (same x y)) (signal_values v signals.now)) }
 {
     let mut all = Bit::Fixed(true);
     for i in 0..signals.len() {

@@ -2,8 +2,8 @@
 ghost use Rattle.std.specs.Prelude.{◌≡◌, ◌≤◌, ◌<◌, ◌+◌, ◌^◌, ℕ, Bool, true, cond, length, OnOk, IfOk};
 ghost use Rattle.sy_terms.specs.Operators.{op_value};
 ghost use Rattle.sy_terms.specs.Theories.{sort_of_value, in_core};
-ghost use Rattle.sy_meaning_words.specs.Vectors.{Takes, owned};
-ghost use Rattle.sy_gates.specs.Circuits.{variables, Follows, Grown, bit_value, bit_bound};
+ghost use Rattle.sy_meaning_words.specs.Vectors.{TakesSorts, owned};
+ghost use Rattle.sy_gates.specs.Circuits.{variables, FollowsPlan, GrownCircuit, bit_value, bit_bound};
 ghost use Rattle.sy_bits_operators.specs.Signals.{signal_value, signal_values, signal_sort, signal_sorts, signal_bound, signals_bound, sort_width, AllHaveSignals};
 ghost use Rattle.sy_bits_operators.specs.Costs.{core_gates, gates};
 
@@ -30,11 +30,11 @@ fn choice(
     requires left { signal_bound a.now ≤ variables circuit.old }
     requires right { signal_bound b.now ≤ variables circuit.old }
     requires room { variables circuit.old + sort_width (signal_sort a.now) < 2 ^ 31 }
-    ensures grown { Grown circuit.old circuit.new }
+    ensures grown { GrownCircuit circuit.old circuit.new }
     ensures cost { OnOk result (variables circuit.new ≤ variables circuit.old + sort_width (signal_sort a.now)) }
     ensures inside { IfOk result (λ r. signal_bound r ≤ variables circuit.new) }
     ensures sort { IfOk result (λ r. signal_sort r ≡ signal_sort a.now) }
-    ensures value { IfOk result (λ r. (v : ℕ → Bool) → Follows v circuit.new → signal_value v r ≡ cond (bit_value v test) (signal_value v a.now) (signal_value v b.now)) }
+    ensures value { IfOk result (λ r. (v : ℕ → Bool) → FollowsPlan v circuit.new → signal_value v r ≡ cond (bit_value v test) (signal_value v a.now) (signal_value v b.now)) }
 {
     match (a, b) {
         (Signal::Truth(x), Signal::Truth(y)) => {
@@ -53,14 +53,14 @@ fn choice(
 #[tactic(auto, unfolding(sy_terms::specs::Operators::op_value, sy_terms::specs::Sorts::sort_of))]
 fn core(circuit: &mut Circuit, alloc: Global, op: &Op, args: &[Signal]) -> Result<Signal, Want>
     requires core { in_core op.now ≡ true }
-    requires takes { Takes op.now (signal_sorts args.now) }
+    requires takes { TakesSorts op.now (signal_sorts args.now) }
     requires inside { signals_bound args.now ≤ variables circuit.old }
     requires room { variables circuit.old + core_gates op.now (length args.now) (signal_sorts args.now) < 2 ^ 31 }
-    ensures grown { Grown circuit.old circuit.new }
+    ensures grown { GrownCircuit circuit.old circuit.new }
     ensures cost { OnOk result (variables circuit.new ≤ variables circuit.old + core_gates op.now (length args.now) (signal_sorts args.now)) }
     ensures inside { IfOk result (λ r. signal_bound r ≤ variables circuit.new) }
     ensures sort { IfOk result (λ r. (v : ℕ → Bool) → signal_sort r ≡ sort_of_value (op_value op.now (signal_values v args.now))) }
-    ensures value { IfOk result (λ r. (v : ℕ → Bool) → Follows v circuit.new → signal_value v r ≡ op_value op.now (signal_values v args.now)) }
+    ensures value { IfOk result (λ r. (v : ℕ → Bool) → FollowsPlan v circuit.new → signal_value v r ≡ op_value op.now (signal_values v args.now)) }
 {
     match op {
         Op::Not => Ok(Signal::Truth(all_true(circuit, alloc, args)?.negated())),
@@ -78,14 +78,14 @@ fn core(circuit: &mut Circuit, alloc: Global, op: &Op, args: &[Signal]) -> Resul
 /// The second signal where the first is true, and otherwise the third.
 #[tactic(auto, using(crate::proofs::Choices::choice_steps))]
 fn chosen(circuit: &mut Circuit, alloc: Global, args: &[Signal]) -> Result<Signal, Want>
-    requires takes { Takes Op.Ite (signal_sorts args.now) }
+    requires takes { TakesSorts Op.Ite (signal_sorts args.now) }
     requires inside { signals_bound args.now ≤ variables circuit.old }
     requires room { variables circuit.old + core_gates Op.Ite (length args.now) (signal_sorts args.now) < 2 ^ 31 }
-    ensures grown { Grown circuit.old circuit.new }
+    ensures grown { GrownCircuit circuit.old circuit.new }
     ensures cost { OnOk result (variables circuit.new ≤ variables circuit.old + core_gates Op.Ite (length args.now) (signal_sorts args.now)) }
     ensures inside { IfOk result (λ r. signal_bound r ≤ variables circuit.new) }
     ensures sort { IfOk result (λ r. (v : ℕ → Bool) → signal_sort r ≡ sort_of_value (op_value Op.Ite (signal_values v args.now))) }
-    ensures value { IfOk result (λ r. (v : ℕ → Bool) → Follows v circuit.new → signal_value v r ≡ op_value Op.Ite (signal_values v args.now)) }
+    ensures value { IfOk result (λ r. (v : ℕ → Bool) → FollowsPlan v circuit.new → signal_value v r ≡ op_value Op.Ite (signal_values v args.now)) }
 {
     let test = args[0].bit();
     let signal = choice(circuit, alloc, test, &args[1], &args[2])?;
@@ -102,15 +102,15 @@ pub fn applied(
     args: &[Signal],
 ) -> Result<Signal, Want>
     requires ours { owned op.now ≡ true }
-    requires takes { Takes op.now (signal_sorts args.now) }
+    requires takes { TakesSorts op.now (signal_sorts args.now) }
     requires sorts { AllHaveSignals (signal_sorts args.now) }
     requires inside { signals_bound args.now ≤ variables circuit.old }
     requires room { variables circuit.old + gates op.now (signal_sorts args.now) < 2 ^ 31 }
-    ensures grown { Grown circuit.old circuit.new }
+    ensures grown { GrownCircuit circuit.old circuit.new }
     ensures cost { OnOk result (variables circuit.new ≤ variables circuit.old + gates op.now (signal_sorts args.now)) }
     ensures inside { IfOk result (λ r. signal_bound r ≤ variables circuit.new) }
     ensures sort { IfOk result (λ r. (v : ℕ → Bool) → signal_sort r ≡ sort_of_value (op_value op.now (signal_values v args.now))) }
-    ensures value { IfOk result (λ r. (v : ℕ → Bool) → Follows v circuit.new → signal_value v r ≡ op_value op.now (signal_values v args.now)) }
+    ensures value { IfOk result (λ r. (v : ℕ → Bool) → FollowsPlan v circuit.new → signal_value v r ≡ op_value op.now (signal_values v args.now)) }
 {
     if in_core(op) {
         let signal = core(circuit, alloc, op, args)?;

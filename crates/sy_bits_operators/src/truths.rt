@@ -4,8 +4,8 @@ ghost use Rattle.std.specs.List.{list_all, list_any};
 ghost use Rattle.sy_terms.specs.Values.{Truth, truth};
 ghost use Rattle.sy_terms.specs.Operators.{implied, op_value};
 ghost use Rattle.sy_terms.specs.declared.op.Op.TheVariants as ops;
-ghost use Rattle.sy_meaning_words.specs.Vectors.{Takes};
-ghost use Rattle.sy_gates.specs.Circuits.{variables, Follows, Grown, bit_value, bit_bound, word_bound};
+ghost use Rattle.sy_meaning_words.specs.Vectors.{TakesSorts};
+ghost use Rattle.sy_gates.specs.Circuits.{variables, FollowsPlan, GrownCircuit, bit_value, bit_bound, word_bound};
 ghost use Rattle.sy_bits_operators.specs.Signals.{signal_value, signal_values, signal_sorts, signals_bound};
 
 use crate::signal::Signal;
@@ -35,10 +35,10 @@ pub(crate) fn all_true(
 ) -> Result<Bit, Want>
     requires inside { signals_bound signals.now ≤ variables circuit.old }
     requires room { variables circuit.old + length signals.now < 2 ^ 31 }
-    ensures grown { Grown circuit.old circuit.new }
+    ensures grown { GrownCircuit circuit.old circuit.new }
     ensures cost { OnOk result (variables circuit.new ≤ variables circuit.old + length signals.now) }
     ensures inside { IfOk result (λ r. bit_bound r ≤ variables circuit.new) }
-    ensures value { IfOk result (λ r. (v : ℕ → Bool) → Follows v circuit.new → bit_value v r ≡ list_all truth (signal_values v signals.now)) }
+    ensures value { IfOk result (λ r. (v : ℕ → Bool) → FollowsPlan v circuit.new → bit_value v r ≡ list_all truth (signal_values v signals.now)) }
 {
     let bits = bits(alloc, signals)?;
     let bit = circuit.join_all(Joint::And, bits.as_slice())?;
@@ -53,10 +53,10 @@ pub(crate) fn any_true(
 ) -> Result<Bit, Want>
     requires inside { signals_bound signals.now ≤ variables circuit.old }
     requires room { variables circuit.old + length signals.now < 2 ^ 31 }
-    ensures grown { Grown circuit.old circuit.new }
+    ensures grown { GrownCircuit circuit.old circuit.new }
     ensures cost { OnOk result (variables circuit.new ≤ variables circuit.old + length signals.now) }
     ensures inside { IfOk result (λ r. bit_bound r ≤ variables circuit.new) }
-    ensures value { IfOk result (λ r. (v : ℕ → Bool) → Follows v circuit.new → bit_value v r ≡ list_any truth (signal_values v signals.now)) }
+    ensures value { IfOk result (λ r. (v : ℕ → Bool) → FollowsPlan v circuit.new → bit_value v r ≡ list_any truth (signal_values v signals.now)) }
 {
     let bits = bits(alloc, signals)?;
     let bit = circuit.join_all(Joint::Or, bits.as_slice())?;
@@ -69,13 +69,13 @@ pub(crate) fn exclusive(
     alloc: Global,
     signals: &[Signal],
 ) -> Result<Bit, Want>
-    requires takes { Takes ops.Xor (signal_sorts signals.now) }
+    requires takes { TakesSorts ops.Xor (signal_sorts signals.now) }
     requires inside { signals_bound signals.now ≤ variables circuit.old }
     requires room { variables circuit.old + length signals.now < 2 ^ 31 }
-    ensures grown { Grown circuit.old circuit.new }
+    ensures grown { GrownCircuit circuit.old circuit.new }
     ensures cost { OnOk result (variables circuit.new ≤ variables circuit.old + length signals.now) }
     ensures inside { IfOk result (λ r. bit_bound r ≤ variables circuit.new) }
-    ensures value { IfOk result (λ r. (v : ℕ → Bool) → Follows v circuit.new → Truth (bit_value v r) ≡ op_value ops.Xor (signal_values v signals.now)) }
+    ensures value { IfOk result (λ r. (v : ℕ → Bool) → FollowsPlan v circuit.new → Truth (bit_value v r) ≡ op_value ops.Xor (signal_values v signals.now)) }
 {
     let bits = bits(alloc, signals)?;
     let bit = circuit.join_all(Joint::Xor, bits.as_slice())?;
@@ -86,10 +86,10 @@ pub(crate) fn exclusive(
 pub(crate) fn implied(circuit: &mut Circuit, alloc: Global, signals: &[Signal]) -> Result<Bit, Want>
     requires inside { signals_bound signals.now ≤ variables circuit.old }
     requires room { variables circuit.old + length signals.now < 2 ^ 31 }
-    ensures grown { Grown circuit.old circuit.new }
+    ensures grown { GrownCircuit circuit.old circuit.new }
     ensures cost { OnOk result (variables circuit.new ≤ variables circuit.old + length signals.now) }
     ensures inside { IfOk result (λ r. bit_bound r ≤ variables circuit.new) }
-    ensures value { IfOk result (λ r. (v : ℕ → Bool) → Follows v circuit.new → bit_value v r ≡ implied (signal_values v signals.now)) }
+    ensures value { IfOk result (λ r. (v : ℕ → Bool) → FollowsPlan v circuit.new → bit_value v r ≡ implied (signal_values v signals.now)) }
 {
     match signals.split_last() {
         Some((conclusion, premises)) => {

@@ -5,8 +5,8 @@ ghost use Rattle.sy_terms.specs.Operators.{op_value};
 ghost use Rattle.sy_terms.specs.Theories.{sort_of_value};
 ghost use Rattle.sy_terms.specs.declared.op.Op.TheVariants as ops;
 ghost use Rattle.sy_terms.specs.declared.sort.Sort.TheVariants as sorts;
-ghost use Rattle.sy_meaning_words.specs.Vectors.{in_vectors, Takes, TakesMany};
-ghost use Rattle.sy_gates.specs.Circuits.{variables, Follows, Grown, word_bound, word_number};
+ghost use Rattle.sy_meaning_words.specs.Vectors.{in_vectors, TakesSorts, TakesMany};
+ghost use Rattle.sy_gates.specs.Circuits.{variables, FollowsPlan, GrownCircuit, word_bound, word_number};
 ghost use Rattle.sy_bits_operators.specs.Signals.{signal_value, signal_values, signal_sort, signal_sorts, signal_bound, signals_bound, AllHaveSignals};
 ghost use Rattle.sy_bits_operators.specs.Costs.{single_gates, pair_gates, vector_gates};
 
@@ -23,16 +23,16 @@ use sy_terms::Op;
 #[tactic(auto, unfolding(sy_terms::specs::Operators::op_value, sy_terms::specs::Sorts::sort_of))]
 fn single(circuit: &mut Circuit, alloc: Global, op: &Op, s: &[Bit]) -> Result<Seq<Bit>, Want>
     requires ours { in_vectors op.now ≡ true }
-    requires takes { Takes op.now (sorts.Bits (length s.now) ∷ []) }
+    requires takes { TakesSorts op.now (sorts.Bits (length s.now) ∷ []) }
     requires least { 1 ≤ length s.now }
     requires most { length s.now ≤ 64 }
     requires inside { word_bound s.now ≤ variables circuit.old }
     requires room { variables circuit.old + single_gates op.now (length s.now) < 2 ^ 31 }
-    ensures grown { Grown circuit.old circuit.new }
+    ensures grown { GrownCircuit circuit.old circuit.new }
     ensures cost { OnOk result (variables circuit.new ≤ variables circuit.old + single_gates op.now (length s.now)) }
     ensures inside { IfOk result (λ r. word_bound r ≤ variables circuit.new) }
     ensures sort { IfOk result (λ r. (v : ℕ → Bool) → sorts.Bits (length r) ≡ sort_of_value (op_value op.now (Bits (length s.now) (word_number v s.now) ∷ []))) }
-    ensures value { IfOk result (λ r. (v : ℕ → Bool) → Follows v circuit.new → Bits (length r) (word_number v r) ≡ op_value op.now (Bits (length s.now) (word_number v s.now) ∷ [])) }
+    ensures value { IfOk result (λ r. (v : ℕ → Bool) → FollowsPlan v circuit.new → Bits (length r) (word_number v r) ≡ op_value op.now (Bits (length s.now) (word_number v s.now) ∷ [])) }
 {
     match *op {
         Op::BvNot => Ok(inverted(alloc, s)?),
@@ -59,17 +59,17 @@ fn same_width(
     requires ours { in_vectors op.now ≡ true }
     requires apart { op.now ≢ ops.Concat }
     requires same { length t.now ≡ length s.now }
-    requires takes { Takes op.now (sorts.Bits (length s.now) ∷ sorts.Bits (length t.now) ∷ []) }
+    requires takes { TakesSorts op.now (sorts.Bits (length s.now) ∷ sorts.Bits (length t.now) ∷ []) }
     requires least { 1 ≤ length s.now }
     requires most { length s.now ≤ 64 }
     requires left { word_bound s.now ≤ variables circuit.old }
     requires right { word_bound t.now ≤ variables circuit.old }
     requires room { variables circuit.old + pair_gates op.now (length s.now) < 2 ^ 31 }
-    ensures grown { Grown circuit.old circuit.new }
+    ensures grown { GrownCircuit circuit.old circuit.new }
     ensures cost { OnOk result (variables circuit.new ≤ variables circuit.old + pair_gates op.now (length s.now)) }
     ensures inside { IfOk result (λ r. signal_bound r ≤ variables circuit.new) }
     ensures sort { IfOk result (λ r. (v : ℕ → Bool) → signal_sort r ≡ sort_of_value (op_value op.now (Bits (length s.now) (word_number v s.now) ∷ Bits (length t.now) (word_number v t.now) ∷ []))) }
-    ensures value { IfOk result (λ r. (v : ℕ → Bool) → Follows v circuit.new → signal_value v r ≡ op_value op.now (Bits (length s.now) (word_number v s.now) ∷ Bits (length t.now) (word_number v t.now) ∷ [])) }
+    ensures value { IfOk result (λ r. (v : ℕ → Bool) → FollowsPlan v circuit.new → signal_value v r ≡ op_value op.now (Bits (length s.now) (word_number v s.now) ∷ Bits (length t.now) (word_number v t.now) ∷ [])) }
 {
     match op {
         Op::BvAnd => Ok(Signal::Vector(circuit.bitwise(alloc, Joint::And, s, t)?)),
@@ -106,17 +106,17 @@ fn same_width(
 #[tactic(auto, unfolding(sy_terms::specs::Operators::op_value))]
 fn pair(circuit: &mut Circuit, alloc: Global, op: &Op, s: &[Bit], t: &[Bit]) -> Result<Signal, Want>
     requires ours { in_vectors op.now ≡ true }
-    requires takes { Takes op.now (sorts.Bits (length s.now) ∷ sorts.Bits (length t.now) ∷ []) }
+    requires takes { TakesSorts op.now (sorts.Bits (length s.now) ∷ sorts.Bits (length t.now) ∷ []) }
     requires least { 1 ≤ length s.now }
     requires most { length s.now ≤ 64 }
     requires left { word_bound s.now ≤ variables circuit.old }
     requires right { word_bound t.now ≤ variables circuit.old }
     requires room { variables circuit.old + pair_gates op.now (length s.now) < 2 ^ 31 }
-    ensures grown { Grown circuit.old circuit.new }
+    ensures grown { GrownCircuit circuit.old circuit.new }
     ensures cost { OnOk result (variables circuit.new ≤ variables circuit.old + pair_gates op.now (length s.now)) }
     ensures inside { IfOk result (λ r. signal_bound r ≤ variables circuit.new) }
     ensures sort { IfOk result (λ r. (v : ℕ → Bool) → signal_sort r ≡ sort_of_value (op_value op.now (Bits (length s.now) (word_number v s.now) ∷ Bits (length t.now) (word_number v t.now) ∷ []))) }
-    ensures value { IfOk result (λ r. (v : ℕ → Bool) → Follows v circuit.new → signal_value v r ≡ op_value op.now (Bits (length s.now) (word_number v s.now) ∷ Bits (length t.now) (word_number v t.now) ∷ [])) }
+    ensures value { IfOk result (λ r. (v : ℕ → Bool) → FollowsPlan v circuit.new → signal_value v r ≡ op_value op.now (Bits (length s.now) (word_number v s.now) ∷ Bits (length t.now) (word_number v t.now) ∷ [])) }
 {
     match op {
         Op::Concat => {
@@ -145,11 +145,11 @@ fn folded(
     requires left { word_bound first.now ≤ variables circuit.old }
     requires right { signals_bound rest.now ≤ variables circuit.old }
     requires room { variables circuit.old + length rest.now * pair_gates op.now (length first.now) < 2 ^ 31 }
-    ensures grown { Grown circuit.old circuit.new }
+    ensures grown { GrownCircuit circuit.old circuit.new }
     ensures cost { OnOk result (variables circuit.new ≤ variables circuit.old + length rest.now * pair_gates op.now (length first.now)) }
     ensures inside { IfOk result (λ r. signal_bound r ≤ variables circuit.new) }
     ensures sort { IfOk result (λ r. signal_sort r ≡ sorts.Bits (length first.now)) }
-    ensures value { IfOk result (λ r. (v : ℕ → Bool) → Follows v circuit.new → signal_value v r ≡ op_value op.now (Bits (length first.now) (word_number v first.now) ∷ signal_values v rest.now)) }
+    ensures value { IfOk result (λ r. (v : ℕ → Bool) → FollowsPlan v circuit.new → signal_value v r ≡ op_value op.now (Bits (length first.now) (word_number v first.now) ∷ signal_values v rest.now)) }
 {
     let mut total = Signal::Vector(joined(alloc, first, &[])?);
     for i in 0..rest.len() {
@@ -167,15 +167,15 @@ pub(crate) fn vector(
     args: &[Signal],
 ) -> Result<Signal, Want>
     requires ours { in_vectors op.now ≡ true }
-    requires takes { Takes op.now (signal_sorts args.now) }
+    requires takes { TakesSorts op.now (signal_sorts args.now) }
     requires sorts { AllHaveSignals (signal_sorts args.now) }
     requires inside { signals_bound args.now ≤ variables circuit.old }
     requires room { variables circuit.old + vector_gates op.now (signal_sorts args.now) < 2 ^ 31 }
-    ensures grown { Grown circuit.old circuit.new }
+    ensures grown { GrownCircuit circuit.old circuit.new }
     ensures cost { OnOk result (variables circuit.new ≤ variables circuit.old + vector_gates op.now (signal_sorts args.now)) }
     ensures inside { IfOk result (λ r. signal_bound r ≤ variables circuit.new) }
     ensures sort { IfOk result (λ r. (v : ℕ → Bool) → signal_sort r ≡ sort_of_value (op_value op.now (signal_values v args.now))) }
-    ensures value { IfOk result (λ r. (v : ℕ → Bool) → Follows v circuit.new → signal_value v r ≡ op_value op.now (signal_values v args.now)) }
+    ensures value { IfOk result (λ r. (v : ℕ → Bool) → FollowsPlan v circuit.new → signal_value v r ≡ op_value op.now (signal_values v args.now)) }
 {
     match args {
         [] => unreachable!(),

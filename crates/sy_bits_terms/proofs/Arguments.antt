@@ -14,7 +14,7 @@ use Rattle.sy_terms.specs.declared.sort.Sort.TheVariants as sorts
 use Rattle.sy_terms.specs.declared.sort.Value.{Value}
 use Rattle.std.proofs.lemmas.Bool.Decides.{nat_tests}
 use Rattle.sy_terms.specs.declared.sorts.Sorted.TheVariants.{Is}
-use Rattle.sy_meaning_words.specs.Vectors.{vector, owned, Takes, is_sort}
+use Rattle.sy_meaning_words.specs.Vectors.{vector, owned, TakesSorts, has_a_sort}
 use Rattle.sy_meaning_words.specs.declared.word.Word.{Word}
 use Rattle.sy_query_base.specs.Weights.{operator_weight, sort_weight}
 use Rattle.sy_gates.specs.Circuits.{Plan, variables, bit_bound, word_bound}
@@ -134,7 +134,7 @@ small-gates op ss s own is all short =
 
 -- what an operator's circuit asks for
 pub record Asks (op : Op) (list : List Signal) (circuit : Plan) : Type 0 where
-  pub takes : Takes op (signal_sorts list)
+  pub takes : TakesSorts op (signal_sorts list)
   pub have : AllHaveSignals (signal_sorts list)
   pub inside : signals_bound list ≤ variables circuit
   pub room : variables circuit + gates op (signal_sorts list) + 1 < 2 ^ 31
@@ -142,7 +142,7 @@ pub record Asks (op : Op) (list : List Signal) (circuit : Plan) : Type 0 where
 pub asks : (op : Op) (sorts : List Sort) (s : Sort) (list signals : List Signal) (circuit : Plan) → list ≡ signals → signal_sorts signals ≡ sorts → AllHaveSignals sorts → length sorts ≤ 3 → signals_bound signals ≤ 12 → variables circuit ≡ 12 → owned op ≡ true → Is s ≡ sort_of op sorts → Asks op list circuit
 asks op sorts s list signals circuit same are have short low twelve own is =
     rw (same) (record {
-      takes = ap (λ ss. is_sort (sort_of op ss)) are ∙ ap is_sort (sym is);
+      takes = ap (λ ss. has_a_sort (sort_of op ss)) are ∙ ap has_a_sort (sym is);
       have = subst AllHaveSignals (sym are) have;
       inside = omega (arith, low, twelve);
       room = rw are (omega (arith, twelve, small-gates op sorts s own (sym is) have short));

@@ -4,10 +4,10 @@ ghost use Rattle.sy_terms.specs.Denoted.{expr_of, exprs_of};
 ghost use Rattle.sy_terms.specs.Fitting.{sort_in, sorts_in};
 ghost use Rattle.sy_terms.specs.Meaning.{meaning, meanings};
 ghost use Rattle.sy_meaning_words.specs.Vectors.{vector};
-ghost use Rattle.sy_gates.specs.Circuits.{variables, Follows, Grown};
+ghost use Rattle.sy_gates.specs.Circuits.{variables, FollowsPlan, GrownCircuit};
 ghost use Rattle.sy_bits_operators.specs.Signals.{signal_value, signal_values, signal_sort, signal_sorts, signal_bound, signals_bound, sort_width, total_width, has_signals, AllHaveSignals};
 ghost use Rattle.sy_bits_words.specs.Standing.{AllStand};
-ghost use Rattle.sy_bits_laws.specs.Fitting.{scope, HasSort, HaveSorts, most_gates, all_most_gates};
+ghost use Rattle.sy_bits_laws.specs.Fitting.{scope, TermHasSort, HaveSorts, most_gates, all_most_gates};
 
 use crate::leaves::{constant_signal, copied};
 use std::alloc::Global;
@@ -29,19 +29,19 @@ pub fn signal_of(
     signals: &mut Vec<Signal>,
     term: &Term<BvTheory>,
 ) -> Result<Signal, Want>
-    requires fits { HasSort (signal_sorts signals.old.items) (expr_of vector term.now) }
+    requires fits { TermHasSort (signal_sorts signals.old.items) (expr_of vector term.now) }
     requires sorts { AllHaveSignals (signal_sorts signals.old.items) }
     requires inside { signals_bound signals.old.items ≤ variables circuit.old }
     requires stand { AllStand circuit.old words.old }
     requires room { variables circuit.old + most_gates (signal_sorts signals.old.items) (expr_of vector term.now) < 2 ^ 31 }
     ensures kept { OnOk result (signals.new.items ≡ signals.old.items) }
     ensures stand { OnOk result (AllStand circuit.new words.new) }
-    ensures grown { Grown circuit.old circuit.new }
+    ensures grown { GrownCircuit circuit.old circuit.new }
     ensures cost { IfOk result (λ r. variables circuit.new + 5 * sort_width (signal_sort r) ≤ variables circuit.old + most_gates (signal_sorts signals.old.items) (expr_of vector term.now)) }
     ensures inside { IfOk result (λ r. signal_bound r ≤ variables circuit.new) }
     ensures sort { IfOk result (λ r. sort_in scope (signal_sorts signals.old.items) (expr_of vector term.now) ≡ Some (signal_sort r)) }
     ensures has { IfOk result (λ r. has_signals (signal_sort r) ≡ true) }
-    ensures value { IfOk result (λ r. (v : ℕ → Bool) → Follows v circuit.new → signal_value v r ≡ meaning [] [] (signal_values v signals.old.items) (expr_of vector term.now)) }
+    ensures value { IfOk result (λ r. (v : ℕ → Bool) → FollowsPlan v circuit.new → signal_value v r ≡ meaning [] [] (signal_values v signals.old.items) (expr_of vector term.now)) }
 {
     match term {
         Term::Const(value) => {
@@ -85,12 +85,12 @@ pub fn signals_of(
     requires room { variables circuit.old + all_most_gates (signal_sorts signals.old.items) (exprs_of vector terms.now.items.items) < 2 ^ 31 }
     ensures kept { OnOk result (signals.new.items ≡ signals.old.items) }
     ensures stand { OnOk result (AllStand circuit.new words.new) }
-    ensures grown { Grown circuit.old circuit.new }
+    ensures grown { GrownCircuit circuit.old circuit.new }
     ensures cost { IfOk result (λ rs. variables circuit.new + 5 * total_width (signal_sorts rs.items) ≤ variables circuit.old + all_most_gates (signal_sorts signals.old.items) (exprs_of vector terms.now.items.items)) }
     ensures inside { IfOk result (λ rs. signals_bound rs.items ≤ variables circuit.new) }
     ensures sorts { IfOk result (λ rs. sorts_in scope (signal_sorts signals.old.items) (exprs_of vector terms.now.items.items) ≡ Some (signal_sorts rs.items)) }
     ensures have { IfOk result (λ rs. AllHaveSignals (signal_sorts rs.items)) }
-    ensures value { IfOk result (λ rs. (v : ℕ → Bool) → Follows v circuit.new → signal_values v rs.items ≡ meanings [] [] (signal_values v signals.old.items) (exprs_of vector terms.now.items.items)) }
+    ensures value { IfOk result (λ rs. (v : ℕ → Bool) → FollowsPlan v circuit.new → signal_values v rs.items ≡ meanings [] [] (signal_values v signals.old.items) (exprs_of vector terms.now.items.items)) }
 {
     let mut found = Vec::with_capacity(alloc, terms.len())?;
     for term in terms.as_slice() {

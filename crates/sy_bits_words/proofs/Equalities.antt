@@ -9,7 +9,7 @@ use Rattle.sy_terms.specs.Theories.{sort_of_value}
 use Rattle.sy_terms.specs.declared.op.Op.TheVariants as ops
 use Rattle.sy_terms.specs.declared.sort.Sort.TheVariants as sorts
 use Rattle.sy_gates.specs.declared.gate.Bit.{Bit}
-use Rattle.sy_gates.specs.Circuits.{Plan, Follows, word_number}
+use Rattle.sy_gates.specs.Circuits.{Plan, FollowsPlan, word_number}
 use Rattle.sy_gates.proofs.Words.{word_number-below, below_at, same_bool}
 use Rattle.sy_bits_sums.specs.declared.sum.Sum.{Sum}
 use Rattle.sy_bits_sums.specs.Polynomials.{total, Agree}
@@ -77,7 +77,7 @@ sides-equal circuit list s t p q a b d l r ones same-width first second greatest
     let inside-p = left.inside in
     let inside-q = right.inside in
     let widths : (length p == length q) ≡ (length s == length t) = ap (λ n. n == length q) wide-p ∙ ap (λ n. length s == n) wide in
-    let numbers : (v : ℕ → Bool) → Follows v circuit → (word_number v p == word_number v q) ≡ (word_number v s == word_number v t) = λ v f.
+    let numbers : (v : ℕ → Bool) → FollowsPlan v circuit → (word_number v p == word_number v q) ≡ (word_number v s == word_number v t) = λ v f.
     let values = numbers_of v list in
     let n = are-numbers v list in
     let w = length s in
@@ -89,7 +89,7 @@ sides-equal circuit list s t p q a b d l r ones same-width first second greatest
     (difference values) (sides values)
     (subst (λ k. Agree k (word_number v p) (total values l.monomials.items)) wide-p (left.value v values f n))
     (subst (λ k. Agree k (word_number v q) (total values r.monomials.items)) wide-q (right.value v values f n))) in
-    let alike : (v : ℕ → Bool) → Follows v circuit → same (Bits (length p) (word_number v p)) (Bits (length q) (word_number v q)) ≡ same (Bits (length s) (word_number v s)) (Bits (length t) (word_number v t)) = λ v f.
+    let alike : (v : ℕ → Bool) → FollowsPlan v circuit → same (Bits (length p) (word_number v p)) (Bits (length q) (word_number v q)) ≡ same (Bits (length s) (word_number v s)) (Bits (length t) (word_number v t)) = λ v f.
     ap (λ b. b && (word_number v p == word_number v q)) widths ∙ ap (λ b. (length s == length t) && b) (numbers v f) in
     record {
       alike = ap (λ n. sorts.Bits n ∷ sorts.Bits (length q) ∷ []) wide-p ∙ ap (λ n. sorts.Bits (length s) ∷ sorts.Bits n ∷ []) wide;

@@ -7,7 +7,7 @@ use Rattle.sy_terms.specs.Values.{Bits}
 use Rattle.sy_terms.specs.Operators.{op_value}
 use Rattle.sy_terms.specs.declared.op.Op.TheVariants as ops
 use Rattle.sy_gates.specs.declared.gate.Bit.{Bit}
-use Rattle.sy_gates.specs.Circuits.{Plan, Follows, bit_value, word_number}
+use Rattle.sy_gates.specs.Circuits.{Plan, FollowsPlan, bit_value, word_number}
 use Rattle.sy_gates.proofs.Words.{word_number-below, below_at}
 use Rattle.sy_bits_sums.specs.declared.sum.Sum.{Sum}
 use Rattle.sy_bits_sums.specs.Polynomials.{total, Agree}
@@ -135,49 +135,49 @@ number-is : (w n r : ℕ) → n < 2 ^ w → Agree w r n → n ≡ r % 2 ^ w
 number-is w n r h e = sym (mod-eq_of_lt h) ∙ sym e.is
 
 module _ (circuit : Plan) (list : List Known) (s t : List Bit) (r : Sum) (width : r.width ≡ length s) (same : length t ≡ length s) where
-  pub and-sum : ((v : ℕ → Bool) (values : ℕ → ℕ) → Follows v circuit → AreNumbers v list values → Agree (length s) (total values r.monomials.items) (bit_and (word_number v s) (word_number v t))) → IsSumOf circuit list ops.BvAnd (signals.Vector s ∷ signals.Vector t ∷ []) r
+  pub and-sum : ((v : ℕ → Bool) (values : ℕ → ℕ) → FollowsPlan v circuit → AreNumbers v list values → Agree (length s) (total values r.monomials.items) (bit_and (word_number v s) (word_number v t))) → IsSumOf circuit list ops.BvAnd (signals.Vector s ∷ signals.Vector t ∷ []) r
   unfolding op_value
   and-sum is = whole circuit list ops.BvAnd (signals.Vector s ∷ signals.Vector t ∷ []) r (length s) (sym width) (λ v. refl)
       (λ v values f n. ap (Bits (length s)) (number-is (length s) (bit_and (word_number v s) (word_number v t)) (total values r.monomials.items) (omega (arith, and_le_l (word_number v s) (word_number v t), word_number-below v s)) (is v values f n)))
 
-  pub or-sum : ((v : ℕ → Bool) (values : ℕ → ℕ) → Follows v circuit → AreNumbers v list values → Agree (length s) (total values r.monomials.items) (bit_or (word_number v s) (word_number v t))) → IsSumOf circuit list ops.BvOr (signals.Vector s ∷ signals.Vector t ∷ []) r
+  pub or-sum : ((v : ℕ → Bool) (values : ℕ → ℕ) → FollowsPlan v circuit → AreNumbers v list values → Agree (length s) (total values r.monomials.items) (bit_or (word_number v s) (word_number v t))) → IsSumOf circuit list ops.BvOr (signals.Vector s ∷ signals.Vector t ∷ []) r
   unfolding op_value
   or-sum is = whole circuit list ops.BvOr (signals.Vector s ∷ signals.Vector t ∷ []) r (length s) (sym width) (λ v. refl)
       (λ v values f n. ap (Bits (length s)) (number-is (length s) (bit_or (word_number v s) (word_number v t)) (total values r.monomials.items) (or_lt (length s) (word_number v s) (word_number v t) (word_number-below v s) (below_at v t (length s) same)) (is v values f n)))
 
-  pub xor-sum : ((v : ℕ → Bool) (values : ℕ → ℕ) → Follows v circuit → AreNumbers v list values → Agree (length s) (total values r.monomials.items) (bit_xor (word_number v s) (word_number v t))) → IsSumOf circuit list ops.BvXor (signals.Vector s ∷ signals.Vector t ∷ []) r
+  pub xor-sum : ((v : ℕ → Bool) (values : ℕ → ℕ) → FollowsPlan v circuit → AreNumbers v list values → Agree (length s) (total values r.monomials.items) (bit_xor (word_number v s) (word_number v t))) → IsSumOf circuit list ops.BvXor (signals.Vector s ∷ signals.Vector t ∷ []) r
   unfolding op_value
   xor-sum is = whole circuit list ops.BvXor (signals.Vector s ∷ signals.Vector t ∷ []) r (length s) (sym width) (λ v. refl)
       (λ v values f n. ap (Bits (length s)) (number-is (length s) (bit_xor (word_number v s) (word_number v t)) (total values r.monomials.items) (xor_lt (length s) (word_number v s) (word_number v t) (word_number-below v s) (below_at v t (length s) same)) (is v values f n)))
 
 -- two words of a circuit, the sums that they stand for, and the place at which they meet
 module _ (circuit : Plan) (list : List Known) (s t : List Bit) (a b both : Sum) (same : length t ≡ length s) (first : StandsFor circuit list s a) (second : StandsFor circuit list t b) where
-  left-value : (v : ℕ → Bool) (values : ℕ → ℕ) → Follows v circuit → AreNumbers v list values → Agree (length s) (total values a.monomials.items) (word_number v s)
+  left-value : (v : ℕ → Bool) (values : ℕ → ℕ) → FollowsPlan v circuit → AreNumbers v list values → Agree (length s) (total values a.monomials.items) (word_number v s)
   left-value v values f n = agree-sym (length s) (word_number v s) (total values a.monomials.items) (first.value v values f n)
 
-  right-value : (v : ℕ → Bool) (values : ℕ → ℕ) → Follows v circuit → AreNumbers v list values → Agree (length s) (total values b.monomials.items) (word_number v t)
+  right-value : (v : ℕ → Bool) (values : ℕ → ℕ) → FollowsPlan v circuit → AreNumbers v list values → Agree (length s) (total values b.monomials.items) (word_number v t)
   right-value v values f n = agree-sym (length s) (word_number v t) (total values b.monomials.items) (subst (λ k. Agree k (word_number v t) (total values b.monomials.items)) same (second.value v values f n))
 
   pub both-is : (place : ℕ) (left right : Bool) (known : Known) → place < length list →
       ((d : Known) (v : ℕ → Bool) → place_number v (get_or list place d) ≡ bit_and (turned_number (length s) left (word_number v s)) (turned_number (length s) right (word_number v t))) →
       ((values : ℕ → ℕ) (m n : ℕ) → m < 2 ^ length s → n < 2 ^ length s → Agree (length s) (total values a.monomials.items) m → Agree (length s) (total values b.monomials.items) n → values place ≡ bit_and (turned_number (length s) left m) (turned_number (length s) right n) → Agree (length s) (total values both.monomials.items) (bit_and m n)) →
-      (v : ℕ → Bool) (values : ℕ → ℕ) → Follows v circuit → AreNumbers v list values → Agree (length s) (total values both.monomials.items) (bit_and (word_number v s) (word_number v t))
+      (v : ℕ → Bool) (values : ℕ → ℕ) → FollowsPlan v circuit → AreNumbers v list values → Agree (length s) (total values both.monomials.items) (bit_and (word_number v s) (word_number v t))
   both-is place left right known h meets is v values f n =
       is values (word_number v s) (word_number v t) (word_number-below v s) (below_at v t (length s) same) (left-value v values f n) (right-value v values f n)
       (meets-at v list values place known (bit_and (turned_number (length s) left (word_number v s)) (turned_number (length s) right (word_number v t))) n h (λ d. meets d v))
 
   pub either-is : (either : Sum) →
-      ((v : ℕ → Bool) (values : ℕ → ℕ) → Follows v circuit → AreNumbers v list values → Agree (length s) (total values both.monomials.items) (bit_and (word_number v s) (word_number v t))) →
+      ((v : ℕ → Bool) (values : ℕ → ℕ) → FollowsPlan v circuit → AreNumbers v list values → Agree (length s) (total values both.monomials.items) (bit_and (word_number v s) (word_number v t))) →
       ((values : ℕ → ℕ) (x y m n : ℕ) → Agree (length s) (total values a.monomials.items) m → Agree (length s) (total values b.monomials.items) n → Agree (length s) (total values both.monomials.items) y → x + y ≡ m + n → Agree (length s) (total values either.monomials.items) x) →
-      (v : ℕ → Bool) (values : ℕ → ℕ) → Follows v circuit → AreNumbers v list values → Agree (length s) (total values either.monomials.items) (bit_or (word_number v s) (word_number v t))
+      (v : ℕ → Bool) (values : ℕ → ℕ) → FollowsPlan v circuit → AreNumbers v list values → Agree (length s) (total values either.monomials.items) (bit_or (word_number v s) (word_number v t))
   either-is either meet is v values f n =
       is values (bit_or (word_number v s) (word_number v t)) (bit_and (word_number v s) (word_number v t)) (word_number v s) (word_number v t) (left-value v values f n) (right-value v values f n) (meet v values f n) (or-and v s t same)
 
   pub differ-is : (either differ : Sum) (ones : ℕ) → ones ≡ 2 ^ length s - 1 →
-      ((v : ℕ → Bool) (values : ℕ → ℕ) → Follows v circuit → AreNumbers v list values → Agree (length s) (total values both.monomials.items) (bit_and (word_number v s) (word_number v t))) →
-      ((v : ℕ → Bool) (values : ℕ → ℕ) → Follows v circuit → AreNumbers v list values → Agree (length s) (total values either.monomials.items) (bit_or (word_number v s) (word_number v t))) →
+      ((v : ℕ → Bool) (values : ℕ → ℕ) → FollowsPlan v circuit → AreNumbers v list values → Agree (length s) (total values both.monomials.items) (bit_and (word_number v s) (word_number v t))) →
+      ((v : ℕ → Bool) (values : ℕ → ℕ) → FollowsPlan v circuit → AreNumbers v list values → Agree (length s) (total values either.monomials.items) (bit_or (word_number v s) (word_number v t))) →
       ((values : ℕ → ℕ) → Agree (length s) (total values differ.monomials.items) (total values either.monomials.items + total values both.monomials.items * ones)) →
-      (v : ℕ → Bool) (values : ℕ → ℕ) → Follows v circuit → AreNumbers v list values → Agree (length s) (total values differ.monomials.items) (bit_xor (word_number v s) (word_number v t))
+      (v : ℕ → Bool) (values : ℕ → ℕ) → FollowsPlan v circuit → AreNumbers v list values → Agree (length s) (total values differ.monomials.items) (bit_xor (word_number v s) (word_number v t))
   differ-is either differ ones greatest meet join is v values f n =
       let below : word_number v s < 2 ^ length s = word_number-below v s in
       taken-away (length s) (bit_xor (word_number v s) (word_number v t)) (bit_and (word_number v s) (word_number v t)) (bit_or (word_number v s) (word_number v t)) (total values either.monomials.items) (total values both.monomials.items) (total values differ.monomials.items) ones

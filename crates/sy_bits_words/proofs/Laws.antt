@@ -7,7 +7,7 @@ use Rattle.sy_terms.specs.declared.op.Op.{Op}
 use Rattle.sy_terms.specs.declared.op.Op.TheVariants as ops
 use Rattle.sy_terms.specs.declared.sort.Sort.TheVariants as sorts
 use Rattle.sy_gates.specs.declared.gate.Bit.{Bit}
-use Rattle.sy_gates.specs.Circuits.{Plan, variables, Follows, Grown, word_number, word_bound}
+use Rattle.sy_gates.specs.Circuits.{Plan, variables, FollowsPlan, GrownCircuit, word_number, word_bound}
 use Rattle.sy_gates.proofs.Words.{word_number-below, below_at}
 use Rattle.sy_bits_sums.specs.declared.sum.Sum.{Sum}
 use Rattle.sy_bits_sums.specs.Polynomials.{total, Agree}
@@ -55,14 +55,14 @@ constant-stands circuit list word sum n width bound number value = record {
   value = λ v values f m. agree-reduced (length word) (value_of values sum) (word_number v word) (number v ∙ ap (λ k. n % 2 ^ k) (sym width) ∙ ap (λ k. k % 2 ^ length word) (sym (value values)));
 }
 
-pub whole : (circuit : Plan) (list : List Known) (op : Op) (args : List Signal) (r : Sum) (w : ℕ) → w ≡ r.width → ((v : ℕ → Bool) → sort_of_value (op_value op (signal_values v args)) ≡ sorts.Bits w) → ((v : ℕ → Bool) (values : ℕ → ℕ) → Follows v circuit → AreNumbers v list values → op_value op (signal_values v args) ≡ Bits w (value_of values r % 2 ^ w)) → IsSumOf circuit list op args r
+pub whole : (circuit : Plan) (list : List Known) (op : Op) (args : List Signal) (r : Sum) (w : ℕ) → w ≡ r.width → ((v : ℕ → Bool) → sort_of_value (op_value op (signal_values v args)) ≡ sorts.Bits w) → ((v : ℕ → Bool) (values : ℕ → ℕ) → FollowsPlan v circuit → AreNumbers v list values → op_value op (signal_values v args) ≡ Bits w (value_of values r % 2 ^ w)) → IsSumOf circuit list op args r
 whole circuit list op args r w width sort value = record {
   sort = λ v. sort v ∙ ap sorts.Bits width;
   value = λ v values f n. value v values f n ∙ ap (λ k. Bits k (value_of values r % 2 ^ k)) width;
 }
 
 module _ (circuit : Plan) (list : List Known) (s t : List Bit) (a b r : Sum) (same : length t ≡ length s) (left : StandsFor circuit list s a) (right : StandsFor circuit list t b) (width : r.width ≡ length s) where
-  second : (v : ℕ → Bool) (values : ℕ → ℕ) → Follows v circuit → AreNumbers v list values → Agree (length s) (word_number v t) (value_of values b)
+  second : (v : ℕ → Bool) (values : ℕ → ℕ) → FollowsPlan v circuit → AreNumbers v list values → Agree (length s) (word_number v t) (value_of values b)
   second v values f n = subst (λ k. Agree k (word_number v t) (value_of values b)) same (right.value v values f n)
 
   pub add-sum : ((values : ℕ → ℕ) → Agree (length s) (value_of values r) (value_of values a + value_of values b * 1)) → IsSumOf circuit list ops.BvAdd (signals.Vector s ∷ signals.Vector t ∷ []) r
@@ -102,7 +102,7 @@ module _ (circuit : Plan) (list : List Known) (s : List Bit) (a z r : Sum) (stan
 pub record Serves (circuit : Plan) (op : Op) (args : List Signal) (signal : Signal) : Type 0 where
   pub inside : signal_bound signal ≤ variables circuit
   pub sort : (v : ℕ → Bool) → signal_sort signal ≡ sort_of_value (op_value op (signal_values v args))
-  pub value : (v : ℕ → Bool) → Follows v circuit → signal_value v signal ≡ op_value op (signal_values v args)
+  pub value : (v : ℕ → Bool) → FollowsPlan v circuit → signal_value v signal ≡ op_value op (signal_values v args)
 
 pub serves : (circuit : Plan) (list : List Known) (op : Op) (args : List Signal) (sum : Sum) (word : List Bit) → IsSumOf circuit list op args sum → StandsFor circuit list word sum → Serves circuit op args (signals.Vector word)
 serves circuit list op args sum word is stands = record {
@@ -117,7 +117,7 @@ serves circuit list op args sum word is stands = record {
 
 -- the operator's signal stands for the sum
 
-pub made-stands : (old new : Plan) (list : List Known) (op : Op) (args : List Signal) (sum : Sum) (signal : Signal) → IsSumOf old list op args sum → Grown old new → signal_bound signal ≤ variables new → ((v : ℕ → Bool) → signal_sort signal ≡ sort_of_value (op_value op (signal_values v args))) → ((v : ℕ → Bool) → Follows v new → signal_value v signal ≡ op_value op (signal_values v args)) → (word : List Bit) → signal ≡ signals.Vector word → StandsFor new list word sum
+pub made-stands : (old new : Plan) (list : List Known) (op : Op) (args : List Signal) (sum : Sum) (signal : Signal) → IsSumOf old list op args sum → GrownCircuit old new → signal_bound signal ≤ variables new → ((v : ℕ → Bool) → signal_sort signal ≡ sort_of_value (op_value op (signal_values v args))) → ((v : ℕ → Bool) → FollowsPlan v new → signal_value v signal ≡ op_value op (signal_values v args)) → (word : List Bit) → signal ≡ signals.Vector word → StandsFor new list word sum
 made-stands old new list op args sum signal is grown inside sort value word same =
     let wide : length word ≡ sum.width = ap sort_width (ap signal_sort (sym same) ∙ sort (λ n. false) ∙ is.sort (λ n. false)) in
     record {

@@ -3,7 +3,7 @@ use Rattle.std.proofs.Common.{◌≡◌, ℕ, Bool, ◌+◌, ◌≤◌, ◌<◌,
 use Rattle.std.proofs.lemmas.Option.{slice_get_within, slice_get-get_or}
 use Rattle.std.proofs.lemmas.Nat.{and_le_l, and_comm, or_disjoint, and_or_self}
 use Rattle.sy_gates.specs.declared.gate.Bit.{Bit}
-use Rattle.sy_gates.specs.Circuits.{Plan, variables, Grown, word_number, word_bound}
+use Rattle.sy_gates.specs.Circuits.{Plan, variables, GrownCircuit, word_number, word_bound}
 use Rattle.sy_bits_sums.specs.declared.sum.Sum.{Sum}
 use Rattle.sy_bits_sums.specs.Polynomials.{total, Agree}
 use Rattle.sy_bits_sums.proofs.Agreeing.{agree-same, agree-sym, agree-trans}
@@ -89,14 +89,14 @@ all-noted circuit list after last is new all = all-pushed circuit list after las
 
 -- a circuit that has grown
 
-pub stands-grown : (old new : Plan) (list : List Known) (word : List Bit) (sum : Sum) → Grown old new → StandsFor old list word sum → StandsFor new list word sum
+pub stands-grown : (old new : Plan) (list : List Known) (word : List Bit) (sum : Sum) → GrownCircuit old new → StandsFor old list word sum → StandsFor new list word sum
 stands-grown old new list word sum g s = let more = g.more in let inside = s.inside in record {
   width = s.width;
   inside = omega (arith, inside, more);
   value = λ v values f n. s.value v values (g.keeps v f) n;
 }
 
-pub all-grown : (old new : Plan) (list : List Known) → Grown old new → AllStand old list → AllStand new list
+pub all-grown : (old new : Plan) (list : List Known) → GrownCircuit old new → AllStand old list → AllStand new list
 all-grown old new list g all = record { each = λ place known e. stands-grown old new list known.word known.sum g (all.each place known e) }
 
 -- a new word, whose sum is a number or the word itself

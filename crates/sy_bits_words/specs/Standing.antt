@@ -7,7 +7,7 @@ use Rattle.sy_terms.specs.declared.op.Op.{Op}
 use Rattle.sy_terms.specs.declared.op.Op.TheVariants as ops
 use Rattle.sy_terms.specs.declared.sort.Sort.TheVariants as sorts
 use Rattle.sy_gates.specs.declared.gate.Bit.{Bit}
-use Rattle.sy_gates.specs.Circuits.{Plan, variables, Follows, word_number, word_bound}
+use Rattle.sy_gates.specs.Circuits.{Plan, variables, FollowsPlan, word_number, word_bound}
 use Rattle.sy_bits_sums.specs.declared.sum.Sum.{Sum}
 use Rattle.sy_bits_sums.specs.Polynomials.{total, Agree}
 use Rattle.sy_bits_operators.specs.declared.signal.Signal.{Signal}
@@ -30,7 +30,7 @@ pub record AreNumbers (v : ℕ → Bool) (list : List Known) (values : ℕ → �
 pub record StandsFor (circuit : Plan) (list : List Known) (word : List Bit) (sum : Sum) : Type 0 where
   pub width : length word ≡ sum.width
   pub inside : word_bound word ≤ variables circuit
-  pub value : (v : ℕ → Bool) (values : ℕ → ℕ) → Follows v circuit → AreNumbers v list values → Agree (length word) (word_number v word) (total values sum.monomials.items)
+  pub value : (v : ℕ → Bool) (values : ℕ → ℕ) → FollowsPlan v circuit → AreNumbers v list values → Agree (length word) (word_number v word) (total values sum.monomials.items)
 
 pub record AllStand (circuit : Plan) (list : List Known) : Type 0 where
   pub each : (place : ℕ) (known : Known) → slice_get list place ≡ Some known → StandsFor circuit list known.word known.sum
@@ -38,18 +38,18 @@ pub record AllStand (circuit : Plan) (list : List Known) : Type 0 where
 -- wherever the circuit's gates are followed, the operator has the sum's number at these signals
 pub record IsSumOf (circuit : Plan) (list : List Known) (op : Op) (args : List Signal) (sum : Sum) : Type 0 where
   pub sort : (v : ℕ → Bool) → sort_of_value (op_value op (signal_values v args)) ≡ sorts.Bits sum.width
-  pub value : (v : ℕ → Bool) (values : ℕ → ℕ) → Follows v circuit → AreNumbers v list values → op_value op (signal_values v args) ≡ Bits sum.width (total values sum.monomials.items % 2 ^ sum.width)
+  pub value : (v : ℕ → Bool) (values : ℕ → ℕ) → FollowsPlan v circuit → AreNumbers v list values → op_value op (signal_values v args) ≡ Bits sum.width (total values sum.monomials.items % 2 ^ sum.width)
 
 -- signals of the same sorts, which are equal where the old ones are, wherever the circuit's gates are followed
 pub record AreEqualWhere (circuit : Plan) (old new : List Signal) : Type 0 where
   pub alike : signal_sorts new ≡ signal_sorts old
   pub inside : signals_bound new ≤ variables circuit
-  pub equal : (v : ℕ → Bool) → Follows v circuit → op_value ops.Equal (signal_values v new) ≡ op_value ops.Equal (signal_values v old)
-  pub distinct : (v : ℕ → Bool) → Follows v circuit → op_value ops.Distinct (signal_values v new) ≡ op_value ops.Distinct (signal_values v old)
+  pub equal : (v : ℕ → Bool) → FollowsPlan v circuit → op_value ops.Equal (signal_values v new) ≡ op_value ops.Equal (signal_values v old)
+  pub distinct : (v : ℕ → Bool) → FollowsPlan v circuit → op_value ops.Distinct (signal_values v new) ≡ op_value ops.Distinct (signal_values v old)
 
 -- signals of the same sorts, at which an operator has the value that it has at the old ones
 pub record HaveItsValue (circuit : Plan) (op : Op) (old new : List Signal) : Type 0 where
   pub alike : signal_sorts new ≡ signal_sorts old
   pub inside : signals_bound new ≤ variables circuit
   pub sort : (v : ℕ → Bool) → sort_of_value (op_value op (signal_values v new)) ≡ sort_of_value (op_value op (signal_values v old))
-  pub value : (v : ℕ → Bool) → Follows v circuit → op_value op (signal_values v new) ≡ op_value op (signal_values v old)
+  pub value : (v : ℕ → Bool) → FollowsPlan v circuit → op_value op (signal_values v new) ≡ op_value op (signal_values v old)

@@ -2,9 +2,9 @@
 ghost use Rattle.std.specs.Prelude.{◌≡◌, ◌≤◌, ◌<◌, ◌+◌, ◌^◌, ℕ, Bool, true, List, OnOk, IfOk};
 ghost use Rattle.sy_terms.specs.Operators.{op_value};
 ghost use Rattle.sy_terms.specs.Theories.{sort_of_value};
-ghost use Rattle.sy_meaning_words.specs.Vectors.{Takes, owned};
+ghost use Rattle.sy_meaning_words.specs.Vectors.{TakesSorts, owned};
 ghost use Rattle.sy_gates.specs.declared.gate.Bit.{Bit as SomeBit};
-ghost use Rattle.sy_gates.specs.Circuits.{Plan, variables, Follows, Grown};
+ghost use Rattle.sy_gates.specs.Circuits.{Plan, variables, FollowsPlan, GrownCircuit};
 ghost use Rattle.sy_bits_operators.specs.declared.signal.Signal.TheVariants as signals;
 ghost use Rattle.sy_bits_operators.specs.Signals.{signal_value, signal_values, signal_sort, signal_sorts, signal_bound, signals_bound, AllHaveSignals};
 ghost use Rattle.sy_bits_operators.specs.Costs.{gates};
@@ -43,17 +43,17 @@ fn summed(
     args: &[Signal],
 ) -> Result<Signal, Want>
     requires ours { owned op.now ≡ true }
-    requires takes { Takes op.now (signal_sorts args.now) }
+    requires takes { TakesSorts op.now (signal_sorts args.now) }
     requires sorts { AllHaveSignals (signal_sorts args.now) }
     requires inside { signals_bound args.now ≤ variables circuit.old }
     requires stand { AllStand circuit.old words.old }
     requires room { variables circuit.old + gates op.now (signal_sorts args.now) < 2 ^ 31 }
     ensures stand { OnOk result (AllStand circuit.new words.new) }
-    ensures grown { Grown circuit.old circuit.new }
+    ensures grown { GrownCircuit circuit.old circuit.new }
     ensures cost { OnOk result (variables circuit.new ≤ variables circuit.old + gates op.now (signal_sorts args.now)) }
     ensures inside { IfOk result (λ r. signal_bound r ≤ variables circuit.new) }
     ensures sort { IfOk result (λ r. (v : ℕ → Bool) → signal_sort r ≡ sort_of_value (op_value op.now (signal_values v args.now))) }
-    ensures value { IfOk result (λ r. (v : ℕ → Bool) → Follows v circuit.new → signal_value v r ≡ op_value op.now (signal_values v args.now)) }
+    ensures value { IfOk result (λ r. (v : ℕ → Bool) → FollowsPlan v circuit.new → signal_value v r ≡ op_value op.now (signal_values v args.now)) }
 {
     let Some(sum) = sum_of(words, alloc, op, args)? else {
         let signal = made(circuit, alloc, op, args)?;
@@ -78,17 +78,17 @@ pub fn applied(
     args: &[Signal],
 ) -> Result<Signal, Want>
     requires ours { owned op.now ≡ true }
-    requires takes { Takes op.now (signal_sorts args.now) }
+    requires takes { TakesSorts op.now (signal_sorts args.now) }
     requires sorts { AllHaveSignals (signal_sorts args.now) }
     requires inside { signals_bound args.now ≤ variables circuit.old }
     requires stand { AllStand circuit.old words.old }
     requires room { variables circuit.old + gates op.now (signal_sorts args.now) < 2 ^ 31 }
     ensures stand { OnOk result (AllStand circuit.new words.new) }
-    ensures grown { Grown circuit.old circuit.new }
+    ensures grown { GrownCircuit circuit.old circuit.new }
     ensures cost { OnOk result (variables circuit.new ≤ variables circuit.old + gates op.now (signal_sorts args.now)) }
     ensures inside { IfOk result (λ r. signal_bound r ≤ variables circuit.new) }
     ensures sort { IfOk result (λ r. (v : ℕ → Bool) → signal_sort r ≡ sort_of_value (op_value op.now (signal_values v args.now))) }
-    ensures value { IfOk result (λ r. (v : ℕ → Bool) → Follows v circuit.new → signal_value v r ≡ op_value op.now (signal_values v args.now)) }
+    ensures value { IfOk result (λ r. (v : ℕ → Bool) → FollowsPlan v circuit.new → signal_value v r ≡ op_value op.now (signal_values v args.now)) }
 {
     match sides_of(words, alloc, op, args)? {
         Some(sides) => {

@@ -11,8 +11,8 @@ use Rattle.sy_cdcl.specs.declared.trail.Entry.{Entry}
 use Rattle.sy_cdcl.specs.declared.trail.Trail.{Trail}
 use Rattle.sy_cdcl.specs.declared.watches.Pair.{Pair}
 use Rattle.sy_cdcl.specs.declared.watches.Watches.{Watches}
-use Rattle.sy_cdcl.specs.Trails.{value_in, value_of, IsReady, Extends, EachOnce}
-use Rattle.sy_cdcl.specs.Conflicts.{SomeFalsified, NoneFalsified, OpenAtLevels, IsBack, IsLastFalsified, LastFits}
+use Rattle.sy_cdcl.specs.Trails.{entries_values, kept_values, TrailIsReady, TrailExtends, EachOnce}
+use Rattle.sy_cdcl.specs.Conflicts.{SomeFalsified, NoneFalsified, OpenAtLevels, IsTakenBack, IsLastFalsified, LastFits}
 use Rattle.sy_cdcl.specs.Watching.{list_of, pair_of, IsIn, list_at, enlisted, Falsifies, IsRooted, IsGuarded, IsWatched, AllListed, IsWatching, IsAttached, IsSkipped, IsPaired}
 use Rattle.sy_cdcl.specs.Visits.{IsAnother}
 use Rattle.sy_cdcl.proofs.Push.{some_is}
@@ -108,15 +108,15 @@ attached_paired clauses t w new n c pair i at has other inside inside' ls ps hs 
     }
 
 -- the next clause has one literal, which is true
-pub attached_skipped : (clauses : List Clause) (old t : Trail) (w new : Watches) (n : ℕ) (c : Clause) → IsReady clauses t → Extends old t →
-    IsAttached clauses old w n → slice_get clauses n ≡ Some c → HasTrue (value_of t.values.items) c →
+pub attached_skipped : (clauses : List Clause) (old t : Trail) (w new : Watches) (n : ℕ) (c : Clause) → TrailIsReady clauses t → TrailExtends old t →
+    IsAttached clauses old w n → slice_get clauses n ≡ Some c → HasTrue (kept_values t.values.items) c →
     new.lists.items ≡ w.lists.items → new.pairs.items ≡ w.pairs.items ++ None ∷ [] → new.head ≡ w.head → IsAttached clauses t new (n + 1)
 attached_skipped clauses old t w new n c r x i at true_in ls ps hs =
     let es = t.entries.items in
     let lowest : t.starts.items ≡ [] = x.starts ∙ i.lowest in
     let whole : take (length es) es ≡ es = take_all (length es) es (omega arith) in
-    let value : value_in (take (length es) es) true_in.var ≡ Some true_in.positive =
-    ap (λ (xs : List Entry). value_in xs true_in.var) whole ∙ sym (r.assignment.agrees true_in.var) ∙ true_in.is_true in
+    let value : entries_values (take (length es) es) true_in.var ≡ Some true_in.positive =
+    ap (λ (xs : List Entry). entries_values xs true_in.var) whole ∙ sym (r.assignment.agrees true_in.var) ∙ true_in.is_true in
     let s = source es (length es) true_in.var true_in.positive value in
     let rooted : IsRooted es t.starts.items c = record {
       place = s.place;
@@ -193,7 +193,7 @@ watching_decided clauses t new w e i hs es ss vs =
     start_cases (z ∷ zs) x y (suc k) h = start_cases zs x y k h
 
 -- all is taken back to where a level began
-pub watching_back : (clauses : List Clause) (old new : Trail) (w w' : Watches) → IsReady clauses old → IsWatching clauses old w → IsBack old new →
+pub watching_back : (clauses : List Clause) (old new : Trail) (w w' : Watches) → TrailIsReady clauses old → IsWatching clauses old w → IsTakenBack old new →
     vec_len new.values ≡ vec_len old.values → w'.pairs.items ≡ w.pairs.items → w'.lists.items ≡ w.lists.items →
     w'.head ≡ length new.entries.items → IsWatching clauses new w'
 watching_back clauses old new w w' r i b vs ps ls hs =
@@ -224,11 +224,11 @@ bool_cases true = inl refl
 bool_cases false = inr refl
 
 -- a literal other than the last one, open at the level's beginning, became false after it
-other_from : (es : List Entry) (s : ℕ) (c : Clause) (l : Lit) (v : ℕ) (b : Bool) → IsUnit (value_in es) c l.var l.positive → s ≤ length es →
-    c v b ≡ true → same_literal l.var l.positive v b ≡ false → value_in (take s es) v ≡ None → SomeFalsified es s (length es) c
+other_from : (es : List Entry) (s : ℕ) (c : Clause) (l : Lit) (v : ℕ) (b : Bool) → IsUnit (entries_values es) c l.var l.positive → s ≤ length es →
+    c v b ≡ true → same_literal l.var l.positive v b ≡ false → entries_values (take s es) v ≡ None → SomeFalsified es s (length es) c
 other_from es s c l v b u within has apart none =
     let whole : take (length es) es ≡ es = take_all (length es) es (omega arith) in
-    let x = source es (length es) v (not b) (ap (λ (xs : List Entry). value_in xs v) whole ∙ u.others v b has apart) in
+    let x = source es (length es) v (not b) (ap (λ (xs : List Entry). entries_values xs v) whole ∙ u.others v b has apart) in
     record {
       place = x.place;
       entry = x.entry;
@@ -242,8 +242,8 @@ other_from es s c l v b u within has apart none =
     split : (p q : ℕ) → (p < q) ⊎ (q ≤ p)
     split p q = grind arith
 
-some_from : (es : List Entry) (s : ℕ) (c : Clause) (l : Lit) → IsUnit (value_in es) c l.var l.positive → s ≤ length es →
-    HasTwoOpen (value_in (take s es)) c → SomeFalsified es s (length es) c
+some_from : (es : List Entry) (s : ℕ) (c : Clause) (l : Lit) → IsUnit (entries_values es) c l.var l.positive → s ≤ length es →
+    HasTwoOpen (entries_values (take s es)) c → SomeFalsified es s (length es) c
 some_from es s c l u within o =
     ⊎_elim
     (λ (q : same_literal l.var l.positive o.var o.positive ≡ true).
@@ -262,7 +262,7 @@ some_from es s c l u within o =
     (bool_cases (same_literal l.var l.positive o.var o.positive))
 
 -- the learned clause, whose last literal is made true, without another literal
-learned_rooted : (t : Trail) (c : Clause) (l : Lit) (e : Entry) → IsUnit (value_in t.entries.items) c l.var l.positive → OpenAtLevels t c →
+learned_rooted : (t : Trail) (c : Clause) (l : Lit) (e : Entry) → IsUnit (entries_values t.entries.items) c l.var l.positive → OpenAtLevels t c →
     ((k s : ℕ) → slice_get t.starts.items k ≡ Some s → s ≤ length t.entries.items) → NoneFalsified t.entries.items 0 (length t.entries.items) c →
     e.literal ≡ l → IsRooted (t.entries.items ++ e ∷ []) t.starts.items c
 learned_rooted t c l e u o within none same = record {
@@ -277,13 +277,13 @@ learned_rooted t c l e u o within none same = record {
 
 -- and with the literal that became false last
 learned_guarded : (t : Trail) (c : Clause) (l : Lit) (e : Entry) (second : Lit) → EachOnce t.entries.items →
-    IsUnit (value_in t.entries.items) c l.var l.positive → OpenAtLevels t c →
+    IsUnit (entries_values t.entries.items) c l.var l.positive → OpenAtLevels t c →
     ((k s : ℕ) → slice_get t.starts.items k ≡ Some s → s ≤ length t.entries.items) → IsLastFalsified t.entries.items c second →
     e.literal ≡ l → IsGuarded (t.entries.items ++ e ∷ []) t.starts.items (length t.entries.items) c record { first = l; second = second }
 learned_guarded t c l e second once u o within f same =
     let es = t.entries.items in
     let whole : take (length es) es ≡ es = take_all (length es) es (omega arith) in
-    let none : value_in (take (length es) es) l.var ≡ None = ap (λ (xs : List Entry). value_in xs l.var) whole ∙ u.unvalued in
+    let none : entries_values (take (length es) es) l.var ≡ None = ap (λ (xs : List Entry). entries_values xs l.var) whole ∙ u.unvalued in
     let there = slice_get_within es f.place f.entry f.at in
     let last : slice_get (es ++ e ∷ []) (length es) ≡ Some e = get_end es e in
     let own : c e.literal.var e.literal.positive ≡ true = subst (λ (x : Lit). c x.var x.positive ≡ true) (sym same) u.has in
@@ -357,7 +357,7 @@ all_and_one clauses c t new w w' e o i es ss ps hs one n d at =
 
 -- a learned clause
 pub watching_learned : (clauses : List Clause) (c : Clause) (t new : Trail) (w w' : Watches) (l : Lit) (last : Option Lit) (e : Entry) →
-    IsReady clauses t → IsWatching clauses t w → w.head ≡ length t.entries.items → IsUnit (value_in t.entries.items) c l.var l.positive →
+    TrailIsReady clauses t → IsWatching clauses t w → w.head ≡ length t.entries.items → IsUnit (entries_values t.entries.items) c l.var l.positive →
     OpenAtLevels t c → LastFits t.entries.items c last → ((v : ℕ) (s : Bool) → c v s ≡ true → v < vec_len t.values) →
     e.literal ≡ l → new.entries.items ≡ t.entries.items ++ e ∷ [] → new.starts.items ≡ t.starts.items → vec_len new.values ≡ vec_len t.values →
     MatchOption last (IsSkipped w w') (λ second. IsPaired w w' (length clauses) record { first = l; second = second }) →

@@ -8,8 +8,8 @@ use Rattle.sy_clauses.specs.New.{IsUnit, AllSettled}
 use Rattle.sy_clauses.proofs.Sets.{literal_is}
 use Rattle.sy_cdcl.specs.declared.trail.Entry.{Entry}
 use Rattle.sy_cdcl.specs.declared.trail.Trail.{Trail}
-use Rattle.sy_cdcl.specs.Trails.{value_in, level_start, EachOnce, IsAssignment, IsForced, IsReady, LevelsSettled}
-use Rattle.sy_cdcl.specs.Conflicts.{SomeFalsified, NoneFalsified, value_below, OpenAtLevels, IsBack}
+use Rattle.sy_cdcl.specs.Trails.{entries_values, level_start, EachOnce, IsTrail, IsForced, TrailIsReady, LevelsSettled}
+use Rattle.sy_cdcl.specs.Conflicts.{SomeFalsified, NoneFalsified, value_below, OpenAtLevels, IsTakenBack}
 use Rattle.sy_cdcl.proofs.Places.{not_source, none_before, value_before}
 use Rattle.sy_cdcl.proofs.Learning.{last_start, never, not_not}
 
@@ -25,9 +25,9 @@ get_in_taken [] (suc n) k x l h = cc
 get_in_taken (y ∷ ys) (suc n) zero x l h = h
 get_in_taken (y ∷ ys) (suc n) (suc k) x l h = get_in_taken ys n k x (omega arith) h
 
-pub ready_left : (clauses : List Clause) (old new : Trail) → 0 < length old.starts.items → IsReady clauses old → IsAssignment new →
+pub ready_left : (clauses : List Clause) (old new : Trail) → 0 < length old.starts.items → TrailIsReady clauses old → IsTrail new →
     new.entries.items ≡ take (level_start old.starts.items) old.entries.items →
-    new.starts.items ≡ take (length old.starts.items - 1) old.starts.items → IsReady clauses new
+    new.starts.items ≡ take (length old.starts.items - 1) old.starts.items → TrailIsReady clauses new
 ready_left clauses old new d r a es ss =
     let es₀ = old.entries.items in
     let start = level_start old.starts.items in
@@ -58,7 +58,7 @@ ready_left clauses old new d r a es ss =
     split : (p q : ℕ) → (p < q) ⊎ (q ≤ p)
     split p q = grind arith
 
-pub levels_left : (clauses : List Clause) (old new : Trail) → 0 < length old.starts.items → IsReady clauses old → LevelsSettled clauses old →
+pub levels_left : (clauses : List Clause) (old new : Trail) → 0 < length old.starts.items → TrailIsReady clauses old → LevelsSettled clauses old →
     new.entries.items ≡ take (level_start old.starts.items) old.entries.items →
     new.starts.items ≡ take (length old.starts.items - 1) old.starts.items → LevelsSettled clauses new
 levels_left clauses old new d r f es ss k n h =
@@ -67,16 +67,16 @@ levels_left clauses old new d r f es ss k n h =
     let l = g.0 in
     let below = r.assignment.rising k (length old.starts.items - 1) n start (omega arith) g.1 (last_start old d) in
     let same : take n new.entries.items ≡ take n old.entries.items = ap (take n) es ∙ take-take n start old.entries.items below in
-    subst (λ (t : List Entry). AllSettled (value_in t) clauses) (sym same) (f k n g.1)
+    subst (λ (t : List Entry). AllSettled (entries_values t) clauses) (sym same) (f k n g.1)
 
 -- a unit clause stays one where no entry of the level makes a literal of it false
 pub unit_left : (t : Trail) (c : Clause) (v : ℕ) (s : Bool) → EachOnce t.entries.items → level_start t.starts.items ≤ length t.entries.items →
-    IsUnit (value_in t.entries.items) c v s → NoneFalsified t.entries.items (level_start t.starts.items) (length t.entries.items) c →
+    IsUnit (entries_values t.entries.items) c v s → NoneFalsified t.entries.items (level_start t.starts.items) (length t.entries.items) c →
     IsUnit (value_below t) c v s
 unit_left t c v s o l u none =
     let es = t.entries.items in
     let whole : take (length es) es ≡ es = take_all (length es) es (omega arith) in
-    let all = subst (λ (x : List Entry). IsUnit (value_in x) c v s) (sym whole) u in
+    let all = subst (λ (x : List Entry). IsUnit (entries_values x) c v s) (sym whole) u in
     record {
       has = u.has;
       unvalued = none_before es (level_start t.starts.items) (length es) v l all.unvalued;
@@ -90,15 +90,15 @@ unit_left t c v s o l u none =
     }
 
 -- it has two literals without value at each level below where one does
-pub open_below : (clauses : List Clause) (t : Trail) (c : Clause) (v : ℕ) (s : Bool) → 0 < length t.starts.items → IsReady clauses t →
-    IsUnit (value_in t.entries.items) c v s →
+pub open_below : (clauses : List Clause) (t : Trail) (c : Clause) (v : ℕ) (s : Bool) → 0 < length t.starts.items → TrailIsReady clauses t →
+    IsUnit (entries_values t.entries.items) c v s →
     SomeFalsified t.entries.items (level_start t.starts.items) (length t.entries.items) c → OpenAtLevels t c
 open_below clauses t c v s d r u x k n h =
     let es = t.entries.items in
     let w = slice_get_within t.starts.items k n h in
     let below = r.assignment.rising k (length t.starts.items - 1) n (level_start t.starts.items) (omega arith) h (last_start t d) in
     let whole : take (length es) es ≡ es = take_all (length es) es (omega arith) in
-    let all = subst (λ (y : List Entry). IsUnit (value_in y) c v s) (sym whole) u in
+    let all = subst (λ (y : List Entry). IsUnit (entries_values y) c v s) (sym whole) u in
     let within = r.assignment.within k n h in
     let from = x.from in
     let other = not_source es (length es) v x.place x.entry all.unvalued x.to x.at in
@@ -118,7 +118,7 @@ open_below clauses t c v s d r u x k n h =
 -- one level was taken back
 pub back_first : (old new : Trail) → 0 < length old.starts.items →
     new.entries.items ≡ take (level_start old.starts.items) old.entries.items →
-    new.starts.items ≡ take (length old.starts.items - 1) old.starts.items → IsBack old new
+    new.starts.items ≡ take (length old.starts.items - 1) old.starts.items → IsTakenBack old new
 back_first old new d es ss = record {
   level = length old.starts.items - 1;
   start = level_start old.starts.items;
@@ -128,9 +128,9 @@ back_first old new d es ss = record {
 }
 
 -- and one more
-pub back_more : (old mid new : Trail) → IsAssignment old → IsBack old mid → 0 < length mid.starts.items →
+pub back_more : (old mid new : Trail) → IsTrail old → IsTakenBack old mid → 0 < length mid.starts.items →
     new.entries.items ≡ take (level_start mid.starts.items) mid.entries.items →
-    new.starts.items ≡ take (length mid.starts.items - 1) mid.starts.items → IsBack old new
+    new.starts.items ≡ take (length mid.starts.items - 1) mid.starts.items → IsTakenBack old new
 back_more old mid new a b d es ss =
     let n = length mid.starts.items - 1 in
     let start = level_start mid.starts.items in

@@ -5,7 +5,7 @@ use Rattle.std.specs.Prelude.{slice_get, slice_index_or}
 use Rattle.std.proofs.Math.Nat.{pow-succ'}
 use Rattle.std.proofs.lemmas.Option.{slice_get-get_or}
 use Rattle.sy_clauses.specs.Clauses.{Clause, same_literal}
-use Rattle.sy_clauses.specs.New.{Partial, IsUnit, IsSettled, EachNew}
+use Rattle.sy_clauses.specs.New.{Partial, IsUnit, ClauseIsSettled, EachNew}
 use Rattle.sy_clauses.proofs.Sets.{literal_is, same_self}
 use Rattle.sy_cdcl.specs.Trails.{VarsBelow}
 use Rattle.sy_cdcl.proofs.Back.{get_in_taken}
@@ -130,7 +130,7 @@ unit_proper values c var positive u v p n =
 
 -- a clause whose literals are all in a unit clause is not settled
 not_settled : (values : Partial) (c d : Clause) (var : ℕ) (positive : Bool) → IsUnit values c var positive →
-    ((v : ℕ) (s : Bool) → d v s ≡ true → c v s ≡ true) → IsSettled values d → ⊥
+    ((v : ℕ) (s : Bool) → d v s ≡ true → c v s ≡ true) → ClauseIsSettled values d → ⊥
 not_settled values c d var positive u f (inl t) =
     elim (unit_literal values c var positive u t.var t.positive (f t.var t.positive t.has)) [
       | inl a ↦ own_sign t.positive (some_is (sym t.is_true ∙ a))

@@ -12,7 +12,7 @@ use Rattle.sy_clauses.proofs.Sets.{literal_is}
 use Rattle.sy_clauses.proofs.Known.{known_first}
 use Rattle.sy_cdcl.specs.declared.trail.Entry.{Entry}
 use Rattle.sy_cdcl.specs.declared.trail.Trail.{Trail}
-use Rattle.sy_cdcl.specs.Trails.{value_of, IsAssignment, IsReady, LevelsSettled, VarsBelow}
+use Rattle.sy_cdcl.specs.Trails.{kept_values, IsTrail, TrailIsReady, LevelsSettled, VarsBelow}
 use Rattle.sy_cdcl.specs.Conflicts.{IsLearned}
 use Rattle.sy_cdcl.specs.Answer.{VarsFit, or_false}
 use Rattle.sy_cdcl.proofs.Push.{some_is}
@@ -49,7 +49,7 @@ pub vars_first : (cnf : Cnf) → VarsFit cnf → VarsBelow cnf.vars (known_claus
 vars_first cnf f = subst (λ (ks : List Clause). VarsBelow cnf.vars ks) (sym (known_none cnf.clauses)) (clauses_below cnf.vars cnf.clauses f)
 
 -- an empty trail
-pub ready_first : (known : List Clause) (t : Trail) → IsAssignment t → t.entries.items ≡ [] → IsReady known t
+pub ready_first : (known : List Clause) (t : Trail) → IsTrail t → t.entries.items ≡ [] → TrailIsReady known t
 ready_first known t a e = record {
   assignment = a;
   justified = record {
@@ -65,7 +65,7 @@ levels_first known t e k n h =
 pub fresh_first : (known : List Clause) (n : ℕ) → length known ≡ n → EachNew n known
 fresh_first known n e k c l h = let w = slice_get_within known k c h in absurd (omega arith)
 
-held : (values : List (Option Bool)) (v : ℕ) (s : Bool) → value_of values v ≡ Some s →
+held : (values : List (Option Bool)) (v : ℕ) (s : Bool) → kept_values values v ≡ Some s →
     slice_index_or (map or_false values) v false ≡ s
 held [] v s h = cc
 held (x ∷ xs) zero s h = ap or_false h
@@ -73,19 +73,19 @@ held (x ∷ xs) (suc v) s h = held xs v s h
 
 -- where all clauses are settled and each variable has a value, the values are a model
 pub model_of : (vars : ℕ) (values : List (Option Bool)) (clauses derived : List (List Lit)) →
-    VarsBelow vars (known_clauses clauses derived) → AllSettled (value_of values) (known_clauses clauses derived) →
-    ((v : ℕ) → v < vars → value_of values v ≢ None) →
+    VarsBelow vars (known_clauses clauses derived) → AllSettled (kept_values values) (known_clauses clauses derived) →
+    ((v : ℕ) → v < vars → kept_values values v ≢ None) →
     IsModel (λ v. slice_index_or (map or_false values) v false) clauses
 model_of vars values clauses derived below settled valued k d h =
     let c : Clause = literals (slice_index_or clauses k d) in
     let at : slice_get (known_clauses clauses derived) k ≡ Some c =
     known_first clauses derived k h ∙ ap (option_map literals) (slice_get-get_or clauses k d h) in
     ⊎_elim
-    (λ (t : HasTrue (value_of values) c). record {
+    (λ (t : HasTrue (kept_values values) c). record {
       var = t.var;
       has = subst (λ (b : Bool). c t.var b ≡ true) (sym (held values t.var t.positive t.is_true)) t.has;
     })
-    (λ (o : HasTwoOpen (value_of values) c). absurd (valued o.var (below k c o.var o.positive at o.has) o.unvalued))
+    (λ (o : HasTwoOpen (kept_values values) c). absurd (valued o.var (below k c o.var o.positive at o.has) o.unvalued))
     (settled k c at)
 
 get_past : (xs : List Clause) (x : Clause) → slice_get (xs ++ x ∷ []) (length xs) ≡ Some x

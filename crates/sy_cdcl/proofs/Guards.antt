@@ -5,13 +5,13 @@ use Rattle.std.proofs.lemmas.Option.{slice_get_within}
 use Rattle.std.proofs.lemmas.List.{take_all}
 use Rattle.sy_clauses.specs.declared.Lit.{Lit}
 use Rattle.sy_clauses.specs.Clauses.{Clause, same_literal}
-use Rattle.sy_clauses.specs.New.{HasTrue, IsSettled}
+use Rattle.sy_clauses.specs.New.{HasTrue, ClauseIsSettled}
 use Rattle.sy_clauses.proofs.Sets.{literal_is, same_self}
 use Rattle.sy_cdcl.specs.declared.trail.Entry.{Entry}
 use Rattle.sy_cdcl.specs.declared.watches.Pair.{Pair}
-use Rattle.sy_cdcl.specs.Trails.{value_in, EachOnce}
+use Rattle.sy_cdcl.specs.Trails.{entries_values, EachOnce}
 use Rattle.sy_cdcl.specs.Watching.{Falsifies, IsBacked, IsGuarded, IsWatched}
-use Rattle.sy_cdcl.specs.Visits.{IsApart, IsOther, IsBeside}
+use Rattle.sy_cdcl.specs.Visits.{IsApart, IsOther, IsWatchedPair}
 use Rattle.sy_cdcl.proofs.Back.{get_taken, get_in_taken}
 use Rattle.sy_cdcl.proofs.Push.{some_is, push_cases, WasThere, IsLast}
 use Rattle.sy_cdcl.proofs.Places.{source, value_at}
@@ -135,10 +135,10 @@ last_or p head h = grind arith
 
 -- a true clause is backed where no level begins later
 pub backed_true : (es : List Entry) (starts : List ℕ) (c : Clause) (p : ℕ) → ((k s : ℕ) → slice_get starts k ≡ Some s → s ≤ p) →
-    HasTrue (value_in es) c → IsBacked es starts c p
+    HasTrue (entries_values es) c → IsBacked es starts c p
 backed_true es starts c p past t =
     let whole : take (length es) es ≡ es = take_all (length es) es (omega arith) in
-    let s = source es (length es) t.var t.positive (ap (λ (xs : List Entry). value_in xs t.var) whole ∙ t.is_true) in
+    let s = source es (length es) t.var t.positive (ap (λ (xs : List Entry). entries_values xs t.var) whole ∙ t.is_true) in
     record {
       place = s.place;
       entry = s.entry;
@@ -159,7 +159,7 @@ not_apart e a l v s f d =
 pub watched_next : (es : List Entry) (starts : List ℕ) (head : ℕ) (c : Clause) (o : Option Pair) (e : Entry) (a : Lit) →
     ((k s : ℕ) → slice_get starts k ≡ Some s → s ≤ head) → slice_get es head ≡ Some e →
     a.var ≡ e.literal.var → a.positive ≡ not e.literal.positive →
-    ((pair : Pair) → o ≡ Some pair → IsApart pair a ⊎ HasTrue (value_in es) c) →
+    ((pair : Pair) → o ≡ Some pair → IsApart pair a ⊎ HasTrue (entries_values es) c) →
     IsWatched es starts head c o → IsWatched es starts (head + 1) c o
 watched_next es starts head c None e a past at v s f w = w
 watched_next es starts head c (Some pair) e a past at v s f w = record {
@@ -177,24 +177,24 @@ watched_next es starts head c (Some pair) e a past at v s f w = record {
       (λ (t : Falsifies x pair.first). not_apart e a pair.first v s (subst (λ (y : Entry). Falsifies y pair.first) same t) r.first)
       (λ (t : Falsifies x pair.second). not_apart e a pair.second v s (subst (λ (y : Entry). Falsifies y pair.second) same t) r.second)
       g))
-      (λ (r : HasTrue (value_in es) c). backed_true es starts c head past r)
+      (λ (r : HasTrue (entries_values es) c). backed_true es starts c head past r)
       (f pair refl)))
       (last_or p head k);
 }
 
 -- an entry that makes a literal false
 pub falsified : (es : List Entry) (p : ℕ) (e : Entry) (l : Lit) → EachOnce es → slice_get es p ≡ Some e → Falsifies e l →
-    value_in es l.var ≡ Some (not l.positive)
+    entries_values es l.var ≡ Some (not l.positive)
 falsified es p e l o at f =
     let whole : take (length es) es ≡ es = take_all (length es) es (omega arith) in
     let within = slice_get_within es p e at in
     let v = value_at es (length es) p e o within at in
-    ap (value_in es) (sym f.var) ∙ ap (λ (xs : List Entry). value_in xs e.literal.var) (sym whole) ∙ v ∙ ap Some f.sign
+    ap (entries_values es) (sym f.var) ∙ ap (λ (xs : List Entry). entries_values xs e.literal.var) (sym whole) ∙ v ∙ ap Some f.sign
 
 -- the next entry is visited, and another literal is watched in the place of the one that it makes false
 pub watched_moved : (es : List Entry) (starts : List ℕ) (head : ℕ) (c : Clause) (old new : Pair) (e : Entry) (a : Lit) →
     EachOnce es → slice_get es head ≡ Some e → a.var ≡ e.literal.var → a.positive ≡ not e.literal.positive →
-    IsBeside old a new.first → IsOther (value_in es) c new.first new.second →
+    IsWatchedPair old a new.first → IsOther (entries_values es) c new.first new.second →
     IsGuarded es starts head c old → IsGuarded es starts (head + 1) c new
 watched_moved es starts head c old new e a once at v s (inl b) other w =
     let q : new.first ≡ old.second = b.1 in
@@ -265,43 +265,43 @@ same_or_not false false = inl refl
 watched_open : (es : List Entry) (starts : List ℕ) (c : Clause) (pair : Pair) (l : Lit) → EachOnce es →
     IsGuarded es starts (length es) c pair → c l.var l.positive ≡ true →
     ((e : Entry) → Falsifies e l → Falsifies e pair.first ⊎ Falsifies e pair.second) →
-    (value_in es l.var ≡ None) ⊎ HasTrue (value_in es) c
+    (entries_values es l.var ≡ None) ⊎ HasTrue (entries_values es) c
 watched_open es starts c pair l once w has f =
     let whole : take (length es) es ≡ es = take_all (length es) es (omega arith) in
-    ⊎_elim (λ (n : value_in es l.var ≡ None). inl n)
-    (λ (b : (b : Bool) × (value_in es l.var ≡ Some b)).
+    ⊎_elim (λ (n : entries_values es l.var ≡ None). inl n)
+    (λ (b : (b : Bool) × (entries_values es l.var ≡ Some b)).
     inr (⊎_elim
     (λ (q : b.0 ≡ l.positive). record { var = l.var; positive = l.positive; has = has; is_true = b.1 ∙ ap Some q })
     (λ (q : b.0 ≡ not l.positive).
-    let s = source es (length es) l.var b.0 (ap (λ (xs : List Entry). value_in xs l.var) whole ∙ b.1) in
+    let s = source es (length es) l.var b.0 (ap (λ (xs : List Entry). entries_values xs l.var) whole ∙ b.1) in
     let k = w.backed s.place s.entry s.within s.at (f s.entry record { var = s.var; sign = s.value ∙ q }) in
     let in_es = slice_get_within es k.place k.entry k.at in
     record {
       var = k.entry.literal.var;
       positive = k.entry.literal.positive;
       has = k.has;
-      is_true = ap (λ (xs : List Entry). value_in xs k.entry.literal.var) (sym whole) ∙ value_at es (length es) k.place k.entry once in_es k.at;
+      is_true = ap (λ (xs : List Entry). entries_values xs k.entry.literal.var) (sym whole) ∙ value_at es (length es) k.place k.entry once in_es k.at;
     })
     (same_or_not b.0 l.positive)))
-    (option_cases (value_in es l.var))
+    (option_cases (entries_values es l.var))
 
 -- once all entries are visited, the clause is settled
 pub watched_settled : (es : List Entry) (starts : List ℕ) (c : Clause) (o : Option Pair) → EachOnce es →
-    IsWatched es starts (length es) c o → IsSettled (value_in es) c
+    IsWatched es starts (length es) c o → ClauseIsSettled (entries_values es) c
 watched_settled es starts c None once w =
     let whole : take (length es) es ≡ es = take_all (length es) es (omega arith) in
     inl record {
       var = w.entry.literal.var;
       positive = w.entry.literal.positive;
       has = w.has;
-      is_true = ap (λ (xs : List Entry). value_in xs w.entry.literal.var) (sym whole)
+      is_true = ap (λ (xs : List Entry). entries_values xs w.entry.literal.var) (sym whole)
           ∙ value_at es (length es) w.place w.entry once (slice_get_within es w.place w.entry w.at) w.at;
     }
 watched_settled es starts c (Some pair) once w =
     ⊎_elim
-    (λ (n : value_in es pair.first.var ≡ None).
+    (λ (n : entries_values es pair.first.var ≡ None).
     ⊎_elim
-    (λ (m : value_in es pair.second.var ≡ None). inr record {
+    (λ (m : entries_values es pair.second.var ≡ None). inr record {
       var = pair.first.var;
       positive = pair.first.positive;
       other_var = pair.second.var;
@@ -312,7 +312,7 @@ watched_settled es starts c (Some pair) once w =
       unvalued = n;
       other_unvalued = m;
     })
-    (λ (t : HasTrue (value_in es) c). inl t)
+    (λ (t : HasTrue (entries_values es) c). inl t)
     (watched_open es starts c pair pair.second once w w.has_second (λ e f. inr f)))
-    (λ (t : HasTrue (value_in es) c). inl t)
+    (λ (t : HasTrue (entries_values es) c). inl t)
     (watched_open es starts c pair pair.first once w w.has_first (λ e f. inl f))

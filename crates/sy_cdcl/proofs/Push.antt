@@ -6,10 +6,10 @@ use Rattle.std.proofs.lemmas.List.{take_at, take_all, take-take}
 use Rattle.sy_clauses.specs.Clauses.{Clause}
 use Rattle.std.proofs.lemmas.Bool.Decides.{eqb_tells}
 use Rattle.std.proofs.lemmas.Option.{slice_get_within}
-use Rattle.sy_clauses.specs.New.{Partial, IsUnit, IsSettled, AllSettled}
+use Rattle.sy_clauses.specs.New.{Partial, IsUnit, ClauseIsSettled, AllSettled}
 use Rattle.sy_cdcl.specs.declared.trail.Entry.{Entry}
 use Rattle.sy_cdcl.specs.declared.trail.Trail.{Trail}
-use Rattle.sy_cdcl.specs.Trails.{value_in, value_of, Agrees, IsForced, IsReady, Extends, VarsBelow, unvalued_count}
+use Rattle.sy_cdcl.specs.Trails.{entries_values, kept_values, ValuesAgree, IsForced, TrailIsReady, TrailExtends, VarsBelow, unvalued_count}
 
 pub some_is : {A : Type 0} {x y : A} → Some x ≡ Some y → x ≡ y
 some_is e = cc
@@ -34,13 +34,13 @@ push_cases (y ∷ ys) e (suc p) x h =
     (λ (b : IsLast ys e p x). inr record { same = b.same; place = ap suc b.place; before = ap (λ (t : List Entry). y ∷ t) b.before })
     (push_cases ys e p x h)
 
-pub once_more : (es : List Entry) (e : Entry) → value_in es e.literal.var ≡ None →
-    ((p : ℕ) (x : Entry) → slice_get es p ≡ Some x → value_in (take p es) x.literal.var ≡ None) →
-    (p : ℕ) (x : Entry) → slice_get (es ++ e ∷ []) p ≡ Some x → value_in (take p (es ++ e ∷ [])) x.literal.var ≡ None
+pub once_more : (es : List Entry) (e : Entry) → entries_values es e.literal.var ≡ None →
+    ((p : ℕ) (x : Entry) → slice_get es p ≡ Some x → entries_values (take p es) x.literal.var ≡ None) →
+    (p : ℕ) (x : Entry) → slice_get (es ++ e ∷ []) p ≡ Some x → entries_values (take p (es ++ e ∷ [])) x.literal.var ≡ None
 once_more es e u k p x h =
-    ⊎_elim (λ (a : WasThere es e p x). subst (λ (t : List Entry). value_in t x.literal.var ≡ None) (sym a.before) (k p x a.there))
-    (λ (b : IsLast es e p x). subst (λ (t : List Entry). value_in t x.literal.var ≡ None) (sym b.before)
-    (subst (λ (y : Entry). value_in es y.literal.var ≡ None) (sym b.same) u))
+    ⊎_elim (λ (a : WasThere es e p x). subst (λ (t : List Entry). entries_values t x.literal.var ≡ None) (sym a.before) (k p x a.there))
+    (λ (b : IsLast es e p x). subst (λ (t : List Entry). entries_values t x.literal.var ≡ None) (sym b.before)
+    (subst (λ (y : Entry). entries_values es y.literal.var ≡ None) (sym b.same) u))
     (push_cases es e p x h)
 
 pub forced_more : (clauses : List Clause) (es : List Entry) (e : Entry) →
@@ -55,14 +55,14 @@ forced_more clauses es e f k p x r h q =
     (push_cases es e p x h)
 
 -- the values by variable as those of the entries
-pub same_values : (t : Trail) → Agrees t → value_of t.values.items ≡ value_in t.entries.items
+pub same_values : (t : Trail) → ValuesAgree t → kept_values t.values.items ≡ entries_values t.entries.items
 same_values t a = fun_ext a
 
 -- a forced literal more
 pub ready_forced : (clauses : List Clause) (old new : Trail) (e : Entry) (number : ℕ) (c : Clause) →
-    IsReady clauses old → new.entries.items ≡ old.entries.items ++ e ∷ [] → new.starts.items ≡ old.starts.items →
-    Agrees new → e.reason ≡ Some number → slice_get clauses number ≡ Some c →
-    IsUnit (value_of old.values.items) c e.literal.var e.literal.positive → IsReady clauses new
+    TrailIsReady clauses old → new.entries.items ≡ old.entries.items ++ e ∷ [] → new.starts.items ≡ old.starts.items →
+    ValuesAgree new → e.reason ≡ Some number → slice_get clauses number ≡ Some c →
+    IsUnit (kept_values old.values.items) c e.literal.var e.literal.positive → TrailIsReady clauses new
 ready_forced clauses old new e number c r es ss a q at u =
     let es₀ = old.entries.items in
     let unit = subst (λ (f : Partial). IsUnit f c e.literal.var e.literal.positive) (same_values old r.assignment.agrees) u in
@@ -73,7 +73,7 @@ ready_forced clauses old new e number c r es ss a q at u =
     record {
       assignment = record {
         agrees = a;
-        once = subst (λ (t : List Entry). (p : ℕ) (x : Entry) → slice_get t p ≡ Some x → value_in (take p t) x.literal.var ≡ None) (sym es) once;
+        once = subst (λ (t : List Entry). (p : ℕ) (x : Entry) → slice_get t p ≡ Some x → entries_values (take p t) x.literal.var ≡ None) (sym es) once;
         rising = subst (λ (t : List ℕ). (j k m n : ℕ) → j ≤ k → slice_get t j ≡ Some m → slice_get t k ≡ Some n → m ≤ n) (sym ss) r.assignment.rising;
         within = λ k n h.
             let old_within = r.assignment.within k n (subst (λ (t : List ℕ). slice_get t k ≡ Some n) ss h) in
@@ -92,7 +92,7 @@ ready_forced clauses old new e number c r es ss a q at u =
 
 pub extends_push : (old new : Trail) (e : Entry) → new.entries.items ≡ old.entries.items ++ e ∷ [] → new.starts.items ≡ old.starts.items →
     vec_len new.values ≡ vec_len old.values →
-    unvalued_count new + 1 ≡ unvalued_count old → Extends old new
+    unvalued_count new + 1 ≡ unvalued_count old → TrailExtends old new
 extends_push old new e es ss vs fs =
     let long : length new.entries.items ≡ length old.entries.items + 1 =
     (let l = ap length es in let m = length-append old.entries.items (e ∷ []) in omega arith) in
@@ -105,10 +105,10 @@ extends_push old new e es ss vs fs =
       front = ap (take (length old.entries.items)) es ∙ take_at old.entries.items (e ∷ []) (length old.entries.items) refl;
     }
 
-pub extends_refl : (t : Trail) → Extends t t
+pub extends_refl : (t : Trail) → TrailExtends t t
 extends_refl t = record { starts = refl; longer = omega arith; front = take_all (length t.entries.items) t.entries.items (omega arith); vars = refl; fewer = omega arith; count = refl }
 
-pub extends_trans : (a b c : Trail) → Extends a b → Extends b c → Extends a c
+pub extends_trans : (a b c : Trail) → TrailExtends a b → TrailExtends b c → TrailExtends a c
 extends_trans a b c p q =
     let la = p.longer in let lb = q.longer in let fa = p.fewer in let fb = q.fewer in
     let ca = p.count in let cb = q.count in
@@ -123,21 +123,21 @@ extends_trans a b c p q =
     }
 
 -- the bound on variables holds of a longer trail
-pub vars_kept : (clauses : List Clause) (old new : Trail) → Extends old new → VarsBelow (vec_len old.values) clauses →
+pub vars_kept : (clauses : List Clause) (old new : Trail) → TrailExtends old new → VarsBelow (vec_len old.values) clauses →
     VarsBelow (vec_len new.values) clauses
 vars_kept clauses old new x b = subst (λ (n : ℕ). VarsBelow n clauses) (sym x.vars) b
 
 -- one settled clause more
 pub settled_more : (clauses : List Clause) (values : Partial) (i : ℕ) (d : Clause) →
-    ((k : ℕ) (c : Clause) → k < i → slice_get clauses k ≡ Some c → IsSettled values c) →
-    slice_get clauses i ≡ Some d → IsSettled values d →
-    (k : ℕ) (c : Clause) → k < i + 1 → slice_get clauses k ≡ Some c → IsSettled values c
+    ((k : ℕ) (c : Clause) → k < i → slice_get clauses k ≡ Some c → ClauseIsSettled values c) →
+    slice_get clauses i ≡ Some d → ClauseIsSettled values d →
+    (k : ℕ) (c : Clause) → k < i + 1 → slice_get clauses k ≡ Some c → ClauseIsSettled values c
 settled_more clauses values i d f g s k c h e =
     ⊎_elim (λ (q : (eqb k i ≡ true) × (k ≡ i)).
-    let z : d ≡ c = some_is (sym g ∙ ap (slice_get clauses) (sym q.1) ∙ e) in subst (λ (x : Clause). IsSettled values x) z s)
+    let z : d ≡ c = some_is (sym g ∙ ap (slice_get clauses) (sym q.1) ∙ e) in subst (λ (x : Clause). ClauseIsSettled values x) z s)
     (λ (q : (eqb k i ≡ false) × (k ≢ i)). let n = q.1 in f k c (omega arith) e)
     (eqb_tells k i)
 
 pub all_settled : (clauses : List Clause) (values : Partial) (i : ℕ) → length clauses ≤ i →
-    ((k : ℕ) (c : Clause) → k < i → slice_get clauses k ≡ Some c → IsSettled values c) → AllSettled values clauses
+    ((k : ℕ) (c : Clause) → k < i → slice_get clauses k ≡ Some c → ClauseIsSettled values c) → AllSettled values clauses
 all_settled clauses values i h f n c e = let w = slice_get_within clauses n c e in f n c (omega arith) e

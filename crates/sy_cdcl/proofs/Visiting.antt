@@ -10,15 +10,15 @@ use Rattle.std.proofs.Common.{length-take}
 use Rattle.sy_cdcl.proofs.Learning.{not_not}
 use Rattle.sy_clauses.specs.declared.Lit.{Lit}
 use Rattle.sy_clauses.specs.Clauses.{Clause, same_literal}
-use Rattle.sy_clauses.specs.New.{Partial, HasTrue, AllSettled, IsSettled}
+use Rattle.sy_clauses.specs.New.{Partial, HasTrue, AllSettled, ClauseIsSettled}
 use Rattle.sy_clauses.proofs.Sets.{literal_is, same_self}
 use Rattle.sy_cdcl.specs.declared.trail.Entry.{Entry}
 use Rattle.sy_cdcl.specs.declared.trail.Trail.{Trail}
 use Rattle.sy_cdcl.specs.declared.watches.Pair.{Pair}
 use Rattle.sy_cdcl.specs.declared.watches.Watches.{Watches}
-use Rattle.sy_cdcl.specs.Trails.{value_in, value_of, IsReady, Extends, VarsBelow}
+use Rattle.sy_cdcl.specs.Trails.{entries_values, kept_values, TrailIsReady, TrailExtends, VarsBelow}
 use Rattle.sy_cdcl.specs.Watching.{list_of, pair_of, IsIn, list_at, enlisted, delisted, IsWatched, IsGuarded, AllWatched, IsWatching}
-use Rattle.sy_cdcl.specs.Visits.{IsApart, IsBeside, MayStay, MayMove, MayForce}
+use Rattle.sy_cdcl.specs.Visits.{IsApart, IsWatchedPair, MayStay, MayMove, MayForce}
 use Rattle.sy_cdcl.proofs.Push.{some_is, same_values, extends_refl, extends_trans, vars_kept}
 use Rattle.sy_cdcl.proofs.Listing.{in_enlisted, in_enlisted_new, in_delisted, in_delisted_other, list_of-injective, list_within}
 use Rattle.sy_cdcl.proofs.Guards.{watched_more, watched_weaker, watched_next, watched_moved, watched_settled, falsified}
@@ -26,8 +26,8 @@ use Rattle.sy_cdcl.proofs.Guards.{watched_more, watched_weaker, watched_next, wa
 -- What holds before the visit to the clause at `place`: each clause is watched as if the entry was
 -- visited, or stands at that place or later.
 pub record IsVisiting (clauses : List Clause) (old t : Trail) (w : Watches) (head list place : ℕ) (e : Entry) : Type 0 where
-  pub ready : IsReady clauses t
-  pub extends : Extends old t
+  pub ready : TrailIsReady clauses t
+  pub extends : TrailExtends old t
   pub vars : VarsBelow (vec_len t.values) clauses
   pub watching : IsWatching clauses t w
   pub unmoved : w.head ≡ head
@@ -56,7 +56,7 @@ past_head : (clauses : List Clause) (t : Trail) (w : Watches) (head : ℕ) → I
     (k s : ℕ) → slice_get t.starts.items k ≡ Some s → s ≤ head
 past_head clauses t w head i e k s h = let p = i.past k s h in omega arith
 
-pub visiting_first : (clauses : List Clause) (t : Trail) (w : Watches) (e : Entry) (a : Lit) (list : ℕ) → IsReady clauses t →
+pub visiting_first : (clauses : List Clause) (t : Trail) (w : Watches) (e : Entry) (a : Lit) (list : ℕ) → TrailIsReady clauses t →
     VarsBelow (vec_len t.values) clauses → IsWatching clauses t w → slice_get t.entries.items w.head ≡ Some e → IsNegated e a →
     list ≡ list_of a → IsVisiting clauses t t w w.head list 0 e
 visiting_first clauses t w e a list r v i at f l = record {
@@ -95,7 +95,7 @@ later place q h = grind arith
 -- the clause stays where it is
 pub visiting_stayed : (clauses : List Clause) (old t : Trail) (w : Watches) (head list place n : ℕ) (e : Entry) (a : Lit) → IsNegated e a →
     IsVisiting clauses old t w head list place e → slice_get (list_at w.lists.items list) place ≡ Some n →
-    MayStay clauses (value_of t.values.items) w.pairs.items a n → IsVisiting clauses old t w head list (place + 1) e
+    MayStay clauses (kept_values t.values.items) w.pairs.items a n → IsVisiting clauses old t w head list (place + 1) e
 visiting_stayed clauses old t w head list place n e a f i here s =
     let s' = subst (λ (g : Partial). MayStay clauses g w.pairs.items a n) (same_values t i.ready.assignment.agrees) s in
     record {
@@ -144,14 +144,14 @@ watching_more clauses t new w e es ss vs i =
     }
 
 -- the last entry's literal is true
-pub true_last : (clauses : List Clause) (t new : Trail) (e : Entry) → IsReady clauses new → new.entries.items ≡ t.entries.items ++ e ∷ [] →
-    value_of new.values.items e.literal.var ≡ Some e.literal.positive
+pub true_last : (clauses : List Clause) (t new : Trail) (e : Entry) → TrailIsReady clauses new → new.entries.items ≡ t.entries.items ++ e ∷ [] →
+    kept_values new.values.items e.literal.var ≡ Some e.literal.positive
 true_last clauses t new e r es =
     let n = length t.entries.items in
     let at : slice_get new.entries.items n ≡ Some e = subst (λ (xs : List Entry). slice_get xs n ≡ Some e) (sym es) (get_end t.entries.items e) in
     let within = slice_get_within new.entries.items n e at in
     r.assignment.agrees e.literal.var
-    ∙ ap (λ (ys : List Entry). value_in ys e.literal.var) (sym (take_all (length new.entries.items) new.entries.items (omega arith)))
+    ∙ ap (λ (ys : List Entry). entries_values ys e.literal.var) (sym (take_all (length new.entries.items) new.entries.items (omega arith)))
     ∙ value_at new.entries.items (length new.entries.items) n e r.assignment.once within at
   where
     get_end : (xs : List Entry) (x : Entry) → slice_get (xs ++ x ∷ []) (length xs) ≡ Some x
@@ -161,8 +161,8 @@ true_last clauses t new e r es =
 -- the clause forces a literal, whose entry makes it true
 pub visiting_forced : (clauses : List Clause) (old t new : Trail) (w : Watches) (head list place n : ℕ) (e : Entry) (a l : Lit) (reason : Option ℕ) →
     IsNegated e a → IsVisiting clauses old t w head list place e → slice_get (list_at w.lists.items list) place ≡ Some n →
-    MayForce clauses (value_of t.values.items) n l → IsReady clauses new →
-    new.entries.items ≡ t.entries.items ++ record { literal = l; reason = reason } ∷ [] → Extends t new →
+    MayForce clauses (kept_values t.values.items) n l → TrailIsReady clauses new →
+    new.entries.items ≡ t.entries.items ++ record { literal = l; reason = reason } ∷ [] → TrailExtends t new →
     IsVisiting clauses old new w head list (place + 1) e
 visiting_forced clauses old t new w head list place n e a l reason f i here m r es x =
     let added : Entry = record { literal = l; reason = reason } in
@@ -170,8 +170,8 @@ visiting_forced clauses old t new w head list place n e a l reason f i here m r 
     let within = slice_get_within t.entries.items head e i.at in
     let at : slice_get new.entries.items head ≡ Some e =
     subst (λ (xs : List Entry). slice_get xs head ≡ Some e) (sym es) (get_old t.entries.items added e head i.at) in
-    let is_true : value_of new.values.items l.var ≡ Some l.positive = true_last clauses t new added r es in
-    let true_in : HasTrue (value_of new.values.items) m.clause = record { var = l.var; positive = l.positive; has = m.unit.has; is_true = is_true } in
+    let is_true : kept_values new.values.items l.var ≡ Some l.positive = true_last clauses t new added r es in
+    let true_in : HasTrue (kept_values new.values.items) m.clause = record { var = l.var; positive = l.positive; has = m.unit.has; is_true = is_true } in
     visiting_stayed clauses old new w head list place n e a f
     record {
       ready = r;
@@ -187,7 +187,7 @@ visiting_forced clauses old t new w head list place n e a l reason f i here m r 
           (i.done k c h);
     }
     here
-    (λ c pair h g. inr (subst (λ (d : Clause). HasTrue (value_of new.values.items) d) (some_is (sym m.at ∙ h)) true_in))
+    (λ c pair h g. inr (subst (λ (d : Clause). HasTrue (kept_values new.values.items) d) (some_is (sym m.at ∙ h)) true_in))
   where
     get_old : (xs : List Entry) (x y : Entry) (k : ℕ) → slice_get xs k ≡ Some y → slice_get (xs ++ x ∷ []) k ≡ Some y
     get_old [] x y k h = cc
@@ -209,7 +209,7 @@ both_are x y a p q d =
 pub visiting_moved : (clauses : List Clause) (old t : Trail) (w new : Watches) (head list place n : ℕ) (e : Entry) (a : Lit) (pair : Pair) →
     IsNegated e a → list ≡ list_of a → IsVisiting clauses old t w head list place e → slice_get (list_at w.lists.items list) place ≡ Some n →
     list < length w.lists.items → list_of pair.second < length w.lists.items → n < length w.pairs.items →
-    MayMove clauses (value_of t.values.items) w.pairs.items a n pair →
+    MayMove clauses (kept_values t.values.items) w.pairs.items a n pair →
     new.lists.items ≡ enlisted (delisted w.lists.items list place) (list_of pair.second) n →
     new.pairs.items ≡ set w.pairs.items n (Some pair) → new.head ≡ w.head →
     IsVisiting clauses old t new head list place e
@@ -296,7 +296,7 @@ visiting_moved clauses old t w new head list place n e a pair f la i here inside
   where
     -- the other literal is another one
     first_other : (clauses : List Clause) (t : Trail) (w : Watches) (had : Pair) (a : Lit) (pair : Pair) (e : Entry) → IsNegated e a → IsWatching clauses t w →
-        (n : ℕ) (c : Clause) → slice_get clauses n ≡ Some c → pair_of w.pairs.items n ≡ Some had → IsBeside had a pair.first →
+        (n : ℕ) (c : Clause) → slice_get clauses n ≡ Some c → pair_of w.pairs.items n ≡ Some had → IsWatchedPair had a pair.first →
         list_of pair.first ≡ list_of a → ⊥
     first_other clauses t w had a pair e f i n c at is (inl b) l =
         let x = list_of-injective pair.first a l in
@@ -310,7 +310,7 @@ visiting_moved clauses old t w new head list place n e a pair f la i here inside
 -- the list that is visited is shorter by the clause
 pub visiting_shorter : (clauses : List Clause) (old t : Trail) (w new : Watches) (head list place n : ℕ) (e : Entry) (a : Lit) (pair : Pair) →
     IsNegated e a → list ≡ list_of a → IsVisiting clauses old t w head list place e → slice_get (list_at w.lists.items list) place ≡ Some n →
-    MayMove clauses (value_of t.values.items) w.pairs.items a n pair →
+    MayMove clauses (kept_values t.values.items) w.pairs.items a n pair →
     new.lists.items ≡ enlisted (delisted w.lists.items list place) (list_of pair.second) n →
     length (list_at new.lists.items list) - place < length (list_at w.lists.items list) - place
 visiting_shorter clauses old t w new head list place n e a pair f la i here m ls =
@@ -318,13 +318,13 @@ visiting_shorter clauses old t w new head list place n e a pair f la i here m ls
     let within = slice_get_within (list_at w.lists.items list) place n here in
     let thin = delisted w.lists.items list place in
     let less = swap_remove (list_at w.lists.items list) place 0 in
-    let is_false : value_of t.values.items a.var ≡ Some (not a.positive) =
+    let is_false : kept_values t.values.items a.var ≡ Some (not a.positive) =
     i.ready.assignment.agrees a.var
     ∙ falsified t.entries.items head e a i.ready.assignment.once i.at record { var = sym f.var; sign = sym (not_not e.literal.positive) ∙ ap not (sym f.sign) } in
     let apart : list ≢ list_of pair.second =
     λ q. (let x = literal_is pair.second.var pair.second.positive a.var a.positive (list_of-injective pair.second a (sym q ∙ la)) in
-    m.other.not_false (subst (λ (b : Bool). value_of t.values.items pair.second.var ≡ Some (not b)) x.1
-    (subst (λ (v : ℕ). value_of t.values.items v ≡ Some (not a.positive)) x.0 is_false))) in
+    m.other.not_false (subst (λ (b : Bool). kept_values t.values.items pair.second.var ≡ Some (not b)) x.1
+    (subst (λ (v : ℕ). kept_values t.values.items v ≡ Some (not a.positive)) x.0 is_false))) in
     let same : list_at new.lists.items list ≡ less =
     ap (λ (xs : List (List ℕ)). list_at xs list) ls
     ∙ get_or-set_other thin (list_of pair.second) list (list_at thin (list_of pair.second) ++ n ∷ []) [] apart
@@ -367,9 +367,9 @@ watching_next clauses t w new i l a ps ls hs = record {
 }
 
 -- all entries were visited
-pub all_settled : (clauses : List Clause) (t : Trail) (w : Watches) → IsReady clauses t → IsWatching clauses t w →
-    w.head ≡ length t.entries.items → AllSettled (value_of t.values.items) clauses
+pub all_settled : (clauses : List Clause) (t : Trail) (w : Watches) → TrailIsReady clauses t → IsWatching clauses t w →
+    w.head ≡ length t.entries.items → AllSettled (kept_values t.values.items) clauses
 all_settled clauses t w r i h n c at =
-    subst (λ (g : Partial). IsSettled g c) (sym (same_values t r.assignment.agrees))
+    subst (λ (g : Partial). ClauseIsSettled g c) (sym (same_values t r.assignment.agrees))
     (watched_settled t.entries.items t.starts.items c (pair_of w.pairs.items n) r.assignment.once
     (subst (λ (x : ℕ). IsWatched t.entries.items t.starts.items x c (pair_of w.pairs.items n)) h (i.watched n c at)))

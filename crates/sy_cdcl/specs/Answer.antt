@@ -25,21 +25,21 @@ pub record IsModelOf (cnf : Cnf) (values : List Bool) : Type 0 where
 
 -- A refutation of at most `fuel` lines, or a value for each variable that makes every clause true, or
 -- `fuel` learned clauses, each new to the clauses before it.
-abbrev pub IsAnswer : Cnf → ℕ → Solved → Type 0
-IsAnswer cnf fuel (Refuted log) = Refutes cnf log × (length log.lines ≤ fuel)
-IsAnswer cnf fuel (Model values) =
+abbrev pub AnswersFormula : Cnf → ℕ → Solved → Type 0
+AnswersFormula cnf fuel (Refuted log) = Refutes cnf log × (length log.lines ≤ fuel)
+AnswersFormula cnf fuel (Model values) =
     (length values ≡ cnf.vars) × IsModel (λ v. slice_index_or values v false) cnf.clauses
-IsAnswer cnf fuel (Fuel log) = LearnsNew cnf log × (length log.lines ≡ fuel)
+AnswersFormula cnf fuel (Fuel log) = LearnsNew cnf log × (length log.lines ≡ fuel)
 
 -- not stopped by the number of clauses
-abbrev pub IsDecided : Solved → Type 0
-IsDecided (Refuted log) = Unit {0}
-IsDecided (Model values) = Unit {0}
-IsDecided (Fuel log) = ⊥
+abbrev pub IsUnstopped : Solved → Type 0
+IsUnstopped (Refuted log) = Unit {0}
+IsUnstopped (Model values) = Unit {0}
+IsUnstopped (Fuel log) = ⊥
 
 -- A refutation of at most `fuel` lines; fewer than `fuel` learned clauses, each new to the clauses
 -- before it, and a model; or `fuel` such clauses, which is fewer than there are sets of literals.
-abbrev pub IsEnd : Cnf → ℕ → Log → End → Type 0
-IsEnd cnf fuel log end.Empty = Refutes cnf log × (length log.lines ≤ fuel)
-IsEnd cnf fuel log (end.Model values) = IsModelOf cnf values × LearnsNew cnf log × (length log.lines < fuel)
-IsEnd cnf fuel log end.Spent = LearnsNew cnf log × (length log.lines ≡ fuel) × (fuel < 3 ^ cnf.vars)
+abbrev pub IsRunEnd : Cnf → ℕ → Log → End → Type 0
+IsRunEnd cnf fuel log end.Empty = Refutes cnf log × (length log.lines ≤ fuel)
+IsRunEnd cnf fuel log (end.Model values) = IsModelOf cnf values × LearnsNew cnf log × (length log.lines < fuel)
+IsRunEnd cnf fuel log end.Spent = LearnsNew cnf log × (length log.lines ≡ fuel) × (fuel < 3 ^ cnf.vars)

@@ -5,7 +5,7 @@ use Rattle.sy_clauses.specs.Clauses.{Clause, IsEmpty}
 use Rattle.sy_clauses.specs.New.{IsUnit, HasTwoOpen}
 use Rattle.sy_cdcl.specs.declared.trail.Entry.{Entry}
 use Rattle.sy_cdcl.specs.declared.trail.Trail.{Trail}
-use Rattle.sy_cdcl.specs.Trails.{value_in, level_start}
+use Rattle.sy_cdcl.specs.Trails.{entries_values, level_start}
 
 -- an entry between the two places makes a literal of the clause false
 pub record SomeFalsified (entries : List Entry) (start end : ℕ) (c : Clause) : Type 0 where
@@ -24,7 +24,7 @@ NoneFalsified entries start end c =
 
 -- the values at the end of the level below the present one
 abbrev pub value_below : Trail → ℕ → Option Bool
-value_below t = value_in (take (level_start t.starts.items) t.entries.items)
+value_below t = entries_values (take (level_start t.starts.items) t.entries.items)
 
 -- nothing is left of the clause, or one literal of the present level, above the lowest
 abbrev pub IsLearned : Trail → Clause → Option Lit → Type 0
@@ -33,10 +33,10 @@ IsLearned t c (Some l) = (0 < length t.starts.items) × IsUnit (value_below t) c
 
 -- at the end of each level below the present one the clause has two literals without value
 abbrev pub OpenAtLevels : Trail → Clause → Type 0
-OpenAtLevels t c = (k n : ℕ) → slice_get t.starts.items k ≡ Some n → HasTwoOpen (value_in (take n t.entries.items)) c
+OpenAtLevels t c = (k n : ℕ) → slice_get t.starts.items k ≡ Some n → HasTwoOpen (entries_values (take n t.entries.items)) c
 
 -- the trail was taken back to where one of its levels began
-pub record IsBack (old new : Trail) : Type 0 where
+pub record IsTakenBack (old new : Trail) : Type 0 where
   pub level : ℕ
   pub start : ℕ
   pub began : slice_get old.starts.items level ≡ Some start

@@ -6,39 +6,39 @@ use Rattle.sy_cdcl.specs.declared.trail.Entry.{Entry}
 use Rattle.sy_cdcl.specs.declared.trail.Trail.{Trail}
 
 -- the values that a list of entries gives
-abbrev pub value_in : List Entry → Partial
-value_in [] v = None
-value_in (e ∷ es) v = (if e.literal.var == v then Some e.literal.positive else value_in es v)
+abbrev pub entries_values : List Entry → Partial
+entries_values [] v = None
+entries_values (e ∷ es) v = (if e.literal.var == v then Some e.literal.positive else entries_values es v)
 
 -- the values that are kept by variable
-abbrev pub value_of : List (Option Bool) → Partial
-value_of values v = slice_index_or values v None
+abbrev pub kept_values : List (Option Bool) → Partial
+kept_values values v = slice_index_or values v None
 
 -- the clause of this number is unit, and its last literal is this one
 pub record IsForced (clauses : List Clause) (before : List Entry) (e : Entry) (number : ℕ) : Type 0 where
   pub clause : Clause
   pub at : slice_get clauses number ≡ Some clause
-  pub unit : IsUnit (value_in before) clause e.literal.var e.literal.positive
+  pub unit : IsUnit (entries_values before) clause e.literal.var e.literal.positive
 
 -- how many variables have no value
 abbrev pub unvalued_count : Trail → ℕ
 unvalued_count t = count_by is_none t.values.items
 
 -- the values by variable are those of the entries
-abbrev pub Agrees : Trail → Type 0
-Agrees t = (v : ℕ) → value_of t.values.items v ≡ value_in t.entries.items v
+abbrev pub ValuesAgree : Trail → Type 0
+ValuesAgree t = (v : ℕ) → kept_values t.values.items v ≡ entries_values t.entries.items v
 
 -- no entry's variable has a value before it
 abbrev pub EachOnce : List Entry → Type 0
-EachOnce entries = (p : ℕ) (e : Entry) → slice_get entries p ≡ Some e → value_in (take p entries) e.literal.var ≡ None
+EachOnce entries = (p : ℕ) (e : Entry) → slice_get entries p ≡ Some e → entries_values (take p entries) e.literal.var ≡ None
 
 -- where the last of these levels begins
 abbrev pub level_start : List ℕ → ℕ
 level_start starts = slice_index_or starts (length starts - 1) 0
 
 -- each variable has one value at most, and the levels begin in order among the entries
-pub record IsAssignment (t : Trail) : Type 0 where
-  pub agrees : Agrees t
+pub record IsTrail (t : Trail) : Type 0 where
+  pub agrees : ValuesAgree t
   pub once : EachOnce t.entries.items
   pub rising : (j k m n : ℕ) → j ≤ k → slice_get t.starts.items j ≡ Some m → slice_get t.starts.items k ≡ Some n → m ≤ n
   pub within : (k n : ℕ) → slice_get t.starts.items k ≡ Some n → n ≤ length t.entries.items
@@ -50,17 +50,17 @@ pub record IsJustified (clauses : List Clause) (t : Trail) : Type 0 where
   pub decided : (p : ℕ) (e : Entry) → slice_get t.entries.items p ≡ Some e → e.reason ≡ None →
       (k : ℕ) × (slice_get t.starts.items k ≡ Some p)
 
--- propagation was finished at the end of every level below the present one
+-- nothing was left to propagate when a level began
 abbrev pub LevelsSettled : List Clause → Trail → Type 0
-LevelsSettled clauses t = (k n : ℕ) → slice_get t.starts.items k ≡ Some n → AllSettled (value_in (take n t.entries.items)) clauses
+LevelsSettled clauses t = (k n : ℕ) → slice_get t.starts.items k ≡ Some n → AllSettled (entries_values (take n t.entries.items)) clauses
 
 -- the assignment is one, and each part of it has its reason
-pub record IsReady (clauses : List Clause) (t : Trail) : Type 0 where
-  pub assignment : IsAssignment t
+pub record TrailIsReady (clauses : List Clause) (t : Trail) : Type 0 where
+  pub assignment : IsTrail t
   pub justified : IsJustified clauses t
 
 -- more may be true at the same level, and nothing else has changed
-pub record Extends (old new : Trail) : Type 0 where
+pub record TrailExtends (old new : Trail) : Type 0 where
   pub starts : new.starts.items ≡ old.starts.items
   pub longer : length old.entries.items ≤ length new.entries.items
   pub front : take (length old.entries.items) new.entries.items ≡ old.entries.items
@@ -75,4 +75,4 @@ VarsBelow vars clauses =
 
 -- each variable below the number has a value
 abbrev pub AllValued : ℕ → Trail → Type 0
-AllValued vars t = (v : ℕ) → v < vars → value_of t.values.items v ≢ None
+AllValued vars t = (v : ℕ) → v < vars → kept_values t.values.items v ≢ None

@@ -30,8 +30,8 @@ pub record IsApart (pair : Pair) (l : Lit) : Type 0 where
   pub second : same_literal pair.second.var pair.second.positive l.var l.positive ≡ false
 
 -- the pair is this literal and the other one
-abbrev pub IsBeside : Pair → Lit → Lit → Type 0
-IsBeside pair l other =
+abbrev pub IsWatchedPair : Pair → Lit → Lit → Type 0
+IsWatchedPair pair l other =
     ((same_literal pair.first.var pair.first.positive l.var l.positive ≡ true) × (other ≡ pair.second))
     ⊎ ((same_literal pair.second.var pair.second.positive l.var l.positive ≡ true) × (other ≡ pair.first))
 
@@ -53,7 +53,7 @@ pub record MayMove (clauses : List Clause) (values : Partial) (pairs : List (Opt
   pub at : slice_get clauses n ≡ Some clause
   pub old : Pair
   pub had : pair_of pairs n ≡ Some old
-  pub beside : IsBeside old l new.first
+  pub beside : IsWatchedPair old l new.first
   pub other : IsOther values clause new.first new.second
 
 -- all literals but this one are false
@@ -63,11 +63,11 @@ pub record MayForce (clauses : List Clause) (values : Partial) (n : ℕ) (l : Li
   pub unit : IsUnit values clause l.var l.positive
 
 -- the same by the clause's number, where this literal has become false
-abbrev pub Fits : List Clause → Partial → List (Option Pair) → Lit → ℕ → Outcome → Type 0
-Fits clauses values pairs l n Stay = MayStay clauses values pairs l n
-Fits clauses values pairs l n (Move pair place) = MayMove clauses values pairs l n pair
-Fits clauses values pairs l n (Force forced) = MayForce clauses values n forced
-Fits clauses values pairs l n Conflict = IsConflict clauses values n
+abbrev pub SuitsAt : List Clause → Partial → List (Option Pair) → Lit → ℕ → Outcome → Type 0
+SuitsAt clauses values pairs l n Stay = MayStay clauses values pairs l n
+SuitsAt clauses values pairs l n (Move pair place) = MayMove clauses values pairs l n pair
+SuitsAt clauses values pairs l n (Force forced) = MayForce clauses values n forced
+SuitsAt clauses values pairs l n Conflict = IsConflict clauses values n
 
 -- the clause has no other literal
 abbrev pub IsOnly : Clause → Lit → Type 0

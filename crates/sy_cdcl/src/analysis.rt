@@ -1,11 +1,11 @@
 // Learning from a conflict.
 ghost use Rattle.std.specs.Prelude.{◌≡◌, ◌<◌, ◌≤◌, ℕ, Bool, true, not, Some, None, OnOk, IfOk, MatchBool, length, vec_len};
 ghost use Rattle.sy_clauses.specs.Clauses.{known_clauses, line_clause, IsEmpty};
-ghost use Rattle.sy_clauses.specs.Marking.{clause_of, IsListed};
-ghost use Rattle.sy_cdcl.specs.Trails.{value_of, value_in, IsReady, LevelsSettled};
+ghost use Rattle.sy_clauses.specs.Marking.{clause_of, MarksAreListed};
+ghost use Rattle.sy_cdcl.specs.Trails.{kept_values, entries_values, TrailIsReady, LevelsSettled};
 ghost use Rattle.sy_clauses.specs.New.{IsUnit};
 ghost use Rattle.sy_cdcl.specs.Status.{IsConflict};
-ghost use Rattle.sy_cdcl.specs.Conflicts.{SomeFalsified, NoneFalsified, IsLearned, OpenAtLevels, value_below, IsBack, LastFits};
+ghost use Rattle.sy_cdcl.specs.Conflicts.{SomeFalsified, NoneFalsified, IsLearned, OpenAtLevels, value_below, IsTakenBack, LastFits};
 
 use crate::order::Order;
 use crate::trail::{Entry, Trail};
@@ -67,15 +67,15 @@ pub fn analyze(
     marks: &mut Marks,
     conflict: u32,
 ) -> Result<Learned, Want>
-    requires ready { IsReady (known_clauses cnf.now.clauses derived.now) trail.now }
+    requires ready { TrailIsReady (known_clauses cnf.now.clauses derived.now) trail.now }
     requires levels { LevelsSettled (known_clauses cnf.now.clauses derived.now) trail.now }
-    requires conflict { IsConflict (known_clauses cnf.now.clauses derived.now) (value_of trail.now.values.items) conflict }
+    requires conflict { IsConflict (known_clauses cnf.now.clauses derived.now) (kept_values trail.now.values.items) conflict }
     requires empty { IsEmpty (clause_of marks.old) }
-    requires listed { IsListed marks.old }
+    requires listed { MarksAreListed marks.old }
     ensures line { IfOk result (λ r. line_clause (known_clauses cnf.now.clauses derived.now) r.line ≡ Some (clause_of marks.new)) }
     ensures learned { IfOk result (λ r. IsLearned trail.now (clause_of marks.new) r.last) }
     ensures vars { OnOk result ((v : ℕ) (s : Bool) → clause_of marks.new v s ≡ true → v < vec_len trail.now.values) }
-    ensures listed { OnOk result (IsListed marks.new) }
+    ensures listed { OnOk result (MarksAreListed marks.new) }
 {
     let mut line = Line {
         first: conflict,
@@ -126,15 +126,15 @@ pub fn go_back(
     literal: Lit,
 )
     requires deep { 0 < length trail.old.starts.items }
-    requires ready { IsReady (known_clauses cnf.now.clauses derived.now) trail.old }
+    requires ready { TrailIsReady (known_clauses cnf.now.clauses derived.now) trail.old }
     requires levels { LevelsSettled (known_clauses cnf.now.clauses derived.now) trail.old }
     requires unit { IsUnit (value_below trail.old) (clause_of marks.now) literal.var literal.positive }
-    ensures ready { IsReady (known_clauses cnf.now.clauses derived.now) trail.new }
+    ensures ready { TrailIsReady (known_clauses cnf.now.clauses derived.now) trail.new }
     ensures levels { LevelsSettled (known_clauses cnf.now.clauses derived.now) trail.new }
     ensures vars { vec_len trail.new.values ≡ vec_len trail.old.values }
-    ensures unit { IsUnit (value_in trail.new.entries.items) (clause_of marks.now) literal.var literal.positive }
+    ensures unit { IsUnit (entries_values trail.new.entries.items) (clause_of marks.now) literal.var literal.positive }
     ensures lowest { OpenAtLevels trail.new (clause_of marks.now) }
-    ensures back { IsBack trail.old trail.new }
+    ensures back { IsTakenBack trail.old trail.new }
 {
     trail.leave_level(order);
     while trail.starts.len() > 0 {

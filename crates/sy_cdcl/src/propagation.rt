@@ -2,10 +2,10 @@
 ghost use Rattle.std.specs.Prelude.{◌≡◌, ◌<◌, ◌≤◌, ◌+◌, ◌++◌, ◌∷◌, ℕ, [], not, true, false, length, vec_len, slice_get, Some, None, OnOk, IfOk, MatchOption, MatchBool, ◌⊎◌};
 ghost use Rattle.sy_clauses.specs.New.{AllSettled, IsFalse, HasTrue};
 ghost use Rattle.sy_clauses.specs.Clauses.{literals, same_literal, known_clauses, IsEmpty};
-ghost use Rattle.sy_cdcl.specs.Trails.{value_of, IsReady, Extends, VarsBelow, LevelsSettled};
+ghost use Rattle.sy_cdcl.specs.Trails.{kept_values, TrailIsReady, TrailExtends, VarsBelow, LevelsSettled};
 ghost use Rattle.sy_cdcl.specs.Status.{IsConflict};
 ghost use Rattle.sy_cdcl.specs.Watching.{AllWatched, IsWatching, IsAttached, pair_of};
-ghost use Rattle.sy_cdcl.specs.Visits.{IsFalseBut, IsOther, IsApart, IsBeside, Suits, Fits, MayForce, IsOnly, IsAnother, AreFalseBut};
+ghost use Rattle.sy_cdcl.specs.Visits.{IsFalseBut, IsOther, IsApart, IsWatchedPair, Suits, SuitsAt, MayForce, IsOnly, IsAnother, AreFalseBut};
 
 use crate::trail::{Entry, Trail, Truth};
 use crate::watches::{Pair, Watches, list_index};
@@ -33,7 +33,7 @@ fn negated(literal: Lit) -> Lit
 
 /// The literal of the pair beside this one, where this is one of them.
 fn beside(pair: Pair, literal: Lit) -> Option<Lit>
-    ensures { MatchOption result (IsApart pair literal) (λ other. IsBeside pair literal other) }
+    ensures { MatchOption result (IsApart pair literal) (λ other. IsWatchedPair pair literal other) }
 {
     if is_same(pair.first, literal) {
         return Some(pair.second);
@@ -73,8 +73,8 @@ fn find_between(
 ) -> Option<Found>
     requires { end ≤ length clause.now }
     ensures { MatchOption result
-        (AreFalseBut (value_of trail.now.values.items) clause.now start end other)
-        (λ f. IsOther (value_of trail.now.values.items) (literals clause.now) other f.literal) }
+        (AreFalseBut (kept_values trail.now.values.items) clause.now start end other)
+        (λ f. IsOther (kept_values trail.now.values.items) (literals clause.now) other f.literal) }
 {
     let mut place = start;
     while place < end {
@@ -91,8 +91,8 @@ fn find_between(
 /// goes on from the clause's beginning.
 fn find_other(trail: &Trail, clause: &[Lit], other: Lit, from: usize) -> Option<Found>
     ensures { MatchOption result
-        (IsFalseBut (value_of trail.now.values.items) (literals clause.now) other)
-        (λ f. IsOther (value_of trail.now.values.items) (literals clause.now) other f.literal) }
+        (IsFalseBut (kept_values trail.now.values.items) (literals clause.now) other)
+        (λ f. IsOther (kept_values trail.now.values.items) (literals clause.now) other f.literal) }
 {
     let middle = from.min(clause.len());
     if let Some(found) = find_between(trail, clause, other, middle, clause.len()) {
@@ -114,7 +114,7 @@ pub enum Outcome {
 /// Looks for another literal to watch, from a place on. This one is the other one that is watched.
 fn inspect(trail: &Trail, clause: &[Lit], other: Lit, from: usize) -> Outcome
     requires { literals clause.now other.var other.positive ≡ true }
-    ensures { Suits (value_of trail.now.values.items) (literals clause.now) other result }
+    ensures { Suits (kept_values trail.now.values.items) (literals clause.now) other result }
 {
     let truth = trail.truth(other);
     if let Truth::True = truth {
@@ -143,10 +143,10 @@ fn examine(
     pair: Pair,
     falsified: Lit,
 ) -> Outcome
-    requires agrees { IsReady (known_clauses cnf.now.clauses derived.now) trail.now }
+    requires agrees { TrailIsReady (known_clauses cnf.now.clauses derived.now) trail.now }
     requires watched { AllWatched (known_clauses cnf.now.clauses derived.now) trail.now watches.now.head watches.now.pairs.items }
     requires pair { pair_of watches.now.pairs.items number ≡ Some pair }
-    ensures { Fits (known_clauses cnf.now.clauses derived.now) (value_of trail.now.values.items) watches.now.pairs.items falsified number result }
+    ensures { SuitsAt (known_clauses cnf.now.clauses derived.now) (kept_values trail.now.values.items) watches.now.pairs.items falsified number result }
 {
     let Some(other) = beside(pair, falsified) else {
         return Outcome::Stay;
@@ -166,9 +166,9 @@ fn judge(
     number: u32,
     falsified: Lit,
 ) -> Outcome
-    requires agrees { IsReady (known_clauses cnf.now.clauses derived.now) trail.now }
+    requires agrees { TrailIsReady (known_clauses cnf.now.clauses derived.now) trail.now }
     requires watched { AllWatched (known_clauses cnf.now.clauses derived.now) trail.now watches.now.head watches.now.pairs.items }
-    ensures { Fits (known_clauses cnf.now.clauses derived.now) (value_of trail.now.values.items) watches.now.pairs.items falsified number result }
+    ensures { SuitsAt (known_clauses cnf.now.clauses derived.now) (kept_values trail.now.values.items) watches.now.pairs.items falsified number result }
 {
     let Some(pair) = watches.pair(number) else {
         return Outcome::Stay;
@@ -187,13 +187,13 @@ fn force(
     number: u32,
     literal: Lit,
 ) -> Result<(), Want>
-    requires ready { IsReady (known_clauses cnf.now.clauses derived.now) trail.old }
+    requires ready { TrailIsReady (known_clauses cnf.now.clauses derived.now) trail.old }
     requires vars { VarsBelow (vec_len trail.old.values) (known_clauses cnf.now.clauses derived.now) }
-    requires unit { MayForce (known_clauses cnf.now.clauses derived.now) (value_of trail.old.values.items) number literal }
-    ensures ready { OnOk result (IsReady (known_clauses cnf.now.clauses derived.now) trail.new) }
+    requires unit { MayForce (known_clauses cnf.now.clauses derived.now) (kept_values trail.old.values.items) number literal }
+    ensures ready { OnOk result (TrailIsReady (known_clauses cnf.now.clauses derived.now) trail.new) }
     ensures entries { OnOk result (trail.new.entries.items ≡
         trail.old.entries.items ++ record { literal = literal; reason = Some number } ∷ []) }
-    ensures extends { OnOk result (Extends trail.old trail.new) }
+    ensures extends { OnOk result (TrailExtends trail.old trail.new) }
 {
     trail.assign(literal, Some(number))?;
     Ok(())
@@ -207,17 +207,17 @@ fn visit(
     derived: &[Seq<Lit>],
     entry: Entry,
 ) -> Result<Option<u32>, Want>
-    requires ready { IsReady (known_clauses cnf.now.clauses derived.now) trail.old }
+    requires ready { TrailIsReady (known_clauses cnf.now.clauses derived.now) trail.old }
     requires vars { VarsBelow (vec_len trail.old.values) (known_clauses cnf.now.clauses derived.now) }
     requires watching { IsWatching (known_clauses cnf.now.clauses derived.now) trail.old watches.old }
     requires at { slice_get trail.old.entries.items watches.old.head ≡ Some entry }
-    ensures ready { OnOk result (IsReady (known_clauses cnf.now.clauses derived.now) trail.new) }
-    ensures extends { OnOk result (Extends trail.old trail.new) }
+    ensures ready { OnOk result (TrailIsReady (known_clauses cnf.now.clauses derived.now) trail.new) }
+    ensures extends { OnOk result (TrailExtends trail.old trail.new) }
     ensures watching { OnOk result (IsWatching (known_clauses cnf.now.clauses derived.now) trail.new watches.new) }
     ensures head { OnOk result (watches.new.head ≡ watches.old.head) }
     ensures ends { IfOk result (λ conflict. MatchOption conflict
         (AllWatched (known_clauses cnf.now.clauses derived.now) trail.new (watches.new.head + 1) watches.new.pairs.items)
-        (λ number. IsConflict (known_clauses cnf.now.clauses derived.now) (value_of trail.new.values.items) number)) }
+        (λ number. IsConflict (known_clauses cnf.now.clauses derived.now) (kept_values trail.new.values.items) number)) }
 {
     let falsified = negated(entry.literal);
     let list = list_index(falsified);
@@ -250,16 +250,16 @@ pub fn propagate(
     cnf: &Cnf,
     derived: &[Seq<Lit>],
 ) -> Result<Option<u32>, Want>
-    requires ready { IsReady (known_clauses cnf.now.clauses derived.now) trail.old }
+    requires ready { TrailIsReady (known_clauses cnf.now.clauses derived.now) trail.old }
     requires vars { VarsBelow (vec_len trail.old.values) (known_clauses cnf.now.clauses derived.now) }
     requires watching { IsWatching (known_clauses cnf.now.clauses derived.now) trail.old watches.old }
-    ensures ready { OnOk result (IsReady (known_clauses cnf.now.clauses derived.now) trail.new) }
-    ensures extends { OnOk result (Extends trail.old trail.new) }
+    ensures ready { OnOk result (TrailIsReady (known_clauses cnf.now.clauses derived.now) trail.new) }
+    ensures extends { OnOk result (TrailExtends trail.old trail.new) }
     ensures watching { OnOk result (IsWatching (known_clauses cnf.now.clauses derived.now) trail.new watches.new) }
     ensures ends { IfOk result (λ conflict. MatchOption conflict
         ((watches.new.head ≡ length trail.new.entries.items)
-        × AllSettled (value_of trail.new.values.items) (known_clauses cnf.now.clauses derived.now))
-        (λ number. IsConflict (known_clauses cnf.now.clauses derived.now) (value_of trail.new.values.items) number)) }
+        × AllSettled (kept_values trail.new.values.items) (known_clauses cnf.now.clauses derived.now))
+        (λ number. IsConflict (known_clauses cnf.now.clauses derived.now) (kept_values trail.new.values.items) number)) }
 {
     while watches.head < trail.entries.len() {
         let entry = trail.entry_at(watches.head);
@@ -302,16 +302,16 @@ fn settle(
     clause: &[Lit],
     literal: Lit,
 ) -> Result<bool, Want>
-    requires ready { IsReady (known_clauses cnf.now.clauses derived.now) trail.old }
+    requires ready { TrailIsReady (known_clauses cnf.now.clauses derived.now) trail.old }
     requires vars { VarsBelow (vec_len trail.old.values) (known_clauses cnf.now.clauses derived.now) }
     requires at { slice_get (known_clauses cnf.now.clauses derived.now) number ≡ Some (literals clause.now) }
     requires has { literals clause.now literal.var literal.positive ≡ true }
     requires only { IsOnly (literals clause.now) literal }
-    ensures ready { OnOk result (IsReady (known_clauses cnf.now.clauses derived.now) trail.new) }
-    ensures extends { OnOk result (Extends trail.old trail.new) }
+    ensures ready { OnOk result (TrailIsReady (known_clauses cnf.now.clauses derived.now) trail.new) }
+    ensures extends { OnOk result (TrailExtends trail.old trail.new) }
     ensures ends { IfOk result (λ done. MatchBool done
-        (HasTrue (value_of trail.new.values.items) (literals clause.now))
-        (IsFalse (value_of trail.new.values.items) (literals clause.now))) }
+        (HasTrue (kept_values trail.new.values.items) (literals clause.now))
+        (IsFalse (kept_values trail.new.values.items) (literals clause.now))) }
 {
     match trail.truth(literal) {
         Truth::False => Ok(false),
@@ -332,15 +332,15 @@ fn attach_clause(
     number: u32,
     clause: &[Lit],
 ) -> Result<bool, Want>
-    requires ready { IsReady (known_clauses cnf.now.clauses derived.now) trail.old }
+    requires ready { TrailIsReady (known_clauses cnf.now.clauses derived.now) trail.old }
     requires vars { VarsBelow (vec_len trail.old.values) (known_clauses cnf.now.clauses derived.now) }
     requires attached { IsAttached (known_clauses cnf.now.clauses derived.now) trail.old watches.old number }
     requires at { slice_get (known_clauses cnf.now.clauses derived.now) number ≡ Some (literals clause.now) }
-    ensures ready { OnOk result (IsReady (known_clauses cnf.now.clauses derived.now) trail.new) }
-    ensures extends { OnOk result (Extends trail.old trail.new) }
+    ensures ready { OnOk result (TrailIsReady (known_clauses cnf.now.clauses derived.now) trail.new) }
+    ensures extends { OnOk result (TrailExtends trail.old trail.new) }
     ensures ends { IfOk result (λ done. MatchBool done
         (IsAttached (known_clauses cnf.now.clauses derived.now) trail.new watches.new (number + 1))
-        (IsFalse (value_of trail.new.values.items) (literals clause.now))) }
+        (IsFalse (kept_values trail.new.values.items) (literals clause.now))) }
 {
     let Some(first) = first_of(clause) else {
         return Ok(false);
@@ -364,15 +364,15 @@ pub fn attach(
     derived: &[Seq<Lit>],
     count: u32,
 ) -> Result<Option<u32>, Want>
-    requires ready { IsReady (known_clauses cnf.now.clauses derived.now) trail.old }
+    requires ready { TrailIsReady (known_clauses cnf.now.clauses derived.now) trail.old }
     requires vars { VarsBelow (vec_len trail.old.values) (known_clauses cnf.now.clauses derived.now) }
     requires attached { IsAttached (known_clauses cnf.now.clauses derived.now) trail.old watches.old 0 }
     requires count { length (known_clauses cnf.now.clauses derived.now) ≡ count }
-    ensures ready { OnOk result (IsReady (known_clauses cnf.now.clauses derived.now) trail.new) }
-    ensures extends { OnOk result (Extends trail.old trail.new) }
+    ensures ready { OnOk result (TrailIsReady (known_clauses cnf.now.clauses derived.now) trail.new) }
+    ensures extends { OnOk result (TrailExtends trail.old trail.new) }
     ensures ends { IfOk result (λ conflict. MatchOption conflict
         (IsWatching (known_clauses cnf.now.clauses derived.now) trail.new watches.new)
-        (λ number. IsConflict (known_clauses cnf.now.clauses derived.now) (value_of trail.new.values.items) number)) }
+        (λ number. IsConflict (known_clauses cnf.now.clauses derived.now) (kept_values trail.new.values.items) number)) }
 {
     for number in 0..count {
         let Some(clause) = clause_at(cnf, derived, number) else {

@@ -4,12 +4,12 @@ ghost use Rattle.sy_clauses.specs.declared.Lit.{Lit};
 ghost use Rattle.sy_clauses.specs.Clauses.{known_clauses, literals, Refutes};
 ghost use Rattle.sy_clauses.specs.Marking.{clause_of};
 ghost use Rattle.sy_clauses.specs.New.{AllSettled, IsUnit};
-ghost use Rattle.sy_cdcl.specs.Trails.{value_of, value_in, IsReady, LevelsSettled, VarsBelow, AllValued, unvalued_count};
+ghost use Rattle.sy_cdcl.specs.Trails.{kept_values, entries_values, TrailIsReady, LevelsSettled, VarsBelow, AllValued, unvalued_count};
 ghost use Rattle.sy_cdcl.specs.Status.{IsConflict};
 ghost use Rattle.sy_cdcl.specs.Conflicts.{OpenAtLevels, LastFits, value_below};
 ghost use Rattle.sy_cdcl.specs.Watching.{IsWatching, list_of, IsSkipped, IsPaired};
-ghost use Rattle.sy_cdcl.specs.Answer.{IsAnswer, IsEnd, IsDecided, IsModelOf, VarsFit, or_false};
-ghost use Rattle.sy_cdcl.specs.States.{IsSound, IsFresh, IsStuck, known_of};
+ghost use Rattle.sy_cdcl.specs.Answer.{AnswersFormula, IsRunEnd, IsUnstopped, IsModelOf, VarsFit, or_false};
+ghost use Rattle.sy_cdcl.specs.States.{StateIsSound, IsFresh, IsFinalConflict, clauses_known};
 
 use crate::analysis::{analyze, go_back, last_falsified};
 use crate::order::Order;
@@ -50,12 +50,12 @@ pub struct Lesson {
 
 /// Begins a level with this literal.
 fn decide(trail: &mut Trail, cnf: &Cnf, derived: &[Seq<Lit>], literal: Lit) -> Result<(), Want>
-    requires ready { IsReady (known_clauses cnf.now.clauses derived.now) trail.old }
+    requires ready { TrailIsReady (known_clauses cnf.now.clauses derived.now) trail.old }
     requires levels { LevelsSettled (known_clauses cnf.now.clauses derived.now) trail.old }
-    requires settled { AllSettled (value_of trail.old.values.items) (known_clauses cnf.now.clauses derived.now) }
+    requires settled { AllSettled (kept_values trail.old.values.items) (known_clauses cnf.now.clauses derived.now) }
     requires within { literal.var < vec_len trail.old.values }
-    requires unvalued { value_of trail.old.values.items literal.var ≡ None }
-    ensures ready { OnOk result (IsReady (known_clauses cnf.now.clauses derived.now) trail.new) }
+    requires unvalued { kept_values trail.old.values.items literal.var ≡ None }
+    ensures ready { OnOk result (TrailIsReady (known_clauses cnf.now.clauses derived.now) trail.new) }
     ensures levels { OnOk result (LevelsSettled (known_clauses cnf.now.clauses derived.now) trail.new) }
     ensures entries { OnOk result (trail.new.entries.items ≡
         trail.old.entries.items ++ record { literal = literal; reason = None } ∷ []) }
@@ -77,19 +77,19 @@ fn search(
     cnf: &Cnf,
     derived: &[Seq<Lit>],
 ) -> Result<Option<u32>, Want>
-    requires ready { IsReady (known_clauses cnf.now.clauses derived.now) trail.old }
+    requires ready { TrailIsReady (known_clauses cnf.now.clauses derived.now) trail.old }
     requires levels { LevelsSettled (known_clauses cnf.now.clauses derived.now) trail.old }
     requires vars { VarsBelow cnf.now.vars (known_clauses cnf.now.clauses derived.now) }
     requires all { vec_len trail.old.values ≡ cnf.now.vars }
     requires watching { IsWatching (known_clauses cnf.now.clauses derived.now) trail.old watches.old }
-    ensures ready { OnOk result (IsReady (known_clauses cnf.now.clauses derived.now) trail.new) }
+    ensures ready { OnOk result (TrailIsReady (known_clauses cnf.now.clauses derived.now) trail.new) }
     ensures levels { OnOk result (LevelsSettled (known_clauses cnf.now.clauses derived.now) trail.new) }
     ensures all { OnOk result (vec_len trail.new.values ≡ cnf.now.vars) }
     ensures watching { OnOk result (IsWatching (known_clauses cnf.now.clauses derived.now) trail.new watches.new) }
     ensures ends { IfOk result (λ conflict. MatchOption conflict
-        (AllSettled (value_of trail.new.values.items) (known_clauses cnf.now.clauses derived.now)
+        (AllSettled (kept_values trail.new.values.items) (known_clauses cnf.now.clauses derived.now)
         × AllValued cnf.now.vars trail.new)
-        (λ number. IsConflict (known_clauses cnf.now.clauses derived.now) (value_of trail.new.values.items) number)) }
+        (λ number. IsConflict (known_clauses cnf.now.clauses derived.now) (kept_values trail.new.values.items) number)) }
 {
     loop {
         if let Some(conflict) = propagate(watches, trail, cnf, derived)? {
@@ -104,7 +104,7 @@ fn search(
 
 /// A literal of the most active variable that has no value, with the value that it had last.
 fn most_active(order: &mut Order, trail: &Trail, vars: u32) -> Option<Lit>
-    ensures { IfSome result (λ l. (l.var < vars) × (value_of trail.now.values.items l.var ≡ None)) }
+    ensures { IfSome result (λ l. (l.var < vars) × (kept_values trail.now.values.items l.var ≡ None)) }
 {
     for _ in 0..vars {
         let Some(var) = order.pop() else {
@@ -121,7 +121,7 @@ fn most_active(order: &mut Order, trail: &Trail, vars: u32) -> Option<Lit>
 /// A literal of a variable that has no value, where there is one.
 fn choose(order: &mut Order, trail: &Trail, vars: u32) -> Option<Lit>
     ensures { MatchOption result (AllValued vars trail.now)
-        (λ l. (l.var < vars) × (value_of trail.now.values.items l.var ≡ None)) }
+        (λ l. (l.var < vars) × (kept_values trail.now.values.items l.var ≡ None)) }
 {
     if let Some(literal) = most_active(order, trail, vars) {
         return Some(literal);
@@ -159,16 +159,16 @@ fn jump_back(
     literal: Lit,
 )
     requires deep { 0 < length trail.old.starts.items }
-    requires ready { IsReady (known_clauses cnf.now.clauses derived.now) trail.old }
+    requires ready { TrailIsReady (known_clauses cnf.now.clauses derived.now) trail.old }
     requires levels { LevelsSettled (known_clauses cnf.now.clauses derived.now) trail.old }
     requires watching { IsWatching (known_clauses cnf.now.clauses derived.now) trail.old watches.old }
     requires unit { IsUnit (value_below trail.old) (clause_of marks.now) literal.var literal.positive }
-    ensures ready { IsReady (known_clauses cnf.now.clauses derived.now) trail.new }
+    ensures ready { TrailIsReady (known_clauses cnf.now.clauses derived.now) trail.new }
     ensures levels { LevelsSettled (known_clauses cnf.now.clauses derived.now) trail.new }
     ensures watching { IsWatching (known_clauses cnf.now.clauses derived.now) trail.new watches.new }
     ensures head { watches.new.head ≡ length trail.new.entries.items }
     ensures vars { vec_len trail.new.values ≡ vec_len trail.old.values }
-    ensures unit { IsUnit (value_in trail.new.entries.items) (clause_of marks.now) literal.var literal.positive }
+    ensures unit { IsUnit (entries_values trail.new.entries.items) (clause_of marks.now) literal.var literal.positive }
     ensures lowest { OpenAtLevels trail.new (clause_of marks.now) }
 {
     go_back(trail, order, cnf, derived, marks, literal);
@@ -212,17 +212,17 @@ fn keep(
     lesson: Lesson,
     number: u32,
 ) -> Result<(), Want>
-    requires ready { IsReady (known_clauses cnf.now.clauses derived.old.items) trail.old }
+    requires ready { TrailIsReady (known_clauses cnf.now.clauses derived.old.items) trail.old }
     requires levels { LevelsSettled (known_clauses cnf.now.clauses derived.old.items) trail.old }
     requires watching { IsWatching (known_clauses cnf.now.clauses derived.old.items) trail.old watches.old }
     requires head { watches.old.head ≡ length trail.old.entries.items }
-    requires unit { IsUnit (value_in trail.old.entries.items) (literals lesson.clause) lesson.literal.var lesson.literal.positive }
+    requires unit { IsUnit (entries_values trail.old.entries.items) (literals lesson.clause) lesson.literal.var lesson.literal.positive }
     requires lowest { OpenAtLevels trail.old (literals lesson.clause) }
     requires last { LastFits trail.old.entries.items (literals lesson.clause) lesson.last }
     requires vars { (v : ℕ) (s : Bool) → literals lesson.clause v s ≡ true → v < vec_len trail.old.values }
     requires number { length (known_clauses cnf.now.clauses derived.old.items) ≡ number }
     ensures derived { OnOk result (derived.new.items ≡ derived.old.items ++ lesson.clause ∷ []) }
-    ensures ready { OnOk result (IsReady (known_clauses cnf.now.clauses derived.new.items) trail.new) }
+    ensures ready { OnOk result (TrailIsReady (known_clauses cnf.now.clauses derived.new.items) trail.new) }
     ensures levels { OnOk result (LevelsSettled (known_clauses cnf.now.clauses derived.new.items) trail.new) }
     ensures watching { OnOk result (IsWatching (known_clauses cnf.now.clauses derived.new.items) trail.new watches.new) }
     ensures all { OnOk result (vec_len trail.new.values ≡ vec_len trail.old.values) }
@@ -264,12 +264,12 @@ fn learn_from(
     conflict: u32,
     number: u32,
 ) -> Result<bool, Want>
-    requires sound { IsSound cnf.now state.old }
-    requires conflict { IsConflict (known_clauses cnf.now.clauses state.old.derived.items) (value_of state.old.trail.values.items) conflict }
+    requires sound { StateIsSound cnf.now state.old }
+    requires conflict { IsConflict (known_clauses cnf.now.clauses state.old.derived.items) (kept_values state.old.trail.values.items) conflict }
     requires number { length (known_clauses cnf.now.clauses state.old.derived.items) ≡ number }
     ensures lines { OnOk result (length state.new.lines ≡ length state.old.lines + 1) }
     ensures ends { IfOk result (λ more. MatchBool more
-        (IsSound cnf.now state.new)
+        (StateIsSound cnf.now state.new)
         (Refutes cnf.now record { lines = state.new.lines })) }
 {
     let taught = conclude(
@@ -334,8 +334,8 @@ fn attach_all(state: &mut State, cnf: &Cnf, count: u32) -> Result<Option<u32>, W
     requires count { length cnf.now.clauses ≡ count }
     ensures lines { state.new.lines ≡ state.old.lines }
     ensures ends { IfOk result (λ conflict. MatchOption conflict
-        (IsSound cnf.now state.new)
-        (λ number. IsStuck cnf.now state.new number)) }
+        (StateIsSound cnf.now state.new)
+        (λ number. IsFinalConflict cnf.now state.new number)) }
 {
     let conflict = attach(
         &mut state.watches,
@@ -349,7 +349,7 @@ fn attach_all(state: &mut State, cnf: &Cnf, count: u32) -> Result<Option<u32>, W
 
 /// Derives the empty clause from a clause that is false without any decision.
 fn refute_at_once(alloc: Global, state: &mut State, cnf: &Cnf, conflict: u32) -> Result<(), Want>
-    requires stuck { IsStuck cnf.now state.old conflict }
+    requires stuck { IsFinalConflict cnf.now state.old conflict }
     requires none { state.old.lines ≡ [] }
     ensures refutes { OnOk result (Refutes cnf.now record { lines = state.new.lines }) }
     ensures one { OnOk result (length state.new.lines ≡ 1) }
@@ -368,13 +368,13 @@ fn refute_at_once(alloc: Global, state: &mut State, cnf: &Cnf, conflict: u32) ->
 
 /// Assigns and decides until a clause is false, whose number is answered, or each variable has a value.
 fn find_conflict(state: &mut State, cnf: &Cnf) -> Result<Option<u32>, Want>
-    requires sound { IsSound cnf.now state.old }
-    ensures sound { OnOk result (IsSound cnf.now state.new) }
+    requires sound { StateIsSound cnf.now state.old }
+    ensures sound { OnOk result (StateIsSound cnf.now state.new) }
     ensures lines { state.new.lines ≡ state.old.lines }
     ensures ends { IfOk result (λ conflict. MatchOption conflict
-        (AllSettled (value_of state.new.trail.values.items) (known_of cnf.now state.new)
+        (AllSettled (kept_values state.new.trail.values.items) (clauses_known cnf.now state.new)
         × AllValued cnf.now.vars state.new.trail)
-        (λ number. IsConflict (known_of cnf.now state.new) (value_of state.new.trail.values.items) number)) }
+        (λ number. IsConflict (clauses_known cnf.now state.new) (kept_values state.new.trail.values.items) number)) }
 {
     let conflict = search(
         &mut state.watches,
@@ -388,8 +388,8 @@ fn find_conflict(state: &mut State, cnf: &Cnf) -> Result<Option<u32>, Want>
 
 /// The model that the state has once each variable has a value.
 fn model_of(alloc: Global, state: &State, cnf: &Cnf) -> Result<Seq<bool>, Want>
-    requires sound { IsSound cnf.now state.now }
-    requires settled { AllSettled (value_of state.now.trail.values.items) (known_of cnf.now state.now) }
+    requires sound { StateIsSound cnf.now state.now }
+    requires settled { AllSettled (kept_values state.now.trail.values.items) (clauses_known cnf.now state.now) }
     requires valued { AllValued cnf.now.vars state.now.trail }
     ensures { IfOk result (λ values. IsModelOf cnf.now values) }
 {
@@ -403,7 +403,7 @@ fn learn(alloc: Global, state: &mut State, cnf: &Cnf, fuel: u32) -> Result<End, 
     requires clauses_fit { length cnf.now.clauses < 2 ^ 31 }
     requires fuel_fits { fuel < 2 ^ 31 }
     requires fresh { IsFresh cnf.now state.old }
-    ensures { IfOk result (λ end. IsEnd cnf.now fuel record { lines = state.new.lines } end) }
+    ensures { IfOk result (λ end. IsRunEnd cnf.now fuel record { lines = state.new.lines } end) }
 {
     if fuel == 0 {
         return Ok(End::Spent);
@@ -430,15 +430,15 @@ fn learn(alloc: Global, state: &mut State, cnf: &Cnf, fuel: u32) -> Result<End, 
 /// Decides the formula, with at most `fuel` learned clauses.
 ///
 /// `Refuted` has a log of at most `fuel` lines that [`check`](sy_clauses::check) accepts, `Model` a
-/// value for each variable that makes every clause true. `Fuel` comes where `fuel` clauses were learned
-/// and none is empty; each is new to the clauses before it, so with a fuel of 3 to the number of
+/// value for each variable that makes every clause true. `Fuel` comes once `fuel` clauses are learned, of
+/// which none is empty; each is new to the clauses before it, so with a fuel of 3 to the number of
 /// variables it never comes. `Want` comes where memory runs out.
 pub fn solve(alloc: Global, cnf: &Cnf, fuel: u32) -> Result<Solved, Want>
     requires vars { VarsFit cnf.now }
     requires clauses_fit { length cnf.now.clauses < 2 ^ 31 }
     requires fuel_fits { fuel < 2 ^ 31 }
-    ensures answer { IfOk result (λ solved. IsAnswer cnf.now fuel solved) }
-    ensures enough { IfOk result (λ solved. 3 ^ cnf.now.vars ≤ fuel → IsDecided solved) }
+    ensures answer { IfOk result (λ solved. AnswersFormula cnf.now fuel solved) }
+    ensures enough { IfOk result (λ solved. 3 ^ cnf.now.vars ≤ fuel → IsUnstopped solved) }
 {
     let mut state = fresh_state(alloc, cnf)?;
     let end = learn(alloc, &mut state, cnf, fuel)?;

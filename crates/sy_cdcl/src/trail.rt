@@ -1,7 +1,7 @@
 // The solver's assignment, in the order in which it was made.
 ghost use Rattle.std.specs.Prelude.{◌≡◌, ℕ, Option, Some, None, [], ◌∷◌, ◌++◌, ◌<◌, ◌≤◌, ◌-◌, ◌+◌, length, vec_len, take, IfOk, OnOk, slice_index_or, slice_get, MatchBool, ◌≢◌, not};
-ghost use Rattle.sy_cdcl.specs.Trails.{value_of, value_in, IsAssignment, Agrees, level_start, unvalued_count, EachOnce};
-ghost use Rattle.sy_cdcl.specs.Truths.{IsTruth};
+ghost use Rattle.sy_cdcl.specs.Trails.{kept_values, entries_values, IsTrail, ValuesAgree, level_start, unvalued_count, EachOnce};
+ghost use Rattle.sy_cdcl.specs.Truths.{IsTruthOf};
 
 use crate::order::Order;
 use std::alloc::{AllocError, Global};
@@ -38,7 +38,7 @@ impl Trail {
         ensures empty { IfOk result (λ t. t.entries.items ≡ []) }
         ensures lowest { IfOk result (λ t. t.starts.items ≡ []) }
         ensures vars { IfOk result (λ t. vec_len t.values ≡ vars) }
-        ensures assignment { IfOk result (λ t. IsAssignment t) }
+        ensures assignment { IfOk result (λ t. IsTrail t) }
     {
         let mut values = Vec::new(alloc);
         for _ in 0..vars {
@@ -53,7 +53,7 @@ impl Trail {
 
     /// The variable's value.
     pub fn value(&self, var: u32) -> Option<bool>
-        ensures { result ≡ value_of self.now.values.items var }
+        ensures { result ≡ kept_values self.now.values.items var }
     {
         match self.values.get(var as usize) {
             Some(value) => *value,
@@ -63,7 +63,7 @@ impl Trail {
 
     /// The literal's value.
     pub fn truth(&self, literal: Lit) -> Truth
-        ensures { IsTruth (value_of self.now.values.items) literal result }
+        ensures { IsTruthOf (kept_values self.now.values.items) literal result }
     {
         match self.value(literal.var) {
             Some(true) => if literal.positive {
@@ -83,8 +83,8 @@ impl Trail {
     /// Whether the literal is true.
     pub fn is_true(&self, literal: Lit) -> bool
         ensures { MatchBool result
-            (value_of self.now.values.items literal.var ≡ Some literal.positive)
-            (value_of self.now.values.items literal.var ≢ Some literal.positive) }
+            (kept_values self.now.values.items literal.var ≡ Some literal.positive)
+            (kept_values self.now.values.items literal.var ≢ Some literal.positive) }
     {
         match self.value(literal.var) {
             Some(value) => value == literal.positive,
@@ -95,8 +95,8 @@ impl Trail {
     /// Whether the literal is false.
     pub fn is_false(&self, literal: Lit) -> bool
         ensures { MatchBool result
-            (value_of self.now.values.items literal.var ≡ Some (not literal.positive))
-            (value_of self.now.values.items literal.var ≢ Some (not literal.positive)) }
+            (kept_values self.now.values.items literal.var ≡ Some (not literal.positive))
+            (kept_values self.now.values.items literal.var ≢ Some (not literal.positive)) }
     {
         match self.value(literal.var) {
             Some(value) => value != literal.positive,
@@ -116,13 +116,13 @@ impl Trail {
     #[tactic(auto, using(crate::proofs::Values::value_push_same, crate::proofs::Values::value_push_other))]
     pub fn assign(&mut self, literal: Lit, reason: Option<u32>) -> Result<(), Want>
         requires within { literal.var < vec_len self.old.values }
-        requires unvalued { value_of self.old.values.items literal.var ≡ None }
-        requires agrees { Agrees self.old }
+        requires unvalued { kept_values self.old.values.items literal.var ≡ None }
+        requires agrees { ValuesAgree self.old }
         ensures entries { OnOk result (self.new.entries.items ≡
             self.old.entries.items ++ record { literal = literal; reason = reason } ∷ []) }
         ensures starts { self.new.starts.items ≡ self.old.starts.items }
         ensures vars { OnOk result (vec_len self.new.values ≡ vec_len self.old.values) }
-        ensures agrees { OnOk result (Agrees self.new) }
+        ensures agrees { OnOk result (ValuesAgree self.new) }
         ensures fewer { OnOk result (unvalued_count self.new + 1 ≡ unvalued_count self.old) }
     {
         let index = literal.var as usize;
@@ -144,12 +144,12 @@ impl Trail {
     /// Takes the last literal back; its variable may be decided again.
     fn undo(&mut self, order: &mut Order)
         requires some { 0 < length self.old.entries.items }
-        requires agrees { Agrees self.old }
+        requires agrees { ValuesAgree self.old }
         requires once { EachOnce self.old.entries.items }
         ensures entries { self.new.entries.items ≡ take (length self.old.entries.items - 1) self.old.entries.items }
         ensures starts { self.new.starts.items ≡ self.old.starts.items }
         ensures vars { vec_len self.new.values ≡ vec_len self.old.values }
-        ensures agrees { Agrees self.new }
+        ensures agrees { ValuesAgree self.new }
     {
         if let Some(entry) = self.entries.pop() {
             let index = entry.literal.var as usize;
@@ -163,11 +163,11 @@ impl Trail {
     /// Takes the present level back.
     pub fn leave_level(&mut self, order: &mut Order)
         requires level { 0 < length self.old.starts.items }
-        requires assignment { IsAssignment self.old }
+        requires assignment { IsTrail self.old }
         ensures entries { self.new.entries.items ≡ take (level_start self.old.starts.items) self.old.entries.items }
         ensures starts { self.new.starts.items ≡ take (length self.old.starts.items - 1) self.old.starts.items }
         ensures vars { vec_len self.new.values ≡ vec_len self.old.values }
-        ensures assignment { IsAssignment self.new }
+        ensures assignment { IsTrail self.new }
     {
         if let Some(start) = self.starts.pop() {
             while self.entries.len() > start {

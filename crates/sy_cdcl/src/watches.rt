@@ -1,4 +1,4 @@
-// Watched literals: each clause of two or more literals watches two of them, and is visited only where
+// Watched literals: a clause with more than one literal watches two of its own, and is visited only where
 // one of these becomes false.
 ghost use Rattle.std.specs.Prelude.{◌≡◌, ◌≢◌, ℕ, [], ◌∷◌, ◌++◌, ◌<◌, ◌*◌, length, vec_len, OnOk, IfOk, Some, None, Option, slice_index_or, slice_set, slice_get, IfSome, ◌+◌, ◌^◌};
 ghost use Rattle.std.specs.List.{swap_remove};

@@ -1,7 +1,7 @@
 // The checker of resolution logs.
 ghost use Rattle.std.specs.Prelude.{◌≡◌, ◌++◌, OnOk, IfOk, IsTrue, ◌↔◌, slice_get, Some, None, MatchOption, MatchBool};
 ghost use Rattle.sy_clauses.specs.Clauses.{literals, known_clauses, after_step, line_clause, all_clauses, IsEmpty, EndsEmpty, Refutes, HasNoModel};
-ghost use Rattle.sy_clauses.specs.Marking.{clause_of, IsListed};
+ghost use Rattle.sy_clauses.specs.Marking.{clause_of, MarksAreListed};
 
 use crate::marks::Marks;
 use crate::{Cnf, Line, Lit, Log, Step};
@@ -38,11 +38,11 @@ pub fn clause_at<'a>(cnf: &'a Cnf, derived: &'a [Seq<Lit>], number: u32) -> Opti
 
 /// Makes the step from the marked clause; whether it can be made.
 pub fn advance(marks: &mut Marks, cnf: &Cnf, derived: &[Seq<Lit>], step: Step) -> Result<bool, Want>
-    requires { IsListed marks.old }
+    requires { MarksAreListed marks.old }
     ensures exact { IfOk result (λ done. MatchBool done
         (after_step (known_clauses cnf.now.clauses derived.now) (clause_of marks.old) step ≡ Some (clause_of marks.new))
         (after_step (known_clauses cnf.now.clauses derived.now) (clause_of marks.old) step ≡ None)) }
-    ensures listed { OnOk result (IsListed marks.new) }
+    ensures listed { OnOk result (MarksAreListed marks.new) }
 {
     match clause_at(cnf, derived, step.with) {
         Some(with) => marks.resolve(step.var, with),
@@ -53,11 +53,11 @@ pub fn advance(marks: &mut Marks, cnf: &Cnf, derived: &[Seq<Lit>], step: Step) -
 /// Marks the line's clause; whether it has one.
 fn follow(marks: &mut Marks, cnf: &Cnf, derived: &[Seq<Lit>], line: &Line) -> Result<bool, Want>
     requires empty { IsEmpty (clause_of marks.old) }
-    requires listed { IsListed marks.old }
+    requires listed { MarksAreListed marks.old }
     ensures exact { IfOk result (λ done. MatchBool done
         (line_clause (known_clauses cnf.now.clauses derived.now) line.now ≡ Some (clause_of marks.new))
         (line_clause (known_clauses cnf.now.clauses derived.now) line.now ≡ None)) }
-    ensures listed { OnOk result (IsListed marks.new) }
+    ensures listed { OnOk result (MarksAreListed marks.new) }
 {
     let Some(first) = clause_at(cnf, derived, line.first) else {
         return Ok(false);

@@ -36,7 +36,7 @@ pub struct Line {
     pub steps: Seq<Step>,
 }
 
-/// Derived clauses in order. Clauses are numbered from 0: those of the `Cnf`, then one per line.
+/// Derived clauses in order. The clauses of the `Cnf` have the numbers from 0 on, and each line's has the next.
 #[derive(Drop)]
 pub struct Log {
     pub lines: Seq<Line>,

@@ -1,7 +1,7 @@
 // A set of literals as marks on variables, for a clause that changes by resolution.
 ghost use Rattle.std.specs.Prelude.{◌≡◌, ◌≢◌, ℕ, Bool, true, false, ◌||◌, ◌==◌, not, OnOk, OnErr, IfOk, [], ◌∷◌, ◌++◌, ◌<◌, length, slice_index_or, IsTrue, MatchBool, Some, None, Option};
 ghost use Rattle.sy_clauses.specs.Clauses.{literals, join, without, resolvent, resolved, same_literal, IsEmpty};
-ghost use Rattle.sy_clauses.specs.Marking.{clause_of, IsListed};
+ghost use Rattle.sy_clauses.specs.Marking.{clause_of, MarksAreListed};
 
 use crate::Lit;
 use std::alloc::{AllocError, Global};
@@ -54,7 +54,7 @@ impl Marks {
     /// The empty clause.
     pub fn new(alloc: Global) -> Self
         ensures empty { IsEmpty (clause_of result) }
-        ensures listed { IsListed result }
+        ensures listed { MarksAreListed result }
     {
         Marks {
             positive: Vec::new(alloc),
@@ -77,10 +77,10 @@ impl Marks {
     /// Adds the literal.
     #[tactic(auto, using(crate::proofs::Sets::literals_push, crate::proofs::Sets::literals_at))]
     fn add(&mut self, literal: Lit) -> Result<(), Want>
-        requires { IsListed self.old }
+        requires { MarksAreListed self.old }
         ensures added { OnOk result ((v : ℕ) (s : Bool) →
             clause_of self.new v s ≡ join (clause_of self.old) (same_literal literal.var literal.positive) v s) }
-        ensures listed { OnOk result (IsListed self.new) }
+        ensures listed { OnOk result (MarksAreListed self.new) }
     {
         if !self.has(literal.var, literal.positive) {
             self.touched.push(literal)?;
@@ -109,10 +109,10 @@ impl Marks {
     /// Adds all literals of the clause.
     #[tactic(auto, using(crate::proofs::Sets::literals_more))]
     fn add_all(&mut self, clause: &[Lit]) -> Result<(), Want>
-        requires { IsListed self.old }
+        requires { MarksAreListed self.old }
         ensures added { OnOk result ((v : ℕ) (s : Bool) →
             clause_of self.new v s ≡ join (clause_of self.old) (literals clause.now) v s) }
-        ensures listed { OnOk result (IsListed self.new) }
+        ensures listed { OnOk result (MarksAreListed self.new) }
     {
         for literal in clause {
             self.add(*literal)?;
@@ -123,9 +123,9 @@ impl Marks {
     /// Becomes the clause, from the empty one.
     pub fn load(&mut self, clause: &[Lit]) -> Result<(), Want>
         requires empty { IsEmpty (clause_of self.old) }
-        requires listed { IsListed self.old }
+        requires listed { MarksAreListed self.old }
         ensures loaded { OnOk result (clause_of self.new ≡ literals clause.now) }
-        ensures listed { OnOk result (IsListed self.new) }
+        ensures listed { OnOk result (MarksAreListed self.new) }
     {
         self.add_all(clause)
     }
@@ -133,10 +133,10 @@ impl Marks {
     /// Adds all literals of the clause but this one.
     #[tactic(auto, using(crate::proofs::Sets::literals_more, crate::proofs::Sets::without_is, crate::proofs::Sets::without_other))]
     fn add_others(&mut self, clause: &[Lit], var: u32, positive: bool) -> Result<(), Want>
-        requires { IsListed self.old }
+        requires { MarksAreListed self.old }
         ensures added { OnOk result ((v : ℕ) (s : Bool) →
             clause_of self.new v s ≡ join (clause_of self.old) (without var positive (literals clause.now)) v s) }
-        ensures listed { OnOk result (IsListed self.new) }
+        ensures listed { OnOk result (MarksAreListed self.new) }
     {
         for literal in clause {
             if is_literal(*literal, var, positive) {
@@ -149,10 +149,10 @@ impl Marks {
 
     /// Removes the literal, and adds what the clause has beside its negation.
     fn replace(&mut self, var: u32, positive: bool, clause: &[Lit]) -> Result<(), Want>
-        requires { IsListed self.old }
+        requires { MarksAreListed self.old }
         ensures resolved { OnOk result ((v : ℕ) (s : Bool) →
             clause_of self.new v s ≡ resolved var positive (clause_of self.old) (literals clause.now) v s) }
-        ensures listed { OnOk result (IsListed self.new) }
+        ensures listed { OnOk result (MarksAreListed self.new) }
     {
         self.remove(var, positive);
         self.add_others(clause, var, !positive)
@@ -160,11 +160,11 @@ impl Marks {
 
     /// Becomes the resolvent with the clause on the variable, where there is one; whether there is.
     pub fn resolve(&mut self, var: u32, clause: &[Lit]) -> Result<bool, Want>
-        requires { IsListed self.old }
+        requires { MarksAreListed self.old }
         ensures exact { IfOk result (λ done. MatchBool done
             (resolvent var (clause_of self.old) (literals clause.now) ≡ Some (clause_of self.new))
             (resolvent var (clause_of self.old) (literals clause.now) ≡ None)) }
-        ensures listed { OnOk result (IsListed self.new) }
+        ensures listed { OnOk result (MarksAreListed self.new) }
     {
         if self.has(var, true) && contains(clause, var, false) {
             self.replace(var, true, clause)?;
@@ -180,10 +180,10 @@ impl Marks {
     /// Gives the clause's literals out, each once, and becomes the empty clause.
     #[tactic(auto, using(crate::proofs::Sets::literals_push, crate::proofs::Sets::literals_at))]
     pub fn take(&mut self, alloc: Global) -> Result<Seq<Lit>, Want>
-        requires { IsListed self.old }
+        requires { MarksAreListed self.old }
         ensures same { IfOk result (λ c. literals c ≡ clause_of self.old) }
         ensures empty { OnOk result (IsEmpty (clause_of self.new)) }
-        ensures listed { OnOk result (IsListed self.new) }
+        ensures listed { OnOk result (MarksAreListed self.new) }
     {
         let mut clause = Seq::new(alloc);
         while let Some(literal) = self.touched.pop() {

@@ -9,34 +9,34 @@ use Rattle.sy_forms_items.specs.declared.fault.ReadEnd.{ReadEnd}
 use Rattle.sy_forms_items.specs.declared.fault.ReadEnd.TheVariants as ends
 use Rattle.sy_forms_names.specs.declared.names.Named.{Named}
 use Rattle.sy_forms_names.specs.Environments.{Environment}
-use Rattle.sy_forms_items.specs.Parts.{is_symbol, is_empty, indexed_name}
-use Rattle.sy_forms_phrases.specs.Phrases.{Several, Typed, nothing, behind}
-use Rattle.sy_forms_items.specs.Readings.{Reading, Gives, Fails, refuse, ◌>>=◌}
-use Rattle.sy_forms.specs.Terms.{Bounds, Bound, unbound, bound_behind, bound_to, new_name, let_may_stand, indexed_term, atom_term, read_head, applied, read_term, read_list, read_terms, read_let, read_let_in, read_inner, read_binding_list, read_bindings, read_binding, read_pair, read_bound}
+use Rattle.sy_forms_items.specs.Parts.{is_symbol, has_no_items, indexed_name}
+use Rattle.sy_forms_phrases.specs.Phrases.{Several, Typed, no_terms, behind}
+use Rattle.sy_forms_items.specs.Readings.{Reading, ReadingGives, ReadingFails, refuse, ◌>>=◌}
+use Rattle.sy_forms.specs.Terms.{Bounds, Bound, unbound, bound_behind, bound_to, new_binding_name, let_may_stand, indexed_term, atom_term, read_head, head_applied, read_term, read_list, read_terms, read_let, read_let_in, read_inner, read_binding_list, read_bindings, read_binding, read_pair, read_bound}
 
 -- what is returned gives what is read, where that is another way to read
-pub gives_same : {X Y : Type 0} (view : X → Y) (result : Result X ReadEnd) (read other : Reading Y) → read ≡ other → Gives view result other → Gives view result read
+pub gives_same : {X Y : Type 0} (view : X → Y) (result : Result X ReadEnd) (read other : Reading Y) → read ≡ other → ReadingGives view result other → ReadingGives view result read
 gives_same view result read other e g = rw e g
 
-pub fails_same : {Y : Type 0} (e : ReadEnd) (read other : Reading Y) → read ≡ other → Fails e other → Fails e read
+pub fails_same : {Y : Type 0} (e : ReadEnd) (read other : Reading Y) → read ≡ other → ReadingFails e other → ReadingFails e read
 fails_same e read other same f = rw same f
 
 -- what fails first fails
-pub fails_bind : {A B : Type 0} (e : ReadEnd) (read : Reading A) (next : A → Reading B) → Fails e read → Fails e (read >>= next)
+pub fails_bind : {A B : Type 0} (e : ReadEnd) (read : Reading A) (next : A → Reading B) → ReadingFails e read → ReadingFails e (read >>= next)
 fails_bind ends.Want read next f = tt
 fails_bind (ends.Refused place cause) read next f = rw f refl
 
 -- what fails behind something that is read
-pub fails_next : {A B : Type 0} (e : ReadEnd) (read : Reading A) (x : A) (next : A → Reading B) → read ≡ Ok x → Fails e (next x) → Fails e (read >>= next)
+pub fails_next : {A B : Type 0} (e : ReadEnd) (read : Reading A) (x : A) (next : A → Reading B) → read ≡ Ok x → ReadingFails e (next x) → ReadingFails e (read >>= next)
 fails_next e read x next is f = rw is f
 
-pub gives_next : {X A B : Type 0} (view : X → B) (result : Result X ReadEnd) (read : Reading A) (x : A) (next : A → Reading B) → read ≡ Ok x → Gives view result (next x) → Gives view result (read >>= next)
+pub gives_next : {X A B : Type 0} (view : X → B) (result : Result X ReadEnd) (read : Reading A) (x : A) (next : A → Reading B) → read ≡ Ok x → ReadingGives view result (next x) → ReadingGives view result (read >>= next)
 gives_next view result read x next is g = rw is g
 
 pub bound : {A B : Type 0} (read : Reading A) (x : A) (next : A → Reading B) → read ≡ Ok x → (read >>= next) ≡ next x
 bound read x next is = rw is refl
 
-pub empty_none : (items : Items) → is_empty items ≡ true → items ≡ none
+pub empty_none : (items : Items) → has_no_items items ≡ true → items ≡ none
 empty_none none e = refl
 empty_none (more first rest) e = absurd (cc)
 
@@ -60,7 +60,7 @@ unfolding read_term read_list read_terms read_let read_let_in read_binding_list 
 list_indexed env locals place items head rest e other is = rw (e, other, is) refl
 
 pub list_applied : (env : Environment) (locals : List Named) (place : Place) (items : Items) (head : Item) (rest : Items) → items ≡ more head rest → is_symbol (codes "let") head ≡ false → is_symbol (codes "_") head ≡ false
-    → read_list env locals place items ≡ (read_head env locals head >>= λ found. read_terms env locals nothing rest >>= λ arguments. applied env.constants place found arguments)
+    → read_list env locals place items ≡ (read_head env locals head >>= λ found. read_terms env locals no_terms rest >>= λ arguments. head_applied env.constants place found arguments)
 unfolding read_term read_list read_terms read_let read_let_in read_binding_list read_bindings read_binding read_pair read_bound
 list_applied env locals place items head rest e other last = rw (e, other, last) refl
 
@@ -81,17 +81,17 @@ pub let_one : (env : Environment) (locals : List Named) (place : Place) (items :
 unfolding read_term read_list read_terms read_let read_let_in read_binding_list read_bindings read_binding read_pair read_bound
 let_one env locals place items first rest e f = rw (e, f) refl
 
-let_in_many : (env : Environment) (locals : List Named) (place : Place) (bound : Reading Bounds) (inner : Item) (last : Items) → is_empty last ≡ false → read_let_in env locals place bound (more inner last) ≡ refuse place cause.Shape
+let_in_many : (env : Environment) (locals : List Named) (place : Place) (bound : Reading Bounds) (inner : Item) (last : Items) → has_no_items last ≡ false → read_let_in env locals place bound (more inner last) ≡ refuse place cause.Shape
 unfolding read_term read_list read_terms read_let read_let_in read_binding_list read_bindings read_binding read_pair read_bound
 let_in_many env locals place bound inner none e = absurd (cc)
 let_in_many env locals place bound inner (more next rest) e = refl
 
-pub let_many : (env : Environment) (locals : List Named) (place : Place) (items : Items) (first : Item) (rest : Items) (inner : Item) (last : Items) → items ≡ more first rest → rest ≡ more inner last → is_empty last ≡ false
+pub let_many : (env : Environment) (locals : List Named) (place : Place) (items : Items) (first : Item) (rest : Items) (inner : Item) (last : Items) → items ≡ more first rest → rest ≡ more inner last → has_no_items last ≡ false
     → read_let env locals place items ≡ refuse place cause.Shape
 unfolding read_term read_list read_terms read_let read_let_in read_binding_list read_bindings read_binding read_pair read_bound
 let_many env locals place items first rest inner last e f g = rw (e, f) (let_in_many env locals place (read_binding_list env locals place first) inner last g)
 
-pub let_two : (env : Environment) (locals : List Named) (place : Place) (items : Items) (first : Item) (rest : Items) (inner : Item) (last : Items) → items ≡ more first rest → rest ≡ more inner last → is_empty last ≡ true
+pub let_two : (env : Environment) (locals : List Named) (place : Place) (items : Items) (first : Item) (rest : Items) (inner : Item) (last : Items) → items ≡ more first rest → rest ≡ more inner last → has_no_items last ≡ true
     → read_let env locals place items ≡ (read_binding_list env locals place first >>= λ bs. read_inner env locals bs inner)
 unfolding read_term read_list read_terms read_let read_let_in read_binding_list read_bindings read_binding read_pair read_bound
 let_two env locals place items first rest inner last e f g = rw (e, f, empty_none last g) refl
@@ -113,18 +113,18 @@ pub pair_one : (env : Environment) (locals taken : List Named) (place : Place) (
 unfolding read_term read_list read_terms read_let read_let_in read_binding_list read_bindings read_binding read_pair read_bound
 pair_one env locals taken place items first rest e f = rw (e, f) refl
 
-bound_many : (env : Environment) (locals : List Named) (place : Place) (name : Reading (List ℕ)) (term : Item) (last : Items) → is_empty last ≡ false → read_bound env locals place name (more term last) ≡ refuse place cause.Shape
+bound_many : (env : Environment) (locals : List Named) (place : Place) (name : Reading (List ℕ)) (term : Item) (last : Items) → has_no_items last ≡ false → read_bound env locals place name (more term last) ≡ refuse place cause.Shape
 unfolding read_term read_list read_terms read_let read_let_in read_binding_list read_bindings read_binding read_pair read_bound
 bound_many env locals place name term none e = absurd (cc)
 bound_many env locals place name term (more next rest) e = refl
 
-pub pair_many : (env : Environment) (locals taken : List Named) (place : Place) (items : Items) (first : Item) (rest : Items) (term : Item) (last : Items) → items ≡ more first rest → rest ≡ more term last → is_empty last ≡ false
+pub pair_many : (env : Environment) (locals taken : List Named) (place : Place) (items : Items) (first : Item) (rest : Items) (term : Item) (last : Items) → items ≡ more first rest → rest ≡ more term last → has_no_items last ≡ false
     → read_pair env locals taken place items ≡ refuse place cause.Shape
 unfolding read_term read_list read_terms read_let read_let_in read_binding_list read_bindings read_binding read_pair read_bound
-pair_many env locals taken place items first rest term last e f g = rw (e, f) (bound_many env locals place (new_name env.logic taken place first) term last g)
+pair_many env locals taken place items first rest term last e f g = rw (e, f) (bound_many env locals place (new_binding_name env.logic taken place first) term last g)
 
-pub pair_two : (env : Environment) (locals taken : List Named) (place : Place) (items : Items) (first : Item) (rest : Items) (term : Item) (last : Items) → items ≡ more first rest → rest ≡ more term last → is_empty last ≡ true
-    → read_pair env locals taken place items ≡ (new_name env.logic taken place first >>= λ x. read_term env locals term >>= λ t. Ok (bound_to x t))
+pub pair_two : (env : Environment) (locals taken : List Named) (place : Place) (items : Items) (first : Item) (rest : Items) (term : Item) (last : Items) → items ≡ more first rest → rest ≡ more term last → has_no_items last ≡ true
+    → read_pair env locals taken place items ≡ (new_binding_name env.logic taken place first >>= λ x. read_term env locals term >>= λ t. Ok (bound_to x t))
 unfolding read_term read_list read_terms read_let read_let_in read_binding_list read_bindings read_binding read_pair read_bound
 pair_two env locals taken place items first rest term last e f g = rw (e, f, empty_none last g) refl
 
@@ -145,12 +145,12 @@ pub bindings_leaf : (env : Environment) (locals : List Named) (place : Place) (i
 unfolding read_term read_list read_terms read_let read_let_in read_binding_list read_bindings read_binding read_pair read_bound
 bindings_leaf env locals place item atom at e = rw e refl
 
-pub bindings_empty : (env : Environment) (locals : List Named) (place : Place) (item : Item) (parts : Items) (at : Place) (items : Items) → item ≡ group parts at → items ≡ parts → is_empty items ≡ true
+pub bindings_empty : (env : Environment) (locals : List Named) (place : Place) (item : Item) (parts : Items) (at : Place) (items : Items) → item ≡ group parts at → items ≡ parts → has_no_items items ≡ true
     → read_binding_list env locals place item ≡ refuse place cause.Shape
 unfolding read_term read_list read_terms read_let read_let_in read_binding_list read_bindings read_binding read_pair read_bound
 bindings_empty env locals place item parts at items e f is = rw (e, ← f, is) refl
 
-pub bindings_group : (env : Environment) (locals : List Named) (place : Place) (item : Item) (parts : Items) (at : Place) (items : Items) → item ≡ group parts at → items ≡ parts → is_empty items ≡ false
+pub bindings_group : (env : Environment) (locals : List Named) (place : Place) (item : Item) (parts : Items) (at : Place) (items : Items) → item ≡ group parts at → items ≡ parts → has_no_items items ≡ false
     → read_binding_list env locals place item ≡ read_bindings env locals unbound items
 unfolding read_term read_list read_terms read_let read_let_in read_binding_list read_bindings read_binding read_pair read_bound
 bindings_group env locals place item parts at items e f is = rw (e, ← f, is) refl

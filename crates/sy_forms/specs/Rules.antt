@@ -10,7 +10,7 @@ use Rattle.sy_grammar_base.specs.Trees as trees
 use Rattle.sy_grammar_base.specs.Trees.{Production}
 use Rattle.sy_forms_names.specs.declared.names.Named.{Named}
 use Rattle.sy_forms_names.specs.Environments.{Environment}
-use Rattle.sy_forms_items.specs.Parts.{place_of, numeral, is_symbol, is_empty}
+use Rattle.sy_forms_items.specs.Parts.{place_of, numeral, is_symbol, has_no_items}
 use Rattle.sy_forms_phrases.specs.Phrases.{Phrase, pattern_at}
 use Rattle.sy_forms_items.specs.Readings.{Reading, refuse, ◌>>=◌}
 use Rattle.sy_forms_names.specs.Sorts.{read_sort}
@@ -60,13 +60,13 @@ read_rule env sort (group parts place) =
 
 -- Nonterminals that derive numerals alone
 
-abbrev pub is_sort : Sort → Reading Sort → Bool
-is_sort sort (Ok found) = same_sort found sort
-is_sort sort (Err fault) = false
+abbrev pub reads_sort : Sort → Reading Sort → Bool
+reads_sort sort (Ok found) = same_sort found sort
+reads_sort sort (Err fault) = false
 
 -- the item is this sort
 abbrev pub has_sort : Environment → Sort → Item → Bool
-has_sort env sort item = is_sort sort (read_sort env.logic env.sorts item)
+has_sort env sort item = reads_sort sort (read_sort env.logic env.sorts item)
 
 -- `(- n)` with a numeral n
 abbrev pub is_negated_numeral : Items → Bool
@@ -95,7 +95,7 @@ are_constant env (more first rest) = is_constant_rule env first && are_constant 
 -- a list of one such rule or more
 abbrev pub constant_rules : Environment → Item → Bool
 constant_rules env (leaf atom place) = false
-constant_rules env (group rules place) = if is_empty rules then false else are_constant env rules
+constant_rules env (group rules place) = if has_no_items rules then false else are_constant env rules
 
 -- a well-formed group of the nonterminal, in which each rule is constant
 abbrev pub constant_parts : Environment → Named → Items → Bool

@@ -27,12 +27,12 @@ use Rattle.sy_forms_names.specs.declared.names.Role.{Role}
 use Rattle.sy_forms_names.specs.declared.names.Role.TheVariants as role
 use Rattle.sy_forms_names.specs.Environments as env
 use Rattle.sy_forms_names.specs.Environments.{Environment, Sense, sense_of, place_among}
-use Rattle.sy_forms_phrases.specs.Measures.{Measures, is_small}
+use Rattle.sy_forms_phrases.specs.Measures.{Measures, is_within_limits}
 use Rattle.sy_forms_names.specs.Operators.{operator_named, indexed_operator, are_small, at_count, is_reserved}
 use Rattle.sy_forms_phrases.specs.Measures.{is_neg}
-use Rattle.sy_forms_items.specs.Parts.{place_of, symbol_in, is_symbol, is_empty, indexed_name}
+use Rattle.sy_forms_items.specs.Parts.{place_of, symbol_in, is_symbol, has_no_items, indexed_name}
 use Rattle.sy_forms_phrases.specs.Phrases as phrase
-use Rattle.sy_forms_phrases.specs.Phrases.{Phrase, Phrases, Typed, Several, nothing, behind}
+use Rattle.sy_forms_phrases.specs.Phrases.{Phrase, Phrases, Typed, Several, no_terms, behind}
 use Rattle.sy_forms_items.specs.Readings.{Reading, refuse, ◌>>=◌}
 use Rattle.sy_forms_names.specs.Sorts.{is_width}
 
@@ -156,14 +156,14 @@ read_head env locals (group parts place) = list_head env.logic place parts
 
 -- Applications
 
-abbrev pub is_written : Phrase → Bool
-is_written (phrase.Literal value) = true
-is_written _ = false
+abbrev pub is_written_phrase : Phrase → Bool
+is_written_phrase (phrase.Literal value) = true
+is_written_phrase _ = false
 
 -- one literal
-abbrev pub is_literal : Phrases → Bool
-is_literal (phrase.more argument phrase.none) = is_written argument
-is_literal _ = false
+abbrev pub is_one_literal : Phrases → Bool
+is_one_literal (phrase.more argument phrase.none) = is_written_phrase argument
+is_one_literal _ = false
 
 abbrev pub is_mul : Op → Bool
 is_mul ops.Mul = true
@@ -173,38 +173,38 @@ abbrev pub flag_at : List Bool → ℕ → Bool
 flag_at constants number = get_or constants number false
 
 -- a numeral, `(- n)` with a numeral n, or a nonterminal that derives such alone
-abbrev pub is_constant : List Bool → Phrase → Bool
-is_constant constants (phrase.Literal value) = true
-is_constant constants (phrase.Operation operator arguments) = is_neg operator && is_literal arguments
-is_constant constants (phrase.Nonterminal number) = flag_at constants number
-is_constant constants _ = false
+abbrev pub is_constant_phrase : List Bool → Phrase → Bool
+is_constant_phrase constants (phrase.Literal value) = true
+is_constant_phrase constants (phrase.Operation operator arguments) = is_neg operator && is_one_literal arguments
+is_constant_phrase constants (phrase.Nonterminal number) = flag_at constants number
+is_constant_phrase constants _ = false
 
 -- 0 at a constant, and 1 at another factor
-abbrev pub weight : List Bool → Phrase → ℕ
-weight constants factor = if is_constant constants factor then 0 else 1
+abbrev pub factor_weight : List Bool → Phrase → ℕ
+factor_weight constants factor = if is_constant_phrase constants factor then 0 else 1
 
 -- how many factors are no constants
-abbrev pub varying : List Bool → Phrases → ℕ
-varying constants phrase.none = 0
-varying constants (phrase.more first rest) = weight constants first + varying constants rest
+abbrev pub varying_factors : List Bool → Phrases → ℕ
+varying_factors constants phrase.none = 0
+varying_factors constants (phrase.more first rest) = factor_weight constants first + varying_factors constants rest
 
 -- at most one factor of a product varies
-abbrev pub is_linear : List Bool → Op → Phrases → Bool
-is_linear constants operator arguments = not (is_mul operator) || nat_le (varying constants arguments) 1
+abbrev pub is_linear_product : List Bool → Op → Phrases → Bool
+is_linear_product constants operator arguments = not (is_mul operator) || nat_le (varying_factors constants arguments) 1
 
 abbrev pub operation_by : List Bool → Place → Op → Phrases → Sorted → Reading Typed
 operation_by constants place operator arguments (Is sort) =
-    if is_linear constants operator arguments then typed (phrase.Operation operator arguments) sort else refuse place cause.Nonlinear
+    if is_linear_product constants operator arguments then typed (phrase.Operation operator arguments) sort else refuse place cause.Nonlinear
 operation_by constants place operator arguments Mismatch = refuse place cause.SortMismatch
 operation_by constants place operator arguments BadWidth = refuse place cause.Width
 
-abbrev pub operation : List Bool → Place → Op → Several → Reading Typed
-operation constants place operator arguments = operation_by constants place operator arguments.phrases (sort_of operator arguments.sorts)
+abbrev pub operator_read : List Bool → Place → Op → Several → Reading Typed
+operator_read constants place operator arguments = operation_by constants place operator arguments.phrases (sort_of operator arguments.sorts)
 
 -- a head at arguments
-unfoldable pub applied : List Bool → Place → Head → Several → Reading Typed
-applied constants place (Operator operator) arguments = operation constants place (at_count (length arguments.sorts) operator) arguments
-applied constants place (Function function takes gives) arguments =
+unfoldable pub head_applied : List Bool → Place → Head → Several → Reading Typed
+head_applied constants place (Operator operator) arguments = operator_read constants place (at_count (length arguments.sorts) operator) arguments
+head_applied constants place (Function function takes gives) arguments =
     if same_sorts arguments.sorts takes then typed (phrase.Invocation function arguments.phrases) gives else refuse place cause.SortMismatch
 
 -- Let
@@ -227,7 +227,7 @@ bound_to name term = record { named = record { name = name; sort = term.sort }; 
 
 -- with one more at the end
 abbrev pub bound_behind : Bounds → Bound → Bounds
-bound_behind done last = record { names = done.names ++ last.named ∷ []; terms = phrase.append done.terms (phrase.more last.phrase phrase.none) }
+bound_behind done last = record { names = done.names ++ last.named ∷ []; terms = phrase.append_phrases done.terms (phrase.more last.phrase phrase.none) }
 
 -- a let with its bindings and its inner term
 abbrev pub let_term : Bounds → Typed → Reading Typed
@@ -239,9 +239,9 @@ new_symbol logic taken place at None = refuse place cause.Shape
 new_symbol logic taken place at (Some name) = if is_reserved logic name || is_some (place_among name taken) then refuse at cause.NameTaken else Ok name
 
 -- the name of the binding that stands at a place, where these names are taken
-abbrev pub new_name : Logic → List Named → Place → Item → Reading (List ℕ)
-new_name logic taken place (leaf atom at) = new_symbol logic taken place at (symbol_in atom)
-new_name logic taken place (group parts at) = refuse place cause.Shape
+abbrev pub new_binding_name : Logic → List Named → Place → Item → Reading (List ℕ)
+new_binding_name logic taken place (leaf atom at) = new_symbol logic taken place at (symbol_in atom)
+new_binding_name logic taken place (group parts at) = refuse place cause.Shape
 
 -- in a grammar there is no let
 abbrev pub let_may_stand : Role → Bool
@@ -261,7 +261,7 @@ unfoldable mutual
   read_list env locals place (more head rest) =
       if is_symbol (codes "let") head then (if let_may_stand env.role then read_let env locals place rest else refuse place cause.Shape)
       else if is_symbol (codes "_") head then indexed_term env.logic place (indexed_name rest)
-      else (read_head env locals head >>= λ found. read_terms env locals nothing rest >>= λ arguments. applied env.constants place found arguments)
+      else (read_head env locals head >>= λ found. read_terms env locals no_terms rest >>= λ arguments. head_applied env.constants place found arguments)
 
   -- terms from left to right, behind others
   pub read_terms : Environment → List Named → Several → Items → Reading Several
@@ -281,7 +281,7 @@ unfoldable mutual
 
   pub read_binding_list : Environment → List Named → Place → Item → Reading Bounds
   read_binding_list env locals place (leaf atom at) = refuse place cause.Shape
-  read_binding_list env locals place (group bindings at) = if is_empty bindings then refuse place cause.Shape else read_bindings env locals unbound bindings
+  read_binding_list env locals place (group bindings at) = if has_no_items bindings then refuse place cause.Shape else read_bindings env locals unbound bindings
 
   -- bindings from left to right, behind others
   pub read_bindings : Environment → List Named → Bounds → Items → Reading Bounds
@@ -295,7 +295,7 @@ unfoldable mutual
 
   pub read_pair : Environment → List Named → List Named → Place → Items → Reading Bound
   read_pair env locals taken place none = refuse place cause.Shape
-  read_pair env locals taken place (more name rest) = read_bound env locals place (new_name env.logic taken place name) rest
+  read_pair env locals taken place (more name rest) = read_bound env locals place (new_binding_name env.logic taken place name) rest
 
   pub read_bound : Environment → List Named → Place → Reading (List ℕ) → Items → Reading Bound
   read_bound env locals place name none = refuse place cause.Shape
@@ -310,7 +310,7 @@ read_inner env locals bs inner = read_term env (locals ++ bs.names) inner >>= λ
 
 abbrev pub of_sort : Measures → Sort → Place → Typed → Reading Phrase
 of_sort measures sort place x =
-    if same_sort x.sort sort then (if is_small measures x.phrase then Ok x.phrase else refuse place cause.TooMany)
+    if same_sort x.sort sort then (if is_within_limits measures x.phrase then Ok x.phrase else refuse place cause.TooMany)
     else refuse place cause.SortMismatch
 
 -- a whole body, constraint or assumption: a term of the sort whose unfolded size and depth are small

@@ -5,7 +5,7 @@ ghost use Rattle.sy_forms_phrases.specs.Meant.{phrase_of, phrases_of, typed_of};
 ghost use Rattle.sy_forms.specs.Gathered.{several_of};
 ghost use Rattle.sy_forms_names.specs.Operators as operators;
 ghost use Rattle.sy_forms_phrases.specs.Phrases as phrases;
-ghost use Rattle.sy_forms_items.specs.Readings.{Gives};
+ghost use Rattle.sy_forms_items.specs.Readings.{ReadingGives};
 ghost use Rattle.sy_forms.specs.Heads.{head_in};
 ghost use Rattle.sy_forms.specs.Terms as spec;
 
@@ -28,7 +28,7 @@ pub(crate) struct Several<T: Theory> {
 impl<T: Theory> Several<T> {
     /// None. It takes no memory.
     pub(crate) fn new(alloc: Global) -> Self
-        ensures { several_of T.denotes result ≡ phrases.nothing }
+        ensures { several_of T.denotes result ≡ phrases.no_terms }
     {
         Several {
             phrases: Phrases::new(alloc),
@@ -48,7 +48,7 @@ impl<T: Theory> Several<T> {
 
 /// Whether this is one literal.
 fn is_literal<T: Theory>(arguments: &[Phrase<T>]) -> bool
-    ensures { result ≡ spec.is_literal (phrases_of T.denotes arguments.now) }
+    ensures { result ≡ spec.is_one_literal (phrases_of T.denotes arguments.now) }
 {
     match arguments {
         [] => false,
@@ -59,7 +59,7 @@ fn is_literal<T: Theory>(arguments: &[Phrase<T>]) -> bool
 
 /// Whether the phrase is a literal.
 fn is_written<T: Theory>(phrase: &Phrase<T>) -> bool
-    ensures { result ≡ spec.is_written (phrase_of T.denotes phrase.now) }
+    ensures { result ≡ spec.is_written_phrase (phrase_of T.denotes phrase.now) }
 {
     match phrase {
         Phrase::Literal(_) => true,
@@ -93,7 +93,7 @@ fn flag_at(constants: &[bool], number: u32) -> bool
 
 /// Whether a factor is a numeral, `(- n)` with a numeral `n`, or a nonterminal that derives such alone.
 fn is_constant<T: Theory>(constants: &[bool], phrase: &Phrase<T>) -> bool
-    ensures { result ≡ spec.is_constant constants.now (phrase_of T.denotes phrase.now) }
+    ensures { result ≡ spec.is_constant_phrase constants.now (phrase_of T.denotes phrase.now) }
 {
     match phrase {
         Phrase::Literal(_) => true,
@@ -110,7 +110,7 @@ fn is_constant<T: Theory>(constants: &[bool], phrase: &Phrase<T>) -> bool
 
 /// 0 at a constant, and 1 at another factor.
 fn weight<T: Theory>(constants: &[bool], factor: &Phrase<T>) -> usize
-    ensures value { result ≡ spec.weight constants.now (phrase_of T.denotes factor.now) }
+    ensures value { result ≡ spec.factor_weight constants.now (phrase_of T.denotes factor.now) }
     ensures small { result ≤ 1 }
 {
     if is_constant(constants, factor) { 0 } else { 1 }
@@ -118,7 +118,7 @@ fn weight<T: Theory>(constants: &[bool], factor: &Phrase<T>) -> usize
 
 /// How many factors are no constants.
 fn varying<T: Theory>(constants: &[bool], factors: &[Phrase<T>]) -> usize
-    ensures { result ≡ spec.varying constants.now (phrases_of T.denotes factors.now) }
+    ensures { result ≡ spec.varying_factors constants.now (phrases_of T.denotes factors.now) }
 {
     let mut count = 0;
     for factor in factors {
@@ -129,7 +129,7 @@ fn varying<T: Theory>(constants: &[bool], factors: &[Phrase<T>]) -> usize
 
 /// Whether at most one factor of a product varies.
 fn is_linear<T: Theory>(constants: &[bool], operator: &Op, arguments: &[Phrase<T>]) -> bool
-    ensures { result ≡ spec.is_linear constants.now operator.now (phrases_of T.denotes arguments.now) }
+    ensures { result ≡ spec.is_linear_product constants.now operator.now (phrases_of T.denotes arguments.now) }
 {
     !is_mul(operator) || varying(constants, arguments) <= 1
 }
@@ -141,7 +141,7 @@ fn operator_term<T: Theory>(
     operator: Op,
     arguments: Several<T>,
 ) -> Result<Typed<T>, ReadEnd>
-    ensures { Gives (typed_of T.denotes) result (spec.operation constants.now place operator (several_of T.denotes arguments)) }
+    ensures { ReadingGives (typed_of T.denotes) result (spec.operator_read constants.now place operator (several_of T.denotes arguments)) }
 {
     match operator_sort(&operator, arguments.sorts.as_slice()) {
         Sorted::Is(sort) => {
@@ -157,14 +157,14 @@ fn operator_term<T: Theory>(
 }
 
 /// A head at arguments.
-#[tactic(auto, unfolding(crate::specs::Terms::applied))]
+#[tactic(auto, unfolding(crate::specs::Terms::head_applied))]
 pub(crate) fn applied<T: Theory>(
     constants: &[bool],
     place: Place,
     head: Head<'_>,
     arguments: Several<T>,
 ) -> Result<Typed<T>, ReadEnd>
-    ensures { Gives (typed_of T.denotes) result (spec.applied constants.now place (head_in head.entry) (several_of T.denotes arguments)) }
+    ensures { ReadingGives (typed_of T.denotes) result (spec.head_applied constants.now place (head_in head.entry) (several_of T.denotes arguments)) }
 {
     match head {
         Head::Operator(operator) => {

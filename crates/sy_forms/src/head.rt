@@ -3,7 +3,7 @@ ghost use Rattle.std.specs.Prelude.{◌≡◌};
 ghost use Rattle.std.specs.Option.{option_map};
 ghost use Rattle.sy_text.specs.Views.{item_of};
 ghost use Rattle.sy_forms_phrases.specs.Meant.{typed_of};
-ghost use Rattle.sy_forms_items.specs.Readings.{Gives};
+ghost use Rattle.sy_forms_items.specs.Readings.{ReadingGives};
 ghost use Rattle.sy_forms_names.specs.Seen.{environment_of, sense_in};
 ghost use Rattle.sy_forms.specs.Heads.{head_in};
 ghost use Rattle.sy_terms.specs.Logics.{Serves};
@@ -24,7 +24,7 @@ use sy_text::{Atom, Name, Place, Sexp};
 
 /// A name that stands for nothing that is declared.
 fn undeclared_term<T: Theory>(logic: Logic, place: Place, name: &[u8]) -> Result<Typed<T>, ReadEnd>
-    ensures { Gives (typed_of T.denotes) result (spec.undeclared_term logic place name.now) }
+    ensures { ReadingGives (typed_of T.denotes) result (spec.undeclared_term logic place name.now) }
 {
     if is(name, b"true") {
         return Ok(literal(Value::Truth(true), Sort::Bool));
@@ -46,7 +46,7 @@ fn alone<T: Theory>(
     takes: &[Sort],
     gives: Sort,
 ) -> Result<Typed<T>, ReadEnd>
-    ensures { Gives (typed_of T.denotes) result (spec.alone place function takes.now gives) }
+    ensures { ReadingGives (typed_of T.denotes) result (spec.alone place function takes.now gives) }
 {
     match takes {
         [] => Ok(invocation(function, Phrases::new(alloc), gives)),
@@ -62,7 +62,7 @@ fn name_term<T: Theory>(
     name: &[u8],
     sense: Option<Sense<'_>>,
 ) -> Result<Typed<T>, ReadEnd>
-    ensures { Gives (typed_of T.denotes) result (spec.name_term logic place name.now (option_map sense_in sense.entry)) }
+    ensures { ReadingGives (typed_of T.denotes) result (spec.name_term logic place name.now (option_map sense_in sense.entry)) }
 {
     match sense {
         Some(Sense::Local(level, sort)) => Ok(local(level, sort)),
@@ -87,7 +87,7 @@ pub(crate) fn atom_term<T: Theory>(
     atom: &Atom,
 ) -> Result<Typed<T>, ReadEnd>
     requires { Serves T.numeric env.now.logic }
-    ensures { Gives (typed_of T.denotes) result (spec.atom_term (environment_of env.now) locals.now place atom.now) }
+    ensures { ReadingGives (typed_of T.denotes) result (spec.atom_term (environment_of env.now) locals.now place atom.now) }
 {
     match atom {
         Atom::Symbol(name) => {
@@ -117,7 +117,7 @@ fn name_head<'a>(
     name: &[u8],
     sense: Option<Sense<'a>>,
 ) -> Result<Head<'a>, ReadEnd>
-    ensures { Gives head_in result (spec.name_head logic place name.now (option_map sense_in sense.entry)) }
+    ensures { ReadingGives head_in result (spec.name_head logic place name.now (option_map sense_in sense.entry)) }
 {
     match sense {
         Some(Sense::Local(_, _)) => Err(ReadEnd::Refused(place, Cause::SortMismatch)),
@@ -135,7 +135,7 @@ fn name_head<'a>(
 
 /// An operator with indices of at most 64.
 fn small_head<'a>(place: Place, name: &[u8], indices: Indices) -> Result<Head<'a>, ReadEnd>
-    ensures { Gives head_in result (spec.small_head place indices (operators.indexed_operator name.now indices)) }
+    ensures { ReadingGives head_in result (spec.small_head place indices (operators.indexed_operator name.now indices)) }
 {
     if !is_indexed(name, indices) {
         return Err(ReadEnd::Refused(place, Cause::UnknownName));
@@ -155,7 +155,7 @@ fn indexed_head<'a>(
     place: Place,
     indexed: Option<(&Name, Indices)>,
 ) -> Result<Head<'a>, ReadEnd>
-    ensures { Gives head_in result (spec.indexed_head logic place (option_map indexed_of indexed.entry)) }
+    ensures { ReadingGives head_in result (spec.indexed_head logic place (option_map indexed_of indexed.entry)) }
 {
     let Some((name, indices)) = indexed else {
         return Err(ReadEnd::Refused(place, Cause::Shape));
@@ -168,7 +168,7 @@ fn indexed_head<'a>(
 
 /// A list as a head.
 fn list_head<'a>(logic: Logic, place: Place, items: Rest<'_>) -> Result<Head<'a>, ReadEnd>
-    ensures { Gives head_in result (spec.list_head logic place (items_in items.entry)) }
+    ensures { ReadingGives head_in result (spec.list_head logic place (items_in items.entry)) }
 {
     match items.split() {
         Some((first, rest)) if is_symbol(first, b"_") => {
@@ -185,7 +185,7 @@ pub(crate) fn read_head<'a>(
     locals: &Locals,
     item: &Sexp,
 ) -> Result<Head<'a>, ReadEnd>
-    ensures { Gives head_in result (spec.read_head (environment_of env.now) locals.now (item_of item.now)) }
+    ensures { ReadingGives head_in result (spec.read_head (environment_of env.now) locals.now (item_of item.now)) }
 {
     match item {
         Sexp::List(items, place) => list_head(env.logic, *place, Rest::all(items)),

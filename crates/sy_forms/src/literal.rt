@@ -4,7 +4,7 @@ ghost use Rattle.std.specs.Option.{option_map};
 ghost use Rattle.std.specs.List.{list_all};
 ghost use Rattle.sy_text.specs.Lexicon.{digit, digit_value, value_in};
 ghost use Rattle.sy_forms_phrases.specs.Meant.{typed_of};
-ghost use Rattle.sy_forms_items.specs.Readings.{Gives};
+ghost use Rattle.sy_forms_items.specs.Readings.{ReadingGives};
 ghost use Rattle.sy_terms.specs.Logics.{Serves};
 ghost use Rattle.sy_forms.specs.Terms as spec;
 ghost use Rattle.sy_forms_items.specs.Views.{indexed_of};
@@ -22,7 +22,7 @@ const CAP: u128 = 1 << 127;
 /// The literal of the sort that a number stands for.
 pub(crate) fn number_as<T: Theory>(place: Place, sort: Sort, n: u128) -> Result<Typed<T>, ReadEnd>
     requires { T.numeric sort ≡ true }
-    ensures { Gives (typed_of T.denotes) result (spec.number_as place sort n) }
+    ensures { ReadingGives (typed_of T.denotes) result (spec.number_as place sort n) }
 {
     if n >= CAP {
         return Err(ReadEnd::Refused(place, Cause::LiteralRange));
@@ -40,7 +40,7 @@ pub(crate) fn numeral_term<T: Theory>(
     n: u128,
 ) -> Result<Typed<T>, ReadEnd>
     requires { Serves T.numeric logic }
-    ensures { Gives (typed_of T.denotes) result (spec.numeral_term logic place n) }
+    ensures { ReadingGives (typed_of T.denotes) result (spec.numeral_term logic place n) }
 {
     match logic {
         Logic::Lia => number_as(place, Sort::Int, n),
@@ -56,7 +56,7 @@ pub(crate) fn vector_term<T: Theory>(
     n: u64,
 ) -> Result<Typed<T>, ReadEnd>
     requires { Serves T.numeric logic }
-    ensures { Gives (typed_of T.denotes) result (spec.vector_term logic place width n) }
+    ensures { ReadingGives (typed_of T.denotes) result (spec.vector_term logic place width n) }
 {
     match logic {
         Logic::Lia => Err(ReadEnd::Refused(place, Cause::SortMismatch)),
@@ -136,7 +136,7 @@ fn bv_literal<T: Theory>(
     indices: Indices,
 ) -> Result<Typed<T>, ReadEnd>
     requires { Serves T.numeric Logic.Bv }
-    ensures { Gives (typed_of T.denotes) result (spec.bv_literal place number indices) }
+    ensures { ReadingGives (typed_of T.denotes) result (spec.bv_literal place number indices) }
 {
     match (number, indices) {
         (Some(n), Indices::One(width)) => {
@@ -157,7 +157,7 @@ pub(crate) fn indexed_term<T: Theory>(
     indexed: Option<(&Name, Indices)>,
 ) -> Result<Typed<T>, ReadEnd>
     requires { Serves T.numeric logic }
-    ensures { Gives (typed_of T.denotes) result (spec.indexed_term logic place (option_map indexed_of indexed.entry)) }
+    ensures { ReadingGives (typed_of T.denotes) result (spec.indexed_term logic place (option_map indexed_of indexed.entry)) }
 {
     let Some((name, indices)) = indexed else {
         return Err(ReadEnd::Refused(place, Cause::Shape));

@@ -6,7 +6,7 @@ ghost use Rattle.sy_text.specs.Views.{item_of};
 ghost use Rattle.sy_forms_phrases.specs.Measured.{measures_of};
 ghost use Rattle.sy_forms.specs.Rulings.{ruling_of};
 ghost use Rattle.sy_forms_phrases.specs.Meant.{phrase_of, typed_of};
-ghost use Rattle.sy_forms_items.specs.Readings.{Gives};
+ghost use Rattle.sy_forms_items.specs.Readings.{ReadingGives};
 ghost use Rattle.sy_forms.specs.Rules as spec;
 ghost use Rattle.sy_forms_names.specs.Seen.{environment_of};
 ghost use Rattle.sy_terms.specs.Logics.{Serves};
@@ -41,7 +41,7 @@ fn read_outermost<T: Theory>(
     item: &Sexp,
 ) -> Result<Typed<T>, ReadEnd>
     requires { Serves T.numeric env.now.logic }
-    ensures { Gives (typed_of T.denotes) result (terms.read_term (environment_of env.now) [] (item_of item.now)) }
+    ensures { ReadingGives (typed_of T.denotes) result (terms.read_term (environment_of env.now) [] (item_of item.now)) }
 {
     let mut locals = Locals::new(alloc);
     let term = read_term(alloc, env, &mut locals, item)?;
@@ -60,7 +60,7 @@ pub fn read_whole<T: Theory>(
     item: &Sexp,
 ) -> Result<Phrase<T>, ReadEnd>
     requires { Serves T.numeric env.now.logic }
-    ensures { Gives (phrase_of T.denotes) result (terms.read_whole (environment_of env.now) (measures_of measures.now) sort (item_of item.now)) }
+    ensures { ReadingGives (phrase_of T.denotes) result (terms.read_whole (environment_of env.now) (measures_of measures.now) sort (item_of item.now)) }
 {
     let term = read_outermost(alloc, env, item)?;
     if !same_sort(&term.sort, &sort) {
@@ -93,7 +93,7 @@ fn rule_term<T: Theory>(
     item: &Sexp,
 ) -> Result<Ruling<T>, ReadEnd>
     requires { Serves T.numeric env.now.logic }
-    ensures { Gives (ruling_of T.denotes) result (spec.rule_term (environment_of env.now) sort (item_of item.now)) }
+    ensures { ReadingGives (ruling_of T.denotes) result (spec.rule_term (environment_of env.now) sort (item_of item.now)) }
 {
     let term = read_outermost(alloc, env, item)?;
     if same_sort(&term.sort, &sort) {
@@ -110,7 +110,7 @@ fn sort_for_all(
     place: Place,
     item: &Sexp,
 ) -> Result<Sort, ReadEnd>
-    ensures { Gives (λ found. found) result (spec.sort_for_all (environment_of env.now) sort place (item_of item.now)) }
+    ensures { ReadingGives (λ found. found) result (spec.sort_for_all (environment_of env.now) sort place (item_of item.now)) }
 {
     let found = read_sort(env.logic, env.names, item)?;
     if same_sort(&found, &sort) {
@@ -130,7 +130,7 @@ pub fn read_rule<T: Theory>(
     item: &Sexp,
 ) -> Result<Ruling<T>, ReadEnd>
     requires { Serves T.numeric env.now.logic }
-    ensures { Gives (ruling_of T.denotes) result (spec.read_rule (environment_of env.now) sort (item_of item.now)) }
+    ensures { ReadingGives (ruling_of T.denotes) result (spec.read_rule (environment_of env.now) sort (item_of item.now)) }
 {
     let Sexp::List(items, place) = item else {
         return rule_term(alloc, env, sort, item);

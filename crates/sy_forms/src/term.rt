@@ -5,7 +5,7 @@ ghost use Rattle.sy_forms.specs.Gathered.{several_of, bounds_of, bound_of};
 ghost use Rattle.sy_forms_phrases.specs.Meant.{phrase_of, typed_of};
 ghost use Rattle.sy_forms_items.specs.Parts as parts;
 ghost use Rattle.sy_forms_phrases.specs.Phrases as phrases;
-ghost use Rattle.sy_forms_items.specs.Readings.{Gives};
+ghost use Rattle.sy_forms_items.specs.Readings.{ReadingGives};
 ghost use Rattle.sy_forms_names.specs.Seen.{environment_of};
 ghost use Rattle.sy_terms.specs.Logics.{Serves};
 ghost use Rattle.sy_forms.specs.Terms as spec;
@@ -76,7 +76,7 @@ fn new_name<'a>(
     place: Place,
     item: &'a Sexp,
 ) -> Result<&'a Name, ReadEnd>
-    ensures { Gives (λ name. name.now) result (spec.new_name logic taken.now place (item_of item.now)) }
+    ensures { ReadingGives (λ name. name.now) result (spec.new_binding_name logic taken.now place (item_of item.now)) }
 {
     let Some(name) = symbol(item) else {
         return Err(ReadEnd::Refused(place, Cause::Shape));
@@ -100,7 +100,7 @@ pub(crate) fn read_term<T: Theory>(
     item: &Sexp,
 ) -> Result<Typed<T>, ReadEnd>
     requires { Serves T.numeric env.now.logic }
-    ensures read { Gives (typed_of T.denotes) result (spec.read_term (environment_of env.now) locals.old (item_of item.now)) }
+    ensures read { ReadingGives (typed_of T.denotes) result (spec.read_term (environment_of env.now) locals.old (item_of item.now)) }
     ensures locals { OnOk result (locals.new ≡ locals.old) }
 {
     match item {
@@ -120,7 +120,7 @@ fn read_list<T: Theory>(
     items: Rest<'_>,
 ) -> Result<Typed<T>, ReadEnd>
     requires { Serves T.numeric env.now.logic }
-    ensures read { Gives (typed_of T.denotes) result (spec.read_list (environment_of env.now) locals.old place (items_in items.entry)) }
+    ensures read { ReadingGives (typed_of T.denotes) result (spec.read_list (environment_of env.now) locals.old place (items_in items.entry)) }
     ensures locals { OnOk result (locals.new ≡ locals.old) }
 {
     let Some((head, rest)) = items.split() else {
@@ -150,7 +150,7 @@ fn read_terms<T: Theory>(
     items: Rest<'_>,
 ) -> Result<Several<T>, ReadEnd>
     requires { Serves T.numeric env.now.logic }
-    ensures read { Gives (several_of T.denotes) result (spec.read_terms (environment_of env.now) locals.old phrases.nothing (items_in items.entry)) }
+    ensures read { ReadingGives (several_of T.denotes) result (spec.read_terms (environment_of env.now) locals.old phrases.no_terms (items_in items.entry)) }
     ensures locals { OnOk result (locals.new ≡ locals.old) }
 {
     let mut done = Several::new(alloc);
@@ -174,7 +174,7 @@ fn read_let<T: Theory>(
     items: Rest<'_>,
 ) -> Result<Typed<T>, ReadEnd>
     requires { Serves T.numeric env.now.logic }
-    ensures read { Gives (typed_of T.denotes) result (spec.read_let (environment_of env.now) locals.old place (items_in items.entry)) }
+    ensures read { ReadingGives (typed_of T.denotes) result (spec.read_let (environment_of env.now) locals.old place (items_in items.entry)) }
     ensures locals { OnOk result (locals.new ≡ locals.old) }
 {
     let Some((bindings, rest)) = items.split() else {
@@ -201,7 +201,7 @@ fn read_inner<T: Theory>(
     inner: &Sexp,
 ) -> Result<Typed<T>, ReadEnd>
     requires { Serves T.numeric env.now.logic }
-    ensures read { Gives (typed_of T.denotes) result (spec.read_inner (environment_of env.now) locals.old (bounds_of T.denotes bound) (item_of inner.now)) }
+    ensures read { ReadingGives (typed_of T.denotes) result (spec.read_inner (environment_of env.now) locals.old (bounds_of T.denotes bound) (item_of inner.now)) }
     ensures locals { OnOk result (locals.new ≡ locals.old) }
 {
     let outside = locals.len();
@@ -224,7 +224,7 @@ fn read_binding_list<T: Theory>(
     item: &Sexp,
 ) -> Result<Bounds<T>, ReadEnd>
     requires { Serves T.numeric env.now.logic }
-    ensures read { Gives (bounds_of T.denotes) result (spec.read_binding_list (environment_of env.now) locals.old place (item_of item.now)) }
+    ensures read { ReadingGives (bounds_of T.denotes) result (spec.read_binding_list (environment_of env.now) locals.old place (item_of item.now)) }
     ensures locals { OnOk result (locals.new ≡ locals.old) }
 {
     match item {
@@ -249,7 +249,7 @@ fn read_bindings<T: Theory>(
     items: Rest<'_>,
 ) -> Result<Bounds<T>, ReadEnd>
     requires { Serves T.numeric env.now.logic }
-    ensures read { Gives (bounds_of T.denotes) result (spec.read_bindings (environment_of env.now) locals.old spec.unbound (items_in items.entry)) }
+    ensures read { ReadingGives (bounds_of T.denotes) result (spec.read_bindings (environment_of env.now) locals.old spec.unbound (items_in items.entry)) }
     ensures locals { OnOk result (locals.new ≡ locals.old) }
 {
     let mut bound = Bounds::new(alloc);
@@ -273,7 +273,7 @@ fn read_binding<T: Theory>(
     item: &Sexp,
 ) -> Result<Bound<T>, ReadEnd>
     requires { Serves T.numeric env.now.logic }
-    ensures read { Gives (bound_of T.denotes) result (spec.read_binding (environment_of env.now) locals.old taken.now (item_of item.now)) }
+    ensures read { ReadingGives (bound_of T.denotes) result (spec.read_binding (environment_of env.now) locals.old taken.now (item_of item.now)) }
     ensures locals { OnOk result (locals.new ≡ locals.old) }
 {
     match item {
@@ -296,7 +296,7 @@ fn read_pair<T: Theory>(
     items: Rest<'_>,
 ) -> Result<Bound<T>, ReadEnd>
     requires { Serves T.numeric env.now.logic }
-    ensures read { Gives (bound_of T.denotes) result (spec.read_pair (environment_of env.now) locals.old taken.now place (items_in items.entry)) }
+    ensures read { ReadingGives (bound_of T.denotes) result (spec.read_pair (environment_of env.now) locals.old taken.now place (items_in items.entry)) }
     ensures locals { OnOk result (locals.new ≡ locals.old) }
 {
     let Some((name, rest)) = items.split() else {

@@ -39,9 +39,9 @@ is_name name (Some bytes) = bytes_eq bytes name
 abbrev pub is_symbol : List ℕ → Item → Bool
 is_symbol name item = is_name name (symbol item)
 
-abbrev pub is_empty : Items → Bool
-is_empty none = true
-is_empty (more first rest) = false
+abbrev pub has_no_items : Items → Bool
+has_no_items none = true
+has_no_items (more first rest) = false
 
 -- each item is a numeral
 abbrev pub are_numerals : Items → Bool

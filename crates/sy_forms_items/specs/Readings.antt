@@ -24,10 +24,10 @@ found_or place cause None = refuse place cause
 found_or place cause (Some x) = Ok x
 
 -- What a function returned, seen by view, is what is read, unless memory ran out.
-abbrev pub Fails : {Y : Type 0} → ReadEnd → Reading Y → Type 0
-Fails ends.Want read = Unit {0}
-Fails (ends.Refused place cause) read = read ≡ refuse place cause
+abbrev pub ReadingFails : {Y : Type 0} → ReadEnd → Reading Y → Type 0
+ReadingFails ends.Want read = Unit {0}
+ReadingFails (ends.Refused place cause) read = read ≡ refuse place cause
 
-abbrev pub Gives : {X Y : Type 0} → (X → Y) → Result X ReadEnd → Reading Y → Type 0
-Gives view (Ok x) read = read ≡ Ok (view x)
-Gives view (Err e) read = Fails e read
+abbrev pub ReadingGives : {X Y : Type 0} → (X → Y) → Result X ReadEnd → Reading Y → Type 0
+ReadingGives view (Ok x) read = read ≡ Ok (view x)
+ReadingGives view (Err e) read = ReadingFails e read

@@ -48,7 +48,7 @@ impl<'a> Rest<'a> {
 
     /// Whether no item is left.
     pub fn is_empty(self) -> bool
-        ensures { result ≡ spec.is_empty (items_in self.entry) }
+        ensures { result ≡ spec.has_no_items (items_in self.entry) }
     {
         self.split().is_none()
     }

@@ -11,7 +11,7 @@ use Rattle.sy_grammar_base.specs.Formed.{is_plain}
 use Rattle.sy_grammar_base.specs.Trees.{is_negative}
 use Rattle.sy_forms_phrases.specs.Phrases as phrase
 use Rattle.sy_forms_phrases.specs.Phrases.{Phrase, Phrases, expr_at, exprs_at}
-use Rattle.sy_forms.specs.Terms.{is_linear}
+use Rattle.sy_forms.specs.Terms.{is_linear_product}
 use Rattle.sy_forms_laws.specs.Fitting.{Setting, phrase_sort, phrase_sorts}
 
 -- an item of the first list, and one of the second behind it
@@ -67,7 +67,7 @@ mutual
   expr_fits setting locals (phrase.Nonterminal number) sort none e = let nothing : slice_get [] number ≡ Some sort = ap (λ (all : List Sort). slice_get all number) (sym none) ∙ e in absurd cc
   expr_fits setting locals (phrase.Operation operator arguments) sort none e =
       applied_as setting.scope operator (phrase_sorts setting locals arguments) _ sort (λ sorts found. exprs_fit setting locals arguments sorts none found)
-      (where_true (is_linear setting.constants operator arguments) _ sort e).1
+      (where_true (is_linear_product setting.constants operator arguments) _ sort e).1
   expr_fits setting locals (phrase.Invocation function arguments) sort none e =
       called_as (signature_of setting.scope function) (phrase_sorts setting locals arguments) _ sort (λ sorts found. exprs_fit setting locals arguments sorts none found) e
   expr_fits setting locals (phrase.Let bound inner) sort none e =

@@ -6,7 +6,7 @@ use Rattle.sy_terms.specs.Fitting.{Signature}
 use Rattle.sy_terms.specs.declared.op.Op.{Op}
 use Rattle.sy_terms.specs.declared.sort.Sort.{Sort}
 use Rattle.sy_terms_laws.proofs.Equations.{both_true, with_sort_Some}
-use Rattle.sy_grammar_base.specs.Formed.{is_linear, is_known, is_formed, fits, pattern_sort, pattern_sorts, rule_sort}
+use Rattle.sy_grammar_base.specs.Formed.{is_linear, is_known, is_formed, nonterminal_fits, pattern_sort, pattern_sorts, rule_sort}
 use Rattle.sy_grammar_base.specs.Patterns as pattern
 use Rattle.sy_grammar_base.specs.Patterns.{Pattern, Patterns}
 use Rattle.sy_grammar_base.specs.Trees.{Production, Template, EachConstant, EachVariable, Nonterminal, Syntax, is_sort}
@@ -53,7 +53,7 @@ module _ (owned : Op → Bool) (earlier later wanted : List Signature) (more : E
   sorted_wider sort None other same e = absurd cc
   sorted_wider sort (Some s) other same e = rw (same s refl) e
 
-  nonterminal_wider : (numeric : Sort → Bool) (n : Nonterminal) → fits numeric (with_functions owned earlier wanted) syntax n ≡ true → fits numeric (with_functions owned later wanted) syntax n ≡ true
+  nonterminal_wider : (numeric : Sort → Bool) (n : Nonterminal) → nonterminal_fits numeric (with_functions owned earlier wanted) syntax n ≡ true → nonterminal_fits numeric (with_functions owned later wanted) syntax n ≡ true
   nonterminal_wider numeric n e =
       let known = both_true (is_known numeric n.sort) _ e in
       let few = both_true (nat_lt (length n.rules) (2 ^ 31)) _ known.1 in

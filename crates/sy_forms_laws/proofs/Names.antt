@@ -6,7 +6,7 @@ use Rattle.sy_forms_names.specs.declared.names.Named.{Named}
 use Rattle.sy_forms_names.specs.Environments as env
 use Rattle.sy_forms_names.specs.Environments.{Environment, Sense, or_else, place_from, place_among, sense_as, sense_of}
 use Rattle.sy_forms_laws.specs.Fitting.{Setting}
-use Rattle.sy_forms_laws.specs.Right.{IsThere}
+use Rattle.sy_forms_laws.specs.Right.{SenseIsThere}
 
 -- the sorts of names
 abbrev pub sorts_of : List Named → List Sort
@@ -45,7 +45,7 @@ place_among_at name names found e =
     subst (λ p. slice_get (sorts_of names) p ≡ Some found.1) same it.at
 
 -- what is there without let names is there behind them
-there_behind : (setting : Setting) (locals : List Sort) (sense : Sense) → IsThere setting [] sense → IsThere setting locals sense
+there_behind : (setting : Setting) (locals : List Sort) (sense : Sense) → SenseIsThere setting [] sense → SenseIsThere setting locals sense
 there_behind setting locals (env.Local level sort) there = absurd cc
 there_behind setting locals (env.Nonterminal number sort) there = there
 there_behind setting locals (env.Argument position sort) there = there
@@ -54,15 +54,15 @@ there_behind setting locals (env.Function function takes gives) there = there
 there_behind setting locals env.Withheld there = there
 
 there_by : (setting : Setting) (locals : List Sort) (place : Option (ℕ × Sort)) (outer : Option Sense) (sense : Sense) →
-    ((x : ℕ × Sort) → place ≡ Some x → slice_get locals x.0 ≡ Some x.1) → ((found : Sense) → outer ≡ Some found → IsThere setting [] found) →
-    or_else (sense_as env.Local place) outer ≡ Some sense → IsThere setting locals sense
+    ((x : ℕ × Sort) → place ≡ Some x → slice_get locals x.0 ≡ Some x.1) → ((found : Sense) → outer ≡ Some found → SenseIsThere setting [] found) →
+    or_else (sense_as env.Local place) outer ≡ Some sense → SenseIsThere setting locals sense
 there_by setting locals None outer sense inside outside e = there_behind setting locals sense (outside sense e)
 there_by setting locals (Some x) outer sense inside outside e =
     let same : env.Local x.0 x.1 ≡ sense = cc in
-    subst (IsThere setting locals) same (inside x refl)
+    subst (SenseIsThere setting locals) same (inside x refl)
 
 -- what a name stands for where let names are in force
-pub there : (setting : Setting) (read : Environment) (locals : List Named) (name : List ℕ) (sense : Sense) → ((other : List ℕ) (found : Sense) → sense_of read [] other ≡ Some found → IsThere setting [] found) →
-    sense_of read locals name ≡ Some sense → IsThere setting (sorts_of locals) sense
+pub there : (setting : Setting) (read : Environment) (locals : List Named) (name : List ℕ) (sense : Sense) → ((other : List ℕ) (found : Sense) → sense_of read [] other ≡ Some found → SenseIsThere setting [] found) →
+    sense_of read locals name ≡ Some sense → SenseIsThere setting (sorts_of locals) sense
 there setting read locals name sense right e =
     there_by setting (sorts_of locals) (place_among name locals) (sense_of read [] name) sense (place_among_at name locals) (right name) e

@@ -11,17 +11,17 @@ use Rattle.sy_terms_laws.proofs.Equations.{both_true}
 use Rattle.sy_terms.specs.Logics.{operators_of}
 use Rattle.sy_forms_items.specs.declared.parts.Indices.{Indices}
 use Rattle.sy_forms_items.specs.declared.parts.Indices.TheVariants.{One, Two, More}
-use Rattle.sy_forms_names.specs.Operators.{spelled, operator_named, core_operators, theory_operators, with_one_index, indexed_operator, at_count}
+use Rattle.sy_forms_names.specs.Operators.{operator_spelled, operator_named, core_operators, theory_operators, with_one_index, indexed_operator, at_count}
 
 chosen : (b : Bool) (op : Op) (other : Option Op) (found : Op) (P : Op → Type 0) → P op → ((x : Op) → other ≡ Some x → P x) → (if b then Some op else other) ≡ Some found → P found
 chosen true op other found P here later e = let same : op ≡ found = cc in subst P same here
 chosen false op other found P here later e = later found e
 
-spelled_passes : (P : Op → Bool) (name : List ℕ) (all : List Op) (found : Op) → list_all P all ≡ true → spelled name all ≡ Some found → P found ≡ true
+spelled_passes : (P : Op → Bool) (name : List ℕ) (all : List Op) (found : Op) → list_all P all ≡ true → operator_spelled name all ≡ Some found → P found ≡ true
 spelled_passes P name [] found passes e = absurd cc
 spelled_passes P name (op ∷ rest) found passes e =
     let both = both_true (P op) (list_all P rest) passes in
-    chosen (bytes_eq name (spelling op)) op (spelled name rest) found (λ x. P x ≡ true) both.0 (λ x is. spelled_passes P name rest x both.1 is) e
+    chosen (bytes_eq name (spelling op)) op (operator_spelled name rest) found (λ x. P x ≡ true) both.0 (λ x is. spelled_passes P name rest x both.1 is) e
 
 all_owned : (logic : Logic) → list_all (operators_of logic) (core_operators ++ theory_operators logic) ≡ true
 all_owned Lia = refl

@@ -16,7 +16,7 @@ use Rattle.sy_grammar_base.specs.Trees.{Nonterminal, Syntax}
 use Rattle.sy_forms_phrases.specs.Measures.{is_neg}
 use Rattle.sy_forms_phrases.specs.Phrases as phrase
 use Rattle.sy_forms_phrases.specs.Phrases.{Phrase, Phrases, pattern_at, patterns_at}
-use Rattle.sy_forms.specs.Terms.{is_constant, is_literal, is_written, flag_at, varying, is_linear}
+use Rattle.sy_forms.specs.Terms.{is_constant_phrase, is_one_literal, is_written_phrase, flag_at, varying_factors, is_linear_product}
 use Rattle.sy_forms_laws.specs.Fitting.{Setting, phrase_sort, phrase_sorts}
 use Rattle.sy_forms_laws.specs.Right.{IsOfGrammar}
 use Rattle.sy_forms_laws.proofs.Exprs.{where_true, applied_as, called_as}
@@ -25,7 +25,7 @@ use Rattle.sy_forms_laws.proofs.Exprs.{where_true, applied_as, called_as}
 abbrev Constants : List Bool → List Nonterminal → Type 0
 Constants constants nonterminals = (number : ℕ) → flag_at constants number ≡ true → all_give_constants (slice_get nonterminals number) ≡ true
 
-written_constant : (it : Phrase) → is_written it ≡ true → formed.is_constant (pattern_at it) ≡ true
+written_constant : (it : Phrase) → is_written_phrase it ≡ true → formed.is_constant (pattern_at it) ≡ true
 unfolding pattern_at
 written_constant (phrase.Literal value) e = refl
 written_constant (phrase.Position position) e = absurd cc
@@ -35,24 +35,24 @@ written_constant (phrase.Operation operator arguments) e = absurd cc
 written_constant (phrase.Invocation function arguments) e = absurd cc
 written_constant (phrase.Let bound inner) e = absurd cc
 
-one_constant : (all : Phrases) → is_literal all ≡ true → is_one_constant (patterns_at all) ≡ true
+one_constant : (all : Phrases) → is_one_literal all ≡ true → is_one_constant (patterns_at all) ≡ true
 unfolding patterns_at
 one_constant phrase.none e = absurd cc
 one_constant (phrase.more first phrase.none) e = written_constant first e
 one_constant (phrase.more first (phrase.more next rest)) e = absurd cc
 
-signed : (operator : Op) (arguments : Phrases) → is_neg operator ≡ true → is_literal arguments ≡ true → is_signed (pattern.Apply operator (patterns_at arguments)) ≡ true
+signed : (operator : Op) (arguments : Phrases) → is_neg operator ≡ true → is_one_literal arguments ≡ true → is_signed (pattern.Apply operator (patterns_at arguments)) ≡ true
 signed ops.Neg arguments neg literal = one_constant arguments literal
 signed _ arguments neg literal = absurd cc
 
-fixed : (constants : List Bool) (nonterminals : List Nonterminal) → Constants constants nonterminals → (it : Phrase) → is_constant constants it ≡ true → is_fixed nonterminals (pattern_at it) ≡ true
+fixed : (constants : List Bool) (nonterminals : List Nonterminal) → Constants constants nonterminals → (it : Phrase) → is_constant_phrase constants it ≡ true → is_fixed nonterminals (pattern_at it) ≡ true
 unfolding pattern_at
 fixed constants nonterminals flags (phrase.Literal value) e = refl
 fixed constants nonterminals flags (phrase.Position position) e = absurd cc
 fixed constants nonterminals flags (phrase.Local level) e = absurd cc
 fixed constants nonterminals flags (phrase.Nonterminal number) e = flags number e
 fixed constants nonterminals flags (phrase.Operation operator arguments) e =
-    let both = both_true (is_neg operator) (is_literal arguments) e in
+    let both = both_true (is_neg operator) (is_one_literal arguments) e in
     signed operator arguments both.0 both.1
 fixed constants nonterminals flags (phrase.Invocation function arguments) e = absurd cc
 fixed constants nonterminals flags (phrase.Let bound inner) e = absurd cc
@@ -62,17 +62,17 @@ lighter b true m n implied few = omega (arith, few)
 lighter false false m n implied few = omega (arith, few)
 lighter true false m n implied few = absurd (let e = implied refl in cc)
 
-varies_less : (constants : List Bool) (nonterminals : List Nonterminal) → Constants constants nonterminals → (all : Phrases) → formed.varying nonterminals (patterns_at all) ≤ varying constants all
+varies_less : (constants : List Bool) (nonterminals : List Nonterminal) → Constants constants nonterminals → (all : Phrases) → formed.varying nonterminals (patterns_at all) ≤ varying_factors constants all
 unfolding patterns_at
 varies_less constants nonterminals flags phrase.none = omega arith
 varies_less constants nonterminals flags (phrase.more first rest) =
-    lighter (is_constant constants first) (is_fixed nonterminals (pattern_at first)) _ _ (fixed constants nonterminals flags first) (varies_less constants nonterminals flags rest)
+    lighter (is_constant_phrase constants first) (is_fixed nonterminals (pattern_at first)) _ _ (fixed constants nonterminals flags first) (varies_less constants nonterminals flags rest)
 
 product_linear : (m n : ℕ) → m ≤ n → nat_le n 1 ≡ true → nat_le m 1 ≡ true
 product_linear m n less e = le-leb m 1 (omega (arith, less, leb-true n 1 e))
 
-linear : (constants : List Bool) (nonterminals : List Nonterminal) → Constants constants nonterminals → (operator : Op) (arguments : Phrases) → is_linear constants operator arguments ≡ true → formed.is_linear nonterminals operator (patterns_at arguments) ≡ true
-linear constants nonterminals flags ops.Mul arguments e = product_linear _ (varying constants arguments) (varies_less constants nonterminals flags arguments) e
+linear : (constants : List Bool) (nonterminals : List Nonterminal) → Constants constants nonterminals → (operator : Op) (arguments : Phrases) → is_linear_product constants operator arguments ≡ true → formed.is_linear nonterminals operator (patterns_at arguments) ≡ true
+linear constants nonterminals flags ops.Mul arguments e = product_linear _ (varying_factors constants arguments) (varies_less constants nonterminals flags arguments) e
 linear constants nonterminals flags _ arguments e = refl
 
 mutual
@@ -85,7 +85,7 @@ mutual
   pattern_fits setting syntax of (phrase.Nonterminal number) sort e =
       sym (slice_get-map (λ (n : Nonterminal). n.sort) syntax.nonterminals number) ∙ sym (ap (λ (all : List Sort). slice_get all number) of.nonterminals) ∙ e
   pattern_fits setting syntax of (phrase.Operation operator arguments) sort e =
-      let found = where_true (is_linear setting.constants operator arguments) _ sort e in
+      let found = where_true (is_linear_product setting.constants operator arguments) _ sort e in
       rw (linear setting.constants syntax.nonterminals of.constants operator arguments found.0)
       (applied_as setting.scope operator (phrase_sorts setting [] arguments) _ sort (λ sorts is. patterns_fit setting syntax of arguments sorts is) found.1)
   pattern_fits setting syntax of (phrase.Invocation (Defined f) arguments) sort e =

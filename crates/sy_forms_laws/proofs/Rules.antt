@@ -22,12 +22,12 @@ use Rattle.sy_grammar_base.specs.Trees.{Syntax}
 use Rattle.sy_forms_names.specs.Environments.{Environment, Sense, sense_of}
 use Rattle.sy_forms_items.specs.Parts.{place_of, numeral, numeral_in, is_symbol}
 use Rattle.sy_forms_phrases.specs.Phrases as phrase
-use Rattle.sy_forms_phrases.specs.Phrases.{Typed, Several, nothing, behind, pattern_at, patterns_at}
+use Rattle.sy_forms_phrases.specs.Phrases.{Typed, Several, no_terms, behind, pattern_at, patterns_at}
 use Rattle.sy_forms.specs.Rules.{Ruling, Template, EachConstant, EachVariable, production_at, sort_behind, sort_for_all, rule_for_all, rule_term, rule_list, read_rule, is_negated_numeral, is_int_rule, is_constant_rule}
 use Rattle.sy_forms_names.specs.Sorts.{read_sort}
-use Rattle.sy_forms.specs.Terms.{Head, Operator, read_term, read_list, read_terms, read_head, atom_term, numeral_term, name_head, applied}
+use Rattle.sy_forms.specs.Terms.{Head, Operator, read_term, read_list, read_terms, read_head, atom_term, numeral_term, name_head, head_applied}
 use Rattle.sy_forms_laws.specs.Fitting.{Setting}
-use Rattle.sy_forms_laws.specs.Right.{IsRight, IsOfGrammar}
+use Rattle.sy_forms_laws.specs.Right.{EnvironmentIsRight, IsOfGrammar}
 use Rattle.sy_forms_laws.proofs.Readings.{chained, unless_refused, weaker, any_read}
 use Rattle.sy_forms_laws.proofs.Terms.{TypedFits, term_fits}
 use Rattle.sy_forms_laws.proofs.Patterns.{pattern_fits}
@@ -43,20 +43,20 @@ for_all_fits P read sort place ruling item holds =
     unless_refused (λ found. found ≡ sort) (same_sort found sort) place cause.SortMismatch (Ok found) (λ e. same_sort_is found sort e)))
     (λ found is same. subst (λ s. P (ruling s)) (sym same) holds)
 
-term_rule_fits : (numeric : Sort → Bool) (setting : Setting) (read : Environment) (syntax : Syntax) → IsRight numeric setting read → IsOfGrammar setting syntax → (sort : Sort) (item : Item) → IfOk (rule_term read sort item) (RuleFits setting syntax sort)
+term_rule_fits : (numeric : Sort → Bool) (setting : Setting) (read : Environment) (syntax : Syntax) → EnvironmentIsRight numeric setting read → IsOfGrammar setting syntax → (sort : Sort) (item : Item) → IfOk (rule_term read sort item) (RuleFits setting syntax sort)
 term_rule_fits numeric setting read syntax right of sort item =
     chained (TypedFits setting []) (RuleFits setting syntax sort) (read_term read [] item) _ (term_fits numeric setting read right [] item) (λ x is fit.
     unless_refused (RuleFits setting syntax sort) (same_sort x.sort sort) (place_of item) cause.SortMismatch (Ok (Template x.phrase)) (λ e.
     pattern_fits setting syntax of x.phrase sort (fit ∙ ap Some (same_sort_is x.sort sort e))))
 
-list_rule_fits : (numeric : Sort → Bool) (setting : Setting) (read : Environment) (syntax : Syntax) → IsRight numeric setting read → IsOfGrammar setting syntax → (sort : Sort) (item : Item) (place : Place) (constant variable : Option Item)
+list_rule_fits : (numeric : Sort → Bool) (setting : Setting) (read : Environment) (syntax : Syntax) → EnvironmentIsRight numeric setting read → IsOfGrammar setting syntax → (sort : Sort) (item : Item) (place : Place) (constant variable : Option Item)
     → IfOk (rule_list read sort item place constant variable) (RuleFits setting syntax sort)
 list_rule_fits numeric setting read syntax right of sort item place (Some s) variable = for_all_fits (RuleFits setting syntax sort) read sort place EachConstant s refl
 list_rule_fits numeric setting read syntax right of sort item place None (Some s) = for_all_fits (RuleFits setting syntax sort) read sort place EachVariable s refl
 list_rule_fits numeric setting read syntax right of sort item place None None = term_rule_fits numeric setting read syntax right of sort item
 
 -- a rule that is read has its nonterminal's sort
-pub rule_fits : (numeric : Sort → Bool) (setting : Setting) (read : Environment) (syntax : Syntax) → IsRight numeric setting read → IsOfGrammar setting syntax → (sort : Sort) (item : Item) → IfOk (read_rule read sort item) (RuleFits setting syntax sort)
+pub rule_fits : (numeric : Sort → Bool) (setting : Setting) (read : Environment) (syntax : Syntax) → EnvironmentIsRight numeric setting read → IsOfGrammar setting syntax → (sort : Sort) (item : Item) → IfOk (read_rule read sort item) (RuleFits setting syntax sort)
 unfolding read_rule
 rule_fits numeric setting read syntax right of sort (leaf atom place) = term_rule_fits numeric setting read syntax right of sort (leaf atom place)
 rule_fits numeric setting read syntax right of sort (group parts place) =
@@ -110,17 +110,17 @@ minus_named Bv place found free = weaker (λ head. ⊤) (IsMinus Bv) (name_head 
 abbrev IsOneNumeral : Logic → Several → Type 0
 IsOneNumeral logic x = (logic ≡ Lia) × (value : Val) × (x ≡ record { phrases = phrase.more (phrase.Literal value) phrase.none; sorts = sorts.Int ∷ [] })
 
-one_numeral : (read : Environment) (atom : Atom) (place : Place) → is_some (numeral_in atom) ≡ true → IfOk (read_terms read [] nothing (items.more (leaf atom place) items.none)) (IsOneNumeral read.logic)
+one_numeral : (read : Environment) (atom : Atom) (place : Place) → is_some (numeral_in atom) ≡ true → IfOk (read_terms read [] no_terms (items.more (leaf atom place) items.none)) (IsOneNumeral read.logic)
 unfolding read_terms
 one_numeral read atom place e =
     chained (IsNumeral read.logic) (IsOneNumeral read.logic) (read_term read [] (leaf atom place)) _ (numeral_item read atom place e) (λ x is numeral.
-    (numeral.0, numeral.1, ap (λ t. behind nothing t) numeral.2))
+    (numeral.0, numeral.1, ap (λ t. behind no_terms t) numeral.2))
 
-negated : (constants : List Bool) (place : Place) (value : Val) → IfOk (applied constants place (Operator ops.Sub) (record { phrases = phrase.more (phrase.Literal value) phrase.none; sorts = sorts.Int ∷ [] })) IsSigned
-unfolding applied sort_of pattern_at patterns_at
+negated : (constants : List Bool) (place : Place) (value : Val) → IfOk (head_applied constants place (Operator ops.Sub) (record { phrases = phrase.more (phrase.Literal value) phrase.none; sorts = sorts.Int ∷ [] })) IsSigned
+unfolding head_applied sort_of pattern_at patterns_at
 negated constants place value = refl
 
-minus_applied : (logic : Logic) (constants : List Bool) (place : Place) (head : Head) (arguments : Several) → IsMinus logic head → IsOneNumeral logic arguments → IfOk (applied constants place head arguments) IsSigned
+minus_applied : (logic : Logic) (constants : List Bool) (place : Place) (head : Head) (arguments : Several) → IsMinus logic head → IsOneNumeral logic arguments → IfOk (head_applied constants place head arguments) IsSigned
 minus_applied logic constants place head arguments minus one = rw (minus one.0, one.2) (negated constants place one.1)
 
 -- `(- n)` with a numeral n
@@ -129,7 +129,7 @@ negation_read : (read : Environment) → (read.logic ≡ Lia → sense_of read [
 unfolding read_term read_list read_head
 negation_read read free place at p atom e =
     chained (IsMinus read.logic) IsSigned (read_head read [] (leaf (atoms.Symbol (codes "-")) at)) _ (minus_named read.logic at (sense_of read [] (codes "-")) free) (λ head is minus.
-    chained (IsOneNumeral read.logic) IsSigned (read_terms read [] nothing (items.more (leaf atom p) items.none)) _ (one_numeral read atom p e) (λ arguments args_is one.
+    chained (IsOneNumeral read.logic) IsSigned (read_terms read [] no_terms (items.more (leaf atom p) items.none)) _ (one_numeral read atom p e) (λ arguments args_is one.
     minus_applied read.logic read.constants place head arguments minus one))
 
 -- an item that is this symbol

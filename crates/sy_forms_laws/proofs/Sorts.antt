@@ -12,7 +12,7 @@ use Rattle.sy_terms.specs.declared.sort.Sort.TheVariants as sorts
 use Rattle.sy_scope_causes.specs.declared.cause.Cause.TheVariants as cause
 use Rattle.sy_grammar_base.specs.Formed.{is_known}
 use Rattle.sy_terms.specs.Logics.{IsTheoryOf}
-use Rattle.sy_forms_names.specs.Environments.{entry}
+use Rattle.sy_forms_names.specs.Environments.{entry_under}
 use Rattle.sy_forms_items.specs.Parts.{symbol_in, is_symbol, indexed_name}
 use Rattle.sy_forms_names.specs.Sorts.{int_in, sort_named, is_width, vector_sort, indexed_sort, sort_by_name, read_sort}
 use Rattle.sy_forms_items.specs.declared.parts.Indices.{Indices}
@@ -30,10 +30,10 @@ found_has P true first x other here later e = let same : first ≡ x = cc in sub
 found_has P false first x other here later e = later e
 
 -- what stands under a name has what all entries have
-pub entry_has : {A : Type 0} (P : A → Type 0) (name : List ℕ) (entries : List (List ℕ × A)) (x : A) → All (λ (e : List ℕ × A). P e.1) entries → entry name entries ≡ Some x → P x
+pub entry_has : {A : Type 0} (P : A → Type 0) (name : List ℕ) (entries : List (List ℕ × A)) (x : A) → All (λ (e : List ℕ × A). P e.1) entries → entry_under name entries ≡ Some x → P x
 entry_has P name [] x all e = absurd cc
 entry_has {A} P name (y ∷ entries) x all e =
-    found_has P (bytes_eq name y.0) y.1 x (entry name entries) (All-head (λ (e : List ℕ × A). P e.1) y entries all) (λ f. entry_has P name entries x (All-tail (λ (e : List ℕ × A). P e.1) y entries all) f) e
+    found_has P (bytes_eq name y.0) y.1 x (entry_under name entries) (All-head (λ (e : List ℕ × A). P e.1) y entries all) (λ f. entry_has P name entries x (All-tail (λ (e : List ℕ × A). P e.1) y entries all) f) e
 
 int_known : (owned : Op → Bool) (numeric : Sort → Bool) (logic : Logic) (found : Sort) → IsTheoryOf logic owned numeric → int_in logic ≡ Some found → Known numeric found
 int_known owned numeric Lia found of e = let same : sorts.Int ≡ found = cc in subst (Known numeric) same (of.sorts sorts.Int)
@@ -47,7 +47,7 @@ named_known : (owned : Op → Bool) (numeric : Sort → Bool) (logic : Logic) (a
     → sort_named logic abbreviations name ≡ Some found → Known numeric found
 named_known owned numeric logic abbreviations name found of all e =
     found_has (Known numeric) (bytes_eq name (codes "Bool")) sorts.Bool found _ refl
-    (λ f. int_by numeric (bytes_eq name (codes "Int")) (int_in logic) (entry name abbreviations) found (int_known owned numeric logic found of) (entry_has (Known numeric) name abbreviations found all) f) e
+    (λ f. int_by numeric (bytes_eq name (codes "Int")) (int_in logic) (entry_under name abbreviations) found (int_known owned numeric logic found of) (entry_has (Known numeric) name abbreviations found all) f) e
 
 by_name_known : (owned : Op → Bool) (numeric : Sort → Bool) (logic : Logic) (abbreviations : List (List ℕ × Sort)) (place : Place) (name : Option (List ℕ)) → IsTheoryOf logic owned numeric → All (KnownEntry numeric) abbreviations
     → IfOk (sort_by_name logic abbreviations place name) (Known numeric)

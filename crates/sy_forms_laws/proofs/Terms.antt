@@ -28,15 +28,15 @@ use Rattle.sy_forms_items.specs.declared.parts.Indices.TheVariants.{One, Two, Mo
 use Rattle.sy_forms_names.specs.Environments as env
 use Rattle.sy_forms_names.specs.Environments.{Environment, Sense, sense_of}
 use Rattle.sy_forms_names.specs.Operators.{operator_named, indexed_operator, are_small, at_count}
-use Rattle.sy_forms_phrases.specs.Measures.{Measures, is_small}
-use Rattle.sy_forms_items.specs.Parts.{place_of, symbol_in, is_symbol, is_empty, indexed_name}
+use Rattle.sy_forms_phrases.specs.Measures.{Measures, is_within_limits}
+use Rattle.sy_forms_items.specs.Parts.{place_of, symbol_in, is_symbol, has_no_items, indexed_name}
 use Rattle.sy_forms_phrases.specs.Phrases as phrase
-use Rattle.sy_forms_phrases.specs.Phrases.{Phrase, Phrases, Typed, Several, nothing, behind, append}
+use Rattle.sy_forms_phrases.specs.Phrases.{Phrase, Phrases, Typed, Several, no_terms, behind, append_phrases}
 use Rattle.sy_forms_items.specs.Readings.{Reading}
 use Rattle.sy_forms_names.specs.Sorts.{is_width}
-use Rattle.sy_forms.specs.Terms.{literal_as, number_as, numeral_term, vector_term, bv_number, bv_literal, indexed_term, undeclared_term, alone, name_term, atom_term, Head, Operator, Function, operator_head, name_head, small_head, indexed_head, list_head, atom_head, read_head, is_linear, operation_by, applied, Bounds, Bound, unbound, bound_behind, let_term, new_name, let_may_stand, read_term, read_list, read_terms, read_let, read_let_in, read_binding_list, read_bindings, read_binding, read_pair, read_bound, read_whole}
+use Rattle.sy_forms.specs.Terms.{literal_as, number_as, numeral_term, vector_term, bv_number, bv_literal, indexed_term, undeclared_term, alone, name_term, atom_term, Head, Operator, Function, operator_head, name_head, small_head, indexed_head, list_head, atom_head, read_head, is_linear_product, operation_by, head_applied, Bounds, Bound, unbound, bound_behind, let_term, new_binding_name, let_may_stand, read_term, read_list, read_terms, read_let, read_let_in, read_binding_list, read_bindings, read_binding, read_pair, read_bound, read_whole}
 use Rattle.sy_forms_laws.specs.Fitting.{Setting, phrase_sort, phrase_sorts}
-use Rattle.sy_forms_laws.specs.Right.{IsThere, IsRight}
+use Rattle.sy_forms_laws.specs.Right.{SenseIsThere, EnvironmentIsRight}
 use Rattle.sy_forms_laws.proofs.Readings.{chained, either, unless_refused, where_not_refused, any_read}
 use Rattle.sy_forms_laws.proofs.Exprs.{where_allowed, after_as}
 use Rattle.sy_forms_laws.proofs.Names.{sorts_of, there}
@@ -99,7 +99,7 @@ unfolding phrase_sort phrase_sorts
 alone_fits setting locals place function [] gives there = rw there refl
 alone_fits setting locals place function (s ∷ takes) gives there = tt
 
-name_fits : (setting : Setting) (locals : List Sort) (logic : Logic) (place : Place) (name : List ℕ) (found : Option Sense) → ((sense : Sense) → found ≡ Some sense → IsThere setting locals sense) → IfOk (name_term logic place name found) (TypedFits setting locals)
+name_fits : (setting : Setting) (locals : List Sort) (logic : Logic) (place : Place) (name : List ℕ) (found : Option Sense) → ((sense : Sense) → found ≡ Some sense → SenseIsThere setting locals sense) → IfOk (name_term logic place name found) (TypedFits setting locals)
 unfolding phrase_sort
 name_fits setting locals logic place name None there = undeclared_fits setting locals logic place name
 name_fits setting locals logic place name (Some (env.Local level sort)) there = there (env.Local level sort) refl
@@ -117,7 +117,7 @@ vector_fits : (setting : Setting) (locals : List Sort) (logic : Logic) (place : 
 vector_fits setting locals Lia place width n = tt
 vector_fits setting locals Bv place width n = number_fits setting locals place (sorts.Bits width) n
 
-atom_fits : (numeric : Sort → Bool) (setting : Setting) (read : Environment) (locals : List Named) → IsRight numeric setting read → (place : Place) (atom : Atom) → IfOk (atom_term read locals place atom) (TypedFits setting (sorts_of locals))
+atom_fits : (numeric : Sort → Bool) (setting : Setting) (read : Environment) (locals : List Named) → EnvironmentIsRight numeric setting read → (place : Place) (atom : Atom) → IfOk (atom_term read locals place atom) (TypedFits setting (sorts_of locals))
 unfolding atom_term
 atom_fits numeric setting read locals right place (atoms.Symbol name) = name_fits setting (sorts_of locals) read.logic place name (sense_of read locals name) (λ sense e. there setting read locals name sense right.names e)
 atom_fits numeric setting read locals right place (atoms.Numeral n) = numeral_fits setting (sorts_of locals) read.logic place n
@@ -137,7 +137,7 @@ operator_head_fits : (logic : Logic) (setting : Setting) (place : Place) (found 
 operator_head_fits logic setting place None owned = tt
 operator_head_fits logic setting place (Some op) owned = owned op refl
 
-name_head_fits : (logic : Logic) (setting : Setting) (locals : List Sort) (place : Place) (name : List ℕ) (found : Option Sense) → ((sense : Sense) → found ≡ Some sense → IsThere setting locals sense) → IfOk (name_head logic place name found) (HeadFits logic setting)
+name_head_fits : (logic : Logic) (setting : Setting) (locals : List Sort) (place : Place) (name : List ℕ) (found : Option Sense) → ((sense : Sense) → found ≡ Some sense → SenseIsThere setting locals sense) → IfOk (name_head logic place name found) (HeadFits logic setting)
 name_head_fits logic setting locals place name None there = operator_head_fits logic setting place (operator_named logic name) (named_owned logic name)
 name_head_fits logic setting locals place name (Some (env.Local level sort)) there = tt
 name_head_fits logic setting locals place name (Some (env.Nonterminal number sort)) there = tt
@@ -160,19 +160,19 @@ list_head_fits logic setting place items.none = tt
 list_head_fits logic setting place (items.more first rest) =
     unless_refused (HeadFits logic setting) (is_symbol (codes "_") first) place cause.Shape (indexed_head logic place (indexed_name rest)) (λ e. indexed_head_fits logic setting place (indexed_name rest))
 
-atom_head_fits : (numeric : Sort → Bool) (setting : Setting) (read : Environment) (locals : List Named) → IsRight numeric setting read → (place : Place) (name : Option (List ℕ)) → IfOk (atom_head read locals place name) (HeadFits read.logic setting)
+atom_head_fits : (numeric : Sort → Bool) (setting : Setting) (read : Environment) (locals : List Named) → EnvironmentIsRight numeric setting read → (place : Place) (name : Option (List ℕ)) → IfOk (atom_head read locals place name) (HeadFits read.logic setting)
 atom_head_fits numeric setting read locals right place None = tt
 atom_head_fits numeric setting read locals right place (Some name) =
     name_head_fits read.logic setting (sorts_of locals) place name (sense_of read locals name) (λ sense e. there setting read locals name sense right.names e)
 
-head_fits : (numeric : Sort → Bool) (setting : Setting) (read : Environment) (locals : List Named) → IsRight numeric setting read → (head : Item) → IfOk (read_head read locals head) (HeadFits read.logic setting)
+head_fits : (numeric : Sort → Bool) (setting : Setting) (read : Environment) (locals : List Named) → EnvironmentIsRight numeric setting read → (head : Item) → IfOk (read_head read locals head) (HeadFits read.logic setting)
 unfolding read_head
 head_fits numeric setting read locals right (leaf atom place) = atom_head_fits numeric setting read locals right place (symbol_in atom)
 head_fits numeric setting read locals right (group parts place) = list_head_fits read.logic setting place parts
 
 -- Applications
 
-operation_sort : (setting : Setting) (locals : List Sort) (op : Op) (arguments : Several) (sort : Sort) → setting.scope.owned op ≡ true → SeveralFit setting locals arguments → sort_of op arguments.sorts ≡ Is sort → is_linear setting.constants op arguments.phrases ≡ true
+operation_sort : (setting : Setting) (locals : List Sort) (op : Op) (arguments : Several) (sort : Sort) → setting.scope.owned op ≡ true → SeveralFit setting locals arguments → sort_of op arguments.sorts ≡ Is sort → is_linear_product setting.constants op arguments.phrases ≡ true
     → phrase_sort setting locals (phrase.Operation op arguments.phrases) ≡ Some sort
 unfolding phrase_sort
 operation_sort setting locals op arguments sort owned fit e linear = rw (linear, fit, owned, e) refl
@@ -182,16 +182,16 @@ operation_fits : (setting : Setting) (locals : List Sort) (place : Place) (op : 
 operation_fits setting locals place op arguments Mismatch owned fit e = tt
 operation_fits setting locals place op arguments BadWidth owned fit e = tt
 operation_fits setting locals place op arguments (Is sort) owned fit e =
-    unless_refused (TypedFits setting locals) (is_linear setting.constants op arguments.phrases) place cause.Nonlinear _ (λ linear. operation_sort setting locals op arguments sort owned fit e linear)
+    unless_refused (TypedFits setting locals) (is_linear_product setting.constants op arguments.phrases) place cause.Nonlinear _ (λ linear. operation_sort setting locals op arguments sort owned fit e linear)
 
 invocation_fits : (setting : Setting) (locals : List Sort) (function : Fun) (takes : List Sort) (gives : Sort) (arguments : Several) → signature_of setting.scope function ≡ Some (record { takes = takes; gives = gives }) → SeveralFit setting locals arguments → same_sorts arguments.sorts takes ≡ true
     → phrase_sort setting locals (phrase.Invocation function arguments.phrases) ≡ Some gives
 unfolding phrase_sort
 invocation_fits setting locals function takes gives arguments there fit same = rw (there, fit, same) refl
 
-applied_fits : (numeric : Sort → Bool) (setting : Setting) (read : Environment) (locals : List Sort) → IsRight numeric setting read → (place : Place) (head : Head) (arguments : Several) → HeadFits read.logic setting head → SeveralFit setting locals arguments
-    → IfOk (applied setting.constants place head arguments) (TypedFits setting locals)
-unfolding applied
+applied_fits : (numeric : Sort → Bool) (setting : Setting) (read : Environment) (locals : List Sort) → EnvironmentIsRight numeric setting read → (place : Place) (head : Head) (arguments : Several) → HeadFits read.logic setting head → SeveralFit setting locals arguments
+    → IfOk (head_applied setting.constants place head arguments) (TypedFits setting locals)
+unfolding head_applied
 applied_fits numeric setting read locals right place (Operator op) arguments there fit =
     let counted = at_count (length arguments.sorts) op in
     operation_fits setting locals place counted arguments (sort_of counted arguments.sorts) (right.theory.operators counted ∙ counted_owned read.logic (length arguments.sorts) op there) fit refl
@@ -200,7 +200,7 @@ applied_fits numeric setting read locals right place (Function function takes gi
 
 -- one phrase more
 sorts-last : (setting : Setting) (locals : List Sort) (done : Phrases) (last : Phrase) (found : List Sort) (sort : Sort) → phrase_sorts setting locals done ≡ Some found → phrase_sort setting locals last ≡ Some sort
-    → phrase_sorts setting locals (append done (phrase.more last phrase.none)) ≡ Some (found ++ sort ∷ [])
+    → phrase_sorts setting locals (append_phrases done (phrase.more last phrase.none)) ≡ Some (found ++ sort ∷ [])
 unfolding phrase_sorts
 sorts-last setting locals phrase.none last found sort e h =
     let same : [] ≡ found = cc in
@@ -221,7 +221,7 @@ let_fits setting locals bs x lets fit inner =
 
 -- Terms
 
-nothing_fits : (setting : Setting) (locals : List Sort) → SeveralFit setting locals nothing
+nothing_fits : (setting : Setting) (locals : List Sort) → SeveralFit setting locals no_terms
 unfolding phrase_sorts
 nothing_fits setting locals = refl
 
@@ -232,11 +232,11 @@ unbound_fits setting locals = refl
 mutual
   unfolding read_term read_list read_terms read_let read_let_in read_binding_list read_bindings read_binding read_pair read_bound
 
-  pub term_fits : (numeric : Sort → Bool) (setting : Setting) (read : Environment) → IsRight numeric setting read → (locals : List Named) (item : Item) → IfOk (read_term read locals item) (TypedFits setting (sorts_of locals))
+  pub term_fits : (numeric : Sort → Bool) (setting : Setting) (read : Environment) → EnvironmentIsRight numeric setting read → (locals : List Named) (item : Item) → IfOk (read_term read locals item) (TypedFits setting (sorts_of locals))
   term_fits numeric setting read right locals (leaf atom place) = atom_fits numeric setting read locals right place atom
   term_fits numeric setting read right locals (group parts place) = list_fits numeric setting read right locals place parts
 
-  list_fits : (numeric : Sort → Bool) (setting : Setting) (read : Environment) → IsRight numeric setting read → (locals : List Named) (place : Place) (parts : Items) → IfOk (read_list read locals place parts) (TypedFits setting (sorts_of locals))
+  list_fits : (numeric : Sort → Bool) (setting : Setting) (read : Environment) → EnvironmentIsRight numeric setting read → (locals : List Named) (place : Place) (parts : Items) → IfOk (read_list read locals place parts) (TypedFits setting (sorts_of locals))
   list_fits numeric setting read right locals place items.none = tt
   list_fits numeric setting read right locals place (items.more head rest) =
       either (TypedFits setting (sorts_of locals)) (is_symbol (codes "let") head) _ _
@@ -245,21 +245,21 @@ mutual
       (λ e. either (TypedFits setting (sorts_of locals)) (is_symbol (codes "_") head) _ _
       (λ f. indexed_fits setting (sorts_of locals) read.logic place (indexed_name rest))
       (λ f. chained (HeadFits read.logic setting) (TypedFits setting (sorts_of locals)) (read_head read locals head) _ (head_fits numeric setting read locals right head) (λ found is there.
-      chained (SeveralFit setting (sorts_of locals)) (TypedFits setting (sorts_of locals)) (read_terms read locals nothing rest) _ (terms_fit numeric setting read right locals nothing (nothing_fits setting (sorts_of locals)) rest) (λ arguments is fit.
-      subst (λ constants. IfOk (applied constants place found arguments) (TypedFits setting (sorts_of locals))) (sym right.constants) (applied_fits numeric setting read (sorts_of locals) right place found arguments there fit)))))
+      chained (SeveralFit setting (sorts_of locals)) (TypedFits setting (sorts_of locals)) (read_terms read locals no_terms rest) _ (terms_fit numeric setting read right locals no_terms (nothing_fits setting (sorts_of locals)) rest) (λ arguments is fit.
+      subst (λ constants. IfOk (head_applied constants place found arguments) (TypedFits setting (sorts_of locals))) (sym right.constants) (applied_fits numeric setting read (sorts_of locals) right place found arguments there fit)))))
 
-  terms_fit : (numeric : Sort → Bool) (setting : Setting) (read : Environment) → IsRight numeric setting read → (locals : List Named) (done : Several) → SeveralFit setting (sorts_of locals) done → (parts : Items) → IfOk (read_terms read locals done parts) (SeveralFit setting (sorts_of locals))
+  terms_fit : (numeric : Sort → Bool) (setting : Setting) (read : Environment) → EnvironmentIsRight numeric setting read → (locals : List Named) (done : Several) → SeveralFit setting (sorts_of locals) done → (parts : Items) → IfOk (read_terms read locals done parts) (SeveralFit setting (sorts_of locals))
   terms_fit numeric setting read right locals done fit items.none = fit
   terms_fit numeric setting read right locals done fit (items.more first rest) =
       chained (TypedFits setting (sorts_of locals)) (SeveralFit setting (sorts_of locals)) (read_term read locals first) _ (term_fits numeric setting read right locals first) (λ x is last.
       terms_fit numeric setting read right locals (behind done x) (sorts-last setting (sorts_of locals) done.phrases x.phrase done.sorts x.sort fit last) rest)
 
-  let_list_fits : (numeric : Sort → Bool) (setting : Setting) (read : Environment) → IsRight numeric setting read → setting.lets ≡ true → (locals : List Named) (place : Place) (parts : Items) → IfOk (read_let read locals place parts) (TypedFits setting (sorts_of locals))
+  let_list_fits : (numeric : Sort → Bool) (setting : Setting) (read : Environment) → EnvironmentIsRight numeric setting read → setting.lets ≡ true → (locals : List Named) (place : Place) (parts : Items) → IfOk (read_let read locals place parts) (TypedFits setting (sorts_of locals))
   let_list_fits numeric setting read right lets locals place items.none = tt
   let_list_fits numeric setting read right lets locals place (items.more bindings rest) =
       let_in_fits numeric setting read right lets locals place (read_binding_list read locals place bindings) (binding_list_fits numeric setting read right locals place bindings) rest
 
-  let_in_fits : (numeric : Sort → Bool) (setting : Setting) (read : Environment) → IsRight numeric setting read → setting.lets ≡ true → (locals : List Named) (place : Place) (bound : Reading Bounds) → IfOk bound (BoundsFit setting (sorts_of locals)) → (parts : Items) → IfOk (read_let_in read locals place bound parts) (TypedFits setting (sorts_of locals))
+  let_in_fits : (numeric : Sort → Bool) (setting : Setting) (read : Environment) → EnvironmentIsRight numeric setting read → setting.lets ≡ true → (locals : List Named) (place : Place) (bound : Reading Bounds) → IfOk bound (BoundsFit setting (sorts_of locals)) → (parts : Items) → IfOk (read_let_in read locals place bound parts) (TypedFits setting (sorts_of locals))
   let_in_fits numeric setting read right lets locals place bound fit items.none = tt
   let_in_fits numeric setting read right lets locals place bound fit (items.more inner items.none) =
       chained (BoundsFit setting (sorts_of locals)) (TypedFits setting (sorts_of locals)) bound _ fit (λ bs is bs_fit.
@@ -267,27 +267,27 @@ mutual
       let_fits setting locals bs x lets bs_fit x_fits))
   let_in_fits numeric setting read right lets locals place bound fit (items.more inner (items.more next rest)) = tt
 
-  binding_list_fits : (numeric : Sort → Bool) (setting : Setting) (read : Environment) → IsRight numeric setting read → (locals : List Named) (place : Place) (item : Item) → IfOk (read_binding_list read locals place item) (BoundsFit setting (sorts_of locals))
+  binding_list_fits : (numeric : Sort → Bool) (setting : Setting) (read : Environment) → EnvironmentIsRight numeric setting read → (locals : List Named) (place : Place) (item : Item) → IfOk (read_binding_list read locals place item) (BoundsFit setting (sorts_of locals))
   binding_list_fits numeric setting read right locals place (leaf atom at) = tt
   binding_list_fits numeric setting read right locals place (group bindings at) =
-      where_not_refused (BoundsFit setting (sorts_of locals)) (is_empty bindings) place cause.Shape (read_bindings read locals unbound bindings) (λ e. bindings_fit numeric setting read right locals unbound (unbound_fits setting (sorts_of locals)) bindings)
+      where_not_refused (BoundsFit setting (sorts_of locals)) (has_no_items bindings) place cause.Shape (read_bindings read locals unbound bindings) (λ e. bindings_fit numeric setting read right locals unbound (unbound_fits setting (sorts_of locals)) bindings)
 
-  bindings_fit : (numeric : Sort → Bool) (setting : Setting) (read : Environment) → IsRight numeric setting read → (locals : List Named) (bound : Bounds) → BoundsFit setting (sorts_of locals) bound → (parts : Items) → IfOk (read_bindings read locals bound parts) (BoundsFit setting (sorts_of locals))
+  bindings_fit : (numeric : Sort → Bool) (setting : Setting) (read : Environment) → EnvironmentIsRight numeric setting read → (locals : List Named) (bound : Bounds) → BoundsFit setting (sorts_of locals) bound → (parts : Items) → IfOk (read_bindings read locals bound parts) (BoundsFit setting (sorts_of locals))
   bindings_fit numeric setting read right locals bound fit items.none = fit
   bindings_fit numeric setting read right locals bound fit (items.more first rest) =
       chained (BoundFits setting (sorts_of locals)) (BoundsFit setting (sorts_of locals)) (read_binding read locals bound.names first) _ (binding_fits numeric setting read right locals bound.names first) (λ b is last.
       bindings_fit numeric setting read right locals (bound_behind bound b)
       (sorts-last setting (sorts_of locals) bound.terms b.phrase (sorts_of bound.names) b.named.sort fit last ∙ ap Some (sym (sorts_of-append bound.names (b.named ∷ [])))) rest)
 
-  binding_fits : (numeric : Sort → Bool) (setting : Setting) (read : Environment) → IsRight numeric setting read → (locals taken : List Named) (item : Item) → IfOk (read_binding read locals taken item) (BoundFits setting (sorts_of locals))
+  binding_fits : (numeric : Sort → Bool) (setting : Setting) (read : Environment) → EnvironmentIsRight numeric setting read → (locals taken : List Named) (item : Item) → IfOk (read_binding read locals taken item) (BoundFits setting (sorts_of locals))
   binding_fits numeric setting read right locals taken (leaf atom place) = tt
   binding_fits numeric setting read right locals taken (group parts place) = pair_fits numeric setting read right locals taken place parts
 
-  pair_fits : (numeric : Sort → Bool) (setting : Setting) (read : Environment) → IsRight numeric setting read → (locals taken : List Named) (place : Place) (parts : Items) → IfOk (read_pair read locals taken place parts) (BoundFits setting (sorts_of locals))
+  pair_fits : (numeric : Sort → Bool) (setting : Setting) (read : Environment) → EnvironmentIsRight numeric setting read → (locals taken : List Named) (place : Place) (parts : Items) → IfOk (read_pair read locals taken place parts) (BoundFits setting (sorts_of locals))
   pair_fits numeric setting read right locals taken place items.none = tt
-  pair_fits numeric setting read right locals taken place (items.more name rest) = bound_fits numeric setting read right locals place (new_name read.logic taken place name) rest
+  pair_fits numeric setting read right locals taken place (items.more name rest) = bound_fits numeric setting read right locals place (new_binding_name read.logic taken place name) rest
 
-  bound_fits : (numeric : Sort → Bool) (setting : Setting) (read : Environment) → IsRight numeric setting read → (locals : List Named) (place : Place) (name : Reading (List ℕ)) (parts : Items) → IfOk (read_bound read locals place name parts) (BoundFits setting (sorts_of locals))
+  bound_fits : (numeric : Sort → Bool) (setting : Setting) (read : Environment) → EnvironmentIsRight numeric setting read → (locals : List Named) (place : Place) (name : Reading (List ℕ)) (parts : Items) → IfOk (read_bound read locals place name parts) (BoundFits setting (sorts_of locals))
   bound_fits numeric setting read right locals place name items.none = tt
   bound_fits numeric setting read right locals place name (items.more term items.none) =
       chained (λ x. ⊤) (BoundFits setting (sorts_of locals)) name _ (any_read name) (λ x is any.
@@ -295,8 +295,8 @@ mutual
   bound_fits numeric setting read right locals place name (items.more term (items.more next rest)) = tt
 
 -- a whole term has the sort that is asked for
-pub whole_fits : (numeric : Sort → Bool) (setting : Setting) (read : Environment) → IsRight numeric setting read → (measures : Measures) (sort : Sort) (item : Item) → IfOk (read_whole read measures sort item) (λ it. phrase_sort setting [] it ≡ Some sort)
+pub whole_fits : (numeric : Sort → Bool) (setting : Setting) (read : Environment) → EnvironmentIsRight numeric setting read → (measures : Measures) (sort : Sort) (item : Item) → IfOk (read_whole read measures sort item) (λ it. phrase_sort setting [] it ≡ Some sort)
 whole_fits numeric setting read right measures sort item =
     chained (TypedFits setting []) (λ it. phrase_sort setting [] it ≡ Some sort) (read_term read [] item) _ (term_fits numeric setting read right [] item) (λ x is fit.
     unless_refused (λ it. phrase_sort setting [] it ≡ Some sort) (same_sort x.sort sort) (place_of item) cause.SortMismatch _ (λ e.
-    unless_refused (λ it. phrase_sort setting [] it ≡ Some sort) (is_small measures x.phrase) (place_of item) cause.TooMany (Ok x.phrase) (λ f. fit ∙ ap Some (same_sort_is x.sort sort e))))
+    unless_refused (λ it. phrase_sort setting [] it ≡ Some sort) (is_within_limits measures x.phrase) (place_of item) cause.TooMany (Ok x.phrase) (λ f. fit ∙ ap Some (same_sort_is x.sort sort e))))

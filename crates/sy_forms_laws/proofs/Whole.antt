@@ -10,7 +10,7 @@ use Rattle.sy_forms_phrases.specs.Phrases.{Phrase, expr_at}
 use Rattle.sy_forms.specs.Terms.{read_whole}
 use Rattle.sy_forms_laws.specs.Fitting.{Setting, phrase_sort}
 use Rattle.sy_forms_laws.specs.Laws.{FitsLater}
-use Rattle.sy_forms_laws.specs.Right.{IsRight}
+use Rattle.sy_forms_laws.specs.Right.{EnvironmentIsRight}
 use Rattle.sy_forms_laws.proofs.Exprs.{expr_fits}
 use Rattle.sy_forms_laws.proofs.Readings.{weaker}
 use Rattle.sy_forms_laws.proofs.Terms.{whole_fits}
@@ -25,7 +25,7 @@ pub term_fits : (setting : Setting) (it : Phrase) (sort : Sort) → setting.nont
 term_fits setting it sort none e =
     subst (λ all. sort_in setting.scope all (expr_at (length setting.values) it) ≡ Some sort) (nothing_behind setting.values) (expr_fits setting [] it sort none e)
 
-pub whole_fits_later : (numeric : Sort → Bool) (setting : Setting) (env : Environment) → IsRight numeric setting env → (measures : Measures) (sort : Sort) (item : Item) → IfOk (read_whole env measures sort item) (FitsLater setting sort)
+pub whole_fits_later : (numeric : Sort → Bool) (setting : Setting) (env : Environment) → EnvironmentIsRight numeric setting env → (measures : Measures) (sort : Sort) (item : Item) → IfOk (read_whole env measures sort item) (FitsLater setting sort)
 whole_fits_later numeric setting env right measures sort item =
     weaker (λ it. phrase_sort setting [] it ≡ Some sort) (FitsLater setting sort) (read_whole env measures sort item) (whole_fits numeric setting env right measures sort item)
     (λ it fit later wider none. term_fits later it sort none (fits_wider setting later wider [] it sort fit))

@@ -5,7 +5,7 @@ use Rattle.sy_terms.specs.Fitting.{Scope, applied_sort, called_sort, signature_o
 use Rattle.sy_terms.specs.declared.sort.Sort.{Sort}
 use Rattle.sy_grammar_base.specs.Formed.{is_plain}
 use Rattle.sy_forms_phrases.specs.Phrases.{Phrase, Phrases, Literal, Position, Local, Nonterminal, Operation, Invocation, Let, none, more}
-use Rattle.sy_forms.specs.Terms.{is_linear}
+use Rattle.sy_forms.specs.Terms.{is_linear_product}
 
 -- What a phrase may name: operators and functions, the sorts of the variables or arguments in force and of the
 -- nonterminals, and which of these derive numerals alone. In some places no let may stand.
@@ -24,7 +24,7 @@ unfoldable mutual
   phrase_sort setting locals (Local level) = slice_get locals level
   phrase_sort setting locals (Nonterminal number) = slice_get setting.nonterminals number
   phrase_sort setting locals (Operation operator arguments) =
-      if is_linear setting.constants operator arguments then applied_sort setting.scope operator (phrase_sorts setting locals arguments) else None
+      if is_linear_product setting.constants operator arguments then applied_sort setting.scope operator (phrase_sorts setting locals arguments) else None
   phrase_sort setting locals (Invocation function arguments) = called_sort (signature_of setting.scope function) (phrase_sorts setting locals arguments)
   phrase_sort setting locals (Let bound inner) =
       if setting.lets then after (phrase_sorts setting locals bound) (λ found. phrase_sort setting (locals ++ found) inner) else None

@@ -12,21 +12,21 @@ use Rattle.sy_forms_phrases.specs.Phrases.{Phrase, expr_at}
 use Rattle.sy_forms.specs.Rules.{Ruling, production_at, is_constant_rule, read_rule}
 use Rattle.sy_forms.specs.Terms.{read_whole}
 use Rattle.sy_forms_laws.specs.Fitting.{Setting}
-use Rattle.sy_forms_laws.specs.Right.{IsRight, IsOfGrammar, Widens}
+use Rattle.sy_forms_laws.specs.Right.{EnvironmentIsRight, IsOfGrammar, SettingWidens}
 
 -- the term has the sort in every setting in which all may be named that may be named here, and no nonterminal
 abbrev pub FitsLater : Setting → Sort → Phrase → Type 0
 FitsLater setting sort it =
-    (later : Setting) → Widens setting later → later.nonterminals ≡ [] → sort_in later.scope later.values (expr_at (length later.values) it) ≡ Some sort
+    (later : Setting) → SettingWidens setting later → later.nonterminals ≡ [] → sort_in later.scope later.values (expr_at (length later.values) it) ≡ Some sort
 
 -- A whole term that is read has the sort that was asked for, also where more is declared later: its let names stand behind
 -- all values that are in force then.
 abbrev pub WholeTermsFit : Type 0
-WholeTermsFit = (numeric : Sort → Bool) (setting : Setting) (env : Environment) → IsRight numeric setting env → (measures : Measures) (sort : Sort) (item : Item) → IfOk (read_whole env measures sort item) (FitsLater setting sort)
+WholeTermsFit = (numeric : Sort → Bool) (setting : Setting) (env : Environment) → EnvironmentIsRight numeric setting env → (measures : Measures) (sort : Sort) (item : Item) → IfOk (read_whole env measures sort item) (FitsLater setting sort)
 
 -- a rule that is read has its nonterminal's sort
 abbrev pub RulesFit : Type 0
-RulesFit = (numeric : Sort → Bool) (setting : Setting) (env : Environment) (syntax : Syntax) → IsRight numeric setting env → IsOfGrammar setting syntax → (sort : Sort) (item : Item) →
+RulesFit = (numeric : Sort → Bool) (setting : Setting) (env : Environment) (syntax : Syntax) → EnvironmentIsRight numeric setting env → IsOfGrammar setting syntax → (sort : Sort) (item : Item) →
     IfOk (read_rule env sort item) (λ (rule : Ruling). rule_sort setting.scope syntax (production_at rule) ≡ Some sort)
 
 -- a rule that is written as a constant gives constants alone, where `-` is the operator

@@ -13,25 +13,25 @@ use Rattle.sy_forms.specs.Terms.{let_may_stand, flag_at}
 use Rattle.sy_forms_laws.specs.Fitting.{Setting}
 
 -- what a name stands for is there: its number is that of its sort in the list, or of its signature
-abbrev pub IsThere : Setting → List Sort → Sense → Type 0
-IsThere setting locals (env.Local level sort) = slice_get locals level ≡ Some sort
-IsThere setting locals (env.Nonterminal number sort) = slice_get setting.nonterminals number ≡ Some sort
-IsThere setting locals (env.Argument position sort) = slice_get setting.values position ≡ Some sort
-IsThere setting locals (env.Variable position sort) = slice_get setting.values position ≡ Some sort
-IsThere setting locals (env.Function function takes gives) = signature_of setting.scope function ≡ Some (record { takes = takes; gives = gives })
-IsThere setting locals env.Withheld = ⊤
+abbrev pub SenseIsThere : Setting → List Sort → Sense → Type 0
+SenseIsThere setting locals (env.Local level sort) = slice_get locals level ≡ Some sort
+SenseIsThere setting locals (env.Nonterminal number sort) = slice_get setting.nonterminals number ≡ Some sort
+SenseIsThere setting locals (env.Argument position sort) = slice_get setting.values position ≡ Some sort
+SenseIsThere setting locals (env.Variable position sort) = slice_get setting.values position ≡ Some sort
+SenseIsThere setting locals (env.Function function takes gives) = signature_of setting.scope function ≡ Some (record { takes = takes; gives = gives })
+SenseIsThere setting locals env.Withheld = ⊤
 
 -- the operators and the sorts of numbers are the logic's, abbreviations stand for sorts of the logic, and names for what
 -- is there
-pub record IsRight (numeric : Sort → Bool) (setting : Setting) (env : Environment) : Type 0 where
+pub record EnvironmentIsRight (numeric : Sort → Bool) (setting : Setting) (env : Environment) : Type 0 where
   pub theory : IsTheoryOf env.logic setting.scope.owned numeric
   pub sorts : All (λ (x : List ℕ × Sort). is_known numeric x.1 ≡ true) env.sorts
-  pub names : (name : List ℕ) (sense : Sense) → sense_of env [] name ≡ Some sense → IsThere setting [] sense
+  pub names : (name : List ℕ) (sense : Sense) → sense_of env [] name ≡ Some sense → SenseIsThere setting [] sense
   pub constants : env.constants ≡ setting.constants
   pub lets : let_may_stand env.role ≡ setting.lets
 
 -- all that may be named earlier may be named later
-pub record Widens (earlier later : Setting) : Type 0 where
+pub record SettingWidens (earlier later : Setting) : Type 0 where
   pub operators : (operator : Op) → earlier.scope.owned operator ≡ true → later.scope.owned operator ≡ true
   pub defined : Extends earlier.scope.defined later.scope.defined
   pub wanted : Extends earlier.scope.wanted later.scope.wanted

@@ -7,7 +7,7 @@ use Rattle.indexmap.specs.IndexMap.{insert_entry}
 use Rattle.sy_terms.specs.declared.sort.Sort.{Sort}
 use Rattle.sy_forms_names.specs.declared.names.Named.{Named}
 use Rattle.sy_forms_names.specs.declared.locals.Local.{Local}
-use Rattle.sy_forms_names.specs.Environments.{entry, or_else, place_from, place_among}
+use Rattle.sy_forms_names.specs.Environments.{entry_under, or_else, place_from, place_among}
 use Rattle.sy_forms_names.specs.Locals.{named_in, in_force, HideEarlier, AreFound}
 use Rattle.sy_forms_names.specs.Table.{under}
 
@@ -32,15 +32,15 @@ place_from-last i name (n ∷ names) x =
 
 -- what stands under a name where one key has got another value
 pub entry-insert : {K V : Type 0} (bytes : K → List ℕ) (entries : List (K × V)) (k : K) (v : V) (name : List ℕ)
-    → entry name (under bytes (insert_entry (λ a b. bytes_eq (bytes a) (bytes b)) entries k v)) ≡ (if bytes_eq name (bytes k) then Some v else entry name (under bytes entries))
+    → entry_under name (under bytes (insert_entry (λ a b. bytes_eq (bytes a) (bytes b)) entries k v)) ≡ (if bytes_eq name (bytes k) then Some v else entry_under name (under bytes entries))
 entry-insert bytes [] k v name = refl
 entry-insert {K} {V} bytes (e ∷ entries) k v name = by (entry-insert bytes entries k v name) (bytes_eq (bytes k) (bytes e.0)) refl
   where
     rest : List (K × V)
     rest = insert_entry (λ a b. bytes_eq (bytes a) (bytes b)) entries k v
 
-    same : bytes k ≡ bytes e.0 → (if bytes_eq name (bytes e.0) then Some v else entry name (under bytes entries)) ≡ (if bytes_eq name (bytes k) then Some v else (if bytes_eq name (bytes e.0) then Some e.1 else entry name (under bytes entries)))
-    same is = rw is (elim (bytes_eq name (bytes e.0)) as (λ b. cond b (Some v) (entry name (under bytes entries)) ≡ cond b (Some v) (cond b (Some e.1) (entry name (under bytes entries)))) [
+    same : bytes k ≡ bytes e.0 → (if bytes_eq name (bytes e.0) then Some v else entry_under name (under bytes entries)) ≡ (if bytes_eq name (bytes k) then Some v else (if bytes_eq name (bytes e.0) then Some e.1 else entry_under name (under bytes entries)))
+    same is = rw is (elim (bytes_eq name (bytes e.0)) as (λ b. cond b (Some v) (entry_under name (under bytes entries)) ≡ cond b (Some v) (cond b (Some e.1) (entry_under name (under bytes entries)))) [
       | true ↦ refl
       | false ↦ refl
     ])
@@ -49,13 +49,13 @@ entry-insert {K} {V} bytes (e ∷ entries) k v name = by (entry-insert bytes ent
     not_both name_is other true k_is = absurd (true≢false (sym ((bytes_eq-Decides (bytes k) (bytes e.0)).1 (sym ((bytes_eq-Decides name (bytes k)).0 k_is) ∙ name_is)) ∙ other))
     not_both name_is other false k_is = k_is
 
-    here : entry name (under bytes rest) ≡ (if bytes_eq name (bytes k) then Some v else entry name (under bytes entries)) → (b : Bool) → bytes_eq name (bytes e.0) ≡ b → bytes_eq (bytes k) (bytes e.0) ≡ false
-        → (if bytes_eq name (bytes e.0) then Some e.1 else entry name (under bytes rest)) ≡ (if bytes_eq name (bytes k) then Some v else (if bytes_eq name (bytes e.0) then Some e.1 else entry name (under bytes entries)))
+    here : entry_under name (under bytes rest) ≡ (if bytes_eq name (bytes k) then Some v else entry_under name (under bytes entries)) → (b : Bool) → bytes_eq name (bytes e.0) ≡ b → bytes_eq (bytes k) (bytes e.0) ≡ false
+        → (if bytes_eq name (bytes e.0) then Some e.1 else entry_under name (under bytes rest)) ≡ (if bytes_eq name (bytes k) then Some v else (if bytes_eq name (bytes e.0) then Some e.1 else entry_under name (under bytes entries)))
     here next true is other = rw (is, not_both ((bytes_eq-Decides name (bytes e.0)).0 is) other (bytes_eq name (bytes k)) refl) refl
     here next false is other = rw is next
 
-    by : entry name (under bytes rest) ≡ (if bytes_eq name (bytes k) then Some v else entry name (under bytes entries)) → (b : Bool) → bytes_eq (bytes k) (bytes e.0) ≡ b
-        → entry name (under bytes (insert_entry (λ a b. bytes_eq (bytes a) (bytes b)) (e ∷ entries) k v)) ≡ (if bytes_eq name (bytes k) then Some v else (if bytes_eq name (bytes e.0) then Some e.1 else entry name (under bytes entries)))
+    by : entry_under name (under bytes rest) ≡ (if bytes_eq name (bytes k) then Some v else entry_under name (under bytes entries)) → (b : Bool) → bytes_eq (bytes k) (bytes e.0) ≡ b
+        → entry_under name (under bytes (insert_entry (λ a b. bytes_eq (bytes a) (bytes b)) (e ∷ entries) k v)) ≡ (if bytes_eq name (bytes k) then Some v else (if bytes_eq name (bytes e.0) then Some e.1 else entry_under name (under bytes entries)))
     by next true is = rw is (same ((bytes_eq-Decides (bytes k) (bytes e.0)).0 is))
     by next false is = rw is (here next (bytes_eq name (bytes e.0)) refl is)
 
@@ -87,8 +87,8 @@ module _ {K : Type 0} (bytes : K → List ℕ) (locals : List Local) (l : Local)
       → AreFound (locals ++ l ∷ []) (more (Some (length locals, l.named.sort)))
   AreFound-push found key is = record {
     last = λ name.
-        ap in_force (entry-insert bytes entries k (Some (length locals, l.named.sort)) name ∙ ap (λ b. if bytes_eq name b then Some (Some (length locals, l.named.sort)) else entry name (under bytes entries)) key)
-        ∙ (elim (bytes_eq name l.named.name) as (λ b. in_force (cond b (Some (Some (length locals, l.named.sort))) (entry name (under bytes entries))) ≡ or_else (cond b (Some (length locals, l.named.sort)) None) (place_among name (named_in locals))) [
+        ap in_force (entry-insert bytes entries k (Some (length locals, l.named.sort)) name ∙ ap (λ b. if bytes_eq name b then Some (Some (length locals, l.named.sort)) else entry_under name (under bytes entries)) key)
+        ∙ (elim (bytes_eq name l.named.name) as (λ b. in_force (cond b (Some (Some (length locals, l.named.sort))) (entry_under name (under bytes entries))) ≡ or_else (cond b (Some (length locals, l.named.sort)) None) (place_among name (named_in locals))) [
           | true ↦ refl
           | false ↦ found.last name
         ])
@@ -100,12 +100,12 @@ module _ {K : Type 0} (bytes : K → List ℕ) (locals : List Local) (l : Local)
   pub AreFound-pop : AreFound (locals ++ l ∷ []) (under bytes entries) → bytes k ≡ l.named.name → AreFound locals (more l.hidden)
   AreFound-pop found key = record {
     last = λ name.
-        ap in_force (entry-insert bytes entries k l.hidden name ∙ ap (λ b. if bytes_eq name b then Some l.hidden else entry name (under bytes entries)) key)
+        ap in_force (entry-insert bytes entries k l.hidden name ∙ ap (λ b. if bytes_eq name b then Some l.hidden else entry_under name (under bytes entries)) key)
         ∙ by name (bytes_eq name l.named.name) refl;
     hidden = (hide-last [] locals l found.hidden).0;
   }
     where
-      by : (name : List ℕ) (b : Bool) → bytes_eq name l.named.name ≡ b → in_force (if bytes_eq name l.named.name then Some l.hidden else entry name (under bytes entries)) ≡ place_among name (named_in locals)
+      by : (name : List ℕ) (b : Bool) → bytes_eq name l.named.name ≡ b → in_force (if bytes_eq name l.named.name then Some l.hidden else entry_under name (under bytes entries)) ≡ place_among name (named_in locals)
       by name true is = rw is ((hide-last [] locals l found.hidden).1 ∙ ap (λ n. place_among n (named_in locals)) (sym ((bytes_eq-Decides name l.named.name).0 is)))
       by name false is = rw is (found.last name ∙ last_of name ∙ rw is refl)
 

@@ -10,13 +10,13 @@ use Rattle.sy_terms.specs.declared.op.Op.TheVariants as ops
 use Rattle.sy_terms.specs.Spelling.{spelling}
 use Rattle.sy_terms.specs.declared.sort.Sort.{Sort}
 use Rattle.sy_forms_names.specs.declared.names.Named.{Named}
-use Rattle.sy_forms_names.specs.Environments.{entry, or_else, place_from}
-use Rattle.sy_forms_names.specs.Operators.{spelled, with_one_index}
+use Rattle.sy_forms_names.specs.Environments.{entry_under, or_else, place_from}
+use Rattle.sy_forms_names.specs.Operators.{operator_spelled, with_one_index}
 use Rattle.sy_forms_names.specs.Table.{under}
 
-pub entry-under : {K V : Type 0} (bytes : K → List ℕ) (name : List ℕ) (entries : List (K × V)) → lookup (λ k. bytes_eq name (bytes k)) entries ≡ entry name (under bytes entries)
+pub entry-under : {K V : Type 0} (bytes : K → List ℕ) (name : List ℕ) (entries : List (K × V)) → lookup (λ k. bytes_eq name (bytes k)) entries ≡ entry_under name (under bytes entries)
 entry-under bytes name [] = refl
-entry-under bytes name (e ∷ entries) = elim (bytes_eq name (bytes e.0)) as (λ b. cond b (Some e.1) (lookup (λ k. bytes_eq name (bytes k)) entries) ≡ cond b (Some e.1) (entry name (under bytes entries))) [
+entry-under bytes name (e ∷ entries) = elim (bytes_eq name (bytes e.0)) as (λ b. cond b (Some e.1) (lookup (λ k. bytes_eq name (bytes k)) entries) ≡ cond b (Some e.1) (entry_under name (under bytes entries))) [
   | true ↦ refl
   | false ↦ entry-under bytes name entries
 ]
@@ -52,9 +52,9 @@ pub place_from-other : (i : ℕ) (name : List ℕ) (names : List Named) (x : Nam
     → place_from i name (drop i names) ≡ None
 place_from-other i name names x at later here = rw (drop-at i names x at, later, here) refl
 
-pub spelled-append : (name : List ℕ) (first second : List Op) → spelled name (first ++ second) ≡ or_else (spelled name first) (spelled name second)
+pub spelled-append : (name : List ℕ) (first second : List Op) → operator_spelled name (first ++ second) ≡ or_else (operator_spelled name first) (operator_spelled name second)
 spelled-append name [] second = refl
-spelled-append name (op ∷ first) second = elim (bytes_eq name (spelling op)) as (λ b. cond b (Some op) (spelled name (first ++ second)) ≡ or_else (cond b (Some op) (spelled name first)) (spelled name second)) [
+spelled-append name (op ∷ first) second = elim (bytes_eq name (spelling op)) as (λ b. cond b (Some op) (operator_spelled name (first ++ second)) ≡ or_else (cond b (Some op) (operator_spelled name first)) (operator_spelled name second)) [
   | true ↦ refl
   | false ↦ spelled-append name first second
 ]
@@ -85,9 +85,9 @@ none_cond true x rest e = absurd (cc)
 none_cond false x rest e = (refl, e)
 
 -- a new key goes last
-pub added-under : {K V : Type 0} (bytes : K → List ℕ) (entries : List (K × V)) (k : K) (v : V) → entry (bytes k) (under bytes entries) ≡ None
+pub added-under : {K V : Type 0} (bytes : K → List ℕ) (entries : List (K × V)) (k : K) (v : V) → entry_under (bytes k) (under bytes entries) ≡ None
     → under bytes (insert_entry (λ a b. bytes_eq (bytes a) (bytes b)) entries k v) ≡ under bytes entries ++ (bytes k, v) ∷ []
 added-under bytes [] k v absent = refl
 added-under bytes (e ∷ entries) k v absent =
-    let other = none_cond (bytes_eq (bytes k) (bytes e.0)) e.1 (entry (bytes k) (under bytes entries)) absent in
+    let other = none_cond (bytes_eq (bytes k) (bytes e.0)) e.1 (entry_under (bytes k) (under bytes entries)) absent in
     rw (other.0) (ap (λ rest. (bytes e.0, e.1) ∷ rest) (added-under bytes entries k v other.1))

@@ -22,9 +22,9 @@ pub record Environment : Type 0 where
   pub constants : List Bool
 
 -- what stands under a name
-abbrev pub entry : {A : Type 0} → List ℕ → List (List ℕ × A) → Option A
-entry name [] = None
-entry name (x ∷ rest) = if bytes_eq name x.0 then Some x.1 else entry name rest
+abbrev pub entry_under : {A : Type 0} → List ℕ → List (List ℕ × A) → Option A
+entry_under name [] = None
+entry_under name (x ∷ rest) = if bytes_eq name x.0 then Some x.1 else entry_under name rest
 
 abbrev pub or_else : {A : Type 0} → Option A → Option A → Option A
 or_else (Some x) other = Some x
@@ -81,4 +81,4 @@ sense_of env locals name =
     or_else (sense_as Local (place_among name locals))
     (or_else (sense_as Nonterminal (place_among name env.nonterminals))
     (or_else (sense_as Argument (place_among name env.arguments))
-    (declared_in env.role (entry name env.entities))))
+    (declared_in env.role (entry_under name env.entities))))

@@ -3,7 +3,7 @@ use Rattle.std.specs.Prelude.{◌≡◌, ℕ, List, [], ◌∷◌, ◌++◌, Opt
 use Rattle.sy_terms.specs.declared.sort.Sort.{Sort}
 use Rattle.sy_forms_names.specs.declared.names.Named.{Named}
 use Rattle.sy_forms_names.specs.declared.locals.Local.{Local}
-use Rattle.sy_forms_names.specs.Environments.{entry, place_among}
+use Rattle.sy_forms_names.specs.Environments.{entry_under, place_among}
 
 abbrev pub named_in : List Local → List Named
 named_in locals = map (λ l. l.named) locals
@@ -20,5 +20,5 @@ HideEarlier before (l ∷ rest) = (l.hidden ≡ place_among l.named.name before)
 
 -- the table has the last place of each name
 pub record AreFound (locals : List Local) (places : List (List ℕ × Option (ℕ × Sort))) : Type 0 where
-  pub last : (name : List ℕ) → in_force (entry name places) ≡ place_among name (named_in locals)
+  pub last : (name : List ℕ) → in_force (entry_under name places) ≡ place_among name (named_in locals)
   pub hidden : HideEarlier [] locals

@@ -27,13 +27,13 @@ abbrev pub theory_operators : Logic → List Op
 theory_operators Lia = integer_operators
 theory_operators Bv = vector_operators
 
-abbrev pub spelled : List ℕ → List Op → Option Op
-spelled name [] = None
-spelled name (op ∷ rest) = if bytes_eq name (spelling op) then Some op else spelled name rest
+abbrev pub operator_spelled : List ℕ → List Op → Option Op
+operator_spelled name [] = None
+operator_spelled name (op ∷ rest) = if bytes_eq name (spelling op) then Some op else operator_spelled name rest
 
 -- the operator of the logic that has this name
 abbrev pub operator_named : Logic → List ℕ → Option Op
-operator_named logic name = spelled name (core_operators ++ theory_operators logic)
+operator_named logic name = operator_spelled name (core_operators ++ theory_operators logic)
 
 -- at so many arguments: `-` at one is the negation
 abbrev pub at_count : ℕ → Op → Op

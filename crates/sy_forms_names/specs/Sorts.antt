@@ -9,7 +9,7 @@ use Rattle.sy_terms.specs.declared.sort.Sort.TheVariants as sorts
 use Rattle.sy_scope_causes.specs.declared.cause.Cause.TheVariants as cause
 use Rattle.sy_forms_items.specs.declared.parts.Indices.{Indices}
 use Rattle.sy_forms_items.specs.declared.parts.Indices.TheVariants.{One, Two, More}
-use Rattle.sy_forms_names.specs.Environments.{entry}
+use Rattle.sy_forms_names.specs.Environments.{entry_under}
 use Rattle.sy_forms_items.specs.Parts.{symbol_in, is_symbol, indexed_name}
 use Rattle.sy_forms_items.specs.Readings.{Reading, refuse, found_or}
 
@@ -22,7 +22,7 @@ abbrev pub sort_named : Logic → List (List ℕ × Sort) → List ℕ → Optio
 sort_named logic abbreviations name =
     if bytes_eq name (codes "Bool") then Some sorts.Bool
     else if bytes_eq name (codes "Int") then int_in logic
-    else entry name abbreviations
+    else entry_under name abbreviations
 
 abbrev pub is_width : ℕ → Bool
 is_width w = nat_le 1 w && nat_le w 64

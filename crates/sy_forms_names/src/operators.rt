@@ -53,7 +53,7 @@ const VECTORS: [Op; 29] = [
 
 /// The first of the operators that has this name.
 fn spelled(name: &[u8], ops: &[Op]) -> Option<Op>
-    ensures { result ≡ spec.spelled name.now ops.now }
+    ensures { result ≡ spec.operator_spelled name.now ops.now }
 {
     for op in ops {
         if name == spell(op).as_bytes() {

@@ -1,7 +1,7 @@
 // The names that a file declares.
 ghost use Rattle.std.specs.Prelude.{◌≡◌, ◌++◌, ◌∷◌, [], ◌+◌, length, None, OnOk, OnErr, IfOk};
 ghost use Rattle.std.specs.Option.{option_map};
-ghost use Rattle.sy_forms_names.specs.Environments.{entry};
+ghost use Rattle.sy_forms_names.specs.Environments.{entry_under};
 
 use crate::names::Entity;
 use indexmap::IndexMap;
@@ -51,14 +51,14 @@ impl Names {
 
     /// The sort that the name abbreviates.
     pub fn sort(&self, name: &[u8]) -> Option<Sort>
-        ensures { result ≡ entry name.now self.now.sorts }
+        ensures { result ≡ entry_under name.now self.now.sorts }
     {
         self.sorts.get(name).copied()
     }
 
     /// What the name stands for.
     pub fn entity(&self, name: &[u8]) -> Option<&Entity>
-        ensures { option_map (λ e. e.now) result ≡ entry name.now self.now.entities }
+        ensures { option_map (λ e. e.now) result ≡ entry_under name.now self.now.entities }
     {
         self.entities.get(name)
     }
@@ -71,7 +71,7 @@ impl Names {
 
     /// Lets the name abbreviate a sort.
     pub fn add_sort(&mut self, name: &[u8], sort: Sort) -> Result<(), Want>
-        requires { entry name.now self.old.sorts ≡ None }
+        requires { entry_under name.now self.old.sorts ≡ None }
         ensures sorts { OnOk result (self.new.sorts ≡ self.old.sorts ++ (name.now, sort) ∷ []) }
         ensures entities { self.new.entities ≡ self.old.entities }
         ensures err { OnErr result (self.new.sorts ≡ self.old.sorts) }
@@ -83,7 +83,7 @@ impl Names {
 
     /// Lets the name stand for something.
     pub fn add_entity(&mut self, name: &[u8], entity: Entity) -> Result<(), Want>
-        requires { entry name.now self.old.entities ≡ None }
+        requires { entry_under name.now self.old.entities ≡ None }
         ensures entities { OnOk result (self.new.entities ≡ self.old.entities ++ (name.now, entity) ∷ []) }
         ensures sorts { self.new.sorts ≡ self.old.sorts }
         ensures err { OnErr result (self.new.entities ≡ self.old.entities) }

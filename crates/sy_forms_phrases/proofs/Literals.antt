@@ -10,7 +10,7 @@ use Rattle.sy_terms.specs.Theories.{sort_of_value, whole_number}
 use Rattle.sy_terms.specs.declared.sort.Sort.{Sort}
 use Rattle.sy_terms.specs.declared.sort.Sort.TheVariants as sorts
 use Rattle.sy_forms_phrases.specs.Meant.{phrase_of, phrases_of}
-use Rattle.sy_forms_phrases.specs.Measures.{opposite, negation_of, negated_literal, literals, all_literals}
+use Rattle.sy_forms_phrases.specs.Measures.{minus_numeral, negation_of, negated_literal, literals_in, all_literals}
 use Rattle.sy_forms_phrases.specs.Phrases as phrase
 use Rattle.sy_forms_phrases.specs.declared.phrase.Phrase.{Phrase}
 
@@ -25,7 +25,7 @@ same_sort_is (sorts.Bits v) sorts.Bool e = absurd cc
 same_sort_is (sorts.Bits v) sorts.Int e = absurd cc
 same_sort_is (sorts.Bits v) (sorts.Bits w) e = ap sorts.Bits (eqb-true v w e)
 
-pub none_below : (z : ℤ) → lt_z z (pos 1) ≡ true → opposite z ≡ None
+pub none_below : (z : ℤ) → lt_z z (pos 1) ≡ true → minus_numeral z ≡ None
 none_below (pos zero) e = refl
 none_below (pos (suc n)) e = let lt = ltb-true (suc n) 1 e in absurd (omega arith)
 none_below (negsuc n) e = refl
@@ -36,10 +36,10 @@ above_0 (pos (suc n)) e = (n, refl)
 above_0 (negsuc n) e = absurd cc
 
 pub found_opposite : {N : Type 0} (denotes : N → Val) (numeric : Bool) (whole z : ℤ) (less : ℕ) (result : Option N) → option_map denotes result ≡ (if numeric then Some (Whole z) else None) → numeric ≡ true
-    → whole ≡ pos (suc less) → z ≡ negsuc less → option_map denotes result ≡ opposite whole
+    → whole ≡ pos (suc less) → z ≡ negsuc less → option_map denotes result ≡ minus_numeral whole
 found_opposite denotes numeric whole z less result e is above minus = rw (e, is, above, minus) refl
 
-pub int_negation : (d : Val) → same_sort (sort_of_value d) sorts.Int ≡ true → negation_of d ≡ opposite (whole_number d)
+pub int_negation : (d : Val) → same_sort (sort_of_value d) sorts.Int ≡ true → negation_of d ≡ minus_numeral (whole_number d)
 int_negation (Truth b) e = absurd cc
 int_negation (Whole z) e = refl
 int_negation (Bits w n) e = absurd cc
@@ -62,12 +62,12 @@ pub assoc : {A : Type 0} (xs ys zs : List A) → (xs ++ ys) ++ zs ≡ xs ++ (ys 
 assoc [] ys zs = refl
 assoc (x ∷ xs) ys zs = ap (λ l. x ∷ l) (assoc xs ys zs)
 
-pub all_literals-last : {T N : Type 0} (number : N → Val) (phrases : List (Phrase T N)) (last : Phrase T N) → all_literals (phrases_of number (phrases ++ last ∷ [])) ≡ all_literals (phrases_of number phrases) ++ literals (phrase_of number last)
-unfolding literals all_literals
-all_literals-last number [] last = nil_right (literals (phrase_of number last))
+pub all_literals-last : {T N : Type 0} (number : N → Val) (phrases : List (Phrase T N)) (last : Phrase T N) → all_literals (phrases_of number (phrases ++ last ∷ [])) ≡ all_literals (phrases_of number phrases) ++ literals_in (phrase_of number last)
+unfolding literals_in all_literals
+all_literals-last number [] last = nil_right (literals_in (phrase_of number last))
 all_literals-last number (phrase ∷ phrases) last =
-    ap (λ rest. literals (phrase_of number phrase) ++ rest) (all_literals-last number phrases last) ∙ sym (assoc (literals (phrase_of number phrase)) (all_literals (phrases_of number phrases)) (literals (phrase_of number last)))
+    ap (λ rest. literals_in (phrase_of number phrase) ++ rest) (all_literals-last number phrases last) ∙ sym (assoc (literals_in (phrase_of number phrase)) (all_literals (phrases_of number phrases)) (literals_in (phrase_of number last)))
 
 pub all_literals-none : all_literals phrase.none ≡ []
-unfolding literals all_literals
+unfolding literals_in all_literals
 all_literals-none = refl

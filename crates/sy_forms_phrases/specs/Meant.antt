@@ -9,7 +9,7 @@ use Rattle.sy_terms.specs.declared.term.Fun.{Fun}
 use Rattle.std.specs.declared.boxed.Box.{Box}
 use Rattle.std.specs.declared.alloc.Global.{Global}
 use Rattle.sy_forms_phrases.specs.Phrases as spec
-use Rattle.sy_forms_phrases.specs.Phrases.{append}
+use Rattle.sy_forms_phrases.specs.Phrases.{append_phrases}
 use Rattle.sy_forms_phrases.specs.declared.phrase.Phrase.{Phrase, Literal, Position, Local, Nonterminal, Operation', Invocation', Let', Row_of-Phrase, end_of-Phrase, more_of-Phrase, items-the_row-Phrase, items_hidden-the_row-Phrase-0, Operation, Invocation, Let}
 use Rattle.sy_forms_phrases.specs.declared.phrase.Phrase.TheBlock.{hidden-the_row-Phrase-0}
 use Rattle.sy_forms_phrases.specs.declared.phrase.Phrases.{Phrases}
@@ -70,7 +70,7 @@ unfolding phrase_of row_of
 phrase_of-Let {T} {N} number bound inner = ap (λ phrases. spec.Let phrases (phrase_of number inner.value)) (row_of-items number (hidden-the_row-Phrase-0 T N bound.items) ∙ ap (phrases_of number) (items_hidden-the_row-Phrase-0 T N bound.items))
 
 -- what one list after the other stands for
-pub phrases_of-append : {T N : Type 0} (number : N → Val) (first second : List (Phrase T N)) → phrases_of number (first ++ second) ≡ append (phrases_of number first) (phrases_of number second)
+pub phrases_of-append : {T N : Type 0} (number : N → Val) (first second : List (Phrase T N)) → phrases_of number (first ++ second) ≡ append_phrases (phrases_of number first) (phrases_of number second)
 phrases_of-append number [] second = refl
 phrases_of-append number (phrase ∷ first) second = ap (spec.more (phrase_of number phrase)) (phrases_of-append number first second)
 

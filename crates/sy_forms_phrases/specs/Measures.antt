@@ -52,18 +52,18 @@ pub record Measures : Type 0 where
   pub depths : List ℕ
 
 -- the size is at most 1,000,000, and the depth at most 1,200
-abbrev pub is_small : Measures → Phrase → Bool
-is_small measures phrase = nat_le (unfolded_size measures.sizes phrase) 1000000 && nat_le (unfolded_depth measures.depths phrase) 1200
+abbrev pub is_within_limits : Measures → Phrase → Bool
+is_within_limits measures phrase = nat_le (unfolded_size measures.sizes phrase) 1000000 && nat_le (unfolded_depth measures.depths phrase) 1200
 
 -- minus a whole number above 0
-abbrev pub opposite : ℤ → Option Val
-opposite (pos zero) = None
-opposite (pos (suc n)) = Some (Whole (negsuc n))
-opposite (negsuc n) = None
+abbrev pub minus_numeral : ℤ → Option Val
+minus_numeral (pos zero) = None
+minus_numeral (pos (suc n)) = Some (Whole (negsuc n))
+minus_numeral (negsuc n) = None
 
 -- the value -n of `(- n)` with a numeral n of at least 1
 abbrev pub negation_of : Val → Option Val
-negation_of (Whole n) = opposite n
+negation_of (Whole n) = minus_numeral n
 negation_of (Truth truth) = None
 negation_of (Bits width number) = None
 
@@ -75,8 +75,8 @@ abbrev pub negated_literal : Phrases → Option Val
 negated_literal (more argument none) = written_negation argument
 negated_literal _ = None
 
-abbrev pub negated : Op → Phrases → Option Val
-negated operator arguments = if is_neg operator then negated_literal arguments else None
+abbrev pub literal_negated : Op → Phrases → Option Val
+literal_negated operator arguments = if is_neg operator then negated_literal arguments else None
 
 abbrev pub at_most_one : Option Val → List Val
 at_most_one None = []
@@ -84,15 +84,15 @@ at_most_one (Some value) = value ∷ []
 
 -- the values of literals in the order of writing, each with repeats
 unfoldable mutual
-  pub literals : Phrase → List Val
-  literals (Literal value) = value ∷ []
-  literals (Position position) = []
-  literals (Local level) = []
-  literals (Nonterminal number) = []
-  literals (Operation operator arguments) = all_literals arguments ++ at_most_one (negated operator arguments)
-  literals (Invocation function arguments) = all_literals arguments
-  literals (Let bound inner) = all_literals bound ++ literals inner
+  pub literals_in : Phrase → List Val
+  literals_in (Literal value) = value ∷ []
+  literals_in (Position position) = []
+  literals_in (Local level) = []
+  literals_in (Nonterminal number) = []
+  literals_in (Operation operator arguments) = all_literals arguments ++ at_most_one (literal_negated operator arguments)
+  literals_in (Invocation function arguments) = all_literals arguments
+  literals_in (Let bound inner) = all_literals bound ++ literals_in inner
 
   pub all_literals : Phrases → List Val
   all_literals none = []
-  all_literals (more first rest) = literals first ++ all_literals rest
+  all_literals (more first rest) = literals_in first ++ all_literals rest

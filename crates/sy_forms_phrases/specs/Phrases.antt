@@ -26,9 +26,9 @@ mutual
     more : (first : Phrase) → (rest : Phrases) → Phrases
 
 -- one list after the other
-abbrev pub append : Phrases → Phrases → Phrases
-append none second = second
-append (more first rest) second = more first (append rest second)
+abbrev pub append_phrases : Phrases → Phrases → Phrases
+append_phrases none second = second
+append_phrases (more first rest) second = more first (append_phrases rest second)
 
 -- a phrase with its sort
 pub record Typed : Type 0 where
@@ -40,12 +40,12 @@ pub record Several : Type 0 where
   pub phrases : Phrases
   pub sorts : List Sort
 
-abbrev pub nothing : Several
-nothing = record { phrases = none; sorts = [] }
+abbrev pub no_terms : Several
+no_terms = record { phrases = none; sorts = [] }
 
 -- with one more at the end
 abbrev pub behind : Several → Typed → Several
-behind done last = record { phrases = append done.phrases (more last.phrase none); sorts = done.sorts ++ last.sort ∷ [] }
+behind done last = record { phrases = append_phrases done.phrases (more last.phrase none); sorts = done.sorts ++ last.sort ∷ [] }
 
 -- The term, where so many positions are in force outside: let names take those behind them.
 -- No nonterminal stands in a term.

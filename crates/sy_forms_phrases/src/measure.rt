@@ -40,7 +40,7 @@ fn is_within(measure: u64, most: u64) -> bool
 
 /// Whether the unfolded size is at most 1,000,000, and the unfolded depth at most 1,200.
 pub fn is_small<T: Theory>(measures: &Measures, phrase: &Phrase<T>) -> bool
-    ensures { result ≡ spec.is_small (measures_of measures.now) (phrase_of T.denotes phrase.now) }
+    ensures { result ≡ spec.is_within_limits (measures_of measures.now) (phrase_of T.denotes phrase.now) }
 {
     let size = phrase.unfolded_size(measures.sizes.as_slice(), SIZE_MAX + 1);
     let depth = phrase.unfolded_depth(measures.depths.as_slice(), DEPTH_MAX + 1);

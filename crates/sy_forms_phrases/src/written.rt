@@ -21,7 +21,7 @@ pub fn is_neg(operator: &Op) -> bool
 /// The number that stands for minus this integer, where it is above 0.
 fn opposite<T: Theory>(whole: i128) -> Option<T::Num>
     requires { T.numeric sorts.Int ≡ true }
-    ensures { option_map T.denotes result ≡ spec.opposite whole }
+    ensures { option_map T.denotes result ≡ spec.minus_numeral whole }
 {
     if whole < 1 {
         return None;
@@ -76,7 +76,7 @@ fn negated_literal<T: Theory>(arguments: &[Phrase<T>]) -> Option<Value<T::Num>>
 
 /// The value -n where the operator at its arguments is `(- n)` with a numeral n of at least 1.
 fn negated<T: Theory>(operator: &Op, arguments: &[Phrase<T>]) -> Option<Value<T::Num>>
-    ensures { option_map (val_of T.denotes) result ≡ spec.negated operator.now (phrases_of T.denotes arguments.now) }
+    ensures { option_map (val_of T.denotes) result ≡ spec.literal_negated operator.now (phrases_of T.denotes arguments.now) }
 {
     if is_neg(operator) {
         negated_literal(arguments)
@@ -108,7 +108,7 @@ impl<T: Theory> Phrase<T> {
     /// a numeral n of at least 1.
     #[cycle(literals)]
     pub fn literals(&self, out: &mut Values<T>) -> Result<(), Want>
-        ensures { OnOk result (vals_of T.denotes out.new ≡ vals_of T.denotes out.old ++ spec.literals (phrase_of T.denotes self.now)) }
+        ensures { OnOk result (vals_of T.denotes out.new ≡ vals_of T.denotes out.old ++ spec.literals_in (phrase_of T.denotes self.now)) }
     {
         match self {
             Phrase::Literal(value) => note::<T>(out, *value),

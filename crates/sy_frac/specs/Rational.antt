@@ -257,16 +257,16 @@ negative_same a b h =
     by_tests false true p q = absurd (clash b a (sym h) (ltb-true _ _ q) (ltb-false _ _ p))
 
 -- below zero
-pub is_negative : ℚ → Bool
-is_negative x = lift Bool-set negative_ratio negative_same x
+pub is_negative_rational : ℚ → Bool
+is_negative_rational x = lift Bool-set negative_ratio negative_same x
 
 -- ---- laws of the order
-pub one_not_negative : is_negative 1ℚ ≡ false
-unfolding is_negative 1ℚ one_ratio negative_ratio
+pub one_not_negative : is_negative_rational 1ℚ ≡ false
+unfolding is_negative_rational 1ℚ one_ratio negative_ratio
 one_not_negative = refl
 
-pub zero_not_negative : is_negative 0ℚ ≡ false
-unfolding is_negative 0ℚ zero_ratio negative_ratio
+pub zero_not_negative : is_negative_rational 0ℚ ≡ false
+unfolding is_negative_rational 0ℚ zero_ratio negative_ratio
 zero_not_negative = refl
 
 not_negative_plus_ratio : (a b : Ratio) → a.minus ≤ a.plus → b.minus ≤ b.plus → (plus_ratio a b).minus ≤ (plus_ratio a b).plus
@@ -291,21 +291,21 @@ ltb_back m n h = by (ltb m n) refl
     by true e = absurd (omega (arith, ltb-true m n e))
     by false e = refl
 
-pub not_negative_plus : (x y : ℚ) → is_negative x ≡ false → is_negative y ≡ false → is_negative (x +ℚ y) ≡ false
-unfolding is_negative ◌+ℚ◌ negative_ratio
+pub not_negative_plus : (x y : ℚ) → is_negative_rational x ≡ false → is_negative_rational y ≡ false → is_negative_rational (x +ℚ y) ≡ false
+unfolding is_negative_rational ◌+ℚ◌ negative_ratio
 not_negative_plus =
-    agree_bool (λ x. (y : ℚ) → is_negative x ≡ false → is_negative y ≡ false → is_negative (x +ℚ y) ≡ false)
+    agree_bool (λ x. (y : ℚ) → is_negative_rational x ≡ false → is_negative_rational y ≡ false → is_negative_rational (x +ℚ y) ≡ false)
     (λ x. Π_prop (λ y. Π_prop (λ h. Π_prop (λ k. Bool-set _ _))))
-    (λ a. agree_bool (λ y. is_negative (mk a) ≡ false → is_negative y ≡ false → is_negative (mk a +ℚ y) ≡ false)
+    (λ a. agree_bool (λ y. is_negative_rational (mk a) ≡ false → is_negative_rational y ≡ false → is_negative_rational (mk a +ℚ y) ≡ false)
     (λ y. Π_prop (λ h. Π_prop (λ k. Bool-set _ _)))
     (λ b h k. ltb_back _ _ (not_negative_plus_ratio a b (ltb-false _ _ h) (ltb-false _ _ k))))
 
-pub not_negative_times : (x y : ℚ) → is_negative x ≡ false → is_negative y ≡ false → is_negative (x *ℚ y) ≡ false
-unfolding is_negative ◌*ℚ◌ negative_ratio
+pub not_negative_times : (x y : ℚ) → is_negative_rational x ≡ false → is_negative_rational y ≡ false → is_negative_rational (x *ℚ y) ≡ false
+unfolding is_negative_rational ◌*ℚ◌ negative_ratio
 not_negative_times =
-    agree_bool (λ x. (y : ℚ) → is_negative x ≡ false → is_negative y ≡ false → is_negative (x *ℚ y) ≡ false)
+    agree_bool (λ x. (y : ℚ) → is_negative_rational x ≡ false → is_negative_rational y ≡ false → is_negative_rational (x *ℚ y) ≡ false)
     (λ x. Π_prop (λ y. Π_prop (λ h. Π_prop (λ k. Bool-set _ _))))
-    (λ a. agree_bool (λ y. is_negative (mk a) ≡ false → is_negative y ≡ false → is_negative (mk a *ℚ y) ≡ false)
+    (λ a. agree_bool (λ y. is_negative_rational (mk a) ≡ false → is_negative_rational y ≡ false → is_negative_rational (mk a *ℚ y) ≡ false)
     (λ y. Π_prop (λ h. Π_prop (λ k. Bool-set _ _)))
     (λ b h k. ltb_back _ _ (not_negative_times_ratio a b (ltb-false _ _ h) (ltb-false _ _ k))))
 
@@ -376,13 +376,13 @@ pub value_product : (f g r : Fraction) → 0 < f.den → 0 < g.den → IsQuotien
 value_product f g r p q h = value_is r (f.num *ℤ g.num) (f.den * g.den) (product_positive f.den g.den p q) h ∙ sym (product_over_is f.num g.num f.den g.den p q)
 
 -- a whole number that isn't negative
-pub whole_not_negative : (n : ℤ) → pos 0 ≤ℤ n → is_negative (over n 1) ≡ false
-unfolding is_negative over ratio_over negative_ratio
+pub whole_not_negative : (n : ℤ) → pos 0 ≤ℤ n → is_negative_rational (over n 1) ≡ false
+unfolding is_negative_rational over ratio_over negative_ratio
 whole_not_negative n h = ltb_back (up n) (down n) (omega (arith, ints, h))
 
 -- a fraction is negative where its numerator is
-pub over_negative : (n : ℤ) (d : ℕ) → is_negative (over n d) ≡ int_lt n (pos 0)
-unfolding is_negative over ratio_over negative_ratio
+pub over_negative : (n : ℤ) (d : ℕ) → is_negative_rational (over n d) ≡ int_lt n (pos 0)
+unfolding is_negative_rational over ratio_over negative_ratio
 over_negative (pos n) d = refl
 over_negative (negsuc n) d = below (ltb 0 (suc n)) refl
   where

@@ -2,7 +2,7 @@
 use Rattle.std.proofs.Common.{◌≡◌, ℕ, Bool, true, false, ◌&&◌, ◌||◌, not, cond, List, [], ◌∷◌, refl, ap, sym, ◌∙◌, arith}
 use Rattle.std.proofs.lemmas.List.Elements.{All-nil, All-cons, All-head, All-tail}
 use Rattle.sy_clauses.specs.declared.Lit.{Lit}
-use Rattle.sy_clauses.specs.Clauses.{IsModel, IsTrueUnder, literals, same_literal}
+use Rattle.sy_clauses.specs.Clauses.{IsModel, ClauseIsTrueUnder, literals, same_literal}
 use Rattle.sy_clauses.proofs.Sets.{literal_is}
 use Rattle.sy_gates.specs.Circuits.{lit_value}
 use Rattle.sy_gates.specs.Models.{clause_value, clauses_value}
@@ -18,7 +18,7 @@ sign_true true x e = e
 sign_true false true e = cc
 sign_true false false e = refl
 
-found : (b : Bool) (v : ℕ → Bool) (l : Lit) (c : List Lit) → lit_value v l ≡ b → (b ≡ false → IsTrueUnder v (literals c)) → IsTrueUnder v (literals (l ∷ c))
+found : (b : Bool) (v : ℕ → Bool) (l : Lit) (c : List Lit) → lit_value v l ≡ b → (b ≡ false → ClauseIsTrueUnder v (literals c)) → ClauseIsTrueUnder v (literals (l ∷ c))
 found true v l c e rest =
     let s : v l.var ≡ l.positive = own_sign l.positive (v l.var) e in
     record { var = l.var; has = rw s (grind arith) }
@@ -34,7 +34,7 @@ second : (a b : Bool) → (a || b) ≡ true → a ≡ false → b ≡ true
 second true b e f = cc
 second false b e f = e
 
-pub value-true : (v : ℕ → Bool) (c : List Lit) → clause_value v c ≡ true → IsTrueUnder v (literals c)
+pub value-true : (v : ℕ → Bool) (c : List Lit) → clause_value v c ≡ true → ClauseIsTrueUnder v (literals c)
 value-true v [] e = cc
 value-true v (l ∷ c) e = found (lit_value v l) v l c refl (λ f. value-true v c (second (lit_value v l) (clause_value v c) e f))
 
@@ -46,7 +46,7 @@ either_true : (a b : Bool) → b ≡ true → (a || b) ≡ true
 either_true true b e = refl
 either_true false b e = e
 
-at_literal : (b : Bool) (v : ℕ → Bool) (l : Lit) (c : List Lit) (t : IsTrueUnder v (literals (l ∷ c))) → same_literal l.var l.positive t.var (v t.var) ≡ b → (IsTrueUnder v (literals c) → clause_value v c ≡ true) → clause_value v (l ∷ c) ≡ true
+at_literal : (b : Bool) (v : ℕ → Bool) (l : Lit) (c : List Lit) (t : ClauseIsTrueUnder v (literals (l ∷ c))) → same_literal l.var l.positive t.var (v t.var) ≡ b → (ClauseIsTrueUnder v (literals c) → clause_value v c ≡ true) → clause_value v (l ∷ c) ≡ true
 at_literal true v l c t e rest =
     let same = literal_is l.var l.positive t.var (v t.var) e in
     first_true (lit_value v l) (clause_value v c) (sign_true l.positive (v l.var) (ap v (sym same.0) ∙ same.1))
@@ -54,7 +54,7 @@ at_literal false v l c t e rest =
     either_true (lit_value v l) (clause_value v c)
     (rest (record { var = t.var; has = second (same_literal l.var l.positive t.var (v t.var)) (literals c t.var (v t.var)) t.has e }))
 
-pub true-value : (v : ℕ → Bool) (c : List Lit) → IsTrueUnder v (literals c) → clause_value v c ≡ true
+pub true-value : (v : ℕ → Bool) (c : List Lit) → ClauseIsTrueUnder v (literals c) → clause_value v c ≡ true
 true-value v [] t = let h = t.has in cc
 true-value v (l ∷ c) t = at_literal (same_literal l.var l.positive t.var (v t.var)) v l c t refl (true-value v c)
 
@@ -64,14 +64,14 @@ both false b e = cc
 
 -- the test tells the fact
 pub model : (v : ℕ → Bool) (cs : List (List Lit)) → clauses_value v cs ≡ true → IsModel v cs
-model v [] e = All-nil (λ c. IsTrueUnder v (literals c))
+model v [] e = All-nil (λ c. ClauseIsTrueUnder v (literals c))
 model v (c ∷ cs) e =
     let p = both (clause_value v c) (clauses_value v cs) e in
-    All-cons (λ c. IsTrueUnder v (literals c)) c cs (value-true v c p.0) (model v cs p.1)
+    All-cons (λ c. ClauseIsTrueUnder v (literals c)) c cs (value-true v c p.0) (model v cs p.1)
 
 pub holds : (v : ℕ → Bool) (cs : List (List Lit)) → IsModel v cs → clauses_value v cs ≡ true
 holds v [] m = refl
 holds v (c ∷ cs) m =
-    let first = true-value v c (All-head (λ c. IsTrueUnder v (literals c)) c cs m) in
-    let rest = holds v cs (All-tail (λ c. IsTrueUnder v (literals c)) c cs m) in
+    let first = true-value v c (All-head (λ c. ClauseIsTrueUnder v (literals c)) c cs m) in
+    let rest = holds v cs (All-tail (λ c. ClauseIsTrueUnder v (literals c)) c cs m) in
     rw (first, rest) refl

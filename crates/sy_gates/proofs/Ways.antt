@@ -5,7 +5,7 @@ use Rattle.std.proofs.lemmas.Grind.{common_steps}
 use Rattle.sy_clauses.specs.declared.Lit.{Lit}
 use Rattle.sy_gates.specs.declared.gate.Gate.{Gate}
 use Rattle.sy_gates.specs.declared.gate.Gate.TheVariants.{Constant, And, Xor, Choose}
-use Rattle.sy_gates.specs.Circuits.{Plan, variables, clauses_bound, Follows, Obeys, InOrder, lit_bound, lit_value, gate_bound, gate_value, xor}
+use Rattle.sy_gates.specs.Circuits.{Plan, variables, clauses_bound, FollowsPlan, Obeys, InOrder, lit_bound, lit_value, gate_bound, gate_value, xor}
 use Rattle.sy_clauses.specs.Clauses.{IsModel}
 use Rattle.sy_gates.specs.Models.{values_of, but_last, clauses_value, ExtendsInOneWay}
 use Rattle.sy_gates.proofs.Holding.{model, holds}
@@ -217,7 +217,7 @@ final n i cs ds d gs hs e f h c v =
     rw (e, but_last-push cs d, ← f) (c v ∙ ap (obeys_test v n) (take-whole hs i h))
 
 pub follows-iff : (v : ℕ → Bool) (n : ℕ) (gs : List Gate) (cs : List (List Lit)) → clauses_value v cs ≡ obeys_test v n gs →
-    (IsModel v cs → Follows v (record { inputs = n; gates = gs })) × (Follows v (record { inputs = n; gates = gs }) → IsModel v cs)
+    (IsModel v cs → FollowsPlan v (record { inputs = n; gates = gs })) × (FollowsPlan v (record { inputs = n; gates = gs }) → IsModel v cs)
 follows-iff v n gs cs e = (
   λ m. record { obeys = test-obeys v n gs (sym e ∙ holds v cs m) },
   λ f. model v cs (e ∙ obeys-test v n gs f.obeys),

@@ -64,14 +64,14 @@ Obeys v first [] = Unit {0}
 Obeys v first (g ∷ gs) = (v first ≡ gate_value v g) × Obeys v (first + 1) gs
 
 -- `v` gives each variable of a circuit that a gate makes the truth value that it makes.
-pub record Follows (v : ℕ → Bool) (p : Plan) : Type 0 where
+pub record FollowsPlan (v : ℕ → Bool) (p : Plan) : Type 0 where
   pub obeys : Obeys v p.inputs p.gates
 
 -- The circuit `new` is `old` with gates added.
-pub record Grown (old new : Plan) : Type 0 where
+pub record GrownCircuit (old new : Plan) : Type 0 where
   pub same_inputs : new.inputs ≡ old.inputs
   pub more : variables old ≤ variables new
-  pub keeps : (v : ℕ → Bool) → Follows v new → Follows v old
+  pub keeps : (v : ℕ → Bool) → FollowsPlan v new → FollowsPlan v old
 
 -- The number of a word, whose least bit stands first.
 abbrev pub word_number : (ℕ → Bool) → List Bit → ℕ

@@ -21,8 +21,8 @@ values_of m k = get_or m k false
 abbrev pub but_last : List (List Lit) → List (List Lit)
 but_last cs = take (length cs - 1) cs
 
--- Each choice of truth values for the inputs, which are the first variables, extends in exactly one way
--- to truth values of all variables that make every clause true.
+-- For each choice of truth values of the inputs, which are the first variables, there is one choice for the
+-- others, and no second one, at which all clauses are true.
 pub record ExtendsInOneWay (inputs vars : ℕ) (cs : List (List Lit)) : Type 0 where
   pub some : (bits : List Bool) → length bits ≡ inputs →
       (m : List Bool) × ((length m ≡ vars) × (take inputs m ≡ bits) × IsModel (values_of m) cs)

@@ -1,5 +1,5 @@
 ghost use Rattle.std.specs.Prelude.{◌-◌, ◌^◌, ◌<◌, ◌≡◌, ℕ, Bool, ◌+◌, ◌*◌, ◌≤◌, length, map, OnOk, IfOk, [], ◌++◌, ◌∷◌};
-ghost use Rattle.sy_gates.specs.Circuits.{variables, Follows, Grown, bit_value, bit_bound, word_bound, word_number};
+ghost use Rattle.sy_gates.specs.Circuits.{variables, FollowsPlan, GrownCircuit, bit_value, bit_bound, word_bound, word_number};
 ghost use Rattle.sy_gates.specs.Bitwise.{joint_value, joint_number, all_joined};
 
 use crate::circuit::Circuit;
@@ -22,10 +22,10 @@ impl Circuit {
         requires left { bit_bound a ≤ variables self.old }
         requires right { bit_bound b ≤ variables self.old }
         requires room { variables self.old + 1 < 2 ^ 31 }
-        ensures grown { Grown self.old self.new }
+        ensures grown { GrownCircuit self.old self.new }
         ensures cost { OnOk result (variables self.new ≤ variables self.old + 1) }
         ensures inside { IfOk result (λ r. bit_bound r ≤ variables self.new) }
-        ensures value { IfOk result (λ r. (v : ℕ → Bool) → Follows v self.new → bit_value v r ≡ joint_value joint (bit_value v a) (bit_value v b)) }
+        ensures value { IfOk result (λ r. (v : ℕ → Bool) → FollowsPlan v self.new → bit_value v r ≡ joint_value joint (bit_value v a) (bit_value v b)) }
     {
         match joint {
             Joint::And => self.and(a, b),
@@ -39,10 +39,10 @@ impl Circuit {
     pub fn join_all(&mut self, joint: Joint, bits: &[Bit]) -> Result<Bit, Want>
         requires inside { word_bound bits.now ≤ variables self.old }
         requires room { variables self.old + length bits.now < 2 ^ 31 }
-        ensures grown { Grown self.old self.new }
+        ensures grown { GrownCircuit self.old self.new }
         ensures cost { OnOk result (variables self.new ≤ variables self.old + length bits.now) }
         ensures inside { IfOk result (λ r. bit_bound r ≤ variables self.new) }
-        ensures value { IfOk result (λ r. (v : ℕ → Bool) → Follows v self.new → bit_value v r ≡ all_joined joint (map (λ b. bit_value v b) bits.now)) }
+        ensures value { IfOk result (λ r. (v : ℕ → Bool) → FollowsPlan v self.new → bit_value v r ≡ all_joined joint (map (λ b. bit_value v b) bits.now)) }
     {
         let mut all = Bit::Fixed(match joint {
             Joint::And => true,
@@ -68,11 +68,11 @@ impl Circuit {
         requires left { word_bound a.now ≤ variables self.old }
         requires right { word_bound b.now ≤ variables self.old }
         requires room { variables self.old + length a.now < 2 ^ 31 }
-        ensures grown { Grown self.old self.new }
+        ensures grown { GrownCircuit self.old self.new }
         ensures cost { OnOk result (variables self.new ≤ variables self.old + length a.now) }
         ensures width { IfOk result (λ r. length r ≡ length a.now) }
         ensures inside { IfOk result (λ r. word_bound r ≤ variables self.new) }
-        ensures value { IfOk result (λ r. (v : ℕ → Bool) → Follows v self.new → word_number v r ≡ joint_number joint (word_number v a.now) (word_number v b.now)) }
+        ensures value { IfOk result (λ r. (v : ℕ → Bool) → FollowsPlan v self.new → word_number v r ≡ joint_number joint (word_number v a.now) (word_number v b.now)) }
     {
         let mut word = Seq::new(alloc);
         for i in 0..a.len() {
@@ -97,11 +97,11 @@ impl Circuit {
         requires left { word_bound a.now ≤ variables self.old }
         requires right { word_bound b.now ≤ variables self.old }
         requires room { variables self.old + length a.now < 2 ^ 31 }
-        ensures grown { Grown self.old self.new }
+        ensures grown { GrownCircuit self.old self.new }
         ensures cost { OnOk result (variables self.new ≤ variables self.old + length a.now) }
         ensures width { IfOk result (λ r. length r ≡ length a.now) }
         ensures inside { IfOk result (λ r. word_bound r ≤ variables self.new) }
-        ensures value { IfOk result (λ r. (v : ℕ → Bool) → Follows v self.new → word_number v r ≡ 2 ^ length a.now - 1 - joint_number joint (word_number v a.now) (word_number v b.now)) }
+        ensures value { IfOk result (λ r. (v : ℕ → Bool) → FollowsPlan v self.new → word_number v r ≡ 2 ^ length a.now - 1 - joint_number joint (word_number v a.now) (word_number v b.now)) }
     {
         let joined = self.bitwise(alloc, joint, a, b)?;
         let word = inverted(alloc, joined.as_slice())?;

@@ -1,5 +1,5 @@
 ghost use Rattle.std.specs.Prelude.{◌<◌, ◌^◌, ◌≡◌, ℕ, Bool, true, ◌↔◌, ◌+◌, ◌≤◌, ◌&&◌, ◌||◌, cond, ◌*◌, length, slice_get, Some, Ok, OnOk, IfOk, IfSome, [], ◌++◌, ◌∷◌};
-ghost use Rattle.sy_gates.specs.Circuits.{Plan, variables, Follows, bit_value, bit_bound, gate_bound, gate_value, bit_number, xor, Grown, lit_bound, lit_value, clauses_bound};
+ghost use Rattle.sy_gates.specs.Circuits.{Plan, variables, FollowsPlan, bit_value, bit_bound, gate_bound, gate_value, bit_number, xor, GrownCircuit, lit_bound, lit_value, clauses_bound};
 ghost use Rattle.sy_gates.specs.Models.{but_last, ExtendsInOneWay};
 ghost use Rattle.sy_clauses.specs.Clauses.{IsModel};
 
@@ -60,7 +60,7 @@ impl Circuit {
     // The literal of the variable of a gate that was made; `None` exactly where it wasn't.
     fn found(&self, gate: Gate) -> Option<Lit>
         ensures inside { IfSome result (λ l. lit_bound l ≤ variables self.now) }
-        ensures value { IfSome result (λ l. (v : ℕ → Bool) → Follows v self.now → lit_value v l ≡ gate_value v gate) }
+        ensures value { IfSome result (λ l. (v : ℕ → Bool) → FollowsPlan v self.now → lit_value v l ≡ gate_value v gate) }
         ensures found { (place : ℕ) → slice_get self.now.gates place ≡ Some gate → result ≡ Some (record { var = self.now.inputs + place; positive = true }) }
     {
         let place = self.place_of(gate)?;
@@ -72,10 +72,10 @@ impl Circuit {
         requires new { (place : ℕ) → slice_get self.old.gates place ≡ Some gate → ⊥ }
         requires inside { gate_bound gate ≤ variables self.old }
         requires room { variables self.old + 1 < 2 ^ 31 }
-        ensures grown { Grown self.old self.new }
+        ensures grown { GrownCircuit self.old self.new }
         ensures cost { OnOk result (variables self.new ≤ variables self.old + 1) }
         ensures inside { IfOk result (λ l. lit_bound l ≤ variables self.new) }
-        ensures value { IfOk result (λ l. (v : ℕ → Bool) → Follows v self.new → lit_value v l ≡ gate_value v gate) }
+        ensures value { IfOk result (λ l. (v : ℕ → Bool) → FollowsPlan v self.new → lit_value v l ≡ gate_value v gate) }
     {
         let made = self.gates.len();
         self.table.note(gate, made as u32)?;
@@ -87,10 +87,10 @@ impl Circuit {
     fn make(&mut self, gate: Gate) -> Result<Lit, Want>
         requires inside { gate_bound gate ≤ variables self.old }
         requires room { variables self.old + 1 < 2 ^ 31 }
-        ensures grown { Grown self.old self.new }
+        ensures grown { GrownCircuit self.old self.new }
         ensures cost { OnOk result (variables self.new ≤ variables self.old + 1) }
         ensures inside { IfOk result (λ l. lit_bound l ≤ variables self.new) }
-        ensures value { IfOk result (λ l. (v : ℕ → Bool) → Follows v self.new → lit_value v l ≡ gate_value v gate) }
+        ensures value { IfOk result (λ l. (v : ℕ → Bool) → FollowsPlan v self.new → lit_value v l ≡ gate_value v gate) }
         ensures again { (place : ℕ) → slice_get self.old.gates place ≡ Some gate → (self.new ≡ self.old) × (result ≡ Ok (record { var = self.old.inputs + place; positive = true })) }
     {
         if let Some(literal) = self.found(gate) {
@@ -104,10 +104,10 @@ impl Circuit {
     fn gate(&mut self, gate: Gate) -> Result<Bit, Want>
         requires inside { gate_bound gate ≤ variables self.old }
         requires room { variables self.old + 1 < 2 ^ 31 }
-        ensures grown { Grown self.old self.new }
+        ensures grown { GrownCircuit self.old self.new }
         ensures cost { OnOk result (variables self.new ≤ variables self.old + 1) }
         ensures inside { IfOk result (λ b. bit_bound b ≤ variables self.new) }
-        ensures value { IfOk result (λ b. (v : ℕ → Bool) → Follows v self.new → bit_value v b ≡ gate_value v gate) }
+        ensures value { IfOk result (λ b. (v : ℕ → Bool) → FollowsPlan v self.new → bit_value v b ≡ gate_value v gate) }
     {
         let literal = self.make(gate)?;
         Ok(Bit::Of(literal))
@@ -118,10 +118,10 @@ impl Circuit {
         requires left { lit_bound x ≤ variables self.old }
         requires right { lit_bound y ≤ variables self.old }
         requires room { variables self.old + 1 < 2 ^ 31 }
-        ensures grown { Grown self.old self.new }
+        ensures grown { GrownCircuit self.old self.new }
         ensures cost { OnOk result (variables self.new ≤ variables self.old + 1) }
         ensures inside { IfOk result (λ r. bit_bound r ≤ variables self.new) }
-        ensures value { IfOk result (λ r. (v : ℕ → Bool) → Follows v self.new → bit_value v r ≡ lit_value v x && lit_value v y) }
+        ensures value { IfOk result (λ r. (v : ℕ → Bool) → FollowsPlan v self.new → bit_value v r ≡ lit_value v x && lit_value v y) }
     {
         if x.var == y.var {
             return Ok(if x.positive == y.positive {
@@ -142,10 +142,10 @@ impl Circuit {
         requires left { lit_bound x ≤ variables self.old }
         requires right { lit_bound y ≤ variables self.old }
         requires room { variables self.old + 1 < 2 ^ 31 }
-        ensures grown { Grown self.old self.new }
+        ensures grown { GrownCircuit self.old self.new }
         ensures cost { OnOk result (variables self.new ≤ variables self.old + 1) }
         ensures inside { IfOk result (λ r. bit_bound r ≤ variables self.new) }
-        ensures value { IfOk result (λ r. (v : ℕ → Bool) → Follows v self.new → bit_value v r ≡ xor (lit_value v x) (lit_value v y)) }
+        ensures value { IfOk result (λ r. (v : ℕ → Bool) → FollowsPlan v self.new → bit_value v r ≡ xor (lit_value v x) (lit_value v y)) }
     {
         let turned = x.positive != y.positive;
         if x.var == y.var {
@@ -163,10 +163,10 @@ impl Circuit {
         requires left { lit_bound x ≤ variables self.old }
         requires right { lit_bound y ≤ variables self.old }
         requires room { variables self.old + 1 < 2 ^ 31 }
-        ensures grown { Grown self.old self.new }
+        ensures grown { GrownCircuit self.old self.new }
         ensures cost { OnOk result (variables self.new ≤ variables self.old + 1) }
         ensures inside { IfOk result (λ r. bit_bound r ≤ variables self.new) }
-        ensures value { IfOk result (λ r. (v : ℕ → Bool) → Follows v self.new → bit_value v r ≡ cond (lit_value v test) (lit_value v x) (lit_value v y)) }
+        ensures value { IfOk result (λ r. (v : ℕ → Bool) → FollowsPlan v self.new → bit_value v r ≡ cond (lit_value v test) (lit_value v x) (lit_value v y)) }
     {
         if x.var == y.var {
             return if x.positive == y.positive {
@@ -186,10 +186,10 @@ impl Circuit {
     pub fn literal(&mut self, bit: Bit) -> Result<Lit, Want>
         requires inside { bit_bound bit ≤ variables self.old }
         requires room { variables self.old + 1 < 2 ^ 31 }
-        ensures grown { Grown self.old self.new }
+        ensures grown { GrownCircuit self.old self.new }
         ensures cost { OnOk result (variables self.new ≤ variables self.old + 1) }
         ensures inside { IfOk result (λ l. lit_bound l ≤ variables self.new) }
-        ensures value { IfOk result (λ l. (v : ℕ → Bool) → Follows v self.new → lit_value v l ≡ bit_value v bit) }
+        ensures value { IfOk result (λ l. (v : ℕ → Bool) → FollowsPlan v self.new → lit_value v l ≡ bit_value v bit) }
     {
         match bit {
             Bit::Fixed(b) => self.make(Gate::Constant(b)),
@@ -203,7 +203,7 @@ impl Circuit {
         ensures vars { IfOk result (λ r. r.vars ≡ variables self.now) }
         ensures bound { IfOk result (λ r. clauses_bound r.clauses ≤ r.vars) }
         ensures last { IfOk result (λ r. r.clauses ≡ but_last r.clauses ++ (output ∷ []) ∷ []) }
-        ensures models { IfOk result (λ r. (v : ℕ → Bool) → IsModel v (but_last r.clauses) ↔ Follows v self.now) }
+        ensures models { IfOk result (λ r. (v : ℕ → Bool) → IsModel v (but_last r.clauses) ↔ FollowsPlan v self.now) }
         ensures one_way { IfOk result (λ r. ExtendsInOneWay self.now.inputs r.vars (but_last r.clauses)) }
         ensures count { IfOk result (λ r. length r.clauses ≤ 4 * length self.now.gates + 1) }
     {
@@ -223,10 +223,10 @@ impl Circuit {
         requires left { bit_bound a ≤ variables self.old }
         requires right { bit_bound b ≤ variables self.old }
         requires room { variables self.old + 1 < 2 ^ 31 }
-        ensures grown { Grown self.old self.new }
+        ensures grown { GrownCircuit self.old self.new }
         ensures cost { OnOk result (variables self.new ≤ variables self.old + 1) }
         ensures inside { IfOk result (λ r. bit_bound r ≤ variables self.new) }
-        ensures value { IfOk result (λ r. (v : ℕ → Bool) → Follows v self.new → bit_value v r ≡ bit_value v a && bit_value v b) }
+        ensures value { IfOk result (λ r. (v : ℕ → Bool) → FollowsPlan v self.new → bit_value v r ≡ bit_value v a && bit_value v b) }
     {
         match a {
             Bit::Fixed(x) => Ok(if x { b } else { Bit::Fixed(false) }),
@@ -242,10 +242,10 @@ impl Circuit {
         requires left { bit_bound a ≤ variables self.old }
         requires right { bit_bound b ≤ variables self.old }
         requires room { variables self.old + 1 < 2 ^ 31 }
-        ensures grown { Grown self.old self.new }
+        ensures grown { GrownCircuit self.old self.new }
         ensures cost { OnOk result (variables self.new ≤ variables self.old + 1) }
         ensures inside { IfOk result (λ r. bit_bound r ≤ variables self.new) }
-        ensures value { IfOk result (λ r. (v : ℕ → Bool) → Follows v self.new → bit_value v r ≡ xor (bit_value v a) (bit_value v b)) }
+        ensures value { IfOk result (λ r. (v : ℕ → Bool) → FollowsPlan v self.new → bit_value v r ≡ xor (bit_value v a) (bit_value v b)) }
     {
         match a {
             Bit::Fixed(x) => Ok(if x { b.negated() } else { b }),
@@ -261,10 +261,10 @@ impl Circuit {
         requires left { bit_bound a ≤ variables self.old }
         requires right { bit_bound b ≤ variables self.old }
         requires room { variables self.old + 1 < 2 ^ 31 }
-        ensures grown { Grown self.old self.new }
+        ensures grown { GrownCircuit self.old self.new }
         ensures cost { OnOk result (variables self.new ≤ variables self.old + 1) }
         ensures inside { IfOk result (λ r. bit_bound r ≤ variables self.new) }
-        ensures value { IfOk result (λ r. (v : ℕ → Bool) → Follows v self.new → bit_value v r ≡ bit_value v a || bit_value v b) }
+        ensures value { IfOk result (λ r. (v : ℕ → Bool) → FollowsPlan v self.new → bit_value v r ≡ bit_value v a || bit_value v b) }
     {
         let neither = self.and(a.negated(), b.negated())?;
         Ok(neither.negated())
@@ -276,10 +276,10 @@ impl Circuit {
         requires left { bit_bound a ≤ variables self.old }
         requires right { bit_bound b ≤ variables self.old }
         requires room { variables self.old + 1 < 2 ^ 31 }
-        ensures grown { Grown self.old self.new }
+        ensures grown { GrownCircuit self.old self.new }
         ensures cost { OnOk result (variables self.new ≤ variables self.old + 1) }
         ensures inside { IfOk result (λ r. bit_bound r ≤ variables self.new) }
-        ensures value { IfOk result (λ r. (v : ℕ → Bool) → Follows v self.new → bit_value v r ≡ cond (bit_value v test) (bit_value v a) (bit_value v b)) }
+        ensures value { IfOk result (λ r. (v : ℕ → Bool) → FollowsPlan v self.new → bit_value v r ≡ cond (bit_value v test) (bit_value v a) (bit_value v b)) }
     {
         match test {
             Bit::Fixed(t) => Ok(if t { a } else { b }),
@@ -307,11 +307,11 @@ impl Circuit {
         requires right { bit_bound b ≤ variables self.old }
         requires carry { bit_bound carry ≤ variables self.old }
         requires room { variables self.old + 3 < 2 ^ 31 }
-        ensures grown { Grown self.old self.new }
+        ensures grown { GrownCircuit self.old self.new }
         ensures cost { OnOk result (variables self.new ≤ variables self.old + 3) }
         ensures digit_inside { IfOk result (λ r. bit_bound r.digit ≤ variables self.new) }
         ensures carry_inside { IfOk result (λ r. bit_bound r.carry ≤ variables self.new) }
-        ensures value { IfOk result (λ r. (v : ℕ → Bool) → Follows v self.new → bit_number v r.digit + 2 * bit_number v r.carry ≡ bit_number v a + bit_number v b + bit_number v carry) }
+        ensures value { IfOk result (λ r. (v : ℕ → Bool) → FollowsPlan v self.new → bit_number v r.digit + 2 * bit_number v r.carry ≡ bit_number v a + bit_number v b + bit_number v carry) }
     {
         let differ = self.xor(a, b)?;
         let digit = self.xor(differ, carry)?;

@@ -1,5 +1,5 @@
 ghost use Rattle.std.specs.Prelude.{◌≡◌, ℕ, Bool, true, ◌+◌, ◌*◌, ◌^◌, ◌≤◌, ◌<◌, ◌-◌, ◌↔◌, cond, eqb, length, OnOk, IfOk, [], ◌++◌, ◌∷◌};
-ghost use Rattle.sy_gates.specs.Circuits.{variables, Follows, Grown, bit_value, word_bound, bit_bound, word_number};
+ghost use Rattle.sy_gates.specs.Circuits.{variables, FollowsPlan, GrownCircuit, bit_value, word_bound, bit_bound, word_number};
 ghost use Rattle.sy_gates.specs.Arithmetic.{signed_number};
 ghost use Rattle.sy_gates.specs.Orders.{order_value, Stands};
 
@@ -31,10 +31,10 @@ impl Circuit {
         requires left { word_bound a.now ≤ variables self.old }
         requires right { word_bound b.now ≤ variables self.old }
         requires room { variables self.old + 3 * length a.now < 2 ^ 31 }
-        ensures grown { Grown self.old self.new }
+        ensures grown { GrownCircuit self.old self.new }
         ensures cost { OnOk result (variables self.new ≤ variables self.old + 3 * length a.now) }
         ensures inside { IfOk result (λ r. bit_bound r ≤ variables self.new) }
-        ensures value { IfOk result (λ r. (v : ℕ → Bool) → Follows v self.new → bit_value v r ≡ order_value order (word_number v a.now) (word_number v b.now)) }
+        ensures value { IfOk result (λ r. (v : ℕ → Bool) → FollowsPlan v self.new → bit_value v r ≡ order_value order (word_number v a.now) (word_number v b.now)) }
     {
         match order {
             Order::Less => {
@@ -69,10 +69,10 @@ impl Circuit {
         requires left { word_bound a.now ≤ variables self.old }
         requires right { word_bound b.now ≤ variables self.old }
         requires room { variables self.old + 3 * length a.now + 2 < 2 ^ 31 }
-        ensures grown { Grown self.old self.new }
+        ensures grown { GrownCircuit self.old self.new }
         ensures cost { OnOk result (variables self.new ≤ variables self.old + 3 * length a.now + 2) }
         ensures inside { IfOk result (λ r. bit_bound r ≤ variables self.new) }
-        ensures value { IfOk result (λ r. (v : ℕ → Bool) → Follows v self.new → (bit_value v r ≡ true ↔ Stands order (signed_number (length a.now) (word_number v a.now)) (signed_number (length a.now) (word_number v b.now)))) }
+        ensures value { IfOk result (λ r. (v : ℕ → Bool) → FollowsPlan v self.new → (bit_value v r ≡ true ↔ Stands order (signed_number (length a.now) (word_number v a.now)) (signed_number (length a.now) (word_number v b.now)))) }
     {
         match order {
             Order::Less => {
@@ -100,11 +100,11 @@ impl Circuit {
         requires left { word_bound a.now ≤ variables self.old }
         requires right { word_bound b.now ≤ variables self.old }
         requires room { variables self.old + 2 * length a.now < 2 ^ 31 }
-        ensures grown { Grown self.old self.new }
+        ensures grown { GrownCircuit self.old self.new }
         ensures cost { OnOk result (variables self.new ≤ variables self.old + 2 * length a.now) }
         ensures width { IfOk result (λ r. length r ≡ 1) }
         ensures inside { IfOk result (λ r. word_bound r ≤ variables self.new) }
-        ensures value { IfOk result (λ r. (v : ℕ → Bool) → Follows v self.new → word_number v r ≡ cond (eqb (word_number v a.now) (word_number v b.now)) 1 0) }
+        ensures value { IfOk result (λ r. (v : ℕ → Bool) → FollowsPlan v self.new → word_number v r ≡ cond (eqb (word_number v a.now) (word_number v b.now)) 1 0) }
     {
         let same = self.equal(a, b)?;
         let word = joined(alloc, &[same], &[])?;

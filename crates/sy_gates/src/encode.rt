@@ -1,5 +1,5 @@
 ghost use Rattle.std.specs.Prelude.{◌≡◌, ℕ, Bool, true, ◌+◌, ◌*◌, ◌≤◌, ◌<◌, ◌↔◌, ◌&&◌, not, max, length, OnOk, IfOk, List, [], ◌++◌, ◌∷◌, take};
-ghost use Rattle.sy_gates.specs.Circuits.{Plan, variables, Follows, lit_bound, gate_bound, gate_value, clauses_bound, xor};
+ghost use Rattle.sy_gates.specs.Circuits.{Plan, variables, FollowsPlan, lit_bound, gate_bound, gate_value, clauses_bound, xor};
 ghost use Rattle.sy_gates.specs.Models.{clauses_value, but_last, values_of};
 
 use crate::circuit::Circuit;

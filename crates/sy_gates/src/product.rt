@@ -1,5 +1,5 @@
 ghost use Rattle.std.specs.Prelude.{◌≡◌, ℕ, Bool, ◌+◌, ◌*◌, ◌^◌, ◌≤◌, ◌<◌, ◌%◌, ◌-◌, cond, length, OnOk, IfOk, [], ◌++◌, ◌∷◌};
-ghost use Rattle.sy_gates.specs.Circuits.{variables, Follows, Grown, bit_value, bit_bound, word_bound, word_number};
+ghost use Rattle.sy_gates.specs.Circuits.{variables, FollowsPlan, GrownCircuit, bit_value, bit_bound, word_bound, word_number};
 
 use crate::circuit::Circuit;
 use crate::gate::Bit;
@@ -24,11 +24,11 @@ impl Circuit {
         requires right { word_bound a.now ≤ variables self.old }
         requires bit { bit_bound bit ≤ variables self.old }
         requires room { variables self.old + 4 * length a.now < 2 ^ 31 }
-        ensures grown { Grown self.old self.new }
+        ensures grown { GrownCircuit self.old self.new }
         ensures cost { OnOk result (variables self.new ≤ variables self.old + 4 * length a.now) }
         ensures width { IfOk result (λ r. length r ≡ length a.now) }
         ensures inside { IfOk result (λ r. word_bound r ≤ variables self.new) }
-        ensures value { IfOk result (λ r. (v : ℕ → Bool) → Follows v self.new → word_number v r ≡ (word_number v sum.now + cond (bit_value v bit) (word_number v a.now * 2 ^ by) 0) % 2 ^ length a.now) }
+        ensures value { IfOk result (λ r. (v : ℕ → Bool) → FollowsPlan v self.new → word_number v r ≡ (word_number v sum.now + cond (bit_value v bit) (word_number v a.now * 2 ^ by) 0) % 2 ^ length a.now) }
     {
         let moved = moved_up(alloc, a, by)?;
         let none = zeros(alloc, a.len())?;
@@ -44,11 +44,11 @@ impl Circuit {
         requires left { word_bound a.now ≤ variables self.old }
         requires right { word_bound b.now ≤ variables self.old }
         requires room { variables self.old + 4 * (length a.now * length a.now) < 2 ^ 31 }
-        ensures grown { Grown self.old self.new }
+        ensures grown { GrownCircuit self.old self.new }
         ensures cost { OnOk result (variables self.new ≤ variables self.old + 4 * (length a.now * length a.now)) }
         ensures width { IfOk result (λ r. length r ≡ length a.now) }
         ensures inside { IfOk result (λ r. word_bound r ≤ variables self.new) }
-        ensures value { IfOk result (λ r. (v : ℕ → Bool) → Follows v self.new → word_number v r ≡ word_number v a.now * word_number v b.now % 2 ^ length a.now) }
+        ensures value { IfOk result (λ r. (v : ℕ → Bool) → FollowsPlan v self.new → word_number v r ≡ word_number v a.now * word_number v b.now % 2 ^ length a.now) }
     {
         let mut sum = zeros(alloc, a.len())?;
         for i in 0..a.len() {

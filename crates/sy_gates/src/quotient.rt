@@ -1,5 +1,5 @@
 ghost use Rattle.std.specs.Prelude.{◌≡◌, ℕ, Bool, ◌+◌, ◌*◌, ◌^◌, ◌≤◌, ◌<◌, ◌%◌, ◌-◌, cond, leb, max, length, OnOk, IfOk, [], ◌++◌, ◌∷◌};
-ghost use Rattle.sy_gates.specs.Circuits.{variables, Follows, Grown, bit_value, bit_number, bit_bound, word_bound, word_number};
+ghost use Rattle.sy_gates.specs.Circuits.{variables, FollowsPlan, GrownCircuit, bit_value, bit_number, bit_bound, word_bound, word_number};
 ghost use Rattle.sy_gates.specs.Arithmetic.{quotient_of, remainder_of};
 
 use crate::circuit::Circuit;
@@ -39,13 +39,13 @@ impl Circuit {
         requires right { word_bound b.now ≤ variables self.old }
         requires next { bit_bound next ≤ variables self.old }
         requires room { variables self.old + 4 * (length b.now + 1) < 2 ^ 31 }
-        ensures grown { Grown self.old self.new }
+        ensures grown { GrownCircuit self.old self.new }
         ensures cost { OnOk result (variables self.new ≤ variables self.old + 4 * (length b.now + 1)) }
         ensures width { IfOk result (λ r. length r.rest ≡ length b.now) }
         ensures inside { IfOk result (λ r. word_bound r.rest ≤ variables self.new) }
         ensures digit_inside { IfOk result (λ r. bit_bound r.digit ≤ variables self.new) }
-        ensures digit { IfOk result (λ r. (v : ℕ → Bool) → Follows v self.new → bit_value v r.digit ≡ leb (word_number v b.now) (word_number v rest.now * 2 + bit_number v next)) }
-        ensures rest { IfOk result (λ r. (v : ℕ → Bool) → Follows v self.new → word_number v r.rest ≡ (word_number v rest.now * 2 + bit_number v next - cond (bit_value v r.digit) (word_number v b.now) 0) % 2 ^ length b.now) }
+        ensures digit { IfOk result (λ r. (v : ℕ → Bool) → FollowsPlan v self.new → bit_value v r.digit ≡ leb (word_number v b.now) (word_number v rest.now * 2 + bit_number v next)) }
+        ensures rest { IfOk result (λ r. (v : ℕ → Bool) → FollowsPlan v self.new → word_number v r.rest ≡ (word_number v rest.now * 2 + bit_number v next - cond (bit_value v r.digit) (word_number v b.now) 0) % 2 ^ length b.now) }
     {
         let brought = joined(alloc, &[next], rest)?;
         let taken = joined(alloc, b, &[Bit::Fixed(false)])?;
@@ -65,14 +65,14 @@ impl Circuit {
         requires left { word_bound a.now ≤ variables self.old }
         requires right { word_bound b.now ≤ variables self.old }
         requires room { variables self.old + 4 * (length a.now * (length a.now + 1)) < 2 ^ 31 }
-        ensures grown { Grown self.old self.new }
+        ensures grown { GrownCircuit self.old self.new }
         ensures cost { OnOk result (variables self.new ≤ variables self.old + 4 * (length a.now * (length a.now + 1))) }
         ensures quotient_width { IfOk result (λ r. length r.quotient ≡ length a.now) }
         ensures remainder_width { IfOk result (λ r. length r.remainder ≡ length a.now) }
         ensures quotient_inside { IfOk result (λ r. word_bound r.quotient ≤ variables self.new) }
         ensures remainder_inside { IfOk result (λ r. word_bound r.remainder ≤ variables self.new) }
-        ensures quotient { IfOk result (λ r. (v : ℕ → Bool) → Follows v self.new → word_number v r.quotient ≡ quotient_of (length a.now) (word_number v a.now) (word_number v b.now)) }
-        ensures remainder { IfOk result (λ r. (v : ℕ → Bool) → Follows v self.new → word_number v r.remainder ≡ remainder_of (word_number v a.now) (word_number v b.now)) }
+        ensures quotient { IfOk result (λ r. (v : ℕ → Bool) → FollowsPlan v self.new → word_number v r.quotient ≡ quotient_of (length a.now) (word_number v a.now) (word_number v b.now)) }
+        ensures remainder { IfOk result (λ r. (v : ℕ → Bool) → FollowsPlan v self.new → word_number v r.remainder ≡ remainder_of (word_number v a.now) (word_number v b.now)) }
     {
         let width = a.len();
         let mut quotient = zeros(alloc, 0)?;

@@ -1,6 +1,6 @@
 ghost use Rattle.std.specs.Prelude.{◌≡◌, ℕ, Bool, true, ◌+◌, ◌*◌, ◌^◌, ◌≤◌, ◌<◌, ◌-◌, ◌%◌, ◌↔◌, ◌<ℤ◌, cond, length, OnOk, IfOk, [], ◌++◌, ◌∷◌};
-ghost use Rattle.sy_gates.specs.Circuits.{variables, Follows, Grown, bit_value, bit_bound, word_bound, word_number, xor};
-ghost use Rattle.sy_gates.specs.Arithmetic.{is_negative, minus, magnitude, signed_number, signed_quotient, signed_remainder, signed_modulo, moved_to_sign, signed_shift_down};
+ghost use Rattle.sy_gates.specs.Circuits.{variables, FollowsPlan, GrownCircuit, bit_value, bit_bound, word_bound, word_number, xor};
+ghost use Rattle.sy_gates.specs.Arithmetic.{has_top_bit, minus_vector, magnitude, signed_number, signed_quotient, signed_remainder, signed_modulo, moved_to_sign, signed_shift_down};
 
 use crate::circuit::Circuit;
 use crate::gate::Bit;
@@ -13,7 +13,7 @@ use sy_seq::{Seq, Want};
 pub fn top(a: &[Bit]) -> Bit
     requires { 0 < length a.now }
     ensures bound { bit_bound result ≤ word_bound a.now }
-    ensures value { (v : ℕ → Bool) → bit_value v result ≡ is_negative (length a.now) (word_number v a.now) }
+    ensures value { (v : ℕ → Bool) → bit_value v result ≡ has_top_bit (length a.now) (word_number v a.now) }
 {
     a[a.len() - 1]
 }
@@ -24,11 +24,11 @@ impl Circuit {
         requires test { bit_bound test ≤ variables self.old }
         requires word { word_bound a.now ≤ variables self.old }
         requires room { variables self.old + 4 * length a.now < 2 ^ 31 }
-        ensures grown { Grown self.old self.new }
+        ensures grown { GrownCircuit self.old self.new }
         ensures cost { OnOk result (variables self.new ≤ variables self.old + 4 * length a.now) }
         ensures width { IfOk result (λ r. length r ≡ length a.now) }
         ensures inside { IfOk result (λ r. word_bound r ≤ variables self.new) }
-        ensures value { IfOk result (λ r. (v : ℕ → Bool) → Follows v self.new → word_number v r ≡ cond (bit_value v test) (minus (length a.now) (word_number v a.now)) (word_number v a.now)) }
+        ensures value { IfOk result (λ r. (v : ℕ → Bool) → FollowsPlan v self.new → word_number v r ≡ cond (bit_value v test) (minus_vector (length a.now) (word_number v a.now)) (word_number v a.now)) }
     {
         let turned = self.neg(alloc, a)?;
         let word = self.choose_word(alloc, test, turned.as_slice(), a)?;
@@ -42,10 +42,10 @@ impl Circuit {
         requires left { word_bound a.now ≤ variables self.old }
         requires right { word_bound b.now ≤ variables self.old }
         requires room { variables self.old + 3 * length a.now + 2 < 2 ^ 31 }
-        ensures grown { Grown self.old self.new }
+        ensures grown { GrownCircuit self.old self.new }
         ensures cost { OnOk result (variables self.new ≤ variables self.old + 3 * length a.now + 2) }
         ensures inside { IfOk result (λ r. bit_bound r ≤ variables self.new) }
-        ensures value { IfOk result (λ r. (v : ℕ → Bool) → Follows v self.new → (bit_value v r ≡ true ↔ (signed_number (length a.now) (word_number v a.now) <ℤ signed_number (length a.now) (word_number v b.now)))) }
+        ensures value { IfOk result (λ r. (v : ℕ → Bool) → FollowsPlan v self.new → (bit_value v r ≡ true ↔ (signed_number (length a.now) (word_number v a.now) <ℤ signed_number (length a.now) (word_number v b.now)))) }
     {
         let below = self.less(alloc, a, b)?;
         let differ = self.xor(top(a), top(b))?;
@@ -61,11 +61,11 @@ impl Circuit {
         requires right { word_bound b.now ≤ variables self.old }
         requires small { length a.now < 2 ^ 32 }
         requires room { variables self.old + 4 * (length a.now * (length a.now + 1)) + 12 * length a.now + 1 < 2 ^ 31 }
-        ensures grown { Grown self.old self.new }
+        ensures grown { GrownCircuit self.old self.new }
         ensures cost { OnOk result (variables self.new ≤ variables self.old + 4 * (length a.now * (length a.now + 1)) + 12 * length a.now + 1) }
         ensures width { IfOk result (λ r. length r ≡ length a.now) }
         ensures inside { IfOk result (λ r. word_bound r ≤ variables self.new) }
-        ensures value { IfOk result (λ r. (v : ℕ → Bool) → Follows v self.new → word_number v r ≡ signed_quotient (length a.now) (word_number v a.now) (word_number v b.now)) }
+        ensures value { IfOk result (λ r. (v : ℕ → Bool) → FollowsPlan v self.new → word_number v r ≡ signed_quotient (length a.now) (word_number v a.now) (word_number v b.now)) }
     {
         let left = self.negate_where(alloc, top(a), a)?;
         let right = self.negate_where(alloc, top(b), b)?;
@@ -88,11 +88,11 @@ impl Circuit {
         requires right { word_bound b.now ≤ variables self.old }
         requires small { length a.now < 2 ^ 32 }
         requires room { variables self.old + 4 * (length a.now * (length a.now + 1)) + 12 * length a.now < 2 ^ 31 }
-        ensures grown { Grown self.old self.new }
+        ensures grown { GrownCircuit self.old self.new }
         ensures cost { OnOk result (variables self.new ≤ variables self.old + 4 * (length a.now * (length a.now + 1)) + 12 * length a.now) }
         ensures width { IfOk result (λ r. length r ≡ length a.now) }
         ensures inside { IfOk result (λ r. word_bound r ≤ variables self.new) }
-        ensures value { IfOk result (λ r. (v : ℕ → Bool) → Follows v self.new → word_number v r ≡ signed_remainder (length a.now) (word_number v a.now) (word_number v b.now)) }
+        ensures value { IfOk result (λ r. (v : ℕ → Bool) → FollowsPlan v self.new → word_number v r ≡ signed_remainder (length a.now) (word_number v a.now) (word_number v b.now)) }
     {
         let left = self.negate_where(alloc, top(a), a)?;
         let right = self.negate_where(alloc, top(b), b)?;
@@ -109,11 +109,11 @@ impl Circuit {
         requires right { word_bound b.now ≤ variables self.old }
         requires small { length a.now < 2 ^ 32 }
         requires room { variables self.old + 4 * (length a.now * (length a.now + 1)) + 19 * length a.now + 1 < 2 ^ 31 }
-        ensures grown { Grown self.old self.new }
+        ensures grown { GrownCircuit self.old self.new }
         ensures cost { OnOk result (variables self.new ≤ variables self.old + 4 * (length a.now * (length a.now + 1)) + 19 * length a.now + 1) }
         ensures width { IfOk result (λ r. length r ≡ length a.now) }
         ensures inside { IfOk result (λ r. word_bound r ≤ variables self.new) }
-        ensures value { IfOk result (λ r. (v : ℕ → Bool) → Follows v self.new → word_number v r ≡ signed_modulo (length a.now) (word_number v a.now) (word_number v b.now)) }
+        ensures value { IfOk result (λ r. (v : ℕ → Bool) → FollowsPlan v self.new → word_number v r ≡ signed_modulo (length a.now) (word_number v a.now) (word_number v b.now)) }
     {
         let left = self.negate_where(alloc, top(a), a)?;
         let right = self.negate_where(alloc, top(b), b)?;
@@ -137,11 +137,11 @@ impl Circuit {
         requires rest { word_bound rest.now ≤ variables self.old }
         requires word { word_bound b.now ≤ variables self.old }
         requires room { variables self.old + 11 * length rest.now + 1 < 2 ^ 31 }
-        ensures grown { Grown self.old self.new }
+        ensures grown { GrownCircuit self.old self.new }
         ensures cost { OnOk result (variables self.new ≤ variables self.old + 11 * length rest.now + 1) }
         ensures width { IfOk result (λ r. length r ≡ length rest.now) }
         ensures inside { IfOk result (λ r. word_bound r ≤ variables self.new) }
-        ensures value { IfOk result (λ r. (v : ℕ → Bool) → Follows v self.new → word_number v r ≡ moved_to_sign (length rest.now) (bit_value v left) (bit_value v right) (word_number v rest.now) (word_number v b.now)) }
+        ensures value { IfOk result (λ r. (v : ℕ → Bool) → FollowsPlan v self.new → word_number v r ≡ moved_to_sign (length rest.now) (bit_value v left) (bit_value v right) (word_number v rest.now) (word_number v b.now)) }
     {
         let none = zeros(alloc, rest.len())?;
         let signed = self.negate_where(alloc, left, rest)?;
@@ -165,11 +165,11 @@ impl Circuit {
         requires left { word_bound a.now ≤ variables self.old }
         requires right { word_bound by.now ≤ variables self.old }
         requires room { variables self.old + length a.now * length by.now + 2 * length a.now < 2 ^ 31 }
-        ensures grown { Grown self.old self.new }
+        ensures grown { GrownCircuit self.old self.new }
         ensures cost { OnOk result (variables self.new ≤ variables self.old + length a.now * length by.now + 2 * length a.now) }
         ensures width { IfOk result (λ r. length r ≡ length a.now) }
         ensures inside { IfOk result (λ r. word_bound r ≤ variables self.new) }
-        ensures value { IfOk result (λ r. (v : ℕ → Bool) → Follows v self.new → word_number v r ≡ signed_shift_down (length a.now) (word_number v a.now) (word_number v by.now)) }
+        ensures value { IfOk result (λ r. (v : ℕ → Bool) → FollowsPlan v self.new → word_number v r ≡ signed_shift_down (length a.now) (word_number v a.now) (word_number v by.now)) }
     {
         let sign = top(a);
         let turned = inverted(alloc, a)?;

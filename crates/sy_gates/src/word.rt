@@ -1,5 +1,5 @@
 ghost use Rattle.std.specs.Prelude.{◌<◌, ◌≡◌, ℕ, Bool, ◌+◌, ◌*◌, ◌^◌, ◌≤◌, ◌%◌, ◌-◌, cond, eqb, ltb, length, OnOk, IfOk, [], ◌++◌, ◌∷◌};
-ghost use Rattle.sy_gates.specs.Circuits.{variables, Follows, Grown, bit_value, bit_bound, bit_number, word_bound, word_number};
+ghost use Rattle.sy_gates.specs.Circuits.{variables, FollowsPlan, GrownCircuit, bit_value, bit_bound, bit_number, word_bound, word_number};
 
 use crate::circuit::Circuit;
 use crate::gate::{Added, Bit};
@@ -28,12 +28,12 @@ impl Circuit {
         requires right { word_bound b.now ≤ variables self.old }
         requires carry { bit_bound carry ≤ variables self.old }
         requires room { variables self.old + 3 * length a.now < 2 ^ 31 }
-        ensures grown { Grown self.old self.new }
+        ensures grown { GrownCircuit self.old self.new }
         ensures cost { OnOk result (variables self.new ≤ variables self.old + 3 * length a.now) }
         ensures width { IfOk result (λ r. length r.word ≡ length a.now) }
         ensures inside { IfOk result (λ r. word_bound r.word ≤ variables self.new) }
         ensures carry_inside { IfOk result (λ r. bit_bound r.carry ≤ variables self.new) }
-        ensures value { IfOk result (λ r. (v : ℕ → Bool) → Follows v self.new → word_number v r.word + 2 ^ length a.now * bit_number v r.carry ≡ word_number v a.now + word_number v b.now + bit_number v carry) }
+        ensures value { IfOk result (λ r. (v : ℕ → Bool) → FollowsPlan v self.new → word_number v r.word + 2 ^ length a.now * bit_number v r.carry ≡ word_number v a.now + word_number v b.now + bit_number v carry) }
     {
         let mut word = Seq::new(alloc);
         let mut over = carry;
@@ -54,11 +54,11 @@ impl Circuit {
         requires left { word_bound a.now ≤ variables self.old }
         requires right { word_bound b.now ≤ variables self.old }
         requires room { variables self.old + 3 * length a.now < 2 ^ 31 }
-        ensures grown { Grown self.old self.new }
+        ensures grown { GrownCircuit self.old self.new }
         ensures cost { OnOk result (variables self.new ≤ variables self.old + 3 * length a.now) }
         ensures width { IfOk result (λ r. length r ≡ length a.now) }
         ensures inside { IfOk result (λ r. word_bound r ≤ variables self.new) }
-        ensures value { IfOk result (λ r. (v : ℕ → Bool) → Follows v self.new → word_number v r ≡ (word_number v a.now + word_number v b.now) % 2 ^ length a.now) }
+        ensures value { IfOk result (λ r. (v : ℕ → Bool) → FollowsPlan v self.new → word_number v r ≡ (word_number v a.now + word_number v b.now) % 2 ^ length a.now) }
     {
         let total = self.add_carry(alloc, a, b, Bit::Fixed(false))?;
         Ok(total.word)
@@ -71,12 +71,12 @@ impl Circuit {
         requires left { word_bound a.now ≤ variables self.old }
         requires right { word_bound b.now ≤ variables self.old }
         requires room { variables self.old + 3 * length a.now < 2 ^ 31 }
-        ensures grown { Grown self.old self.new }
+        ensures grown { GrownCircuit self.old self.new }
         ensures cost { OnOk result (variables self.new ≤ variables self.old + 3 * length a.now) }
         ensures width { IfOk result (λ r. length r.word ≡ length a.now) }
         ensures inside { IfOk result (λ r. word_bound r.word ≤ variables self.new) }
         ensures carry_inside { IfOk result (λ r. bit_bound r.carry ≤ variables self.new) }
-        ensures value { IfOk result (λ r. (v : ℕ → Bool) → Follows v self.new → word_number v r.word + 2 ^ length a.now * bit_number v r.carry + word_number v b.now ≡ word_number v a.now + 2 ^ length a.now) }
+        ensures value { IfOk result (λ r. (v : ℕ → Bool) → FollowsPlan v self.new → word_number v r.word + 2 ^ length a.now * bit_number v r.carry + word_number v b.now ≡ word_number v a.now + 2 ^ length a.now) }
     {
         let turned = inverted(alloc, b)?;
         self.add_carry(alloc, a, turned.as_slice(), Bit::Fixed(true))
@@ -89,11 +89,11 @@ impl Circuit {
         requires left { word_bound a.now ≤ variables self.old }
         requires right { word_bound b.now ≤ variables self.old }
         requires room { variables self.old + 3 * length a.now < 2 ^ 31 }
-        ensures grown { Grown self.old self.new }
+        ensures grown { GrownCircuit self.old self.new }
         ensures cost { OnOk result (variables self.new ≤ variables self.old + 3 * length a.now) }
         ensures width { IfOk result (λ r. length r ≡ length a.now) }
         ensures inside { IfOk result (λ r. word_bound r ≤ variables self.new) }
-        ensures value { IfOk result (λ r. (v : ℕ → Bool) → Follows v self.new → word_number v r ≡ (word_number v a.now + 2 ^ length a.now - word_number v b.now) % 2 ^ length a.now) }
+        ensures value { IfOk result (λ r. (v : ℕ → Bool) → FollowsPlan v self.new → word_number v r ≡ (word_number v a.now + 2 ^ length a.now - word_number v b.now) % 2 ^ length a.now) }
     {
         let total = self.subtract(alloc, a, b)?;
         Ok(total.word)
@@ -104,11 +104,11 @@ impl Circuit {
     pub fn neg(&mut self, alloc: Global, a: &[Bit]) -> Result<Seq<Bit>, Want>
         requires inside { word_bound a.now ≤ variables self.old }
         requires room { variables self.old + 3 * length a.now < 2 ^ 31 }
-        ensures grown { Grown self.old self.new }
+        ensures grown { GrownCircuit self.old self.new }
         ensures cost { OnOk result (variables self.new ≤ variables self.old + 3 * length a.now) }
         ensures width { IfOk result (λ r. length r ≡ length a.now) }
         ensures inside { IfOk result (λ r. word_bound r ≤ variables self.new) }
-        ensures value { IfOk result (λ r. (v : ℕ → Bool) → Follows v self.new → word_number v r ≡ (2 ^ length a.now - word_number v a.now) % 2 ^ length a.now) }
+        ensures value { IfOk result (λ r. (v : ℕ → Bool) → FollowsPlan v self.new → word_number v r ≡ (2 ^ length a.now - word_number v a.now) % 2 ^ length a.now) }
     {
         let none = zeros(alloc, a.len())?;
         self.sub(alloc, none.as_slice(), a)
@@ -121,10 +121,10 @@ impl Circuit {
         requires left { word_bound a.now ≤ variables self.old }
         requires right { word_bound b.now ≤ variables self.old }
         requires room { variables self.old + 3 * length a.now < 2 ^ 31 }
-        ensures grown { Grown self.old self.new }
+        ensures grown { GrownCircuit self.old self.new }
         ensures cost { OnOk result (variables self.new ≤ variables self.old + 3 * length a.now) }
         ensures inside { IfOk result (λ r. bit_bound r ≤ variables self.new) }
-        ensures value { IfOk result (λ r. (v : ℕ → Bool) → Follows v self.new → bit_value v r ≡ ltb (word_number v a.now) (word_number v b.now)) }
+        ensures value { IfOk result (λ r. (v : ℕ → Bool) → FollowsPlan v self.new → bit_value v r ≡ ltb (word_number v a.now) (word_number v b.now)) }
     {
         let total = self.subtract(alloc, a, b)?;
         Ok(total.carry.negated())
@@ -137,10 +137,10 @@ impl Circuit {
         requires left { word_bound a.now ≤ variables self.old }
         requires right { word_bound b.now ≤ variables self.old }
         requires room { variables self.old + 2 * length a.now < 2 ^ 31 }
-        ensures grown { Grown self.old self.new }
+        ensures grown { GrownCircuit self.old self.new }
         ensures cost { OnOk result (variables self.new ≤ variables self.old + 2 * length a.now) }
         ensures inside { IfOk result (λ r. bit_bound r ≤ variables self.new) }
-        ensures value { IfOk result (λ r. (v : ℕ → Bool) → Follows v self.new → bit_value v r ≡ eqb (word_number v a.now) (word_number v b.now)) }
+        ensures value { IfOk result (λ r. (v : ℕ → Bool) → FollowsPlan v self.new → bit_value v r ≡ eqb (word_number v a.now) (word_number v b.now)) }
     {
         let mut same = Bit::Fixed(true);
         for i in 0..a.len() {
@@ -166,11 +166,11 @@ impl Circuit {
         requires left { word_bound a.now ≤ variables self.old }
         requires right { word_bound b.now ≤ variables self.old }
         requires room { variables self.old + length a.now < 2 ^ 31 }
-        ensures grown { Grown self.old self.new }
+        ensures grown { GrownCircuit self.old self.new }
         ensures cost { OnOk result (variables self.new ≤ variables self.old + length a.now) }
         ensures width { IfOk result (λ r. length r ≡ length a.now) }
         ensures inside { IfOk result (λ r. word_bound r ≤ variables self.new) }
-        ensures value { IfOk result (λ r. (v : ℕ → Bool) → Follows v self.new → word_number v r ≡ cond (bit_value v test) (word_number v a.now) (word_number v b.now)) }
+        ensures value { IfOk result (λ r. (v : ℕ → Bool) → FollowsPlan v self.new → word_number v r ≡ cond (bit_value v test) (word_number v a.now) (word_number v b.now)) }
     {
         let mut word = Seq::new(alloc);
         for i in 0..a.len() {

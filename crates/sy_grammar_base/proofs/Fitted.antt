@@ -12,7 +12,7 @@ use Rattle.sy_terms.specs.declared.sort.Sort.{Sort}
 use Rattle.sy_grammar_base.specs.Trees.{Syntax}
 use Rattle.sy_grammar_base.specs.Written.{pattern_of, patterns_of}
 use Rattle.sy_grammar_base.specs.Formed.{pattern_sort, pattern_sorts}
-use Rattle.sy_grammar_base.specs.Seen.{extended, after_all, sort_by, taken}
+use Rattle.sy_grammar_base.specs.Seen.{with_argument, after_all, sort_by, taken}
 use Rattle.sy_grammar_base.specs.declared.part.Part.{Part}
 use Rattle.sy_grammar_base.specs.declared.seen.Seen.{Seen}
 use Rattle.sy_grammar_base.specs.declared.seen.Seen.TheVariants.{Nothing}
@@ -80,12 +80,12 @@ unfolding pattern_sorts
 sorts_end number scope syntax parts i out = ap (λ (ps : List (Part _ _)). pattern_sorts scope syntax (patterns_of number ps)) (drop_all parts i out)
 
 -- what was seen of the sorts so far, and those that are left
-see_one : (seen : Seen) (sort : Sort) (rest : Option (List Sort)) → option_map (after_all seen) (with_sort (Some sort) rest) ≡ option_map (after_all (extended seen sort)) rest
+see_one : (seen : Seen) (sort : Sort) (rest : Option (List Sort)) → option_map (after_all seen) (with_sort (Some sort) rest) ≡ option_map (after_all (with_argument seen sort)) rest
 see_one seen sort None = refl
 see_one seen sort (Some sorts) = refl
 
 pub seen_next : {T N : Type 0} (number : N → Val) (scope : Scope) (syntax : Syntax) (parts : List (Part T N)) (i : ℕ) (part : Part T N) (sort : Sort) (seen : Seen) (whole : Option Seen) → slice_get parts i ≡ Some part → Some sort ≡ pattern_sort scope syntax (pattern_of number part) → whole ≡ option_map (after_all seen) (sorts_left number scope syntax parts i) →
-    whole ≡ option_map (after_all (extended seen sort)) (sorts_left number scope syntax parts (i + 1))
+    whole ≡ option_map (after_all (with_argument seen sort)) (sorts_left number scope syntax parts (i + 1))
 seen_next number scope syntax parts i part sort seen whole at is e =
     e ∙ ap (option_map (after_all seen)) (sorts_at number scope syntax parts i part at ∙ ap (λ (o : Option Sort). with_sort o (sorts_left number scope syntax parts (i + 1))) (sym is)) ∙ see_one seen sort (sorts_left number scope syntax parts (i + 1))
 

@@ -87,8 +87,8 @@ rule_sort scope syntax (EachConstant sort) = Some sort
 rule_sort scope syntax (EachVariable sort) = Some sort
 
 -- a nonterminal of a known sort, which its rules have; there are fewer than 2 ^ 31 of them
-abbrev pub fits : (Sort → Bool) → Scope → Syntax → Nonterminal → Bool
-fits numeric scope syntax nonterminal =
+abbrev pub nonterminal_fits : (Sort → Bool) → Scope → Syntax → Nonterminal → Bool
+nonterminal_fits numeric scope syntax nonterminal =
     is_known numeric nonterminal.sort
     && (nat_lt (length nonterminal.rules) (2 ^ 31) && list_all (λ rule. is_sort nonterminal.sort (rule_sort scope syntax rule)) nonterminal.rules)
 
@@ -96,4 +96,4 @@ fits numeric scope syntax nonterminal =
 abbrev pub is_formed : (Sort → Bool) → Scope → Syntax → Bool
 is_formed numeric scope syntax =
     (nat_le 1 (length syntax.nonterminals) && nat_lt (length syntax.nonterminals) (2 ^ 31))
-    && (list_all (is_known numeric) syntax.arguments && list_all (fits numeric scope syntax) syntax.nonterminals)
+    && (list_all (is_known numeric) syntax.arguments && list_all (nonterminal_fits numeric scope syntax) syntax.nonterminals)

@@ -8,18 +8,18 @@ use Rattle.sy_grammar_base.specs.declared.seen.Seen.{Seen}
 use Rattle.sy_grammar_base.specs.declared.seen.Seen.TheVariants.{Nothing, One, Two, Three, Alike, Mixed}
 
 -- with one argument more
-abbrev pub extended : Seen → Sort → Seen
-extended Nothing sort = One sort
-extended (One a) sort = Two a sort
-extended (Two a b) sort = Three a b sort
-extended (Three a b c) sort = if same_sort a b && (same_sort a c && same_sort a sort) then Alike a else Mixed
-extended (Alike a) sort = if same_sort a sort then Alike a else Mixed
-extended Mixed sort = Mixed
+abbrev pub with_argument : Seen → Sort → Seen
+with_argument Nothing sort = One sort
+with_argument (One a) sort = Two a sort
+with_argument (Two a b) sort = Three a b sort
+with_argument (Three a b c) sort = if same_sort a b && (same_sort a c && same_sort a sort) then Alike a else Mixed
+with_argument (Alike a) sort = if same_sort a sort then Alike a else Mixed
+with_argument Mixed sort = Mixed
 
 -- with all of these
 abbrev pub after_all : Seen → List Sort → Seen
 after_all seen [] = seen
-after_all seen (sort ∷ rest) = after_all (extended seen sort) rest
+after_all seen (sort ∷ rest) = after_all (with_argument seen sort) rest
 
 -- the sort of the operator's value
 abbrev pub sort_by : Op → Seen → Option Sort

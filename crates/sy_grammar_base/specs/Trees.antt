@@ -89,10 +89,10 @@ variable_yield (Some (Template pattern)) arguments position = None
 variable_yield (Some (EachConstant sort)) arguments position = None
 variable_yield (Some (EachVariable sort)) arguments position = if is_sort sort (slice_get arguments position) then Some (expr.Variable position) else None
 
-abbrev pub joined : Option Expr → Option (List Expr) → Option (List Expr)
-joined None terms = None
-joined (Some term) None = None
-joined (Some term) (Some terms) = Some (term ∷ terms)
+abbrev pub terms_joined : Option Expr → Option (List Expr) → Option (List Expr)
+terms_joined None terms = None
+terms_joined (Some term) None = None
+terms_joined (Some term) (Some terms) = Some (term ∷ terms)
 
 unfoldable mutual
   -- the term that a tree derives from a nonterminal; None where it isn't a derivation from it
@@ -104,7 +104,7 @@ unfoldable mutual
   -- the same for one tree for each nonterminal
   pub yields_from : Syntax → List ℕ → Trees → Option (List Expr)
   yields_from syntax [] none = Some []
-  yields_from syntax (nonterminal ∷ nonterminals) (more first rest) = joined (yield_from syntax nonterminal first) (yields_from syntax nonterminals rest)
+  yields_from syntax (nonterminal ∷ nonterminals) (more first rest) = terms_joined (yield_from syntax nonterminal first) (yields_from syntax nonterminals rest)
   yields_from syntax [] (more first rest) = None
   yields_from syntax (nonterminal ∷ nonterminals) none = None
 
@@ -130,11 +130,11 @@ abbrev pub digits : ℕ → ℕ
 digits n = digits_within n n
 
 -- a value's size without its sign
-abbrev pub magnitude : Val → ℕ
-magnitude (Whole (pos n)) = n
-magnitude (Whole (negsuc n)) = n + 1
-magnitude (Bits width number) = number
-magnitude (Truth truth) = 0
+abbrev pub value_magnitude : Val → ℕ
+value_magnitude (Whole (pos n)) = n
+value_magnitude (Whole (negsuc n)) = n + 1
+value_magnitude (Bits width number) = number
+value_magnitude (Truth truth) = 0
 
 abbrev pub is_negative : Val → Bool
 is_negative (Whole (negsuc n)) = true
@@ -142,11 +142,11 @@ is_negative _ = false
 
 -- true, false, 0 or 1
 abbrev pub is_small : Val → Bool
-is_small value = not (is_negative value) && nat_le (magnitude value) 1
+is_small value = not (is_negative value) && nat_le (value_magnitude value) 1
 
 -- a chosen constant counts as one whole: 1 where it is small or in the pool, else by its digits
 abbrev pub constant_size : List Val → Val → ℕ
-constant_size pool value = if is_small value || list_any (same value) pool then 1 else digits (magnitude value) + 1
+constant_size pool value = if is_small value || list_any (same value) pool then 1 else digits (value_magnitude value) + 1
 
 abbrev pub node_size : Option Production → (List ℕ → ℕ) → ℕ
 node_size None children = 0

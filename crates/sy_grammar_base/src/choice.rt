@@ -9,7 +9,8 @@ use crate::grammar::{Grammar, Rule};
 use crate::part::{Part, Parts};
 use sy_terms::{Op, Theory};
 
-/// The first rule of the start symbol S that is `(ite C S S)` with a nonterminal C; `None` exactly where there is none.
+/// The number of the first rule by which the start symbol chooses between two of its own terms, an `ite` whose condition
+/// is a nonterminal; `None` exactly where it has no such rule.
 pub fn tree_rule<T: Theory>(g: &Grammar<T>) -> Option<u32>
     requires numbered { IsNumbered (syntax_from T.denotes g.now) }
     ensures { MatchOption result

@@ -43,14 +43,14 @@ fn is_known<T: Theory>(sort: Sort) -> bool
 
 /// Whether all of the nonterminals fit the grammar.
 fn all_fit<T: Theory>(all: &[Non<T>], args: &[Sort], nons: &[Non<T>], defs: &[Def<T>]) -> bool
-    ensures { result ≡ list_all (spec.fits T.numeric (scope_of T.owned defs.now) (syntax_with T.denotes args.now nons.now)) (map (nonterminal_of T.denotes) all.now) }
+    ensures { result ≡ list_all (spec.nonterminal_fits T.numeric (scope_of T.owned defs.now) (syntax_with T.denotes args.now nons.now)) (map (nonterminal_of T.denotes) all.now) }
 {
     all.iter().all(|non| fits(non, args, nons, defs))
 }
 
 /// Whether the nonterminal fits the grammar.
 fn fits<T: Theory>(non: &Non<T>, args: &[Sort], nons: &[Non<T>], defs: &[Def<T>]) -> bool
-    ensures { result ≡ spec.fits T.numeric (scope_of T.owned defs.now) (syntax_with T.denotes args.now nons.now) (nonterminal_of T.denotes non.now) }
+    ensures { result ≡ spec.nonterminal_fits T.numeric (scope_of T.owned defs.now) (syntax_with T.denotes args.now nons.now) (nonterminal_of T.denotes non.now) }
 {
     is_known::<T>(non.sort)
         && non.rules.len() < 1 << 31

@@ -2,7 +2,7 @@
 ghost use Rattle.std.specs.Prelude.{◌≡◌, true, ◌==◌, if◌then◌else◌, Some, None};
 ghost use Rattle.sy_terms.specs.Sorts as spec;
 ghost use Rattle.sy_terms.specs.Fitting.{given_by};
-ghost use Rattle.sy_grammar_base.specs.Seen.{extended, sort_by};
+ghost use Rattle.sy_grammar_base.specs.Seen.{with_argument, sort_by};
 
 use sy_terms::{Op, Sort, Sorted, Theory, same_sort};
 
@@ -21,7 +21,7 @@ pub enum Seen {
 impl Seen {
     /// With one argument more.
     pub fn with(self, sort: Sort) -> Seen
-        ensures { result ≡ extended self sort }
+        ensures { result ≡ with_argument self sort }
     {
         match self {
             Seen::Nothing => Seen::One(sort),

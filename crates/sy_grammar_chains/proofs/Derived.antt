@@ -10,7 +10,7 @@ use Rattle.sy_terms.specs.Theories.{sort_of_value}
 use Rattle.sy_terms.specs.declared.sort.Sort.{Sort}
 use Rattle.sy_grammar_base.specs.Patterns.{Pattern, occurring, filled, own_size}
 use Rattle.sy_grammar_base.specs.Trees as trees
-use Rattle.sy_grammar_base.specs.Trees.{Syntax, Trees, Production, Template, EachConstant, EachVariable, Derives, rule_at, is_written, is_sort, literal, node_yield, constant_yield, variable_yield, joined, node_size, yield_from, yields_from, tree_size, tree_sizes}
+use Rattle.sy_grammar_base.specs.Trees.{Syntax, Trees, Production, Template, EachConstant, EachVariable, Derives, rule_at, is_written, is_sort, literal, node_yield, constant_yield, variable_yield, terms_joined, node_size, yield_from, yields_from, tree_size, tree_sizes}
 use Rattle.sy_grammar_sizes.proofs.PoolMembers.{both_true}
 use Rattle.sy_grammar_chains.specs.Constants.{IsConstantOf}
 use Rattle.sy_grammar_chains.specs.Greatest.{IsSize}
@@ -119,12 +119,12 @@ pub record Joined (first : Option Expr) (rest : Option (List Expr)) (terms : Lis
   pub tail_is : rest ≡ Some tail
   pub is : terms ≡ head ∷ tail
 
-pub joined_from : (first : Option Expr) (rest : Option (List Expr)) (terms : List Expr) → joined first rest ≡ Some terms → Joined first rest terms
+pub joined_from : (first : Option Expr) (rest : Option (List Expr)) (terms : List Expr) → terms_joined first rest ≡ Some terms → Joined first rest terms
 joined_from None rest terms e = absurd cc
 joined_from (Some head) None terms e = absurd cc
 joined_from (Some head) (Some tail) terms e = record { head = head; tail = tail; head_is = refl; tail_is = refl; is = cc }
 
-pub joined_to : (first : Option Expr) (rest : Option (List Expr)) (head : Expr) (tail : List Expr) → first ≡ Some head → rest ≡ Some tail → joined first rest ≡ Some (head ∷ tail)
+pub joined_to : (first : Option Expr) (rest : Option (List Expr)) (head : Expr) (tail : List Expr) → first ≡ Some head → rest ≡ Some tail → terms_joined first rest ≡ Some (head ∷ tail)
 joined_to None rest head tail e f = absurd cc
 joined_to (Some x) None head tail e f = absurd cc
 joined_to (Some x) (Some xs) head tail e f = cc

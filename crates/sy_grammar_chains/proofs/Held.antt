@@ -7,9 +7,9 @@ use Rattle.sy_terms.specs.Values.{Val, Truth, Whole, Bits, same}
 use Rattle.sy_terms.specs.Theories.{whole_number}
 use Rattle.sy_terms.specs.declared.sort.Sort.{Sort}
 use Rattle.sy_terms.specs.declared.sort.Sort.TheVariants as sorts
-use Rattle.sy_grammar_base.specs.Trees.{magnitude}
+use Rattle.sy_grammar_base.specs.Trees.{value_magnitude}
 use Rattle.sy_grammar_sizes.proofs.PoolMembers.{both_true, same_is, same_again}
-use Rattle.sy_grammar_chains.specs.Constants.{is_signed, is_at, is_one, are_one, are_held}
+use Rattle.sy_grammar_chains.specs.Constants.{has_sign, is_at, is_one, are_one, are_held}
 
 same_bool : (a b : Bool) → (a ≡ true → b ≡ true) → (b ≡ true → a ≡ true) → a ≡ b
 same_bool true true to from = refl
@@ -88,7 +88,7 @@ held_one sorts.Int m pool positive negative p n above =
 held_one (sorts.Bits w) m pool positive negative p n above = ap (λ b. nat_eq m 1 || b) (p m) ∙ sym (bits_one w m pool above)
 
 -- a number's magnitude
-pub magnitude_abs : (v : Val) → unsigned_abs (whole_number v) ≡ magnitude v
+pub magnitude_abs : (v : Val) → unsigned_abs (whole_number v) ≡ value_magnitude v
 magnitude_abs (Truth b) = refl
 magnitude_abs (Whole (pos n)) = refl
 magnitude_abs (Whole (negsuc n)) = omega arith
@@ -113,15 +113,15 @@ put false true = refl
 put false false = refl
 
 -- a value of the sort and sign is put in
-pub held_more : {A : Type 0} (view : A → Val) (items : List A) (x : A) (sort : Sort) (negative : Bool) (k q : ℕ) (old new : Bool) → is_signed sort negative (view x) ≡ true → k ≡ magnitude (view x) →
+pub held_more : {A : Type 0} (view : A → Val) (items : List A) (x : A) (sort : Sort) (negative : Bool) (k q : ℕ) (old new : Bool) → has_sign sort negative (view x) ≡ true → k ≡ value_magnitude (view x) →
     old ≡ list_any (is_at sort q negative) (map view items) → new ≡ cond (k == q) true old → new ≡ list_any (is_at sort q negative) (map view (items ++ x ∷ []))
 held_more view items x sort negative k q old new signed is before after =
-    let here = ap (λ n. n == q) is ∙ ap (λ b. b && (magnitude (view x) == q)) (sym signed) in
+    let here = ap (λ n. n == q) is ∙ ap (λ b. b && (value_magnitude (view x) == q)) (sym signed) in
     after ∙ put (k == q) old ∙ (λ i. before i || here i) ∙ sym (any_last (is_at sort q negative) view items x)
 
 -- another value changes nothing
-pub held_kept : {A : Type 0} (view : A → Val) (items : List A) (x : A) (sort : Sort) (negative : Bool) (q : ℕ) (old : Bool) → is_signed sort negative (view x) ≡ false →
+pub held_kept : {A : Type 0} (view : A → Val) (items : List A) (x : A) (sort : Sort) (negative : Bool) (q : ℕ) (old : Bool) → has_sign sort negative (view x) ≡ false →
     old ≡ list_any (is_at sort q negative) (map view items) → old ≡ list_any (is_at sort q negative) (map view (items ++ x ∷ []))
 held_kept view items x sort negative q old signed before =
-    let here = ap (λ b. b && (magnitude (view x) == q)) (sym signed) in
+    let here = ap (λ b. b && (value_magnitude (view x) == q)) (sym signed) in
     before ∙ sym (or_false (list_any (is_at sort q negative) (map view items))) ∙ ap (λ b. list_any (is_at sort q negative) (map view items) || b) here ∙ sym (any_last (is_at sort q negative) view items x)

@@ -8,7 +8,7 @@ use Rattle.sy_grammar_base.specs.Trees.{Production, Template, rule_at, rule_of}
 use Rattle.sy_grammar_base.specs.Grown.{production_of, nonterminal_of, syntax_from}
 use Rattle.sy_grammar_base.specs.declared.grammar.Non.{Non}
 use Rattle.sy_grammar_base.specs.declared.grammar.Grammar.{Grammar}
-use Rattle.sy_grammar_chains.specs.Tables.{entry, pattern_size, Exceeds, IsImproved, IsImprovedBy}
+use Rattle.sy_grammar_chains.specs.Tables.{table_entry, pattern_size, Exceeds, IsImproved, IsImprovedBy}
 use Rattle.sy_grammar_chains.proofs.Lists.{rule_at-is}
 
 least : (a b : ℕ) → a < b + 1 → (a < b) ⊎ (a ≡ b)
@@ -41,7 +41,7 @@ gives_none production limit table known pattern size is sized not other otherwis
     let sizes : size ≡ otherwise = (let both = sym sized ∙ ap (pattern_size limit table) same ∙ other_sized in cc) in
     not (subst (Exceeds known) (sym sizes) larger)
 
-pub improved_is : {T N : Type 0} (number : N → Val) (grammar : Grammar T N) (limit : ℕ) (table : List (Option ℕ)) (place : ℕ) (item : Non T N) (known : Option ℕ) (size : ℕ) → slice_get grammar.nons place ≡ Some item → known ≡ entry table place →
+pub improved_is : {T N : Type 0} (number : N → Val) (grammar : Grammar T N) (limit : ℕ) (table : List (Option ℕ)) (place : ℕ) (item : Non T N) (known : Option ℕ) (size : ℕ) → slice_get grammar.nons place ≡ Some item → known ≡ table_entry table place →
     IsImprovedBy (map (production_of number) item.rules) limit table known size → IsImproved (syntax_from number grammar) limit table place size
 improved_is number grammar limit table place item known size at is improved = record {
   rule = improved.rule;
@@ -53,7 +53,7 @@ improved_is number grammar limit table place item known size at is improved = re
 
 -- one nonterminal more that isn't improved
 pub improved_more : {T N : Type 0} (number : N → Val) (grammar : Grammar T N) (limit : ℕ) (table : List (Option ℕ)) (place : ℕ) (item : Non T N) (known : Option ℕ) →
-    ((nonterminal size : ℕ) → nonterminal < place → IsImproved (syntax_from number grammar) limit table nonterminal size → ⊥) → slice_get grammar.nons place ≡ Some item → known ≡ entry table place →
+    ((nonterminal size : ℕ) → nonterminal < place → IsImproved (syntax_from number grammar) limit table nonterminal size → ⊥) → slice_get grammar.nons place ≡ Some item → known ≡ table_entry table place →
     ((size : ℕ) → IsImprovedBy (map (production_of number) item.rules) limit table known size → ⊥) →
     (nonterminal size : ℕ) → nonterminal < place + 1 → IsImproved (syntax_from number grammar) limit table nonterminal size → ⊥
 improved_more number grammar limit table place item known before at is none nonterminal size less improved = elim (least nonterminal place less) [
@@ -63,7 +63,7 @@ improved_more number grammar limit table place item known before at is none nont
     pattern = improved.pattern;
     at = sym (rule_at-is number grammar place improved.rule item at) ∙ ap (λ n. rule_at (syntax_from number grammar) n improved.rule) (sym same) ∙ improved.at;
     is = improved.is;
-    larger = subst (λ k. Exceeds k size) (ap (entry table) same ∙ sym is) improved.larger;
+    larger = subst (λ k. Exceeds k size) (ap (table_entry table) same ∙ sym is) improved.larger;
   })
 ]
 

@@ -9,7 +9,7 @@ use Rattle.sy_grammar_base.specs.Grown.{production_of, nonterminal_of, syntax_fr
 use Rattle.sy_grammar_base.specs.declared.grammar.Non.{Non}
 use Rattle.sy_grammar_base.specs.declared.grammar.Grammar.{Grammar}
 use Rattle.sy_grammar_chains.specs.Greatest.{IsSize}
-use Rattle.sy_grammar_chains.specs.Tables.{GivesLeaf, GivesLeaves, IsBest, IsTable, larger, entry, entry_of}
+use Rattle.sy_grammar_chains.specs.Tables.{GivesLeaf, GivesLeaves, IsBest, IsTable, larger, table_entry, entry_in_table}
 use Rattle.sy_grammar_chains.proofs.Best.{best_more}
 use Rattle.sy_grammar_chains.proofs.Derived.{leaf_is}
 use Rattle.sy_grammar_chains.proofs.Lists.{get-last, get-before, get-end, rule_at-is}
@@ -32,7 +32,7 @@ leaves_none limit arguments pool size of = let at = of.at in cc
 -- the entries of these nonterminals
 pub record IsLeafTable {T N : Type 0} (number : N → Val) (arguments : List Sort) (pool : List Val) (limit : ℕ) (items : List (Non T N)) (table : List (Option ℕ)) : Type 0 where
   pub sized : length table ≡ length items
-  pub each : (place : ℕ) (item : Non T N) → slice_get items place ≡ Some item → IsBest limit (GivesLeaves arguments pool (map (production_of number) item.rules)) (entry table place)
+  pub each : (place : ℕ) (item : Non T N) → slice_get items place ≡ Some item → IsBest limit (GivesLeaves arguments pool (map (production_of number) item.rules)) (table_entry table place)
 
 pub leaf_table_none : {T N : Type 0} (number : N → Val) (arguments : List Sort) (pool : List Val) (limit : ℕ) (table : List (Option ℕ)) → table ≡ [] → IsLeafTable {T = T} number arguments pool limit [] table
 leaf_table_none number arguments pool limit table is = record { sized = ap length is; each = λ place item at. absurd cc }
@@ -46,19 +46,19 @@ leaf_table_more number arguments pool limit items item table best is found = rec
         let within = slice_get_within items place next old in
         subst (IsBest limit (GivesLeaves arguments pool (map (production_of number) next.rules))) (sym (entry_kept table best place (omega (arith, within, is.sized)))) (is.each place next old)
     | inr new ↦
-        subst (λ x. IsBest limit (GivesLeaves arguments pool (map (production_of number) x.rules)) (entry (table ++ best ∷ []) place)) (sym new.1)
+        subst (λ x. IsBest limit (GivesLeaves arguments pool (map (production_of number) x.rules)) (table_entry (table ++ best ∷ []) place)) (sym new.1)
         (subst (IsBest limit (GivesLeaves arguments pool (map (production_of number) item.rules))) (sym (entry_last table best place (new.0 ∙ sym is.sized))) found)
   ];
 }
   where
-    entry_kept : (table : List (Option ℕ)) (best : Option ℕ) (place : ℕ) → place < length table → entry (table ++ best ∷ []) place ≡ entry table place
+    entry_kept : (table : List (Option ℕ)) (best : Option ℕ) (place : ℕ) → place < length table → table_entry (table ++ best ∷ []) place ≡ table_entry table place
     entry_kept table best place within = elim ((slice_get_cases table place).1) [
-      | inl here ↦ ap entry_of (get-before table best place here.0 here.2) ∙ sym (ap entry_of here.2)
+      | inl here ↦ ap entry_in_table (get-before table best place here.0 here.2) ∙ sym (ap entry_in_table here.2)
       | inr past ↦ absurd (omega (arith, within, past.0))
     ]
 
-    entry_last : (table : List (Option ℕ)) (best : Option ℕ) (place : ℕ) → place ≡ length table → entry (table ++ best ∷ []) place ≡ best
-    entry_last table best place is = ap (entry (table ++ best ∷ [])) is ∙ ap entry_of (get-end table best)
+    entry_last : (table : List (Option ℕ)) (best : Option ℕ) (place : ℕ) → place ≡ length table → table_entry (table ++ best ∷ []) place ≡ best
+    entry_last table best place is = ap (table_entry (table ++ best ∷ [])) is ∙ ap entry_in_table (get-end table best)
 
 best_there : (limit : ℕ) (Kind : ℕ → Type 0) (found : Option ℕ) (size : ℕ) → IsBest limit Kind found → Kind size → (best : ℕ) × (found ≡ Some best) × (min limit size ≤ best)
 best_there limit Kind None size best of = absurd (best size of)
@@ -69,11 +69,11 @@ leaf_table_done {T} {N} number grammar pool limit table is = record {
   sized = is.sized ∙ sym (length-map grammar.nons (nonterminal_of number));
   sound = λ nonterminal best e. elim ((slice_get_cases grammar.nons nonterminal).1) [
     | inl here ↦ sound nonterminal here.0 best here.2 (subst (IsBest limit (GivesLeaves grammar.args pool (map (production_of number) here.0.rules))) e (is.each nonterminal here.0 here.2))
-    | inr past ↦ absurd (let gone = ap entry_of (slice_get_past table nonterminal (omega (arith, past.0, is.sized))) in cc)
+    | inr past ↦ absurd (let gone = ap entry_in_table (slice_get_past table nonterminal (omega (arith, past.0, is.sized))) in cc)
   ];
   leaves = λ nonterminal rule production size at gives. elim ((slice_get_cases grammar.nons nonterminal).1) [
     | inl here ↦
-        best_there limit (GivesLeaves grammar.args pool (map (production_of number) here.0.rules)) (entry table nonterminal) size (is.each nonterminal here.0 here.2)
+        best_there limit (GivesLeaves grammar.args pool (map (production_of number) here.0.rules)) (table_entry table nonterminal) size (is.each nonterminal here.0 here.2)
         (record { rule = rule; production = production; at = sym (rule_at-is number grammar nonterminal rule here.0 here.2) ∙ at; gives = gives })
     | inr past ↦ absurd (
         let sized = length-map grammar.nons (nonterminal_of number) in

@@ -8,7 +8,7 @@ use Rattle.sy_terms.specs.Sorts.{same_sort}
 use Rattle.sy_terms.specs.Theories.{sort_of_value}
 use Rattle.sy_terms.specs.declared.sort.Sort.{Sort}
 use Rattle.sy_terms.specs.declared.sort.Sort.TheVariants as sorts
-use Rattle.sy_grammar_base.specs.Trees.{digits, digits_within, is_small, magnitude, constant_size}
+use Rattle.sy_grammar_base.specs.Trees.{digits, digits_within, is_small, value_magnitude, constant_size}
 use Rattle.sy_grammar_sizes.proofs.BinaryDigits.{one_more}
 use Rattle.sy_grammar_sizes.proofs.PoolMembers.{both_true}
 use Rattle.sy_grammar_chains.specs.Constants.{IsConstantOf, IsConstantSize, IsGreatest, is_one, are_one, IsTop}
@@ -54,28 +54,28 @@ same_sort_again (sorts.Bits w) = grind arith
 
 -- sizes
 size_one : (pool : List Val) (v : Val) → is_one pool v ≡ true → constant_size pool v ≡ 1
-size_one pool v e = ap (λ one. if one then 1 else digits (magnitude v) + 1) e
+size_one pool v e = ap (λ one. if one then 1 else digits (value_magnitude v) + 1) e
 
-size_counted : (pool : List Val) (v : Val) → is_one pool v ≡ false → constant_size pool v ≡ digits (magnitude v) + 1
-size_counted pool v e = ap (λ one. if one then 1 else digits (magnitude v) + 1) e
+size_counted : (pool : List Val) (v : Val) → is_one pool v ≡ false → constant_size pool v ≡ digits (value_magnitude v) + 1
+size_counted pool v e = ap (λ one. if one then 1 else digits (value_magnitude v) + 1) e
 
-size_at_most : (pool : List Val) (v : Val) → constant_size pool v ≤ digits (magnitude v) + 1
+size_at_most : (pool : List Val) (v : Val) → constant_size pool v ≤ digits (value_magnitude v) + 1
 size_at_most pool v = cases (is_one pool v)
   where
-    cases : (one : Bool) → (if one then 1 else digits (magnitude v) + 1) ≤ digits (magnitude v) + 1
+    cases : (one : Bool) → (if one then 1 else digits (value_magnitude v) + 1) ≤ digits (value_magnitude v) + 1
     cases true = omega arith
     cases false = omega arith
 
-small_none : (v : Val) → magnitude v ≡ 0 → is_small v ≡ true
+small_none : (v : Val) → value_magnitude v ≡ 0 → is_small v ≡ true
 small_none (Truth b) e = refl
 small_none (Whole (pos n)) e = ap (λ m. not false && nat_le m 1) e
 small_none (Whole (negsuc n)) e = absurd (omega (arith, e))
 small_none (Bits w n) e = ap (λ m. not false && nat_le m 1) e
 
-one_none : (pool : List Val) (v : Val) → magnitude v ≡ 0 → is_one pool v ≡ true
+one_none : (pool : List Val) (v : Val) → value_magnitude v ≡ 0 → is_one pool v ≡ true
 one_none pool v e = ap (λ small. small || list_any (same v) pool) (small_none v e)
 
-one_at : (pool : List Val) (sort : Sort) (m : ℕ) → 0 < m → are_one pool sort m ≡ true → (v : Val) → same_sort sort (sort_of_value v) ≡ true → magnitude v ≡ m → is_one pool v ≡ true
+one_at : (pool : List Val) (sort : Sort) (m : ℕ) → 0 < m → are_one pool sort m ≡ true → (v : Val) → same_sort sort (sort_of_value v) ≡ true → value_magnitude v ≡ m → is_one pool v ≡ true
 one_at pool sorts.Bool m above e (Truth b) s is = absurd (omega (arith, is))
 one_at pool sorts.Bool m above e (Whole z) s is = absurd cc
 one_at pool sorts.Bool m above e (Bits w n) s is = absurd cc
@@ -94,7 +94,7 @@ one_at pool (sorts.Bits u) m above e (Bits w n) s is =
 -- a constant of the sort with a magnitude
 pub record IsAt (sort : Sort) (size : ℕ) (value : Val) : Type 0 where
   pub constant : IsConstantOf sort value
-  pub magnitude : magnitude value ≡ size
+  pub magnitude : value_magnitude value ≡ size
 
 positive_at : (top m : ℕ) → IsTop sorts.Int top → m ≤ top → IsAt sorts.Int m (Whole (pos m))
 positive_at top m is le = record { constant = record { sorted = refl; written = lt-ltb m (2 ^ 127) (omega (arith, is)) }; magnitude = refl }
@@ -125,7 +125,7 @@ none_at sorts.Bool top is = absurd is
 none_at sorts.Int top is = (Whole (pos 0), positive_at top 0 is (omega arith))
 none_at (sorts.Bits w) top is = (Bits w 0, bits_at w top 0 is (omega arith))
 
-top_bounds : (sort : Sort) (top : ℕ) → IsTop sort top → (v : Val) → IsConstantOf sort v → magnitude v ≤ top
+top_bounds : (sort : Sort) (top : ℕ) → IsTop sort top → (v : Val) → IsConstantOf sort v → value_magnitude v ≤ top
 top_bounds sorts.Bool top is v constant = absurd is
 top_bounds sorts.Int top is (Truth b) constant = omega arith
 top_bounds sorts.Int top is (Whole (pos n)) constant = let below = ltb-true n (2 ^ 127) constant.written in omega (arith, below, is)
@@ -145,10 +145,10 @@ pub greatest_one : (pool : List Val) (sort : Sort) (top : ℕ) → IsTop sort to
 greatest_one pool sort top is all =
     let least = none_at sort top is in (
       (least.0, least.1.constant, size_one pool least.0 (one_none pool least.0 least.1.magnitude)),
-      λ size of. let one = size_one pool of.0 (each of.0 of.1 (magnitude of.0) refl) in omega (arith, one, of.2),
+      λ size of. let one = size_one pool of.0 (each of.0 of.1 (value_magnitude of.0) refl) in omega (arith, one, of.2),
     )
   where
-    each : (v : Val) → IsConstantOf sort v → (m : ℕ) → magnitude v ≡ m → is_one pool v ≡ true
+    each : (v : Val) → IsConstantOf sort v → (m : ℕ) → value_magnitude v ≡ m → is_one pool v ≡ true
     each v constant zero e = one_none pool v e
     each v constant (suc m) e = one_at pool sort (suc m) (omega arith) (all (suc m) (omega arith) (let bound = top_bounds sort top is v constant in omega (arith, bound, e))) v constant.sorted e
 
@@ -157,15 +157,15 @@ pub greatest_counted : (pool : List Val) (sort : Sort) (top n : ℕ) → IsTop s
 greatest_counted pool sort top n is above le not all =
     let found = some_at pool sort top n is above le not in (
       (found.0, found.1.constant, size_counted pool found.0 found.2 ∙ ap (λ m. digits m + 1) found.1.magnitude),
-      λ size of. let bound = each of.0 of.1 (split n (magnitude of.0)) in omega (arith, bound, of.2),
+      λ size of. let bound = each of.0 of.1 (split n (value_magnitude of.0)) in omega (arith, bound, of.2),
     )
   where
     split : (a b : ℕ) → (a < b) ⊎ (b ≤ a)
     split a b = grind arith
 
-    each : (v : Val) → IsConstantOf sort v → (n < magnitude v) ⊎ (magnitude v ≤ n) → constant_size pool v ≤ digits n + 1
-    each v constant (inl more) = let one = size_one pool v (one_at pool sort (magnitude v) (omega arith) (all (magnitude v) more (top_bounds sort top is v constant)) v constant.sorted refl) in omega (arith, one)
-    each v constant (inr less) = let most = size_at_most pool v in let fewer = digits_le (magnitude v) n less in omega (arith, most, fewer)
+    each : (v : Val) → IsConstantOf sort v → (n < value_magnitude v) ⊎ (value_magnitude v ≤ n) → constant_size pool v ≤ digits n + 1
+    each v constant (inl more) = let one = size_one pool v (one_at pool sort (value_magnitude v) (omega arith) (all (value_magnitude v) more (top_bounds sort top is v constant)) v constant.sorted refl) in omega (arith, one)
+    each v constant (inr less) = let most = size_at_most pool v in let fewer = digits_le (value_magnitude v) n less in omega (arith, most, fewer)
 
 pub greatest_truth : (pool : List Val) → IsGreatest (IsConstantSize pool sorts.Bool) (Some 1)
 greatest_truth pool = (

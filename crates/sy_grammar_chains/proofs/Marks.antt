@@ -4,11 +4,11 @@ use Rattle.std.proofs.lemmas.Option.{slice_get_within, slice_get_past}
 use Rattle.std.proofs.lemmas.List.{length-set}
 use Rattle.sy_grammar_base.specs.Patterns.{Occurrence}
 use Rattle.sy_grammar_base.specs.Trees.{Syntax, Production, Template, rule_of}
-use Rattle.sy_grammar_chains.specs.Chains.{IsChain, IsWay, Reaches, IsAscending, IsListed, IsClosure}
-use Rattle.sy_grammar_chains.specs.Marking.{AreMarks, IsNext, AreFull, IsMarking, unset}
+use Rattle.sy_grammar_chains.specs.Chains.{IsChain, IsChainBy, Reaches, IsAscending, IsListed, IsClosure}
+use Rattle.sy_grammar_chains.specs.Marking.{AreMarks, IsNextMark, AreFull, IsMarking, unset}
 use Rattle.sy_grammar_chains.proofs.Lists.{get-last, get-before, get-end, get-set, get-set_here, get-set_kept}
 
-way_more : (syntax : Syntax) (from : ℕ) (steps : List ℕ) (mid to : ℕ) → IsWay syntax from steps mid → IsChain syntax mid to → IsWay syntax from (steps ++ to ∷ []) to
+way_more : (syntax : Syntax) (from : ℕ) (steps : List ℕ) (mid to : ℕ) → IsChainBy syntax from steps mid → IsChain syntax mid to → IsChainBy syntax from (steps ++ to ∷ []) to
 way_more syntax from [] mid to way chain = (subst (λ n. IsChain syntax n to) (sym way) chain, refl)
 way_more syntax from (next ∷ steps) mid to way chain = (way.0, way_more syntax next steps mid to way.1 chain)
 
@@ -25,7 +25,7 @@ marking_first syntax from marks sized within none = record {
   first = get-set_here marks from true within;
 }
 
-pub marking_more : (syntax : Syntax) (from : ℕ) (marks : List Bool) (to : ℕ) → IsMarking syntax from marks → IsNext syntax marks to → IsMarking syntax from (set marks to true)
+pub marking_more : (syntax : Syntax) (from : ℕ) (marks : List Bool) (to : ℕ) → IsMarking syntax from marks → IsNextMark syntax marks to → IsMarking syntax from (set marks to true)
 marking_more syntax from marks to marking next = record {
   sized = length-set marks to true ∙ marking.sized;
   sound = λ n e. elim (get-set marks to n true true e) [
@@ -49,7 +49,7 @@ no_chain syntax from to past chain =
     let is = chain.1 in
     cc
 
-way_past : (syntax : Syntax) (from : ℕ) (steps : List ℕ) (to : ℕ) → length syntax.nonterminals ≤ from → IsWay syntax from steps to → from ≡ to
+way_past : (syntax : Syntax) (from : ℕ) (steps : List ℕ) (to : ℕ) → length syntax.nonterminals ≤ from → IsChainBy syntax from steps to → from ≡ to
 way_past syntax from [] to past way = way
 way_past syntax from (next ∷ steps) to past way = absurd (no_chain syntax from next past way.0)
 
@@ -60,7 +60,7 @@ mark_cases (false ∷ marks) zero = inl (inr refl)
 mark_cases (mark ∷ marks) (suc i) = elim (mark_cases marks i) [ inl h ↦ inl h | inr h ↦ inr (omega (arith, h)) ]
 
 way_marked : (syntax : Syntax) (marks : List Bool) → length marks ≡ length syntax.nonterminals → AreFull syntax marks → (from : ℕ) (steps : List ℕ) (to : ℕ) →
-    slice_get marks from ≡ Some true → IsWay syntax from steps to → to < length syntax.nonterminals → slice_get marks to ≡ Some true
+    slice_get marks from ≡ Some true → IsChainBy syntax from steps to → to < length syntax.nonterminals → slice_get marks to ≡ Some true
 way_marked syntax marks sized full from [] to at way within = ap (slice_get marks) (sym way) ∙ at
 way_marked syntax marks sized full from (next ∷ steps) to at way within = elim (mark_cases marks next) [
   | inl (inl marked) ↦ way_marked syntax marks sized full next steps to marked way.1 within

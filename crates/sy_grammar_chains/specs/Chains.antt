@@ -8,13 +8,13 @@ abbrev pub IsChain : Syntax → ℕ → ℕ → Type 0
 IsChain syntax from to = (rule : ℕ) × (rule_at syntax from rule ≡ Some (Template (Occurrence to)))
 
 -- chain rules lead from the one nonterminal to the other, by way of these
-abbrev pub IsWay : Syntax → ℕ → List ℕ → ℕ → Type 0
-IsWay syntax from [] to = from ≡ to
-IsWay syntax from (next ∷ steps) to = IsChain syntax from next × IsWay syntax next steps to
+abbrev pub IsChainBy : Syntax → ℕ → List ℕ → ℕ → Type 0
+IsChainBy syntax from [] to = from ≡ to
+IsChainBy syntax from (next ∷ steps) to = IsChain syntax from next × IsChainBy syntax next steps to
 
 -- chain rules lead from the one nonterminal to the other, in any number of steps, none included
 abbrev pub Reaches : Syntax → ℕ → ℕ → Type 0
-Reaches syntax from to = (steps : List ℕ) × IsWay syntax from steps to
+Reaches syntax from to = (steps : List ℕ) × IsChainBy syntax from steps to
 
 -- each number is below the next ones
 abbrev pub IsAscending : List ℕ → Type 0

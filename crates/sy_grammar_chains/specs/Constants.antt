@@ -6,7 +6,7 @@ use Rattle.sy_terms.specs.Sorts.{same_sort}
 use Rattle.sy_terms.specs.Theories.{sort_of_value}
 use Rattle.sy_terms.specs.declared.sort.Sort.{Sort}
 use Rattle.sy_terms.specs.declared.sort.Sort.TheVariants as sorts
-use Rattle.sy_grammar_base.specs.Trees.{is_written, is_sort, is_small, is_negative, magnitude, constant_size}
+use Rattle.sy_grammar_base.specs.Trees.{is_written, is_sort, is_small, is_negative, value_magnitude, constant_size}
 
 -- a value that a rule for all constants of the sort gives
 pub record IsConstantOf (sort : Sort) (value : Val) : Type 0 where
@@ -27,12 +27,12 @@ IsGreatest Kind None = (size : ℕ) → Kind size → ⊥
 IsGreatest Kind (Some greatest) = Kind greatest × ((size : ℕ) → Kind size → size ≤ greatest)
 
 -- the value has this sort and sign
-abbrev pub is_signed : Sort → Bool → Val → Bool
-is_signed sort negative value = same_sort sort (sort_of_value value) && cond negative (is_negative value) (not (is_negative value))
+abbrev pub has_sign : Sort → Bool → Val → Bool
+has_sign sort negative value = same_sort sort (sort_of_value value) && cond negative (is_negative value) (not (is_negative value))
 
 -- the value has this sort, magnitude and sign
 abbrev pub is_at : Sort → ℕ → Bool → Val → Bool
-is_at sort size negative value = is_signed sort negative value && (magnitude value == size)
+is_at sort size negative value = has_sign sort negative value && (value_magnitude value == size)
 
 -- the constant counts 1
 abbrev pub is_one : List Val → Val → Bool

@@ -12,13 +12,13 @@ pub record IsSize (syntax : Syntax) (pool : List Val) (nonterminal size : ℕ) :
   pub is : tree_size syntax pool nonterminal tree ≡ size
 
 -- nothing is derived from the nonterminal
-abbrev pub IsEmpty : Syntax → List Val → ℕ → Type 0
-IsEmpty syntax pool nonterminal = (size : ℕ) → IsSize syntax pool nonterminal size → ⊥
+abbrev pub DerivesNothing : Syntax → List Val → ℕ → Type 0
+DerivesNothing syntax pool nonterminal = (size : ℕ) → IsSize syntax pool nonterminal size → ⊥
 
 -- the largest size of a derivation from the start symbol, or 0 where there is none
 pub record IsLargest (syntax : Syntax) (pool : List Val) (size : ℕ) : Type 0 where
   pub bounds : (other : ℕ) → IsSize syntax pool 0 other → other ≤ size
-  pub met : IsSize syntax pool 0 size ⊎ (IsEmpty syntax pool 0 × (size ≡ 0))
+  pub met : IsSize syntax pool 0 size ⊎ (DerivesNothing syntax pool 0 × (size ≡ 0))
 
 -- a derivation from the start symbol is larger
 abbrev pub IsExceeded : Syntax → List Val → ℕ → Type 0

@@ -11,7 +11,7 @@ pub record AreMarks (syntax : Syntax) (from : ℕ) (marks : List Bool) : Type 0 
   pub whole : (to : ℕ) → to < length syntax.nonterminals → Reaches syntax from to → slice_get marks to ≡ Some true
 
 -- a chain rule of a marked nonterminal names this one, which has no mark
-pub record IsNext (syntax : Syntax) (marks : List Bool) (to : ℕ) : Type 0 where
+pub record IsNextMark (syntax : Syntax) (marks : List Bool) (to : ℕ) : Type 0 where
   pub from : ℕ
   pub marked : slice_get marks from ≡ Some true
   pub chain : IsChain syntax from to

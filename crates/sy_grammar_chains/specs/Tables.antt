@@ -32,22 +32,22 @@ larger (Some m) None = Some m
 larger (Some m) (Some n) = Some (max m n)
 
 -- a nonterminal's entry
-abbrev pub entry_of : Option (Option ℕ) → Option ℕ
-entry_of None = None
-entry_of (Some entry) = entry
+abbrev pub entry_in_table : Option (Option ℕ) → Option ℕ
+entry_in_table None = None
+entry_in_table (Some entry) = entry
 
-abbrev pub entry : List (Option ℕ) → ℕ → Option ℕ
-entry table nonterminal = entry_of (slice_get table nonterminal)
+abbrev pub table_entry : List (Option ℕ) → ℕ → Option ℕ
+table_entry table nonterminal = entry_in_table (slice_get table nonterminal)
 
-abbrev pub plus : Option ℕ → Option ℕ → Option ℕ
-plus None second = None
-plus (Some m) None = None
-plus (Some m) (Some n) = Some (m + n)
+abbrev pub sizes_plus : Option ℕ → Option ℕ → Option ℕ
+sizes_plus None second = None
+sizes_plus (Some m) None = None
+sizes_plus (Some m) (Some n) = Some (m + n)
 
 -- the sum of the entries; none where one is missing
-unfoldable pub total : List (Option ℕ) → List ℕ → Option ℕ
-total table [] = Some 0
-total table (nonterminal ∷ nonterminals) = plus (entry table nonterminal) (total table nonterminals)
+unfoldable pub entries_total : List (Option ℕ) → List ℕ → Option ℕ
+entries_total table [] = Some 0
+entries_total table (nonterminal ∷ nonterminals) = sizes_plus (table_entry table nonterminal) (entries_total table nonterminals)
 
 -- so many more than the sum, cut off at the limit
 abbrev pub cut : ℕ → ℕ → Option ℕ → Option ℕ
@@ -55,7 +55,7 @@ cut limit own sum = option_map (λ n. min limit (own + n)) sum
 
 -- the size that a pattern has by the table
 abbrev pub pattern_size : ℕ → List (Option ℕ) → Pattern → Option ℕ
-pattern_size limit table pattern = cut limit (own_size pattern) (total table (occurring pattern))
+pattern_size limit table pattern = cut limit (own_size pattern) (entries_total table (occurring pattern))
 
 -- the size is larger than the entry
 abbrev pub Exceeds : Option ℕ → ℕ → Type 0
@@ -76,7 +76,7 @@ pub record IsImproved (syntax : Syntax) (limit : ℕ) (table : List (Option ℕ)
   pub pattern : Pattern
   pub at : rule_at syntax nonterminal rule ≡ Some (Template pattern)
   pub is : pattern_size limit table pattern ≡ Some size
-  pub larger : Exceeds (entry table nonterminal) size
+  pub larger : Exceeds (table_entry table nonterminal) size
 
 -- none has
 abbrev pub IsStable : Syntax → ℕ → List (Option ℕ) → Type 0
@@ -85,9 +85,9 @@ IsStable syntax limit table = (nonterminal size : ℕ) → IsImproved syntax lim
 -- each entry is a size, cut off at the limit; and none is below what rules for all of a sort give
 pub record IsTable (syntax : Syntax) (pool : List Val) (limit : ℕ) (table : List (Option ℕ)) : Type 0 where
   pub sized : length table ≡ length syntax.nonterminals
-  pub sound : (nonterminal best : ℕ) → entry table nonterminal ≡ Some best → (size : ℕ) × IsSize syntax pool nonterminal size × (min limit size ≡ best)
+  pub sound : (nonterminal best : ℕ) → table_entry table nonterminal ≡ Some best → (size : ℕ) × IsSize syntax pool nonterminal size × (min limit size ≡ best)
   pub leaves : (nonterminal rule : ℕ) (production : Production) (size : ℕ) → rule_at syntax nonterminal rule ≡ Some production → GivesLeaf syntax.arguments pool production size →
-      (best : ℕ) × (entry table nonterminal ≡ Some best) × (min limit size ≤ best)
+      (best : ℕ) × (table_entry table nonterminal ≡ Some best) × (min limit size ≤ best)
 
 -- how far the entries are from the limit
 abbrev pub slack : ℕ → List (Option ℕ) → ℕ

@@ -4,7 +4,7 @@ ghost use Rattle.sy_grammar_base.specs.Patterns.{Occurrence};
 ghost use Rattle.sy_grammar_base.specs.Trees.{Template};
 ghost use Rattle.sy_grammar_base.specs.Grown.{production_of, syntax_from};
 ghost use Rattle.sy_grammar_chains.specs.Chains.{AreClosures, IsAscending, IsListed};
-ghost use Rattle.sy_grammar_chains.specs.Marking.{AreMarks, IsNext, AreFull, IsNamed, AreMarked};
+ghost use Rattle.sy_grammar_chains.specs.Marking.{AreMarks, IsNextMark, AreFull, IsNamed, AreMarked};
 
 use std::alloc::{AllocError, Global};
 use sy_grammar_base::{Grammar, Part, Rule};
@@ -54,7 +54,7 @@ fn unmarked(alloc: Global, count: usize) -> Result<Vec<bool>, AllocError>
 
 /// A nonterminal without a mark that a chain rule of a marked one names; `None` exactly where there is none.
 fn next_mark<T: Theory>(g: &Grammar<T>, marks: &[bool]) -> Option<usize>
-    ensures { MatchOption result (AreFull (syntax_from T.denotes g.now) marks.now) (λ to. IsNext (syntax_from T.denotes g.now) marks.now to) }
+    ensures { MatchOption result (AreFull (syntax_from T.denotes g.now) marks.now) (λ to. IsNextMark (syntax_from T.denotes g.now) marks.now to) }
 {
     for (from, item) in g.nons().as_slice().iter().enumerate() {
         if has_mark(marks, from, true) {

@@ -93,7 +93,7 @@ fn magnitudes<T: Theory>(
 
 /// Whether the value has this sort and sign.
 fn is_signed<T: Theory>(value: &Value<T::Num>, sort: Sort, negative: bool) -> bool
-    ensures { result ≡ spec.is_signed sort negative (val_of T.denotes value.now) }
+    ensures { result ≡ spec.has_sign sort negative (val_of T.denotes value.now) }
 {
     let below = number_of::<T>(value) < 0;
     same_sort(&sort, &T::value_sort(value)) && below == negative

@@ -6,7 +6,7 @@ ghost use Rattle.sy_grammar_base.specs.Trees.{Template};
 ghost use Rattle.sy_grammar_base.specs.Written.{pattern_of, patterns_of};
 ghost use Rattle.sy_grammar_base.specs.Grown.{production_of, syntax_from};
 ghost use Rattle.sy_grammar_chains.specs.Tables as spec;
-ghost use Rattle.sy_grammar_chains.specs.Tables.{pattern_size, cut, total, Exceeds, IsImproved, IsImprovedBy, IsStable};
+ghost use Rattle.sy_grammar_chains.specs.Tables.{pattern_size, cut, entries_total, Exceeds, IsImproved, IsImprovedBy, IsStable};
 
 use sy_grammar_base::{Grammar, Part, Parts, Rule};
 use sy_terms::Theory;
@@ -98,7 +98,7 @@ fn part_size<T: Theory>(part: &Part<T>, table: &[Option<u64>], limit: u64) -> Op
 /// The same over all parts.
 #[cycle(part_size)]
 fn parts_size<T: Theory>(parts: &Parts<T>, table: &[Option<u64>], limit: u64) -> Option<u64>
-    ensures { result ≡ cut limit (patterns.own_sizes (patterns_of T.denotes parts.now.items.items)) (total table.now (all_occurring (patterns_of T.denotes parts.now.items.items))) }
+    ensures { result ≡ cut limit (patterns.own_sizes (patterns_of T.denotes parts.now.items.items)) (entries_total table.now (all_occurring (patterns_of T.denotes parts.now.items.items))) }
 {
     let mut sum = 0u64;
     for part in parts.as_slice() {
@@ -110,7 +110,7 @@ fn parts_size<T: Theory>(parts: &Parts<T>, table: &[Option<u64>], limit: u64) ->
 
 /// The nonterminal's entry.
 pub fn entry(table: &[Option<u64>], nonterminal: usize) -> Option<u64>
-    ensures { result ≡ spec.entry table.now nonterminal }
+    ensures { result ≡ spec.table_entry table.now nonterminal }
 {
     *table.get(nonterminal)?
 }

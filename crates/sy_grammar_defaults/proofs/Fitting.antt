@@ -16,8 +16,8 @@ use Rattle.sy_terms.specs.declared.sort.Logic.TheVariants.{Lia, Bv}
 use Rattle.sy_terms.specs.declared.sort.Sort.{Sort}
 use Rattle.sy_terms.specs.declared.sort.Sort.TheVariants as sorts
 use Rattle.sy_grammar_base.specs.Trees.{Production, Nonterminal, Syntax, is_sort}
-use Rattle.sy_grammar_base.specs.Formed.{is_known, is_formed, fits, pattern_sort, pattern_sorts, rule_sort}
-use Rattle.sy_grammar_defaults.specs.Defaults.{default_syntax, integers, tests, constants, of_vectors, vectors_from, vector_rules, vector_tests, vector_truths, comparisons, connectives, ordered, others, is_other, two}
+use Rattle.sy_grammar_base.specs.Formed.{is_known, is_formed, nonterminal_fits, pattern_sort, pattern_sorts, rule_sort}
+use Rattle.sy_grammar_defaults.specs.Defaults.{default_syntax, integers, tests, factors_alone, of_vectors, vectors_from, vector_rules, vector_tests, vector_truths, comparisons, connectives, ordered, others, is_other, rule_of_two}
 
 both_are : (a b : Bool) → a ≡ true → b ≡ true → (a && b) ≡ true
 both_are true true e f = refl
@@ -40,18 +40,18 @@ abbrev Formed : List Signature → Logic → Syntax → Type 0
 Formed defined logic syntax = is_formed (number_sorts logic) (scope defined logic) syntax ≡ true
 
 formed : (defined : List Signature) (logic : Logic) (arguments : List Sort) (nonterminals : List Nonterminal) → 1 ≤ length nonterminals → length nonterminals < 2 ^ 31 → list_all (is_known (number_sorts logic)) arguments ≡ true →
-    list_all (fits (number_sorts logic) (scope defined logic) (record { arguments = arguments; nonterminals = nonterminals })) nonterminals ≡ true → Formed defined logic (record { arguments = arguments; nonterminals = nonterminals })
+    list_all (nonterminal_fits (number_sorts logic) (scope defined logic) (record { arguments = arguments; nonterminals = nonterminals })) nonterminals ≡ true → Formed defined logic (record { arguments = arguments; nonterminals = nonterminals })
 formed defined logic arguments nonterminals least most known fit =
     both_are _ _ (both_are _ _ (le-leb 1 (length nonterminals) least) (lt-ltb (length nonterminals) (2 ^ 31) most)) (both_are _ _ known fit)
 
 -- integers
-integers_formed : (defined : List Signature) (arguments : List Sort) → list_all (is_known (number_sorts Lia)) arguments ≡ true → Formed defined Lia (record { arguments = arguments; nonterminals = integers 0 1 2 ∷ tests 0 1 ∷ constants ∷ [] })
+integers_formed : (defined : List Signature) (arguments : List Sort) → list_all (is_known (number_sorts Lia)) arguments ≡ true → Formed defined Lia (record { arguments = arguments; nonterminals = integers 0 1 2 ∷ tests 0 1 ∷ factors_alone ∷ [] })
 unfolding pattern_sort pattern_sorts sort_of
-integers_formed defined arguments known = formed defined Lia arguments (integers 0 1 2 ∷ tests 0 1 ∷ constants ∷ []) (omega arith) (omega arith) known refl
+integers_formed defined arguments known = formed defined Lia arguments (integers 0 1 2 ∷ tests 0 1 ∷ factors_alone ∷ []) (omega arith) (omega arith) known refl
 
-truths_formed : (defined : List Signature) (arguments : List Sort) → list_all (is_known (number_sorts Lia)) arguments ≡ true → Formed defined Lia (record { arguments = arguments; nonterminals = tests 1 0 ∷ integers 1 0 2 ∷ constants ∷ [] })
+truths_formed : (defined : List Signature) (arguments : List Sort) → list_all (is_known (number_sorts Lia)) arguments ≡ true → Formed defined Lia (record { arguments = arguments; nonterminals = tests 1 0 ∷ integers 1 0 2 ∷ factors_alone ∷ [] })
 unfolding pattern_sort pattern_sorts sort_of
-truths_formed defined arguments known = formed defined Lia arguments (tests 1 0 ∷ integers 1 0 2 ∷ constants ∷ []) (omega arith) (omega arith) known refl
+truths_formed defined arguments known = formed defined Lia arguments (tests 1 0 ∷ integers 1 0 2 ∷ factors_alone ∷ []) (omega arith) (omega arith) known refl
 
 pub lia_formed : (defined : List Signature) (arguments : List Sort) (sort : Sort) → list_all (is_known (number_sorts Lia)) arguments ≡ true → Formed defined Lia (default_syntax Lia arguments sort)
 lia_formed defined arguments sorts.Bool known = truths_formed defined arguments known
@@ -87,7 +87,7 @@ and_three false b c d e f = absurd cc
 comparisons_fit : (defined : List Signature) (syntax : Syntax) (vectors : List ℕ) → AreVectors syntax vectors → list_all (FitsIn defined syntax sorts.Bool) (comparisons vectors) ≡ true
 comparisons_fit defined syntax [] are = refl
 comparisons_fit defined syntax (v ∷ rest) are =
-    and_three (FitsIn defined syntax sorts.Bool (two ops.Equal v)) (FitsIn defined syntax sorts.Bool (two ops.BvUlt v)) (FitsIn defined syntax sorts.Bool (two ops.BvSlt v)) (list_all (FitsIn defined syntax sorts.Bool) (comparisons rest)) (three_fit defined syntax are.0.0 v are.0.1) (comparisons_fit defined syntax rest are.1)
+    and_three (FitsIn defined syntax sorts.Bool (rule_of_two ops.Equal v)) (FitsIn defined syntax sorts.Bool (rule_of_two ops.BvUlt v)) (FitsIn defined syntax sorts.Bool (rule_of_two ops.BvSlt v)) (list_all (FitsIn defined syntax sorts.Bool) (comparisons rest)) (three_fit defined syntax are.0.0 v are.0.1) (comparisons_fit defined syntax rest are.1)
 
 connectives_fit : (defined : List Signature) (syntax : Syntax) (b : ℕ) → sort_at syntax b ≡ Some sorts.Bool → list_all (FitsIn defined syntax sorts.Bool) (connectives b) ≡ true
 unfolding pattern_sort pattern_sorts sort_of
@@ -105,11 +105,11 @@ comparisons_count (v ∷ rest) = omega (arith, comparisons_count rest)
 abbrev pub HasWidth : ℕ → Bool
 HasWidth w = nat_le 1 w && nat_le w 64
 
-truths_fits : (defined : List Signature) (syntax : Syntax) (vectors : List ℕ) (b : ℕ) → length vectors ≤ 65 → AreVectors syntax vectors → sort_at syntax b ≡ Some sorts.Bool → fits (number_sorts Bv) (scope defined Bv) syntax (vector_truths vectors b) ≡ true
+truths_fits : (defined : List Signature) (syntax : Syntax) (vectors : List ℕ) (b : ℕ) → length vectors ≤ 65 → AreVectors syntax vectors → sort_at syntax b ≡ Some sorts.Bool → nonterminal_fits (number_sorts Bv) (scope defined Bv) syntax (vector_truths vectors b) ≡ true
 truths_fits defined syntax vectors b few are at =
     both_are _ _ refl (both_are _ _ (lt-ltb (length (vector_tests vectors b)) (2 ^ 31) (omega (arith, few, comparisons_count vectors, length-append (comparisons vectors) (connectives b)))) (tests_fit defined syntax vectors b are at))
 
-vector_fits : (defined : List Signature) (syntax : Syntax) (w v b : ℕ) → HasWidth w ≡ true → sort_at syntax v ≡ Some (sorts.Bits w) → sort_at syntax b ≡ Some sorts.Bool → fits (number_sorts Bv) (scope defined Bv) syntax (record { sort = sorts.Bits w; rules = vector_rules w v b }) ≡ true
+vector_fits : (defined : List Signature) (syntax : Syntax) (w v b : ℕ) → HasWidth w ≡ true → sort_at syntax v ≡ Some (sorts.Bits w) → sort_at syntax b ≡ Some sorts.Bool → nonterminal_fits (number_sorts Bv) (scope defined Bv) syntax (record { sort = sorts.Bits w; rules = vector_rules w v b }) ≡ true
 vector_fits defined syntax w v b known at truths = both_are _ _ known (both_are _ _ refl (width_rules defined syntax w v b at truths))
 
 -- the nonterminals from the first on have these widths
@@ -117,7 +117,7 @@ abbrev Numbered : Syntax → ℕ → List ℕ → Type 0
 Numbered syntax v [] = Unit {0}
 Numbered syntax v (w ∷ rest) = (sort_at syntax v ≡ Some (sorts.Bits w)) × Numbered syntax (v + 1) rest
 
-vectors_fit : (defined : List Signature) (syntax : Syntax) (v b : ℕ) (widths : List ℕ) → list_all HasWidth widths ≡ true → Numbered syntax v widths → sort_at syntax b ≡ Some sorts.Bool → list_all (fits (number_sorts Bv) (scope defined Bv) syntax) (vectors_from v b widths) ≡ true
+vectors_fit : (defined : List Signature) (syntax : Syntax) (v b : ℕ) (widths : List ℕ) → list_all HasWidth widths ≡ true → Numbered syntax v widths → sort_at syntax b ≡ Some sorts.Bool → list_all (nonterminal_fits (number_sorts Bv) (scope defined Bv) syntax) (vectors_from v b widths) ≡ true
 vectors_fit defined syntax v b [] known at truths = refl
 vectors_fit defined syntax v b (w ∷ rest) known at truths =
     let both = both_true (HasWidth w) (list_all HasWidth rest) known in
@@ -169,7 +169,7 @@ bits_formed defined arguments widths known wide few =
     let last = truths_fits defined syntax (range_with_len 0 n) n (omega (arith, few, length-range_with_len 0 n)) (numbered_vectors syntax 0 widths numbered) at in
     let size = length-append (vectors_from 0 n widths) (truths ∷ []) in
     formed defined Bv arguments all (omega (arith, size)) (omega (arith, size, count, few)) known
-    (list_all-append (fits (number_sorts Bv) (scope defined Bv) syntax) (vectors_from 0 n widths) (truths ∷ []) ∙ both_are _ _ first (both_are _ true last refl))
+    (list_all-append (nonterminal_fits (number_sorts Bv) (scope defined Bv) syntax) (vectors_from 0 n widths) (truths ∷ []) ∙ both_are _ _ first (both_are _ true last refl))
 
 -- where it is a truth value
 bool_formed : (defined : List Signature) (arguments : List Sort) (widths : List ℕ) → list_all (is_known (number_sorts Bv)) arguments ≡ true → list_all HasWidth widths ≡ true → length widths ≤ 65 →

@@ -16,19 +16,19 @@ use Rattle.sy_grammar_base.specs.declared.grammar.Rule.{Rule}
 use Rattle.sy_grammar_base.specs.declared.grammar.Rule.TheVariants.{Term}
 use Rattle.sy_grammar_base.specs.declared.grammar.Non.{Non}
 use Rattle.sy_grammar_defaults.specs.Occurrences.{occurrence}
-use Rattle.sy_grammar_defaults.specs.Defaults.{places, applied, comparisons, vectors_from, vector_rules}
+use Rattle.sy_grammar_defaults.specs.Defaults.{places, rule_applied, comparisons, vectors_from, vector_rules}
 
 places_is : (T : Type 0) {N : Type 0} (number : N → Val) (nonterminals : List ℕ) → patterns_of {T = T} number (map occurrence nonterminals) ≡ places nonterminals
 places_is T number [] = refl
 places_is T number (n ∷ rest) = ap (λ p. more p (patterns_of {T = T} number (map occurrence rest))) (pattern_of-Non T number n) ∙ ap (more (Occurrence n)) (places_is T number rest)
 
-applied_is : {T N : Type 0} (number : N → Val) (operator : Op) (parts : Parts T N) (nonterminals : List ℕ) → parts.items.items ≡ map occurrence nonterminals → production_of number (Term (App operator parts)) ≡ applied operator nonterminals
+applied_is : {T N : Type 0} (number : N → Val) (operator : Op) (parts : Parts T N) (nonterminals : List ℕ) → parts.items.items ≡ map occurrence nonterminals → production_of number (Term (App operator parts)) ≡ rule_applied operator nonterminals
 applied_is {T} {N} number operator parts nonterminals e =
     ap Template (pattern_of-App number operator parts ∙ ap (Apply operator) (ap (patterns_of number) e ∙ places_is T number nonterminals))
 
 -- one rule more
 pub pushed : {T N : Type 0} (number : N → Val) (old grown : List (Rule T N)) (operator : Op) (parts : Parts T N) (nonterminals : List ℕ) → grown ≡ old ++ Term (App operator parts) ∷ [] → parts.items.items ≡ map occurrence nonterminals →
-    map (production_of number) grown ≡ map (production_of number) old ++ applied operator nonterminals ∷ []
+    map (production_of number) grown ≡ map (production_of number) old ++ rule_applied operator nonterminals ∷ []
 pushed number old grown operator parts nonterminals e f =
     ap (map (production_of number)) e ∙ map-append (production_of number) old (Term (App operator parts) ∷ [])
     ∙ ap (λ (p : Production). map (production_of number) old ++ p ∷ []) (applied_is number operator parts nonterminals f)

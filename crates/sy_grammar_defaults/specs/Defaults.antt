@@ -18,32 +18,32 @@ places [] = none
 places (nonterminal ∷ rest) = more (Occurrence nonterminal) (places rest)
 
 -- the operator at these nonterminals
-abbrev pub applied : Op → List ℕ → Production
-applied operator nonterminals = Template (Apply operator (places nonterminals))
+abbrev pub rule_applied : Op → List ℕ → Production
+rule_applied operator nonterminals = Template (Apply operator (places nonterminals))
 
 -- the operator at one, two or three of a nonterminal
-abbrev pub one : Op → ℕ → Production
-one operator n = applied operator (n ∷ [])
+abbrev pub rule_of_one : Op → ℕ → Production
+rule_of_one operator n = rule_applied operator (n ∷ [])
 
-abbrev pub two : Op → ℕ → Production
-two operator n = applied operator (n ∷ n ∷ [])
+abbrev pub rule_of_two : Op → ℕ → Production
+rule_of_two operator n = rule_applied operator (n ∷ n ∷ [])
 
-abbrev pub three : Op → ℕ → Production
-three operator n = applied operator (n ∷ n ∷ n ∷ [])
+abbrev pub rule_of_three : Op → ℕ → Production
+rule_of_three operator n = rule_applied operator (n ∷ n ∷ n ∷ [])
 
 -- rules for integers, where these are the numbers of the nonterminals for integers, truth values and constants
 abbrev pub integer_rules : (integers truths constants : ℕ) → List Production
 integer_rules i b k =
     EachVariable sorts.Int ∷ EachConstant sorts.Int ∷
-    two ops.Add i ∷ two ops.Sub i ∷ applied ops.Mul (k ∷ i ∷ []) ∷ applied ops.Ite (b ∷ i ∷ i ∷ []) ∷ []
+    rule_of_two ops.Add i ∷ rule_of_two ops.Sub i ∷ rule_applied ops.Mul (k ∷ i ∷ []) ∷ rule_applied ops.Ite (b ∷ i ∷ i ∷ []) ∷ []
 
 -- what every nonterminal for truth values ends with
 abbrev pub connectives : ℕ → List Production
-connectives b = one ops.Not b ∷ two ops.And b ∷ two ops.Or b ∷ three ops.Ite b ∷ []
+connectives b = rule_of_one ops.Not b ∷ rule_of_two ops.And b ∷ rule_of_two ops.Or b ∷ rule_of_three ops.Ite b ∷ []
 
 -- rules for truth values over integers
 abbrev pub integer_tests : (integers truths : ℕ) → List Production
-integer_tests i b = EachVariable sorts.Bool ∷ EachConstant sorts.Bool ∷ two ops.Le i ∷ two ops.Equal i ∷ connectives b
+integer_tests i b = EachVariable sorts.Bool ∷ EachConstant sorts.Bool ∷ rule_of_two ops.Le i ∷ rule_of_two ops.Equal i ∷ connectives b
 
 abbrev pub integers : (integers truths constants : ℕ) → Nonterminal
 integers i b k = record { sort = sorts.Int; rules = integer_rules i b k }
@@ -51,29 +51,29 @@ integers i b k = record { sort = sorts.Int; rules = integer_rules i b k }
 abbrev pub tests : (integers truths : ℕ) → Nonterminal
 tests i b = record { sort = sorts.Bool; rules = integer_tests i b }
 
-abbrev pub constants : Nonterminal
-constants = record { sort = sorts.Int; rules = EachConstant sorts.Int ∷ [] }
+abbrev pub factors_alone : Nonterminal
+factors_alone = record { sort = sorts.Int; rules = EachConstant sorts.Int ∷ [] }
 
 -- the nonterminals of LIA: for the result's sort, for the other one, and for constants
 abbrev pub of_integers : Sort → List Nonterminal
-of_integers sorts.Bool = tests 1 0 ∷ integers 1 0 2 ∷ constants ∷ []
-of_integers _ = integers 0 1 2 ∷ tests 0 1 ∷ constants ∷ []
+of_integers sorts.Bool = tests 1 0 ∷ integers 1 0 2 ∷ factors_alone ∷ []
+of_integers _ = integers 0 1 2 ∷ tests 0 1 ∷ factors_alone ∷ []
 
 -- the operators of two vectors of one width
-abbrev pub vector_operators : List Op
-vector_operators =
+abbrev pub default_vector_operators : List Op
+default_vector_operators =
     ops.BvAnd ∷ ops.BvOr ∷ ops.BvXor ∷ ops.BvAdd ∷ ops.BvSub ∷ ops.BvMul ∷ ops.BvUdiv ∷ ops.BvUrem ∷ ops.BvShl ∷ ops.BvLshr ∷ ops.BvAshr ∷ []
 
 -- rules for vectors of a width, where these are the numbers of the nonterminals for them and for truth values
 abbrev pub vector_rules : (width vectors truths : ℕ) → List Production
 vector_rules width v b =
-    EachVariable (sorts.Bits width) ∷ EachConstant (sorts.Bits width) ∷ one ops.BvNot v ∷ one ops.BvNeg v ∷
-    map (λ operator. two operator v) vector_operators ++ applied ops.Ite (b ∷ v ∷ v ∷ []) ∷ []
+    EachVariable (sorts.Bits width) ∷ EachConstant (sorts.Bits width) ∷ rule_of_one ops.BvNot v ∷ rule_of_one ops.BvNeg v ∷
+    map (λ operator. rule_of_two operator v) default_vector_operators ++ rule_applied ops.Ite (b ∷ v ∷ v ∷ []) ∷ []
 
 -- the comparisons of each of these nonterminals for vectors
 abbrev pub comparisons : List ℕ → List Production
 comparisons [] = []
-comparisons (v ∷ rest) = two ops.Equal v ∷ two ops.BvUlt v ∷ two ops.BvSlt v ∷ comparisons rest
+comparisons (v ∷ rest) = rule_of_two ops.Equal v ∷ rule_of_two ops.BvUlt v ∷ rule_of_two ops.BvSlt v ∷ comparisons rest
 
 -- rules for truth values over vectors
 abbrev pub vector_tests : List ℕ → ℕ → List Production

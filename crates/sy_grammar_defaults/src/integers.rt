@@ -58,7 +58,7 @@ fn tests<T: Theory>(alloc: Global, i: u32, b: u32) -> Result<Non<T>, Want>
 
 /// The nonterminal for integer constants.
 fn constants<T: Theory>(alloc: Global) -> Result<Non<T>, Want>
-    ensures { IfOk result (λ non. nonterminal_of T.denotes non ≡ spec.constants) }
+    ensures { IfOk result (λ non. nonterminal_of T.denotes non ≡ spec.factors_alone) }
 {
     let mut rules = Seq::new(alloc);
     rules.push(Rule::AnyConstant(Sort::Int))?;

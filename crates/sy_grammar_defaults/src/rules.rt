@@ -27,7 +27,7 @@ pub fn push_applied<T: Theory>(
     operator: Op,
     nonterminals: &[u32],
 ) -> Result<(), Want>
-    ensures { OnOk result (map (production_of T.denotes) rules.new ≡ map (production_of T.denotes) rules.old ++ spec.applied operator nonterminals.now ∷ []) }
+    ensures { OnOk result (map (production_of T.denotes) rules.new ≡ map (production_of T.denotes) rules.old ++ spec.rule_applied operator nonterminals.now ∷ []) }
 {
     let parts = places(alloc, nonterminals)?;
     rules.push(Rule::Term(Part::App(operator, parts)))?;

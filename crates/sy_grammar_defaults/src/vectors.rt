@@ -66,7 +66,7 @@ fn vectors<T: Theory>(alloc: Global, width: u8, v: u32, b: u32) -> Result<Non<T>
 
 /// Appends the operators of two vectors of one width.
 fn push_operators<T: Theory>(alloc: Global, rules: &mut Seq<Rule<T>>, v: u32) -> Result<(), Want>
-    ensures { OnOk result (map (production_of T.denotes) rules.new ≡ map (production_of T.denotes) rules.old ++ map (λ operator. spec.two operator v) spec.vector_operators) }
+    ensures { OnOk result (map (production_of T.denotes) rules.new ≡ map (production_of T.denotes) rules.old ++ map (λ operator. spec.rule_of_two operator v) spec.default_vector_operators) }
 {
     push_applied(alloc, rules, Op::BvAnd, &[v, v])?;
     push_applied(alloc, rules, Op::BvOr, &[v, v])?;

@@ -10,8 +10,8 @@ use Rattle.sy_grammar_base.specs.Grown.{tree_of, trees_of}
 use Rattle.sy_grammar_base.specs.declared.derivation.Derivation.{Derivation}
 use Rattle.sy_grammar_derive.specs.Notes as notes
 use Rattle.sy_grammar_derive.specs.Notes.{Notes, Note, Noted}
-use Rattle.sy_grammar_derive.specs.Steps.{tree_at, picked, tree_by, trees_after, trees_from, AreBelow, IsAfter, AreInOrder}
-use Rattle.sy_grammar_derive.specs.Rows.{IsSound, IsRight, AreRight}
+use Rattle.sy_grammar_derive.specs.Steps.{tree_at, picked, tree_by, trees_after, step_trees, AreBelow, IsAfter, AreInOrder}
+use Rattle.sy_grammar_derive.specs.Rows.{RowIsSound, NoteIsRight, NotesAreRight}
 use Rattle.sy_grammar_derive.specs.declared.step.Step.{Step}
 use Rattle.sy_grammar_derive.specs.declared.step.Step.TheVariants.{Node, Constant, Variable}
 
@@ -89,12 +89,12 @@ tree_of_step number earlier (first ∷ steps) (suc place) step at h =
 
 -- the tree of a step's number is what the step makes
 pub tree_at-step : {T N : Type 0} (number : N → Val) (steps : List (Step T N)) (place : ℕ) (step : Step T N) →
-    slice_get steps place ≡ Some step → IsAfter step place → tree_at (trees_from number steps) place ≡ tree_by number (trees_from number steps) step
+    slice_get steps place ≡ Some step → IsAfter step place → tree_at (step_trees number steps) place ≡ tree_by number (step_trees number steps) step
 tree_at-step number steps place step at h =
     let here : place ≡ length {A = Tree} [] + place = omega arith in
-    ap (tree_at (trees_from number steps)) here ∙ tree_of_step number [] steps place step at (subst (IsAfter step) here h)
+    ap (tree_at (step_trees number steps)) here ∙ tree_of_step number [] steps place step at (subst (IsAfter step) here h)
 
-pub sound_more : (syntax : Syntax) (front back : List Tree) (term : Expr) (row : List (Option ℕ)) → IsSound syntax front term row → IsSound syntax (front ++ back) term row
+pub sound_more : (syntax : Syntax) (front back : List Tree) (term : Expr) (row : List (Option ℕ)) → RowIsSound syntax front term row → RowIsSound syntax (front ++ back) term row
 sound_more syntax front back term row sound = record {
   derives = λ nonterminal step at.
       let was = sound.derives nonterminal step at in
@@ -103,12 +103,12 @@ sound_more syntax front back term row sound = record {
 }
 
 mutual
-  unfolding IsRight AreRight
+  unfolding NoteIsRight NotesAreRight
 
-  pub right_more : (syntax : Syntax) (front back : List Tree) (term : Expr) (note : Note) → IsRight syntax front term note → IsRight syntax (front ++ back) term note
+  pub right_more : (syntax : Syntax) (front back : List Tree) (term : Expr) (note : Note) → NoteIsRight syntax front term note → NoteIsRight syntax (front ++ back) term note
   right_more syntax front back term (Noted row below) right = (sound_more syntax front back term row right.0, right.1, rights_more syntax front back _ below right.2)
 
-  pub rights_more : (syntax : Syntax) (front back : List Tree) (terms : Exprs) (below : Notes) → AreRight syntax front terms below → AreRight syntax (front ++ back) terms below
+  pub rights_more : (syntax : Syntax) (front back : List Tree) (terms : Exprs) (below : Notes) → NotesAreRight syntax front terms below → NotesAreRight syntax (front ++ back) terms below
   rights_more syntax front back expr.none notes.none right = tt
   rights_more syntax front back expr.none (notes.more note below) right = absurd right
   rights_more syntax front back (expr.more term terms) notes.none right = absurd right
@@ -137,6 +137,6 @@ filler_before steps place rule fillers step i number ordered at is filler =
     below_at place fillers.items i number (subst (λ s. IsAfter s place) is (ordered place step at)) filler
 
 pub tree_at-node : {T N : Type 0} (number : N → Val) (steps : List (Step T N)) (place rule : ℕ) (fillers : _) (step : Step T N) →
-    AreInOrder steps → slice_get steps place ≡ Some step → step ≡ Node rule fillers → tree_at (trees_from number steps) place ≡ trees.Node rule (picked (trees_from number steps) fillers.items)
+    AreInOrder steps → slice_get steps place ≡ Some step → step ≡ Node rule fillers → tree_at (step_trees number steps) place ≡ trees.Node rule (picked (step_trees number steps) fillers.items)
 tree_at-node number steps place rule fillers step ordered at is =
-    tree_at-step number steps place step at (ordered place step at) ∙ ap (tree_by number (trees_from number steps)) is
+    tree_at-step number steps place step at (ordered place step at) ∙ ap (tree_by number (step_trees number steps)) is

@@ -8,8 +8,8 @@ use Rattle.sy_grammar_base.specs.Patterns.{occurring, filled}
 use Rattle.sy_grammar_base.specs.Trees as trees
 use Rattle.sy_grammar_base.specs.Trees.{Syntax, Tree, Trees, Production, Nonterminal, Template, EachConstant, EachVariable, Derives, rule_at, rule_of, node_yield, constant_yield, variable_yield, yield_from, yields_from}
 use Rattle.sy_grammar_derive.specs.Notes.{Notes, Note, Noted}
-use Rattle.sy_grammar_derive.specs.Steps.{tree_at, picked, tree_by, trees_from, IsAfter, AreInOrder}
-use Rattle.sy_grammar_derive.specs.Rows.{Makes, IsMade, IsClosed, IsSound, IsRight, AreRight, IsGrown, IsBlank, IsFilling, IsRow, IsNoted, AreNoted, missing, arguments_of}
+use Rattle.sy_grammar_derive.specs.Steps.{tree_at, picked, tree_by, step_trees, IsAfter, AreInOrder}
+use Rattle.sy_grammar_derive.specs.Rows.{Makes, IsMade, RowIsClosed, RowIsSound, NoteIsRight, NotesAreRight, IsGrown, IsBlank, IsFilling, IsRowOfSteps, IsNoted, AreNoted, missing_steps, arguments_of}
 use Rattle.sy_grammar_derive.specs.declared.step.Step.{Step}
 use Rattle.sy_grammar_derive.specs.declared.step.Step.TheVariants.{Node, Constant, Variable}
 use Rattle.sy_grammar_derive.proofs.Sound.{fills_yield}
@@ -48,7 +48,7 @@ unfolding yield_from
 variable_derives syntax nonterminal rule production position term at yields = ap (λ p. variable_yield p syntax.arguments position) at ∙ yields
 
 derived_by : {T N : Type 0} (number : N → Val) (syntax : Syntax) (built : List Tree) (nonterminal place : ℕ) (term : Expr) (row : List (Option ℕ)) (below : Notes) (production : Production) (step : Step T N) →
-    rule_at syntax nonterminal place ≡ Some production → Makes number syntax.arguments place term row below production step → IsSound syntax built term row → AreRight syntax built (arguments_of term) below → Derived number syntax built nonterminal term step
+    rule_at syntax nonterminal place ≡ Some production → Makes number syntax.arguments place term row below production step → RowIsSound syntax built term row → NotesAreRight syntax built (arguments_of term) below → Derived number syntax built nonterminal term step
 derived_by number syntax built nonterminal place term row below (Template pattern) (Node rule steps) at makes sound right =
     let found = fills_yield syntax built pattern term row below steps.items makes.1 sound right in
     record { derives = node_derives syntax nonterminal rule pattern (picked built steps.items) found.terms term (ap (rule_at syntax nonterminal) makes.0 ∙ at) found.yields found.rebuilds; after = found.earlier }
@@ -76,7 +76,7 @@ slice_get-set (z ∷ xs) zero (suc j) x y e = inr e
 slice_get-set (z ∷ xs) (suc i) zero x y e = inr e
 slice_get-set (z ∷ xs) (suc i) (suc j) x y e = elim (slice_get-set xs i j x y e) [ inl h ↦ inl (omega (arith, h.0), h.1) | inr h ↦ inr h ]
 
-pub trees_length : {T N : Type 0} (number : N → Val) (steps : List (Step T N)) → length (trees_from number steps) ≡ length steps
+pub trees_length : {T N : Type 0} (number : N → Val) (steps : List (Step T N)) → length (step_trees number steps) ≡ length steps
 trees_length number steps = omega (arith, trees_after-length number [] steps)
 
 append_nil : (xs : List Tree) → xs ++ [] ≡ xs
@@ -84,13 +84,13 @@ append_nil [] = refl
 append_nil (x ∷ xs) = ap (λ l. x ∷ l) (append_nil xs)
 
 pub grown_none : {T N : Type 0} (number : N → Val) (steps : List (Step T N)) → AreInOrder steps → IsGrown number steps steps
-grown_none number steps ordered = record { ordered = ordered; later = []; is = sym (append_nil (trees_from number steps)) }
+grown_none number steps ordered = record { ordered = ordered; later = []; is = sym (append_nil (step_trees number steps)) }
 
 pub grown_then : {T N : Type 0} (number : N → Val) (before now after : List (Step T N)) → IsGrown number before now → IsGrown number now after → IsGrown number before after
 grown_then number before now after first second = record {
   ordered = second.ordered;
   later = first.later ++ second.later;
-  is = second.is ∙ ap (λ l. l ++ second.later) first.is ∙ append_assoc (trees_from number before) first.later second.later;
+  is = second.is ∙ ap (λ l. l ++ second.later) first.is ∙ append_assoc (step_trees number before) first.later second.later;
 }
 
 pub filling_first : {T N : Type 0} (number : N → Val) (syntax : Syntax) (term : Expr) (row : List (Option ℕ)) (steps : List (Step T N)) (n : ℕ) →
@@ -102,15 +102,15 @@ filling_first number syntax term row steps n sized all blank ordered = record {
 }
 
 pub filling_more : {T N : Type 0} (number : N → Val) (syntax : Syntax) (term : Expr) (row : List (Option ℕ)) (below : Notes) (before now after : List (Step T N)) (nonterminal place : ℕ) (step : Step T N) →
-    IsFilling number syntax term row before now → IsMade number syntax nonterminal term row below step → AreRight syntax (trees_from number before) (arguments_of term) below →
+    IsFilling number syntax term row before now → IsMade number syntax nonterminal term row below step → NotesAreRight syntax (step_trees number before) (arguments_of term) below →
     place ≡ length now → after ≡ now ++ step ∷ [] → IsFilling number syntax term (set row nonterminal (Some place)) before after
 filling_more number syntax term row below before now after nonterminal place step filling made right at is =
-    let built = trees_from number now in
+    let built = step_trees number now in
     let t = tree_by number built step in
-    let right_now : AreRight syntax built (arguments_of term) below = subst (λ trees. AreRight syntax trees (arguments_of term) below) (sym filling.grown.is) (rights_more syntax (trees_from number before) filling.grown.later (arguments_of term) below right) in
+    let right_now : NotesAreRight syntax built (arguments_of term) below = subst (λ trees. NotesAreRight syntax trees (arguments_of term) below) (sym filling.grown.is) (rights_more syntax (step_trees number before) filling.grown.later (arguments_of term) below right) in
     let derived = derived_by number syntax built nonterminal made.rule term row below made.production step made.at made.makes filling.sound right_now in
     let sized = trees_length number now in
-    let trees_are : trees_from number after ≡ built ++ t ∷ [] = ap (trees_from number) is ∙ trees_after-last number [] now step in
+    let trees_are : step_trees number after ≡ built ++ t ∷ [] = ap (step_trees number) is ∙ trees_after-last number [] now step in
     let old = sound_more syntax built (t ∷ []) term row filling.sound in
     let ordered : AreInOrder (now ++ step ∷ []) = in_order-last now step filling.grown.ordered (subst (IsAfter step) sized derived.after) in
     record {
@@ -118,9 +118,9 @@ filling_more number syntax term row below before now after nonterminal place ste
       grown = record {
         ordered = subst AreInOrder (sym is) ordered;
         later = filling.grown.later ++ t ∷ [];
-        is = trees_are ∙ ap (λ l. l ++ t ∷ []) filling.grown.is ∙ append_assoc (trees_from number before) filling.grown.later (t ∷ []);
+        is = trees_are ∙ ap (λ l. l ++ t ∷ []) filling.grown.is ∙ append_assoc (step_trees number before) filling.grown.later (t ∷ []);
       };
-      sound = subst (λ trees. IsSound syntax trees term (set row nonterminal (Some place))) (sym trees_are) (record {
+      sound = subst (λ trees. RowIsSound syntax trees term (set row nonterminal (Some place))) (sym trees_are) (record {
         derives = λ n s e. elim (slice_get-set row nonterminal n (Some place) (Some s) e) [
           | inl new ↦
               let s_is : s ≡ place = cc in
@@ -135,7 +135,7 @@ filling_more number syntax term row below before now after nonterminal place ste
 pub blank_more : (row : List (Option ℕ)) → IsBlank row → IsBlank (row ++ None ∷ [])
 blank_more row blank n s e = elim (slice_get-last row None n (Some s) e) [ inl old ↦ blank n s old | inr new ↦ let h = new.1 in cc ]
 
-pub missing_less : (row : List (Option ℕ)) (i x : ℕ) → slice_get row i ≡ Some None → missing (set row i (Some x)) < missing row
+pub missing_less : (row : List (Option ℕ)) (i x : ℕ) → slice_get row i ≡ Some None → missing_steps (set row i (Some x)) < missing_steps row
 missing_less [] i x at = absurd (let h = slice_get_within [] i None at in omega arith)
 missing_less (None ∷ row) zero x at = omega arith
 missing_less (Some s ∷ row) zero x at = absurd cc
@@ -143,33 +143,33 @@ missing_less (None ∷ row) (suc i) x at = let h = missing_less row i x at in om
 missing_less (Some s ∷ row) (suc i) x at = missing_less row i x at
 
 pub row_done : {T N : Type 0} (number : N → Val) (syntax : Syntax) (term : Expr) (row : List (Option ℕ)) (below : Notes) (before after : List (Step T N)) →
-    IsFilling number syntax term row before after → IsClosed syntax term row below → AreRight syntax (trees_from number before) (arguments_of term) below → IsRow number syntax term row below before after
-unfolding IsRight
+    IsFilling number syntax term row before after → RowIsClosed syntax term row below → NotesAreRight syntax (step_trees number before) (arguments_of term) below → IsRowOfSteps number syntax term row below before after
+unfolding NoteIsRight
 row_done number syntax term row below before after filling closed right =
-    let right_now : AreRight syntax (trees_from number after) (arguments_of term) below = subst (λ trees. AreRight syntax trees (arguments_of term) below) (sym filling.grown.is) (rights_more syntax (trees_from number before) filling.grown.later (arguments_of term) below right) in
+    let right_now : NotesAreRight syntax (step_trees number after) (arguments_of term) below = subst (λ trees. NotesAreRight syntax trees (arguments_of term) below) (sym filling.grown.is) (rights_more syntax (step_trees number before) filling.grown.later (arguments_of term) below right) in
     record {
       grown = filling.grown;
-      right = (filling.sound, record { found = λ nonterminal tree derives. found syntax (trees_from number after) term row below closed right_now tree nonterminal derives }, right_now);
+      right = (filling.sound, record { found = λ nonterminal tree derives. found syntax (step_trees number after) term row below closed right_now tree nonterminal derives }, right_now);
     }
 
 pub noted : {T N : Type 0} (number : N → Val) (syntax : Syntax) (term : Expr) (row : List (Option ℕ)) (below : Notes) (note : Note) (before after : List (Step T N)) →
-    IsRow number syntax term row below before after → note ≡ Noted row below → IsNoted number syntax term note before after
-noted number syntax term row below note before after row_is is = record { grown = row_is.grown; right = subst (IsRight syntax (trees_from number after) term) (sym is) row_is.right }
+    IsRowOfSteps number syntax term row below before after → note ≡ Noted row below → IsNoted number syntax term note before after
+noted number syntax term row below note before after row_is is = record { grown = row_is.grown; right = subst (NoteIsRight syntax (step_trees number after) term) (sym is) row_is.right }
 
 pub noted_then : {T N : Type 0} (number : N → Val) (syntax : Syntax) (term : Expr) (note : Note) (before now after : List (Step T N)) →
     IsGrown number before now → IsNoted number syntax term note now after → IsNoted number syntax term note before after
 noted_then number syntax term note before now after grown is = record { grown = grown_then number before now after grown is.grown; right = is.right }
 
 right_last : {T N : Type 0} (number : N → Val) (syntax : Syntax) (built : List Tree) (terms : List (Term T N)) (items : List Kept) (term : Term T N) (item : Kept) →
-    AreRight syntax built (exprs_of number terms) (notes_of items) → IsRight syntax built (expr_of number term) (note_of item) → AreRight syntax built (exprs_of number (terms ++ term ∷ [])) (notes_of (items ++ item ∷ []))
-unfolding AreRight
+    NotesAreRight syntax built (exprs_of number terms) (notes_of items) → NoteIsRight syntax built (expr_of number term) (note_of item) → NotesAreRight syntax built (exprs_of number (terms ++ term ∷ [])) (notes_of (items ++ item ∷ []))
+unfolding NotesAreRight
 right_last number syntax built [] [] term item all last = (last, tt)
 right_last number syntax built [] (n ∷ items) term item all last = absurd all
 right_last number syntax built (t ∷ terms) [] term item all last = absurd all
 right_last number syntax built (t ∷ terms) (n ∷ items) term item all last = (all.0, right_last number syntax built terms items term item all.1 last)
 
 pub noted_none : {T N : Type 0} (number : N → Val) (syntax : Syntax) (steps : List (Step T N)) → AreInOrder steps → AreNoted number syntax expr.none notes.none steps steps
-unfolding AreRight
+unfolding NotesAreRight
 noted_none number syntax steps ordered = record { grown = grown_none number steps ordered; right = tt }
 
 pub noted_last : {T N : Type 0} (number : N → Val) (syntax : Syntax) (terms more : List (Term T N)) (items : List Kept) (term : Term T N) (item : Kept) (before now after : List (Step T N)) →
@@ -177,23 +177,23 @@ pub noted_last : {T N : Type 0} (number : N → Val) (syntax : Syntax) (terms mo
     AreNoted number syntax (exprs_of number more) (notes_of (items ++ item ∷ [])) before after
 noted_last number syntax terms more items term item before now after all last is = record {
   grown = grown_then number before now after all.grown last.grown;
-  right = subst (λ l. AreRight syntax (trees_from number after) (exprs_of number l) (notes_of (items ++ item ∷ []))) (sym is)
-      (right_last number syntax (trees_from number after) terms items term item
-      (subst (λ trees. AreRight syntax trees (exprs_of number terms) (notes_of items)) (sym last.grown.is) (rights_more syntax (trees_from number now) last.grown.later (exprs_of number terms) (notes_of items) all.right))
+  right = subst (λ l. NotesAreRight syntax (step_trees number after) (exprs_of number l) (notes_of (items ++ item ∷ []))) (sym is)
+      (right_last number syntax (step_trees number after) terms items term item
+      (subst (λ trees. NotesAreRight syntax trees (exprs_of number terms) (notes_of items)) (sym last.grown.is) (rights_more syntax (step_trees number now) last.grown.later (exprs_of number terms) (notes_of items) all.right))
       last.right);
 }
 
 -- what a note says of a nonterminal
 pub noted_derives : {T N : Type 0} (number : N → Val) (syntax : Syntax) (term : Expr) (note : Note) (before after : List (Step T N)) (row : List (Option ℕ)) (nonterminal step : ℕ) →
-    IsNoted number syntax term note before after → row ≡ notes.row note → slice_get row nonterminal ≡ Some (Some step) → (step < length after) × Derives syntax nonterminal (tree_at (trees_from number after) step) term
-unfolding IsRight
+    IsNoted number syntax term note before after → row ≡ notes.note_row note → slice_get row nonterminal ≡ Some (Some step) → (step < length after) × Derives syntax nonterminal (tree_at (step_trees number after) step) term
+unfolding NoteIsRight
 noted_derives number syntax term (Noted steps below) before after row nonterminal step is same at =
     let derived = is.right.0.derives nonterminal step (ap (λ r. slice_get r nonterminal) (sym same) ∙ at) in
     (omega (arith, derived.0, trees_length number after), derived.1)
 
 pub noted_whole : {T N : Type 0} (number : N → Val) (syntax : Syntax) (term : Expr) (note : Note) (before after : List (Step T N)) (row : List (Option ℕ)) (nonterminal : ℕ) →
-    IsNoted number syntax term note before after → row ≡ notes.row note → ((step : ℕ) → slice_get row nonterminal ≡ Some (Some step) → ⊥) → (tree : Tree) → Derives syntax nonterminal tree term → ⊥
-unfolding IsRight
+    IsNoted number syntax term note before after → row ≡ notes.note_row note → ((step : ℕ) → slice_get row nonterminal ≡ Some (Some step) → ⊥) → (tree : Tree) → Derives syntax nonterminal tree term → ⊥
+unfolding NoteIsRight
 noted_whole number syntax term (Noted steps below) before after row nonterminal is same none tree derives =
     let there = is.right.1.found nonterminal tree derives in
     none there.0 (ap (λ r. slice_get r nonterminal) same ∙ there.1)

@@ -10,14 +10,14 @@ use Rattle.sy_grammar_base.specs.Trees.{Syntax, Tree, Trees, Production, Templat
 use Rattle.sy_grammar_derive.specs.Notes as notes
 use Rattle.sy_grammar_derive.specs.Notes.{Notes, Note, Noted}
 use Rattle.sy_grammar_derive.specs.Filled.{Filled, AllFilled}
-use Rattle.sy_grammar_derive.specs.Rows.{IsFound, IsWhole, IsRight, AreRight, IsClosed, MakesNone, arguments_of}
+use Rattle.sy_grammar_derive.specs.Rows.{HasStep, RowIsWhole, NoteIsRight, NotesAreRight, RowIsClosed, MakesNone, arguments_of}
 use Rattle.sy_grammar_derive.proofs.Pieces.{take_front, drop_front, joined_Some, yields_length, yields_split, node_yield_Some}
 
 -- the row has a step for the nonterminal that a chain rule goes to
 abbrev IsReached : Pattern → List (Option ℕ) → Type 0
 IsReached (Constant value) row = Unit {0}
 IsReached (Variable position) row = Unit {0}
-IsReached (Occurrence nonterminal) row = IsFound row nonterminal
+IsReached (Occurrence nonterminal) row = HasStep row nonterminal
 IsReached (Apply operator parts) row = Unit {0}
 IsReached (Invoke definition parts) row = Unit {0}
 
@@ -37,7 +37,7 @@ chain_child syntax nonterminal (more child rest) terms term e f =
     record { child = child; rest = rest; is = refl; derives = parts.head_is ∙ ap Some (sym (ap first_of parts.is) ∙ f) }
 
 reached : (syntax : Syntax) (pattern : Pattern) (children : Trees) (terms : List Expr) (term : Expr) (row : List (Option ℕ)) →
-    yields_from syntax (occurring pattern) children ≡ Some terms → filled pattern terms ≡ term → IsWhole syntax term row → IsReached pattern row
+    yields_from syntax (occurring pattern) children ≡ Some terms → filled pattern terms ≡ term → RowIsWhole syntax term row → IsReached pattern row
 unfolding filled
 reached syntax (Constant value) children terms term row e f whole = tt
 reached syntax (Variable position) children terms term row e f whole = tt
@@ -47,23 +47,23 @@ reached syntax (Occurrence nonterminal) children terms term row e f whole =
     let chain = chain_child syntax nonterminal children terms term e f in whole.found nonterminal chain.child chain.derives
 
 mutual
-  unfolding Filled AllFilled filled all_filled IsRight AreRight
+  unfolding Filled AllFilled filled all_filled NoteIsRight NotesAreRight
 
   fill : (syntax : Syntax) (built : List Tree) (pattern : Pattern) (children : Trees) (terms : List Expr) (term : Expr) (row : List (Option ℕ)) (below : Notes) →
-      yields_from syntax (occurring pattern) children ≡ Some terms → filled pattern terms ≡ term → IsReached pattern row → AreRight syntax built (arguments_of term) below →
+      yields_from syntax (occurring pattern) children ≡ Some terms → filled pattern terms ≡ term → IsReached pattern row → NotesAreRight syntax built (arguments_of term) below →
       (steps : List ℕ) × Filled pattern term row below steps
   fill syntax built (Constant value) children terms term row below e f found right = ([], (sym f, refl))
   fill syntax built (Variable position) children terms term row below e f found right = ([], (sym f, refl))
   fill syntax built (Occurrence nonterminal) children terms term row below e f found right = (found.0 ∷ [], (found.0, found.1, refl))
   fill syntax built (Apply operator parts) children terms term row below e f found right =
-      let rest = all_fill syntax built parts children terms (all_filled parts terms) below e refl (subst (λ t. AreRight syntax built (arguments_of t) below) (sym f) right) in
+      let rest = all_fill syntax built parts children terms (all_filled parts terms) below e refl (subst (λ t. NotesAreRight syntax built (arguments_of t) below) (sym f) right) in
       (rest.0, (all_filled parts terms, sym f, rest.1))
   fill syntax built (Invoke definition parts) children terms term row below e f found right =
-      let rest = all_fill syntax built parts children terms (all_filled parts terms) below e refl (subst (λ t. AreRight syntax built (arguments_of t) below) (sym f) right) in
+      let rest = all_fill syntax built parts children terms (all_filled parts terms) below e refl (subst (λ t. NotesAreRight syntax built (arguments_of t) below) (sym f) right) in
       (rest.0, (all_filled parts terms, sym f, rest.1))
 
   all_fill : (syntax : Syntax) (built : List Tree) (parts : Patterns) (children : Trees) (found : List Expr) (terms : Exprs) (below : Notes) →
-      yields_from syntax (all_occurring parts) children ≡ Some found → all_filled parts found ≡ terms → AreRight syntax built terms below →
+      yields_from syntax (all_occurring parts) children ≡ Some found → all_filled parts found ≡ terms → NotesAreRight syntax built terms below →
       (steps : List ℕ) × AllFilled parts terms below steps
   all_fill syntax built patterns.none children found expr.none below e f right = ([], refl)
   all_fill syntax built patterns.none children found (expr.more term terms) below e f right = absurd cc
@@ -114,8 +114,8 @@ variable_rule (Some (EachConstant sort)) arguments position term e = absurd cc
 variable_rule (Some (EachVariable sort)) arguments position term e = (sort, refl, e)
 
 -- where a rule makes something from what the row has, the row has a step
-module _ (syntax : Syntax) (built : List Tree) (term : Expr) (row : List (Option ℕ)) (below : Notes) (closed : IsClosed syntax term row below) (right : AreRight syntax built (arguments_of term) below) where
-  kept : (nonterminal rule : ℕ) (production : Production) → rule_at syntax nonterminal rule ≡ Some production → (MakesNone syntax.arguments term row below production → ⊥) → IsFound row nonterminal
+module _ (syntax : Syntax) (built : List Tree) (term : Expr) (row : List (Option ℕ)) (below : Notes) (closed : RowIsClosed syntax term row below) (right : NotesAreRight syntax built (arguments_of term) below) where
+  kept : (nonterminal rule : ℕ) (production : Production) → rule_at syntax nonterminal rule ≡ Some production → (MakesNone syntax.arguments term row below production → ⊥) → HasStep row nonterminal
   kept nonterminal rule production at makes = elim (look (slice_get row nonterminal)) [
     | inl out ↦ absurd (no_rule syntax nonterminal rule production (let h = past row nonterminal out in let sized = closed.sized in omega arith) at)
     | inr (inl empty) ↦ absurd (makes (closed.none nonterminal rule production empty at))
@@ -125,7 +125,7 @@ module _ (syntax : Syntax) (built : List Tree) (term : Expr) (row : List (Option
   mutual
     unfolding yield_from yields_from filled
 
-    pub found : (tree : Tree) (nonterminal : ℕ) → Derives syntax nonterminal tree term → IsFound row nonterminal
+    pub found : (tree : Tree) (nonterminal : ℕ) → Derives syntax nonterminal tree term → HasStep row nonterminal
     found (trees.Node rule children) nonterminal e =
         let node = node_yield_Some (rule_at syntax nonterminal rule) (λ occurrences. yields_from syntax occurrences children) term e in
         kept nonterminal rule (Template node.pattern) node.rule_is

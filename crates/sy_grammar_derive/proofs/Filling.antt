@@ -95,13 +95,13 @@ module _ {T N : Type 0} (number : N → Val) (parts : List (Part T N)) (terms : 
   rest_at_first before = record { found = []; is = sym (append_nil before); joins = λ rest left. left; splits = λ all whole. (all, whole) }
 
   step : (Whole : List ℕ → Type 0) (i : ℕ) (part : Part T N) (term : Term T N) (note : Note) (row : List (Option ℕ)) (inner : List Note) (before now after : List ℕ) →
-      slice_get parts i ≡ Some part → slice_get terms i ≡ Some term → slice_get below i ≡ Some note → row ≡ notes.row (note_of note) → notes_of inner ≡ notes.below (note_of note) →
+      slice_get parts i ≡ Some part → slice_get terms i ≡ Some term → slice_get below i ≡ Some note → row ≡ notes.note_row (note_of note) → notes_of inner ≡ notes.below (note_of note) →
       Rest Whole (Left i) before now → Appends (Filled (pattern_of number part) (expr_of number term) row (notes_of inner)) now after true → Rest Whole (Left (suc i)) before after
   unfolding AllFilled
   step Whole i part term note row inner before now after at_part at_term at_note is_row is_below rest fills =
       let left : Left i ≡ AllFilled (patterns.more (pattern_of number part) (patterns_of number (drop (suc i) parts))) (expr.more (expr_of number term) (exprs_of number (drop (suc i) terms))) (notes.more (note_of note) (notes_of (drop (suc i) below))) =
       λ k. AllFilled (patterns_of number (drop_at parts i part at_part k)) (exprs_of number (drop_at terms i term at_term k)) (notes_of (drop_at below i note at_note k)) in
-      let fills' : Filled (pattern_of number part) (expr_of number term) (notes.row (note_of note)) (notes.below (note_of note)) fills.0 = rw (← is_row, ← is_below) fills.2 in
+      let fills' : Filled (pattern_of number part) (expr_of number term) (notes.note_row (note_of note)) (notes.below (note_of note)) fills.0 = rw (← is_row, ← is_below) fills.2 in
       record {
         found = rest.found ++ fills.0;
         is = fills.1 ∙ ap (λ s. s ++ fills.0) rest.is ∙ append_assoc before rest.found fills.0;
@@ -110,14 +110,14 @@ module _ {T N : Type 0} (number : N → Val) (parts : List (Part T N)) (terms : 
       }
 
   pub rest_at_next : (Whole : List ℕ → Type 0) (i : ℕ) (part : Part T N) (term : Term T N) (note : Note) (row : List (Option ℕ)) (inner : List Note) (before now after : List ℕ) (done : Bool) →
-      slice_get parts i ≡ Some part → slice_get terms i ≡ Some term → slice_get below i ≡ Some note → row ≡ notes.row (note_of note) → notes_of inner ≡ notes.below (note_of note) →
+      slice_get parts i ≡ Some part → slice_get terms i ≡ Some term → slice_get below i ≡ Some note → row ≡ notes.note_row (note_of note) → notes_of inner ≡ notes.below (note_of note) →
       Rest Whole (Left i) before now → Appends (Filled (pattern_of number part) (expr_of number term) row (notes_of inner)) now after done → done ≡ true → Rest Whole (Left (i + 1)) before after
   rest_at_next Whole i part term note row inner before now after done at_part at_term at_note is_row is_below rest fills is_done =
       rw (add-one) (step Whole i part term note row inner before now after at_part at_term at_note is_row is_below rest (subst (λ d. Appends (Filled (pattern_of number part) (expr_of number term) row (notes_of inner)) now after d) is_done fills))
 
   -- a part that nothing fills
   pub none_at : (Whole : List ℕ → Type 0) (i : ℕ) (part : Part T N) (term : Term T N) (note : Note) (row : List (Option ℕ)) (inner : List Note) (before now after : List ℕ) (done : Bool) →
-      slice_get parts i ≡ Some part → slice_get terms i ≡ Some term → slice_get below i ≡ Some note → row ≡ notes.row (note_of note) → notes_of inner ≡ notes.below (note_of note) →
+      slice_get parts i ≡ Some part → slice_get terms i ≡ Some term → slice_get below i ≡ Some note → row ≡ notes.note_row (note_of note) → notes_of inner ≡ notes.below (note_of note) →
       Rest Whole (Left i) before now → Appends (Filled (pattern_of number part) (expr_of number term) row (notes_of inner)) now after done → done ≡ false → (all : List ℕ) → Whole all → ⊥
   unfolding AllFilled
   none_at Whole i part term note row inner before now after done at_part at_term at_note is_row is_below rest fills is_done all whole =

@@ -13,7 +13,7 @@ use Rattle.sy_grammar_base.specs.declared.grammar.Rule.{Rule}
 use Rattle.sy_grammar_base.specs.declared.grammar.Non.{Non}
 use Rattle.sy_grammar_base.specs.declared.grammar.Grammar.{Grammar}
 use Rattle.sy_grammar_derive.specs.Notes.{Notes}
-use Rattle.sy_grammar_derive.specs.Rows.{MakesNone, IsMade, IsMadeBy, IsMadeByNone, IsClosed}
+use Rattle.sy_grammar_derive.specs.Rows.{MakesNone, IsMade, IsMadeBy, IsMadeByNone, RowIsClosed}
 use Rattle.sy_grammar_derive.specs.declared.step.Step.{Step}
 
 mapped_at : {A B : Type 0} (f : A → B) (xs : List A) (i : ℕ) (x : A) → slice_get xs i ≡ Some x → slice_get (map f xs) i ≡ Some (f x)
@@ -77,7 +77,7 @@ module _ {T N : Type 0} (number : N → Val) where
 
   pub closed : (grammar : Grammar T N) (term : Expr) (row : List (Option ℕ)) (below : Notes) (place : ℕ) →
       ((n rule : ℕ) (production : Production) → n < place → slice_get row n ≡ Some None → rule_at (syntax_from number grammar) n rule ≡ Some production → MakesNone grammar.args term row below production) →
-      length grammar.nons ≤ place → length row ≡ length grammar.nons → IsClosed (syntax_from number grammar) term row below
+      length grammar.nons ≤ place → length row ≡ length grammar.nons → RowIsClosed (syntax_from number grammar) term row below
   closed grammar term row below place before all sized = record {
     sized = sized ∙ nonterminals_length grammar;
     none = λ n rule production empty found. let h = slice_get_within row n None empty in before n rule production (omega (arith, h, sized, all)) empty found;

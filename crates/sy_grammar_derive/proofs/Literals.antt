@@ -17,7 +17,7 @@ use Rattle.sy_terms.specs.declared.sort.Sort.{Sort}
 use Rattle.sy_terms.specs.declared.sort.Sort.TheVariants as sorts
 use Rattle.sy_terms.specs.declared.term.Term.{Term}
 use Rattle.sy_grammar_base.specs.Trees.{literal, is_written, is_sort}
-use Rattle.sy_grammar_derive.specs.Rows.{IsConstant, IsVariable, IsOpposite}
+use Rattle.sy_grammar_derive.specs.Rows.{IsConstant, IsArgumentOf, IsOpposite}
 
 if_Some : {X : Type 0} (b : Bool) (x y : X) → (if b then Some x else None) ≡ Some y → (b ≡ true) × (x ≡ y)
 if_Some true x y e = (refl, cc)
@@ -129,15 +129,15 @@ pub record Named (sort : Sort) (arguments : List Sort) (term : Expr) (position :
   pub sorted : is_sort sort (slice_get arguments position) ≡ true
   pub is : expr.Variable position ≡ term
 
-pub named : (sort : Sort) (arguments : List Sort) (term : Expr) (position : ℕ) → IsVariable sort arguments term position → Named sort arguments term position
+pub named : (sort : Sort) (arguments : List Sort) (term : Expr) (position : ℕ) → IsArgumentOf sort arguments term position → Named sort arguments term position
 named sort arguments term position e =
     let parts = if_Some (is_sort sort (slice_get arguments position)) (expr.Variable position) term e in record { sorted = parts.0; is = parts.1 }
 
-pub variable_made : (sort found : Sort) (arguments : List Sort) (term : Expr) (position : ℕ) → slice_get arguments position ≡ Some found → same_sort sort found ≡ true → term ≡ expr.Variable position → IsVariable sort arguments term position
+pub variable_made : (sort found : Sort) (arguments : List Sort) (term : Expr) (position : ℕ) → slice_get arguments position ≡ Some found → same_sort sort found ≡ true → term ≡ expr.Variable position → IsArgumentOf sort arguments term position
 variable_made sort found arguments term position at same is =
     ap (λ o. if (is_sort sort o) then Some (expr.Variable position) else None) at ∙ ap (λ b. if b then Some (expr.Variable position) else None) same ∙ ap Some (sym is)
 
-pub no_variable_sorted : (sort found : Sort) (arguments : List Sort) (term : Expr) (position other : ℕ) → slice_get arguments position ≡ Some found → same_sort sort found ≡ false → term ≡ expr.Variable position → IsVariable sort arguments term other → ⊥
+pub no_variable_sorted : (sort found : Sort) (arguments : List Sort) (term : Expr) (position other : ℕ) → slice_get arguments position ≡ Some found → same_sort sort found ≡ false → term ≡ expr.Variable position → IsArgumentOf sort arguments term other → ⊥
 no_variable_sorted sort found arguments term position other at same is e =
     let n = named sort arguments term other e in
     let place : other ≡ position = cc in
@@ -145,7 +145,7 @@ no_variable_sorted sort found arguments term position other at same is e =
     let differs : is_sort sort (slice_get arguments position) ≡ false = ap (is_sort sort) at ∙ same in
     cc
 
-pub no_variable_past : (sort : Sort) (arguments : List Sort) (term : Expr) (position other : ℕ) → length arguments ≤ position → term ≡ expr.Variable position → IsVariable sort arguments term other → ⊥
+pub no_variable_past : (sort : Sort) (arguments : List Sort) (term : Expr) (position other : ℕ) → length arguments ≤ position → term ≡ expr.Variable position → IsArgumentOf sort arguments term other → ⊥
 no_variable_past sort arguments term position other out is e =
     let n = named sort arguments term other e in
     let place : other ≡ position = cc in

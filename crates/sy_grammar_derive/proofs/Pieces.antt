@@ -3,7 +3,7 @@ use Rattle.std.proofs.Common.{◌≡◌, ℕ, zero, suc, List, [], ◌∷◌, �
 use Rattle.std.specs.Option.{option_map}
 use Rattle.sy_terms.specs.Expr.{Expr}
 use Rattle.sy_grammar_base.specs.Patterns.{Pattern, occurring, filled}
-use Rattle.sy_grammar_base.specs.Trees.{Syntax, Tree, Trees, none, more, Production, Template, EachConstant, EachVariable, joined, node_yield, yield_from, yields_from}
+use Rattle.sy_grammar_base.specs.Trees.{Syntax, Tree, Trees, none, more, Production, Template, EachConstant, EachVariable, terms_joined, node_yield, yield_from, yields_from}
 use Rattle.sy_grammar_derive.specs.Steps.{tree_at, picked}
 
 pub take_front : {A : Type 0} (front back : List A) (n : ℕ) → length front ≡ n → take n (front ++ back) ≡ front
@@ -26,12 +26,12 @@ pub record Joined (first : Option Expr) (rest : Option (List Expr)) (terms : Lis
   pub tail_is : rest ≡ Some tail
   pub is : terms ≡ head ∷ tail
 
-pub joined_Some : (first : Option Expr) (rest : Option (List Expr)) (terms : List Expr) → joined first rest ≡ Some terms → Joined first rest terms
+pub joined_Some : (first : Option Expr) (rest : Option (List Expr)) (terms : List Expr) → terms_joined first rest ≡ Some terms → Joined first rest terms
 joined_Some None rest terms e = absurd cc
 joined_Some (Some head) None terms e = absurd cc
 joined_Some (Some head) (Some tail) terms e = record { head = head; tail = tail; head_is = refl; tail_is = refl; is = cc }
 
-pub joined_with : (first : Option Expr) (rest : Option (List Expr)) (head : Expr) (tail : List Expr) → first ≡ Some head → rest ≡ Some tail → joined first rest ≡ Some (head ∷ tail)
+pub joined_with : (first : Option Expr) (rest : Option (List Expr)) (head : Expr) (tail : List Expr) → first ≡ Some head → rest ≡ Some tail → terms_joined first rest ≡ Some (head ∷ tail)
 joined_with None rest head tail e f = absurd cc
 joined_with (Some x) None head tail e f = absurd cc
 joined_with (Some x) (Some xs) head tail e f = cc

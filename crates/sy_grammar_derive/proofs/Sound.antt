@@ -9,7 +9,7 @@ use Rattle.sy_grammar_derive.specs.Notes as notes
 use Rattle.sy_grammar_derive.specs.Notes.{Notes, Note, Noted}
 use Rattle.sy_grammar_derive.specs.Filled.{Filled, AllFilled}
 use Rattle.sy_grammar_derive.specs.Steps.{tree_at, picked, AreBelow}
-use Rattle.sy_grammar_derive.specs.Rows.{IsSound, IsRight, AreRight, arguments_of}
+use Rattle.sy_grammar_derive.specs.Rows.{RowIsSound, NoteIsRight, NotesAreRight, arguments_of}
 use Rattle.sy_grammar_derive.proofs.Pieces.{take_front, drop_front, joined_with, yields_length, yields_join}
 
 -- the steps' trees derive terms from the nonterminals, and the term is rebuilt of these
@@ -24,10 +24,10 @@ below_append n [] back f b = b
 below_append n (x ∷ front) back f b = (f.0, below_append n front back f.1 b)
 
 mutual
-  unfolding Filled AllFilled filled all_filled yields_from yield_from IsRight AreRight
+  unfolding Filled AllFilled filled all_filled yields_from yield_from NoteIsRight NotesAreRight
 
   pub fills_yield : (syntax : Syntax) (trees : List Tree) (pattern : Pattern) (term : Expr) (row : List (Option ℕ)) (below : Notes) (steps : List ℕ) →
-      Filled pattern term row below steps → IsSound syntax trees term row → AreRight syntax trees (arguments_of term) below →
+      Filled pattern term row below steps → RowIsSound syntax trees term row → NotesAreRight syntax trees (arguments_of term) below →
       Yields syntax trees (occurring pattern) steps (λ terms. filled pattern terms ≡ term)
   fills_yield syntax trees (Constant value) term row below steps fills sound right =
       rw (fills.1, fills.0) (record { terms = []; yields = refl; rebuilds = refl; earlier = tt })
@@ -37,16 +37,16 @@ mutual
       let derived = sound.derives nonterminal fills.0 fills.1 in
       rw (fills.2) (record { terms = term ∷ []; yields = joined_with (yield_from syntax nonterminal (tree_at trees fills.0)) (Some []) term [] derived.1 refl; rebuilds = refl; earlier = (derived.0, tt) })
   fills_yield syntax trees (Apply operator parts) term row below steps fills sound right =
-      let right_below : AreRight syntax trees fills.0 below = subst (λ e. AreRight syntax trees (arguments_of e) below) fills.1 right in
+      let right_below : NotesAreRight syntax trees fills.0 below = subst (λ e. NotesAreRight syntax trees (arguments_of e) below) fills.1 right in
       let found = all_fill_yield syntax trees parts fills.0 below steps fills.2 right_below in
       record { terms = found.terms; yields = found.yields; rebuilds = ap (expr.Apply operator) found.rebuilds ∙ sym fills.1; earlier = found.earlier }
   fills_yield syntax trees (Invoke definition parts) term row below steps fills sound right =
-      let right_below : AreRight syntax trees fills.0 below = subst (λ e. AreRight syntax trees (arguments_of e) below) fills.1 right in
+      let right_below : NotesAreRight syntax trees fills.0 below = subst (λ e. NotesAreRight syntax trees (arguments_of e) below) fills.1 right in
       let found = all_fill_yield syntax trees parts fills.0 below steps fills.2 right_below in
       record { terms = found.terms; yields = found.yields; rebuilds = ap (expr.Invoke _) found.rebuilds ∙ sym fills.1; earlier = found.earlier }
 
   pub all_fill_yield : (syntax : Syntax) (trees : List Tree) (parts : Patterns) (terms : Exprs) (below : Notes) (steps : List ℕ) →
-      AllFilled parts terms below steps → AreRight syntax trees terms below →
+      AllFilled parts terms below steps → NotesAreRight syntax trees terms below →
       Yields syntax trees (all_occurring parts) steps (λ found. all_filled parts found ≡ terms)
   all_fill_yield syntax trees patterns.none expr.none below steps fills right = rw fills (record { terms = []; yields = refl; rebuilds = refl; earlier = tt })
   all_fill_yield syntax trees patterns.none (expr.more term terms) below steps fills right = absurd fills

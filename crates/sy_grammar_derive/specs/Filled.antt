@@ -28,7 +28,7 @@ unfoldable mutual
   AllFilled (patterns.more part parts) expr.none below steps = ⊥
   AllFilled (patterns.more part parts) (expr.more term terms) notes.none steps = ⊥
   AllFilled (patterns.more part parts) (expr.more term terms) (notes.more note below) steps =
-      (front : List ℕ) × (back : List ℕ) × (steps ≡ front ++ back) × Filled part term (notes.row note) (notes.below note) front × AllFilled parts terms below back
+      (front : List ℕ) × (back : List ℕ) × (steps ≡ front ++ back) × Filled part term (notes.note_row note) (notes.below note) front × AllFilled parts terms below back
 
 -- the list grew by steps that fill; or no steps fill
 abbrev pub Appends : (List ℕ → Type 0) → List ℕ → List ℕ → Bool → Type 0

@@ -9,8 +9,8 @@ mutual
     none : Notes
     more : (first : Note) → (rest : Notes) → Notes
 
-abbrev pub row : Note → List (Option ℕ)
-row (Noted steps inner) = steps
+abbrev pub note_row : Note → List (Option ℕ)
+note_row (Noted steps inner) = steps
 
 abbrev pub below : Note → Notes
 below (Noted steps inner) = inner

@@ -28,8 +28,8 @@ unfoldable pub trees_after : {T N : Type 0} → (N → Val) → List Tree → Li
 trees_after number earlier [] = earlier
 trees_after number earlier (step ∷ steps) = trees_after number (earlier ++ tree_by number earlier step ∷ []) steps
 
-abbrev pub trees_from : {T N : Type 0} → (N → Val) → List (Step T N) → List Tree
-trees_from number steps = trees_after number [] steps
+abbrev pub step_trees : {T N : Type 0} → (N → Val) → List (Step T N) → List Tree
+step_trees number steps = trees_after number [] steps
 
 -- each number is below n
 abbrev pub AreBelow : ℕ → List ℕ → Type 0

@@ -1,7 +1,7 @@
 // The derivation that a step stands for.
 ghost use Rattle.std.specs.Prelude.{◌≡◌, ◌<◌, length, IfOk};
 ghost use Rattle.sy_grammar_base.specs.Grown.{tree_of};
-ghost use Rattle.sy_grammar_derive.specs.Steps.{tree_at, trees_from, AreInOrder};
+ghost use Rattle.sy_grammar_derive.specs.Steps.{tree_at, step_trees, AreInOrder};
 
 use crate::step::Step;
 use std::alloc::{AllocError, Global};
@@ -16,7 +16,7 @@ pub fn build<T: Theory>(
 ) -> Result<Derivation<T>, AllocError>
     requires within { number < length steps.now }
     requires ordered { AreInOrder steps.now }
-    ensures { IfOk result (λ derivation. tree_of T.denotes derivation ≡ tree_at (trees_from T.denotes steps.now) number) }
+    ensures { IfOk result (λ derivation. tree_of T.denotes derivation ≡ tree_at (step_trees T.denotes steps.now) number) }
 {
     match &steps[number] {
         Step::Node(rule, fillers) => {

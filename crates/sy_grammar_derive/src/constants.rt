@@ -5,7 +5,7 @@ ghost use Rattle.sy_terms.specs.Denoted.{val_of, expr_of, exprs_of};
 ghost use Rattle.sy_terms.specs.Expr as expr;
 ghost use Rattle.sy_terms.specs.declared.op.Op.TheVariants as ops;
 ghost use Rattle.sy_terms.specs.declared.sort.Sort.TheVariants as sorts;
-ghost use Rattle.sy_grammar_derive.specs.Rows.{IsConstant, IsVariable, IsOpposite};
+ghost use Rattle.sy_grammar_derive.specs.Rows.{IsConstant, IsArgumentOf, IsOpposite};
 
 use sy_terms::{Op, Sort, Term, Terms, Theory, Value, same_sort};
 
@@ -106,7 +106,7 @@ fn whole_of<T: Theory>(term: &Term<T>) -> Option<i128>
 
 /// The argument of the sort that the term is; `None` exactly where it is none.
 pub fn variable_of<T: Theory>(term: &Term<T>, arguments: &[Sort], sort: Sort) -> Option<u32>
-    ensures { MatchOption result ((position : ℕ) → IsVariable sort arguments.now (expr_of T.denotes term.now) position → ⊥) (λ position. IsVariable sort arguments.now (expr_of T.denotes term.now) position) }
+    ensures { MatchOption result ((position : ℕ) → IsArgumentOf sort arguments.now (expr_of T.denotes term.now) position → ⊥) (λ position. IsArgumentOf sort arguments.now (expr_of T.denotes term.now) position) }
 {
     match term {
         Term::Var(position) => match arguments.get(*position as usize) {

@@ -20,7 +20,7 @@ impl Note {
 
     /// Per nonterminal the number of a step that derives the term.
     pub fn row(&self) -> &[Option<usize>]
-        ensures { result.now ≡ notes.row (note_of self.now) }
+        ensures { result.now ≡ notes.note_row (note_of self.now) }
     {
         self.row.as_slice()
     }

@@ -4,8 +4,8 @@ ghost use Rattle.sy_terms.specs.Denoted.{expr_of, exprs_of};
 ghost use Rattle.sy_grammar_base.specs.Trees.{IsNumbered};
 ghost use Rattle.sy_grammar_base.specs.Grown.{syntax_from};
 ghost use Rattle.sy_grammar_derive.specs.Noted.{note_of, notes_of};
-ghost use Rattle.sy_grammar_derive.specs.Steps.{AreInOrder, trees_from};
-ghost use Rattle.sy_grammar_derive.specs.Rows.{IsBlank, IsClosed, IsMade, IsRow, IsNoted, AreNoted, AreRight, arguments_of};
+ghost use Rattle.sy_grammar_derive.specs.Steps.{AreInOrder, step_trees};
+ghost use Rattle.sy_grammar_derive.specs.Rows.{IsBlank, RowIsClosed, IsMade, IsRowOfSteps, IsNoted, AreNoted, NotesAreRight, arguments_of};
 
 use crate::note::Note;
 use crate::rules::first_step;
@@ -25,7 +25,7 @@ fn next_step<T: Theory>(
     requires numbered { IsNumbered (syntax_from T.denotes grammar.now) }
     requires sized { length row.now ≡ length grammar.now.nons }
     ensures { IfOk result (λ found. MatchOption found
-        (IsClosed (syntax_from T.denotes grammar.now) (expr_of T.denotes term.now) row.now (notes_of below.now))
+        (RowIsClosed (syntax_from T.denotes grammar.now) (expr_of T.denotes term.now) row.now (notes_of below.now))
         (λ pair. (slice_get row.now pair.0 ≡ Some None) × IsMade T.denotes (syntax_from T.denotes grammar.now) pair.0 (expr_of T.denotes term.now) row.now (notes_of below.now) pair.1)) }
 {
     let arguments = grammar.args().as_slice();
@@ -74,8 +74,8 @@ fn row_of<T: Theory>(
 ) -> Result<Vec<Option<usize>>, AllocError>
     requires numbered { IsNumbered (syntax_from T.denotes grammar.now) }
     requires ordered { AreInOrder steps.old.items }
-    requires right { AreRight (syntax_from T.denotes grammar.now) (trees_from T.denotes steps.old.items) (arguments_of (expr_of T.denotes term.now)) (notes_of below.now) }
-    ensures { IfOk result (λ row. IsRow T.denotes (syntax_from T.denotes grammar.now) (expr_of T.denotes term.now) row.items (notes_of below.now) steps.old.items steps.new.items) }
+    requires right { NotesAreRight (syntax_from T.denotes grammar.now) (step_trees T.denotes steps.old.items) (arguments_of (expr_of T.denotes term.now)) (notes_of below.now) }
+    ensures { IfOk result (λ row. IsRowOfSteps T.denotes (syntax_from T.denotes grammar.now) (expr_of T.denotes term.now) row.items (notes_of below.now) steps.old.items steps.new.items) }
 {
     let mut row = blank_row(alloc, grammar.nons().len())?;
     while let Some((nonterminal, step)) = next_step(alloc, grammar, term, row.as_slice(), below)? {
@@ -95,7 +95,7 @@ fn note_above<T: Theory>(
 ) -> Result<Note, AllocError>
     requires numbered { IsNumbered (syntax_from T.denotes grammar.now) }
     requires ordered { AreInOrder steps.old.items }
-    requires right { AreRight (syntax_from T.denotes grammar.now) (trees_from T.denotes steps.old.items) (arguments_of (expr_of T.denotes term.now)) (notes_of below.items) }
+    requires right { NotesAreRight (syntax_from T.denotes grammar.now) (step_trees T.denotes steps.old.items) (arguments_of (expr_of T.denotes term.now)) (notes_of below.items) }
     ensures { IfOk result (λ note. IsNoted T.denotes (syntax_from T.denotes grammar.now) (expr_of T.denotes term.now) (note_of note) steps.old.items steps.new.items) }
 {
     let row = row_of(alloc, grammar, term, below.as_slice(), steps)?;

@@ -15,8 +15,8 @@ use Rattle.sy_terms.specs.declared.sort.Sort.TheVariants as sorts
 use Rattle.sy_terms_laws.proofs.Equations.{if_Some, both_true, same_sort_is}
 use Rattle.sy_grammar_base.specs.Patterns.{Pattern, occurring, filled}
 use Rattle.sy_grammar_base.specs.Trees as trees
-use Rattle.sy_grammar_base.specs.Trees.{Production, Template, EachConstant, EachVariable, Nonterminal, Syntax, Tree, Trees, Node, ConstantLeaf, VariableLeaf, IsMember, rule_at, rule_of, is_written, literal, is_sort, node_yield, constant_yield, variable_yield, joined, yield_from, yields_from}
-use Rattle.sy_grammar_base.specs.Formed.{is_known, is_formed, fits, rule_sort}
+use Rattle.sy_grammar_base.specs.Trees.{Production, Template, EachConstant, EachVariable, Nonterminal, Syntax, Tree, Trees, Node, ConstantLeaf, VariableLeaf, IsMember, rule_at, rule_of, is_written, literal, is_sort, node_yield, constant_yield, variable_yield, terms_joined, yield_from, yields_from}
+use Rattle.sy_grammar_base.specs.Formed.{is_known, is_formed, nonterminal_fits, rule_sort}
 use Rattle.sy_grammar_laws.proofs.Filling.{sort_at, AllFit, filled_fits}
 use Rattle.sy_grammar_laws.proofs.Numbering.{all_at}
 
@@ -35,9 +35,9 @@ pub record Fits (numeric : Sort → Bool) (scope : Scope) (syntax : Syntax) (non
 
 pub formed_fits : (numeric : Sort → Bool) (scope : Scope) (syntax : Syntax) → is_formed numeric scope syntax ≡ true → (n : ℕ) (nonterminal : Nonterminal) → slice_get syntax.nonterminals n ≡ Some nonterminal → Fits numeric scope syntax nonterminal
 formed_fits numeric scope syntax formed n nonterminal at =
-    let all = both_true (nat_le 1 (length syntax.nonterminals) && nat_lt (length syntax.nonterminals) (2 ^ 31)) (list_all (is_known numeric) syntax.arguments && list_all (fits numeric scope syntax) syntax.nonterminals) formed in
-    let fit = both_true (list_all (is_known numeric) syntax.arguments) (list_all (fits numeric scope syntax) syntax.nonterminals) all.1 in
-    let it = all_at (fits numeric scope syntax) syntax.nonterminals n nonterminal fit.1 at in
+    let all = both_true (nat_le 1 (length syntax.nonterminals) && nat_lt (length syntax.nonterminals) (2 ^ 31)) (list_all (is_known numeric) syntax.arguments && list_all (nonterminal_fits numeric scope syntax) syntax.nonterminals) formed in
+    let fit = both_true (list_all (is_known numeric) syntax.arguments) (list_all (nonterminal_fits numeric scope syntax) syntax.nonterminals) all.1 in
+    let it = all_at (nonterminal_fits numeric scope syntax) syntax.nonterminals n nonterminal fit.1 at in
     let known = both_true (is_known numeric nonterminal.sort) (nat_lt (length nonterminal.rules) (2 ^ 31) && list_all (λ rule. is_sort nonterminal.sort (rule_sort scope syntax rule)) nonterminal.rules) it in
     let sorted = both_true (nat_lt (length nonterminal.rules) (2 ^ 31)) (list_all (λ rule. is_sort nonterminal.sort (rule_sort scope syntax rule)) nonterminal.rules) known.1 in
     record {
@@ -126,7 +126,7 @@ record Joined (first : Option Expr) (rest : Option (List Expr)) (whole : List Ex
   rest_is : rest ≡ Some tail
   whole_is : head ∷ tail ≡ whole
 
-joined_Some : (first : Option Expr) (rest : Option (List Expr)) (whole : List Expr) → joined first rest ≡ Some whole → Joined first rest whole
+joined_Some : (first : Option Expr) (rest : Option (List Expr)) (whole : List Expr) → terms_joined first rest ≡ Some whole → Joined first rest whole
 joined_Some None rest whole e = cc
 joined_Some (Some x) None whole e = cc
 joined_Some (Some x) (Some xs) whole e = record { head = x; tail = xs; first_is = refl; rest_is = refl; whole_is = cc }

@@ -9,7 +9,7 @@ use Rattle.sy_terms.specs.Theories.{sort_of_value, valid}
 use Rattle.sy_terms.specs.declared.sort.Sort.{Sort}
 use Rattle.sy_terms.specs.declared.sort.Sort.TheVariants as sorts
 use Rattle.sy_meaning_integers.specs.Lia.{owned, numeric}
-use Rattle.sy_query_base.specs.Asked.{Query, Fits}
+use Rattle.sy_query_base.specs.Asked.{Query, QueryFits}
 use Rattle.sy_query_decide.specs.declared.verdict.Verdict.{Verdict}
 use Rattle.sy_query_decide.specs.declared.verdict.Verdict.TheVariants as verdicts
 use Rattle.sy_query_decide.specs.Answers.{Answers}
@@ -17,12 +17,12 @@ use Rattle.sy_linear_known.specs.declared.tree.Tree.{Tree}
 use Rattle.sy_linear_known.specs.Right.{Assigns}
 use Rattle.sy_intsolve_trees.specs.declared.spent.IntSpent.{IntSpent}
 use Rattle.sy_intsolve_trees.specs.Budgets.{budget}
-use Rattle.sy_intsolve_search.specs.Ways.{IsAsked}
-use Rattle.sy_intsolve_search.specs.States.{IsAnswer}
+use Rattle.sy_intsolve_search.specs.Ways.{IsNumberedQuery}
+use Rattle.sy_intsolve_search.specs.States.{AnswersQuery}
 use Rattle.sy_intsolve.specs.Proofs.{linear_of, Accepted, ShowsFor}
 use Rattle.sy_intsolve.specs.Soundness.{are_linear}
 
-pub asked : (query : Query) → Fits owned numeric query → nodes query.body < 2 ^ 31 → length query.variables < 2 ^ 31 → IsAsked (linear_of query)
+pub asked : (query : Query) → QueryFits owned numeric query → nodes query.body < 2 ^ 31 → length query.variables < 2 ^ 31 → IsNumberedQuery (linear_of query)
 asked query fits n v = record {
   fits = record { vars = are_linear query.variables fits.variables; body = fits.body };
   nodes = n;
@@ -61,7 +61,7 @@ assign_valid (sorts.Bits w ∷ vars) (Whole z ∷ values) h = absurd h
 assign_valid (sorts.Bits w ∷ vars) (Truth b ∷ values) h = absurd h
 assign_valid (sorts.Bits w ∷ vars) (Bits x n ∷ values) h = absurd h
 
-pub answered : {T : Type 0} (query : Query) (limits : Limits) (verdict : Verdict T Tree IntSpent ℤ) → IsAnswer (linear_of query) limits verdict → Answers Whole Accepted budget ShowsFor query limits verdict
+pub answered : {T : Type 0} (query : Query) (limits : Limits) (verdict : Verdict T Tree IntSpent ℤ) → AnswersQuery (linear_of query) limits verdict → Answers Whole Accepted budget ShowsFor query limits verdict
 answered query limits (verdicts.Never tree) h = h
 answered query limits (verdicts.Model values) h = record {
   sorted = record { sorted = assign_sorted query.variables _ h.0; valid = assign_valid query.variables _ h.0 };

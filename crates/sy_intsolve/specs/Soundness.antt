@@ -9,10 +9,10 @@ use Rattle.sy_terms.specs.declared.sort.Sort.{Sort}
 use Rattle.sy_terms.specs.declared.sort.Sort.TheVariants as sorts
 use Rattle.sy_meaning_integers.specs.Lia.{owned, numeric}
 use Rattle.sy_grammar_base.specs.Formed.{is_known}
-use Rattle.sy_query_base.specs.Asked.{Query, Fits, IsNever}
+use Rattle.sy_query_base.specs.Asked.{Query, QueryFits, IsNever}
 use Rattle.sy_linear_known.specs.declared.tree.Tree.{Tree}
 use Rattle.sy_linear_known.specs.Right.{Assigns, is_linear_sort}
-use Rattle.sy_linear_known.specs.Stored.{shape_of}
+use Rattle.sy_linear_known.specs.Stored.{tree_shape_of}
 use Rattle.sy_linear_known.proofs.Refutation.{never_satisfied}
 use Rattle.sy_intsolve.specs.Proofs.{linear_of, Accepted}
 
@@ -42,6 +42,6 @@ values_assign (sorts.Bits w ∷ vars) (value ∷ values) h e = absurd cc
 disagree : true ≡ false → ⊥
 disagree e = cc
 
-pub sound : (query : Query) (proof : Tree) → Fits owned numeric query → Accepted query proof → IsNever query
+pub sound : (query : Query) (proof : Tree) → QueryFits owned numeric query → Accepted query proof → IsNever query
 sound query proof fits accepted values are is =
-    disagree (sym (ap truth is) ∙ never_satisfied (linear_of query) (shape_of proof) accepted values (values_assign query.variables values (are_linear query.variables fits.variables) are.sorted))
+    disagree (sym (ap truth is) ∙ never_satisfied (linear_of query) (tree_shape_of proof) accepted values (values_assign query.variables values (are_linear query.variables fits.variables) are.sorted))

@@ -3,7 +3,7 @@ ghost use Rattle.std.specs.Prelude.{◌≡◌, ◌↔◌, IfOk, IsTrue};
 ghost use Rattle.sy_terms.specs.Values.{Whole};
 ghost use Rattle.sy_grammar_base.specs.Formed.{is_known};
 ghost use Rattle.sy_meaning_integers.specs.Lia.{owned, numeric};
-ghost use Rattle.sy_query_base.specs.Asked.{query_of, Fits};
+ghost use Rattle.sy_query_base.specs.Asked.{query_of, QueryFits};
 
 use std::alloc::Global;
 use sy_meaning::term_sort;
@@ -24,7 +24,7 @@ fn is_sort(sort: Sort) -> bool
 /// Whether the query fits: its variables are truth values and integers, and its body is a truth value's term over them,
 /// which calls nothing.
 pub fn fits(alloc: Global, query: &Query<IntTheory>) -> Result<bool, Want>
-    ensures { IfOk result (λ yes. IsTrue yes ↔ Fits owned numeric (query_of Whole query.now)) }
+    ensures { IfOk result (λ yes. IsTrue yes ↔ QueryFits owned numeric (query_of Whole query.now)) }
 {
     let vars = query.vars.as_slice();
     if !vars.iter().all(|&sort| is_sort(sort)) {

@@ -16,17 +16,17 @@ Suit vars (AtLeast f) = IsForm (length vars) f × OverIntegers vars f.coefs
 Suit vars (Is u b) = IsOf sorts.Bool vars u
 
 -- the fact is what the path's first fact on its variable says
-abbrev pub Agrees : List Fact → Fact → Type 0
-Agrees path (AtLeast f) = Unit {0}
-Agrees path (Is u b) = given u path ≡ Some b
+abbrev pub AgreesWithPath : List Fact → Fact → Type 0
+AgreesWithPath path (AtLeast f) = Unit {0}
+AgreesWithPath path (Is u b) = given u path ≡ Some b
 
 -- each fact suits the variables, and no two facts give a variable different truth values
 pub record IsPath (vars : List Sort) (path : List Fact) : Type 0 where
   pub each : All (Suit vars) path
-  pub told : All (Agrees path) path
+  pub told : All (AgreesWithPath path) path
 
 -- a test that can be split on: on variables of the query, with a negation that fits, and with either the path stays one
-pub record IsOpen (vars : List Sort) (path : List Fact) (test : Test) : Type 0 where
+pub record TestIsOpen (vars : List Sort) (path : List Fact) (test : Test) : Type 0 where
   pub suits : suits vars test ≡ true
   pub fits : opposite_fits test ≡ true
   pub left : IsPath vars (path ++ added_fact test ∷ [])

@@ -7,31 +7,31 @@ use Rattle.std.proofs.lemmas.Int.{ints}
 use Rattle.std.proofs.lemmas.List.Elements.{All-nil, All-cons}
 use borrow.Author.Differences.{at_most_in}
 use Rattle.sy_frac.specs.Fraction.{Fraction}
-use Rattle.sy_frac.specs.Rational.{value, is_negative, over_negative}
+use Rattle.sy_frac.specs.Rational.{value, is_negative_rational, over_negative}
 use Rattle.sy_terms.specs.declared.sort.Sort.{Sort}
 use Rattle.sy_terms.specs.declared.sort.Sort.TheVariants as sorts
 use Rattle.sy_linear_forms.specs.declared.form.Form.{Form}
 use Rattle.sy_linear_forms.specs.Forms.{Coefficient}
 use Rattle.sy_linear_known.specs.declared.path.Fact.{Fact}
 use Rattle.sy_linear_known.specs.declared.path.Fact.TheVariants.{AtLeast}
-use Rattle.sy_linear_known.specs.Points.{value_at}
+use Rattle.sy_linear_known.specs.Points.{form_value_at}
 use Rattle.sy_linear_known.specs.Trees.{forms, OverIntegers, IsCut}
-use Rattle.sy_linear.specs.Combining.{are_multipliers, combination, divided, rounded}
-use Rattle.sy_linear.specs.Judging.{Outcome, Gives, Adds, Fails, added_form, divided_combination, rounded_outcome, cut_outcome, is_int, has_int}
+use Rattle.sy_linear.specs.Combining.{are_multipliers, checked_combination, divided, rounded}
+use Rattle.sy_linear.specs.Judging.{NodeOutcome, AnswersAt, Adds, Fails, added_form, divided_combination, rounded_outcome, cut_outcome, is_int, has_int}
 use Rattle.sy_linear.proofs.Lowest.{left_true, right_true}
 use Rattle.sy_linear.proofs.Accepting.{cut}
 use Rattle.sy_simplex.specs.Problems.{numbers}
 use Rattle.sy_intsolve_asked.specs.Asked.{Suit}
-use Rattle.sy_intsolve_cuts.specs.Cuts.{is_below_one, AreBelow, IsRoundingForm}
+use Rattle.sy_intsolve_cuts.specs.Cuts.{is_below_one, AreBelowDivisor, IsRoundingForm}
 
 -- the added form is that of a cut
 same_form : (f e : Form) → Adds (AtLeast f) ≡ Adds (AtLeast e) → f ≡ e
 same_form f e h = cc
 
 pub cut_adds : (ms : List Fraction) (path : List Fact) (e : Form) → cut_outcome path ms (pos 1) ≡ Adds (AtLeast e) → IsCut ms (pos 1) (forms path) e
-cut_adds ms path e = by (are_multipliers ms (forms path)) refl (combination ms (forms path)) refl
+cut_adds ms path e = by (are_multipliers ms (forms path)) refl (checked_combination ms (forms path)) refl
   where
-    by : (b : Bool) → are_multipliers ms (forms path) ≡ b → (o : _) → combination ms (forms path) ≡ o → cond (b && int_le (pos 1) (pos 1)) (rounded_outcome (divided_combination (pos 1) o)) Fails ≡ Adds (AtLeast e) → IsCut ms (pos 1) (forms path) e
+    by : (b : Bool) → are_multipliers ms (forms path) ≡ b → (o : _) → checked_combination ms (forms path) ≡ o → cond (b && int_le (pos 1) (pos 1)) (rounded_outcome (divided_combination (pos 1) o)) Fails ≡ Adds (AtLeast e) → IsCut ms (pos 1) (forms path) e
     by false a o k h = absurd cc
     by true a None k h = absurd cc
     by true a (Some c) k h = part (divided (pos 1) c) refl h
@@ -45,8 +45,8 @@ cut_adds ms path e = by (are_multipliers ms (forms path)) refl (combination ms (
             form (Some f) r h = cut ms (forms path) (pos 1) c g e a (at_most_in (pos 1) (pos 1) (omega arith)) k d (r ∙ ap Some (same_form f e h))
 
 -- an answer of `cut` with a form says that a cut adds it
-pub adds_form : (n : ℕ) (found : Option Fact) (fact : Fact) (e : Form) (outcome : Outcome Fact) → found ≡ Some fact → fact ≡ AtLeast e → Gives n (Ok found) outcome → outcome ≡ Adds (AtLeast e)
-adds_form n found fact e outcome is form h = subst (λ o. Gives n (Ok o) outcome) is h ∙ ap (λ f. Adds f) form
+pub adds_form : (n : ℕ) (found : Option Fact) (fact : Fact) (e : Form) (outcome : NodeOutcome Fact) → found ≡ Some fact → fact ≡ AtLeast e → AnswersAt n (Ok found) outcome → outcome ≡ Adds (AtLeast e)
+adds_form n found fact e outcome is form h = subst (λ o. AnswersAt n (Ok o) outcome) is h ∙ ap (λ f. Adds f) form
 
 -- multipliers below 1
 less : (a b : ℤ) → int_lt a b ≡ true → a <ℤ b
@@ -59,7 +59,7 @@ below_one : (m : Fraction) → is_below_one m ≡ true → m.num <ℤ (pos 1 *�
 unfolding lib.IntN.one
 below_one m e = subst (λ z. m.num <ℤ z) (sym (*ℤ_comm (pos 1) (pos m.den) ∙ *ℤ-one (pos m.den))) (less m.num (pos m.den) e)
 
-pub all_below : (ms : List Fraction) → list_all is_below_one ms ≡ true → AreBelow (pos 1) ms
+pub all_below : (ms : List Fraction) → list_all is_below_one ms ≡ true → AreBelowDivisor (pos 1) ms
 all_below [] e = All-nil IsBelowOne
 all_below (m ∷ ms) e = All-cons IsBelowOne m ms (below_one m (left_true (is_below_one m) (list_all is_below_one ms) e)) (all_below ms (right_true (is_below_one m) (list_all is_below_one ms) e))
 
@@ -75,14 +75,14 @@ pub over_integers : (vars : List Sort) (cs : List Coefficient) → list_all (has
 over_integers vars [] e = tt
 over_integers vars (c ∷ cs) e = (int_is (slice_get vars c.0) (left_true (has_int vars c) (list_all (has_int vars) cs) e), over_integers vars cs (right_true (has_int vars c) (list_all (has_int vars) cs) e))
 
-pub broken_by : (f : Form) (point : List Fraction) (n : Fraction) → value n ≡ value_at f (numbers point) → int_lt n.num (pos 0) ≡ true → is_negative (value_at f (numbers point)) ≡ true
-broken_by f point n e h = sym (ap is_negative e) ∙ over_negative n.num n.den ∙ h
+pub broken_by : (f : Form) (point : List Fraction) (n : Fraction) → value n ≡ form_value_at f (numbers point) → int_lt n.num (pos 0) ≡ true → is_negative_rational (form_value_at f (numbers point)) ≡ true
+broken_by f point n e h = sym (ap is_negative_rational e) ∙ over_negative n.num n.den ∙ h
 
-pub all_checked : (vars : List Sort) (path : List Fact) (ms point : List Fraction) (form : Form) (found : Option Form) → IfSome found (λ same. (same ≡ form) × Suit vars (AtLeast same)) → cut_outcome path ms (pos 1) ≡ Adds (AtLeast form) → list_all is_below_one ms ≡ true → is_negative (value_at form (numbers point)) ≡ true → IfSome found (IsRoundingForm vars path ms (pos 1) point)
+pub all_checked : (vars : List Sort) (path : List Fact) (ms point : List Fraction) (form : Form) (found : Option Form) → IfSome found (λ same. (same ≡ form) × Suit vars (AtLeast same)) → cut_outcome path ms (pos 1) ≡ Adds (AtLeast form) → list_all is_below_one ms ≡ true → is_negative_rational (form_value_at form (numbers point)) ≡ true → IfSome found (IsRoundingForm vars path ms (pos 1) point)
 all_checked vars path ms point form None s a l b = tt
 all_checked vars path ms point form (Some same) s a l b = record {
   cut = subst (IsCut ms (pos 1) (forms path)) (sym s.0) (cut_adds ms path form a);
   below = all_below ms l;
-  broken = subst (λ e. is_negative (value_at e (numbers point)) ≡ true) (sym s.0) b;
+  broken = subst (λ e. is_negative_rational (form_value_at e (numbers point)) ≡ true) (sym s.0) b;
   suits = s.1;
 }

@@ -1,9 +1,9 @@
 // What multipliers give, checked.
 ghost use Rattle.std.specs.Prelude.{◌≡◌, ◌<◌, ◌^◌, true, pos, int_lt, length, IfOk, IfSome};
 ghost use Rattle.std.specs.List.{list_all};
-ghost use Rattle.sy_frac.specs.Rational.{is_negative};
+ghost use Rattle.sy_frac.specs.Rational.{is_negative_rational};
 ghost use Rattle.sy_linear_known.specs.declared.path.Fact.TheVariants.{AtLeast};
-ghost use Rattle.sy_linear_known.specs.Points.{value_at};
+ghost use Rattle.sy_linear_known.specs.Points.{form_value_at};
 ghost use Rattle.sy_simplex.specs.Problems.{numbers};
 ghost use Rattle.sy_intsolve_asked.specs.Asked.{Suit};
 ghost use Rattle.sy_intsolve_cuts.specs.Cuts.{IsRoundingForm};
@@ -43,7 +43,7 @@ fn is_below_zero(number: &Frac) -> bool
 
 /// Whether the form is known to be negative at the point.
 fn is_broken(form: &Form, point: &[Frac]) -> bool
-    ensures { result ≡ true → is_negative (value_at form.now (numbers point.now)) ≡ true }
+    ensures { result ≡ true → is_negative_rational (form_value_at form.now (numbers point.now)) ≡ true }
 {
     match number_at(form, point) {
         Some(number) => is_below_zero(&number),

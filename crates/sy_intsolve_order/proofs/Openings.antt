@@ -8,17 +8,17 @@ use Rattle.std.proofs.lemmas.List.Elements.{All-push, All-weaker}
 use Rattle.sy_terms.specs.declared.sort.Sort.{Sort}
 use Rattle.sy_terms.specs.declared.sort.Sort.TheVariants as sorts
 use Rattle.sy_linear_forms.specs.declared.form.Form.{Form}
-use Rattle.sy_linear_forms.specs.Forms.{Coefficient, negation}
+use Rattle.sy_linear_forms.specs.Forms.{Coefficient, form_negation}
 use Rattle.sy_linear_known.specs.declared.path.Fact.{Fact}
 use Rattle.sy_linear_known.specs.declared.path.Fact.TheVariants.{AtLeast, Is}
 use Rattle.sy_linear_known.specs.declared.path.Test.{Test}
 use Rattle.sy_linear_known.specs.declared.path.Test.TheVariants as test
 use Rattle.sy_linear_known.specs.Paths.{given}
-use Rattle.sy_linear_known.specs.Trees.{OverIntegers, Suits, IsOf}
+use Rattle.sy_linear_known.specs.Trees.{OverIntegers, TestSuits, IsOf}
 use Rattle.sy_linear_known.proofs.Ascending.{AscendFrom, Ascends, ascends-negation}
 use Rattle.sy_linear.specs.Judging.{is_int, is_bool, has_int, suits, opposite_fits, split_outcome, Adds, Leaves, Fails}
 use Rattle.sy_simplex.specs.Problems.{IsForm, variable_at}
-use Rattle.sy_intsolve_asked.specs.Asked.{Suit, Agrees, IsPath, IsOpen}
+use Rattle.sy_intsolve_asked.specs.Asked.{Suit, AgreesWithPath, IsPath, TestIsOpen}
 use Rattle.sy_intsolve_asked.proofs.Ascending.{ascends-is_form, ascends-over}
 use Rattle.sy_intsolve_asked.proofs.Paths.{path-form}
 
@@ -43,7 +43,7 @@ over_integers : (vars : List Sort) (cs : List Coefficient) → list_all (has_int
 over_integers vars [] e = tt
 over_integers vars (c ∷ cs) e = let k = and_parts (has_int vars c) (list_all (has_int vars) cs) e in (int_is (slice_get vars c.0) k.0, over_integers vars cs k.1)
 
-pub suits_is : (vars : List Sort) (t : Test) → suits vars t ≡ true → Suits vars t
+pub suits_is : (vars : List Sort) (t : Test) → suits vars t ≡ true → TestSuits vars t
 suits_is vars (test.AtLeast f) e = over_integers vars f.coefs e
 suits_is vars (test.Holds u) e = bool_is (slice_get vars u) e
 
@@ -74,14 +74,14 @@ given-last (Is v c ∷ path) u b e = by (nat_eq u v) e (given-last path u b)
     by true e f = absurd cc
     by false e f = f e
 
-agrees-more : (path : List Fact) (last fact : Fact) → Agrees path fact → Agrees (path ++ last ∷ []) fact
+agrees-more : (path : List Fact) (last fact : Fact) → AgreesWithPath path fact → AgreesWithPath (path ++ last ∷ []) fact
 agrees-more path last (AtLeast f) h = tt
 agrees-more path last (Is u b) h = given-more path u b last h
 
 path-truth : (vars : List Sort) (path : List Fact) (u : ℕ) (b : Bool) → IsPath vars path → IsOf sorts.Bool vars u → given u path ≡ None → IsPath vars (path ++ Is u b ∷ [])
 path-truth vars path u b p o n = record {
   each = All-push (Suit vars) path (Is u b) p.each o;
-  told = All-push (Agrees (path ++ Is u b ∷ [])) path (Is u b) (All-weaker (Agrees path) (Agrees (path ++ Is u b ∷ [])) (λ other. agrees-more path (Is u b) other) path p.told) (given-last path u b n);
+  told = All-push (AgreesWithPath (path ++ Is u b ∷ [])) path (Is u b) (All-weaker (AgreesWithPath path) (AgreesWithPath (path ++ Is u b ∷ [])) (λ other. agrees-more path (Is u b) other) path p.told) (given-last path u b n);
 }
 
 -- ---- splits
@@ -93,19 +93,19 @@ told false b x y e = absurd cc
 pub split_told : (vars : List Sort) (t : Test) (facts : Fact × Fact) → split_outcome vars t ≡ Adds facts → (suits vars t ≡ true) × (opposite_fits t ≡ true)
 split_told vars t facts e = told (suits vars t) (opposite_fits t) _ facts e
 
-pub form_opens : (vars : List Sort) (path : List Fact) (f : Form) (facts : Fact × Fact) → split_outcome vars (test.AtLeast f) ≡ Adds facts → IsForm (length vars) f → IsPath vars path → IsOpen vars path (test.AtLeast f)
+pub form_opens : (vars : List Sort) (path : List Fact) (f : Form) (facts : Fact × Fact) → split_outcome vars (test.AtLeast f) ≡ Adds facts → IsForm (length vars) f → IsPath vars path → TestIsOpen vars path (test.AtLeast f)
 form_opens vars path f facts e h p =
     let k = split_told vars (test.AtLeast f) facts e in
     let o = over_integers vars f.coefs k.0 in
-    let n : Ascends vars (negation f) = ascends-negation vars f (form_ascends vars f o h) in
+    let n : Ascends vars (form_negation f) = ascends-negation vars f (form_ascends vars f o h) in
     record {
       suits = k.0;
       fits = k.1;
       left = path-form vars path f p (h, o);
-      right = path-form vars path (negation f) p (ascends-is_form vars (negation f) n, ascends-over vars (negation f) n);
+      right = path-form vars path (form_negation f) p (ascends-is_form vars (form_negation f) n, ascends-over vars (form_negation f) n);
     }
 
-pub truth_opens : (vars : List Sort) (path : List Fact) (u : ℕ) (facts : Fact × Fact) → split_outcome vars (test.Holds u) ≡ Adds facts → given u path ≡ None → IsPath vars path → IsOpen vars path (test.Holds u)
+pub truth_opens : (vars : List Sort) (path : List Fact) (u : ℕ) (facts : Fact × Fact) → split_outcome vars (test.Holds u) ≡ Adds facts → given u path ≡ None → IsPath vars path → TestIsOpen vars path (test.Holds u)
 truth_opens vars path u facts e n p =
     let k = split_told vars (test.Holds u) facts e in
     let o = bool_is (slice_get vars u) k.0 in

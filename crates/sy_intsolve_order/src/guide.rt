@@ -1,6 +1,6 @@
 // The guide of a search.
 ghost use Rattle.std.specs.Prelude.{◌<◌, ◌^◌, length, IfOk, IfSome};
-ghost use Rattle.sy_intsolve_asked.specs.Asked.{IsPath, IsOpen};
+ghost use Rattle.sy_intsolve_asked.specs.Asked.{IsPath, TestIsOpen};
 
 use crate::choice::Tally;
 use crate::marks::{Mark, mark_all};
@@ -173,7 +173,7 @@ impl Guide {
     ) -> Result<Option<Test>, Want>
         requires few { length query.now.vars < 2 ^ 31 }
         requires path { IsPath query.now.vars facts.now }
-        ensures { IfOk result (λ found. IfSome found (IsOpen query.now.vars facts.now)) }
+        ensures { IfOk result (λ found. IfSome found (TestIsOpen query.now.vars facts.now)) }
     {
         if let Some(test) = self.guess(alloc, query, facts)? {
             let vars = query.vars.as_slice();

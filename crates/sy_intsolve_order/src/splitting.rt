@@ -1,6 +1,6 @@
 // Whether a path can be split on a test.
 ghost use Rattle.std.specs.Prelude.{◌≡◌, ◌<◌, ◌^◌, true, length, IfOk};
-ghost use Rattle.sy_intsolve_asked.specs.Asked.{IsPath, IsOpen};
+ghost use Rattle.sy_intsolve_asked.specs.Asked.{IsPath, TestIsOpen};
 
 use std::alloc::{AllocError, Global};
 use sy_linear::split;
@@ -13,7 +13,7 @@ use sy_terms::Sort;
 /// the truth value that it asks for.
 pub fn can_split(alloc: Global, vars: &[Sort], facts: &[Fact], test: &Test) -> Result<bool, Want>
     requires { length vars.now < 2 ^ 31 }
-    ensures { IfOk result (λ can. can ≡ true → IsPath vars.now facts.now → IsOpen vars.now facts.now test.now) }
+    ensures { IfOk result (λ can. can ≡ true → IsPath vars.now facts.now → TestIsOpen vars.now facts.now test.now) }
 {
     match split(alloc, vars, test, 0) {
         Ok(Some(_)) => {}

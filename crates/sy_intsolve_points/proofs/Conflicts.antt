@@ -2,14 +2,14 @@
 use Rattle.std.specs.Prelude.{◌≡◌, ◌≢◌, ℕ, zero, suc, ◌<◌, ◌≤◌, ◌+◌, Bool, true, false, cond, List, [], ◌∷◌, length, get_or, map, nat_lt, ℤ, pos}
 use Rattle.std.proofs.Common.{refl, sym, ◌∙◌, ap, ap₂, subst, arith, ltb-true, ltb-false}
 use Rattle.sy_frac.specs.Fraction.{Fraction, IsLowest}
-use Rattle.sy_frac.specs.Rational.{ℚ, 0ℚ, 1ℚ, ◌+ℚ◌, ◌*ℚ◌, over, value, is_negative, +ℚ_cancel, +ℚ_comm, +ℚ_assoc, +ℚ_left_comm, +ℚ_zero, zero-+ℚ, *ℚ_zero, zero-*ℚ, *ℚ_one}
+use Rattle.sy_frac.specs.Rational.{ℚ, 0ℚ, 1ℚ, ◌+ℚ◌, ◌*ℚ◌, over, value, is_negative_rational, +ℚ_cancel, +ℚ_comm, +ℚ_assoc, +ℚ_left_comm, +ℚ_zero, zero-+ℚ, *ℚ_zero, zero-*ℚ, *ℚ_one}
 use Rattle.sy_terms.specs.declared.sort.Sort.{Sort}
 use Rattle.sy_linear_forms.specs.declared.form.Form.{Form}
 use Rattle.sy_linear_forms.specs.Forms.{Coefficient}
-use Rattle.sy_linear_forms.specs.Systems.{form_at, IsRefutation}
+use Rattle.sy_linear_forms.specs.Systems.{form_at_point, IsRefutation}
 use Rattle.sy_linear_forms.specs.Total.{total, total-same, replaced, replaced_same, replaced_other}
 use Rattle.sy_linear_known.specs.declared.path.Fact.{Fact}
-use Rattle.sy_linear_known.specs.Points.{combined_at, value_at}
+use Rattle.sy_linear_known.specs.Points.{combined_at, form_value_at}
 use Rattle.sy_linear_known.specs.Trees.{forms, whole_ℚ, Weight, plus_multiple, Combination, plus_form, combined_with, combination, rationals, AreMultipliers, AllZero, IsContradiction}
 use Rattle.sy_linear_known.proofs.Refutation.{weights_at, combination_at, combination-plus_form}
 use Rattle.sy_simplex.specs.Problems.{form, IsForm, AreForms, system_of, numbers}
@@ -21,7 +21,7 @@ use Rattle.sy_intsolve_points.proofs.Dense.{From, from-is_form, form_at-value_at
 pub sum_of : List ℚ → List Form → (ℕ → ℚ) → ℚ
 sum_of [] fs x = 0ℚ
 sum_of (m ∷ ms) [] x = 0ℚ
-sum_of (m ∷ ms) (f ∷ fs) x = m *ℚ value_at f x +ℚ sum_of ms fs x
+sum_of (m ∷ ms) (f ∷ fs) x = m *ℚ form_value_at f x +ℚ sum_of ms fs x
 
 with_value : (c : Combination) (ms : List ℚ) (fs : List Form) (x : ℕ → ℚ) → combination_at (combined_with c ms fs) x ≡ sum_of ms fs x +ℚ combination_at c x
 unfolding combined_with sum_of
@@ -30,7 +30,7 @@ with_value c (m ∷ ms) [] x = sym (zero-+ℚ (combination_at c x))
 with_value c (m ∷ ms) (f ∷ fs) x =
     with_value (plus_form c m f) ms fs x
     ∙ ap (λ t. sum_of ms fs x +ℚ t) (combination-plus_form c m f x)
-    ∙ regroup (sum_of ms fs x) (m *ℚ value_at f x) (combination_at c x)
+    ∙ regroup (sum_of ms fs x) (m *ℚ form_value_at f x) (combination_at c x)
   where
     regroup : (s a b : ℚ) → s +ℚ (a +ℚ b) ≡ (a +ℚ s) +ℚ b
     regroup s a b = simp (+ℚ_assoc, +ℚ_left_comm, +ℚ_comm)
@@ -45,12 +45,12 @@ unfolding total
 total-first zero f = +ℚ_comm 0ℚ (f 0)
 total-first (suc n) f = ap (λ t. t +ℚ f (suc n)) (total-first n f) ∙ +ℚ_assoc (f 0) (total n (λ i. f (suc i))) (f (suc n))
 
-sum-total : (ms : List Fraction) (fs : List Form) (x : ℕ → ℚ) → length ms ≡ length fs → total (length fs) (λ i. numbers ms i *ℚ value_at (form fs i) x) ≡ sum_of (rationals ms) fs x
+sum-total : (ms : List Fraction) (fs : List Form) (x : ℕ → ℚ) → length ms ≡ length fs → total (length fs) (λ i. numbers ms i *ℚ form_value_at (form fs i) x) ≡ sum_of (rationals ms) fs x
 unfolding sum_of total numbers
 sum-total [] [] x e = refl
 sum-total [] (f ∷ fs) x e = absurd (omega (arith, e))
 sum-total (m ∷ ms) [] x e = absurd (omega (arith, e))
-sum-total (m ∷ ms) (f ∷ fs) x e = total-first (length fs) (λ i. numbers (m ∷ ms) i *ℚ value_at (form (f ∷ fs) i) x) ∙ ap (λ t. value m *ℚ value_at f x +ℚ t) (sum-total ms fs x (omega (arith, e)))
+sum-total (m ∷ ms) (f ∷ fs) x e = total-first (length fs) (λ i. numbers (m ∷ ms) i *ℚ form_value_at (form (f ∷ fs) i) x) ∙ ap (λ t. value m *ℚ form_value_at f x +ℚ t) (sum-total ms fs x (omega (arith, e)))
 
 -- ---- weights in ascending order
 Rising : ℕ → List Weight → Type 0
@@ -122,7 +122,7 @@ zero-weights least (q ∷ qs) h k = (first, zero-weights (suc q.0) qs h.1 rest)
     rest x = sym (ap (λ t. t *ℚ x q.0 +ℚ weights_at qs x) first ∙ ap (λ t. t +ℚ weights_at qs x) (zero-*ℚ (x q.0)) ∙ zero-+ℚ (weights_at qs x)) ∙ k x
 
 -- ---- what refutes a path's forms
-multipliers : (ms : List Fraction) (fs : List Form) → length ms ≡ length fs → AreLowest ms → ((i : ℕ) → i < length fs → is_negative (numbers ms i) ≡ false) → AreMultipliers ms fs
+multipliers : (ms : List Fraction) (fs : List Form) → length ms ≡ length fs → AreLowest ms → ((i : ℕ) → i < length fs → is_negative_rational (numbers ms i) ≡ false) → AreMultipliers ms fs
 unfolding numbers
 multipliers [] [] e l n = tt
 multipliers [] (f ∷ fs) e l n = absurd (omega (arith, e))
@@ -136,7 +136,7 @@ unfolding system_of combination_at Rising
 refutation-contradiction n fs ms h e l r = record {
   multipliers = multipliers ms fs e l r.not_negative;
   zero = zero-weights 0 whole.weights (rising-with n (record { weights = []; constant = 0ℚ }) (rationals ms) fs (all-from n fs h) nothing_rises) none;
-  negative = ap is_negative constant ∙ r.negative;
+  negative = ap is_negative_rational constant ∙ r.negative;
 }
   where
     whole : Combination
@@ -149,7 +149,7 @@ refutation-contradiction n fs ms h e l r = record {
     value_is x =
         combination_value (rationals ms) fs x
         ∙ sym (sum-total ms fs x e)
-        ∙ sym (total-same (length fs) (λ i. numbers ms i *ℚ form_at (system_of n fs) i x) (λ i. numbers ms i *ℚ value_at (form fs i) x) (λ i k. ap (λ t. numbers ms i *ℚ t) (form_at-value_at n fs x i h k)))
+        ∙ sym (total-same (length fs) (λ i. numbers ms i *ℚ form_at_point (system_of n fs) i x) (λ i. numbers ms i *ℚ form_value_at (form fs i) x) (λ i k. ap (λ t. numbers ms i *ℚ t) (form_at-value_at n fs x i h k)))
         ∙ r.combines x
 
     constant : whole.constant ≡ r.constant

@@ -3,22 +3,22 @@ use Rattle.std.specs.Prelude.{◌≡◌, ◌≢◌, ℕ, zero, suc, ◌<◌, ◌
 use Rattle.std.proofs.Common.{refl, sym, ◌∙◌, ap, ap₂, subst, arith, ltb-true, ltb-false}
 use Rattle.std.proofs.lemmas.List.Elements.{All-nil, All-cons, All-head, All-tail, All-get_or}
 use Rattle.sy_frac.specs.Fraction.{Fraction}
-use Rattle.sy_frac.specs.Rational.{ℚ, 0ℚ, 1ℚ, ◌+ℚ◌, ◌*ℚ◌, over, value, is_negative, +ℚ_cancel, +ℚ_comm, +ℚ_assoc, +ℚ_left_comm, +ℚ_zero, zero-+ℚ, *ℚ_zero, zero-*ℚ, *ℚ_one, over_negative, zero_not_negative}
+use Rattle.sy_frac.specs.Rational.{ℚ, 0ℚ, 1ℚ, ◌+ℚ◌, ◌*ℚ◌, over, value, is_negative_rational, +ℚ_cancel, +ℚ_comm, +ℚ_assoc, +ℚ_left_comm, +ℚ_zero, zero-+ℚ, *ℚ_zero, zero-*ℚ, *ℚ_one, over_negative, zero_not_negative}
 use Rattle.sy_terms.specs.declared.sort.Sort.{Sort}
 use Rattle.sy_terms.specs.declared.sort.Sort.TheVariants as sorts
 use Rattle.sy_linear_forms.specs.declared.form.Form.{Form}
 use Rattle.sy_linear_forms.specs.Forms.{Coefficient, constant_form}
-use Rattle.sy_linear_forms.specs.Systems.{System, form_at, Meets, IsCorner, IsRefutation}
+use Rattle.sy_linear_forms.specs.Systems.{System, form_at_point, MeetsSystem, IsCorner, IsRefutation}
 use Rattle.sy_linear_forms.specs.Total.{total, total-same, replaced, replaced_same, replaced_other}
 use Rattle.sy_linear_known.specs.declared.path.Fact.{Fact}
 use Rattle.sy_linear_known.specs.declared.path.Fact.TheVariants.{AtLeast, Is}
-use Rattle.sy_linear_known.specs.Points.{combined_at, value_at}
+use Rattle.sy_linear_known.specs.Points.{combined_at, form_value_at}
 use Rattle.sy_linear_known.specs.Trees.{forms, whole_ℚ, Weight, plus_multiple, Combination, plus_form, combined_with, combination, rationals, AreMultipliers, AllZero, IsOf, OverIntegers, IsContradiction}
 use Rattle.sy_linear_known.proofs.Refutation.{weights_at, combination_at, combination-plus_form}
 use Rattle.sy_simplex.specs.Problems.{form, IsForm, AreForms, system_of, numbers}
 use Rattle.sy_simplex_tableau.specs.Rows.{at}
 use Rattle.sy_intsolve_asked.specs.Asked.{Suit, IsPath}
-use Rattle.sy_intsolve_points.specs.Points.{IsAt, IsCornerOf}
+use Rattle.sy_intsolve_points.specs.Points.{IsPointOf, IsCornerOf}
 use Rattle.sy_intsolve_points.proofs.Dense.{From, from-is_form, form_at-value_at, met-system, path-forms}
 
 disagree : true ≡ false → ⊥
@@ -28,7 +28,7 @@ disagree e = cc
 one_nonzero : 1ℚ ≡ 0ℚ → ⊥
 one_nonzero e =
     let minus : ℚ = over (negsuc 0) 1 in
-    disagree (sym (over_negative (negsuc 0) 1) ∙ ap is_negative (sym (*ℚ_one minus) ∙ ap (λ t. minus *ℚ t) e ∙ *ℚ_zero minus) ∙ zero_not_negative)
+    disagree (sym (over_negative (negsuc 0) 1) ∙ ap is_negative_rational (sym (*ℚ_one minus) ∙ ap (λ t. minus *ℚ t) e ∙ *ℚ_zero minus) ∙ zero_not_negative)
 
 raised : (x : ℚ) → x +ℚ 1ℚ ≡ x → ⊥
 raised x e = one_nonzero (+ℚ_cancel 1ℚ 0ℚ x (+ℚ_comm 1ℚ x ∙ e ∙ sym (zero-+ℚ x)))
@@ -45,8 +45,8 @@ unfolding combined_at
 combined-replaced vars i y [] x h k = refl
 combined-replaced vars i y (c ∷ cs) x h k = ap₂ (λ s t. whole_ℚ c.1 *ℚ s +ℚ t) (replaced_other i c.0 y x (int_or_bool vars c.0 i k.0 h)) (combined-replaced vars i y cs x h k.1)
 
-value-replaced : (vars : List Sort) (i : ℕ) (y : ℚ) (f : Form) (x : ℕ → ℚ) → IsOf sorts.Bool vars i → OverIntegers vars f.coefs → value_at f (replaced i y x) ≡ value_at f x
-unfolding value_at
+value-replaced : (vars : List Sort) (i : ℕ) (y : ℚ) (f : Form) (x : ℕ → ℚ) → IsOf sorts.Bool vars i → OverIntegers vars f.coefs → form_value_at f (replaced i y x) ≡ form_value_at f x
+unfolding form_value_at
 value-replaced vars i y f x h k = ap (λ t. t +ℚ whole_ℚ f.constant) (combined-replaced vars i y f.coefs x h k)
 
 all-over : (vars : List Sort) (path : List Fact) → All (Suit vars) path → All (λ f. OverIntegers vars f.coefs) (forms path)
@@ -81,7 +81,7 @@ corner_truth vars path x p c i o = by (c.variables i) refl
     other_zero : c.variables i ≡ false → (j : ℕ) → j < n → c.variables j ≡ true → y j ≡ 0ℚ
     other_zero e j l k = replaced_other i j (x i +ℚ 1ℚ) x (λ s. disagree (sym k ∙ ap c.variables s ∙ e)) ∙ c.variables_zero j l k
 
-    form_zero : (k : ℕ) → k < length fs → c.forms k ≡ true → form_at (system_of n fs) k y ≡ 0ℚ
+    form_zero : (k : ℕ) → k < length fs → c.forms k ≡ true → form_at_point (system_of n fs) k y ≡ 0ℚ
     form_zero k l h =
         form_at-value_at n fs y k (path-forms vars path p) l
         ∙ value-replaced vars i (x i +ℚ 1ℚ) (form fs k) x o (over-form vars path p.each k l)
@@ -93,7 +93,7 @@ corner_truth vars path x p c i o = by (c.variables i) refl
     by false e = absurd (raised (x i) (sym (replaced_same i (x i +ℚ 1ℚ) x) ∙ c.only y form_zero (other_zero e) i below))
 
 -- the point at which a run ends is a corner of the path
-pub point-corner : (vars : List Sort) (path : List Fact) (point : List Fraction) → IsPath vars path → (length point ≡ length vars) × Meets (system_of (length vars) (forms path)) (numbers point) × IsCorner (system_of (length vars) (forms path)) (numbers point) → IsCornerOf vars path point
+pub point-corner : (vars : List Sort) (path : List Fact) (point : List Fraction) → IsPath vars path → (length point ≡ length vars) × MeetsSystem (system_of (length vars) (forms path)) (numbers point) × IsCorner (system_of (length vars) (forms path)) (numbers point) → IsCornerOf vars path point
 point-corner vars path point p h = record {
   at = record {
     len = h.0;

@@ -4,15 +4,15 @@ use Rattle.std.proofs.Common.{refl, sym, ◌∙◌, ap, ap₂, subst, arith, inl
 use Rattle.std.proofs.Math.Dec.{eqb}
 use Rattle.std.proofs.lemmas.Bool.Decides.{eqb_tells}
 use Rattle.std.proofs.lemmas.List.Elements.{All-nil, All-cons, All-head, All-tail, All-get_or, All-from_get_or}
-use Rattle.sy_frac.specs.Rational.{ℚ, 0ℚ, ◌+ℚ◌, ◌*ℚ◌, over, is_negative, zero-*ℚ, +ℚ_zero, zero-+ℚ, +ℚ_comm}
+use Rattle.sy_frac.specs.Rational.{ℚ, 0ℚ, ◌+ℚ◌, ◌*ℚ◌, over, is_negative_rational, zero-*ℚ, +ℚ_zero, zero-+ℚ, +ℚ_comm}
 use Rattle.sy_terms.specs.declared.sort.Sort.{Sort}
 use Rattle.sy_linear_forms.specs.declared.form.Form.{Form}
 use Rattle.sy_linear_forms.specs.Forms.{Coefficient, constant_form}
-use Rattle.sy_linear_forms.specs.Systems.{System, form_at, Meets}
-use Rattle.sy_linear_forms.specs.Total.{total, total_zero, total-same, total_split, without, rest_same, combined}
+use Rattle.sy_linear_forms.specs.Systems.{System, form_at_point, MeetsSystem}
+use Rattle.sy_linear_forms.specs.Total.{total, total_zero, total-same, total_split, zero_at, rest_same, combined_total}
 use Rattle.sy_linear_known.specs.declared.path.Fact.{Fact}
 use Rattle.sy_linear_known.specs.declared.path.Fact.TheVariants.{AtLeast, Is}
-use Rattle.sy_linear_known.specs.Points.{combined_at, value_at}
+use Rattle.sy_linear_known.specs.Points.{combined_at, form_value_at}
 use Rattle.sy_linear_known.specs.Trees.{forms, whole_ℚ}
 use Rattle.sy_linear_known.proofs.Refutation.{whole_zero}
 use Rattle.sy_simplex.specs.Problems.{coefficient, form, variable_at, IsForm, AreForms, system_of}
@@ -91,21 +91,21 @@ total-dense n least (c ∷ cs) x h =
     nothing : dense cs x c.0 ≡ 0ℚ
     nothing = ap (λ t. whole_ℚ t *ℚ x c.0) (coefficient-below n (suc c.0) cs c.0 h.2 (omega arith)) ∙ ap (λ t. t *ℚ x c.0) whole_zero ∙ zero-*ℚ (x c.0)
 
-    left : total n (dense cs x) ≡ total n (without c.0 (dense cs x))
-    left = total_split n c.0 (dense cs x) h.1 ∙ ap (λ t. t +ℚ total n (without c.0 (dense cs x))) nothing ∙ zero-+ℚ (total n (without c.0 (dense cs x)))
+    left : total n (dense cs x) ≡ total n (zero_at c.0 (dense cs x))
+    left = total_split n c.0 (dense cs x) h.1 ∙ ap (λ t. t +ℚ total n (zero_at c.0 (dense cs x))) nothing ∙ zero-+ℚ (total n (zero_at c.0 (dense cs x)))
 
-pub combined-coefficients : (n : ℕ) (f : Form) (x : ℕ → ℚ) → IsForm n f → combined n (λ j. over (coefficient f.coefs j) 1) x ≡ combined_at f.coefs x
-unfolding combined dense
+pub combined-coefficients : (n : ℕ) (f : Form) (x : ℕ → ℚ) → IsForm n f → combined_total n (λ j. over (coefficient f.coefs j) 1) x ≡ combined_at f.coefs x
+unfolding combined_total dense
 combined-coefficients n f x h = total-dense n 0 f.coefs x (from-is_form n f h)
 
 -- ---- forms of a path
-pub form_at-value_at : (n : ℕ) (fs : List Form) (x : ℕ → ℚ) (i : ℕ) → AreForms n fs → i < length fs → form_at (system_of n fs) i x ≡ value_at (form fs i) x
-unfolding form_at system_of value_at
+pub form_at-value_at : (n : ℕ) (fs : List Form) (x : ℕ → ℚ) (i : ℕ) → AreForms n fs → i < length fs → form_at_point (system_of n fs) i x ≡ form_value_at (form fs i) x
+unfolding form_at_point system_of form_value_at
 form_at-value_at n fs x i h l = ap (λ t. t +ℚ whole_ℚ (form fs i).constant) (combined-coefficients n (form fs i) x (h i l))
 
-pub met-system : (n : ℕ) (fs : List Form) (x : ℕ → ℚ) → AreForms n fs → Meets (system_of n fs) x → AreMet fs x
-unfolding Meets system_of
-met-system n fs x h m = All-from_get_or (λ f. is_negative (value_at f x) ≡ false) fs (constant_form (pos 0)) (λ i l. sym (ap is_negative (form_at-value_at n fs x i h l)) ∙ m i l)
+pub met-system : (n : ℕ) (fs : List Form) (x : ℕ → ℚ) → AreForms n fs → MeetsSystem (system_of n fs) x → AreMet fs x
+unfolding MeetsSystem system_of
+met-system n fs x h m = All-from_get_or (λ f. is_negative_rational (form_value_at f x) ≡ false) fs (constant_form (pos 0)) (λ i l. sym (ap is_negative_rational (form_at-value_at n fs x i h l)) ∙ m i l)
 
 all-forms : (vars : List Sort) (path : List Fact) → All (Suit vars) path → All (IsForm (length vars)) (forms path)
 all-forms vars [] h = All-nil (IsForm (length vars))

@@ -3,12 +3,12 @@ use Rattle.std.specs.Prelude.{◌≡◌, ℕ, ◌<◌, ◌≤◌, ◌+◌, Bool,
 use Rattle.std.proofs.Common.{refl, sym, ◌∙◌, ap, ap₂, subst}
 use Rattle.std.proofs.lemmas.List.{drop_more, drop_all}
 use Rattle.sy_frac.specs.Fraction.{Fraction, QuotientIff, sum_over}
-use Rattle.sy_frac.specs.Rational.{ℚ, ◌+ℚ◌, ◌*ℚ◌, value, is_negative, value_sum, value_product, over_negative, zero-+ℚ, +ℚ_assoc, +ℚ_comm, +ℚ_left_comm}
+use Rattle.sy_frac.specs.Rational.{ℚ, ◌+ℚ◌, ◌*ℚ◌, value, is_negative_rational, value_sum, value_product, over_negative, zero-+ℚ, +ℚ_assoc, +ℚ_comm, +ℚ_left_comm}
 use Rattle.sy_linear_forms.specs.declared.form.Form.{Form}
 use Rattle.sy_linear_forms.specs.Forms.{Coefficient}
 use Rattle.sy_linear_known.specs.declared.path.Fact.{Fact}
 use Rattle.sy_linear_known.specs.declared.path.Fact.TheVariants.{AtLeast}
-use Rattle.sy_linear_known.specs.Points.{combined_at, value_at}
+use Rattle.sy_linear_known.specs.Points.{combined_at, form_value_at}
 use Rattle.sy_linear_known.specs.Trees.{whole_ℚ}
 use Rattle.sy_simplex.specs.Problems.{numbers}
 use Rattle.sy_simplex_tableau.specs.Rows.{at}
@@ -24,8 +24,8 @@ unfolding numbers
 term-value None f g k point v P p q e h l = tt
 term-value (Some r) f g k point v P p q e h l = (value_product f g r p q l.1 ∙ ap₂ (λ s t. s *ℚ t) e (ap (λ t. value t) h), l.1.lowest.positive)
 
-pub value-begun : (f : Form) (cs : List Coefficient) (x : ℕ → ℚ) (n : Fraction) → cs ≡ f.coefs → value n ≡ whole_ℚ f.constant → combined_at cs x +ℚ value n ≡ value_at f x
-unfolding value_at
+pub value-begun : (f : Form) (cs : List Coefficient) (x : ℕ → ℚ) (n : Fraction) → cs ≡ f.coefs → value n ≡ whole_ℚ f.constant → combined_at cs x +ℚ value n ≡ form_value_at f x
+unfolding form_value_at
 value-begun f cs x n e h = ap₂ (λ ds t. combined_at ds x +ℚ t) e h
 
 pub value-more : (cs : List Coefficient) (i : ℕ) (x : ℕ → ℚ) (n term next : Fraction) (v : ℚ) → i < length cs → value term ≡ whole_ℚ (get_or cs i (0, pos 0)).1 *ℚ x (get_or cs i (0, pos 0)).0 → value next ≡ value term +ℚ value n → combined_at (drop i cs) x +ℚ value n ≡ v → combined_at (drop (i + 1) cs) x +ℚ value next ≡ v
@@ -44,8 +44,8 @@ pub value-ended : (cs : List Coefficient) (i : ℕ) (x : ℕ → ℚ) (n : Fract
 unfolding combined_at
 value-ended cs i x n v l e = sym (ap (λ ds. combined_at ds x +ℚ value n) (drop_all i cs l) ∙ zero-+ℚ (value n)) ∙ e
 
-pub met-by : (fact : Fact) (f : Form) (point : List Fraction) (n : Fraction) → fact ≡ AtLeast f → value n ≡ value_at f (numbers point) → not (int_lt n.num (pos 0)) ≡ true → IsMetBy point fact
-met-by fact f point n is e h = subst (IsMetBy point) (sym is) (sym (ap is_negative e) ∙ over_negative n.num n.den ∙ turned (int_lt n.num (pos 0)) h)
+pub met-by : (fact : Fact) (f : Form) (point : List Fraction) (n : Fraction) → fact ≡ AtLeast f → value n ≡ form_value_at f (numbers point) → not (int_lt n.num (pos 0)) ≡ true → IsMetBy point fact
+met-by fact f point n is e h = subst (IsMetBy point) (sym is) (sym (ap is_negative_rational e) ∙ over_negative n.num n.den ∙ turned (int_lt n.num (pos 0)) h)
   where
     turned : (b : Bool) → not b ≡ true → b ≡ false
     turned true e = absurd cc

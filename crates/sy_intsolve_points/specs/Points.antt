@@ -1,7 +1,7 @@
 -- Rational points at which the forms of a path are at least 0.
 use Rattle.std.specs.Prelude.{◌≡◌, ◌≢◌, ℕ, ◌<◌, Bool, false, List, [], ◌∷◌, length, All, ℤ, Option, Some, None}
 use Rattle.sy_frac.specs.Fraction.{Fraction, IsFloor}
-use Rattle.sy_frac.specs.Rational.{ℚ, 0ℚ, is_negative}
+use Rattle.sy_frac.specs.Rational.{ℚ, 0ℚ, is_negative_rational}
 use Rattle.sy_terms.specs.Values.{Val, Truth, Whole}
 use Rattle.sy_terms.specs.declared.sort.Sort.{Sort}
 use Rattle.sy_terms.specs.declared.sort.Sort.TheVariants as sorts
@@ -10,7 +10,7 @@ use Rattle.sy_linear_forms.specs.Systems.{IsCorner}
 use Rattle.sy_linear_known.specs.declared.path.Fact.{Fact}
 use Rattle.sy_linear_known.specs.declared.path.Fact.TheVariants.{AtLeast, Is}
 use Rattle.sy_linear_known.specs.Paths.{given}
-use Rattle.sy_linear_known.specs.Points.{value_at}
+use Rattle.sy_linear_known.specs.Points.{form_value_at}
 use Rattle.sy_linear_known.specs.Trees.{forms, IsOf, IsContradiction}
 use Rattle.sy_simplex_tableau.specs.Rows.{at}
 use Rattle.sy_simplex.specs.Problems.{system_of, numbers}
@@ -19,23 +19,23 @@ use Rattle.sy_simplex.specs.declared.answer.Feasible.TheVariants.{Point, Conflic
 
 -- each form is at least 0 there
 abbrev pub AreMet : List Form → (ℕ → ℚ) → Type 0
-AreMet fs x = All (λ f. is_negative (value_at f x) ≡ false) fs
+AreMet fs x = All (λ f. is_negative_rational (form_value_at f x) ≡ false) fs
 
 -- ---- points of a path
 -- a value for each variable, 0 for one of truth values, at which each form of the path is at least 0
-pub record IsAt (vars : List Sort) (path : List Fact) (point : List Fraction) : Type 0 where
+pub record IsPointOf (vars : List Sort) (path : List Fact) (point : List Fraction) : Type 0 where
   pub len : length point ≡ length vars
   pub met : AreMet (forms path) (numbers point)
   pub truths : (i : ℕ) → IsOf sorts.Bool vars i → numbers point i ≡ 0ℚ
 
 -- the point meets the fact, where that is on a form
 abbrev pub IsMetBy : List Fraction → Fact → Type 0
-IsMetBy point (AtLeast f) = is_negative (value_at f (numbers point)) ≡ false
+IsMetBy point (AtLeast f) = is_negative_rational (form_value_at f (numbers point)) ≡ false
 IsMetBy point (Is u b) = Unit {0}
 
--- such a point that is the only one at which some forms of the path and some variables, chosen together, are all 0
+-- such a point that some forms of the path and some variables determine: all of these are 0 there, and nowhere else
 pub record IsCornerOf (vars : List Sort) (path : List Fact) (point : List Fraction) : Type 0 where
-  pub at : IsAt vars path point
+  pub at : IsPointOf vars path point
   pub corner : IsCorner (system_of (length vars) (forms path)) (numbers point)
 
 -- variable i is the first whose value isn't whole, and k is the greatest whole number below that value
@@ -46,12 +46,12 @@ pub record IsFirstBroken (point : List Fraction) (i : ℕ) (k : ℤ) : Type 0 wh
   pub floor : IsFloor (at point i) k
 
 -- each value is whole
-abbrev pub AreWhole : List Fraction → Type 0
-AreWhole point = (j : ℕ) → j < length point → (at point j).den ≡ 1
+abbrev pub ValuesAreWhole : List Fraction → Type 0
+ValuesAreWhole point = (j : ℕ) → j < length point → (at point j).den ≡ 1
 
 -- none is broken, or this one is the first
 abbrev pub FirstBroken : List Fraction → Option (ℕ × ℤ) → Type 0
-FirstBroken point None = AreWhole point
+FirstBroken point None = ValuesAreWhole point
 FirstBroken point (Some found) = IsFirstBroken point found.0 found.1
 
 -- ---- assignments
@@ -61,10 +61,10 @@ given_or (Some b) = b
 given_or None = false
 
 -- the value of the variable of this number and sort: what the path gives, or the point's number
-abbrev pub value_of : List Fact → List Fraction → Sort → ℕ → Val
-value_of path point sorts.Bool i = Truth (given_or (given i path))
-value_of path point sorts.Int i = Whole (at point i).num
-value_of path point (sorts.Bits w) i = Whole (at point i).num
+abbrev pub value_at_point : List Fact → List Fraction → Sort → ℕ → Val
+value_at_point path point sorts.Bool i = Truth (given_or (given i path))
+value_at_point path point sorts.Int i = Whole (at point i).num
+value_at_point path point (sorts.Bits w) i = Whole (at point i).num
 
 -- ---- what the simplex method says of a path
 -- the point is a corner of the path; the multipliers combine its forms to a negative constant

@@ -3,11 +3,11 @@ ghost use Rattle.std.specs.Prelude.{◌≡◌, ◌<◌, ◌∷◌, ◌++◌, [],
 ghost use Rattle.sy_frac.specs.Rational.{◌+ℚ◌, ◌*ℚ◌, value};
 ghost use Rattle.sy_terms.specs.declared.sort.Sort.{Sort};
 ghost use Rattle.sy_linear_known.specs.declared.path.Fact.{Fact as FactOf};
-ghost use Rattle.sy_linear_known.specs.Points.{value_at};
+ghost use Rattle.sy_linear_known.specs.Points.{form_value_at};
 ghost use Rattle.sy_linear_known.specs.Trees.{whole_ℚ};
 ghost use Rattle.sy_simplex_tableau.specs.Rows.{at};
 ghost use Rattle.sy_simplex.specs.Problems.{numbers};
-ghost use Rattle.sy_intsolve_points.specs.Points.{IsAt, IsMetBy};
+ghost use Rattle.sy_intsolve_points.specs.Points.{IsPointOf, IsMetBy};
 
 use std::alloc::Global;
 use sy_frac::Frac;
@@ -59,7 +59,7 @@ fn term_at(coefficient: &(u32, i128), point: &[Frac]) -> Option<Frac>
 
 /// The form's value at the point, where each number that its operations form fits.
 pub fn number_at(form: &Form, point: &[Frac]) -> Option<Frac>
-    ensures { IfSome result (λ number. value number ≡ value_at form.now (numbers point.now)) }
+    ensures { IfSome result (λ number. value number ≡ form_value_at form.now (numbers point.now)) }
 {
     let mut number = fraction(&form.constant)?;
     for coefficient in form.coefs.as_slice() {
@@ -96,7 +96,7 @@ pub fn copied(alloc: Global, point: &[Frac]) -> Result<Seq<Frac>, Want>
 
 /// A copy of the point, where it is known to meet the fact: of a point of a path, one of the path with this fact.
 pub fn kept(alloc: Global, point: &[Frac], fact: &Fact) -> Result<Option<Seq<Frac>>, Want>
-    ensures { (vars : List Sort) (path : List FactOf) → IsAt vars path point.now → IfOk result (λ found. IfSome found (IsAt vars (path ++ fact.now ∷ []))) }
+    ensures { (vars : List Sort) (path : List FactOf) → IsPointOf vars path point.now → IfOk result (λ found. IfSome found (IsPointOf vars (path ++ fact.now ∷ []))) }
 {
     if !meets(fact, point) {
         return Ok(None);

@@ -1,7 +1,7 @@
 // The corner of a path.
 ghost use Rattle.std.specs.Prelude.{◌<◌, ◌^◌, length, IfOk};
 ghost use Rattle.sy_linear_known.specs.Trees.{forms};
-ghost use Rattle.sy_simplex.specs.Answers.{Tells};
+ghost use Rattle.sy_simplex.specs.Answers.{TellsFeasible};
 ghost use Rattle.sy_intsolve_asked.specs.Asked.{IsPath};
 ghost use Rattle.sy_intsolve_points.specs.Points.{IsSoundFor};
 
@@ -19,7 +19,7 @@ pub fn corner(alloc: Global, vars: &[Sort], facts: &[Fact], pivots: u32) -> Resu
     requires few { length vars.now < 2 ^ 31 }
     requires path { IsPath vars.now facts.now }
     ensures sound { IfOk result (λ end. IsSoundFor vars.now facts.now end.answer) }
-    ensures exact { IfOk result (λ end. Tells (length vars.now) (forms facts.now) pivots end.answer) }
+    ensures exact { IfOk result (λ end. TellsFeasible (length vars.now) (forms facts.now) pivots end.answer) }
 {
     let forms = forms_of(alloc, facts)?;
     ended(alloc, vars.len() as u32, &forms, pivots)

@@ -3,10 +3,10 @@ ghost use Rattle.std.specs.Prelude.{◌≡◌, ◌<◌, ◌^◌, true, length, I
 ghost use Rattle.std.specs.List.{list_all};
 ghost use Rattle.sy_terms.specs.Values.{Whole};
 ghost use Rattle.sy_terms.specs.Denoted.{val_of, vals_of};
-ghost use Rattle.sy_linear_known.specs.Paths.{Meets};
+ghost use Rattle.sy_linear_known.specs.Paths.{MeetsPath};
 ghost use Rattle.sy_linear_known.specs.Right.{Assigns, is_linear_sort};
 ghost use Rattle.sy_intsolve_asked.specs.Asked.{IsPath};
-ghost use Rattle.sy_intsolve_points.specs.Points.{IsAt, AreWhole};
+ghost use Rattle.sy_intsolve_points.specs.Points.{IsPointOf, ValuesAreWhole};
 ghost use Rattle.sy_intsolve_points.specs.Points as spec;
 
 use std::alloc::Global;
@@ -19,7 +19,7 @@ use sy_terms::{Sort, Value, Values};
 /// The value of the variable of this number and sort: the point's number, or the truth value that the facts give, else
 /// false.
 fn value_of(facts: &[Fact], point: &[Frac], sort: Sort, number: u32) -> Value<i128>
-    ensures { val_of Whole result ≡ spec.value_of facts.now point.now sort number }
+    ensures { val_of Whole result ≡ spec.value_at_point facts.now point.now sort number }
 {
     match sort {
         Sort::Bool => Value::Truth(given(number, facts).unwrap_or(false)),
@@ -41,10 +41,10 @@ pub fn values_of(
     requires few { length vars.now < 2 ^ 31 }
     requires sorts { list_all is_linear_sort vars.now ≡ true }
     requires path { IsPath vars.now facts.now }
-    requires at { IsAt vars.now facts.now point.now }
-    requires whole { AreWhole point.now }
+    requires at { IsPointOf vars.now facts.now point.now }
+    requires whole { ValuesAreWhole point.now }
     ensures assigns { IfOk result (λ values. Assigns vars.now (vals_of Whole values)) }
-    ensures meets { IfOk result (λ values. Meets (vals_of Whole values) facts.now) }
+    ensures meets { IfOk result (λ values. MeetsPath (vals_of Whole values) facts.now) }
 {
     let mut values = Seq::new(alloc);
     let mut number = 0u32;

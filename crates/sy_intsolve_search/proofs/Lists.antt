@@ -5,14 +5,14 @@ use Rattle.std.proofs.lemmas.List.{append_assoc, append-nil}
 use Rattle.sy_frac.specs.Fraction.{Fraction}
 use Rattle.sy_terms.specs.declared.sort.Sort.{Sort}
 use Rattle.sy_linear_known.specs.declared.path.Fact.{Fact}
-use Rattle.sy_linear_known.specs.Seen.{Query}
+use Rattle.sy_linear_known.specs.Seen.{LinearQuery}
 use Rattle.sy_intsolve_asked.specs.Asked.{IsPath}
 use Rattle.sy_intsolve_asked.proofs.Paths.{path-at_most, path-above}
 use Rattle.sy_intsolve_trees.specs.declared.fork.Fork.{Fork}
 use Rattle.sy_intsolve_trees.specs.declared.fork.Fork.TheVariants as forks
 use Rattle.sy_intsolve_trees.specs.declared.step.Order.{Order}
-use Rattle.sy_intsolve_trees.specs.Growing.{Grown, fork_fact, IsFork, inner}
-use Rattle.sy_intsolve_trees.specs.Steps.{Layer, layer_inner, layer_waiting, unbegun, IsBeside, IsLayer, AreLayers}
+use Rattle.sy_intsolve_trees.specs.Growing.{GrownTree, fork_fact, IsFork, inner}
+use Rattle.sy_intsolve_trees.specs.Steps.{Layer, layer_inner, layer_waiting, unbegun, IsOtherSide, IsLayer, AreLayers}
 use Rattle.sy_intsolve_trees.proofs.Layers.{layers-more, layers-last}
 use Rattle.sy_intsolve_search.specs.Ways.{CanTurn, side_layer, LayerTurns, AllTurn, Stand}
 
@@ -20,13 +20,13 @@ last_of : {A : Type 0} (x : A) (xs : List A) → (rest : List A) × ((last : A) 
 last_of x [] = ([], (x, refl))
 last_of x (y ∷ ys) = let k = last_of y ys in (x ∷ k.0, (k.1.0, ap (λ zs. x ∷ zs) k.1.1))
 
-no_facts : (order : Order) (q : Query) (path : List Fact) (layers : List Layer) (layer : Layer) → AreLayers order q path (layers ++ layer ∷ []) [] → ⊥
+no_facts : (order : Order) (q : LinearQuery) (path : List Fact) (layers : List Layer) (layer : Layer) → AreLayers order q path (layers ++ layer ∷ []) [] → ⊥
 unfolding AreLayers
 no_facts order q path [] layer h = h
 no_facts order q path (first ∷ layers) layer h = h
 
 -- ---- the layers' turns
-turns-more : (order : Order) (q : Query) (path : List Fact) (layers : List Layer) (facts : List Fact) (layer : Layer) (fact : Fact) → AreLayers order q path layers facts → AllTurn q.vars path layers facts → LayerTurns q.vars (path ++ facts) layer → AllTurn q.vars path (layers ++ layer ∷ []) (facts ++ fact ∷ [])
+turns-more : (order : Order) (q : LinearQuery) (path : List Fact) (layers : List Layer) (facts : List Fact) (layer : Layer) (fact : Fact) → AreLayers order q path layers facts → AllTurn q.vars path layers facts → LayerTurns q.vars (path ++ facts) layer → AllTurn q.vars path (layers ++ layer ∷ []) (facts ++ fact ∷ [])
 unfolding AllTurn AreLayers
 turns-more order q path [] [] layer fact a h k = (subst (λ p. LayerTurns q.vars p layer) (append-nil path) k, tt)
 turns-more order q path [] (f ∷ facts) layer fact a h k = absurd cc
@@ -34,7 +34,7 @@ turns-more order q path (first ∷ layers) [] layer fact a h k = absurd a
 turns-more order q path (first ∷ layers) (f ∷ facts) layer fact a h k =
     (h.0, turns-more order q (path ++ f ∷ []) layers facts layer fact a.1 h.1 (subst (λ p. LayerTurns q.vars p layer) (sym (append_assoc path (f ∷ []) facts)) k))
 
-turns-last : (order : Order) (q : Query) (path : List Fact) (layers : List Layer) (facts : List Fact) (layer : Layer) (fact : Fact) → AreLayers order q path layers facts → AllTurn q.vars path (layers ++ layer ∷ []) (facts ++ fact ∷ []) → AllTurn q.vars path layers facts × LayerTurns q.vars (path ++ facts) layer
+turns-last : (order : Order) (q : LinearQuery) (path : List Fact) (layers : List Layer) (facts : List Fact) (layer : Layer) (fact : Fact) → AreLayers order q path layers facts → AllTurn q.vars path (layers ++ layer ∷ []) (facts ++ fact ∷ []) → AllTurn q.vars path layers facts × LayerTurns q.vars (path ++ facts) layer
 unfolding AllTurn AreLayers
 turns-last order q path [] [] layer fact a h = (tt, subst (λ p. LayerTurns q.vars p layer) (sym (append-nil path)) h.0)
 turns-last order q path [] (f ∷ facts) layer fact a h = absurd cc
@@ -44,14 +44,14 @@ turns-last order q path (first ∷ layers) (f ∷ facts) layer fact a h =
     ((h.0, k.0), subst (λ p. LayerTurns q.vars p layer) (append_assoc path (f ∷ []) facts) k.1)
 
 -- ---- one layer more, and one less
-pub stand-more : (order : Order) (q : Query) (layers : List Layer) (facts : List Fact) (layer : Layer) (fact : Fact) → Stand order q layers facts → IsLayer order q facts layer fact → LayerTurns q.vars facts layer → Stand order q (layers ++ layer ∷ []) (facts ++ fact ∷ [])
+pub stand-more : (order : Order) (q : LinearQuery) (layers : List Layer) (facts : List Fact) (layer : Layer) (fact : Fact) → Stand order q layers facts → IsLayer order q facts layer fact → LayerTurns q.vars facts layer → Stand order q (layers ++ layer ∷ []) (facts ++ fact ∷ [])
 stand-more order q layers facts layer fact s l t = record {
   layers = layers-more order q [] layers facts layer fact s.layers l;
   turns = turns-more order q [] layers facts layer fact s.layers s.turns t;
 }
 
 -- the last layer stands under the facts but the last
-pub record Last (order : Order) (q : Query) (layers : List Layer) (layer : Layer) (facts : List Fact) : Type 0 where
+pub record Last (order : Order) (q : LinearQuery) (layers : List Layer) (layer : Layer) (facts : List Fact) : Type 0 where
   pub rest : List Fact
   pub fact : Fact
   pub parts : facts ≡ rest ++ fact ∷ []
@@ -59,7 +59,7 @@ pub record Last (order : Order) (q : Query) (layers : List Layer) (layer : Layer
   pub layer_is : IsLayer order q rest layer fact
   pub turns : LayerTurns q.vars rest layer
 
-pub stand-last : (order : Order) (q : Query) (layers : List Layer) (layer : Layer) (facts : List Fact) → Stand order q (layers ++ layer ∷ []) facts → Last order q layers layer facts
+pub stand-last : (order : Order) (q : LinearQuery) (layers : List Layer) (layer : Layer) (facts : List Fact) → Stand order q (layers ++ layer ∷ []) facts → Last order q layers layer facts
 stand-last order q layers layer [] s = absurd (no_facts order q [] layers layer s.layers)
 stand-last order q layers layer (f ∷ facts) s =
     let k = last_of f facts in
@@ -68,31 +68,31 @@ stand-last order q layers layer (f ∷ facts) s =
     let t = turns-last order q [] layers k.0 layer k.1.0 a.0 (subst (AllTurn q.vars [] (layers ++ layer ∷ [])) e s.turns) in
     record { rest = k.0; fact = k.1.0; parts = e; stand = record { layers = a.0; turns = t.0 }; layer_is = a.1; turns = t.1 }
 
-pub stand-moved : (order : Order) (q : Query) (ls ms : List Layer) (fs gs : List Fact) → ms ≡ ls → gs ≡ fs → Stand order q ls fs → Stand order q ms gs
+pub stand-moved : (order : Order) (q : LinearQuery) (ls ms : List Layer) (fs gs : List Fact) → ms ≡ ls → gs ≡ fs → Stand order q ls fs → Stand order q ms gs
 stand-moved order q ls ms fs gs e f s = subst (λ l. Stand order q l gs) (sym e) (subst (Stand order q ls) (sym f) s)
 
 -- ---- the layer to a side
-pub side-is : (order : Order) (q : Query) (path : List Fact) (fork : Fork) (p : List Fraction) (left : Bool) (other : Grown) (fact : Fact) → IsFork order q path fork p → IsBeside order q (path ++ fork_fact (not left) fork ∷ []) other → fact ≡ fork_fact left fork → IsLayer order q path (side_layer left fork p other) fact
+pub side-is : (order : Order) (q : LinearQuery) (path : List Fact) (fork : Fork) (p : List Fraction) (left : Bool) (other : GrownTree) (fact : Fact) → IsFork order q path fork p → IsOtherSide order q (path ++ fork_fact (not left) fork ∷ []) other → fact ≡ fork_fact left fork → IsLayer order q path (side_layer left fork p other) fact
 side-is order q path fork p true other fact f b e = (f, e, b)
 side-is order q path fork p false other fact f b e = (f, e, b)
 
-pub side-fork : (order : Order) (q : Query) (path : List Fact) (fork : Fork) (p : List Fraction) (left : Bool) (other : Grown) (fact : Fact) → IsLayer order q path (side_layer left fork p other) fact → IsFork order q path fork p × (fact ≡ fork_fact left fork)
+pub side-fork : (order : Order) (q : LinearQuery) (path : List Fact) (fork : Fork) (p : List Fraction) (left : Bool) (other : GrownTree) (fact : Fact) → IsLayer order q path (side_layer left fork p other) fact → IsFork order q path fork p × (fact ≡ fork_fact left fork)
 side-fork order q path fork p true other fact l = (l.0, l.1)
 side-fork order q path fork p false other fact l = (l.0, l.1)
 
-pub side-turns : (vars : List Sort) (path : List Fact) (fork : Fork) (p : List Fraction) (left : Bool) (other : Grown) → CanTurn vars path fork → LayerTurns vars path (side_layer left fork p other)
+pub side-turns : (vars : List Sort) (path : List Fact) (fork : Fork) (p : List Fraction) (left : Bool) (other : GrownTree) → CanTurn vars path fork → LayerTurns vars path (side_layer left fork p other)
 side-turns vars path fork p true other t = t
 side-turns vars path fork p false other t = t
 
-pub turns-side : (vars : List Sort) (path : List Fact) (fork : Fork) (p : List Fraction) (left : Bool) (other : Grown) → LayerTurns vars path (side_layer left fork p other) → CanTurn vars path fork
+pub turns-side : (vars : List Sort) (path : List Fact) (fork : Fork) (p : List Fraction) (left : Bool) (other : GrownTree) → LayerTurns vars path (side_layer left fork p other) → CanTurn vars path fork
 turns-side vars path fork p true other t = t
 turns-side vars path fork p false other t = t
 
-pub side-inner : (fork : Fork) (p : List Fraction) (left : Bool) (other : Grown) → layer_inner (side_layer left fork p other) ≡ suc (inner other)
+pub side-inner : (fork : Fork) (p : List Fraction) (left : Bool) (other : GrownTree) → layer_inner (side_layer left fork p other) ≡ suc (inner other)
 side-inner fork p true other = refl
 side-inner fork p false other = refl
 
-pub side-waiting : (fork : Fork) (p : List Fraction) (left : Bool) (other : Grown) → layer_waiting (side_layer left fork p other) ≡ unbegun other
+pub side-waiting : (fork : Fork) (p : List Fraction) (left : Bool) (other : GrownTree) → layer_waiting (side_layer left fork p other) ≡ unbegun other
 side-waiting fork p true other = refl
 side-waiting fork p false other = refl
 

@@ -4,28 +4,28 @@ use Rattle.std.proofs.Common.{refl, ap, subst}
 use Rattle.sy_frac.specs.Fraction.{Fraction}
 use Rattle.sy_terms.specs.declared.sort.Sort.{Sort}
 use Rattle.sy_linear_known.specs.declared.path.Fact.{Fact}
-use Rattle.sy_linear_known.specs.Seen.{Query}
-use Rattle.sy_linear_forms.specs.Forms.{negation}
+use Rattle.sy_linear_known.specs.Seen.{LinearQuery}
+use Rattle.sy_linear_forms.specs.Forms.{form_negation}
 use Rattle.sy_terms.specs.declared.sort.Sort.TheVariants as sorts
 use Rattle.sy_linear_known.specs.declared.path.Fact.TheVariants.{AtLeast}
 use Rattle.sy_linear_known.specs.declared.path.Test.{Test}
 use Rattle.sy_linear_known.specs.Trees.{forms, added_fact, opposite_fact, at_or_below, IsOf}
 use Rattle.sy_linear.specs.Judging.{suits, opposite_fits, is_int, Adds, split_outcome, branch_outcome}
-use Rattle.sy_simplex.specs.Answers.{Tells}
+use Rattle.sy_simplex.specs.Answers.{TellsFeasible}
 use Rattle.sy_simplex.specs.declared.answer.Feasible.{Feasible}
 use Rattle.sy_simplex.specs.declared.answer.Feasible.TheVariants.{Point, Conflict, Pivots, Range}
-use Rattle.sy_intsolve_points.specs.Points.{IsAt, IsSoundFor}
+use Rattle.sy_intsolve_points.specs.Points.{IsPointOf, IsSoundFor}
 use Rattle.sy_intsolve_trees.specs.declared.fork.Fork.{Fork}
 use Rattle.sy_intsolve_trees.specs.declared.fork.Fork.TheVariants as forks
 use Rattle.sy_intsolve_trees.specs.declared.step.Order.{Order}
 use Rattle.sy_intsolve_trees.specs.Growing.{IsFork}
 use Rattle.sy_intsolve_search.specs.Ways.{HasSides, CanTurn, TellsPoint, TellsCorner}
 
-pub tells-corner : (vars ws : List Sort) (path facts : List Fact) (pivots : ℕ) (answer : Feasible) → ws ≡ vars → facts ≡ path → IsSoundFor ws facts answer → Tells (length ws) (forms facts) pivots answer → TellsCorner vars path pivots answer
+pub tells-corner : (vars ws : List Sort) (path facts : List Fact) (pivots : ℕ) (answer : Feasible) → ws ≡ vars → facts ≡ path → IsSoundFor ws facts answer → TellsFeasible (length ws) (forms facts) pivots answer → TellsCorner vars path pivots answer
 tells-corner vars ws path facts pivots answer e f s t =
     subst (λ v. TellsCorner v path pivots answer) e (subst (λ p. TellsCorner ws p pivots answer) f (by answer s t))
   where
-    by : (answer : Feasible) → IsSoundFor ws facts answer → Tells (length ws) (forms facts) pivots answer → TellsCorner ws facts pivots answer
+    by : (answer : Feasible) → IsSoundFor ws facts answer → TellsFeasible (length ws) (forms facts) pivots answer → TellsCorner ws facts pivots answer
     by (Point p) s t = s
     by (Conflict ms) s t = s
     by (Pivots run) s t = t
@@ -38,7 +38,7 @@ corner-point vars path pivots (Pivots run) s = s
 corner-point vars path pivots (Range run) s = s
 
 -- the point of a fork is one of the path
-pub fork-at : (order : Order) (q : Query) (path : List Fact) (fork : Fork) (p : List Fraction) → IsFork order q path fork p → IsAt q.vars path p
+pub fork-at : (order : Order) (q : LinearQuery) (path : List Fact) (fork : Fork) (p : List Fraction) → IsFork order q path fork p → IsPointOf q.vars path p
 fork-at order q path (forks.Split t) p h = h.2
 fork-at order q path (forks.Branch i k) p h = h.2.at
 
@@ -50,5 +50,5 @@ has_sides vars path (forks.Branch i k) c = c.1
 pub split-adds : (vars : List Sort) (t : Test) → suits vars t ≡ true → opposite_fits t ≡ true → split_outcome vars t ≡ Adds (added_fact t, opposite_fact t)
 split-adds vars t s f = rw (s, f) refl
 
-pub branch-adds : (vars : List Sort) (i : ℕ) (k : ℤ) → IsOf sorts.Int vars i → branch_outcome vars i k ≡ Adds (AtLeast (at_or_below i k), AtLeast (negation (at_or_below i k)))
+pub branch-adds : (vars : List Sort) (i : ℕ) (k : ℤ) → IsOf sorts.Int vars i → branch_outcome vars i k ≡ Adds (AtLeast (at_or_below i k), AtLeast (form_negation (at_or_below i k)))
 branch-adds vars i k e = rw (ap is_int e) refl

@@ -4,23 +4,23 @@ use Rattle.std.proofs.Common.{refl, sym, ◌∙◌, ap, subst, arith, inl, inr}
 use Rattle.std.proofs.lemmas.List.{map-append, length-append}
 use Rattle.sy_frac.specs.Fraction.{Fraction}
 use Rattle.sy_linear_known.specs.declared.path.Fact.{Fact}
-use Rattle.sy_linear_known.specs.Seen.{Query, query_known}
+use Rattle.sy_linear_known.specs.Seen.{LinearQuery, query_known}
 use Rattle.sy_linear_known.specs.declared.path.Fact.TheVariants.{AtLeast}
 use Rattle.sy_linear_known.specs.declared.answer.Known.TheVariants as known
 use Rattle.sy_intsolve_asked.specs.Asked.{Suit, IsPath}
 use Rattle.sy_intsolve_asked.proofs.Paths.{path-none, path-form}
 use Rattle.sy_intsolve_points.specs.Points.{IsCornerOf}
 use Rattle.sy_intsolve_cuts.specs.declared.choosing.Rounding.{Rounding}
-use Rattle.sy_intsolve_cuts.specs.Cuts.{IsFound}
+use Rattle.sy_intsolve_cuts.specs.Cuts.{IsCutBy}
 use Rattle.sy_intsolve_trees.specs.declared.fork.Fork.{Fork}
 use Rattle.sy_intsolve_trees.specs.declared.step.Order.{Order}
 use Rattle.sy_intsolve_trees.specs.declared.step.Step.{Step}
-use Rattle.sy_intsolve_trees.specs.Growing.{Grown, Forked, Cut, Farkas, Shown, Unfinished, fork_fact, IsFork, IsGrowing, inner, is_closed}
-use Rattle.sy_intsolve_trees.specs.Steps.{Layer, Left, Right, Under, wrapped, layer_inner, inner_of, unbegun, layer_waiting, waiting, IsBeside, IsLayer, AreLayers}
+use Rattle.sy_intsolve_trees.specs.Growing.{GrownTree, Forked, Cut, Farkas, Shown, Unfinished, fork_fact, IsFork, IsGrowing, inner, is_closed}
+use Rattle.sy_intsolve_trees.specs.Steps.{Layer, Left, Right, Under, wrapped, layer_inner, inner_of, unbegun, layer_waiting, waiting, IsOtherSide, IsLayer, AreLayers}
 use Rattle.sy_intsolve_trees.specs.Stored.{layer_of, layers_of}
 use Rattle.sy_intsolve_trees.proofs.Layers.{inner_of-last, waiting-last}
 use Rattle.sy_intsolve_search.specs.declared.way.Way.{Way}
-use Rattle.sy_intsolve_search.specs.Ways.{CanTurn, side_layer, AllTurn, Stand, IsWay, IsLonger, IsLeaf, IsClosed, GoesOn, room_after}
+use Rattle.sy_intsolve_search.specs.Ways.{CanTurn, side_layer, AllTurn, Stand, IsWay, IsLonger, IsLeaf, IsClosedTree, GoesOn, room_after}
 use Rattle.sy_intsolve_search.specs.States.{room_closed, room_open}
 use Rattle.sy_intsolve_search.proofs.Lists.{stand-more, stand-last, stand-moved, side-is, side-fork, side-turns, turns-side, side-inner, side-waiting, side-path}
 
@@ -29,7 +29,7 @@ inner-unfinished : inner Unfinished ≡ 0
 unfolding inner
 inner-unfinished = refl
 
-closed-begun : (t : Grown) → is_closed t ≡ true → unbegun t ≡ 0
+closed-begun : (t : GrownTree) → is_closed t ≡ true → unbegun t ≡ 0
 closed-begun (Forked fork p left right) c = refl
 closed-begun (Cut ms d p below) c = refl
 closed-begun (Farkas ms) c = refl
@@ -48,16 +48,16 @@ waiting-more all rest last layer e f = ap waiting (layers-last_step all rest las
 length-more : (all rest : List Step) (last : Step) → all ≡ rest ++ last ∷ [] → length all ≡ length rest + 1
 length-more all rest last e = ap (λ (ss : List Step). length ss) e ∙ length-append rest (last ∷ [])
 
-stand-step : (order : Order) (q : Query) (all rest : List Step) (last : Step) (layer : Layer) (facts more : List Fact) → all ≡ rest ++ last ∷ [] → layer_of last ≡ layer → more ≡ facts → Stand order q (layers_of rest ++ layer ∷ []) facts → Stand order q (layers_of all) more
+stand-step : (order : Order) (q : LinearQuery) (all rest : List Step) (last : Step) (layer : Layer) (facts more : List Fact) → all ≡ rest ++ last ∷ [] → layer_of last ≡ layer → more ≡ facts → Stand order q (layers_of rest ++ layer ∷ []) facts → Stand order q (layers_of all) more
 stand-step order q all rest last layer facts more e f g s =
     stand-moved order q (layers_of rest ++ layer ∷ []) (layers_of all) facts more (layers-last_step all rest last e ∙ ap (λ l. layers_of rest ++ l ∷ []) f) g s
 
-step-stand : (order : Order) (q : Query) (all rest : List Step) (last : Step) (layer : Layer) (facts : List Fact) → all ≡ rest ++ last ∷ [] → layer_of last ≡ layer → Stand order q (layers_of all) facts → Stand order q (layers_of rest ++ layer ∷ []) facts
+step-stand : (order : Order) (q : LinearQuery) (all rest : List Step) (last : Step) (layer : Layer) (facts : List Fact) → all ≡ rest ++ last ∷ [] → layer_of last ≡ layer → Stand order q (layers_of all) facts → Stand order q (layers_of rest ++ layer ∷ []) facts
 step-stand order q all rest last layer facts e f s =
     stand-moved order q (layers_of all) (layers_of rest ++ layer ∷ []) facts facts (sym (layers-last_step all rest last e ∙ ap (λ l. layers_of rest ++ l ∷ []) f)) refl s
 
 -- ---- the beginning
-pub begun : (order : Order) (q : Query) (nodes : ℕ) (way : Way) → way.facts.items ≡ [] → way.steps.items ≡ [] → way.inner ≡ 0 → IsLeaf order q nodes way
+pub begun : (order : Order) (q : LinearQuery) (nodes : ℕ) (way : Way) → way.facts.items ≡ [] → way.steps.items ≡ [] → way.inner ≡ 0 → IsLeaf order q nodes way
 unfolding AreLayers AllTurn inner_of inner
 begun order q nodes way f s i = record {
   way = record {
@@ -69,7 +69,7 @@ begun order q nodes way f s i = record {
 }
 
 -- ---- a side is entered
-pub entered : (order : Order) (q : Query) (nodes : ℕ) (way next : Way) (fork : Fork) (p : List Fraction) (left : Bool) (other : Grown) (step : Step) (fact : Fact) → GoesOn order q way fork p left other → layer_of step ≡ side_layer left fork p other → fact ≡ fork_fact left fork → IsLonger way fact step next → way.inner ≤ nodes → IsLeaf order q nodes next
+pub entered : (order : Order) (q : LinearQuery) (nodes : ℕ) (way next : Way) (fork : Fork) (p : List Fraction) (left : Bool) (other : GrownTree) (step : Step) (fact : Fact) → GoesOn order q way fork p left other → layer_of step ≡ side_layer left fork p other → fact ≡ fork_fact left fork → IsLonger way fact step next → way.inner ≤ nodes → IsLeaf order q nodes next
 entered order q nodes way next fork p left other step fact g e f l n = record {
   way = record {
     stand = stand-step order q next.steps.items way.steps.items step (side_layer left fork p other) (way.facts.items ++ fact ∷ []) next.facts.items l.steps e l.facts
@@ -82,7 +82,7 @@ entered order q nodes way next fork p left other step fact g e f l n = record {
   within = omega (arith, l.inner, n);
 }
 
-pub entered-room : (nodes : ℕ) (way next : Way) (fork : Fork) (p : List Fraction) (left : Bool) (other : Grown) (step : Step) (fact : Fact) → layer_of step ≡ side_layer left fork p other → IsLonger way fact step next → room_open nodes next ≡ room_after nodes way other
+pub entered-room : (nodes : ℕ) (way next : Way) (fork : Fork) (p : List Fraction) (left : Bool) (other : GrownTree) (step : Step) (fact : Fact) → layer_of step ≡ side_layer left fork p other → IsLonger way fact step next → room_open nodes next ≡ room_after nodes way other
 entered-room nodes way next fork p left other step fact e l =
     let w = waiting-more next.steps.items way.steps.items step (side_layer left fork p other) l.steps e in
     let v = side-waiting fork p left other in
@@ -90,7 +90,7 @@ entered-room nodes way next fork p left other step fact e l =
     ap (λ i. 4 * (nodes - i) + 2 * waiting (layers_of next.steps.items) + length next.steps.items + 1) l.inner ∙ omega (arith, w, v, n)
 
 -- ---- a fork is made
-pub grown : (order : Order) (q : Query) (way next : Way) (fork : Fork) (p : List Fraction) (left : Bool) → IsWay order q way Unfinished → IsFork order q way.facts.items fork p → CanTurn q.vars way.facts.items fork → next.facts.items ≡ way.facts.items → next.steps.items ≡ way.steps.items → next.inner ≡ way.inner + 1 → GoesOn order q next fork p left Unfinished
+pub grown : (order : Order) (q : LinearQuery) (way next : Way) (fork : Fork) (p : List Fraction) (left : Bool) → IsWay order q way Unfinished → IsFork order q way.facts.items fork p → CanTurn q.vars way.facts.items fork → next.facts.items ≡ way.facts.items → next.steps.items ≡ way.steps.items → next.inner ≡ way.inner + 1 → GoesOn order q next fork p left Unfinished
 grown order q way next fork p left w f t e s i = record {
   stand = stand-moved order q (layers_of way.steps.items) (layers_of next.steps.items) way.facts.items next.facts.items (ap layers_of s) e w.stand;
   fork = subst (λ fs. IsFork order q fs fork p) (sym e) f;
@@ -107,10 +107,10 @@ grown-room nodes way next s i l =
     omega (arith, w, n, e)
 
 -- ---- a cut is made
-pub cut-layer : (order : Order) (q : Query) (path : List Fact) (p : List Fraction) (r : Rounding) → query_known q path ≡ known.True → IsCornerOf q.vars path p → IsFound q.vars path p r → IsLayer order q path (Under r.multipliers (pos 1) p) (AtLeast r.form)
+pub cut-layer : (order : Order) (q : LinearQuery) (path : List Fact) (p : List Fraction) (r : Rounding) → query_known q path ≡ known.True → IsCornerOf q.vars path p → IsCutBy q.vars path p r → IsLayer order q path (Under r.multipliers (pos 1) p) (AtLeast r.form)
 cut-layer order q path p r k c f = (r.form, (record { known = k; corner = c; cut = f.cut; below = f.below; broken = f.broken }, refl))
 
-pub cut-grown : (order : Order) (q : Query) (nodes : ℕ) (way next : Way) (p : List Fraction) (r : Rounding) (step : Step) → IsLeaf order q nodes way → IsLayer order q way.facts.items (Under r.multipliers (pos 1) p) (AtLeast r.form) → Suit q.vars (AtLeast r.form) → layer_of step ≡ Under r.multipliers (pos 1) p → next.facts.items ≡ way.facts.items ++ AtLeast r.form ∷ [] → next.steps.items ≡ way.steps.items ++ step ∷ [] → next.inner ≡ way.inner + 1 → way.inner < nodes → IsLeaf order q nodes next
+pub cut-grown : (order : Order) (q : LinearQuery) (nodes : ℕ) (way next : Way) (p : List Fraction) (r : Rounding) (step : Step) → IsLeaf order q nodes way → IsLayer order q way.facts.items (Under r.multipliers (pos 1) p) (AtLeast r.form) → Suit q.vars (AtLeast r.form) → layer_of step ≡ Under r.multipliers (pos 1) p → next.facts.items ≡ way.facts.items ++ AtLeast r.form ∷ [] → next.steps.items ≡ way.steps.items ++ step ∷ [] → next.inner ≡ way.inner + 1 → way.inner < nodes → IsLeaf order q nodes next
 cut-grown order q nodes way next p r step l y u e f s i n = record {
   way = record {
     stand = stand-step order q next.steps.items way.steps.items step (Under r.multipliers (pos 1) p) (way.facts.items ++ AtLeast r.form ∷ []) next.facts.items s e f
@@ -129,7 +129,7 @@ cut-room nodes way next p r step e s i l =
     omega (arith, w, n, d)
 
 -- ---- a closed leaf
-pub leaf-closed : (order : Order) (q : Query) (nodes : ℕ) (way : Way) (t : Grown) → IsLeaf order q nodes way → inner t ≡ 0 → IsGrowing order q way.facts.items t → is_closed t ≡ true → IsClosed order q way t
+pub leaf-closed : (order : Order) (q : LinearQuery) (nodes : ℕ) (way : Way) (t : GrownTree) → IsLeaf order q nodes way → inner t ≡ 0 → IsGrowing order q way.facts.items t → is_closed t ≡ true → IsClosedTree order q way t
 leaf-closed order q nodes way t l e g c = record {
   way = record { stand = l.way.stand; inner = omega (arith, inner-unfinished, l.way.inner, e) };
   grows = g;
@@ -145,10 +145,10 @@ unfolding inner
 inner-shown = refl
 
 -- ---- a step less
-beside-moved : (order : Order) (q : Query) (rest facts : List Fact) (fork : Fork) (b : Bool) (t : Grown) (fact : Fact) → facts ≡ rest ++ fact ∷ [] → fact ≡ fork_fact b fork → IsGrowing order q facts t → IsGrowing order q (rest ++ fork_fact b fork ∷ []) t
+beside-moved : (order : Order) (q : LinearQuery) (rest facts : List Fact) (fork : Fork) (b : Bool) (t : GrownTree) (fact : Fact) → facts ≡ rest ++ fact ∷ [] → fact ≡ fork_fact b fork → IsGrowing order q facts t → IsGrowing order q (rest ++ fork_fact b fork ∷ []) t
 beside-moved order q rest facts fork b t fact e f g = subst (λ fs. IsGrowing order q fs t) (e ∙ ap (λ x. rest ++ x ∷ []) f) g
 
-pub other_side : (order : Order) (q : Query) (way above : Way) (step : Step) (fork : Fork) (p : List Fraction) (left : Bool) (t : Grown) → IsClosed order q way t → way.steps.items ≡ above.steps.items ++ step ∷ [] → ((rest : List Fact) (last : Fact) → way.facts.items ≡ rest ++ last ∷ [] → above.facts.items ≡ rest) → above.inner ≡ way.inner → layer_of step ≡ side_layer (not left) fork p Unfinished → GoesOn order q above fork p left t
+pub other_side : (order : Order) (q : LinearQuery) (way above : Way) (step : Step) (fork : Fork) (p : List Fraction) (left : Bool) (t : GrownTree) → IsClosedTree order q way t → way.steps.items ≡ above.steps.items ++ step ∷ [] → ((rest : List Fact) (last : Fact) → way.facts.items ≡ rest ++ last ∷ [] → above.facts.items ≡ rest) → above.inner ≡ way.inner → layer_of step ≡ side_layer (not left) fork p Unfinished → GoesOn order q above fork p left t
 other_side order q way above step fork p left t c s f i e =
     let k = stand-last order q (layers_of above.steps.items) (side_layer (not left) fork p Unfinished) way.facts.items (step-stand order q way.steps.items above.steps.items step (side_layer (not left) fork p Unfinished) way.facts.items s e c.way.stand) in
     let same : above.facts.items ≡ k.rest = f k.rest k.fact k.parts in
@@ -157,11 +157,11 @@ other_side order q way above step fork p left t c s f i e =
       stand = subst (Stand order q (layers_of above.steps.items)) (sym same) k.stand;
       fork = subst (λ fs. IsFork order q fs fork p) (sym same) l.0;
       turns = subst (λ fs. CanTurn q.vars fs fork) (sym same) (turns-side q.vars k.rest fork p (not left) Unfinished k.turns);
-      beside = subst (λ fs. IsBeside order q (fs ++ fork_fact (not left) fork ∷ []) t) (sym same) (inr (beside-moved order q k.rest way.facts.items fork (not left) t k.fact k.parts l.1 c.grows, c.closed));
+      beside = subst (λ fs. IsOtherSide order q (fs ++ fork_fact (not left) fork ∷ []) t) (sym same) (inr (beside-moved order q k.rest way.facts.items fork (not left) t k.fact k.parts l.1 c.grows, c.closed));
       inner = i ∙ c.way.inner ∙ omega (arith, inner-unfinished, inner-more way.steps.items above.steps.items step (side_layer (not left) fork p Unfinished) s e, side-inner fork p (not left) Unfinished);
     }
 
-pub other_side-room : (nodes : ℕ) (way above : Way) (step : Step) (fork : Fork) (p : List Fraction) (left : Bool) (t : Grown) → is_closed t ≡ true → way.steps.items ≡ above.steps.items ++ step ∷ [] → above.inner ≡ way.inner → layer_of step ≡ side_layer (not left) fork p Unfinished → room_after nodes above t < room_closed nodes way
+pub other_side-room : (nodes : ℕ) (way above : Way) (step : Step) (fork : Fork) (p : List Fraction) (left : Bool) (t : GrownTree) → is_closed t ≡ true → way.steps.items ≡ above.steps.items ++ step ∷ [] → above.inner ≡ way.inner → layer_of step ≡ side_layer (not left) fork p Unfinished → room_after nodes above t < room_closed nodes way
 other_side-room nodes way above step fork p left t c s i e =
     let w = waiting-more way.steps.items above.steps.items step (side_layer (not left) fork p Unfinished) s e in
     let v = side-waiting fork p (not left) Unfinished in
@@ -174,29 +174,29 @@ both_true : (a b : Bool) → a ≡ true → b ≡ true → (a && b) ≡ true
 both_true true b e f = f
 both_true false b e f = absurd cc
 
-waits : (t : Grown) → t ≡ Unfinished → unbegun t ≡ 0 → ⊥
+waits : (t : GrownTree) → t ≡ Unfinished → unbegun t ≡ 0 → ⊥
 waits t e z = let one : unbegun t ≡ 1 = ap unbegun e in absurd (omega (arith, one, z))
 
-wrapped-grows : (order : Order) (q : Query) (path : List Fact) (layer : Layer) (fact : Fact) (t : Grown) → IsLayer order q path layer fact → layer_waiting layer ≡ 0 → IsGrowing order q (path ++ fact ∷ []) t → is_closed t ≡ true → IsGrowing order q path (wrapped layer t) × (is_closed (wrapped layer t) ≡ true)
+wrapped-grows : (order : Order) (q : LinearQuery) (path : List Fact) (layer : Layer) (fact : Fact) (t : GrownTree) → IsLayer order q path layer fact → layer_waiting layer ≡ 0 → IsGrowing order q (path ++ fact ∷ []) t → is_closed t ≡ true → IsGrowing order q path (wrapped layer t) × (is_closed (wrapped layer t) ≡ true)
 wrapped-grows order q path (Left fork p right) fact t l z g c = by l.2
   where
-    by : IsBeside order q (path ++ fork_fact false fork ∷ []) right → IsGrowing order q path (wrapped (Left fork p right) t) × (is_closed (wrapped (Left fork p right) t) ≡ true)
+    by : IsOtherSide order q (path ++ fork_fact false fork ∷ []) right → IsGrowing order q path (wrapped (Left fork p right) t) × (is_closed (wrapped (Left fork p right) t) ≡ true)
     by (inl e) = absurd (waits right e z)
     by (inr b) = ((l.0, subst (λ x. IsGrowing order q (path ++ x ∷ []) t) l.1 g, b.0), both_true (is_closed t) (is_closed right) c b.1)
 wrapped-grows order q path (Right fork p left) fact t l z g c = by l.2
   where
-    by : IsBeside order q (path ++ fork_fact true fork ∷ []) left → IsGrowing order q path (wrapped (Right fork p left) t) × (is_closed (wrapped (Right fork p left) t) ≡ true)
+    by : IsOtherSide order q (path ++ fork_fact true fork ∷ []) left → IsGrowing order q path (wrapped (Right fork p left) t) × (is_closed (wrapped (Right fork p left) t) ≡ true)
     by (inl e) = absurd (waits left e z)
     by (inr b) = ((l.0, b.0, subst (λ x. IsGrowing order q (path ++ x ∷ []) t) l.1 g), both_true (is_closed left) (is_closed t) b.1 c)
 wrapped-grows order q path (Under ms d p) fact t l z g c = ((l.0, (l.1.0, subst (λ x. IsGrowing order q (path ++ x ∷ []) t) l.1.1 g)), c)
 
-inner-wrapped : (layer : Layer) (t : Grown) → inner (wrapped layer t) ≡ layer_inner layer + inner t
+inner-wrapped : (layer : Layer) (t : GrownTree) → inner (wrapped layer t) ≡ layer_inner layer + inner t
 unfolding inner
 inner-wrapped (Left fork p right) t = omega arith
 inner-wrapped (Right fork p left) t = omega arith
 inner-wrapped (Under ms d p) t = omega arith
 
-pub whole_below : (order : Order) (q : Query) (way above : Way) (step : Step) (t whole : Grown) → IsClosed order q way t → way.steps.items ≡ above.steps.items ++ step ∷ [] → ((rest : List Fact) (last : Fact) → way.facts.items ≡ rest ++ last ∷ [] → above.facts.items ≡ rest) → above.inner ≡ way.inner → layer_waiting (layer_of step) ≡ 0 → whole ≡ wrapped (layer_of step) t → IsClosed order q above whole
+pub whole_below : (order : Order) (q : LinearQuery) (way above : Way) (step : Step) (t whole : GrownTree) → IsClosedTree order q way t → way.steps.items ≡ above.steps.items ++ step ∷ [] → ((rest : List Fact) (last : Fact) → way.facts.items ≡ rest ++ last ∷ [] → above.facts.items ≡ rest) → above.inner ≡ way.inner → layer_waiting (layer_of step) ≡ 0 → whole ≡ wrapped (layer_of step) t → IsClosedTree order q above whole
 whole_below order q way above step t whole c s f i z e =
     let k = stand-last order q (layers_of above.steps.items) (layer_of step) way.facts.items (step-stand order q way.steps.items above.steps.items step (layer_of step) way.facts.items s refl c.way.stand) in
     let same : above.facts.items ≡ k.rest = f k.rest k.fact k.parts in

@@ -7,28 +7,28 @@ use Rattle.sy_terms.specs.declared.sort.Sort.TheVariants as sorts
 use Rattle.sy_linear_known.specs.declared.path.Fact.{Fact}
 use Rattle.sy_linear_known.specs.declared.path.Test.{Test}
 use Rattle.sy_linear_known.specs.declared.tree.CheckEnd.{CheckEnd}
-use Rattle.sy_linear_known.specs.Right.{Fits}
-use Rattle.sy_linear_known.specs.Seen.{Query}
+use Rattle.sy_linear_known.specs.Right.{IsLinearQuery}
+use Rattle.sy_linear_known.specs.Seen.{LinearQuery}
 use Rattle.sy_linear_known.specs.Trees.{forms, IsOf, IsContradiction}
-use Rattle.sy_linear.specs.Judging.{suits, opposite_fits, Adds, Gives}
+use Rattle.sy_linear.specs.Judging.{suits, opposite_fits, Adds, AnswersAt}
 use Rattle.sy_simplex.specs.declared.answer.Feasible.{Feasible}
 use Rattle.sy_simplex.specs.declared.answer.Feasible.TheVariants.{Point, Conflict, Pivots, Range}
-use Rattle.sy_simplex.specs.Runs.{IsSpent, IsOutOfRange}
-use Rattle.sy_intsolve_asked.specs.Asked.{IsPath, IsOpen}
-use Rattle.sy_intsolve_points.specs.Points.{IsAt, IsCornerOf, IsFirstBroken, AreWhole}
+use Rattle.sy_simplex.specs.Runs.{RunIsSpent, IsOutOfRange}
+use Rattle.sy_intsolve_asked.specs.Asked.{IsPath, TestIsOpen}
+use Rattle.sy_intsolve_points.specs.Points.{IsPointOf, IsCornerOf, IsFirstBroken, ValuesAreWhole}
 use Rattle.sy_intsolve_trees.specs.declared.fork.Fork.{Fork}
 use Rattle.sy_intsolve_trees.specs.declared.fork.Fork.TheVariants as forks
 use Rattle.sy_intsolve_trees.specs.declared.step.Order.{Order}
 use Rattle.sy_intsolve_trees.specs.declared.step.Step.{Step}
-use Rattle.sy_intsolve_trees.specs.Growing.{Grown, Forked, Cut, Farkas, Shown, Unfinished, fork_fact, Leaves, IsFork, IsGrowing, inner, is_closed}
-use Rattle.sy_intsolve_trees.specs.Steps.{Layer, Left, Right, Under, unbegun, inner_of, waiting, IsBeside, AreLayers}
+use Rattle.sy_intsolve_trees.specs.Growing.{GrownTree, Forked, Cut, Farkas, Shown, Unfinished, fork_fact, LeavesOpen, IsFork, IsGrowing, inner, is_closed}
+use Rattle.sy_intsolve_trees.specs.Steps.{Layer, Left, Right, Under, unbegun, inner_of, waiting, IsOtherSide, AreLayers}
 use Rattle.sy_intsolve_trees.specs.Stored.{layers_of}
 use Rattle.sy_intsolve_search.specs.declared.way.Way.{Way}
 
 -- ---- queries
 -- a query of linear arithmetic whose nodes and variables can be numbered
-pub record IsAsked (q : Query) : Type 0 where
-  pub fits : Fits q
+pub record IsNumberedQuery (q : LinearQuery) : Type 0 where
+  pub fits : IsLinearQuery q
   pub nodes : nodes q.body < 2 ^ 31
   pub vars : length q.vars < 2 ^ 31
 
@@ -40,19 +40,19 @@ HasSides vars (forks.Branch i k) = IsOf sorts.Int vars i
 
 -- both facts of the fork can be made, and the path stays one with either
 abbrev pub CanTurn : List Sort → List Fact → Fork → Type 0
-CanTurn vars path (forks.Split t) = IsOpen vars path t
+CanTurn vars path (forks.Split t) = TestIsOpen vars path t
 CanTurn vars path (forks.Branch i k) = IsPath vars path × IsOf sorts.Int vars i
 
 -- what a node gives is two facts, or want of memory
-abbrev pub IsGiven : Result (Option (Fact × Fact)) CheckEnd → Type 0
-IsGiven outcome = (facts : Fact × Fact) × Gives 0 outcome (Adds facts)
+abbrev pub GivesTwoFacts : Result (Option (Fact × Fact)) CheckEnd → Type 0
+GivesTwoFacts outcome = (facts : Fact × Fact) × AnswersAt 0 outcome (Adds facts)
 
 -- the layer to the left side, or else to the right one
-abbrev pub side_layer : Bool → Fork → List Fraction → Grown → Layer
+abbrev pub side_layer : Bool → Fork → List Fraction → GrownTree → Layer
 side_layer true fork p other = Left fork p other
 side_layer false fork p other = Right fork p other
 
-abbrev pub is_unfinished : Grown → Bool
+abbrev pub is_unfinished : GrownTree → Bool
 is_unfinished Unfinished = true
 is_unfinished (Forked fork p left right) = false
 is_unfinished (Cut ms d p below) = false
@@ -72,12 +72,12 @@ AllTurn vars path (layer ∷ layers) [] = Unit {0}
 AllTurn vars path (layer ∷ layers) (fact ∷ facts) = LayerTurns vars path layer × AllTurn vars (path ++ fact ∷ []) layers facts
 
 -- layers from the root, which add these facts
-pub record Stand (order : Order) (q : Query) (all : List Layer) (facts : List Fact) : Type 0 where
+pub record Stand (order : Order) (q : LinearQuery) (all : List Layer) (facts : List Fact) : Type 0 where
   pub layers : AreLayers order q [] all facts
   pub turns : AllTurn q.vars [] all facts
 
 -- the way's steps stand, and its inner nodes are theirs and those of what stands at its end
-pub record IsWay (order : Order) (q : Query) (way : Way) (end : Grown) : Type 0 where
+pub record IsWay (order : Order) (q : LinearQuery) (way : Way) (end : GrownTree) : Type 0 where
   pub stand : Stand order q (layers_of way.steps.items) way.facts.items
   pub inner : way.inner ≡ inner_of (layers_of way.steps.items) + inner end
 
@@ -88,52 +88,52 @@ pub record IsLonger (way : Way) (fact : Fact) (step : Step) (next : Way) : Type 
   pub inner : next.inner ≡ way.inner
 
 -- an open leaf of a tree of at most so many inner nodes
-pub record IsLeaf (order : Order) (q : Query) (nodes : ℕ) (to : Way) : Type 0 where
+pub record IsLeaf (order : Order) (q : LinearQuery) (nodes : ℕ) (to : Way) : Type 0 where
   pub way : IsWay order q to Unfinished
   pub path : IsPath q.vars to.facts.items
   pub within : to.inner ≤ nodes
 
 -- a closed tree
-pub record IsClosed (order : Order) (q : Query) (to : Way) (tree : Grown) : Type 0 where
+pub record IsClosedTree (order : Order) (q : LinearQuery) (to : Way) (tree : GrownTree) : Type 0 where
   pub way : IsWay order q to tree
   pub grows : IsGrowing order q to.facts.items tree
   pub closed : is_closed tree ≡ true
 
 -- a fork at the end of the way, one side of which can be entered: the other is this one, and the way's inner nodes are counted
 -- with both
-pub record GoesOn (order : Order) (q : Query) (way : Way) (last : Fork) (point : List Fraction) (left : Bool) (other : Grown) : Type 0 where
+pub record GoesOn (order : Order) (q : LinearQuery) (way : Way) (last : Fork) (point : List Fraction) (left : Bool) (other : GrownTree) : Type 0 where
   pub stand : Stand order q (layers_of way.steps.items) way.facts.items
   pub fork : IsFork order q way.facts.items last point
   pub turns : CanTurn q.vars way.facts.items last
-  pub beside : IsBeside order q (way.facts.items ++ fork_fact (not left) last ∷ []) other
+  pub beside : IsOtherSide order q (way.facts.items ++ fork_fact (not left) last ∷ []) other
   pub inner : way.inner ≡ inner_of (layers_of way.steps.items) + suc (inner other)
 
 -- how many turns are left at most after one side is entered
-abbrev pub room_after : ℕ → Way → Grown → ℕ
+abbrev pub room_after : ℕ → Way → GrownTree → ℕ
 room_after nodes way other = 4 * (nodes - way.inner) + 2 * (waiting (layers_of way.steps.items) + unbegun other) + length way.steps.items + 2
 
 -- ---- splits
 -- a test that the order allows a split on, with either side of which the path stays one
-pub record IsSplit (order : Order) (q : Query) (path : List Fact) (test : Test) : Type 0 where
-  pub leaves : Leaves order q path test
-  pub turns : IsOpen q.vars path test
+pub record IsSplit (order : Order) (q : LinearQuery) (path : List Fact) (test : Test) : Type 0 where
+  pub leaves : LeavesOpen order q path test
+  pub turns : TestIsOpen q.vars path test
 
 -- ---- points
 -- a point of the path, multipliers that refute it, or a run that shows which budget was met
 abbrev pub TellsPoint : List Sort → List Fact → ℕ → Feasible → Type 0
-TellsPoint vars path pivots (Point p) = IsAt vars path p
+TellsPoint vars path pivots (Point p) = IsPointOf vars path p
 TellsPoint vars path pivots (Conflict ms) = IsContradiction ms (forms path)
-TellsPoint vars path pivots (Pivots run) = IsSpent (length vars) (forms path) pivots run.steps
+TellsPoint vars path pivots (Pivots run) = RunIsSpent (length vars) (forms path) pivots run.steps
 TellsPoint vars path pivots (Range run) = IsOutOfRange (length vars) (forms path) pivots run.steps
 
 -- the same, where the point is a corner
 abbrev pub TellsCorner : List Sort → List Fact → ℕ → Feasible → Type 0
 TellsCorner vars path pivots (Point p) = IsCornerOf vars path p
 TellsCorner vars path pivots (Conflict ms) = IsContradiction ms (forms path)
-TellsCorner vars path pivots (Pivots run) = IsSpent (length vars) (forms path) pivots run.steps
+TellsCorner vars path pivots (Pivots run) = RunIsSpent (length vars) (forms path) pivots run.steps
 TellsCorner vars path pivots (Range run) = IsOutOfRange (length vars) (forms path) pivots run.steps
 
 -- the first value that isn't whole, of an integer variable; none where all are whole
 abbrev pub IsBrokenIn : List Sort → List Fraction → Option (ℕ × ℤ) → Type 0
-IsBrokenIn vars point None = AreWhole point
+IsBrokenIn vars point None = ValuesAreWhole point
 IsBrokenIn vars point (Some found) = IsFirstBroken point found.0 found.1 × IsOf sorts.Int vars found.0

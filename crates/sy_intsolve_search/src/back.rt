@@ -1,11 +1,11 @@
 // A turn at a closed tree: back to the nearest side that isn't begun.
 ghost use Rattle.std.specs.Prelude.{◌≡◌, ◌≤◌, IfOk};
-ghost use Rattle.sy_linear_known.specs.Stored.{query_of};
+ghost use Rattle.sy_linear_known.specs.Stored.{linear_query_of};
 ghost use Rattle.sy_query_limits.specs.declared.Limits.{Limits};
 ghost use Rattle.sy_intsolve_trees.specs.declared.step.Order.{Order};
-ghost use Rattle.sy_intsolve_trees.specs.Stored.{grown_of, layer_of};
-ghost use Rattle.sy_intsolve_search.specs.Ways.{is_unfinished, IsClosed};
-ghost use Rattle.sy_intsolve_search.specs.States.{IsBack, IsTurn, room_closed};
+ghost use Rattle.sy_intsolve_trees.specs.Stored.{grown_tree_of, layer_of};
+ghost use Rattle.sy_intsolve_search.specs.Ways.{is_unfinished, IsClosedTree};
+ghost use Rattle.sy_intsolve_search.specs.States.{ClosesLayer, IsTurn, room_closed};
 
 use crate::fork::enter;
 use crate::state::{State, Turn};
@@ -30,7 +30,7 @@ pub(crate) enum Beside {
 
 /// Whether nothing is shown.
 fn is_unbegun(tree: &Tree) -> bool
-    ensures { result ≡ is_unfinished (grown_of tree.now) }
+    ensures { result ≡ is_unfinished (grown_tree_of tree.now) }
 {
     match tree {
         Tree::Unfinished => true,
@@ -44,7 +44,7 @@ fn is_unbegun(tree: &Tree) -> bool
 
 /// What the tree at the end of the step makes.
 fn turned(step: Step, tree: Tree) -> Beside
-    ensures { IsBack (layer_of step) (grown_of tree) result }
+    ensures { ClosesLayer (layer_of step) (grown_tree_of tree) result }
 {
     match step {
         Step::Left(fork, point, right) => {
@@ -75,8 +75,8 @@ pub(crate) fn back(
     way: Way,
     tree: Tree,
 ) -> Result<Turn, Want>
-    requires { (order : Order) × IsClosed order (query_of query.now) way (grown_of tree) }
-    ensures { (order : Order) (limits : Limits) → IsClosed order (query_of query.now) way (grown_of tree) → way.inner ≤ limits.nodes → IfOk result (IsTurn order (query_of query.now) limits (room_closed limits.nodes way)) }
+    requires { (order : Order) × IsClosedTree order (linear_query_of query.now) way (grown_tree_of tree) }
+    ensures { (order : Order) (limits : Limits) → IsClosedTree order (linear_query_of query.now) way (grown_tree_of tree) → way.inner ≤ limits.nodes → IfOk result (IsTurn order (linear_query_of query.now) limits (room_closed limits.nodes way)) }
 {
     let Way {
         facts,

@@ -1,8 +1,8 @@
 // The test of a split.
 ghost use Rattle.std.specs.Prelude.{IfOk, IfSome};
-ghost use Rattle.sy_linear_known.specs.Stored.{query_of};
+ghost use Rattle.sy_linear_known.specs.Stored.{linear_query_of};
 ghost use Rattle.sy_intsolve_asked.specs.Asked.{IsPath};
-ghost use Rattle.sy_intsolve_search.specs.Ways.{IsAsked, IsSplit};
+ghost use Rattle.sy_intsolve_search.specs.Ways.{IsNumberedQuery, IsSplit};
 
 use crate::plan::Plan;
 use crate::way::Way;
@@ -22,9 +22,9 @@ pub(crate) fn guessed_test(
     guide: &mut Guide,
     way: &Way,
 ) -> Result<Option<Test>, Want>
-    requires asked { IsAsked (query_of query.now) }
+    requires asked { IsNumberedQuery (linear_query_of query.now) }
     requires path { IsPath query.now.vars way.now.facts.items }
-    ensures { IfOk result (λ found. IfSome found (IsSplit plan.now.order (query_of query.now) way.now.facts.items)) }
+    ensures { IfOk result (λ found. IfSome found (IsSplit plan.now.order (linear_query_of query.now) way.now.facts.items)) }
 {
     match plan.order {
         Order::First => Ok(None),

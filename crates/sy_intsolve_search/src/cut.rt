@@ -2,10 +2,10 @@
 ghost use Rattle.std.specs.Prelude.{◌≡◌, IfOk};
 ghost use Rattle.sy_linear_known.specs.declared.answer.Known.TheVariants as known;
 ghost use Rattle.sy_linear_known.specs.Seen.{query_known};
-ghost use Rattle.sy_linear_known.specs.Stored.{query_of};
+ghost use Rattle.sy_linear_known.specs.Stored.{linear_query_of};
 ghost use Rattle.sy_intsolve_points.specs.Points.{IsCornerOf};
-ghost use Rattle.sy_intsolve_cuts.specs.Cuts.{AllFound, IsFound};
-ghost use Rattle.sy_intsolve_search.specs.Ways.{IsAsked, IsLeaf};
+ghost use Rattle.sy_intsolve_cuts.specs.Cuts.{AllFound, IsCutBy};
+ghost use Rattle.sy_intsolve_search.specs.Ways.{IsNumberedQuery, IsLeaf};
 ghost use Rattle.sy_intsolve_search.specs.States.{IsTurn, room_open};
 
 use crate::plan::Plan;
@@ -43,7 +43,7 @@ pub(crate) fn cut_at(
     point: &[Frac],
     last: Option<Tableau>,
 ) -> Result<Option<Rounding>, Want>
-    requires { IsAsked (query_of query.now) }
+    requires { IsNumberedQuery (linear_query_of query.now) }
     ensures { IfOk result (AllFound query.now.vars way.now.facts.items point.now) }
 {
     if cuts_in_row(way.steps.as_slice()) >= MOST_IN_A_ROW {
@@ -68,11 +68,11 @@ pub(crate) fn under(
     rounding: Rounding,
     point: Seq<Frac>,
 ) -> Result<Turn, Want>
-    requires leaf { IsLeaf plan.now.order (query_of query.now) plan.now.limits.nodes way }
-    requires known { query_known (query_of query.now) way.facts.items ≡ known.True }
+    requires leaf { IsLeaf plan.now.order (linear_query_of query.now) plan.now.limits.nodes way }
+    requires known { query_known (linear_query_of query.now) way.facts.items ≡ known.True }
     requires corner { IsCornerOf query.now.vars way.facts.items point }
-    requires found { IsFound query.now.vars way.facts.items point rounding }
-    ensures { IfOk result (IsTurn plan.now.order (query_of query.now) plan.now.limits (room_open plan.now.limits.nodes way)) }
+    requires found { IsCutBy query.now.vars way.facts.items point rounding }
+    ensures { IfOk result (IsTurn plan.now.order (linear_query_of query.now) plan.now.limits (room_open plan.now.limits.nodes way)) }
 {
     if way.inner >= plan.limits.nodes {
         let spent = spent_nodes(alloc, way)?;

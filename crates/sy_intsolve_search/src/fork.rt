@@ -1,13 +1,13 @@
 // Inner nodes with two sides, and the side at which a search goes on.
 ghost use Rattle.std.specs.Prelude.{◌≡◌, ◌≤◌, true, false, ℕ, IfOk};
 ghost use Rattle.sy_linear_known.specs.declared.path.Fact.{Fact as FactOf};
-ghost use Rattle.sy_linear.specs.Judging.{Gives, Adds};
-ghost use Rattle.sy_linear_known.specs.Stored.{query_of};
+ghost use Rattle.sy_linear.specs.Judging.{AnswersAt, Adds};
+ghost use Rattle.sy_linear_known.specs.Stored.{linear_query_of};
 ghost use Rattle.sy_intsolve_trees.specs.Growing.{fork_fact};
-ghost use Rattle.sy_intsolve_trees.specs.Stored.{grown_of, layer_of};
+ghost use Rattle.sy_intsolve_trees.specs.Stored.{grown_tree_of, layer_of};
 ghost use Rattle.sy_intsolve_trees.specs.declared.step.Order.{Order};
-ghost use Rattle.sy_intsolve_search.specs.Ways.{CanTurn, HasSides, IsGiven, side_layer, GoesOn, room_after};
-ghost use Rattle.sy_intsolve_search.specs.States.{room, IsState};
+ghost use Rattle.sy_intsolve_search.specs.Ways.{CanTurn, HasSides, GivesTwoFacts, side_layer, GoesOn, room_after};
+ghost use Rattle.sy_intsolve_search.specs.States.{nodes_left, IsState};
 
 use crate::state::State;
 use crate::way::Way;
@@ -24,8 +24,8 @@ use sy_terms::Sort;
 
 /// The facts that a node gives, which it is sure to give.
 fn given_facts(outcome: Result<Option<(Fact, Fact)>, CheckEnd>) -> Result<(Fact, Fact), Want>
-    requires { IsGiven outcome }
-    ensures { (facts : FactOf × FactOf) → Gives 0 outcome (Adds facts) → IfOk result (λ given. given ≡ facts) }
+    requires { GivesTwoFacts outcome }
+    ensures { (facts : FactOf × FactOf) → AnswersAt 0 outcome (Adds facts) → IfOk result (λ given. given ≡ facts) }
 {
     match outcome {
         Ok(Some(facts)) => Ok(facts),
@@ -56,7 +56,7 @@ fn fact_of(alloc: Global, vars: &[Sort], fork: &Fork, left: bool) -> Result<Fact
 
 /// The step to the left side, or else to the right one, where the tree is the other side.
 fn step_to(left: bool, fork: Fork, point: Seq<Frac>, other: Tree) -> Step
-    ensures { layer_of result ≡ side_layer left fork point (grown_of other) }
+    ensures { layer_of result ≡ side_layer left fork point (grown_tree_of other) }
 {
     if left {
         Step::Left(fork, point, other)
@@ -89,8 +89,8 @@ pub(crate) fn enter(
     other: Tree,
 ) -> Result<State, Want>
     requires { CanTurn query.now.vars way.facts.items fork }
-    ensures state { (order : Order) (nodes : ℕ) → GoesOn order (query_of query.now) way fork point left (grown_of other) → way.inner ≤ nodes → IfOk result (IsState order (query_of query.now) nodes) }
-    ensures room { (nodes : ℕ) → IfOk result (λ next. room nodes next ≡ room_after nodes way (grown_of other)) }
+    ensures state { (order : Order) (nodes : ℕ) → GoesOn order (linear_query_of query.now) way fork point left (grown_tree_of other) → way.inner ≤ nodes → IfOk result (IsState order (linear_query_of query.now) nodes) }
+    ensures room { (nodes : ℕ) → IfOk result (λ next. nodes_left nodes next ≡ room_after nodes way (grown_tree_of other)) }
 {
     let vars = query.vars.as_slice();
     let fact = fact_of(alloc, vars, &fork, left)?;

@@ -1,12 +1,12 @@
 // A turn at an open leaf.
 ghost use Rattle.std.specs.Prelude.{◌≡◌, IfOk, IfSome};
 ghost use Rattle.sy_linear_known.specs.declared.answer.Known.TheVariants as known;
-ghost use Rattle.sy_linear_known.specs.Right.{IsRight};
+ghost use Rattle.sy_linear_known.specs.Right.{KnownIsRight};
 ghost use Rattle.sy_linear_known.specs.Seen.{query_known};
-ghost use Rattle.sy_linear_known.specs.Stored.{query_of};
-ghost use Rattle.sy_intsolve_points.specs.Points.{IsAt, IsCornerOf};
+ghost use Rattle.sy_linear_known.specs.Stored.{linear_query_of};
+ghost use Rattle.sy_intsolve_points.specs.Points.{IsPointOf, IsCornerOf};
 ghost use Rattle.sy_intsolve_trees.specs.Growing.{IsFork};
-ghost use Rattle.sy_intsolve_search.specs.Ways.{IsAsked, IsLeaf, IsSplit, CanTurn};
+ghost use Rattle.sy_intsolve_search.specs.Ways.{IsNumberedQuery, IsLeaf, IsSplit, CanTurn};
 ghost use Rattle.sy_intsolve_search.specs.States.{IsTurn, room_open};
 
 use crate::choosing::guessed_test;
@@ -39,10 +39,10 @@ fn grow(
     fork: Fork,
     point: Seq<Frac>,
 ) -> Result<Turn, Want>
-    requires leaf { IsLeaf plan.now.order (query_of query.now) plan.now.limits.nodes way }
-    requires fork { IsFork plan.now.order (query_of query.now) way.facts.items fork point }
+    requires leaf { IsLeaf plan.now.order (linear_query_of query.now) plan.now.limits.nodes way }
+    requires fork { IsFork plan.now.order (linear_query_of query.now) way.facts.items fork point }
     requires turns { CanTurn query.now.vars way.facts.items fork }
-    ensures { IfOk result (IsTurn plan.now.order (query_of query.now) plan.now.limits (room_open plan.now.limits.nodes way)) }
+    ensures { IfOk result (IsTurn plan.now.order (linear_query_of query.now) plan.now.limits (room_open plan.now.limits.nodes way)) }
 {
     if way.inner >= plan.limits.nodes {
         let spent = spent_nodes(alloc, way)?;
@@ -65,13 +65,13 @@ fn cut_or_branch(
     point: Seq<Frac>,
     last: Option<Tableau>,
 ) -> Result<Turn, Want>
-    requires asked { IsAsked (query_of query.now) }
-    requires leaf { IsLeaf plan.now.order (query_of query.now) plan.now.limits.nodes way }
-    requires known { query_known (query_of query.now) way.facts.items ≡ known.True }
+    requires asked { IsNumberedQuery (linear_query_of query.now) }
+    requires leaf { IsLeaf plan.now.order (linear_query_of query.now) plan.now.limits.nodes way }
+    requires known { query_known (linear_query_of query.now) way.facts.items ≡ known.True }
     requires corner { IsCornerOf query.now.vars way.facts.items point }
-    requires fork { IsFork plan.now.order (query_of query.now) way.facts.items branch point }
+    requires fork { IsFork plan.now.order (linear_query_of query.now) way.facts.items branch point }
     requires turns { CanTurn query.now.vars way.facts.items branch }
-    ensures { IfOk result (IsTurn plan.now.order (query_of query.now) plan.now.limits (room_open plan.now.limits.nodes way)) }
+    ensures { IfOk result (IsTurn plan.now.order (linear_query_of query.now) plan.now.limits (room_open plan.now.limits.nodes way)) }
 {
     let here = point.as_slice();
     let found = cut_at(alloc, query, &way, here, last)?;
@@ -93,12 +93,12 @@ fn at_corner(
     point: Seq<Frac>,
     last: Option<Tableau>,
 ) -> Result<Turn, Want>
-    requires asked { IsAsked (query_of query.now) }
-    requires leaf { IsLeaf plan.now.order (query_of query.now) plan.now.limits.nodes way }
-    requires known { query_known (query_of query.now) way.facts.items ≡ known.True }
-    requires right { IsRight (query_of query.now) way.facts.items known.True }
+    requires asked { IsNumberedQuery (linear_query_of query.now) }
+    requires leaf { IsLeaf plan.now.order (linear_query_of query.now) plan.now.limits.nodes way }
+    requires known { query_known (linear_query_of query.now) way.facts.items ≡ known.True }
+    requires right { KnownIsRight (linear_query_of query.now) way.facts.items known.True }
     requires corner { IsCornerOf query.now.vars way.facts.items point }
-    ensures { IfOk result (IsTurn plan.now.order (query_of query.now) plan.now.limits (room_open plan.now.limits.nodes way)) }
+    ensures { IfOk result (IsTurn plan.now.order (linear_query_of query.now) plan.now.limits (room_open plan.now.limits.nodes way)) }
 {
     let here = point.as_slice();
     match broken(query, &way, here) {
@@ -122,12 +122,12 @@ fn settled(
     way: Way,
     point: Option<Seq<Frac>>,
 ) -> Result<Turn, Want>
-    requires asked { IsAsked (query_of query.now) }
-    requires leaf { IsLeaf plan.now.order (query_of query.now) plan.now.limits.nodes way }
-    requires kept { IfSome point (IsAt query.now.vars way.facts.items) }
-    requires known { query_known (query_of query.now) way.facts.items ≡ known.True }
-    requires right { IsRight (query_of query.now) way.facts.items known.True }
-    ensures { IfOk result (IsTurn plan.now.order (query_of query.now) plan.now.limits (room_open plan.now.limits.nodes way)) }
+    requires asked { IsNumberedQuery (linear_query_of query.now) }
+    requires leaf { IsLeaf plan.now.order (linear_query_of query.now) plan.now.limits.nodes way }
+    requires kept { IfSome point (IsPointOf query.now.vars way.facts.items) }
+    requires known { query_known (linear_query_of query.now) way.facts.items ≡ known.True }
+    requires right { KnownIsRight (linear_query_of query.now) way.facts.items known.True }
+    ensures { IfOk result (IsTurn plan.now.order (linear_query_of query.now) plan.now.limits (room_open plan.now.limits.nodes way)) }
 {
     if let Some(near) = point {
         let here = near.as_slice();
@@ -165,11 +165,11 @@ fn undecided(
     point: Option<Seq<Frac>>,
     test: Test,
 ) -> Result<Turn, Want>
-    requires asked { IsAsked (query_of query.now) }
-    requires leaf { IsLeaf plan.now.order (query_of query.now) plan.now.limits.nodes way }
-    requires kept { IfSome point (IsAt query.now.vars way.facts.items) }
-    requires split { IsSplit plan.now.order (query_of query.now) way.facts.items test }
-    ensures { IfOk result (IsTurn plan.now.order (query_of query.now) plan.now.limits (room_open plan.now.limits.nodes way)) }
+    requires asked { IsNumberedQuery (linear_query_of query.now) }
+    requires leaf { IsLeaf plan.now.order (linear_query_of query.now) plan.now.limits.nodes way }
+    requires kept { IfSome point (IsPointOf query.now.vars way.facts.items) }
+    requires split { IsSplit plan.now.order (linear_query_of query.now) way.facts.items test }
+    ensures { IfOk result (IsTurn plan.now.order (linear_query_of query.now) plan.now.limits (room_open plan.now.limits.nodes way)) }
 {
     let answer = point_at(alloc, query, plan.limits.pivots, &way, point)?;
     match answer {
@@ -199,10 +199,10 @@ fn told(
     way: Way,
     point: Option<Seq<Frac>>,
 ) -> Result<Turn, Want>
-    requires asked { IsAsked (query_of query.now) }
-    requires leaf { IsLeaf plan.now.order (query_of query.now) plan.now.limits.nodes way }
-    requires kept { IfSome point (IsAt query.now.vars way.facts.items) }
-    ensures { IfOk result (IsTurn plan.now.order (query_of query.now) plan.now.limits (room_open plan.now.limits.nodes way)) }
+    requires asked { IsNumberedQuery (linear_query_of query.now) }
+    requires leaf { IsLeaf plan.now.order (linear_query_of query.now) plan.now.limits.nodes way }
+    requires kept { IfSome point (IsPointOf query.now.vars way.facts.items) }
+    ensures { IfOk result (IsTurn plan.now.order (linear_query_of query.now) plan.now.limits (room_open plan.now.limits.nodes way)) }
 {
     let known = known_at(alloc, query, &way)?;
     match known {
@@ -232,10 +232,10 @@ fn opened(
     way: Way,
     point: Option<Seq<Frac>>,
 ) -> Result<Turn, Want>
-    requires asked { IsAsked (query_of query.now) }
-    requires leaf { IsLeaf plan.now.order (query_of query.now) plan.now.limits.nodes way }
-    requires kept { IfSome point (IsAt query.now.vars way.facts.items) }
-    ensures { IfOk result (IsTurn plan.now.order (query_of query.now) plan.now.limits (room_open plan.now.limits.nodes way)) }
+    requires asked { IsNumberedQuery (linear_query_of query.now) }
+    requires leaf { IsLeaf plan.now.order (linear_query_of query.now) plan.now.limits.nodes way }
+    requires kept { IfSome point (IsPointOf query.now.vars way.facts.items) }
+    ensures { IfOk result (IsTurn plan.now.order (linear_query_of query.now) plan.now.limits (room_open plan.now.limits.nodes way)) }
 {
     if let Some(test) = guessed_test(alloc, query, plan, guide, &way)? {
         let turn = undecided(alloc, query, plan, way, point, test)?;
@@ -255,10 +255,10 @@ pub(crate) fn look(
     way: Way,
     point: Option<Seq<Frac>>,
 ) -> Result<Turn, Want>
-    requires asked { IsAsked (query_of query.now) }
-    requires leaf { IsLeaf plan.now.order (query_of query.now) plan.now.limits.nodes way }
-    requires kept { IfSome point (IsAt query.now.vars way.facts.items) }
-    ensures { IfOk result (IsTurn plan.now.order (query_of query.now) plan.now.limits (room_open plan.now.limits.nodes way)) }
+    requires asked { IsNumberedQuery (linear_query_of query.now) }
+    requires leaf { IsLeaf plan.now.order (linear_query_of query.now) plan.now.limits.nodes way }
+    requires kept { IfSome point (IsPointOf query.now.vars way.facts.items) }
+    ensures { IfOk result (IsTurn plan.now.order (linear_query_of query.now) plan.now.limits (room_open plan.now.limits.nodes way)) }
 {
     let told = near(alloc, query, plan.limits.pivots, &way, point)?;
     match told {

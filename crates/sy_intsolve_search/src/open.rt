@@ -1,12 +1,12 @@
 // What is known of a path, and a point of it.
 ghost use Rattle.std.specs.Prelude.{◌≡◌, IfOk, IfSome};
-ghost use Rattle.sy_linear_known.specs.Right.{IsRight, IsMisfit};
+ghost use Rattle.sy_linear_known.specs.Right.{KnownIsRight, IsMisfit};
 ghost use Rattle.sy_linear_known.specs.Seen.{query_known};
-ghost use Rattle.sy_linear_known.specs.Stored.{query_of};
+ghost use Rattle.sy_linear_known.specs.Stored.{linear_query_of};
 ghost use Rattle.sy_intsolve_asked.specs.Asked.{IsPath};
-ghost use Rattle.sy_intsolve_points.specs.Points.{IsAt};
+ghost use Rattle.sy_intsolve_points.specs.Points.{IsPointOf};
 ghost use Rattle.sy_intsolve_subsets.specs.Telling.{IsNear};
-ghost use Rattle.sy_intsolve_search.specs.Ways.{IsAsked, IsBrokenIn, TellsCorner, TellsPoint};
+ghost use Rattle.sy_intsolve_search.specs.Ways.{IsNumberedQuery, IsBrokenIn, TellsCorner, TellsPoint};
 
 use crate::way::Way;
 use std::alloc::Global;
@@ -21,10 +21,10 @@ use sy_simplex::{Ended, Feasible};
 
 /// What the way's facts tell of the query.
 pub(crate) fn known_at(alloc: Global, query: &Query<IntTheory>, way: &Way) -> Result<Known, Want>
-    requires asked { IsAsked (query_of query.now) }
-    ensures known { IfOk result (λ k. k ≡ query_known (query_of query.now) way.now.facts.items) }
-    ensures right { IfOk result (λ k. IsRight (query_of query.now) way.now.facts.items k) }
-    ensures range { IfOk result (λ k. IsMisfit (query_of query.now) way.now.facts.items k) }
+    requires asked { IsNumberedQuery (linear_query_of query.now) }
+    ensures known { IfOk result (λ k. k ≡ query_known (linear_query_of query.now) way.now.facts.items) }
+    ensures right { IfOk result (λ k. KnownIsRight (linear_query_of query.now) way.now.facts.items k) }
+    ensures range { IfOk result (λ k. IsMisfit (linear_query_of query.now) way.now.facts.items k) }
 {
     let facts = way.facts.as_slice();
     let known = known_under(alloc, query, facts)?;
@@ -38,7 +38,7 @@ pub(crate) fn corner_at(
     pivots: u32,
     way: &Way,
 ) -> Result<Ended, Want>
-    requires asked { IsAsked (query_of query.now) }
+    requires asked { IsNumberedQuery (linear_query_of query.now) }
     requires path { IsPath query.now.vars way.now.facts.items }
     ensures { IfOk result (λ end. TellsCorner query.now.vars way.now.facts.items pivots end.answer) }
 {
@@ -58,7 +58,7 @@ fn told_by_few(
     pivots: u32,
     way: &Way,
 ) -> Result<Near, Want>
-    requires asked { IsAsked (query_of query.now) }
+    requires asked { IsNumberedQuery (linear_query_of query.now) }
     requires path { IsPath query.now.vars way.now.facts.items }
     ensures { IfOk result (IsNear query.now.vars way.now.facts.items) }
 {
@@ -79,9 +79,9 @@ pub(crate) fn near(
     way: &Way,
     point: Option<Seq<Frac>>,
 ) -> Result<Near, Want>
-    requires asked { IsAsked (query_of query.now) }
+    requires asked { IsNumberedQuery (linear_query_of query.now) }
     requires path { IsPath query.now.vars way.now.facts.items }
-    requires kept { IfSome point (IsAt query.now.vars way.now.facts.items) }
+    requires kept { IfSome point (IsPointOf query.now.vars way.now.facts.items) }
     ensures { IfOk result (IsNear query.now.vars way.now.facts.items) }
 {
     match point {
@@ -101,9 +101,9 @@ pub(crate) fn point_at(
     way: &Way,
     point: Option<Seq<Frac>>,
 ) -> Result<Feasible, Want>
-    requires asked { IsAsked (query_of query.now) }
+    requires asked { IsNumberedQuery (linear_query_of query.now) }
     requires path { IsPath query.now.vars way.now.facts.items }
-    requires kept { IfSome point (IsAt query.now.vars way.now.facts.items) }
+    requires kept { IfSome point (IsPointOf query.now.vars way.now.facts.items) }
     ensures { IfOk result (TellsPoint query.now.vars way.now.facts.items pivots) }
 {
     if let Some(point) = point {
@@ -116,8 +116,8 @@ pub(crate) fn point_at(
 /// The first variable whose value isn't whole, which is an integer variable, and the greatest whole number below that
 /// value; `None` exactly where all values are whole.
 pub(crate) fn broken(query: &Query<IntTheory>, way: &Way, point: &[Frac]) -> Option<(u32, i128)>
-    requires asked { IsAsked (query_of query.now) }
-    requires at { IsAt query.now.vars way.now.facts.items point.now }
+    requires asked { IsNumberedQuery (linear_query_of query.now) }
+    requires at { IsPointOf query.now.vars way.now.facts.items point.now }
     ensures { IsBrokenIn query.now.vars point.now result }
 {
     let (variable, bound) = first_broken(point)?;

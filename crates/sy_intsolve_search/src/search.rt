@@ -1,8 +1,8 @@
 // The search.
 ghost use Rattle.std.specs.Prelude.{◌≡◌, IfOk};
-ghost use Rattle.sy_linear_known.specs.Stored.{query_of};
-ghost use Rattle.sy_intsolve_search.specs.Ways.{IsAsked};
-ghost use Rattle.sy_intsolve_search.specs.States.{IsState, IsTurn, room, IsEnd, IsAnswer};
+ghost use Rattle.sy_linear_known.specs.Stored.{linear_query_of};
+ghost use Rattle.sy_intsolve_search.specs.Ways.{IsNumberedQuery};
+ghost use Rattle.sy_intsolve_search.specs.States.{IsState, IsTurn, nodes_left, IsSearchEnd, AnswersQuery};
 
 use crate::back::back;
 use crate::leaf::look;
@@ -26,9 +26,9 @@ fn next_turn(
     guide: &mut Guide,
     state: State,
 ) -> Result<Turn, Want>
-    requires asked { IsAsked (query_of query.now) }
-    requires state { IsState plan.now.order (query_of query.now) plan.now.limits.nodes state }
-    ensures { IfOk result (IsTurn plan.now.order (query_of query.now) plan.now.limits (room plan.now.limits.nodes state)) }
+    requires asked { IsNumberedQuery (linear_query_of query.now) }
+    requires state { IsState plan.now.order (linear_query_of query.now) plan.now.limits.nodes state }
+    ensures { IfOk result (IsTurn plan.now.order (linear_query_of query.now) plan.now.limits (nodes_left plan.now.limits.nodes state)) }
 {
     match state {
         State::Open(way, point) => {
@@ -50,8 +50,8 @@ fn search(
     plan: &Plan,
     guide: &mut Guide,
 ) -> Result<Verdict<IntTheory, Tree, IntSpent>, Want>
-    requires asked { IsAsked (query_of query.now) }
-    ensures { IfOk result (IsEnd plan.now.order (query_of query.now) plan.now.limits) }
+    requires asked { IsNumberedQuery (linear_query_of query.now) }
+    ensures { IfOk result (IsSearchEnd plan.now.order (linear_query_of query.now) plan.now.limits) }
 {
     let mut state = State::Open(Way::new(alloc), None);
     loop {
@@ -73,8 +73,8 @@ pub fn solve_query(
     query: &Query<IntTheory>,
     limits: &Limits,
 ) -> Result<Verdict<IntTheory, Tree, IntSpent>, Want>
-    requires asked { IsAsked (query_of query.now) }
-    ensures { IfOk result (IsAnswer (query_of query.now) limits.now) }
+    requires asked { IsNumberedQuery (linear_query_of query.now) }
+    ensures { IfOk result (AnswersQuery (linear_query_of query.now) limits.now) }
 {
     let mut guide = Guide::new(alloc, query)?;
     let free = Plan {

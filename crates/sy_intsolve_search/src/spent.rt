@@ -2,17 +2,17 @@
 ghost use Rattle.std.specs.Prelude.{◌≡◌, ◌≤◌, Some, length, IfOk, IfSome};
 ghost use Rattle.sy_query_limits.specs.declared.Limits.{Limits as LimitsOf};
 ghost use Rattle.sy_linear_known.specs.declared.answer.Known.TheVariants as known;
-ghost use Rattle.sy_linear_known.specs.Right.{IsRight};
-ghost use Rattle.sy_linear_known.specs.Seen.{Query as QueryOf, query_seen};
-ghost use Rattle.sy_linear_known.specs.Stored.{query_of};
+ghost use Rattle.sy_linear_known.specs.Right.{KnownIsRight};
+ghost use Rattle.sy_linear_known.specs.Seen.{LinearQuery as QueryOf, query_seen};
+ghost use Rattle.sy_linear_known.specs.Stored.{linear_query_of};
 ghost use Rattle.sy_linear_known.specs.Trees.{forms};
-ghost use Rattle.sy_simplex.specs.Runs.{IsSpent, IsOutOfRange};
+ghost use Rattle.sy_simplex.specs.Runs.{RunIsSpent, IsOutOfRange};
 ghost use Rattle.sy_intsolve_asked.specs.Asked.{IsPath};
-ghost use Rattle.sy_intsolve_points.specs.Points.{IsAt, AreWhole};
+ghost use Rattle.sy_intsolve_points.specs.Points.{IsPointOf, ValuesAreWhole};
 ghost use Rattle.sy_intsolve_trees.specs.declared.step.Order.{Order};
 ghost use Rattle.sy_intsolve_trees.specs.Growing.{Unfinished};
-ghost use Rattle.sy_intsolve_search.specs.Ways.{IsAsked, IsWay};
-ghost use Rattle.sy_intsolve_search.specs.States.{IsSpentBy, IsModelOf};
+ghost use Rattle.sy_intsolve_search.specs.Ways.{IsNumberedQuery, IsWay};
+ghost use Rattle.sy_intsolve_search.specs.States.{IsSpentBy, IsModelOfQuery};
 
 use crate::open::broken;
 use crate::way::Way;
@@ -37,7 +37,7 @@ pub(crate) fn spent_nodes(alloc: Global, way: Way) -> Result<IntSpent, Want>
 
 /// The tree so far and the way's path, under which the simplex method took as many steps as allowed.
 pub(crate) fn spent_pivots(alloc: Global, way: Way, run: Run) -> Result<IntSpent, Want>
-    ensures { (order : Order) (query : QueryOf) (limits : LimitsOf) → IsWay order query way Unfinished → way.inner ≤ limits.nodes → IsSpent (length query.vars) (forms way.facts.items) limits.pivots run.steps → IfOk result (IsSpentBy order query limits) }
+    ensures { (order : Order) (query : QueryOf) (limits : LimitsOf) → IsWay order query way Unfinished → way.inner ≤ limits.nodes → RunIsSpent (length query.vars) (forms way.facts.items) limits.pivots run.steps → IfOk result (IsSpentBy order query limits) }
 {
     let Way {
         facts,
@@ -90,12 +90,12 @@ pub(crate) fn model(
     way: &Way,
     point: &[Frac],
 ) -> Result<Values<IntTheory>, Want>
-    requires asked { IsAsked (query_of query.now) }
+    requires asked { IsNumberedQuery (linear_query_of query.now) }
     requires path { IsPath query.now.vars way.now.facts.items }
-    requires right { IsRight (query_of query.now) way.now.facts.items known.True }
-    requires at { IsAt query.now.vars way.now.facts.items point.now }
-    requires whole { AreWhole point.now }
-    ensures { IfOk result (IsModelOf (query_of query.now)) }
+    requires right { KnownIsRight (linear_query_of query.now) way.now.facts.items known.True }
+    requires at { IsPointOf query.now.vars way.now.facts.items point.now }
+    requires whole { ValuesAreWhole point.now }
+    ensures { IfOk result (IsModelOfQuery (linear_query_of query.now)) }
 {
     let vars = query.vars.as_slice();
     let facts = way.facts.as_slice();
@@ -110,11 +110,11 @@ pub(crate) fn whole_model(
     way: &Way,
     point: &[Frac],
 ) -> Result<Option<Values<IntTheory>>, Want>
-    requires asked { IsAsked (query_of query.now) }
+    requires asked { IsNumberedQuery (linear_query_of query.now) }
     requires path { IsPath query.now.vars way.now.facts.items }
-    requires right { IsRight (query_of query.now) way.now.facts.items known.True }
-    requires at { IsAt query.now.vars way.now.facts.items point.now }
-    ensures { IfOk result (λ found. IfSome found (IsModelOf (query_of query.now))) }
+    requires right { KnownIsRight (linear_query_of query.now) way.now.facts.items known.True }
+    requires at { IsPointOf query.now.vars way.now.facts.items point.now }
+    ensures { IfOk result (λ found. IfSome found (IsModelOfQuery (linear_query_of query.now))) }
 {
     match broken(query, way, point) {
         None => {

@@ -3,7 +3,7 @@ use Rattle.std.specs.Prelude.{List}
 use Rattle.sy_terms.specs.declared.sort.Sort.{Sort}
 use Rattle.sy_linear_known.specs.declared.path.Fact.{Fact}
 use Rattle.sy_linear_known.specs.Trees.{forms, IsContradiction}
-use Rattle.sy_intsolve_points.specs.Points.{IsAt}
+use Rattle.sy_intsolve_points.specs.Points.{IsPointOf}
 use Rattle.sy_intsolve_subsets.specs.declared.rounds.Near.{Near}
 use Rattle.sy_intsolve_subsets.specs.declared.rounds.Near.TheVariants.{Point, Conflict, Unknown}
 use Rattle.sy_intsolve_subsets.specs.declared.rounds.Turn.{Turn}
@@ -11,7 +11,7 @@ use Rattle.sy_intsolve_subsets.specs.declared.rounds.Turn.TheVariants.{On, Over}
 
 -- the point is one of the path, or the multipliers combine its forms to a negative constant
 abbrev pub IsNear : List Sort → List Fact → Near → Type 0
-IsNear vars path (Point point) = IsAt vars path point
+IsNear vars path (Point point) = IsPointOf vars path point
 IsNear vars path (Conflict multipliers) = IsContradiction multipliers (forms path)
 IsNear vars path Unknown = Unit {0}
 

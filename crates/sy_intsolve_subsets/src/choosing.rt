@@ -3,7 +3,7 @@ ghost use Rattle.std.specs.Prelude.{◌≡◌, List, [], All, true, IfOk, IfSome
 ghost use Rattle.sy_terms.specs.declared.sort.Sort.{Sort};
 ghost use Rattle.sy_linear_known.specs.declared.path.Fact.TheVariants.{AtLeast};
 ghost use Rattle.sy_intsolve_asked.specs.Asked.{Suit, IsPath};
-ghost use Rattle.sy_intsolve_points.specs.Points.{IsAt};
+ghost use Rattle.sy_intsolve_points.specs.Points.{IsPointOf};
 
 use std::alloc::Global;
 use sy_frac::Frac;
@@ -42,7 +42,7 @@ pub(crate) fn with_fact(
 
 /// Whether the point is known to meet all facts.
 pub(crate) fn are_met(facts: &[Fact], point: &[Frac]) -> bool
-    ensures { (vars : List Sort) → result ≡ true → IsAt vars [] point.now → IsAt vars facts.now point.now }
+    ensures { (vars : List Sort) → result ≡ true → IsPointOf vars [] point.now → IsPointOf vars facts.now point.now }
 {
     for fact in facts {
         if !meets(fact, point) {

@@ -2,7 +2,7 @@
 ghost use Rattle.std.specs.Prelude.{◌<◌, ◌^◌, [], List, length, IfOk};
 ghost use Rattle.sy_terms.specs.declared.sort.Sort.{Sort};
 ghost use Rattle.sy_intsolve_asked.specs.Asked.{IsPath};
-ghost use Rattle.sy_intsolve_points.specs.Points.{IsAt};
+ghost use Rattle.sy_intsolve_points.specs.Points.{IsPointOf};
 ghost use Rattle.sy_intsolve_subsets.specs.Telling.{IsNear, IsToldBy};
 
 use crate::choosing::{are_met, with_fact};
@@ -41,7 +41,7 @@ pub(crate) enum Turn {
 
 /// What a corner of the chosen facts tells.
 fn by_corner(alloc: Global, facts: &[Fact], point: Seq<Frac>) -> Result<Turn, Want>
-    ensures { (vars : List Sort) → IsAt vars [] point → IfOk result (IsToldBy vars facts.now) }
+    ensures { (vars : List Sort) → IsPointOf vars [] point → IfOk result (IsToldBy vars facts.now) }
 {
     let here = point.as_slice();
     if let Some(place) = worst(alloc, facts, here)? {

@@ -6,14 +6,14 @@ use Rattle.sy_frac.specs.Fraction.{Fraction}
 use Rattle.sy_linear_forms.specs.declared.form.Form.{Form}
 use Rattle.sy_linear_known.specs.declared.path.Fact.{Fact}
 use Rattle.sy_linear_known.specs.declared.path.Fact.TheVariants.{AtLeast}
-use Rattle.sy_linear_known.specs.Seen.{Query}
+use Rattle.sy_linear_known.specs.Seen.{LinearQuery}
 use Rattle.sy_intsolve_trees.specs.declared.fork.Fork.{Fork}
 use Rattle.sy_intsolve_trees.specs.declared.step.Order.{Order}
-use Rattle.sy_intsolve_trees.specs.Growing.{Grown, Forked, Cut, Farkas, Shown, Unfinished, fork_fact, IsGrowing, LeadsTo, inner}
-use Rattle.sy_intsolve_trees.specs.Steps.{Layer, Left, Right, Under, wrapped, plugged, layer_inner, inner_of, layer_waiting, waiting, IsBeside, IsLayer, AreLayers}
+use Rattle.sy_intsolve_trees.specs.Growing.{GrownTree, Forked, Cut, Farkas, Shown, Unfinished, fork_fact, IsGrowing, LeadsTo, inner}
+use Rattle.sy_intsolve_trees.specs.Steps.{Layer, Left, Right, Under, wrapped, plugged, layer_inner, inner_of, layer_waiting, waiting, IsOtherSide, IsLayer, AreLayers}
 
 -- ---- one layer more at the end
-pub plugged-last : (layers : List Layer) (layer : Layer) (end : Grown) → plugged (layers ++ layer ∷ []) end ≡ plugged layers (wrapped layer end)
+pub plugged-last : (layers : List Layer) (layer : Layer) (end : GrownTree) → plugged (layers ++ layer ∷ []) end ≡ plugged layers (wrapped layer end)
 unfolding plugged
 plugged-last [] layer end = refl
 plugged-last (first ∷ layers) layer end = ap (wrapped first) (plugged-last layers layer end)
@@ -28,7 +28,7 @@ unfolding waiting
 waiting-last [] layer = omega arith
 waiting-last (first ∷ layers) layer = omega (arith, waiting-last layers layer)
 
-pub layers-more : (order : Order) (q : Query) (path : List Fact) (layers : List Layer) (facts : List Fact) (layer : Layer) (fact : Fact) → AreLayers order q path layers facts → IsLayer order q (path ++ facts) layer fact → AreLayers order q path (layers ++ layer ∷ []) (facts ++ fact ∷ [])
+pub layers-more : (order : Order) (q : LinearQuery) (path : List Fact) (layers : List Layer) (facts : List Fact) (layer : Layer) (fact : Fact) → AreLayers order q path layers facts → IsLayer order q (path ++ facts) layer fact → AreLayers order q path (layers ++ layer ∷ []) (facts ++ fact ∷ [])
 unfolding AreLayers
 layers-more order q path [] [] layer fact h k = (subst (λ p. IsLayer order q p layer fact) (append-nil path) k, refl)
 layers-more order q path [] (f ∷ facts) layer fact h k = absurd cc
@@ -36,13 +36,13 @@ layers-more order q path (first ∷ layers) [] layer fact h k = absurd h
 layers-more order q path (first ∷ layers) (f ∷ facts) layer fact h k =
     (h.0, layers-more order q (path ++ f ∷ []) layers facts layer fact h.1 (subst (λ p. IsLayer order q p layer fact) (sym (append_assoc path (f ∷ []) facts)) k))
 
-no_layers : (order : Order) (q : Query) (path : List Fact) (layers : List Layer) (layer : Layer) → AreLayers order q path (layers ++ layer ∷ []) [] → ⊥
+no_layers : (order : Order) (q : LinearQuery) (path : List Fact) (layers : List Layer) (layer : Layer) → AreLayers order q path (layers ++ layer ∷ []) [] → ⊥
 unfolding AreLayers
 no_layers order q path [] layer h = h
 no_layers order q path (first ∷ layers) layer h = h
 
 -- and back: the last layer stands under the facts of those before it
-pub layers-last : (order : Order) (q : Query) (path : List Fact) (layers : List Layer) (facts : List Fact) (layer : Layer) (fact : Fact) → AreLayers order q path (layers ++ layer ∷ []) (facts ++ fact ∷ []) → AreLayers order q path layers facts × IsLayer order q (path ++ facts) layer fact
+pub layers-last : (order : Order) (q : LinearQuery) (path : List Fact) (layers : List Layer) (facts : List Fact) (layer : Layer) (fact : Fact) → AreLayers order q path (layers ++ layer ∷ []) (facts ++ fact ∷ []) → AreLayers order q path layers facts × IsLayer order q (path ++ facts) layer fact
 unfolding AreLayers
 layers-last order q path [] [] layer fact h = (refl, subst (λ p. IsLayer order q p layer fact) (sym (append-nil path)) h.0)
 layers-last order q path [] (f ∷ []) layer fact h = let k = h.1 in absurd cc
@@ -53,19 +53,19 @@ layers-last order q path (first ∷ layers) (f ∷ facts) layer fact h =
     ((h.0, k.0), subst (λ p. IsLayer order q p layer fact) (append_assoc path (f ∷ []) facts) k.1)
 
 -- ---- the whole tree
-pub inner-plugged : (layers : List Layer) (end : Grown) → inner (plugged layers end) ≡ inner_of layers + inner end
+pub inner-plugged : (layers : List Layer) (end : GrownTree) → inner (plugged layers end) ≡ inner_of layers + inner end
 unfolding inner inner_of plugged
 inner-plugged [] end = omega arith
 inner-plugged (Left fork p right ∷ layers) end = omega (arith, inner-plugged layers end)
 inner-plugged (Right fork p left ∷ layers) end = omega (arith, inner-plugged layers end)
 inner-plugged (Under ms d p ∷ layers) end = omega (arith, inner-plugged layers end)
 
-beside-grows : (order : Order) (q : Query) (path : List Fact) (other : Grown) → IsBeside order q path other → IsGrowing order q path other
+beside-grows : (order : Order) (q : LinearQuery) (path : List Fact) (other : GrownTree) → IsOtherSide order q path other → IsGrowing order q path other
 beside-grows order q path other (inl e) = subst (IsGrowing order q path) (sym e) tt
 beside-grows order q path other (inr h) = h.0
 
 -- the whole tree grows where what stands at the end does
-pub grows : (order : Order) (q : Query) (path : List Fact) (layers : List Layer) (facts : List Fact) (end : Grown) → AreLayers order q path layers facts → IsGrowing order q (path ++ facts) end → IsGrowing order q path (plugged layers end)
+pub grows : (order : Order) (q : LinearQuery) (path : List Fact) (layers : List Layer) (facts : List Fact) (end : GrownTree) → AreLayers order q path layers facts → IsGrowing order q (path ++ facts) end → IsGrowing order q path (plugged layers end)
 unfolding AreLayers plugged
 grows order q path [] facts end h k = subst (λ p. IsGrowing order q p end) (ap (λ fs. path ++ fs) h ∙ append-nil path) k
 grows order q path (layer ∷ layers) [] end h k = absurd h
@@ -77,7 +77,7 @@ grows order q path (layer ∷ layers) (fact ∷ facts) end h k = by layer h.0 (g
     by (Under ms d p) l below = (l.0, (l.1.0, subst (λ f. IsGrowing order q (path ++ f ∷ []) (plugged layers end)) l.1.1 below))
 
 -- the whole tree leads where what stands at the end does
-pub leads : (order : Order) (q : Query) (path : List Fact) (layers : List Layer) (facts : List Fact) (end : Grown) (to : List Fact) → AreLayers order q path layers facts → LeadsTo q (path ++ facts) end to → LeadsTo q path (plugged layers end) to
+pub leads : (order : Order) (q : LinearQuery) (path : List Fact) (layers : List Layer) (facts : List Fact) (end : GrownTree) (to : List Fact) → AreLayers order q path layers facts → LeadsTo q (path ++ facts) end to → LeadsTo q path (plugged layers end) to
 unfolding AreLayers plugged
 leads order q path [] facts end to h k = subst (λ p. LeadsTo q p end to) (ap (λ fs. path ++ fs) h ∙ append-nil path) k
 leads order q path (layer ∷ layers) [] end to h k = absurd h

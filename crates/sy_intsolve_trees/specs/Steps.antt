@@ -4,24 +4,24 @@ use Rattle.sy_frac.specs.Fraction.{Fraction}
 use Rattle.sy_linear_forms.specs.declared.form.Form.{Form}
 use Rattle.sy_linear_known.specs.declared.path.Fact.{Fact}
 use Rattle.sy_linear_known.specs.declared.path.Fact.TheVariants.{AtLeast}
-use Rattle.sy_linear_known.specs.Seen.{Query}
+use Rattle.sy_linear_known.specs.Seen.{LinearQuery}
 use Rattle.sy_intsolve_trees.specs.declared.fork.Fork.{Fork}
 use Rattle.sy_intsolve_trees.specs.declared.step.Order.{Order}
-use Rattle.sy_intsolve_trees.specs.Growing.{Grown, Forked, Cut, Farkas, Shown, Unfinished, fork_fact, IsFork, IsRounding, IsGrowing, inner, is_closed}
+use Rattle.sy_intsolve_trees.specs.Growing.{GrownTree, Forked, Cut, Farkas, Shown, Unfinished, fork_fact, IsFork, IsRounding, IsGrowing, inner, is_closed}
 
 -- an inner node above the leaf, and the side of it that doesn't hold the leaf
 pub data Layer : Type 0 where
-  Left : (fork : Fork) → (point : List Fraction) → (right : Grown) → Layer
-  Right : (fork : Fork) → (point : List Fraction) → (left : Grown) → Layer
+  Left : (fork : Fork) → (point : List Fraction) → (right : GrownTree) → Layer
+  Right : (fork : Fork) → (point : List Fraction) → (left : GrownTree) → Layer
   Under : (multipliers : List Fraction) → (divisor : ℤ) → (point : List Fraction) → Layer
 
-abbrev pub wrapped : Layer → Grown → Grown
+abbrev pub wrapped : Layer → GrownTree → GrownTree
 wrapped (Left fork p right) below = Forked fork p below right
 wrapped (Right fork p left) below = Forked fork p left below
 wrapped (Under ms d p) below = Cut ms d p below
 
 -- the whole tree, the first layer outermost
-unfoldable pub plugged : List Layer → Grown → Grown
+unfoldable pub plugged : List Layer → GrownTree → GrownTree
 plugged [] end = end
 plugged (layer ∷ layers) end = wrapped layer (plugged layers end)
 
@@ -36,7 +36,7 @@ inner_of [] = 0
 inner_of (layer ∷ layers) = layer_inner layer + inner_of layers
 
 -- 1 for a tree that isn't begun
-abbrev pub unbegun : Grown → ℕ
+abbrev pub unbegun : GrownTree → ℕ
 unbegun Unfinished = 1
 unbegun (Forked fork p left right) = 0
 unbegun (Cut ms d p below) = 0
@@ -54,17 +54,17 @@ waiting [] = 0
 waiting (layer ∷ layers) = layer_waiting layer + waiting layers
 
 -- the other side isn't begun, or grows under its path and is closed
-abbrev pub IsBeside : Order → Query → List Fact → Grown → Type 0
-IsBeside order q path other = (other ≡ Unfinished) ⊎ (IsGrowing order q path other × (is_closed other ≡ true))
+abbrev pub IsOtherSide : Order → LinearQuery → List Fact → GrownTree → Type 0
+IsOtherSide order q path other = (other ≡ Unfinished) ⊎ (IsGrowing order q path other × (is_closed other ≡ true))
 
 -- the layer stands under the path, and adds the fact to it
-abbrev pub IsLayer : Order → Query → List Fact → Layer → Fact → Type 0
-IsLayer order q path (Left fork p right) fact = IsFork order q path fork p × (fact ≡ fork_fact true fork) × IsBeside order q (path ++ fork_fact false fork ∷ []) right
-IsLayer order q path (Right fork p left) fact = IsFork order q path fork p × (fact ≡ fork_fact false fork) × IsBeside order q (path ++ fork_fact true fork ∷ []) left
+abbrev pub IsLayer : Order → LinearQuery → List Fact → Layer → Fact → Type 0
+IsLayer order q path (Left fork p right) fact = IsFork order q path fork p × (fact ≡ fork_fact true fork) × IsOtherSide order q (path ++ fork_fact false fork ∷ []) right
+IsLayer order q path (Right fork p left) fact = IsFork order q path fork p × (fact ≡ fork_fact false fork) × IsOtherSide order q (path ++ fork_fact true fork ∷ []) left
 IsLayer order q path (Under ms d p) fact = (e : Form) × (IsRounding q path ms d p e × (fact ≡ AtLeast e))
 
 -- the layers stand below the path one after the other, and add these facts to it
-unfoldable pub AreLayers : Order → Query → List Fact → List Layer → List Fact → Type 0
+unfoldable pub AreLayers : Order → LinearQuery → List Fact → List Layer → List Fact → Type 0
 AreLayers order q path [] facts = facts ≡ []
 AreLayers order q path (layer ∷ layers) [] = ⊥
 AreLayers order q path (layer ∷ layers) (fact ∷ facts) = IsLayer order q path layer fact × AreLayers order q (path ++ fact ∷ []) layers facts

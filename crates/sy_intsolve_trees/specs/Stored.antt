@@ -7,17 +7,17 @@ use Rattle.sy_intsolve_trees.specs.declared.step.Step.TheVariants as steps
 use Rattle.sy_intsolve_trees.specs.Growing as grown
 use Rattle.sy_intsolve_trees.specs.Steps as layer
 
-abbrev pub grown_of : Tree → grown.Grown
-grown_of (Split' test points p left q right) = grown.Forked (forks.Split test) points (grown_of left) (grown_of right)
-grown_of (Branch' variable bound points p left q right) = grown.Forked (forks.Branch variable bound) points (grown_of left) (grown_of right)
-grown_of (Cut' multipliers divisor points p inner) = grown.Cut multipliers divisor points (grown_of inner)
-grown_of (Farkas multipliers) = grown.Farkas multipliers
-grown_of Shown = grown.Shown
-grown_of Unfinished = grown.Unfinished
+abbrev pub grown_tree_of : Tree → grown.GrownTree
+grown_tree_of (Split' test points p left q right) = grown.Forked (forks.Split test) points (grown_tree_of left) (grown_tree_of right)
+grown_tree_of (Branch' variable bound points p left q right) = grown.Forked (forks.Branch variable bound) points (grown_tree_of left) (grown_tree_of right)
+grown_tree_of (Cut' multipliers divisor points p inner) = grown.Cut multipliers divisor points (grown_tree_of inner)
+grown_tree_of (Farkas multipliers) = grown.Farkas multipliers
+grown_tree_of Shown = grown.Shown
+grown_tree_of Unfinished = grown.Unfinished
 
 abbrev pub layer_of : Step → layer.Layer
-layer_of (steps.Left fork point right) = layer.Left fork point (grown_of right)
-layer_of (steps.Right fork point left) = layer.Right fork point (grown_of left)
+layer_of (steps.Left fork point right) = layer.Left fork point (grown_tree_of right)
+layer_of (steps.Right fork point left) = layer.Right fork point (grown_tree_of left)
 layer_of (steps.Under multipliers divisor point) = layer.Under multipliers divisor point
 
 -- the root's step first

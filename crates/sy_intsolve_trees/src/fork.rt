@@ -1,7 +1,7 @@
 // Inner nodes with two sides.
 ghost use Rattle.std.specs.Prelude.{◌≡◌, IfOk};
 ghost use Rattle.sy_intsolve_trees.specs.Growing.{Forked};
-ghost use Rattle.sy_intsolve_trees.specs.Stored.{grown_of};
+ghost use Rattle.sy_intsolve_trees.specs.Stored.{grown_tree_of};
 
 use std::alloc::Global;
 use sy_frac::Frac;
@@ -25,7 +25,7 @@ pub fn forked(
     left: Tree,
     right: Tree,
 ) -> Result<Tree, Want>
-    ensures { IfOk result (λ tree. grown_of tree ≡ Forked fork point (grown_of left) (grown_of right)) }
+    ensures { IfOk result (λ tree. grown_tree_of tree ≡ Forked fork point (grown_tree_of left) (grown_tree_of right)) }
 {
     let left = Box::new(alloc, left)?;
     let right = Box::new(alloc, right)?;

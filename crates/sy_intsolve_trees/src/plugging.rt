@@ -1,6 +1,6 @@
 // The tree of a way and what stands at its end.
 ghost use Rattle.std.specs.Prelude.{◌≡◌, IfOk};
-ghost use Rattle.sy_intsolve_trees.specs.Stored.{grown_of, layer_of, layers_of};
+ghost use Rattle.sy_intsolve_trees.specs.Stored.{grown_tree_of, layer_of, layers_of};
 ghost use Rattle.sy_intsolve_trees.specs.Steps as spec;
 
 use crate::fork::forked;
@@ -11,7 +11,7 @@ use sy_seq::Want;
 
 /// The tree with the last step's node at its root, over the tree below it.
 pub fn wrapped(alloc: Global, step: Step, below: Tree) -> Result<Tree, Want>
-    ensures { IfOk result (λ tree. grown_of tree ≡ spec.wrapped (layer_of step) (grown_of below)) }
+    ensures { IfOk result (λ tree. grown_tree_of tree ≡ spec.wrapped (layer_of step) (grown_tree_of below)) }
 {
     match step {
         Step::Left(fork, point, right) => forked(alloc, fork, point, below, right),
@@ -25,7 +25,7 @@ pub fn wrapped(alloc: Global, step: Step, below: Tree) -> Result<Tree, Want>
 
 /// The whole tree whose way from the root has these steps, over the tree at its end.
 pub fn plugged(alloc: Global, steps: Vec<Step>, end: Tree) -> Result<Tree, Want>
-    ensures { IfOk result (λ tree. grown_of tree ≡ spec.plugged (layers_of steps.items) (grown_of end)) }
+    ensures { IfOk result (λ tree. grown_tree_of tree ≡ spec.plugged (layers_of steps.items) (grown_tree_of end)) }
 {
     let mut left = steps;
     let mut tree = end;

@@ -10,7 +10,7 @@ use Rattle.sy_linear_forms.specs.Laws.{times_assoc}
 use Rattle.std.proofs.Common.{refl, sym, ◌∙◌, ap, ap₂, subst, arith}
 use Rattle.std.proofs.lemmas.Bool.{ltb-true, le-ltb}
 use Rattle.sy_frac.specs.Fraction.{Fraction, IsLowest, IsQuotient, sum_over}
-use Rattle.sy_frac.specs.Rational.{ℚ, 0ℚ, ◌+ℚ◌, ◌*ℚ◌, over, value, is_negative, over_same, over_negative, value_sum, value_product, sum_over_is, product_over_is, +ℚ_cancel, zero-+ℚ, *ℚ-+ℚ, not_negative_times, whole_not_negative}
+use Rattle.sy_frac.specs.Rational.{ℚ, 0ℚ, ◌+ℚ◌, ◌*ℚ◌, over, value, is_negative_rational, over_same, over_negative, value_sum, value_product, sum_over_is, product_over_is, +ℚ_cancel, zero-+ℚ, *ℚ-+ℚ, not_negative_times, whole_not_negative}
 use Rattle.sy_frac.proofs.Quotients.{product_nonzero, mul-positive}
 use Rattle.sy_linear_forms.specs.declared.form.Form.{Form}
 use Rattle.sy_linear_forms.specs.Forms.{Coefficient}
@@ -18,8 +18,8 @@ use Rattle.sy_linear_known.specs.Trees as tree
 use Rattle.sy_linear_known.specs.Trees.{whole_ℚ, Weight, rationals, combined_with, AreMultipliers, AllZero, IsContradiction, AreMultiples, IsCut}
 use Rattle.sy_linear.specs.declared.combination.Share.{Share}
 use Rattle.sy_linear.specs.declared.combination.Combination.{Combination}
-use Rattle.sy_linear.specs.Exact.{fits, lowest, exact, whole, sum, product, multiple, plus_multiple, quotient, over_whole, floor}
-use Rattle.sy_linear.specs.Combining.{has_whole_weight, divided_shares, divided, numerators, rounded, is_multiplier, are_multipliers, share_before, plus_coefficients, of_parts, plus_form, folded, nothing, combination, is_zero, is_negative_constant}
+use Rattle.sy_linear.specs.Exact.{whole_fits, lowest, exact, checked_whole, fraction_sum, fraction_product, whole_multiple, checked_plus_multiple, fraction_quotient, over_whole, floor}
+use Rattle.sy_linear.specs.Combining.{has_whole_weight, divided_shares, divided, numerators, rounded, is_multiplier, are_multipliers, share_before, plus_coefficients, of_parts, checked_plus_form, forms_folded, empty_combination, checked_combination, is_zero, is_negative_constant}
 use Rattle.sy_linear.proofs.Lowest.{lowest_is, fits_to, left_true, right_true, positive_nonzero, whole_nonzero, euclid_low, euclid_high}
 
 -- ---- operations
@@ -31,10 +31,10 @@ StandsFor x None = Unit {0}
 one_nonzero : pos 1 ≢ pos 0
 one_nonzero e = cc
 
-whole_stands : (n : ℤ) → StandsFor (whole_ℚ n) (whole n)
-whole_stands n = by (fits n) refl
+whole_stands : (n : ℤ) → StandsFor (whole_ℚ n) (checked_whole n)
+whole_stands n = by (whole_fits n) refl
   where
-    by : (b : Bool) → fits n ≡ b → StandsFor (whole_ℚ n) (exact b n (pos 1))
+    by : (b : Bool) → whole_fits n ≡ b → StandsFor (whole_ℚ n) (exact b n (pos 1))
     by true e =
         let q : IsQuotient (lowest n (pos 1)) n (pos 1) = lowest_is n (pos 1) (fits_to n e) (omega arith) one_nonzero in
         (over_same (lowest n (pos 1)).num n (lowest n (pos 1)).den 1 q.lowest.positive (omega arith) q.value, q.lowest.positive)
@@ -43,8 +43,8 @@ whole_stands n = by (fits n) refl
 dens_nonzero : (f g : Fraction) → 0 < f.den → 0 < g.den → (pos f.den *ℤ pos g.den) ≢ pos 0
 dens_nonzero f g p k = product_nonzero (pos f.den) (pos g.den) (positive_nonzero f.den p) (positive_nonzero g.den k)
 
-product_stands : (f g : Fraction) → 0 < f.den → 0 < g.den → StandsFor (value f *ℚ value g) (product f g)
-product_stands f g p k = by (fits n && fits d) refl
+product_stands : (f g : Fraction) → 0 < f.den → 0 < g.den → StandsFor (value f *ℚ value g) (fraction_product f g)
+product_stands f g p k = by (whole_fits n && whole_fits d) refl
   where
     n : ℤ
     n = f.num *ℤ g.num
@@ -52,14 +52,14 @@ product_stands f g p k = by (fits n && fits d) refl
     d : ℤ
     d = pos f.den *ℤ pos g.den
 
-    by : (b : Bool) → (fits n && fits d) ≡ b → StandsFor (value f *ℚ value g) (exact b n d)
+    by : (b : Bool) → (whole_fits n && whole_fits d) ≡ b → StandsFor (value f *ℚ value g) (exact b n d)
     by true e =
-        let q : IsQuotient (lowest n d) n d = lowest_is n d (fits_to n (left_true (fits n) (fits d) e)) (fits_to d (right_true (fits n) (fits d) e)) (dens_nonzero f g p k) in
+        let q : IsQuotient (lowest n d) n d = lowest_is n d (fits_to n (left_true (whole_fits n) (whole_fits d) e)) (fits_to d (right_true (whole_fits n) (whole_fits d) e)) (dens_nonzero f g p k) in
         (value_product f g (lowest n d) p k q, q.lowest.positive)
     by false e = tt
 
-sum_stands : (f g : Fraction) → 0 < f.den → 0 < g.den → StandsFor (value f +ℚ value g) (sum f g)
-sum_stands f g p k = by (a && (b && (fits d && fits n))) refl
+sum_stands : (f g : Fraction) → 0 < f.den → 0 < g.den → StandsFor (value f +ℚ value g) (fraction_sum f g)
+sum_stands f g p k = by (a && (b && (whole_fits d && whole_fits n))) refl
   where
     n : ℤ
     n = sum_over f g
@@ -68,33 +68,33 @@ sum_stands f g p k = by (a && (b && (fits d && fits n))) refl
     d = pos f.den *ℤ pos g.den
 
     a : Bool
-    a = fits (f.num *ℤ pos g.den)
+    a = whole_fits (f.num *ℤ pos g.den)
 
     b : Bool
-    b = fits (g.num *ℤ pos f.den)
+    b = whole_fits (g.num *ℤ pos f.den)
 
-    by : (t : Bool) → (a && (b && (fits d && fits n))) ≡ t → StandsFor (value f +ℚ value g) (exact t n d)
+    by : (t : Bool) → (a && (b && (whole_fits d && whole_fits n))) ≡ t → StandsFor (value f +ℚ value g) (exact t n d)
     by true e =
-        let last : (fits d && fits n) ≡ true = right_true b (fits d && fits n) (right_true a (b && (fits d && fits n)) e) in
-        let q : IsQuotient (lowest n d) n d = lowest_is n d (fits_to n (right_true (fits d) (fits n) last)) (fits_to d (left_true (fits d) (fits n) last)) (dens_nonzero f g p k) in
+        let last : (whole_fits d && whole_fits n) ≡ true = right_true b (whole_fits d && whole_fits n) (right_true a (b && (whole_fits d && whole_fits n)) e) in
+        let q : IsQuotient (lowest n d) n d = lowest_is n d (fits_to n (right_true (whole_fits d) (whole_fits n) last)) (fits_to d (left_true (whole_fits d) (whole_fits n) last)) (dens_nonzero f g p k) in
         (value_sum f g (lowest n d) p k q, q.lowest.positive)
     by false e = tt
 
-multiple_stands : (m : Fraction) (n : ℤ) → 0 < m.den → StandsFor (value m *ℚ whole_ℚ n) (multiple m n)
-unfolding multiple
-multiple_stands m n p = by (whole n) (whole_stands n)
+multiple_stands : (m : Fraction) (n : ℤ) → 0 < m.den → StandsFor (value m *ℚ whole_ℚ n) (whole_multiple m n)
+unfolding whole_multiple
+multiple_stands m n p = by (checked_whole n) (whole_stands n)
   where
-    by : (o : Option Fraction) → StandsFor (whole_ℚ n) o → StandsFor (value m *ℚ whole_ℚ n) (option_and_then (λ f. product m f) o)
+    by : (o : Option Fraction) → StandsFor (whole_ℚ n) o → StandsFor (value m *ℚ whole_ℚ n) (option_and_then (λ f. fraction_product m f) o)
     by None h = tt
-    by (Some w) h = subst (λ x. StandsFor (value m *ℚ x) (product m w)) h.0 (product_stands m w p h.1)
+    by (Some w) h = subst (λ x. StandsFor (value m *ℚ x) (fraction_product m w)) h.0 (product_stands m w p h.1)
 
-plus_multiple_stands : (m : Fraction) (n : ℤ) (f : Fraction) → 0 < m.den → 0 < f.den → StandsFor (value m *ℚ whole_ℚ n +ℚ value f) (plus_multiple m n f)
-unfolding plus_multiple
-plus_multiple_stands m n f p k = by (multiple m n) (multiple_stands m n p)
+plus_multiple_stands : (m : Fraction) (n : ℤ) (f : Fraction) → 0 < m.den → 0 < f.den → StandsFor (value m *ℚ whole_ℚ n +ℚ value f) (checked_plus_multiple m n f)
+unfolding checked_plus_multiple
+plus_multiple_stands m n f p k = by (whole_multiple m n) (multiple_stands m n p)
   where
-    by : (o : Option Fraction) → StandsFor (value m *ℚ whole_ℚ n) o → StandsFor (value m *ℚ whole_ℚ n +ℚ value f) (option_and_then (λ g. sum g f) o)
+    by : (o : Option Fraction) → StandsFor (value m *ℚ whole_ℚ n) o → StandsFor (value m *ℚ whole_ℚ n +ℚ value f) (option_and_then (λ g. fraction_sum g f) o)
     by None h = tt
-    by (Some g) h = subst (λ x. StandsFor (x +ℚ value f) (sum g f)) h.0 (sum_stands g f h.1 k)
+    by (Some g) h = subst (λ x. StandsFor (x +ℚ value f) (fraction_sum g f)) h.0 (sum_stands g f h.1 k)
 
 -- ---- shares
 abbrev pub weights_of : List Share → List Weight
@@ -117,7 +117,7 @@ before_stands i (Some f) (Some qs) x ws h k = (ap₂ (λ y vs. (i, y) ∷ vs) h.
 coefficients_stand : (m : Fraction) (cs : List Coefficient) (qs : List Share) → 0 < m.den → AllPositive qs → Stand (tree.plus_multiple (value m) cs (weights_of qs)) (plus_coefficients m cs qs)
 unfolding tree.plus_multiple plus_coefficients
 coefficients_stand m [] qs p h = (refl, h)
-coefficients_stand m (c ∷ cs) [] p h = before_stands c.0 (multiple m c.1) (plus_coefficients m cs []) (value m *ℚ whole_ℚ c.1) (tree.plus_multiple (value m) cs []) (multiple_stands m c.1 p) (coefficients_stand m cs [] p h)
+coefficients_stand m (c ∷ cs) [] p h = before_stands c.0 (whole_multiple m c.1) (plus_coefficients m cs []) (value m *ℚ whole_ℚ c.1) (tree.plus_multiple (value m) cs []) (multiple_stands m c.1 p) (coefficients_stand m cs [] p h)
 coefficients_stand m (c ∷ cs) (q ∷ qs) p h = by (nat_lt c.0 q.variable) (nat_lt q.variable c.0) (coefficients_stand m cs (q ∷ qs) p h) (coefficients_stand m (c ∷ cs) qs p h.1) (coefficients_stand m cs qs p h.1)
   where
     ws : List Weight
@@ -126,10 +126,10 @@ coefficients_stand m (c ∷ cs) (q ∷ qs) p h = by (nat_lt c.0 q.variable) (nat
     new : ℚ
     new = value m *ℚ whole_ℚ c.1
 
-    by : (a b : Bool) → Stand (tree.plus_multiple (value m) cs (weights_of (q ∷ qs))) (plus_coefficients m cs (q ∷ qs)) → Stand (tree.plus_multiple (value m) (c ∷ cs) ws) (plus_coefficients m (c ∷ cs) qs) → Stand (tree.plus_multiple (value m) cs ws) (plus_coefficients m cs qs) → Stand (cond a ((c.0, new) ∷ tree.plus_multiple (value m) cs (weights_of (q ∷ qs))) (cond b ((q.variable, value q.weight) ∷ tree.plus_multiple (value m) (c ∷ cs) ws) ((c.0, new +ℚ value q.weight) ∷ tree.plus_multiple (value m) cs ws))) (cond a (share_before c.0 (multiple m c.1) (plus_coefficients m cs (q ∷ qs))) (cond b (share_before q.variable (Some q.weight) (plus_coefficients m (c ∷ cs) qs)) (share_before c.0 (plus_multiple m c.1 q.weight) (plus_coefficients m cs qs))))
-    by true b one two three = before_stands c.0 (multiple m c.1) (plus_coefficients m cs (q ∷ qs)) new (tree.plus_multiple (value m) cs (weights_of (q ∷ qs))) (multiple_stands m c.1 p) one
+    by : (a b : Bool) → Stand (tree.plus_multiple (value m) cs (weights_of (q ∷ qs))) (plus_coefficients m cs (q ∷ qs)) → Stand (tree.plus_multiple (value m) (c ∷ cs) ws) (plus_coefficients m (c ∷ cs) qs) → Stand (tree.plus_multiple (value m) cs ws) (plus_coefficients m cs qs) → Stand (cond a ((c.0, new) ∷ tree.plus_multiple (value m) cs (weights_of (q ∷ qs))) (cond b ((q.variable, value q.weight) ∷ tree.plus_multiple (value m) (c ∷ cs) ws) ((c.0, new +ℚ value q.weight) ∷ tree.plus_multiple (value m) cs ws))) (cond a (share_before c.0 (whole_multiple m c.1) (plus_coefficients m cs (q ∷ qs))) (cond b (share_before q.variable (Some q.weight) (plus_coefficients m (c ∷ cs) qs)) (share_before c.0 (checked_plus_multiple m c.1 q.weight) (plus_coefficients m cs qs))))
+    by true b one two three = before_stands c.0 (whole_multiple m c.1) (plus_coefficients m cs (q ∷ qs)) new (tree.plus_multiple (value m) cs (weights_of (q ∷ qs))) (multiple_stands m c.1 p) one
     by false true one two three = before_stands q.variable (Some q.weight) (plus_coefficients m (c ∷ cs) qs) (value q.weight) (tree.plus_multiple (value m) (c ∷ cs) ws) (refl, h.0) two
-    by false false one two three = before_stands c.0 (plus_multiple m c.1 q.weight) (plus_coefficients m cs qs) (new +ℚ value q.weight) (tree.plus_multiple (value m) cs ws) (plus_multiple_stands m c.1 q.weight p h.0) three
+    by false false one two three = before_stands c.0 (checked_plus_multiple m c.1 q.weight) (plus_coefficients m cs qs) (new +ℚ value q.weight) (tree.plus_multiple (value m) cs ws) (plus_multiple_stands m c.1 q.weight p h.0) three
 
 -- ---- forms
 -- the combination of fractions stands for that of rational numbers
@@ -148,36 +148,36 @@ parts_mean x ws None o h k = tt
 parts_mean x ws (Some f) None h k = tt
 parts_mean x ws (Some f) (Some qs) h k = record { weights = k.0; constant = h.0; positive = k.1; den = h.1 }
 
-form_means : (k : tree.Combination) (c : Combination) (m : Fraction) (f : Form) → Means k c → 0 < m.den → MeansIf (tree.plus_form k (value m) f) (plus_form c m f)
-unfolding plus_form
+form_means : (k : tree.Combination) (c : Combination) (m : Fraction) (f : Form) → Means k c → 0 < m.den → MeansIf (tree.plus_form k (value m) f) (checked_plus_form c m f)
+unfolding checked_plus_form
 form_means k c m f h p =
-    parts_mean (value m *ℚ whole_ℚ f.constant +ℚ k.constant) (tree.plus_multiple (value m) f.coefs k.weights) (plus_multiple m f.constant c.constant) (plus_coefficients m f.coefs c.shares)
-    (subst (λ x. StandsFor (value m *ℚ whole_ℚ f.constant +ℚ x) (plus_multiple m f.constant c.constant)) h.constant (plus_multiple_stands m f.constant c.constant p h.den))
+    parts_mean (value m *ℚ whole_ℚ f.constant +ℚ k.constant) (tree.plus_multiple (value m) f.coefs k.weights) (checked_plus_multiple m f.constant c.constant) (plus_coefficients m f.coefs c.shares)
+    (subst (λ x. StandsFor (value m *ℚ whole_ℚ f.constant +ℚ x) (checked_plus_multiple m f.constant c.constant)) h.constant (plus_multiple_stands m f.constant c.constant p h.den))
     (subst (λ ws. Stand (tree.plus_multiple (value m) f.coefs ws) (plus_coefficients m f.coefs c.shares)) h.weights (coefficients_stand m f.coefs c.shares p h.positive))
 
 -- ---- multipliers
-multiplier_parts : (m : Fraction) → is_multiplier m ≡ true → (is_negative (value m) ≡ false) × (0 < m.den)
+multiplier_parts : (m : Fraction) → is_multiplier m ≡ true → (is_negative_rational (value m) ≡ false) × (0 < m.den)
 multiplier_parts m h = (over_negative m.num m.den ∙ turned (int_lt m.num (pos 0)) (left_true (not (int_lt m.num (pos 0))) (nat_lt 0 m.den) h), ltb-true 0 m.den (right_true (not (int_lt m.num (pos 0))) (nat_lt 0 m.den) h))
   where
     turned : (b : Bool) → not b ≡ true → b ≡ false
     turned true e = absurd cc
     turned false e = refl
 
-folded_means : (k : tree.Combination) (c : Combination) (ms : List Fraction) (fs : List Form) → Means k c → list_all is_multiplier ms ≡ true → MeansIf (combined_with k (rationals ms) fs) (folded c ms fs)
-unfolding combined_with folded
+folded_means : (k : tree.Combination) (c : Combination) (ms : List Fraction) (fs : List Form) → Means k c → list_all is_multiplier ms ≡ true → MeansIf (combined_with k (rationals ms) fs) (forms_folded c ms fs)
+unfolding combined_with forms_folded
 folded_means k c [] fs h a = h
 folded_means k c (m ∷ ms) [] h a = h
-folded_means k c (m ∷ ms) (f ∷ fs) h a = by (plus_form c m f) (form_means k c m f h (multiplier_parts m (left_true (is_multiplier m) (list_all is_multiplier ms) a)).1) (λ next g. folded_means (tree.plus_form k (value m) f) next ms fs g (right_true (is_multiplier m) (list_all is_multiplier ms) a))
+folded_means k c (m ∷ ms) (f ∷ fs) h a = by (checked_plus_form c m f) (form_means k c m f h (multiplier_parts m (left_true (is_multiplier m) (list_all is_multiplier ms) a)).1) (λ next g. folded_means (tree.plus_form k (value m) f) next ms fs g (right_true (is_multiplier m) (list_all is_multiplier ms) a))
   where
-    by : (o : Option Combination) → MeansIf (tree.plus_form k (value m) f) o → ((next : Combination) → Means (tree.plus_form k (value m) f) next → MeansIf (combined_with (tree.plus_form k (value m) f) (rationals ms) fs) (folded next ms fs)) → MeansIf (combined_with (tree.plus_form k (value m) f) (rationals ms) fs) (option_and_then (λ next. folded next ms fs) o)
+    by : (o : Option Combination) → MeansIf (tree.plus_form k (value m) f) o → ((next : Combination) → Means (tree.plus_form k (value m) f) next → MeansIf (combined_with (tree.plus_form k (value m) f) (rationals ms) fs) (forms_folded next ms fs)) → MeansIf (combined_with (tree.plus_form k (value m) f) (rationals ms) fs) (option_and_then (λ next. forms_folded next ms fs) o)
     by None g rest = tt
     by (Some next) g rest = rest next g
 
 whole_zero : whole_ℚ (pos 0) ≡ 0ℚ
 whole_zero = +ℚ_cancel (whole_ℚ (pos 0)) 0ℚ (whole_ℚ (pos 0)) (sum_over_is (pos 0) (pos 0) 1 1 (omega arith) (omega arith) ∙ sym (zero-+ℚ (whole_ℚ (pos 0))))
 
-pub combination_means : (ms : List Fraction) (fs : List Form) → list_all is_multiplier ms ≡ true → MeansIf (tree.combination (rationals ms) fs) (combination ms fs)
-combination_means ms fs a = folded_means (record { weights = []; constant = 0ℚ }) nothing ms fs (record { weights = refl; constant = whole_zero; positive = tt; den = omega arith }) a
+pub combination_means : (ms : List Fraction) (fs : List Form) → list_all is_multiplier ms ≡ true → MeansIf (tree.combination (rationals ms) fs) (checked_combination ms fs)
+combination_means ms fs a = folded_means (record { weights = []; constant = 0ℚ }) empty_combination ms fs (record { weights = refl; constant = whole_zero; positive = tt; den = omega arith }) a
 
 multipliers_are : (ms : List Fraction) (fs : List Form) → length ms ≡ length fs → list_all is_multiplier ms ≡ true → AreMultipliers ms fs
 multipliers_are [] [] e a = tt
@@ -194,7 +194,7 @@ all_zero [] p a = tt
 all_zero (q ∷ qs) p a = (zero_value q.weight p.0 ((signed_Decides q.weight.num (pos 0)).0 (left_true (is_zero q) (list_all is_zero qs) a)), all_zero qs p.1 (right_true (is_zero q) (list_all is_zero qs) a))
 
 -- what is accepted as a contradiction is one
-pub contradiction : (ms : List Fraction) (fs : List Form) (c : Combination) → are_multipliers ms fs ≡ true → combination ms fs ≡ Some c → is_negative_constant c ≡ true → IsContradiction ms fs
+pub contradiction : (ms : List Fraction) (fs : List Form) (c : Combination) → are_multipliers ms fs ≡ true → checked_combination ms fs ≡ Some c → is_negative_constant c ≡ true → IsContradiction ms fs
 contradiction ms fs c a e n =
     let same : nat_eq (length ms) (length fs) ≡ true = left_true (nat_eq (length ms) (length fs)) (list_all is_multiplier ms) a in
     let all : list_all is_multiplier ms ≡ true = right_true (nat_eq (length ms) (length fs)) (list_all is_multiplier ms) a in
@@ -202,7 +202,7 @@ contradiction ms fs c a e n =
     record {
       multipliers = multipliers_are ms fs ((unsigned_Decides (length ms) (length fs)).0 same) all;
       zero = subst AllZero means.weights (all_zero c.shares means.positive (left_true (list_all is_zero c.shares) (int_lt c.constant.num (pos 0)) n));
-      negative = sym (ap is_negative means.constant) ∙ over_negative c.constant.num c.constant.den ∙ right_true (list_all is_zero c.shares) (int_lt c.constant.num (pos 0)) n;
+      negative = sym (ap is_negative_rational means.constant) ∙ over_negative c.constant.num c.constant.den ∙ right_true (list_all is_zero c.shares) (int_lt c.constant.num (pos 0)) n;
     }
 
 -- ---- cuts
@@ -222,7 +222,7 @@ quotient_divides f w h p k q =
 
 pub over_whole_divides : (d : ℤ) (f : Fraction) → pos 1 ≤ℤ d → 0 < f.den → Divides d f (over_whole d f)
 unfolding over_whole
-over_whole_divides d f l p = by (fits d) refl
+over_whole_divides d f l p = by (whole_fits d) refl
   where
     w : Fraction
     w = lowest d (pos 1)
@@ -233,14 +233,14 @@ over_whole_divides d f l p = by (fits d) refl
     m : ℤ
     m = pos f.den *ℤ w.num
 
-    then : IsQuotient w d (pos 1) → (b : Bool) → (fits n && fits m) ≡ b → Divides d f (exact b n m)
+    then : IsQuotient w d (pos 1) → (b : Bool) → (whole_fits n && whole_fits m) ≡ b → Divides d f (exact b n m)
     then q true e =
-        let r : IsQuotient (lowest n m) n m = lowest_is n m (fits_to n (left_true (fits n) (fits m) e)) (fits_to m (right_true (fits n) (fits m) e)) (product_nonzero (pos f.den) w.num (positive_nonzero f.den p) (whole_nonzero w d l q)) in
+        let r : IsQuotient (lowest n m) n m = lowest_is n m (fits_to n (left_true (whole_fits n) (whole_fits m) e)) (fits_to m (right_true (whole_fits n) (whole_fits m) e)) (product_nonzero (pos f.den) w.num (positive_nonzero f.den p) (whole_nonzero w d l q)) in
         (quotient_divides f w (lowest n m) p q.lowest.positive r ∙ ap (λ x. x *ℚ value (lowest n m)) (over_same w.num d w.den 1 q.lowest.positive (omega arith) q.value), r.lowest.positive, r.lowest)
     then q false e = tt
 
-    by : (b : Bool) → fits d ≡ b → Divides d f (option_and_then (λ g. quotient f g) (exact b d (pos 1)))
-    by true e = then (lowest_is d (pos 1) (fits_to d e) (omega arith) one_nonzero) (fits n && fits m) refl
+    by : (b : Bool) → whole_fits d ≡ b → Divides d f (option_and_then (λ g. fraction_quotient f g) (exact b d (pos 1)))
+    by true e = then (lowest_is d (pos 1) (fits_to d e) (omega arith) one_nonzero) (whole_fits n && whole_fits m) refl
     by false e = tt
 
 unwrap : {A : Type 0} → A → Option A → A
@@ -333,16 +333,16 @@ negative_times (pos (suc a)) n l h =
 at_least_zero : (d : ℤ) → pos 1 ≤ℤ d → pos 0 ≤ℤ d
 at_least_zero d l = omega (arith, ints, l)
 
-rounded_below : (d : ℤ) (K : ℚ) (h : Fraction) → pos 1 ≤ℤ d → 0 < h.den → K ≡ whole_ℚ d *ℚ value h → is_negative (K +ℚ whole_ℚ (neg_ℤ (d *ℤ floor h))) ≡ false
+rounded_below : (d : ℤ) (K : ℚ) (h : Fraction) → pos 1 ≤ℤ d → 0 < h.den → K ≡ whole_ℚ d *ℚ value h → is_negative_rational (K +ℚ whole_ℚ (neg_ℤ (d *ℤ floor h))) ≡ false
 rounded_below d K h l p e =
-    ap is_negative (lifted d K (value h) (floor h) e)
+    ap is_negative_rational (lifted d K (value h) (floor h) e)
     ∙ not_negative_times (whole_ℚ d) (value h +ℚ whole_ℚ (neg_ℤ (floor h))) (whole_not_negative d (at_least_zero d l))
-    (ap is_negative (rest_value h (floor h) p) ∙ over_negative (rest_over h (floor h)) (h.den * 1) ∙ not_below (rest_over h (floor h)) (at_floor h p))
+    (ap is_negative_rational (rest_value h (floor h) p) ∙ over_negative (rest_over h (floor h)) (h.den * 1) ∙ not_below (rest_over h (floor h)) (at_floor h p))
 
-rounded_next : (d : ℤ) (K : ℚ) (h : Fraction) → pos 1 ≤ℤ d → 0 < h.den → K ≡ whole_ℚ d *ℚ value h → is_negative (K +ℚ whole_ℚ (neg_ℤ (d *ℤ (floor h +ℤ pos 1)))) ≡ true
+rounded_next : (d : ℤ) (K : ℚ) (h : Fraction) → pos 1 ≤ℤ d → 0 < h.den → K ≡ whole_ℚ d *ℚ value h → is_negative_rational (K +ℚ whole_ℚ (neg_ℤ (d *ℤ (floor h +ℤ pos 1)))) ≡ true
 rounded_next d K h l p e =
     let k : ℤ = floor h +ℤ pos 1 in
-    ap is_negative (lifted d K (value h) k e ∙ ap (λ x. whole_ℚ d *ℚ x) (rest_value h k p) ∙ product_over_is d (rest_over h k) 1 (h.den * 1) (omega arith) (omega arith))
+    ap is_negative_rational (lifted d K (value h) k e ∙ ap (λ x. whole_ℚ d *ℚ x) (rest_value h k p) ∙ product_over_is d (rest_over h k) 1 (h.den * 1) (omega arith) (omega arith))
     ∙ over_negative (d *ℤ rest_over h k) (1 * (h.den * 1)) ∙ negative_times d (rest_over h k) l (above_floor h p)
 
 cond_some : {A : Type 0} (b : Bool) (x y : A) → cond b (Some x) None ≡ Some y → (b ≡ true) × (x ≡ y)
@@ -350,7 +350,7 @@ cond_some true x y e = (refl, some_same x y e)
 cond_some false x y e = absurd cc
 
 -- what is accepted as a cut is one
-pub cut : (ms : List Fraction) (fs : List Form) (d : ℤ) (c g : Combination) (e : Form) → are_multipliers ms fs ≡ true → pos 1 ≤ℤ d → combination ms fs ≡ Some c → divided d c ≡ Some g → rounded g ≡ Some e → IsCut ms d fs e
+pub cut : (ms : List Fraction) (fs : List Form) (d : ℤ) (c g : Combination) (e : Form) → are_multipliers ms fs ≡ true → pos 1 ≤ℤ d → checked_combination ms fs ≡ Some c → divided d c ≡ Some g → rounded g ≡ Some e → IsCut ms d fs e
 cut ms fs d c g e a l is part form = by (over_whole d c.constant) (divided_shares d c.shares) (over_whole_divides d c.constant l means.den) refl part
   where
     same : nat_eq (length ms) (length fs) ≡ true

@@ -8,7 +8,7 @@ use mir.Val.{SFits, to_z, of_z}
 use borrow.Author.Differences.{ints, same_in}
 use Rattle.sy_terms.specs.declared.sort.Sort.{Sort}
 use Rattle.sy_linear_forms.specs.declared.form.Form.{Form}
-use Rattle.sy_linear_forms.specs.Forms.{Coefficient, subtracted, scaled, negation, in_range, all_in_range}
+use Rattle.sy_linear_forms.specs.Forms.{Coefficient, subtracted, scaled, form_negation, in_range, all_in_range}
 use Rattle.sy_linear_known.specs.declared.path.Fact.{Fact}
 use Rattle.sy_linear_known.specs.declared.path.Fact.TheVariants.{AtLeast}
 use Rattle.sy_linear_known.specs.Trees.{at_or_below}
@@ -23,14 +23,14 @@ below_is : (i : ℕ) (k : ℤ) → at_or_below i k ≡ bounded (negsuc 0) i k
 unfolding subtracted scaled
 below_is i k = ap (bounded (negsuc 0) i) (same_in _ _ (omega (arith, ints)))
 
-above_is : (i : ℕ) (k : ℤ) → negation (at_or_below i k) ≡ bounded (pos 1) i (negsuc 0 -ℤ k)
+above_is : (i : ℕ) (k : ℤ) → form_negation (at_or_below i k) ≡ bounded (pos 1) i (negsuc 0 -ℤ k)
 unfolding scaled
-above_is i k = ap negation (below_is i k) ∙ ap (bounded (pos 1) i) (same_in _ _ (omega (arith, ints)))
+above_is i k = ap form_negation (below_is i k) ∙ ap (bounded (pos 1) i) (same_in _ _ (omega (arith, ints)))
 
 -- both facts of a branch
 pub branch_adds : (vars : List Sort) (i : ℕ) (k : ℤ) (below above : Fact) → is_int (slice_get vars i) ≡ true → below ≡ AtLeast (bounded (negsuc 0) i k) → above ≡ AtLeast (bounded (pos 1) i (negsuc 0 -ℤ k)) → branch_outcome vars i k ≡ Adds (below, above)
 branch_adds vars i k below above int e f =
-    ap (λ b. cond b (Adds (AtLeast (at_or_below i k), AtLeast (negation (at_or_below i k)))) Fails) int
+    ap (λ b. cond b (Adds (AtLeast (at_or_below i k), AtLeast (form_negation (at_or_below i k)))) Fails) int
     ∙ ap₂ (λ b a. Adds (b, a)) (ap AtLeast (below_is i k) ∙ sym e) (ap AtLeast (above_is i k) ∙ sym f)
 
 minus_fits : (k : ℤ) → SFits w128 k → SFits w128 (negsuc 0 -ℤ k)

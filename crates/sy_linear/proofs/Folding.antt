@@ -13,8 +13,8 @@ use Rattle.sy_linear_known.specs.declared.path.Fact.TheVariants.{AtLeast, Is}
 use Rattle.sy_linear_known.specs.Trees.{forms}
 use Rattle.sy_linear.specs.declared.combination.Share.{Share}
 use Rattle.sy_linear.specs.declared.combination.Combination.{Combination}
-use Rattle.sy_linear.specs.Exact.{multiple, plus_multiple, over_whole}
-use Rattle.sy_linear.specs.Combining.{share_before, plus_coefficients, following, of_parts, plus_form, folded, divided_shares, divided, numerators}
+use Rattle.sy_linear.specs.Exact.{whole_multiple, checked_plus_multiple, over_whole}
+use Rattle.sy_linear.specs.Combining.{share_before, plus_coefficients, following, of_parts, checked_plus_form, forms_folded, divided_shares, divided, numerators}
 
 pub no_items : {X : Type 0} (xs : List X) → length xs ≡ 0 → xs ≡ []
 no_items [] e = refl
@@ -49,11 +49,11 @@ divided_end d left shares all l kept = sym kept ∙ ap (λ qs. following all (di
 
 -- ---- sums
 -- what comes first, of the next coefficient and the next share
-pub first_alone : (m : Fraction) (c : Coefficient) (cs : List Coefficient) → plus_coefficients m (c ∷ cs) [] ≡ share_before c.0 (multiple m c.1) (plus_coefficients m cs [])
+pub first_alone : (m : Fraction) (c : Coefficient) (cs : List Coefficient) → plus_coefficients m (c ∷ cs) [] ≡ share_before c.0 (whole_multiple m c.1) (plus_coefficients m cs [])
 unfolding plus_coefficients
 first_alone m c cs = refl
 
-pub first_new : (m : Fraction) (c : Coefficient) (cs : List Coefficient) (q : Share) (qs : List Share) → c.0 < q.variable → plus_coefficients m (c ∷ cs) (q ∷ qs) ≡ share_before c.0 (multiple m c.1) (plus_coefficients m cs (q ∷ qs))
+pub first_new : (m : Fraction) (c : Coefficient) (cs : List Coefficient) (q : Share) (qs : List Share) → c.0 < q.variable → plus_coefficients m (c ∷ cs) (q ∷ qs) ≡ share_before c.0 (whole_multiple m c.1) (plus_coefficients m cs (q ∷ qs))
 unfolding plus_coefficients
 first_new m c cs q qs l = rw (lt-ltb c.0 q.variable l) refl
 
@@ -61,22 +61,22 @@ pub first_old : (m : Fraction) (c : Coefficient) (cs : List Coefficient) (q : Sh
 unfolding plus_coefficients
 first_old m c cs q qs k l = rw (le-ltb c.0 q.variable k, lt-ltb q.variable c.0 l) refl
 
-pub first_both : (m : Fraction) (c : Coefficient) (cs : List Coefficient) (q : Share) (qs : List Share) → q.variable ≤ c.0 → c.0 ≤ q.variable → plus_coefficients m (c ∷ cs) (q ∷ qs) ≡ share_before c.0 (plus_multiple m c.1 q.weight) (plus_coefficients m cs qs)
+pub first_both : (m : Fraction) (c : Coefficient) (cs : List Coefficient) (q : Share) (qs : List Share) → q.variable ≤ c.0 → c.0 ≤ q.variable → plus_coefficients m (c ∷ cs) (q ∷ qs) ≡ share_before c.0 (checked_plus_multiple m c.1 q.weight) (plus_coefficients m cs qs)
 unfolding plus_coefficients
 first_both m c cs q qs k l = rw (le-ltb c.0 q.variable k, le-ltb q.variable c.0 l) refl
 
-pub alone_is : (m : Fraction) (cs others : List Coefficient) (qs : List Share) (f : Coefficient) → cs ≡ f ∷ others → length qs ≡ 0 → plus_coefficients m cs qs ≡ share_before f.0 (multiple m f.1) (plus_coefficients m others qs)
+pub alone_is : (m : Fraction) (cs others : List Coefficient) (qs : List Share) (f : Coefficient) → cs ≡ f ∷ others → length qs ≡ 0 → plus_coefficients m cs qs ≡ share_before f.0 (whole_multiple m f.1) (plus_coefficients m others qs)
 alone_is m cs others qs f e l =
     let none : qs ≡ [] = no_items qs l in
-    ap₂ (plus_coefficients m) e none ∙ first_alone m f others ∙ sym (ap (λ k. share_before f.0 (multiple m f.1) (plus_coefficients m others k)) none)
+    ap₂ (plus_coefficients m) e none ∙ first_alone m f others ∙ sym (ap (λ k. share_before f.0 (whole_multiple m f.1) (plus_coefficients m others k)) none)
 
-pub new_is : (m : Fraction) (cs others : List Coefficient) (qs later : List Share) (f : Coefficient) (q : Share) → cs ≡ f ∷ others → qs ≡ q ∷ later → f.0 < q.variable → plus_coefficients m cs qs ≡ share_before f.0 (multiple m f.1) (plus_coefficients m others qs)
-new_is m cs others qs later f q e g l = ap₂ (plus_coefficients m) e g ∙ first_new m f others q later l ∙ sym (ap (λ k. share_before f.0 (multiple m f.1) (plus_coefficients m others k)) g)
+pub new_is : (m : Fraction) (cs others : List Coefficient) (qs later : List Share) (f : Coefficient) (q : Share) → cs ≡ f ∷ others → qs ≡ q ∷ later → f.0 < q.variable → plus_coefficients m cs qs ≡ share_before f.0 (whole_multiple m f.1) (plus_coefficients m others qs)
+new_is m cs others qs later f q e g l = ap₂ (plus_coefficients m) e g ∙ first_new m f others q later l ∙ sym (ap (λ k. share_before f.0 (whole_multiple m f.1) (plus_coefficients m others k)) g)
 
 pub old_is : (m : Fraction) (cs others : List Coefficient) (qs later : List Share) (f : Coefficient) (q : Share) → cs ≡ f ∷ others → qs ≡ q ∷ later → q.variable ≤ f.0 → q.variable < f.0 → plus_coefficients m cs qs ≡ share_before q.variable (Some q.weight) (plus_coefficients m cs later)
 old_is m cs others qs later f q e g k l = ap₂ (plus_coefficients m) e g ∙ first_old m f others q later k l ∙ sym (ap (λ x. share_before q.variable (Some q.weight) (plus_coefficients m x later)) e)
 
-pub both_is : (m : Fraction) (cs others : List Coefficient) (qs later : List Share) (f : Coefficient) (q : Share) → cs ≡ f ∷ others → qs ≡ q ∷ later → q.variable ≤ f.0 → f.0 ≤ q.variable → plus_coefficients m cs qs ≡ share_before f.0 (plus_multiple m f.1 q.weight) (plus_coefficients m others later)
+pub both_is : (m : Fraction) (cs others : List Coefficient) (qs later : List Share) (f : Coefficient) (q : Share) → cs ≡ f ∷ others → qs ≡ q ∷ later → q.variable ≤ f.0 → f.0 ≤ q.variable → plus_coefficients m cs qs ≡ share_before f.0 (checked_plus_multiple m f.1 q.weight) (plus_coefficients m others later)
 both_is m cs others qs later f q e g k l = ap₂ (plus_coefficients m) e g ∙ first_both m f others q later k l
 
 -- one step, where the sum of what is left begins with a share
@@ -112,9 +112,9 @@ unfolding numerators
 numerators_end all shares i goal l kept = sym (append-nil all) ∙ sym (ap (λ qs. all ++ numerators qs) (drop_all i shares l)) ∙ kept
 
 -- ---- forms
-pub form_is : (c : Combination) (m : Fraction) (f : Form) (n : ℤ) (cs : List Coefficient) (ss : List Share) (k : Option Fraction) (o : Option (List Share)) → n ≡ f.constant → cs ≡ f.coefs → ss ≡ c.shares → k ≡ plus_multiple m n c.constant → plus_coefficients m cs ss ≡ o → plus_form c m f ≡ of_parts k o
-unfolding plus_form
-form_is c m f n cs ss k o en ec es ek eo = sym (ap₂ of_parts (ek ∙ ap (λ x. plus_multiple m x c.constant) en) (sym eo ∙ ap₂ (plus_coefficients m) ec es))
+pub form_is : (c : Combination) (m : Fraction) (f : Form) (n : ℤ) (cs : List Coefficient) (ss : List Share) (k : Option Fraction) (o : Option (List Share)) → n ≡ f.constant → cs ≡ f.coefs → ss ≡ c.shares → k ≡ checked_plus_multiple m n c.constant → plus_coefficients m cs ss ≡ o → checked_plus_form c m f ≡ of_parts k o
+unfolding checked_plus_form
+form_is c m f n cs ss k o en ec es ek eo = sym (ap₂ of_parts (ek ∙ ap (λ x. checked_plus_multiple m x c.constant) en) (sym eo ∙ ap₂ (plus_coefficients m) ec es))
 
 pub divided_some : (d : ℤ) (c : Combination) (k : Fraction) (qs : List Share) → Some k ≡ over_whole d c.constant → divided_shares d c.shares ≡ Some qs → divided d c ≡ Some (record { shares = qs; constant = k })
 divided_some d c k qs e h = ap (λ x. of_parts x (divided_shares d c.shares)) (sym e) ∙ ap (of_parts (Some k)) h
@@ -129,27 +129,27 @@ divided_no_shares d c k e h = ap (λ x. of_parts x (divided_shares d c.shares)) 
 forms_left : (facts : List Fact) (i : ℕ) (fact : Fact) → i < length facts → fact ≡ get_or facts i fact → forms (drop i facts) ≡ forms (fact ∷ drop (i + 1) facts)
 forms_left facts i fact l e = ap forms (drop_more facts i fact l ∙ ap (λ x. x ∷ drop (i + 1) facts) (sym e))
 
-pub fold_skipped : (sum : Combination) (left : List Fraction) (facts : List Fact) (i u : ℕ) (b : Bool) (fact : Fact) (goal : Option Combination) → i < length facts → fact ≡ get_or facts i fact → fact ≡ Is u b → folded sum left (forms (drop i facts)) ≡ goal → folded sum left (forms (drop (i + 1) facts)) ≡ goal
-fold_skipped sum left facts i u b fact goal l e is kept = sym (ap (folded sum left) (forms_left facts i fact l e ∙ ap (λ x. forms (x ∷ drop (i + 1) facts)) is)) ∙ kept
+pub fold_skipped : (sum : Combination) (left : List Fraction) (facts : List Fact) (i u : ℕ) (b : Bool) (fact : Fact) (goal : Option Combination) → i < length facts → fact ≡ get_or facts i fact → fact ≡ Is u b → forms_folded sum left (forms (drop i facts)) ≡ goal → forms_folded sum left (forms (drop (i + 1) facts)) ≡ goal
+fold_skipped sum left facts i u b fact goal l e is kept = sym (ap (forms_folded sum left) (forms_left facts i fact l e ∙ ap (λ x. forms (x ∷ drop (i + 1) facts)) is)) ∙ kept
 
-fold_next : (sum : Combination) (left others : List Fraction) (facts : List Fact) (i : ℕ) (f : Form) (m : Fraction) (fact : Fact) → i < length facts → fact ≡ get_or facts i fact → fact ≡ AtLeast f → left ≡ m ∷ others → folded sum left (forms (drop i facts)) ≡ option_and_then (λ next. folded next others (forms (drop (i + 1) facts))) (plus_form sum m f)
-unfolding folded
-fold_next sum left others facts i f m fact l e is g = ap₂ (folded sum) g (forms_left facts i fact l e ∙ ap (λ x. forms (x ∷ drop (i + 1) facts)) is)
+fold_next : (sum : Combination) (left others : List Fraction) (facts : List Fact) (i : ℕ) (f : Form) (m : Fraction) (fact : Fact) → i < length facts → fact ≡ get_or facts i fact → fact ≡ AtLeast f → left ≡ m ∷ others → forms_folded sum left (forms (drop i facts)) ≡ option_and_then (λ next. forms_folded next others (forms (drop (i + 1) facts))) (checked_plus_form sum m f)
+unfolding forms_folded
+fold_next sum left others facts i f m fact l e is g = ap₂ (forms_folded sum) g (forms_left facts i fact l e ∙ ap (λ x. forms (x ∷ drop (i + 1) facts)) is)
 
-pub fold_kept : (sum next : Combination) (left others : List Fraction) (facts : List Fact) (i : ℕ) (f : Form) (m : Fraction) (fact : Fact) (goal : Option Combination) → i < length facts → fact ≡ get_or facts i fact → fact ≡ AtLeast f → left ≡ m ∷ others → plus_form sum m f ≡ Some next → folded sum left (forms (drop i facts)) ≡ goal → folded next others (forms (drop (i + 1) facts)) ≡ goal
-fold_kept sum next left others facts i f m fact goal l e is g h kept = sym (fold_next sum left others facts i f m fact l e is g ∙ ap (option_and_then (λ k. folded k others (forms (drop (i + 1) facts)))) h) ∙ kept
+pub fold_kept : (sum next : Combination) (left others : List Fraction) (facts : List Fact) (i : ℕ) (f : Form) (m : Fraction) (fact : Fact) (goal : Option Combination) → i < length facts → fact ≡ get_or facts i fact → fact ≡ AtLeast f → left ≡ m ∷ others → checked_plus_form sum m f ≡ Some next → forms_folded sum left (forms (drop i facts)) ≡ goal → forms_folded next others (forms (drop (i + 1) facts)) ≡ goal
+fold_kept sum next left others facts i f m fact goal l e is g h kept = sym (fold_next sum left others facts i f m fact l e is g ∙ ap (option_and_then (λ k. forms_folded k others (forms (drop (i + 1) facts)))) h) ∙ kept
 
-pub fold_unfit : (sum : Combination) (left others : List Fraction) (facts : List Fact) (i : ℕ) (f : Form) (m : Fraction) (fact : Fact) (goal : Option Combination) → i < length facts → fact ≡ get_or facts i fact → fact ≡ AtLeast f → left ≡ m ∷ others → plus_form sum m f ≡ None → folded sum left (forms (drop i facts)) ≡ goal → goal ≡ None
-fold_unfit sum left others facts i f m fact goal l e is g h kept = sym kept ∙ fold_next sum left others facts i f m fact l e is g ∙ ap (option_and_then (λ k. folded k others (forms (drop (i + 1) facts)))) h
+pub fold_unfit : (sum : Combination) (left others : List Fraction) (facts : List Fact) (i : ℕ) (f : Form) (m : Fraction) (fact : Fact) (goal : Option Combination) → i < length facts → fact ≡ get_or facts i fact → fact ≡ AtLeast f → left ≡ m ∷ others → checked_plus_form sum m f ≡ None → forms_folded sum left (forms (drop i facts)) ≡ goal → goal ≡ None
+fold_unfit sum left others facts i f m fact goal l e is g h kept = sym kept ∙ fold_next sum left others facts i f m fact l e is g ∙ ap (option_and_then (λ k. forms_folded k others (forms (drop (i + 1) facts)))) h
 
-pub fold_stopped : (sum : Combination) (left : List Fraction) (fs : List Form) (goal : Option Combination) → length left ≡ 0 → folded sum left fs ≡ goal → goal ≡ Some sum
-unfolding folded
-fold_stopped sum left fs goal l kept = sym kept ∙ ap (λ ms. folded sum ms fs) (no_items left l)
+pub fold_stopped : (sum : Combination) (left : List Fraction) (fs : List Form) (goal : Option Combination) → length left ≡ 0 → forms_folded sum left fs ≡ goal → goal ≡ Some sum
+unfolding forms_folded
+fold_stopped sum left fs goal l kept = sym kept ∙ ap (λ ms. forms_folded sum ms fs) (no_items left l)
 
-pub fold_ended : (sum : Combination) (left : List Fraction) (facts : List Fact) (i : ℕ) (goal : Option Combination) → length facts ≤ i → folded sum left (forms (drop i facts)) ≡ goal → goal ≡ Some sum
-unfolding folded
-fold_ended sum left facts i goal l kept = sym kept ∙ ap (λ xs. folded sum left (forms xs)) (drop_all i facts l) ∙ by left
+pub fold_ended : (sum : Combination) (left : List Fraction) (facts : List Fact) (i : ℕ) (goal : Option Combination) → length facts ≤ i → forms_folded sum left (forms (drop i facts)) ≡ goal → goal ≡ Some sum
+unfolding forms_folded
+fold_ended sum left facts i goal l kept = sym kept ∙ ap (λ xs. forms_folded sum left (forms xs)) (drop_all i facts l) ∙ by left
   where
-    by : (ms : List Fraction) → folded sum ms [] ≡ Some sum
+    by : (ms : List Fraction) → forms_folded sum ms [] ≡ Some sum
     by [] = refl
     by (m ∷ ms) = refl

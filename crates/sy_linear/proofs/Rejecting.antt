@@ -11,12 +11,12 @@ use Rattle.std.proofs.Math.Nat.{dvd-mul_right, eq-one_of_dvd-one}
 use Rattle.std.proofs.Math.IntN.{*ℤ-zero, *ℤ_comm}
 use borrow.Author.Differences.{ints, same_in, at_most_in, product_is}
 use Rattle.sy_frac.specs.Fraction.{Fraction, IsLowest}
-use Rattle.sy_frac.specs.Rational.{ℚ, 0ℚ, ◌+ℚ◌, ◌*ℚ◌, over, value, is_negative, over_negative, sum_over_is, product_over_is, zero_not_negative, not_negative_plus, whole_not_negative, +ℚ_assoc, zero-*ℚ, one-*ℚ, *ℚ_assoc, over_same, one_over}
+use Rattle.sy_frac.specs.Rational.{ℚ, 0ℚ, ◌+ℚ◌, ◌*ℚ◌, over, value, is_negative_rational, over_negative, sum_over_is, product_over_is, zero_not_negative, not_negative_plus, whole_not_negative, +ℚ_assoc, zero-*ℚ, one-*ℚ, *ℚ_assoc, over_same, one_over}
 use Rattle.sy_frac.proofs.Quotients.{product_nonzero, abs-product}
 use Rattle.sy_terms.specs.declared.sort.Sort.{Sort}
 use Rattle.sy_terms.specs.declared.sort.Sort.TheVariants as sorts
 use Rattle.sy_linear_forms.specs.declared.form.Form.{Form}
-use Rattle.sy_linear_forms.specs.Forms.{Coefficient, before, negation}
+use Rattle.sy_linear_forms.specs.Forms.{Coefficient, before, form_negation}
 use Rattle.sy_linear_forms.specs.Laws.{distributes_left, either}
 use Rattle.sy_linear_known.specs.declared.path.Fact.{Fact}
 use Rattle.sy_linear_known.specs.declared.path.Fact.TheVariants.{AtLeast}
@@ -24,15 +24,15 @@ use Rattle.sy_linear_known.specs.declared.path.Test.{Test}
 use Rattle.sy_linear_known.specs.declared.path.Test.TheVariants as test
 use Rattle.sy_linear_known.specs.declared.answer.Known.{Known}
 use Rattle.sy_linear_known.specs.declared.answer.Known.TheVariants as known
-use Rattle.sy_linear_known.specs.Seen.{Query, query_known}
+use Rattle.sy_linear_known.specs.Seen.{LinearQuery, query_known}
 use Rattle.sy_linear_known.specs.Trees as tree
-use Rattle.sy_linear_known.specs.Trees.{Shape, Split, Branch, Cut, Farkas, Shown, Unfinished, added_fact, opposite_fact, at_or_below, forms, whole_ℚ, Weight, rationals, AreMultipliers, AllZero, AreMultiples, OverIntegers, Suits, Refutes, IsCut, IsContradiction}
+use Rattle.sy_linear_known.specs.Trees.{TreeShape, Split, Branch, Cut, Farkas, Shown, Unfinished, added_fact, opposite_fact, at_or_below, forms, whole_ℚ, Weight, rationals, AreMultipliers, AllZero, AreMultiples, OverIntegers, TestSuits, TreeRefutes, IsCut, IsContradiction}
 use Rattle.sy_linear_known.proofs.Refutation.{whole_plus, whole_zero, product_not_negative}
 use Rattle.sy_linear.specs.declared.combination.Share.{Share}
 use Rattle.sy_linear.specs.declared.combination.Combination.{Combination}
 use Rattle.sy_linear.specs.Exact.{over_whole, is_whole, floor}
-use Rattle.sy_linear.specs.Combining.{is_multiplier, are_multipliers, share_before, combination, is_zero, is_negative_constant, of_parts, divided_shares, divided, has_whole_weight, numerators, rounded}
-use Rattle.sy_linear.specs.Judging.{Judgement, Accepted, Broken, Unfit, Adds, Fails, Leaves, both, after, size, is_int, is_bool, has_int, suits, opposite_fits, rounded_outcome, added_form, divided_combination, of_combination, shown_judged, judged}
+use Rattle.sy_linear.specs.Combining.{is_multiplier, are_multipliers, share_before, checked_combination, is_zero, is_negative_constant, of_parts, divided_shares, divided, has_whole_weight, numerators, rounded}
+use Rattle.sy_linear.specs.Judging.{Judgement, Accepted, Broken, Unfit, Adds, Fails, Leaves, judged_in_turn, after_node, size, is_int, is_bool, has_int, suits, opposite_fits, rounded_outcome, added_form, divided_combination, of_combination, shown_judged, judged}
 use Rattle.sy_linear.proofs.Lowest.{left_true, right_true}
 use Rattle.sy_linear.proofs.Accepting.{Means, MeansIf, combination_means, weights_of, AllPositive, Divides, over_whole_divides, some_same, whole_times, negative_times, times_neg, cut}
 use Rattle.sy_linear.proofs.Refuting.{accepted}
@@ -50,8 +50,8 @@ zero_over : (n : ℤ) (d : ℕ) → 0 < d → over n d ≡ 0ℚ → n ≡ pos 0
 zero_over (pos zero) d p e = refl
 zero_over (pos (suc k)) d p e =
     let h : int_lt (pos (suc k) *ℤ negsuc 0) (pos 0) ≡ true = negative_times (pos (suc k)) (negsuc 0) (at_most_in (pos 1) (pos (suc k)) (omega arith)) (omega arith) in
-    absurd (disagree (sym h ∙ sym (over_negative (pos (suc k) *ℤ negsuc 0) (d * 1)) ∙ sym (ap is_negative (product_over_is (pos (suc k)) (negsuc 0) d 1 p (omega arith))) ∙ ap (λ x. is_negative (x *ℚ over (negsuc 0) 1)) e ∙ ap is_negative (zero-*ℚ (over (negsuc 0) 1)) ∙ zero_not_negative))
-zero_over (negsuc k) d p e = absurd (disagree (sym (over_negative (negsuc k) d) ∙ ap is_negative e ∙ zero_not_negative))
+    absurd (disagree (sym h ∙ sym (over_negative (pos (suc k) *ℤ negsuc 0) (d * 1)) ∙ sym (ap is_negative_rational (product_over_is (pos (suc k)) (negsuc 0) d 1 p (omega arith))) ∙ ap (λ x. is_negative_rational (x *ℚ over (negsuc 0) 1)) e ∙ ap is_negative_rational (zero-*ℚ (over (negsuc 0) 1)) ∙ zero_not_negative))
+zero_over (negsuc k) d p e = absurd (disagree (sym (over_negative (negsuc k) d) ∙ ap is_negative_rational e ∙ zero_not_negative))
 
 gone : (a : ℤ) → a +ℤ neg_ℤ a ≡ pos 0
 gone a = same_in _ _ (omega (arith, ints))
@@ -97,13 +97,13 @@ past d a b =
     left p q r e = same_in _ _ (omega (arith, ints, e))
 
 -- two numbers of which neither multiple is above the constant, and the next one is
-rounded_past : (d : ℤ) (K : ℚ) (a b : ℤ) → pos 1 ≤ℤ d → is_negative (K +ℚ whole_ℚ (neg_ℤ (d *ℤ (a +ℤ pos 1)))) ≡ true → is_negative (K +ℚ whole_ℚ (neg_ℤ (d *ℤ b))) ≡ false → pos 0 ≤ℤ (b -ℤ (a +ℤ pos 1)) → ⊥
+rounded_past : (d : ℤ) (K : ℚ) (a b : ℤ) → pos 1 ≤ℤ d → is_negative_rational (K +ℚ whole_ℚ (neg_ℤ (d *ℤ (a +ℤ pos 1)))) ≡ true → is_negative_rational (K +ℚ whole_ℚ (neg_ℤ (d *ℤ b))) ≡ false → pos 0 ≤ℤ (b -ℤ (a +ℤ pos 1)) → ⊥
 rounded_past d K a b l next below h =
     disagree (sym next
-    ∙ ap is_negative (ap (λ t. K +ℚ t) (ap whole_ℚ (past d a b) ∙ whole_plus (neg_ℤ (d *ℤ b)) (d *ℤ (b -ℤ (a +ℤ pos 1)))) ∙ sym (+ℚ_assoc K (whole_ℚ (neg_ℤ (d *ℤ b))) (whole_ℚ (d *ℤ (b -ℤ (a +ℤ pos 1))))))
+    ∙ ap is_negative_rational (ap (λ t. K +ℚ t) (ap whole_ℚ (past d a b) ∙ whole_plus (neg_ℤ (d *ℤ b)) (d *ℤ (b -ℤ (a +ℤ pos 1)))) ∙ sym (+ℚ_assoc K (whole_ℚ (neg_ℤ (d *ℤ b))) (whole_ℚ (d *ℤ (b -ℤ (a +ℤ pos 1))))))
     ∙ not_negative_plus (K +ℚ whole_ℚ (neg_ℤ (d *ℤ b))) (whole_ℚ (d *ℤ (b -ℤ (a +ℤ pos 1)))) below (whole_not_negative (d *ℤ (b -ℤ (a +ℤ pos 1))) (product_not_negative d (b -ℤ (a +ℤ pos 1)) l h)))
 
-rounded_same : (d : ℤ) (K : ℚ) (a b : ℤ) → pos 1 ≤ℤ d → is_negative (K +ℚ whole_ℚ (neg_ℤ (d *ℤ a))) ≡ false → is_negative (K +ℚ whole_ℚ (neg_ℤ (d *ℤ (a +ℤ pos 1)))) ≡ true → is_negative (K +ℚ whole_ℚ (neg_ℤ (d *ℤ b))) ≡ false → is_negative (K +ℚ whole_ℚ (neg_ℤ (d *ℤ (b +ℤ pos 1)))) ≡ true → a ≡ b
+rounded_same : (d : ℤ) (K : ℚ) (a b : ℤ) → pos 1 ≤ℤ d → is_negative_rational (K +ℚ whole_ℚ (neg_ℤ (d *ℤ a))) ≡ false → is_negative_rational (K +ℚ whole_ℚ (neg_ℤ (d *ℤ (a +ℤ pos 1)))) ≡ true → is_negative_rational (K +ℚ whole_ℚ (neg_ℤ (d *ℤ b))) ≡ false → is_negative_rational (K +ℚ whole_ℚ (neg_ℤ (d *ℤ (b +ℤ pos 1)))) ≡ true → a ≡ b
 rounded_same d K a b l below next below' next' = by (either (b -ℤ (a +ℤ pos 1))) (either (a -ℤ (b +ℤ pos 1)))
   where
     by : (pos 0 ≤ℤ (b -ℤ (a +ℤ pos 1))) ⊎ (pos 0 ≤ℤ (neg_ℤ (b -ℤ (a +ℤ pos 1)) -ℤ pos 1)) → (pos 0 ≤ℤ (a -ℤ (b +ℤ pos 1))) ⊎ (pos 0 ≤ℤ (neg_ℤ (a -ℤ (b +ℤ pos 1)) -ℤ pos 1)) → a ≡ b
@@ -122,11 +122,11 @@ over_all : (vars : List Sort) (cs : List Coefficient) → OverIntegers vars cs �
 over_all vars [] h = refl
 over_all vars (c ∷ cs) h = and_true (has_int vars c) (list_all (has_int vars) cs) (ap is_int h.0) (over_all vars cs h.1)
 
-suits_of : (vars : List Sort) (t : Test) → Suits vars t → suits vars t ≡ true
+suits_of : (vars : List Sort) (t : Test) → TestSuits vars t → suits vars t ≡ true
 suits_of vars (test.AtLeast f) h = over_all vars f.coefs h
 suits_of vars (test.Holds u) h = ap is_bool h
 
-multiplier_of : (m : Fraction) → 0 < m.den → is_negative (value m) ≡ false → is_multiplier m ≡ true
+multiplier_of : (m : Fraction) → 0 < m.den → is_negative_rational (value m) ≡ false → is_multiplier m ≡ true
 multiplier_of m p h = and_true (not (int_lt m.num (pos 0))) (nat_lt 0 m.den) (ap not (sym (over_negative m.num m.den) ∙ h)) (lt-ltb 0 m.den p)
 
 all_of : (ms : List Fraction) (fs : List Form) → AreMultipliers ms fs → list_all is_multiplier ms ≡ true
@@ -154,15 +154,15 @@ zero_shares : (qs : List Share) → AllPositive qs → AllZero (weights_of qs) �
 zero_shares [] p h = refl
 zero_shares (q ∷ qs) p h = and_true (is_zero q) (list_all is_zero qs) ((signed_Decides q.weight.num (pos 0)).1 (zero_over q.weight.num q.weight.den p.0 h.0)) (zero_shares qs p.1 h.1)
 
-contradiction_of : (ms : List Fraction) (fs : List Form) (c : Combination) → IsContradiction ms fs → combination ms fs ≡ Some c → is_negative_constant c ≡ true
+contradiction_of : (ms : List Fraction) (fs : List Form) (c : Combination) → IsContradiction ms fs → checked_combination ms fs ≡ Some c → is_negative_constant c ≡ true
 contradiction_of ms fs c h e =
     let means : Means (tree.combination (rationals ms) fs) c = subst (λ o. MeansIf (tree.combination (rationals ms) fs) o) e (combination_means ms fs (all_of ms fs h.multipliers)) in
-    and_true (list_all is_zero c.shares) (int_lt c.constant.num (pos 0)) (zero_shares c.shares means.positive (subst AllZero (sym means.weights) h.zero)) (sym (over_negative c.constant.num c.constant.den) ∙ ap is_negative means.constant ∙ h.negative)
+    and_true (list_all is_zero c.shares) (int_lt c.constant.num (pos 0)) (zero_shares c.shares means.positive (subst AllZero (sym means.weights) h.zero)) (sym (over_negative c.constant.num c.constant.den) ∙ ap is_negative_rational means.constant ∙ h.negative)
 
-farkas_broken : (ms : List Fraction) (fs : List Form) (n : ℕ) → cond (are_multipliers ms fs) (of_combination n (combination ms fs)) Broken ≡ Broken → IsContradiction ms fs → ⊥
-farkas_broken ms fs n e h = by (are_multipliers ms fs) (multipliers_of ms fs h.multipliers) (combination ms fs) refl e
+farkas_broken : (ms : List Fraction) (fs : List Form) (n : ℕ) → cond (are_multipliers ms fs) (of_combination n (checked_combination ms fs)) Broken ≡ Broken → IsContradiction ms fs → ⊥
+farkas_broken ms fs n e h = by (are_multipliers ms fs) (multipliers_of ms fs h.multipliers) (checked_combination ms fs) refl e
   where
-    by : (b : Bool) → b ≡ true → (o : Option Combination) → combination ms fs ≡ o → cond b (of_combination n o) Broken ≡ Broken → ⊥
+    by : (b : Bool) → b ≡ true → (o : Option Combination) → checked_combination ms fs ≡ o → cond b (of_combination n o) Broken ≡ Broken → ⊥
     by false f o k g = absurd cc
     by true f None k g = cc
     by true f (Some c) k g = negative (is_negative_constant c) (contradiction_of ms fs c h k) g
@@ -235,10 +235,10 @@ not_none true f s t = cc
 not_none false f s t = absurd cc
 
 -- what breaks below a cut breaks under the form that it adds
-cut_broken : (ms : List Fraction) (fs : List Form) (d : ℤ) (n : ℕ) (rest : Fact → Judgement) (e : Form) → IsCut ms d fs e → after n (cond (are_multipliers ms fs && int_le (pos 1) d) (rounded_outcome (divided_combination d (combination ms fs))) Fails) rest ≡ Broken → rest (AtLeast e) ≡ Broken
-cut_broken ms fs d n rest e h = by (are_multipliers ms fs && int_le (pos 1) d) (and_true (are_multipliers ms fs) (int_le (pos 1) d) (multipliers_of ms fs h.multipliers) (divisor_of d h.positive)) (combination ms fs) refl
+cut_broken : (ms : List Fraction) (fs : List Form) (d : ℤ) (n : ℕ) (rest : Fact → Judgement) (e : Form) → IsCut ms d fs e → after_node n (cond (are_multipliers ms fs && int_le (pos 1) d) (rounded_outcome (divided_combination d (checked_combination ms fs))) Fails) rest ≡ Broken → rest (AtLeast e) ≡ Broken
+cut_broken ms fs d n rest e h = by (are_multipliers ms fs && int_le (pos 1) d) (and_true (are_multipliers ms fs) (int_le (pos 1) d) (multipliers_of ms fs h.multipliers) (divisor_of d h.positive)) (checked_combination ms fs) refl
   where
-    by : (b : Bool) → b ≡ true → (o : Option Combination) → combination ms fs ≡ o → after n (cond b (rounded_outcome (divided_combination d o)) Fails) rest ≡ Broken → rest (AtLeast e) ≡ Broken
+    by : (b : Bool) → b ≡ true → (o : Option Combination) → checked_combination ms fs ≡ o → after_node n (cond b (rounded_outcome (divided_combination d o)) Fails) rest ≡ Broken → rest (AtLeast e) ≡ Broken
     by false a o k g = absurd cc
     by true a None k g = absurd cc
     by true a (Some c) k g = part (divided d c) refl g
@@ -246,21 +246,21 @@ cut_broken ms fs d n rest e h = by (are_multipliers ms fs && int_le (pos 1) d) (
         means : Means (tree.combination (rationals ms) fs) c
         means = subst (λ o. MeansIf (tree.combination (rationals ms) fs) o) k (combination_means ms fs (all_of ms fs h.multipliers))
 
-        part : (p : Option Combination) → divided d c ≡ p → after n (rounded_outcome p) rest ≡ Broken → rest (AtLeast e) ≡ Broken
+        part : (p : Option Combination) → divided d c ≡ p → after_node n (rounded_outcome p) rest ≡ Broken → rest (AtLeast e) ≡ Broken
         part None f g = absurd cc
         part (Some x) f g = form (rounded x) refl g
           where
             whole : list_all has_whole_weight x.shares ≡ true
             whole = whole_shares d c.shares x.shares e.coefs h.positive means.positive (subst (λ ws. AreMultiples d ws e.coefs) (sym means.weights) h.multiples) (divided_shares_of d c x f)
 
-            form : (p : Option Form) → rounded x ≡ p → after n (added_form p) rest ≡ Broken → rest (AtLeast e) ≡ Broken
+            form : (p : Option Form) → rounded x ≡ p → after_node n (added_form p) rest ≡ Broken → rest (AtLeast e) ≡ Broken
             form None r g = absurd (not_none (list_all has_whole_weight x.shares) (record { coefs = numerators x.shares; constant = floor x.constant }) whole r)
             form (Some y) r g =
                 let other : IsCut ms d fs y = cut ms fs d c x y (multipliers_of ms fs h.multipliers) h.positive k f r in
                 subst (λ z. rest (AtLeast z) ≡ Broken) (cut_same ms d fs y e other h) g
 
 -- ---- trees
-both_broken : (a b : Judgement) → both a b ≡ Broken → (a ≡ Broken) ⊎ (b ≡ Broken)
+both_broken : (a b : Judgement) → judged_in_turn a b ≡ Broken → (a ≡ Broken) ⊎ (b ≡ Broken)
 both_broken Accepted b e = inr e
 both_broken Broken b e = inl refl
 both_broken (Unfit n) b e = absurd cc
@@ -276,19 +276,19 @@ shown_not n (known.Undecided t) e h = cc
 shown_not n (known.OutOfRange m) e h = cc
 
 -- a rejected tree doesn't refute the query under the path
-pub rejected : (q : Query) (path : List Fact) (n : ℕ) (t : Shape) → judged q path n t ≡ Broken → Refutes q path t → ⊥
+pub rejected : (q : LinearQuery) (path : List Fact) (n : ℕ) (t : TreeShape) → judged q path n t ≡ Broken → TreeRefutes q path t → ⊥
 unfolding judged
 rejected q path n (Split t left right) e r = by (suits q.vars t) (suits_of q.vars t r.0) (opposite_fits t) e (λ h. rejected q (path ++ added_fact t ∷ []) (n + 1) left h r.1) (λ h. rejected q (path ++ opposite_fact t ∷ []) (n + 1 + size left) right h r.2)
   where
-    by : (b : Bool) → b ≡ true → (f : Bool) → after {A = Fact × Fact} n (cond b (cond f (Adds (added_fact t, opposite_fact t)) Leaves) Fails) (λ facts. both (judged q (path ++ facts.0 ∷ []) (n + 1) left) (judged q (path ++ facts.1 ∷ []) (n + 1 + size left) right)) ≡ Broken → (judged q (path ++ added_fact t ∷ []) (n + 1) left ≡ Broken → ⊥) → (judged q (path ++ opposite_fact t ∷ []) (n + 1 + size left) right ≡ Broken → ⊥) → ⊥
+    by : (b : Bool) → b ≡ true → (f : Bool) → after_node {A = Fact × Fact} n (cond b (cond f (Adds (added_fact t, opposite_fact t)) Leaves) Fails) (λ facts. judged_in_turn (judged q (path ++ facts.0 ∷ []) (n + 1) left) (judged q (path ++ facts.1 ∷ []) (n + 1 + size left) right)) ≡ Broken → (judged q (path ++ added_fact t ∷ []) (n + 1) left ≡ Broken → ⊥) → (judged q (path ++ opposite_fact t ∷ []) (n + 1 + size left) right ≡ Broken → ⊥) → ⊥
     by false s f h one two = absurd cc
     by true s false h one two = cc
     by true s true h one two = in_case one two (both_broken (judged q (path ++ added_fact t ∷ []) (n + 1) left) (judged q (path ++ opposite_fact t ∷ []) (n + 1 + size left) right) h)
-rejected q path n (Branch i bound left right) e r = by (is_int (slice_get q.vars i)) (ap is_int r.0) e (λ h. rejected q (path ++ AtLeast (at_or_below i bound) ∷ []) (n + 1) left h r.1) (λ h. rejected q (path ++ AtLeast (negation (at_or_below i bound)) ∷ []) (n + 1 + size left) right h r.2)
+rejected q path n (Branch i bound left right) e r = by (is_int (slice_get q.vars i)) (ap is_int r.0) e (λ h. rejected q (path ++ AtLeast (at_or_below i bound) ∷ []) (n + 1) left h r.1) (λ h. rejected q (path ++ AtLeast (form_negation (at_or_below i bound)) ∷ []) (n + 1 + size left) right h r.2)
   where
-    by : (b : Bool) → b ≡ true → after {A = Fact × Fact} n (cond b (Adds (AtLeast (at_or_below i bound), AtLeast (negation (at_or_below i bound)))) Fails) (λ facts. both (judged q (path ++ facts.0 ∷ []) (n + 1) left) (judged q (path ++ facts.1 ∷ []) (n + 1 + size left) right)) ≡ Broken → (judged q (path ++ AtLeast (at_or_below i bound) ∷ []) (n + 1) left ≡ Broken → ⊥) → (judged q (path ++ AtLeast (negation (at_or_below i bound)) ∷ []) (n + 1 + size left) right ≡ Broken → ⊥) → ⊥
+    by : (b : Bool) → b ≡ true → after_node {A = Fact × Fact} n (cond b (Adds (AtLeast (at_or_below i bound), AtLeast (form_negation (at_or_below i bound)))) Fails) (λ facts. judged_in_turn (judged q (path ++ facts.0 ∷ []) (n + 1) left) (judged q (path ++ facts.1 ∷ []) (n + 1 + size left) right)) ≡ Broken → (judged q (path ++ AtLeast (at_or_below i bound) ∷ []) (n + 1) left ≡ Broken → ⊥) → (judged q (path ++ AtLeast (form_negation (at_or_below i bound)) ∷ []) (n + 1 + size left) right ≡ Broken → ⊥) → ⊥
     by false s h one two = absurd cc
-    by true s h one two = in_case one two (both_broken (judged q (path ++ AtLeast (at_or_below i bound) ∷ []) (n + 1) left) (judged q (path ++ AtLeast (negation (at_or_below i bound)) ∷ []) (n + 1 + size left) right) h)
+    by true s h one two = in_case one two (both_broken (judged q (path ++ AtLeast (at_or_below i bound) ∷ []) (n + 1) left) (judged q (path ++ AtLeast (form_negation (at_or_below i bound)) ∷ []) (n + 1 + size left) right) h)
 rejected q path n (Cut ms d inner) e r =
     rejected q (path ++ AtLeast r.0 ∷ []) (n + 1) inner (cut_broken ms (forms path) d n (λ fact. judged q (path ++ fact ∷ []) (n + 1) inner) r.0 r.1.0 e) r.1.1
 rejected q path n (Farkas ms) e r = farkas_broken ms (forms path) n e r

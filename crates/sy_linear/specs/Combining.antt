@@ -8,7 +8,7 @@ use Rattle.sy_linear_forms.specs.declared.form.Form.{Form}
 use Rattle.sy_linear_forms.specs.Forms.{Coefficient, before}
 use Rattle.sy_linear.specs.declared.combination.Share.{Share}
 use Rattle.sy_linear.specs.declared.combination.Combination.{Combination}
-use Rattle.sy_linear.specs.Exact.{multiple, plus_multiple, over_whole, floor, is_whole}
+use Rattle.sy_linear.specs.Exact.{whole_multiple, checked_plus_multiple, over_whole, floor, is_whole}
 
 -- ---- multipliers
 -- a fraction that isn't negative
@@ -29,11 +29,11 @@ share_before i (Some f) None = None
 -- m times the coefficients, and the shares, in ascending order of variable
 unfoldable pub plus_coefficients : Fraction → List Coefficient → List Share → Option (List Share)
 plus_coefficients m [] qs = Some qs
-plus_coefficients m (c ∷ cs) [] = share_before c.0 (multiple m c.1) (plus_coefficients m cs [])
+plus_coefficients m (c ∷ cs) [] = share_before c.0 (whole_multiple m c.1) (plus_coefficients m cs [])
 plus_coefficients m (c ∷ cs) (q ∷ qs) =
-    cond (nat_lt c.0 q.variable) (share_before c.0 (multiple m c.1) (plus_coefficients m cs (q ∷ qs)))
+    cond (nat_lt c.0 q.variable) (share_before c.0 (whole_multiple m c.1) (plus_coefficients m cs (q ∷ qs)))
     (cond (nat_lt q.variable c.0) (share_before q.variable (Some q.weight) (plus_coefficients m (c ∷ cs) qs))
-    (share_before c.0 (plus_multiple m c.1 q.weight) (plus_coefficients m cs qs)))
+    (share_before c.0 (checked_plus_multiple m c.1 q.weight) (plus_coefficients m cs qs)))
 
 -- shares after others
 abbrev pub following : List Share → Option (List Share) → Option (List Share)
@@ -46,21 +46,21 @@ of_parts None shares = None
 of_parts (Some constant) None = None
 
 -- a combination and m times a form
-unfoldable pub plus_form : Combination → Fraction → Form → Option Combination
-plus_form c m f = of_parts (plus_multiple m f.constant c.constant) (plus_coefficients m f.coefs c.shares)
+unfoldable pub checked_plus_form : Combination → Fraction → Form → Option Combination
+checked_plus_form c m f = of_parts (checked_plus_multiple m f.constant c.constant) (plus_coefficients m f.coefs c.shares)
 
 -- with each form times its multiplier, in order
-unfoldable pub folded : Combination → List Fraction → List Form → Option Combination
-folded c [] fs = Some c
-folded c (m ∷ ms) [] = Some c
-folded c (m ∷ ms) (f ∷ fs) = option_and_then (λ next. folded next ms fs) (plus_form c m f)
+unfoldable pub forms_folded : Combination → List Fraction → List Form → Option Combination
+forms_folded c [] fs = Some c
+forms_folded c (m ∷ ms) [] = Some c
+forms_folded c (m ∷ ms) (f ∷ fs) = option_and_then (λ next. forms_folded next ms fs) (checked_plus_form c m f)
 
-abbrev pub nothing : Combination
-nothing = record { shares = []; constant = record { num = pos 0; den = 1 } }
+abbrev pub empty_combination : Combination
+empty_combination = record { shares = []; constant = record { num = pos 0; den = 1 } }
 
 -- the combination of the forms
-abbrev pub combination : List Fraction → List Form → Option Combination
-combination ms fs = folded nothing ms fs
+abbrev pub checked_combination : List Fraction → List Form → Option Combination
+checked_combination ms fs = forms_folded empty_combination ms fs
 
 -- ---- contradictions
 abbrev pub is_zero : Share → Bool

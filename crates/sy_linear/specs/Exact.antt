@@ -5,8 +5,8 @@ use Rattle.std.specs.Int.{int_div_euclid}
 use Rattle.sy_frac.specs.Fraction.{Fraction, signed_of, opposite_of, sum_over}
 
 -- the magnitude is at most 2^127 - 1
-abbrev pub fits : ℤ → Bool
-fits n = nat_lt (unsigned_abs n) (2 ^ 127)
+abbrev pub whole_fits : ℤ → Bool
+whole_fits n = nat_lt (unsigned_abs n) (2 ^ 127)
 
 -- Euclid's remainders, at most so many
 unfoldable pub gcd_within : ℕ → ℕ → ℕ → ℕ
@@ -28,29 +28,29 @@ lowest n d =
 abbrev pub exact : Bool → ℤ → ℤ → Option Fraction
 exact all_fits n d = cond all_fits (Some (lowest n d)) None
 
-abbrev pub whole : ℤ → Option Fraction
-whole n = exact (fits n) n (pos 1)
+abbrev pub checked_whole : ℤ → Option Fraction
+checked_whole n = exact (whole_fits n) n (pos 1)
 
-abbrev pub sum : Fraction → Fraction → Option Fraction
-sum f g = exact (fits (f.num *ℤ pos g.den) && (fits (g.num *ℤ pos f.den) && (fits (pos f.den *ℤ pos g.den) && fits (sum_over f g)))) (sum_over f g) (pos f.den *ℤ pos g.den)
+abbrev pub fraction_sum : Fraction → Fraction → Option Fraction
+fraction_sum f g = exact (whole_fits (f.num *ℤ pos g.den) && (whole_fits (g.num *ℤ pos f.den) && (whole_fits (pos f.den *ℤ pos g.den) && whole_fits (sum_over f g)))) (sum_over f g) (pos f.den *ℤ pos g.den)
 
-abbrev pub product : Fraction → Fraction → Option Fraction
-product f g = exact (fits (f.num *ℤ g.num) && fits (pos f.den *ℤ pos g.den)) (f.num *ℤ g.num) (pos f.den *ℤ pos g.den)
+abbrev pub fraction_product : Fraction → Fraction → Option Fraction
+fraction_product f g = exact (whole_fits (f.num *ℤ g.num) && whole_fits (pos f.den *ℤ pos g.den)) (f.num *ℤ g.num) (pos f.den *ℤ pos g.den)
 
-abbrev pub quotient : Fraction → Fraction → Option Fraction
-quotient f g = exact (fits (f.num *ℤ pos g.den) && fits (pos f.den *ℤ g.num)) (f.num *ℤ pos g.den) (pos f.den *ℤ g.num)
+abbrev pub fraction_quotient : Fraction → Fraction → Option Fraction
+fraction_quotient f g = exact (whole_fits (f.num *ℤ pos g.den) && whole_fits (pos f.den *ℤ g.num)) (f.num *ℤ pos g.den) (pos f.den *ℤ g.num)
 
 -- m times a whole number
-unfoldable pub multiple : Fraction → ℤ → Option Fraction
-multiple m n = option_and_then (λ f. product m f) (whole n)
+unfoldable pub whole_multiple : Fraction → ℤ → Option Fraction
+whole_multiple m n = option_and_then (λ f. fraction_product m f) (checked_whole n)
 
 -- and a fraction
-unfoldable pub plus_multiple : Fraction → ℤ → Fraction → Option Fraction
-plus_multiple m n f = option_and_then (λ g. sum g f) (multiple m n)
+unfoldable pub checked_plus_multiple : Fraction → ℤ → Fraction → Option Fraction
+checked_plus_multiple m n f = option_and_then (λ g. fraction_sum g f) (whole_multiple m n)
 
 -- a fraction divided by a whole number
 unfoldable pub over_whole : ℤ → Fraction → Option Fraction
-over_whole d f = option_and_then (λ g. quotient f g) (whole d)
+over_whole d f = option_and_then (λ g. fraction_quotient f g) (checked_whole d)
 
 -- the greatest whole number that isn't above the fraction
 abbrev pub floor : Fraction → ℤ

@@ -7,7 +7,7 @@ use Rattle.sy_terms.specs.declared.sort.Sort.TheVariants as sorts
 use Rattle.sy_linear_forms.specs.declared.form.Form.{Form}
 use Rattle.sy_linear_forms.specs.declared.form.FormEnd.{FormEnd}
 use Rattle.sy_linear_forms.specs.declared.form.FormEnd.TheVariants as forms_end
-use Rattle.sy_linear_forms.specs.Forms.{Coefficient, fits, negation}
+use Rattle.sy_linear_forms.specs.Forms.{Coefficient, form_is_in_range, form_negation}
 use Rattle.sy_linear_known.specs.declared.path.Fact.{Fact}
 use Rattle.sy_linear_known.specs.declared.path.Fact.TheVariants.{AtLeast}
 use Rattle.sy_linear_known.specs.declared.path.Test.{Test}
@@ -16,10 +16,10 @@ use Rattle.sy_linear_known.specs.declared.answer.Known.{Known}
 use Rattle.sy_linear_known.specs.declared.answer.Known.TheVariants as known
 use Rattle.sy_linear_known.specs.declared.tree.CheckEnd.{CheckEnd}
 use Rattle.sy_linear_known.specs.declared.tree.CheckEnd.TheVariants.{Range, Want}
-use Rattle.sy_linear_known.specs.Seen.{Query, query_known}
-use Rattle.sy_linear_known.specs.Trees.{Shape, Split, Branch, Cut, Farkas, Shown, Unfinished, added_fact, opposite_fact, at_or_below, forms}
+use Rattle.sy_linear_known.specs.Seen.{LinearQuery, query_known}
+use Rattle.sy_linear_known.specs.Trees.{TreeShape, Split, Branch, Cut, Farkas, Shown, Unfinished, added_fact, opposite_fact, at_or_below, forms}
 use Rattle.sy_linear.specs.declared.combination.Combination.{Combination}
-use Rattle.sy_linear.specs.Combining.{are_multipliers, combination, is_negative_constant, divided, rounded}
+use Rattle.sy_linear.specs.Combining.{are_multipliers, checked_combination, is_negative_constant, divided, rounded}
 
 -- ---- judgements
 -- a tree refutes, or it doesn't, or at its node of this number, in preorder, a number leaves 128 bits
@@ -29,11 +29,11 @@ pub data Judgement : Type 0 where
   Unfit : (node : ℕ) → Judgement
 
 -- the answer says so
-abbrev pub Tells : Result Bool CheckEnd → Judgement → Type 0
-Tells (Ok true) j = j ≡ Accepted
-Tells (Ok false) j = j ≡ Broken
-Tells (Err (Range n)) j = j ≡ Unfit n
-Tells (Err Want) j = Unit {0}
+abbrev pub TellsJudgement : Result Bool CheckEnd → Judgement → Type 0
+TellsJudgement (Ok true) j = j ≡ Accepted
+TellsJudgement (Ok false) j = j ≡ Broken
+TellsJudgement (Err (Range n)) j = j ≡ Unfit n
+TellsJudgement (Err Want) j = Unit {0}
 
 -- the end of the judging where a form isn't built at the node of this number
 abbrev pub end_at : ℕ → FormEnd → CheckEnd
@@ -41,26 +41,26 @@ end_at n forms_end.OutOfRange = Range n
 end_at n forms_end.Want = Want
 
 -- the second, where the first is accepted
-abbrev pub both : Judgement → Judgement → Judgement
-both Accepted second = second
-both Broken second = Broken
-both (Unfit n) second = Unfit n
+abbrev pub judged_in_turn : Judgement → Judgement → Judgement
+judged_in_turn Accepted second = second
+judged_in_turn Broken second = Broken
+judged_in_turn (Unfit n) second = Unfit n
 
 -- what comes of one node: what it adds to the path, where it is as it is asked to be
-pub data Outcome (A : Type 0) : Type 0 where
-  Adds : (added : A) → Outcome A
-  Fails : Outcome A
-  Leaves : Outcome A
+pub data NodeOutcome (A : Type 0) : Type 0 where
+  Adds : (added : A) → NodeOutcome A
+  Fails : NodeOutcome A
+  Leaves : NodeOutcome A
 
 -- the answer at the node of this number says so
-abbrev pub Gives : {A : Type 0} → ℕ → Result (Option A) CheckEnd → Outcome A → Type 0
-Gives n (Ok (Some a)) outcome = outcome ≡ Adds a
-Gives n (Ok None) outcome = outcome ≡ Fails
-Gives n (Err (Range m)) outcome = (m ≡ n) × (outcome ≡ Leaves)
-Gives n (Err Want) outcome = Unit {0}
+abbrev pub AnswersAt : {A : Type 0} → ℕ → Result (Option A) CheckEnd → NodeOutcome A → Type 0
+AnswersAt n (Ok (Some a)) outcome = outcome ≡ Adds a
+AnswersAt n (Ok None) outcome = outcome ≡ Fails
+AnswersAt n (Err (Range m)) outcome = (m ≡ n) × (outcome ≡ Leaves)
+AnswersAt n (Err Want) outcome = Unit {0}
 
 -- how many nodes a tree has
-unfoldable pub size : Shape → ℕ
+unfoldable pub size : TreeShape → ℕ
 size (Split t left right) = suc (size left + size right)
 size (Branch i bound left right) = suc (size left + size right)
 size (Cut ms d inner) = suc (size inner)
@@ -91,36 +91,36 @@ suits vars (test.Holds u) = is_bool (slice_get vars u)
 
 -- ---- nodes: first what is asked of variables, multipliers and divisors, then that operations fit, then the rest
 abbrev pub opposite_fits : Test → Bool
-opposite_fits (test.AtLeast f) = fits (negation f)
+opposite_fits (test.AtLeast f) = form_is_in_range (form_negation f)
 opposite_fits (test.Holds u) = true
 
-abbrev pub split_outcome : List Sort → Test → Outcome (Fact × Fact)
+abbrev pub split_outcome : List Sort → Test → NodeOutcome (Fact × Fact)
 split_outcome vars t = cond (suits vars t) (cond (opposite_fits t) (Adds (added_fact t, opposite_fact t)) Leaves) Fails
 
-abbrev pub branch_outcome : List Sort → ℕ → ℤ → Outcome (Fact × Fact)
-branch_outcome vars i bound = cond (is_int (slice_get vars i)) (Adds (AtLeast (at_or_below i bound), AtLeast (negation (at_or_below i bound)))) Fails
+abbrev pub branch_outcome : List Sort → ℕ → ℤ → NodeOutcome (Fact × Fact)
+branch_outcome vars i bound = cond (is_int (slice_get vars i)) (Adds (AtLeast (at_or_below i bound), AtLeast (form_negation (at_or_below i bound)))) Fails
 
 abbrev pub divided_combination : ℤ → Option Combination → Option Combination
 divided_combination d (Some c) = divided d c
 divided_combination d None = None
 
-abbrev pub added_form : Option Form → Outcome Fact
+abbrev pub added_form : Option Form → NodeOutcome Fact
 added_form (Some e) = Adds (AtLeast e)
 added_form None = Fails
 
-abbrev pub rounded_outcome : Option Combination → Outcome Fact
+abbrev pub rounded_outcome : Option Combination → NodeOutcome Fact
 rounded_outcome (Some c) = added_form (rounded c)
 rounded_outcome None = Leaves
 
-abbrev pub cut_outcome : List Fact → List Fraction → ℤ → Outcome Fact
-cut_outcome path ms d = cond (are_multipliers ms (forms path) && int_le (pos 1) d) (rounded_outcome (divided_combination d (combination ms (forms path)))) Fails
+abbrev pub cut_outcome : List Fact → List Fraction → ℤ → NodeOutcome Fact
+cut_outcome path ms d = cond (are_multipliers ms (forms path) && int_le (pos 1) d) (rounded_outcome (divided_combination d (checked_combination ms (forms path)))) Fails
 
 abbrev pub of_combination : ℕ → Option Combination → Judgement
 of_combination n (Some c) = cond (is_negative_constant c) Accepted Broken
 of_combination n None = Unfit n
 
 abbrev pub contradiction_judged : List Fact → ℕ → List Fraction → Judgement
-contradiction_judged path n ms = cond (are_multipliers ms (forms path)) (of_combination n (combination ms (forms path))) Broken
+contradiction_judged path n ms = cond (are_multipliers ms (forms path)) (of_combination n (checked_combination ms (forms path))) Broken
 
 abbrev pub shown_judged : ℕ → Known → Judgement
 shown_judged n known.False = Accepted
@@ -130,16 +130,16 @@ shown_judged n (known.OutOfRange m) = Unfit n
 
 -- ---- trees
 -- the rest of the tree with what the node of this number adds
-abbrev pub after : {A : Type 0} → ℕ → Outcome A → (A → Judgement) → Judgement
-after n (Adds a) rest = rest a
-after n Fails rest = Broken
-after n Leaves rest = Unfit n
+abbrev pub after_node : {A : Type 0} → ℕ → NodeOutcome A → (A → Judgement) → Judgement
+after_node n (Adds a) rest = rest a
+after_node n Fails rest = Broken
+after_node n Leaves rest = Unfit n
 
 -- the tree under the path, whose root has this number
-unfoldable pub judged : Query → List Fact → ℕ → Shape → Judgement
-judged q path n (Split t left right) = after n (split_outcome q.vars t) (λ facts. both (judged q (path ++ facts.0 ∷ []) (n + 1) left) (judged q (path ++ facts.1 ∷ []) (n + 1 + size left) right))
-judged q path n (Branch i bound left right) = after n (branch_outcome q.vars i bound) (λ facts. both (judged q (path ++ facts.0 ∷ []) (n + 1) left) (judged q (path ++ facts.1 ∷ []) (n + 1 + size left) right))
-judged q path n (Cut ms d inner) = after n (cut_outcome path ms d) (λ fact. judged q (path ++ fact ∷ []) (n + 1) inner)
+unfoldable pub judged : LinearQuery → List Fact → ℕ → TreeShape → Judgement
+judged q path n (Split t left right) = after_node n (split_outcome q.vars t) (λ facts. judged_in_turn (judged q (path ++ facts.0 ∷ []) (n + 1) left) (judged q (path ++ facts.1 ∷ []) (n + 1 + size left) right))
+judged q path n (Branch i bound left right) = after_node n (branch_outcome q.vars i bound) (λ facts. judged_in_turn (judged q (path ++ facts.0 ∷ []) (n + 1) left) (judged q (path ++ facts.1 ∷ []) (n + 1 + size left) right))
+judged q path n (Cut ms d inner) = after_node n (cut_outcome path ms d) (λ fact. judged q (path ++ fact ∷ []) (n + 1) inner)
 judged q path n (Farkas ms) = contradiction_judged path n ms
 judged q path n Shown = shown_judged n (query_known q path)
 judged q path n Unfinished = Broken

@@ -1,9 +1,9 @@
 // The checker of refutation trees.
 ghost use Rattle.std.specs.Prelude.{◌≡◌, ◌+◌, ◌<◌, ◌^◌, ◌++◌, ◌∷◌, [], Ok, true, false, length, IfOk, OnOk};
 ghost use Rattle.sy_terms.specs.Expr.{nodes};
-ghost use Rattle.sy_linear_known.specs.Stored.{query_of, shape_of};
-ghost use Rattle.sy_linear_known.specs.Trees.{Refutes};
-ghost use Rattle.sy_linear.specs.Judging.{Tells, both, judged, size};
+ghost use Rattle.sy_linear_known.specs.Stored.{linear_query_of, tree_shape_of};
+ghost use Rattle.sy_linear_known.specs.Trees.{TreeRefutes};
+ghost use Rattle.sy_linear.specs.Judging.{TellsJudgement, judged_in_turn, judged, size};
 ghost use Rattle.sy_linear.specs.Unsatisfied.{NoneSatisfies};
 
 use crate::nodes::{branch, contradicts, cut, shows, split};
@@ -30,12 +30,12 @@ fn judge(
     tree: &Tree,
     next: &mut u32,
 ) -> Result<bool, CheckEnd>
-    requires nodes { nodes (query_of query.now).body < 2 ^ 31 }
+    requires nodes { nodes (linear_query_of query.now).body < 2 ^ 31 }
     requires vars { length query.now.vars < 2 ^ 31 }
-    requires room { next.old + size (shape_of tree.now) < 2 ^ 32 }
-    ensures judged { Tells result (judged (query_of query.now) facts.old.items next.old (shape_of tree.now)) }
+    requires room { next.old + size (tree_shape_of tree.now) < 2 ^ 32 }
+    ensures judged { TellsJudgement result (judged (linear_query_of query.now) facts.old.items next.old (tree_shape_of tree.now)) }
     ensures facts { OnOk result (facts.new.items ≡ facts.old.items) }
-    ensures next { result ≡ Ok true → next.new ≡ next.old + size (shape_of tree.now) }
+    ensures next { result ≡ Ok true → next.new ≡ next.old + size (tree_shape_of tree.now) }
 {
     let node = *next;
     *next += 1;
@@ -87,12 +87,12 @@ fn judge_under(
     tree: &Tree,
     next: &mut u32,
 ) -> Result<bool, CheckEnd>
-    requires nodes { nodes (query_of query.now).body < 2 ^ 31 }
+    requires nodes { nodes (linear_query_of query.now).body < 2 ^ 31 }
     requires vars { length query.now.vars < 2 ^ 31 }
-    requires room { next.old + size (shape_of tree.now) < 2 ^ 32 }
-    ensures judged { Tells result (judged (query_of query.now) (facts.old.items ++ added ∷ []) next.old (shape_of tree.now)) }
+    requires room { next.old + size (tree_shape_of tree.now) < 2 ^ 32 }
+    ensures judged { TellsJudgement result (judged (linear_query_of query.now) (facts.old.items ++ added ∷ []) next.old (tree_shape_of tree.now)) }
     ensures facts { OnOk result (facts.new.items ≡ facts.old.items) }
-    ensures next { result ≡ Ok true → next.new ≡ next.old + size (shape_of tree.now) }
+    ensures next { result ≡ Ok true → next.new ≡ next.old + size (tree_shape_of tree.now) }
 {
     let outer = facts.len();
     facts.push(added)?;
@@ -115,12 +115,12 @@ fn judge_both(
     right: &Tree,
     next: &mut u32,
 ) -> Result<bool, CheckEnd>
-    requires nodes { nodes (query_of query.now).body < 2 ^ 31 }
+    requires nodes { nodes (linear_query_of query.now).body < 2 ^ 31 }
     requires vars { length query.now.vars < 2 ^ 31 }
-    requires room { next.old + (size (shape_of left.now) + size (shape_of right.now)) < 2 ^ 32 }
-    ensures judged { Tells result (both (judged (query_of query.now) (facts.old.items ++ added.0 ∷ []) next.old (shape_of left.now)) (judged (query_of query.now) (facts.old.items ++ added.1 ∷ []) (next.old + size (shape_of left.now)) (shape_of right.now))) }
+    requires room { next.old + (size (tree_shape_of left.now) + size (tree_shape_of right.now)) < 2 ^ 32 }
+    ensures judged { TellsJudgement result (judged_in_turn (judged (linear_query_of query.now) (facts.old.items ++ added.0 ∷ []) next.old (tree_shape_of left.now)) (judged (linear_query_of query.now) (facts.old.items ++ added.1 ∷ []) (next.old + size (tree_shape_of left.now)) (tree_shape_of right.now))) }
     ensures facts { OnOk result (facts.new.items ≡ facts.old.items) }
-    ensures next { result ≡ Ok true → next.new ≡ next.old + (size (shape_of left.now) + size (shape_of right.now)) }
+    ensures next { result ≡ Ok true → next.new ≡ next.old + (size (tree_shape_of left.now) + size (tree_shape_of right.now)) }
 {
     let (below, above) = added;
     match judge_under(alloc, query, facts, below, left, next) {
@@ -132,13 +132,13 @@ fn judge_both(
 
 /// Whether the tree, whose nodes numbers of 32 bits count, refutes the query.
 fn checked(alloc: Global, q: &Query<IntTheory>, t: &Tree) -> Result<bool, CheckEnd>
-    requires nodes { nodes (query_of q.now).body < 2 ^ 31 }
+    requires nodes { nodes (linear_query_of q.now).body < 2 ^ 31 }
     requires vars { length q.now.vars < 2 ^ 31 }
-    requires tree { size (shape_of t.now) < 2 ^ 32 }
-    ensures judged { Tells result (judged (query_of q.now) [] 0 (shape_of t.now)) }
-    ensures accepted { result ≡ Ok true → Refutes (query_of q.now) [] (shape_of t.now) }
-    ensures rejected { result ≡ Ok false → ¬ (Refutes (query_of q.now) [] (shape_of t.now)) }
-    ensures law { result ≡ Ok true → NoneSatisfies (query_of q.now) }
+    requires tree { size (tree_shape_of t.now) < 2 ^ 32 }
+    ensures judged { TellsJudgement result (judged (linear_query_of q.now) [] 0 (tree_shape_of t.now)) }
+    ensures accepted { result ≡ Ok true → TreeRefutes (linear_query_of q.now) [] (tree_shape_of t.now) }
+    ensures rejected { result ≡ Ok false → ¬ (TreeRefutes (linear_query_of q.now) [] (tree_shape_of t.now)) }
+    ensures law { result ≡ Ok true → NoneSatisfies (linear_query_of q.now) }
 {
     let mut facts = Vec::new(alloc);
     let mut next = 0u32;
@@ -148,18 +148,18 @@ fn checked(alloc: Global, q: &Query<IntTheory>, t: &Tree) -> Result<bool, CheckE
 /// How many nodes a tree may have, so that numbers of 32 bits count them.
 const MOST: u64 = 1 << 32;
 
-/// Whether the tree refutes the query. Its nodes are judged in preorder, and the first that fails decides. A node
-/// fails with false where it isn't as a refutation tree's is, as an `Unfinished` one always does, and with `Range` and
-/// its number where a number of it leaves 128 bits. At one node first the variables, the number and signs of the
+/// Whether the tree refutes the query. A node comes before those below it, the left before the right, and the first one
+/// that fails decides: with false where it isn't as a refutation tree's is, as an `Unfinished` one always does, and with
+/// `Range` and its number where a number of it leaves 128 bits. At one node first the variables, the number and signs of the
 /// multipliers and the divisor are judged, then whether the numbers fit, and then the rest. So a tree that is accepted is
 /// a refutation tree of the query, and one that is rejected isn't. A query of which a tree is accepted is satisfied by no
 /// assignment of whole numbers and truth values. A query or a tree of which numbers of 32 bits don't count the nodes is
 /// answered as want of memory.
 pub fn check_tree(alloc: Global, q: &Query<IntTheory>, t: &Tree) -> Result<bool, CheckEnd>
-    ensures judged { Tells result (judged (query_of q.now) [] 0 (shape_of t.now)) }
-    ensures accepted { result ≡ Ok true → Refutes (query_of q.now) [] (shape_of t.now) }
-    ensures rejected { result ≡ Ok false → ¬ (Refutes (query_of q.now) [] (shape_of t.now)) }
-    ensures law { result ≡ Ok true → NoneSatisfies (query_of q.now) }
+    ensures judged { TellsJudgement result (judged (linear_query_of q.now) [] 0 (tree_shape_of t.now)) }
+    ensures accepted { result ≡ Ok true → TreeRefutes (linear_query_of q.now) [] (tree_shape_of t.now) }
+    ensures rejected { result ≡ Ok false → ¬ (TreeRefutes (linear_query_of q.now) [] (tree_shape_of t.now)) }
+    ensures law { result ≡ Ok true → NoneSatisfies (linear_query_of q.now) }
 {
     if !is_numbered(q) || count_nodes(t, MOST) >= MOST {
         return Err(CheckEnd::Want);

@@ -148,8 +148,8 @@ fn plus_form(
     factor: &Frac,
     form: &Form,
 ) -> Result<Combination, FormEnd>
-    ensures ok { IfOk result (λ c. spec.plus_form combination.now factor.now form.now ≡ Some c) }
-    ensures unfit { IsErrOf result FormEnd.OutOfRange → spec.plus_form combination.now factor.now form.now ≡ None }
+    ensures ok { IfOk result (λ c. spec.checked_plus_form combination.now factor.now form.now ≡ Some c) }
+    ensures unfit { IsErrOf result FormEnd.OutOfRange → spec.checked_plus_form combination.now factor.now form.now ≡ None }
 {
     let number = constant_of(form);
     let Some(constant) = plus_multiple(factor, number, &combination.constant) else {
@@ -168,8 +168,8 @@ pub(crate) fn combined(
     multipliers: &[Frac],
     facts: &[Fact],
 ) -> Result<Combination, FormEnd>
-    ensures ok { IfOk result (λ c. spec.combination multipliers.now (forms facts.now) ≡ Some c) }
-    ensures unfit { IsErrOf result FormEnd.OutOfRange → spec.combination multipliers.now (forms facts.now) ≡ None }
+    ensures ok { IfOk result (λ c. spec.checked_combination multipliers.now (forms facts.now) ≡ Some c) }
+    ensures unfit { IsErrOf result FormEnd.OutOfRange → spec.checked_combination multipliers.now (forms facts.now) ≡ None }
 {
     let Some(mut sum) = nothing(alloc) else {
         return Err(FormEnd::Want);
@@ -194,7 +194,7 @@ pub(crate) fn combined(
 
 /// The combination of no forms. It takes no memory.
 fn nothing(alloc: Global) -> Option<Combination>
-    ensures { result ≡ Some spec.nothing }
+    ensures { result ≡ Some spec.empty_combination }
 {
     let Some(constant) = Frac::new(0, 1) else {
         return None;

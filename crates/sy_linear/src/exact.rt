@@ -6,7 +6,7 @@ use sy_frac::Frac;
 
 /// The product of a fraction and a whole number, where each number fits.
 pub(crate) fn multiple(factor: &Frac, number: i128) -> Option<Frac>
-    ensures { result ≡ spec.multiple factor.now number }
+    ensures { result ≡ spec.whole_multiple factor.now number }
 {
     let Some(whole) = Frac::new(number, 1) else {
         return None;
@@ -17,7 +17,7 @@ pub(crate) fn multiple(factor: &Frac, number: i128) -> Option<Frac>
 
 /// That product and a fraction, where each number fits.
 pub(crate) fn plus_multiple(factor: &Frac, number: i128, addend: &Frac) -> Option<Frac>
-    ensures { result ≡ spec.plus_multiple factor.now number addend.now }
+    ensures { result ≡ spec.checked_plus_multiple factor.now number addend.now }
 {
     let Some(product) = multiple(factor, number) else {
         return None;

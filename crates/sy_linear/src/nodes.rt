@@ -2,13 +2,13 @@
 ghost use Rattle.std.specs.Prelude.{◌≡◌, ◌≤ℤ◌, ◌<◌, ◌^◌, ◌∷◌, [], true, pos, length, slice_get, IfOk, IsErrOf};
 ghost use Rattle.std.specs.List.{list_all};
 ghost use Rattle.sy_terms.specs.Expr.{nodes};
-ghost use Rattle.sy_linear_forms.specs.Forms.{fits};
+ghost use Rattle.sy_linear_forms.specs.Forms.{form_is_in_range};
 ghost use Rattle.sy_linear_known.specs.Seen.{query_known};
-ghost use Rattle.sy_linear_known.specs.Stored.{query_of};
+ghost use Rattle.sy_linear_known.specs.Stored.{linear_query_of};
 ghost use Rattle.sy_linear_known.specs.Trees.{forms};
 ghost use Rattle.sy_linear.specs.Judging as spec;
-ghost use Rattle.sy_linear.specs.Combining.{combination};
-ghost use Rattle.sy_linear.specs.Judging.{Tells, Gives};
+ghost use Rattle.sy_linear.specs.Combining.{checked_combination};
+ghost use Rattle.sy_linear.specs.Judging.{TellsJudgement, AnswersAt};
 
 use crate::combination::{
     are_multipliers, combined, constant_of, divided, is_negative_constant, number_of, rounded,
@@ -68,7 +68,7 @@ fn end_at(end: FormEnd, node: u32) -> CheckEnd
 /// The same form; its numbers are of 128 bits.
 fn copied(alloc: Global, form: &Form) -> Result<Form, Want>
     ensures same { IfOk result (λ copy. copy ≡ form.now) }
-    ensures fits { IfOk result (λ copy. fits copy ≡ true) }
+    ensures fits { IfOk result (λ copy. form_is_in_range copy ≡ true) }
 {
     let mut coefs = Seq::new(alloc);
     for coefficient in form.coefs.as_slice() {
@@ -88,7 +88,7 @@ pub fn split(
     test: &Test,
     node: u32,
 ) -> Result<Option<(Fact, Fact)>, CheckEnd>
-    ensures { Gives node result (spec.split_outcome vars.now test.now) }
+    ensures { AnswersAt node result (spec.split_outcome vars.now test.now) }
 {
     if !suits(vars, test) {
         return Ok(None);
@@ -123,7 +123,7 @@ pub fn branch(
     bound: i128,
     node: u32,
 ) -> Result<Option<(Fact, Fact)>, CheckEnd>
-    ensures { Gives node result (spec.branch_outcome vars.now variable bound) }
+    ensures { AnswersAt node result (spec.branch_outcome vars.now variable bound) }
 {
     if !is_int(vars, variable) {
         return Ok(None);
@@ -141,8 +141,8 @@ fn cut_form(
     divisor: i128,
 ) -> Result<Option<Form>, FormEnd>
     requires { pos 1 ≤ℤ divisor }
-    ensures ok { IfOk result (λ form. spec.rounded_outcome (spec.divided_combination divisor (combination multipliers.now (forms facts.now))) ≡ spec.added_form form) }
-    ensures unfit { IsErrOf result FormEnd.OutOfRange → spec.rounded_outcome (spec.divided_combination divisor (combination multipliers.now (forms facts.now))) ≡ spec.Leaves }
+    ensures ok { IfOk result (λ form. spec.rounded_outcome (spec.divided_combination divisor (checked_combination multipliers.now (forms facts.now))) ≡ spec.added_form form) }
+    ensures unfit { IsErrOf result FormEnd.OutOfRange → spec.rounded_outcome (spec.divided_combination divisor (checked_combination multipliers.now (forms facts.now))) ≡ spec.Leaves }
 {
     let whole = match combined(alloc, multipliers, facts) {
         Ok(whole) => whole,
@@ -166,7 +166,7 @@ pub fn cut(
     divisor: i128,
     node: u32,
 ) -> Result<Option<Fact>, CheckEnd>
-    ensures { Gives node result (spec.cut_outcome facts.now multipliers.now divisor) }
+    ensures { AnswersAt node result (spec.cut_outcome facts.now multipliers.now divisor) }
 {
     if !are_multipliers(multipliers, facts) || divisor < 1 {
         return Ok(None);
@@ -186,7 +186,7 @@ pub fn contradicts(
     multipliers: &[Frac],
     node: u32,
 ) -> Result<bool, CheckEnd>
-    ensures { Tells result (spec.contradiction_judged facts.now node multipliers.now) }
+    ensures { TellsJudgement result (spec.contradiction_judged facts.now node multipliers.now) }
 {
     if !are_multipliers(multipliers, facts) {
         return Ok(false);
@@ -205,9 +205,9 @@ pub(crate) fn shows(
     facts: &[Fact],
     node: u32,
 ) -> Result<bool, CheckEnd>
-    requires nodes { nodes (query_of query.now).body < 2 ^ 31 }
+    requires nodes { nodes (linear_query_of query.now).body < 2 ^ 31 }
     requires vars { length query.now.vars < 2 ^ 31 }
-    ensures { Tells result (spec.shown_judged node (query_known (query_of query.now) facts.now)) }
+    ensures { TellsJudgement result (spec.shown_judged node (query_known (linear_query_of query.now) facts.now)) }
 {
     match known_under(alloc, query, facts)? {
         Known::False => Ok(true),

@@ -1,13 +1,13 @@
 // The size of a tree.
 ghost use Rattle.std.specs.Prelude.{◌≡◌, min};
-ghost use Rattle.sy_linear_known.specs.Stored.{shape_of};
+ghost use Rattle.sy_linear_known.specs.Stored.{tree_shape_of};
 ghost use Rattle.sy_linear.specs.Judging as spec;
 
 use sy_linear_known::Tree;
 
 /// The number of nodes, at most `cap`.
 pub(crate) fn count_nodes(tree: &Tree, cap: u64) -> u64
-    ensures { result ≡ min cap (spec.size (shape_of tree.now)) }
+    ensures { result ≡ min cap (spec.size (tree_shape_of tree.now)) }
 {
     let below = match tree {
         Tree::Split(_, _, left, right) => {

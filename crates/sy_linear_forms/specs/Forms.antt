@@ -16,8 +16,8 @@ all_in_range [] = true
 all_in_range (c ∷ cs) = in_range c.1 && all_in_range cs
 
 -- each coefficient and the constant are in range
-abbrev pub fits : Form → Bool
-fits f = all_in_range f.coefs && in_range f.constant
+abbrev pub form_is_in_range : Form → Bool
+form_is_in_range f = all_in_range f.coefs && in_range f.constant
 
 -- ---- values
 -- the sum of each coefficient times its variable's value
@@ -63,30 +63,30 @@ constant_form k = record { coefs = []; constant = k }
 abbrev pub variable_form : ℕ → Form
 variable_form i = record { coefs = (i, pos 1) ∷ []; constant = pos 0 }
 
-abbrev pub plus : Form → Form → Form
-plus f g = record { coefs = added f.coefs g.coefs; constant = f.constant +ℤ g.constant }
+abbrev pub form_plus : Form → Form → Form
+form_plus f g = record { coefs = added f.coefs g.coefs; constant = f.constant +ℤ g.constant }
 
 abbrev pub times : ℤ → Form → Form
 times k f = record { coefs = scaled k f.coefs; constant = k *ℤ f.constant }
 
-abbrev pub minus : Form → Form → Form
-minus f g = record { coefs = subtracted f.coefs g.coefs; constant = f.constant -ℤ g.constant }
+abbrev pub form_minus : Form → Form → Form
+form_minus f g = record { coefs = subtracted f.coefs g.coefs; constant = f.constant -ℤ g.constant }
 
 -- f - g - 1, which is at least 0 exactly where f is above g
 abbrev pub above : Form → Form → Form
 above f g = record { coefs = subtracted f.coefs g.coefs; constant = f.constant +ℤ (neg_ℤ g.constant -ℤ pos 1) }
 
 -- -f - 1, which is at least 0 exactly where f isn't
-abbrev pub negation : Form → Form
-negation f = record { coefs = scaled (negsuc 0) f.coefs; constant = neg_ℤ f.constant -ℤ pos 1 }
+abbrev pub form_negation : Form → Form
+form_negation f = record { coefs = scaled (negsuc 0) f.coefs; constant = neg_ℤ f.constant -ℤ pos 1 }
 
-abbrev pub is_empty : List Coefficient → Bool
-is_empty [] = true
-is_empty (c ∷ cs) = false
+abbrev pub has_no_coefficients : List Coefficient → Bool
+has_no_coefficients [] = true
+has_no_coefficients (c ∷ cs) = false
 
 -- no variable has a coefficient
-abbrev pub is_constant : Form → Bool
-is_constant f = is_empty f.coefs
+abbrev pub is_constant_form : Form → Bool
+is_constant_form f = has_no_coefficients f.coefs
 
 abbrev pub same_coefficients : List Coefficient → List Coefficient → Bool
 same_coefficients [] [] = true

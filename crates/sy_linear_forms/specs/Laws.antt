@@ -7,7 +7,7 @@ use Rattle.std.specs.Ordering.{int_eq}
 use Rattle.std.specs.Cmp.{signed_Decides, unsigned_Decides}
 use Rattle.std.proofs.lemmas.Bool.{ltb-false}
 use Rattle.sy_linear_forms.specs.declared.form.Form.{Form}
-use Rattle.sy_linear_forms.specs.Forms.{Coefficient, combined, form_value, before, added, scaled, subtracted, above, constant_form, variable_form, plus, times, minus, negation, same_coefficients, same_form, is_constant}
+use Rattle.sy_linear_forms.specs.Forms.{Coefficient, combined, form_value, before, added, scaled, subtracted, above, constant_form, variable_form, form_plus, times, form_minus, form_negation, same_coefficients, same_form, is_constant_form}
 
 pub distributes : (a b x : ℤ) → (a +ℤ b) *ℤ x ≡ a *ℤ x +ℤ b *ℤ x
 distributes a b x =
@@ -81,7 +81,7 @@ value-variable i x = one (x i)
     one : (y : ℤ) → (pos 1 *ℤ y +ℤ pos 0) +ℤ pos 0 ≡ y
     one y = same_in _ _ (omega (arith, ints))
 
-pub value-plus : (f g : Form) (x : ℕ → ℤ) → form_value (plus f g) x ≡ form_value f x +ℤ form_value g x
+pub value-plus : (f g : Form) (x : ℕ → ℤ) → form_value (form_plus f g) x ≡ form_value f x +ℤ form_value g x
 unfolding form_value
 value-plus f g x = ap (λ k. k +ℤ (f.constant +ℤ g.constant)) (combined-added f.coefs g.coefs x) ∙ regroup (combined f.coefs x) (combined g.coefs x) f.constant g.constant
   where
@@ -133,7 +133,7 @@ combined-subtracted (c ∷ cs) (d ∷ ds) x = by (combined-subtracted cs (d ∷ 
         ∙ ap₂ (λ k l. k +ℤ l) (distributes c.1 (neg_ℤ d.1) (x c.0) ∙ ap (λ k. c.1 *ℤ x c.0 +ℤ k) (neg_times d.1 (x c.0) ∙ ap (λ i. neg_ℤ (d.1 *ℤ x i)) same)) three
         ∙ middle (c.1 *ℤ x c.0) (combined cs x) (d.1 *ℤ x d.0) (combined ds x)
 
-pub value-minus : (f g : Form) (x : ℕ → ℤ) → form_value (minus f g) x ≡ form_value f x -ℤ form_value g x
+pub value-minus : (f g : Form) (x : ℕ → ℤ) → form_value (form_minus f g) x ≡ form_value f x -ℤ form_value g x
 unfolding form_value
 value-minus f g x = ap (λ k. k +ℤ (f.constant -ℤ g.constant)) (combined-subtracted f.coefs g.coefs x) ∙ regroup (combined f.coefs x) (combined g.coefs x) f.constant g.constant
   where
@@ -147,14 +147,14 @@ value-above f g x = ap (λ k. k +ℤ (f.constant +ℤ (neg_ℤ g.constant -ℤ p
     regroup : (p q r s : ℤ) → (p -ℤ q) +ℤ (r +ℤ (neg_ℤ s -ℤ pos 1)) ≡ ((p +ℤ r) -ℤ (q +ℤ s)) +ℤ negsuc 0
     regroup p q r s = same_in _ _ (omega (arith, ints))
 
-pub value-negation : (f : Form) (x : ℕ → ℤ) → form_value (negation f) x ≡ neg_ℤ (form_value f x) -ℤ pos 1
+pub value-negation : (f : Form) (x : ℕ → ℤ) → form_value (form_negation f) x ≡ neg_ℤ (form_value f x) -ℤ pos 1
 unfolding form_value
 value-negation f x = ap (λ k. k +ℤ (neg_ℤ f.constant -ℤ pos 1)) (combined-scaled (negsuc 0) f.coefs x) ∙ turned (combined f.coefs x) f.constant
   where
     turned : (p q : ℤ) → negsuc 0 *ℤ p +ℤ (neg_ℤ q -ℤ pos 1) ≡ neg_ℤ (p +ℤ q) -ℤ pos 1
     turned p q = same_in _ _ (omega (arith, ints))
 
-pub value-is_constant : (f : Form) (x : ℕ → ℤ) → is_constant f ≡ true → form_value f x ≡ f.constant
+pub value-is_constant : (f : Form) (x : ℕ → ℤ) → is_constant_form f ≡ true → form_value f x ≡ f.constant
 unfolding form_value combined
 value-is_constant f x h = by f.coefs refl
   where

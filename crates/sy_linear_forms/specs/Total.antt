@@ -31,35 +31,35 @@ total_zero zero = refl
 total_zero (suc n) = rw (total_zero n) (+ℚ_zero 0ℚ)
 
 -- f with the value at e put to 0
-unfoldable pub without : ℕ → (ℕ → ℚ) → ℕ → ℚ
-without e f j = cond (j == e) 0ℚ (f j)
+unfoldable pub zero_at : ℕ → (ℕ → ℚ) → ℕ → ℚ
+zero_at e f j = cond (j == e) 0ℚ (f j)
 
-pub without_same : (e : ℕ) (f : ℕ → ℚ) → without e f e ≡ 0ℚ
-unfolding without
+pub without_same : (e : ℕ) (f : ℕ → ℚ) → zero_at e f e ≡ 0ℚ
+unfolding zero_at
 without_same e f = by (eqb_tells e e)
   where
-    by : ((eqb e e ≡ true) × (e ≡ e)) ⊎ ((eqb e e ≡ false) × (e ≢ e)) → without e f e ≡ 0ℚ
+    by : ((eqb e e ≡ true) × (e ≡ e)) ⊎ ((eqb e e ≡ false) × (e ≢ e)) → zero_at e f e ≡ 0ℚ
     by (inl h) = rw (h.0)
     by (inr h) = absurd (h.1 refl)
 
-pub without_other : (e j : ℕ) (f : ℕ → ℚ) → j ≢ e → without e f j ≡ f j
-unfolding without
+pub without_other : (e j : ℕ) (f : ℕ → ℚ) → j ≢ e → zero_at e f j ≡ f j
+unfolding zero_at
 without_other e j f n = by (eqb_tells j e)
   where
-    by : ((eqb j e ≡ true) × (j ≡ e)) ⊎ ((eqb j e ≡ false) × (j ≢ e)) → without e f j ≡ f j
+    by : ((eqb j e ≡ true) × (j ≡ e)) ⊎ ((eqb j e ≡ false) × (j ≢ e)) → zero_at e f j ≡ f j
     by (inl h) = absurd (n h.1)
     by (inr h) = rw (h.0)
 
-split_step : (n e : ℕ) (f : ℕ → ℚ) → e < suc n → (e < n → total n f ≡ f e +ℚ total n (without e f)) → ((eqb e n ≡ true) × (e ≡ n)) ⊎ ((eqb e n ≡ false) × (e ≢ n)) → total n f +ℚ f n ≡ f e +ℚ (total n (without e f) +ℚ without e f n)
+split_step : (n e : ℕ) (f : ℕ → ℚ) → e < suc n → (e < n → total n f ≡ f e +ℚ total n (zero_at e f)) → ((eqb e n ≡ true) × (e ≡ n)) ⊎ ((eqb e n ≡ false) × (e ≢ n)) → total n f +ℚ f n ≡ f e +ℚ (total n (zero_at e f) +ℚ zero_at e f n)
 split_step n e f h ih (inl k) =
-    subst (λ m. total n f +ℚ f n ≡ f m +ℚ (total n (without m f) +ℚ without m f n)) (sym k.1)
-    (rw (without_same n f, +ℚ_zero, total-same n (without n f) f (λ j l. without_other n j f (omega arith))) (+ℚ_comm (total n f) (f n)))
+    subst (λ m. total n f +ℚ f n ≡ f m +ℚ (total n (zero_at m f) +ℚ zero_at m f n)) (sym k.1)
+    (rw (without_same n f, +ℚ_zero, total-same n (zero_at n f) f (λ j l. without_other n j f (omega arith))) (+ℚ_comm (total n f) (f n)))
 split_step n e f h ih (inr k) =
     let l : e < n = omega (arith, k.1) in
-    rw (without_other e n f (λ m. k.1 (sym m)), ih l) (+ℚ_assoc (f e) (total n (without e f)) (f n))
+    rw (without_other e n f (λ m. k.1 (sym m)), ih l) (+ℚ_assoc (f e) (total n (zero_at e f)) (f n))
 
 -- a sum is one of its parts and the sum of the others
-pub total_split : (n e : ℕ) (f : ℕ → ℚ) → e < n → total n f ≡ f e +ℚ total n (without e f)
+pub total_split : (n e : ℕ) (f : ℕ → ℚ) → e < n → total n f ≡ f e +ℚ total n (zero_at e f)
 unfolding total
 total_split zero e f h = absurd (omega arith)
 total_split (suc n) e f h = split_step n e f h (total_split n e f) (eqb_tells e n)
@@ -86,8 +86,8 @@ replaced_other e j y x n = by (eqb_tells j e)
     by (inr h) = rw (h.0)
 
 -- the combination of the values x by the coefficients a
-unfoldable pub combined : ℕ → (ℕ → ℚ) → (ℕ → ℚ) → ℚ
-combined n a x = total n (λ j. a j *ℚ x j)
+unfoldable pub combined_total : ℕ → (ℕ → ℚ) → (ℕ → ℚ) → ℚ
+combined_total n a x = total n (λ j. a j *ℚ x j)
 
 -- the row s is the row p solved for the variable of column e
 pub record IsSolved (n e : ℕ) (p s : ℕ → ℚ) : Type 0 where
@@ -100,44 +100,44 @@ pub record IsPut (n e : ℕ) (s a b : ℕ → ℚ) : Type 0 where
   pub others : (j : ℕ) → j < n → j ≢ e → b j ≡ a j +ℚ a e *ℚ s j
 
 -- a combination is its part at e and the others
-pub combined_split : (n e : ℕ) (a x : ℕ → ℚ) → e < n → combined n a x ≡ a e *ℚ x e +ℚ total n (without e (λ j. a j *ℚ x j))
-unfolding combined
+pub combined_split : (n e : ℕ) (a x : ℕ → ℚ) → e < n → combined_total n a x ≡ a e *ℚ x e +ℚ total n (zero_at e (λ j. a j *ℚ x j))
+unfolding combined_total
 combined_split n e a x h = total_split n e (λ j. a j *ℚ x j) h
 
-at_each : (n e : ℕ) (f g : ℕ → ℚ) → ((j : ℕ) → j < n → j ≢ e → f j ≡ g j) → (j : ℕ) → j < n → without e f j ≡ without e g j
+at_each : (n e : ℕ) (f g : ℕ → ℚ) → ((j : ℕ) → j < n → j ≢ e → f j ≡ g j) → (j : ℕ) → j < n → zero_at e f j ≡ zero_at e g j
 at_each n e f g h j l = by (eqb_tells j e)
   where
-    by : ((eqb j e ≡ true) × (j ≡ e)) ⊎ ((eqb j e ≡ false) × (j ≢ e)) → without e f j ≡ without e g j
-    by (inl k) = subst (λ m. without e f m ≡ without e g m) (sym k.1) (without_same e f ∙ sym (without_same e g))
+    by : ((eqb j e ≡ true) × (j ≡ e)) ⊎ ((eqb j e ≡ false) × (j ≢ e)) → zero_at e f j ≡ zero_at e g j
+    by (inl k) = subst (λ m. zero_at e f m ≡ zero_at e g m) (sym k.1) (without_same e f ∙ sym (without_same e g))
     by (inr k) = without_other e j f k.1 ∙ h j l k.1 ∙ sym (without_other e j g k.1)
 
 -- functions that agree but at e have the same rest
-pub rest_same : (n e : ℕ) (f g : ℕ → ℚ) → ((j : ℕ) → j < n → j ≢ e → f j ≡ g j) → total n (without e f) ≡ total n (without e g)
-rest_same n e f g h = total-same n (without e f) (without e g) (at_each n e f g h)
+pub rest_same : (n e : ℕ) (f g : ℕ → ℚ) → ((j : ℕ) → j < n → j ≢ e → f j ≡ g j) → total n (zero_at e f) ≡ total n (zero_at e g)
+rest_same n e f g h = total-same n (zero_at e f) (zero_at e g) (at_each n e f g h)
 
-rest_plus : (n e : ℕ) (f g : ℕ → ℚ) → total n (without e f) +ℚ total n (without e g) ≡ total n (without e (λ j. f j +ℚ g j))
-rest_plus n e f g = sym (total-plus n (without e f) (without e g)) ∙ total-same n (λ j. without e f j +ℚ without e g j) (without e (λ j. f j +ℚ g j)) (λ j l. by j (eqb_tells j e))
+rest_plus : (n e : ℕ) (f g : ℕ → ℚ) → total n (zero_at e f) +ℚ total n (zero_at e g) ≡ total n (zero_at e (λ j. f j +ℚ g j))
+rest_plus n e f g = sym (total-plus n (zero_at e f) (zero_at e g)) ∙ total-same n (λ j. zero_at e f j +ℚ zero_at e g j) (zero_at e (λ j. f j +ℚ g j)) (λ j l. by j (eqb_tells j e))
   where
-    by : (j : ℕ) → ((eqb j e ≡ true) × (j ≡ e)) ⊎ ((eqb j e ≡ false) × (j ≢ e)) → without e f j +ℚ without e g j ≡ without e (λ j. f j +ℚ g j) j
-    by j (inl k) = subst (λ m. without e f m +ℚ without e g m ≡ without e (λ j. f j +ℚ g j) m) (sym k.1) (rw (without_same e f, without_same e g, without_same e (λ j. f j +ℚ g j)) (+ℚ_zero 0ℚ))
+    by : (j : ℕ) → ((eqb j e ≡ true) × (j ≡ e)) ⊎ ((eqb j e ≡ false) × (j ≢ e)) → zero_at e f j +ℚ zero_at e g j ≡ zero_at e (λ j. f j +ℚ g j) j
+    by j (inl k) = subst (λ m. zero_at e f m +ℚ zero_at e g m ≡ zero_at e (λ j. f j +ℚ g j) m) (sym k.1) (rw (without_same e f, without_same e g, without_same e (λ j. f j +ℚ g j)) (+ℚ_zero 0ℚ))
     by j (inr k) = rw (without_other e j f k.1, without_other e j g k.1, without_other e j (λ j. f j +ℚ g j) k.1)
 
-rest_times : (n e : ℕ) (x : ℚ) (f : ℕ → ℚ) → x *ℚ total n (without e f) ≡ total n (without e (λ j. x *ℚ f j))
-rest_times n e x f = sym (total-times n x (without e f)) ∙ total-same n (λ j. x *ℚ without e f j) (without e (λ j. x *ℚ f j)) (λ j l. by j (eqb_tells j e))
+rest_times : (n e : ℕ) (x : ℚ) (f : ℕ → ℚ) → x *ℚ total n (zero_at e f) ≡ total n (zero_at e (λ j. x *ℚ f j))
+rest_times n e x f = sym (total-times n x (zero_at e f)) ∙ total-same n (λ j. x *ℚ zero_at e f j) (zero_at e (λ j. x *ℚ f j)) (λ j l. by j (eqb_tells j e))
   where
-    by : (j : ℕ) → ((eqb j e ≡ true) × (j ≡ e)) ⊎ ((eqb j e ≡ false) × (j ≢ e)) → x *ℚ without e f j ≡ without e (λ j. x *ℚ f j) j
-    by j (inl k) = subst (λ m. x *ℚ without e f m ≡ without e (λ j. x *ℚ f j) m) (sym k.1) (rw (without_same e f, without_same e (λ j. x *ℚ f j)) (*ℚ_zero x))
+    by : (j : ℕ) → ((eqb j e ≡ true) × (j ≡ e)) ⊎ ((eqb j e ≡ false) × (j ≢ e)) → x *ℚ zero_at e f j ≡ zero_at e (λ j. x *ℚ f j) j
+    by j (inl k) = subst (λ m. x *ℚ zero_at e f m ≡ zero_at e (λ j. x *ℚ f j) m) (sym k.1) (rw (without_same e f, without_same e (λ j. x *ℚ f j)) (*ℚ_zero x))
     by j (inr k) = rw (without_other e j f k.1, without_other e j (λ j. x *ℚ f j) k.1)
 
-rest_zero : (n e : ℕ) (f : ℕ → ℚ) → ((j : ℕ) → j < n → j ≢ e → f j ≡ 0ℚ) → total n (without e f) ≡ 0ℚ
-rest_zero n e f h = total-same n (without e f) (λ j. 0ℚ) (λ j l. by j l (eqb_tells j e)) ∙ total_zero n
+rest_zero : (n e : ℕ) (f : ℕ → ℚ) → ((j : ℕ) → j < n → j ≢ e → f j ≡ 0ℚ) → total n (zero_at e f) ≡ 0ℚ
+rest_zero n e f h = total-same n (zero_at e f) (λ j. 0ℚ) (λ j l. by j l (eqb_tells j e)) ∙ total_zero n
   where
-    by : (j : ℕ) → j < n → ((eqb j e ≡ true) × (j ≡ e)) ⊎ ((eqb j e ≡ false) × (j ≢ e)) → without e f j ≡ 0ℚ
-    by j l (inl k) = subst (λ m. without e f m ≡ 0ℚ) (sym k.1) (without_same e f)
+    by : (j : ℕ) → j < n → ((eqb j e ≡ true) × (j ≡ e)) ⊎ ((eqb j e ≡ false) × (j ≢ e)) → zero_at e f j ≡ 0ℚ
+    by j l (inl k) = subst (λ m. zero_at e f m ≡ 0ℚ) (sym k.1) (without_same e f)
     by j l (inr k) = without_other e j f k.1 ∙ h j l k.1
 
 -- a combination of replaced values is its part at e and the rest over the old values
-combined_replaced : (n e : ℕ) (a x : ℕ → ℚ) (y : ℚ) → e < n → combined n a (replaced e y x) ≡ a e *ℚ y +ℚ total n (without e (λ j. a j *ℚ x j))
+combined_replaced : (n e : ℕ) (a x : ℕ → ℚ) (y : ℚ) → e < n → combined_total n a (replaced e y x) ≡ a e *ℚ y +ℚ total n (zero_at e (λ j. a j *ℚ x j))
 combined_replaced n e a x y h =
     combined_split n e a (replaced e y x) h
     ∙ ap₂ (λ s t. s +ℚ t) (ap (λ t. a e *ℚ t) (replaced_same e y x))
@@ -151,14 +151,14 @@ opposite i x p s h k = ap (λ t. i *ℚ p +ℚ t) is ∙ +ℚ-neg (i *ℚ p)
     is = sym (*ℚ_one s) ∙ ap (λ t. s *ℚ t) (sym h) ∙ *ℚ_left_comm s i x ∙ ap (λ t. i *ℚ t) k ∙ *ℚ_comm i (neg_ℚ p) ∙ neg_ℚ-*ℚ p i ∙ ap neg_ℚ (*ℚ_comm p i)
 
 -- the solved row gives the variable of column e
-pub solved_gives : (n e : ℕ) (p s x : ℕ → ℚ) (y : ℚ) → e < n → IsSolved n e p s → y ≡ combined n p x → x e ≡ combined n s (replaced e y x)
+pub solved_gives : (n e : ℕ) (p s x : ℕ → ℚ) (y : ℚ) → e < n → IsSolved n e p s → y ≡ combined_total n p x → x e ≡ combined_total n s (replaced e y x)
 solved_gives n e p s x y h d k = sym (combined_replaced n e s x y h ∙ ap (λ t. s e *ℚ t +ℚ ws) (k ∙ combined_split n e p x h) ∙ end)
   where
     wp : ℚ
-    wp = total n (without e (λ j. p j *ℚ x j))
+    wp = total n (zero_at e (λ j. p j *ℚ x j))
 
     ws : ℚ
-    ws = total n (without e (λ j. s j *ℚ x j))
+    ws = total n (zero_at e (λ j. s j *ℚ x j))
 
     each : (j : ℕ) → j < n → j ≢ e → s e *ℚ (p j *ℚ x j) +ℚ s j *ℚ x j ≡ 0ℚ
     each j l m = ap (λ t. t +ℚ s j *ℚ x j) (sym (*ℚ_assoc (s e) (p j) (x j))) ∙ sym (+ℚ-*ℚ (s e *ℚ p j) (s j) (x j)) ∙ ap (λ t. t *ℚ x j) (opposite (s e) (p e) (p j) (s j) d.pivot (d.others j l m)) ∙ zero-*ℚ (x j)
@@ -173,17 +173,17 @@ solved_gives n e p s x y h d k = sym (combined_replaced n e s x y h ∙ ap (λ t
     end = ap (λ t. t +ℚ ws) (*ℚ-+ℚ (s e) (p e *ℚ x e) wp) ∙ +ℚ_assoc (s e *ℚ (p e *ℚ x e)) (s e *ℚ wp) ws ∙ ap₂ (λ t u. t +ℚ u) first rests ∙ +ℚ_zero (x e)
 
 -- a row in which the solved row is put holds where the old one does
-pub put_gives : (n e : ℕ) (s a b x : ℕ → ℚ) (y z : ℚ) → e < n → IsPut n e s a b → x e ≡ combined n s (replaced e y x) → z ≡ combined n a x → z ≡ combined n b (replaced e y x)
+pub put_gives : (n e : ℕ) (s a b x : ℕ → ℚ) (y z : ℚ) → e < n → IsPut n e s a b → x e ≡ combined_total n s (replaced e y x) → z ≡ combined_total n a x → z ≡ combined_total n b (replaced e y x)
 put_gives n e s a b x y z h d k m = m ∙ combined_split n e a x h ∙ ap (λ t. a e *ℚ t +ℚ wa) (k ∙ combined_replaced n e s x y h) ∙ end ∙ sym (combined_replaced n e b x y h)
   where
     wa : ℚ
-    wa = total n (without e (λ j. a j *ℚ x j))
+    wa = total n (zero_at e (λ j. a j *ℚ x j))
 
     ws : ℚ
-    ws = total n (without e (λ j. s j *ℚ x j))
+    ws = total n (zero_at e (λ j. s j *ℚ x j))
 
     wb : ℚ
-    wb = total n (without e (λ j. b j *ℚ x j))
+    wb = total n (zero_at e (λ j. b j *ℚ x j))
 
     each : (j : ℕ) → j < n → j ≢ e → a e *ℚ (s j *ℚ x j) +ℚ a j *ℚ x j ≡ b j *ℚ x j
     each j l o = ap (λ t. t +ℚ a j *ℚ x j) (sym (*ℚ_assoc (a e) (s j) (x j))) ∙ sym (+ℚ-*ℚ (a e *ℚ s j) (a j) (x j)) ∙ ap (λ t. t *ℚ x j) (+ℚ_comm (a e *ℚ s j) (a j) ∙ sym (d.others j l o))

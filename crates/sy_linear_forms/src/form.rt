@@ -1,6 +1,6 @@
 // Linear forms over whole numbers.
 ghost use Rattle.std.specs.Prelude.{◌≡◌, true, false, pos, [], IfOk, IsErrOf, IsOk};
-ghost use Rattle.sy_linear_forms.specs.Forms.{same_form, plus, times, minus, above, negation, fits, constant_form, variable_form, all_in_range, scaled};
+ghost use Rattle.sy_linear_forms.specs.Forms.{same_form, form_plus, times, form_minus, above, form_negation, form_is_in_range, constant_form, variable_form, all_in_range, scaled};
 
 use crate::coefficients::{add, are_same, push_all, scale, subtract};
 use crate::number::{difference, product, sum};
@@ -84,11 +84,11 @@ impl Form {
 
     /// The sum; `OutOfRange` exactly where a coefficient or the constant of it leaves 128 bits.
     pub fn plus(&self, alloc: Global, other: &Form) -> Result<Form, FormEnd>
-        requires left { fits self.now ≡ true }
-        requires right { fits other.now ≡ true }
-        ensures ok { IfOk result (λ form. form ≡ plus self.now other.now) }
-        ensures fits { IfOk result (λ form. fits form ≡ true) }
-        ensures unfit { IsErrOf result FormEnd.OutOfRange → fits (plus self.now other.now) ≡ false }
+        requires left { form_is_in_range self.now ≡ true }
+        requires right { form_is_in_range other.now ≡ true }
+        ensures ok { IfOk result (λ form. form ≡ form_plus self.now other.now) }
+        ensures fits { IfOk result (λ form. form_is_in_range form ≡ true) }
+        ensures unfit { IsErrOf result FormEnd.OutOfRange → form_is_in_range (form_plus self.now other.now) ≡ false }
     {
         let Some(constant) = sum(self.constant, other.constant) else {
             return Err(FormEnd::OutOfRange);
@@ -99,10 +99,10 @@ impl Form {
 
     /// The multiple; `OutOfRange` exactly where a coefficient or the constant of it leaves 128 bits.
     pub fn times(&self, alloc: Global, factor: i128) -> Result<Form, FormEnd>
-        requires { fits self.now ≡ true }
+        requires { form_is_in_range self.now ≡ true }
         ensures ok { IfOk result (λ form. form ≡ times factor self.now) }
-        ensures fits { IfOk result (λ form. fits form ≡ true) }
-        ensures unfit { IsErrOf result FormEnd.OutOfRange → fits (times factor self.now) ≡ false }
+        ensures fits { IfOk result (λ form. form_is_in_range form ≡ true) }
+        ensures unfit { IsErrOf result FormEnd.OutOfRange → form_is_in_range (times factor self.now) ≡ false }
     {
         let Some(constant) = product(factor, self.constant) else {
             return Err(FormEnd::OutOfRange);
@@ -113,11 +113,11 @@ impl Form {
 
     /// The difference; `OutOfRange` exactly where a coefficient or the constant of it leaves 128 bits.
     pub fn minus(&self, alloc: Global, other: &Form) -> Result<Form, FormEnd>
-        requires left { fits self.now ≡ true }
-        requires right { fits other.now ≡ true }
-        ensures ok { IfOk result (λ form. form ≡ minus self.now other.now) }
-        ensures fits { IfOk result (λ form. fits form ≡ true) }
-        ensures unfit { IsErrOf result FormEnd.OutOfRange → fits (minus self.now other.now) ≡ false }
+        requires left { form_is_in_range self.now ≡ true }
+        requires right { form_is_in_range other.now ≡ true }
+        ensures ok { IfOk result (λ form. form ≡ form_minus self.now other.now) }
+        ensures fits { IfOk result (λ form. form_is_in_range form ≡ true) }
+        ensures unfit { IsErrOf result FormEnd.OutOfRange → form_is_in_range (form_minus self.now other.now) ≡ false }
     {
         let Some(constant) = difference(self.constant, other.constant) else {
             return Err(FormEnd::OutOfRange);
@@ -129,11 +129,11 @@ impl Form {
     /// The form that is at least 0 exactly where this one is above the other: their difference less 1; `OutOfRange`
     /// exactly where a coefficient or the constant of it leaves 128 bits.
     pub fn above(&self, alloc: Global, other: &Form) -> Result<Form, FormEnd>
-        requires left { fits self.now ≡ true }
-        requires right { fits other.now ≡ true }
+        requires left { form_is_in_range self.now ≡ true }
+        requires right { form_is_in_range other.now ≡ true }
         ensures ok { IfOk result (λ form. form ≡ above self.now other.now) }
-        ensures fits { IfOk result (λ form. fits form ≡ true) }
-        ensures unfit { IsErrOf result FormEnd.OutOfRange → fits (above self.now other.now) ≡ false }
+        ensures fits { IfOk result (λ form. form_is_in_range form ≡ true) }
+        ensures unfit { IsErrOf result FormEnd.OutOfRange → form_is_in_range (above self.now other.now) ≡ false }
     {
         let Some(constant) = sum(self.constant, -1 - other.constant) else {
             return Err(FormEnd::OutOfRange);
@@ -145,10 +145,10 @@ impl Form {
     /// The form that is at least 0 exactly where this one isn't; `OutOfRange` exactly where a coefficient
     /// of it leaves 128 bits.
     pub fn negation(&self, alloc: Global) -> Result<Form, FormEnd>
-        requires { fits self.now ≡ true }
-        ensures ok { IfOk result (λ form. form ≡ negation self.now) }
-        ensures fits { IfOk result (λ form. fits form ≡ true) }
-        ensures unfit { IsErrOf result FormEnd.OutOfRange → fits (negation self.now) ≡ false }
+        requires { form_is_in_range self.now ≡ true }
+        ensures ok { IfOk result (λ form. form ≡ form_negation self.now) }
+        ensures fits { IfOk result (λ form. form_is_in_range form ≡ true) }
+        ensures unfit { IsErrOf result FormEnd.OutOfRange → form_is_in_range (form_negation self.now) ≡ false }
     {
         let coefs = scale(alloc, -1, self.coefs.as_slice())?;
         Ok(Form {

@@ -5,7 +5,7 @@ use Rattle.std.proofs.Common.{refl, arith, ltb-true, ltb-false}
 use Rattle.sy_terms.specs.declared.sort.Sort.{Sort}
 use Rattle.sy_terms.specs.declared.sort.Sort.TheVariants as sorts
 use Rattle.sy_linear_forms.specs.declared.form.Form.{Form}
-use Rattle.sy_linear_forms.specs.Forms.{Coefficient, before, added, scaled, subtracted, variable_form, plus, times, minus, negation}
+use Rattle.sy_linear_forms.specs.Forms.{Coefficient, before, added, scaled, subtracted, variable_form, form_plus, times, form_minus, form_negation}
 use Rattle.sy_linear_known.specs.Trees.{IsOf}
 
 -- coefficients of integer variables, in ascending order from a least one
@@ -59,14 +59,14 @@ ascend-subtracted vars least (c ∷ cs) (d ∷ ds) h k = by (ascend-subtracted v
 pub ascends-variable : (vars : List Sort) (i : ℕ) → IsOf sorts.Int vars i → Ascends vars (variable_form i)
 ascends-variable vars i o = (omega arith, o, tt)
 
-pub ascends-plus : (vars : List Sort) (f g : Form) → Ascends vars f → Ascends vars g → Ascends vars (plus f g)
+pub ascends-plus : (vars : List Sort) (f g : Form) → Ascends vars f → Ascends vars g → Ascends vars (form_plus f g)
 ascends-plus vars f g h k = ascend-added vars 0 f.coefs g.coefs h k
 
 pub ascends-times : (vars : List Sort) (n : ℤ) (f : Form) → Ascends vars f → Ascends vars (times n f)
 ascends-times vars n f h = ascend-scaled vars 0 n f.coefs h
 
-pub ascends-minus : (vars : List Sort) (f g : Form) → Ascends vars f → Ascends vars g → Ascends vars (minus f g)
+pub ascends-minus : (vars : List Sort) (f g : Form) → Ascends vars f → Ascends vars g → Ascends vars (form_minus f g)
 ascends-minus vars f g h k = ascend-subtracted vars 0 f.coefs g.coefs h k
 
-pub ascends-negation : (vars : List Sort) (f : Form) → Ascends vars f → Ascends vars (negation f)
+pub ascends-negation : (vars : List Sort) (f : Form) → Ascends vars f → Ascends vars (form_negation f)
 ascends-negation vars f h = ascend-scaled vars 0 (negsuc 0) f.coefs h

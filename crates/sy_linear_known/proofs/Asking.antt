@@ -15,8 +15,8 @@ use Rattle.sy_linear_known.specs.declared.sight.Seen.{Seen}
 use Rattle.sy_linear_known.specs.declared.sight.Found.{Found}
 use Rattle.sy_linear_known.specs.Paths.{given}
 use Rattle.sy_linear_known.specs.Trees.{IsOf}
-use Rattle.sy_linear_known.specs.Sights.{is_open, applied}
-use Rattle.sy_linear_known.specs.Seen.{of_given, variable_sights, or_open, sight_at, is_truths, variable_test, is_choice, live, seen_as, value_seen, nothing_found, with_next, variable_seen, seen, all_seen, Query, query_seen, of_misfit, of_sight, of_open, query_known}
+use Rattle.sy_linear_known.specs.Sights.{is_open, operator_applied}
+use Rattle.sy_linear_known.specs.Seen.{of_given, variable_sights, or_open, sight_at, is_truths, variable_test, is_ite, live, seen_as, value_seen, nothing_found, with_next, variable_seen, seen, all_seen, LinearQuery, query_seen, of_misfit, of_sight, of_open, query_known}
 use Rattle.sy_linear_known.proofs.Ascending.{ascends-variable}
 use Rattle.sy_linear_known.proofs.Suiting.{SightSuits, AllSuit, IsOpenTest, MaybeOpen, open-or_else, suits-applied}
 
@@ -101,10 +101,10 @@ mutual
   suits-seen vars path names h at (Constant v) = suits-value vars path at v
   suits-seen vars path names h at (Variable i) = record { sight = suits-at vars names i h.each; unknown = open-variable vars path names i h }
   suits-seen vars path names h at (Apply operator arguments) =
-      let below : Found = all_seen vars path names (is_choice operator) (at + 1) nothing_found arguments in
-      let k : FoundSuits vars path below = suits-all_seen vars path names h (is_choice operator) (at + 1) nothing_found arguments (record { sights = tt; unknown = tt }) in
+      let below : Found = all_seen vars path names (is_ite operator) (at + 1) nothing_found arguments in
+      let k : FoundSuits vars path below = suits-all_seen vars path names h (is_ite operator) (at + 1) nothing_found arguments (record { sights = tt; unknown = tt }) in
       let n = suits-applied vars path operator below.sights k.sights in
-      record { sight = n.sight; unknown = open-or_else vars path (applied path operator below.sights).unknown below.unknown n.unknown k.unknown }
+      record { sight = n.sight; unknown = open-or_else vars path (operator_applied path operator below.sights).unknown below.unknown n.unknown k.unknown }
   suits-seen vars path names h at (Invoke function arguments) = record { sight = tt; unknown = tt }
   suits-seen vars path names h at (Bind bound inner) =
       let below : Found = all_seen vars path names false (at + 1) nothing_found bound in
@@ -146,7 +146,7 @@ names-variables path vars = record {
 }
 
 -- the test that a query leaves open
-pub open_test : (q : Query) (path : List Fact) (t : Test) → query_known q path ≡ known.Undecided t → IsOpenTest q.vars path t
+pub open_test : (q : LinearQuery) (path : List Fact) (t : Test) → query_known q path ≡ known.Undecided t → IsOpenTest q.vars path t
 open_test q path t = by (query_seen q path).misfit (query_seen q path).sight (query_seen q path).unknown (suits-seen q.vars path (variable_sights path 0 q.vars) (names-variables path q.vars) 0 q.body).unknown
   where
     by : (n : Option ℕ) (x : Sight) (o : Option Test) → MaybeOpen q.vars path o → of_misfit n (of_sight x (of_open o)) ≡ known.Undecided t → IsOpenTest q.vars path t

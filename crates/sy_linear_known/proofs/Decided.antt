@@ -17,7 +17,7 @@ use Rattle.sy_terms.specs.declared.sort.Sort.TheVariants as sorts
 use Rattle.sy_terms.specs.declared.sorts.Sorted.{Sorted}
 use Rattle.sy_terms.specs.declared.sorts.Sorted.TheVariants as sorted
 use Rattle.sy_linear_forms.specs.declared.form.Form.{Form}
-use Rattle.sy_linear_forms.specs.Forms.{constant_form, negation, fits}
+use Rattle.sy_linear_forms.specs.Forms.{constant_form, form_negation, form_is_in_range}
 use Rattle.sy_linear_known.specs.declared.path.Fact.{Fact}
 use Rattle.sy_linear_known.specs.declared.path.Test.{Test}
 use Rattle.sy_linear_known.specs.declared.path.Test.TheVariants as test
@@ -26,10 +26,10 @@ use Rattle.sy_linear_known.specs.declared.sight.Sight.TheVariants.{Linear, Settl
 use Rattle.sy_linear_known.specs.declared.sight.Node.{Node}
 use Rattle.sy_linear_known.specs.declared.sight.Seen.{Seen}
 use Rattle.sy_linear_known.specs.declared.sight.Found.{Found}
-use Rattle.sy_linear_known.specs.Sights.{is_true, is_false, is_open, all_of, any_of, opposite, truth_before, all_truths, of_truth, is_sort, truth_at, told, unfit, or_else, both, turned, evaluated, sum, difference, product, multiple, of_form, combined, combined_at, from_left, folded, negated, chosen, known_true, known_false, answered, tested, at_most, less, equal, distinct, in_row, with_each, in_pairs, none_yet, by_truths_or, applied}
-use Rattle.sy_linear_known.specs.Seen.{of_given, variable_sights, is_truths, is_choice, live, seen_as, value_seen, sight_at, variable_test, nothing_found, with_next, noted, seen, all_seen, Query, query_seen, of_misfit, of_sight, of_open, query_known}
+use Rattle.sy_linear_known.specs.Sights.{is_true, is_false, is_open, all_of, any_of, sight_opposite, truth_before, all_truths, of_truth, has_a_sort, truth_at, told, unfit, or_else, both_nodes, turned, evaluated, form_sum, form_difference, form_product, form_multiple, of_form, sights_combined, combined_at, sights_from_left, sights_folded, truth_negated, chosen, known_true, known_false, answered, tested, at_most, less, forms_equal, distinct, neighbours_in_row, with_each, in_pairs, none_yet, by_truths_or, operator_applied}
+use Rattle.sy_linear_known.specs.Seen.{of_given, variable_sights, is_truths, is_ite, live, seen_as, value_seen, sight_at, variable_test, nothing_found, with_next, node_noted, seen, all_seen, LinearQuery, query_seen, of_misfit, of_sight, of_open, query_known}
 use Rattle.sy_linear_known.specs.Paths.{given}
-use Rattle.sy_linear_known.specs.Right.{is_linear_sort, Fits, IsMisfit}
+use Rattle.sy_linear_known.specs.Right.{is_linear_sort, IsLinearQuery, IsMisfit}
 use Rattle.sy_meaning_integers.specs.Lia.{owned as linear_owned}
 use Rattle.sy_linear_known.proofs.Agreement.{and_parts}
 
@@ -157,7 +157,7 @@ told_at true (Bits w n) e h = absurd h
 told_at false v e h = absurd cc
 
 truth_told : (operator : Op) (ss : List Sort) (vs : List Val) (s : Sort) → map sort_of_value vs ≡ ss → sort_of operator ss ≡ sorted.Is s → IsTruth (op_value operator vs) → Told sorts.Bool (truth_at operator vs)
-truth_told operator ss vs s e h k = told_at (is_sort (sort_of operator (map sort_of_value vs))) (op_value operator vs) (ap (λ r. is_sort (sort_of operator r)) e ∙ ap is_sort h) k
+truth_told operator ss vs s e h k = told_at (has_a_sort (sort_of operator (map sort_of_value vs))) (op_value operator vs) (ap (λ r. has_a_sort (sort_of operator r)) e ∙ ap has_a_sort h) k
 
 evaluated_told : (operator : Op) (ss : List Sort) (xs : List Sight) (s : Sort) → list_all (same_sort sorts.Bool) ss ≡ true → AllTold ss xs → sort_of operator ss ≡ sorted.Is s → ((vs : List Val) → AllTruths vs → IsTruth (op_value operator vs)) → NodeOk sorts.Bool (evaluated operator (all_truths xs))
 evaluated_told operator ss xs s e h k f =
@@ -189,10 +189,10 @@ answered_ok path f g = by (known_true path f) (known_false path f g)
 
 tested_ok : (path : List Fact) (o : Option Form) → NodeOk sorts.Bool (tested path o)
 tested_ok path None = inr refl
-tested_ok path (Some f) = by (fits (negation f))
+tested_ok path (Some f) = by (form_is_in_range (form_negation f))
   where
-    by : (b : Bool) → NodeOk sorts.Bool (cond b (answered path f (negation f)) unfit)
-    by true = answered_ok path f (negation f)
+    by : (b : Bool) → NodeOk sorts.Bool (cond b (answered path f (form_negation f)) unfit)
+    by true = answered_ok path f (form_negation f)
     by false = inr refl
 
 told_both : (x y : Sight) → Told sorts.Bool x → Told sorts.Bool y → Told sorts.Bool (all_of (x ∷ y ∷ []))
@@ -216,12 +216,12 @@ right_open None None p true h = absurd cc
 right_open None None true false h = refl
 right_open None None false false h = refl
 
-both_ok : (m n : Node) → NodeOk sorts.Bool m → NodeOk sorts.Bool n → NodeOk sorts.Bool (both m n)
+both_ok : (m n : Node) → NodeOk sorts.Bool m → NodeOk sorts.Bool n → NodeOk sorts.Bool (both_nodes m n)
 both_ok m n (inl h) (inl k) = inl (told_both m.sight n.sight h k)
 both_ok m n (inr h) k = inr (left_open m.unknown n.unknown m.fits n.fits h)
 both_ok m n (inl h) (inr k) = inr (right_open m.unknown n.unknown m.fits n.fits k)
 
-told_opposite : (x : Sight) → Told sorts.Bool x → Told sorts.Bool (opposite x)
+told_opposite : (x : Sight) → Told sorts.Bool x → Told sorts.Bool (sight_opposite x)
 told_opposite (Settled b) h = tt
 told_opposite (Linear f) h = absurd h
 told_opposite Open h = absurd h
@@ -230,13 +230,13 @@ turned_ok : (n : Node) → NodeOk sorts.Bool n → NodeOk sorts.Bool (turned n)
 turned_ok n (inl h) = inl (told_opposite n.sight h)
 turned_ok n (inr h) = inr h
 
-equal_ok : (path : List Fact) (f g : Form) → NodeOk sorts.Bool (equal path f g)
-equal_ok path f g = both_ok (at_most path g f) (at_most path f g) (tested_ok path (difference f g)) (tested_ok path (difference g f))
+equal_ok : (path : List Fact) (f g : Form) → NodeOk sorts.Bool (forms_equal path f g)
+equal_ok path f g = both_ok (at_most path g f) (at_most path f g) (tested_ok path (form_difference f g)) (tested_ok path (form_difference g f))
 
-in_row_ok : (compare : Form → Form → Node) → ((f g : Form) → NodeOk sorts.Bool (compare f g)) → (n : Node) → NodeOk sorts.Bool n → (xs : List Sight) → AllLinear xs → NodeOk sorts.Bool (in_row compare n xs)
+in_row_ok : (compare : Form → Form → Node) → ((f g : Form) → NodeOk sorts.Bool (compare f g)) → (n : Node) → NodeOk sorts.Bool n → (xs : List Sight) → AllLinear xs → NodeOk sorts.Bool (neighbours_in_row compare n xs)
 in_row_ok compare each n ok [] h = ok
 in_row_ok compare each n ok (Linear f ∷ []) h = ok
-in_row_ok compare each n ok (Linear f ∷ Linear g ∷ xs) h = in_row_ok compare each (both n (compare f g)) (both_ok n (compare f g) ok (each f g)) (Linear g ∷ xs) h
+in_row_ok compare each n ok (Linear f ∷ Linear g ∷ xs) h = in_row_ok compare each (both_nodes n (compare f g)) (both_ok n (compare f g) ok (each f g)) (Linear g ∷ xs) h
 in_row_ok compare each n ok (Linear f ∷ Settled b ∷ xs) h = absurd h
 in_row_ok compare each n ok (Linear f ∷ Open ∷ xs) h = absurd h
 in_row_ok compare each n ok (Settled b ∷ xs) h = absurd h
@@ -244,7 +244,7 @@ in_row_ok compare each n ok (Open ∷ xs) h = absurd h
 
 with_each_ok : (compare : Form → Form → Node) → ((f g : Form) → NodeOk sorts.Bool (compare f g)) → (n : Node) → NodeOk sorts.Bool n → (f : Form) (xs : List Sight) → AllLinear xs → NodeOk sorts.Bool (with_each compare n (Linear f) xs)
 with_each_ok compare each n ok f [] h = ok
-with_each_ok compare each n ok f (Linear g ∷ xs) h = with_each_ok compare each (both n (compare f g)) (both_ok n (compare f g) ok (each f g)) f xs h
+with_each_ok compare each n ok f (Linear g ∷ xs) h = with_each_ok compare each (both_nodes n (compare f g)) (both_ok n (compare f g) ok (each f g)) f xs h
 with_each_ok compare each n ok f (Settled b ∷ xs) h = absurd h
 with_each_ok compare each n ok f (Open ∷ xs) h = absurd h
 
@@ -262,7 +262,7 @@ of_form_ok : (o : Option Form) → NumberOk (of_form o)
 of_form_ok (Some f) = inl tt
 of_form_ok None = inr (refl, refl)
 
-combined_ok : (apply : Form → Form → Option Form) (n : Node) (f : Form) → NumberOk n → NumberOk (combined apply n (Linear f))
+combined_ok : (apply : Form → Form → Option Form) (n : Node) (f : Form) → NumberOk n → NumberOk (sights_combined apply n (Linear f))
 combined_ok apply n f ok = by n.sight n.fits ok
   where
     by : (r : Sight) (p : Bool) → Told sorts.Int r ⊎ ((r ≡ Open) × (p ≡ false)) → NumberOk (combined_at p apply r (Linear f))
@@ -272,9 +272,9 @@ combined_ok apply n f ok = by n.sight n.fits ok
     by Open p (inl h) = absurd h
     by Open p (inr e) = inr (refl, e.1)
 
-from_left_ok : (apply : Form → Form → Option Form) (n : Node) (xs : List Sight) → AllLinear xs → NumberOk n → NumberOk (from_left apply n xs)
+from_left_ok : (apply : Form → Form → Option Form) (n : Node) (xs : List Sight) → AllLinear xs → NumberOk n → NumberOk (sights_from_left apply n xs)
 from_left_ok apply n [] h ok = ok
-from_left_ok apply n (Linear f ∷ xs) h ok = from_left_ok apply (combined apply n (Linear f)) xs h (combined_ok apply n f ok)
+from_left_ok apply n (Linear f ∷ xs) h ok = from_left_ok apply (sights_combined apply n (Linear f)) xs h (combined_ok apply n f ok)
 from_left_ok apply n (Settled b ∷ xs) h ok = absurd h
 from_left_ok apply n (Open ∷ xs) h ok = absurd h
 
@@ -282,10 +282,10 @@ number_node : (n : Node) → NumberOk n → NodeOk sorts.Int n
 number_node n (inl h) = inl h
 number_node n (inr e) = inr (ap (λ b. has n.unknown || not b) e.1 ∙ or_true (has n.unknown))
 
-folded_ok : (apply : Form → Form → Option Form) (ss : List Sort) (xs : List Sight) → nat_le 2 (length ss) ≡ true → AllTold ss xs → AllLinear xs → NodeOk sorts.Int (folded apply xs)
+folded_ok : (apply : Form → Form → Option Form) (ss : List Sort) (xs : List Sight) → nat_le 2 (length ss) ≡ true → AllTold ss xs → AllLinear xs → NodeOk sorts.Int (sights_folded apply xs)
 folded_ok apply [] [] e h k = absurd cc
 folded_ok apply (s ∷ ss) [] e h k = absurd h
-folded_ok apply ss (Linear f ∷ xs) e h k = number_node (from_left apply (told (Linear f)) xs) (from_left_ok apply (told (Linear f)) xs k (inl tt))
+folded_ok apply ss (Linear f ∷ xs) e h k = number_node (sights_from_left apply (told (Linear f)) xs) (from_left_ok apply (told (Linear f)) xs k (inl tt))
 folded_ok apply ss (Settled b ∷ xs) e h k = absurd k
 folded_ok apply ss (Open ∷ xs) e h k = absurd k
 
@@ -301,11 +301,11 @@ not_sorts (sorts.Bool ∷ t ∷ ss) s e = absurd cc
 not_sorts (sorts.Int ∷ ss) s e = absurd cc
 not_sorts (sorts.Bits w ∷ ss) s e = absurd cc
 
-negated_ok : (ss : List Sort) (xs : List Sight) (s : Sort) → AllTold ss xs → sort_of ops.Neg ss ≡ sorted.Is s → NodeOk s (negated xs)
+negated_ok : (ss : List Sort) (xs : List Sight) (s : Sort) → AllTold ss xs → sort_of ops.Neg ss ≡ sorted.Is s → NodeOk s (truth_negated xs)
 unfolding sort_of
 negated_ok [] xs s h e = absurd cc
 negated_ok (sorts.Int ∷ []) [] s h e = absurd h
-negated_ok (sorts.Int ∷ []) (Linear f ∷ []) s h e = as_sort (of_form (multiple (negsuc 0) f)) s sorts.Int (cc) (number_node (of_form (multiple (negsuc 0) f)) (of_form_ok (multiple (negsuc 0) f)))
+negated_ok (sorts.Int ∷ []) (Linear f ∷ []) s h e = as_sort (of_form (form_multiple (negsuc 0) f)) s sorts.Int (cc) (number_node (of_form (form_multiple (negsuc 0) f)) (of_form_ok (form_multiple (negsuc 0) f)))
 negated_ok (sorts.Int ∷ []) (Linear f ∷ x ∷ xs) s h e = absurd h.1
 negated_ok (sorts.Int ∷ []) (Settled b ∷ xs) s h e = absurd h.0
 negated_ok (sorts.Int ∷ []) (Open ∷ xs) s h e = absurd h.0
@@ -335,24 +335,24 @@ alike operator ss xs s n is nothing h e f g = equal_or operator ss xs s n
     clash : sorted.Mismatch ≡ sorted.Is s → ⊥
     clash e = absurd cc
 
-compared_ok : (ss : List Sort) (xs : List Sight) (s : Sort) (compare : Form → Form → Node) → ((f g : Form) → NodeOk sorts.Bool (compare f g)) → AllTold ss xs → (if nat_le 2 (length ss) && list_all (same_sort sorts.Int) ss then sorted.Is sorts.Bool else sorted.Mismatch) ≡ sorted.Is s → NodeOk s (in_row compare none_yet xs)
+compared_ok : (ss : List Sort) (xs : List Sight) (s : Sort) (compare : Form → Form → Node) → ((f g : Form) → NodeOk sorts.Bool (compare f g)) → AllTold ss xs → (if nat_le 2 (length ss) && list_all (same_sort sorts.Int) ss then sorted.Is sorts.Bool else sorted.Mismatch) ≡ sorted.Is s → NodeOk s (neighbours_in_row compare none_yet xs)
 compared_ok ss xs s compare each h e =
     let k = if_is (nat_le 2 (length ss) && list_all (same_sort sorts.Int) ss) sorts.Bool s e in
-    as_sort (in_row compare none_yet xs) s sorts.Bool k.1 (in_row_ok compare each none_yet (inl tt) xs (linear_all ss xs (and_parts (nat_le 2 (length ss)) (list_all (same_sort sorts.Int) ss) k.0).1 h))
+    as_sort (neighbours_in_row compare none_yet xs) s sorts.Bool k.1 (in_row_ok compare each none_yet (inl tt) xs (linear_all ss xs (and_parts (nat_le 2 (length ss)) (list_all (same_sort sorts.Int) ss) k.0).1 h))
 
-computed_ok : (ss : List Sort) (xs : List Sight) (s : Sort) (apply : Form → Form → Option Form) → AllTold ss xs → (if nat_le 2 (length ss) && list_all (same_sort sorts.Int) ss then sorted.Is sorts.Int else sorted.Mismatch) ≡ sorted.Is s → NodeOk s (folded apply xs)
+computed_ok : (ss : List Sort) (xs : List Sight) (s : Sort) (apply : Form → Form → Option Form) → AllTold ss xs → (if nat_le 2 (length ss) && list_all (same_sort sorts.Int) ss then sorted.Is sorts.Int else sorted.Mismatch) ≡ sorted.Is s → NodeOk s (sights_folded apply xs)
 computed_ok ss xs s apply h e =
     let k = if_is (nat_le 2 (length ss) && list_all (same_sort sorts.Int) ss) sorts.Int s e in
     let p = and_parts (nat_le 2 (length ss)) (list_all (same_sort sorts.Int) ss) k.0 in
-    as_sort (folded apply xs) s sorts.Int k.1 (folded_ok apply ss xs p.0 h (linear_all ss xs p.1 h))
+    as_sort (sights_folded apply xs) s sorts.Int k.1 (folded_ok apply ss xs p.0 h (linear_all ss xs p.1 h))
 
 truths_sorts : (least : ℕ) (ss : List Sort) (s : Sort) → (if nat_le least (length ss) && list_all (same_sort sorts.Bool) ss then sorted.Is sorts.Bool else sorted.Mismatch) ≡ sorted.Is s → (list_all (same_sort sorts.Bool) ss ≡ true) × (sorts.Bool ≡ s)
 truths_sorts least ss s e =
     let k = if_is (nat_le least (length ss) && list_all (same_sort sorts.Bool) ss) sorts.Bool s e in
     ((and_parts (nat_le least (length ss)) (list_all (same_sort sorts.Bool) ss) k.0).1, k.1)
 
-applied_ok : (path : List Fact) (operator : Op) (ss : List Sort) (xs : List Sight) (s : Sort) → is_choice operator ≡ false → AllTold ss xs → sort_of operator ss ≡ sorted.Is s → NodeOk s (applied path operator xs)
-unfolding applied sort_of op_value
+applied_ok : (path : List Fact) (operator : Op) (ss : List Sort) (xs : List Sight) (s : Sort) → is_ite operator ≡ false → AllTold ss xs → sort_of operator ss ≡ sorted.Is s → NodeOk s (operator_applied path operator xs)
+unfolding operator_applied sort_of op_value
 applied_ok path ops.And ss xs s c h e =
     let k = truths_sorts 1 ss s e in
     as_sort (told (all_of xs)) s sorts.Bool k.1 (inl (told_either (list_any is_false xs) (list_all is_true xs) false true (one_or_all xs (settled_all ss xs k.0 h))))
@@ -369,14 +369,14 @@ applied_ok path ops.Implies ss xs s c h e =
     let k = truths_sorts 2 ss s e in
     as_sort (evaluated ops.Implies (all_truths xs)) s sorts.Bool k.1 (evaluated_told ops.Implies ss xs s k.0 h e (λ vs t. tt))
 applied_ok path ops.Equal ss xs s c h e =
-    alike ops.Equal ss xs s (in_row (equal path) none_yet xs) (λ t rest. refl) refl h e (λ vs t. tt) (λ k. in_row_ok (equal path) (equal_ok path) none_yet (inl tt) xs k)
+    alike ops.Equal ss xs s (neighbours_in_row (forms_equal path) none_yet xs) (λ t rest. refl) refl h e (λ vs t. tt) (λ k. in_row_ok (forms_equal path) (equal_ok path) none_yet (inl tt) xs k)
 applied_ok path ops.Distinct ss xs s c h e =
-    alike ops.Distinct ss xs s (in_pairs (distinct path) none_yet xs) (λ t rest. refl) refl h e (λ vs t. tt) (λ k. in_pairs_ok (distinct path) (λ f g. turned_ok (equal path f g) (equal_ok path f g)) none_yet (inl tt) xs k)
+    alike ops.Distinct ss xs s (in_pairs (distinct path) none_yet xs) (λ t rest. refl) refl h e (λ vs t. tt) (λ k. in_pairs_ok (distinct path) (λ f g. turned_ok (forms_equal path f g) (equal_ok path f g)) none_yet (inl tt) xs k)
 applied_ok path ops.Ite ss xs s c h e = absurd cc
 applied_ok path ops.Neg ss xs s c h e = negated_ok ss xs s h e
-applied_ok path ops.Add ss xs s c h e = computed_ok ss xs s sum h e
-applied_ok path ops.Sub ss xs s c h e = computed_ok ss xs s difference h e
-applied_ok path ops.Mul ss xs s c h e = computed_ok ss xs s product h e
+applied_ok path ops.Add ss xs s c h e = computed_ok ss xs s form_sum h e
+applied_ok path ops.Sub ss xs s c h e = computed_ok ss xs s form_difference h e
+applied_ok path ops.Mul ss xs s c h e = computed_ok ss xs s form_product h e
 applied_ok path ops.Le ss xs s c h e = compared_ok ss xs s (at_most path) (λ f g. tested_ok path _) h e
 applied_ok path ops.Lt ss xs s c h e = compared_ok ss xs s (less path) (λ f g. tested_ok path _) h e
 applied_ok path ops.Ge ss xs s c h e = compared_ok ss xs s (λ f g. at_most path g f) (λ f g. tested_ok path _) h e
@@ -417,8 +417,8 @@ choice_ok path (sorts.Bool ∷ t ∷ u ∷ []) (Settled false ∷ x ∷ y ∷ []
     let k = if_is (same_sort t u) t s e in
     inl (subst (λ r. Told r y) (sym (same_is t u k.0) ∙ k.1) (h.1.1.0 refl))
 
-node_ok : (path : List Fact) (operator : Op) (choice : Bool) (ss : List Sort) (xs : List Sight) (s : Sort) → is_choice operator ≡ choice → Fine choice [] ss xs → sort_of operator ss ≡ sorted.Is s → NodeOk s (applied path operator xs)
-unfolding applied
+node_ok : (path : List Fact) (operator : Op) (choice : Bool) (ss : List Sort) (xs : List Sight) (s : Sort) → is_ite operator ≡ choice → Fine choice [] ss xs → sort_of operator ss ≡ sorted.Is s → NodeOk s (operator_applied path operator xs)
+unfolding operator_applied
 node_ok path operator false ss xs s c h e = applied_ok path operator ss xs s c (fine_all [] ss xs h) e
 node_ok path ops.Ite true ss xs s c h e = choice_ok path ss xs s h e
 node_ok path _ true ss xs s c h e = absurd cc
@@ -531,12 +531,12 @@ in_case : {A B C : Type 0} → (A → C) → (B → C) → A ⊎ B → C
 in_case f g (inl a) = f a
 in_case f g (inr b) = g b
 
-apply_ok : (c : Bool) (path : List Fact) (operator : Op) (at : ℕ) (ss : List Sort) (s : Sort) (below : Found) → Walked c (is_choice operator) [] ss below → sort_of operator ss ≡ sorted.Is s → Ok c s (noted at (applied path operator below.sights) below)
+apply_ok : (c : Bool) (path : List Fact) (operator : Op) (at : ℕ) (ss : List Sort) (s : Sort) (below : Found) → Walked c (is_ite operator) [] ss below → sort_of operator ss ≡ sorted.Is s → Ok c s (node_noted at (operator_applied path operator below.sights) below)
 apply_ok c path operator at ss s below w e =
-    let n : Node = applied path operator below.sights in
+    let n : Node = operator_applied path operator below.sights in
     in_case
     (λ f. in_case (λ h. inl h) (λ h. inr (pending_node c at n below.unknown below.misfit h))
-    (subst (λ xs. NodeOk s (applied path operator xs)) (sym w.are) (node_ok path operator (is_choice operator) ss w.sights s refl f e)))
+    (subst (λ xs. NodeOk s (operator_applied path operator xs)) (sym w.are) (node_ok path operator (is_ite operator) ss w.sights s refl f e)))
     (λ p. inr (pending_right c n.unknown below.unknown (cond n.fits None (Some at)) below.misfit p))
     w.fine
 
@@ -578,7 +578,7 @@ mutual
   decided owned c vars path ss names h at (Variable i) s e = variable_ok c vars i s (sight_at names i) (names_at c vars 0 i i ss names s (omega arith) h e)
   decided owned c vars path ss names h at (Apply operator arguments) s e =
       let a = applied_inv (alone owned) operator (sorts_in (alone owned) ss arguments) s e in
-      apply_ok c path operator at a.0 s _ (all_decided owned c vars path ss names h (is_choice operator) (at + 1) nothing_found arguments a.0 a.1.0) a.1.1
+      apply_ok c path operator at a.0 s _ (all_decided owned c vars path ss names h (is_ite operator) (at + 1) nothing_found arguments a.0 a.1.0) a.1.1
   decided owned c vars path ss names h at (Invoke function arguments) s e = inr refl
   decided owned c vars path ss names h at (Bind bound inner) s e =
       let below : Found = all_seen vars path names false (at + 1) nothing_found bound in
@@ -622,11 +622,11 @@ variables_ok path vars i (sorts.Bool ∷ rest) l h = (by (given i path), variabl
     by None = inr (ap (λ s. is_truths s || false) (h 0 i (omega arith)))
 variables_ok path vars i (sorts.Bits w ∷ rest) l h = absurd cc
 
-query_ok : (q : Query) (path : List Fact) → Fits q → Ok false sorts.Bool (query_seen q path)
+query_ok : (q : LinearQuery) (path : List Fact) → IsLinearQuery q → Ok false sorts.Bool (query_seen q path)
 query_ok q path f = decided linear_owned false q.vars path q.vars (variable_sights path 0 q.vars) (variables_ok path q.vars 0 q.vars f.vars (λ j k e. ap (slice_get q.vars) (e ∙ omega arith))) 0 q.body sorts.Bool f.body
 
 -- of a query that fits, an answer out of range names a node at which a form doesn't fit
-pub known_misfit : (q : Query) (path : List Fact) → Fits q → IsMisfit q path (query_known q path)
+pub known_misfit : (q : LinearQuery) (path : List Fact) → IsLinearQuery q → IsMisfit q path (query_known q path)
 known_misfit q path f = by (query_seen q path).misfit (query_seen q path).sight (query_seen q path).unknown refl (query_ok q path f)
   where
     by : (n : Option ℕ) (x : Sight) (o : Option Test) → (query_seen q path).misfit ≡ n → Told sorts.Bool x ⊎ (pending false o n ≡ true) → IsMisfit q path (of_misfit n (of_sight x (of_open o)))

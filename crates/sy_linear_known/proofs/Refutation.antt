@@ -7,27 +7,27 @@ use Rattle.std.proofs.lemmas.Bool.{ltb-false}
 use Rattle.std.proofs.Math.IntN.{*ℤ-zero, zero-*ℤ, +ℤ_idl}
 use borrow.Author.Differences.{ints, same_in, product_is, neg_is, at_most_in}
 use Rattle.sy_frac.specs.Fraction.{Fraction}
-use Rattle.sy_frac.specs.Rational.{ℚ, value, 0ℚ, ◌+ℚ◌, ◌*ℚ◌, over, is_negative, not_negative_plus, not_negative_times, zero_not_negative, zero-*ℚ, *ℚ_zero, +ℚ_zero, zero-+ℚ, +ℚ_cancel, whole_not_negative, *ℚ-+ℚ, +ℚ-*ℚ, *ℚ_assoc, +ℚ_assoc, +ℚ_comm, +ℚ_left_comm, sum_over_is, product_over_is}
+use Rattle.sy_frac.specs.Rational.{ℚ, value, 0ℚ, ◌+ℚ◌, ◌*ℚ◌, over, is_negative_rational, not_negative_plus, not_negative_times, zero_not_negative, zero-*ℚ, *ℚ_zero, +ℚ_zero, zero-+ℚ, +ℚ_cancel, whole_not_negative, *ℚ-+ℚ, +ℚ-*ℚ, *ℚ_assoc, +ℚ_assoc, +ℚ_comm, +ℚ_left_comm, sum_over_is, product_over_is}
 use Rattle.sy_terms.specs.Values.{Val, Truth, Whole, Bits, truth}
 use Rattle.sy_terms.specs.Meaning.{value_at_position, meaning}
 use Rattle.sy_terms.specs.declared.sort.Sort.{Sort}
 use Rattle.sy_terms.specs.declared.sort.Sort.TheVariants as sorts
 use Rattle.sy_linear_forms.specs.declared.form.Form.{Form}
-use Rattle.sy_linear_forms.specs.Forms.{Coefficient, combined, form_value, before, negation}
+use Rattle.sy_linear_forms.specs.Forms.{Coefficient, combined, form_value, before, form_negation}
 use Rattle.sy_linear_forms.specs.Laws.{distributes_left, times_assoc, value-negation, either}
 use Rattle.sy_linear_known.specs.declared.path.Fact.{Fact}
 use Rattle.sy_linear_known.specs.declared.path.Fact.TheVariants.{AtLeast, Is}
 use Rattle.sy_linear_known.specs.declared.path.Test.TheVariants as test
 use Rattle.sy_linear_known.specs.declared.answer.Known.TheVariants as known
-use Rattle.sy_linear_known.specs.Paths.{number_in, form_at, Holds, Meets}
-use Rattle.sy_linear_known.specs.Seen.{Query}
-use Rattle.sy_linear_known.specs.Right.{Assigns, IsRight}
-use Rattle.sy_linear_known.specs.Points.{combined_at, value_at}
-use Rattle.sy_linear_known.specs.Trees.{Shape, Split, Branch, Cut, Farkas, Shown, Unfinished, at_or_below, forms, whole_ℚ, Weight, plus_multiple, Combination, plus_form, combined_with, combination, rationals, AreMultipliers, AllZero, AreMultiples, IsCut, IsContradiction, Refutes}
+use Rattle.sy_linear_known.specs.Paths.{number_in, form_at, FactHolds, MeetsPath}
+use Rattle.sy_linear_known.specs.Seen.{LinearQuery}
+use Rattle.sy_linear_known.specs.Right.{Assigns, KnownIsRight}
+use Rattle.sy_linear_known.specs.Points.{combined_at, form_value_at}
+use Rattle.sy_linear_known.specs.Trees.{TreeShape, Split, Branch, Cut, Farkas, Shown, Unfinished, at_or_below, forms, whole_ℚ, Weight, plus_multiple, Combination, plus_form, combined_with, combination, rationals, AreMultipliers, AllZero, AreMultiples, IsCut, IsContradiction, TreeRefutes}
 use Rattle.sy_linear_known.proofs.Agreement.{known_right}
 
 -- ---- paths
-pub meets_last : (values : List Val) (path : List Fact) (fact : Fact) → Meets values path → Holds values fact → Meets values (path ++ fact ∷ [])
+pub meets_last : (values : List Val) (path : List Fact) (fact : Fact) → MeetsPath values path → FactHolds values fact → MeetsPath values (path ++ fact ∷ [])
 meets_last values [] fact m h = (h, tt)
 meets_last values (first ∷ path) fact m h = (m.0, meets_last values path fact m.1 h)
 
@@ -54,7 +54,7 @@ AllAtLeast : List Val → List Form → Type 0
 AllAtLeast values [] = Unit {0}
 AllAtLeast values (f ∷ fs) = (pos 0 ≤ℤ form_at values f) × AllAtLeast values fs
 
-forms_met : (values : List Val) (path : List Fact) → Meets values path → AllAtLeast values (forms path)
+forms_met : (values : List Val) (path : List Fact) → MeetsPath values path → AllAtLeast values (forms path)
 unfolding AllAtLeast
 forms_met values [] m = tt
 forms_met values (AtLeast f ∷ path) m = (m.0, forms_met values path m.1)
@@ -125,8 +125,8 @@ regroup m a s k c = rw (*ℚ-+ℚ m a k) (simp (+ℚ_assoc, +ℚ_left_comm, +ℚ
 unfoldable pub combination_at : Combination → (ℕ → ℚ) → ℚ
 combination_at c x = weights_at c.weights x +ℚ c.constant
 
-pub combination-plus_form : (c : Combination) (m : ℚ) (f : Form) (x : ℕ → ℚ) → combination_at (plus_form c m f) x ≡ m *ℚ value_at f x +ℚ combination_at c x
-unfolding combination_at value_at
+pub combination-plus_form : (c : Combination) (m : ℚ) (f : Form) (x : ℕ → ℚ) → combination_at (plus_form c m f) x ≡ m *ℚ form_value_at f x +ℚ combination_at c x
+unfolding combination_at form_value_at
 combination-plus_form c m f x =
     ap (λ t. t +ℚ (m *ℚ whole_ℚ f.constant +ℚ c.constant)) (weights-plus_multiple m f.coefs c.weights x)
     ∙ regroup m (combined_at f.coefs x) (weights_at c.weights x) (whole_ℚ f.constant) c.constant
@@ -137,8 +137,8 @@ unfolding combined combined_at
 whole-combined_at [] x = sym whole_zero
 whole-combined_at (c ∷ cs) x = ap₂ (λ s t. s +ℚ t) (sym (whole_times c.1 (x c.0))) (whole-combined_at cs x) ∙ sym (whole_plus (c.1 *ℤ x c.0) (combined cs x))
 
-pub whole-value_at : (f : Form) (x : ℕ → ℤ) → value_at f (λ i. whole_ℚ (x i)) ≡ whole_ℚ (form_value f x)
-unfolding value_at form_value
+pub whole-value_at : (f : Form) (x : ℕ → ℤ) → form_value_at f (λ i. whole_ℚ (x i)) ≡ whole_ℚ (form_value f x)
+unfolding form_value_at form_value
 whole-value_at f x = ap (λ t. t +ℚ whole_ℚ f.constant) (whole-combined_at f.coefs x) ∙ sym (whole_plus (combined f.coefs x) f.constant)
 
 -- the numbers of an assignment
@@ -146,12 +146,12 @@ abbrev wholes : List Val → ℕ → ℚ
 wholes values i = whole_ℚ (number_in values i)
 
 -- a combination that is at least 0 stays so with a multiple of a form that is
-form_met : (values : List Val) (c : Combination) (m : ℚ) (f : Form) → is_negative m ≡ false → pos 0 ≤ℤ form_at values f → is_negative (combination_at c (wholes values)) ≡ false → is_negative (combination_at (plus_form c m f) (wholes values)) ≡ false
+form_met : (values : List Val) (c : Combination) (m : ℚ) (f : Form) → is_negative_rational m ≡ false → pos 0 ≤ℤ form_at values f → is_negative_rational (combination_at c (wholes values)) ≡ false → is_negative_rational (combination_at (plus_form c m f) (wholes values)) ≡ false
 form_met values c m f h k rest =
-    ap is_negative (combination-plus_form c m f (wholes values) ∙ ap (λ t. m *ℚ t +ℚ combination_at c (wholes values)) (whole-value_at f (number_in values)))
+    ap is_negative_rational (combination-plus_form c m f (wholes values) ∙ ap (λ t. m *ℚ t +ℚ combination_at c (wholes values)) (whole-value_at f (number_in values)))
     ∙ not_negative_plus (m *ℚ whole_ℚ (form_at values f)) _ (not_negative_times m (whole_ℚ (form_at values f)) h (whole_not_negative (form_at values f) k)) rest
 
-all_met : (values : List Val) (c : Combination) (ms : List Fraction) (fs : List Form) → AreMultipliers ms fs → AllAtLeast values fs → is_negative (combination_at c (wholes values)) ≡ false → is_negative (combination_at (combined_with c (rationals ms) fs) (wholes values)) ≡ false
+all_met : (values : List Val) (c : Combination) (ms : List Fraction) (fs : List Form) → AreMultipliers ms fs → AllAtLeast values fs → is_negative_rational (combination_at c (wholes values)) ≡ false → is_negative_rational (combination_at (combined_with c (rationals ms) fs) (wholes values)) ≡ false
 unfolding AllAtLeast combined_with
 all_met values c [] [] h m k = k
 all_met values c [] (f ∷ fs) h m k = absurd h
@@ -159,9 +159,9 @@ all_met values c (q ∷ ms) [] h m k = absurd h
 all_met values c (q ∷ ms) (f ∷ fs) h m k = all_met values (plus_form c (value q) f) ms fs h.2 m.1 (form_met values c (value q) f h.1 m.0 k)
 
 -- where the forms are at least 0, so is their combination
-combination_met : (values : List Val) (ms : List Fraction) (fs : List Form) → AreMultipliers ms fs → AllAtLeast values fs → is_negative (weights_at (combination (rationals ms) fs).weights (wholes values) +ℚ (combination (rationals ms) fs).constant) ≡ false
+combination_met : (values : List Val) (ms : List Fraction) (fs : List Form) → AreMultipliers ms fs → AllAtLeast values fs → is_negative_rational (weights_at (combination (rationals ms) fs).weights (wholes values) +ℚ (combination (rationals ms) fs).constant) ≡ false
 unfolding combination_at weights_at
-combination_met values ms fs h m = all_met values (record { weights = []; constant = 0ℚ }) ms fs h m (ap is_negative (+ℚ_zero 0ℚ) ∙ zero_not_negative)
+combination_met values ms fs h m = all_met values (record { weights = []; constant = 0ℚ }) ms fs h m (ap is_negative_rational (+ℚ_zero 0ℚ) ∙ zero_not_negative)
 
 pub product_not_negative : (d x : ℤ) → pos 1 ≤ℤ d → pos 0 ≤ℤ x → pos 0 ≤ℤ (d *ℤ x)
 product_not_negative (pos d) (pos x) h k = at_most_in (pos 0) (pos (d * x)) (omega arith)
@@ -174,7 +174,7 @@ disagree e = cc
 contradicts : (values : List Val) (ms : List Fraction) (fs : List Form) → IsContradiction ms fs → AllAtLeast values fs → ⊥
 contradicts values ms fs c m =
     let whole : Combination = combination (rationals ms) fs in
-    disagree (sym c.negative ∙ ap is_negative (sym (ap (λ t. t +ℚ whole.constant) (all_zero whole.weights (wholes values) c.zero) ∙ zero-+ℚ whole.constant)) ∙ combination_met values ms fs c.multipliers m)
+    disagree (sym c.negative ∙ ap is_negative_rational (sym (ap (λ t. t +ℚ whole.constant) (all_zero whole.weights (wholes values) c.zero) ∙ zero-+ℚ whole.constant)) ∙ combination_met values ms fs c.multipliers m)
 
 -- ---- rounding cuts
 combined-before : (i : ℕ) (c : ℤ) (cs : List Coefficient) (x : ℕ → ℤ) → combined (before i c cs) x ≡ c *ℤ x i +ℤ combined cs x
@@ -210,7 +210,7 @@ apart d x k = sym (times_neg d (k +ℤ pos 1)) ∙ ap (λ t. d *ℤ t) (same_in 
 
 cut_holds : (values : List Val) (ms : List Fraction) (d : ℤ) (fs : List Form) (e : Form) → IsCut ms d fs e → AllAtLeast values fs → pos 0 ≤ℤ form_at values e
 unfolding form_value
-cut_holds values ms d fs e c m = in_case (λ h. h) (λ h. absurd (disagree (sym c.next ∙ ap is_negative (below_one h) ∙ not_negative_plus (weights_at qs (wholes values) +ℚ k) _ (combination_met values ms fs c.multipliers m) (whole_not_negative (d *ℤ gap) (product_not_negative d gap c.positive h))))) (either (x +ℤ e.constant))
+cut_holds values ms d fs e c m = in_case (λ h. h) (λ h. absurd (disagree (sym c.next ∙ ap is_negative_rational (below_one h) ∙ not_negative_plus (weights_at qs (wholes values) +ℚ k) _ (combination_met values ms fs c.multipliers m) (whole_not_negative (d *ℤ gap) (product_not_negative d gap c.positive h))))) (either (x +ℤ e.constant))
   where
     qs : List Weight
     qs = (combination (rationals ms) fs).weights
@@ -232,10 +232,10 @@ cut_holds values ms d fs e c m = in_case (λ h. h) (λ h. absurd (disagree (sym 
 
 -- ---- trees
 -- a query that a tree refutes under a path is false at every assignment that meets it
-pub refuted : (q : Query) (path : List Fact) (t : Shape) → Refutes q path t → (values : List Val) → Assigns q.vars values → Meets values path → truth (meaning [] [] values q.body) ≡ false
+pub refuted : (q : LinearQuery) (path : List Fact) (t : TreeShape) → TreeRefutes q path t → (values : List Val) → Assigns q.vars values → MeetsPath values path → truth (meaning [] [] values q.body) ≡ false
 refuted q path (Split (test.AtLeast f) left right) r values a m =
     in_case (λ h. refuted q (path ++ AtLeast f ∷ []) left r.1 values a (meets_last values path (AtLeast f) m h))
-    (λ h. refuted q (path ++ AtLeast (negation f) ∷ []) right r.2 values a (meets_last values path (AtLeast (negation f)) m (subst (λ x. pos 0 ≤ℤ x) (sym (value-negation f (number_in values))) h)))
+    (λ h. refuted q (path ++ AtLeast (form_negation f) ∷ []) right r.2 values a (meets_last values path (AtLeast (form_negation f)) m (subst (λ x. pos 0 ≤ℤ x) (sym (value-negation f (number_in values))) h)))
     (either (form_at values f))
 refuted q path (Split (test.Holds u) left right) r values a m =
     in_case (λ h. refuted q (path ++ Is u true ∷ []) left r.1 values a (meets_last values path (Is u true) m h))
@@ -244,16 +244,16 @@ refuted q path (Split (test.Holds u) left right) r values a m =
 refuted q path (Branch i bound left right) r values a m =
     let f : Form = at_or_below i bound in
     in_case (λ h. refuted q (path ++ AtLeast f ∷ []) left r.1 values a (meets_last values path (AtLeast f) m h))
-    (λ h. refuted q (path ++ AtLeast (negation f) ∷ []) right r.2 values a (meets_last values path (AtLeast (negation f)) m (subst (λ x. pos 0 ≤ℤ x) (sym (value-negation f (number_in values))) h)))
+    (λ h. refuted q (path ++ AtLeast (form_negation f) ∷ []) right r.2 values a (meets_last values path (AtLeast (form_negation f)) m (subst (λ x. pos 0 ≤ℤ x) (sym (value-negation f (number_in values))) h)))
     (either (form_at values f))
 refuted q path (Cut ms d inner) r values a m =
     refuted q (path ++ AtLeast r.0 ∷ []) inner r.1.1 values a (meets_last values path (AtLeast r.0) m (cut_holds values ms d (forms path) r.0 r.1.0 (forms_met values path m)))
 refuted q path (Farkas ms) r values a m = absurd (contradicts values ms (forms path) r (forms_met values path m))
 refuted q path Shown r values a m =
-    let right : IsRight q path known.False = subst (λ k. IsRight q path k) r (known_right q path) in
+    let right : KnownIsRight q path known.False = subst (λ k. KnownIsRight q path k) r (known_right q path) in
     ap truth (right values a m)
 refuted q path Unfinished r values a m = absurd r
 
 -- a query that a tree refutes is satisfied by no assignment
-pub never_satisfied : (q : Query) (t : Shape) → Refutes q [] t → (values : List Val) → Assigns q.vars values → truth (meaning [] [] values q.body) ≡ false
+pub never_satisfied : (q : LinearQuery) (t : TreeShape) → TreeRefutes q [] t → (values : List Val) → Assigns q.vars values → truth (meaning [] [] values q.body) ≡ false
 never_satisfied q t r values a = refuted q [] t r values a tt

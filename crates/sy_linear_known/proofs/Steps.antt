@@ -3,15 +3,15 @@ use Rattle.std.specs.Prelude.{◌≡◌, ℕ, ◌+◌, ◌<◌, true, cond, List
 use Rattle.std.proofs.Common.{refl, sym, ◌∙◌, ap, arith}
 use Rattle.std.proofs.lemmas.List.{drop_more}
 use Rattle.sy_linear_forms.specs.declared.form.Form.{Form}
-use Rattle.sy_linear_forms.specs.Forms.{plus, negation, fits}
+use Rattle.sy_linear_forms.specs.Forms.{form_plus, form_negation, form_is_in_range}
 use Rattle.sy_linear_known.specs.declared.path.Fact.{Fact}
 use Rattle.sy_linear_known.specs.declared.sight.Sight.{Sight}
 use Rattle.sy_linear_known.specs.declared.sight.Node.{Node}
 use Rattle.sy_linear_known.specs.declared.arithmetic.Operation.{Operation}
 use Rattle.sy_linear_known.specs.declared.arithmetic.Operation.TheVariants.{Sum, Difference, Product}
-use Rattle.sy_linear_known.specs.Sights.{unfit, answered, tested, both, compared, combined, from_left, with_each, in_row}
+use Rattle.sy_linear_known.specs.Sights.{unfit, answered, tested, both_nodes, compared, sights_combined, sights_from_left, with_each, neighbours_in_row}
 use Rattle.sy_linear_known.specs.Fitting.{form_fits}
-use Rattle.sy_linear_known.specs.Operations.{operation}
+use Rattle.sy_linear_known.specs.Operations.{operation_result}
 use Rattle.sy_linear_known.proofs.Fitting.{fits-built, fits-difference, fits-product}
 
 -- what is left begins with the item
@@ -19,22 +19,22 @@ pub drop_item : {A : Type 0} (xs : List A) (i : ℕ) (x : A) → i < length xs �
 drop_item xs i x within is = drop_more xs i x within ∙ ap (λ y. y ∷ drop (i + 1) xs) (sym is)
 
 -- the test of a form whose negation fits
-pub tested_is : (path : List Fact) (o : Option Form) (f g : Form) (n : Node) → o ≡ Some f → g ≡ negation f → fits g ≡ true → n ≡ answered path f g → n ≡ tested path o
-tested_is path o f g n e h k r = r ∙ sym (ap (tested path) e ∙ ap (λ b. cond b (answered path f (negation f)) unfit) (ap fits (sym h) ∙ k) ∙ ap (answered path f) (sym h))
+pub tested_is : (path : List Fact) (o : Option Form) (f g : Form) (n : Node) → o ≡ Some f → g ≡ form_negation f → form_is_in_range g ≡ true → n ≡ answered path f g → n ≡ tested path o
+tested_is path o f g n e h k r = r ∙ sym (ap (tested path) e ∙ ap (λ b. cond b (answered path f (form_negation f)) unfit) (ap form_is_in_range (sym h) ∙ k) ∙ ap (answered path f) (sym h))
 
-pub from_left_next : (apply : Form → Form → Option Form) (n m all : Node) (ss : List Sight) (i : ℕ) (s : Sight) → i < length ss → s ≡ get_or ss i s → m ≡ combined apply n s → from_left apply n (drop i ss) ≡ all → from_left apply m (drop (i + 1) ss) ≡ all
-from_left_next apply n m all ss i s within is e kept = ap (λ k. from_left apply k (drop (i + 1) ss)) e ∙ sym (ap (from_left apply n) (drop_item ss i s within is)) ∙ kept
+pub from_left_next : (apply : Form → Form → Option Form) (n m all : Node) (ss : List Sight) (i : ℕ) (s : Sight) → i < length ss → s ≡ get_or ss i s → m ≡ sights_combined apply n s → sights_from_left apply n (drop i ss) ≡ all → sights_from_left apply m (drop (i + 1) ss) ≡ all
+from_left_next apply n m all ss i s within is e kept = ap (λ k. sights_from_left apply k (drop (i + 1) ss)) e ∙ sym (ap (sights_from_left apply n) (drop_item ss i s within is)) ∙ kept
 
-pub with_each_next : (compare : Form → Form → Node) (n m k all : Node) (s : Sight) (ts : List Sight) (i : ℕ) (t : Sight) → i < length ts → t ≡ get_or ts i t → k ≡ compared compare s t → m ≡ both n k → with_each compare n s (drop i ts) ≡ all → with_each compare m s (drop (i + 1) ts) ≡ all
-with_each_next compare n m k all s ts i t within is e f kept = ap (λ j. with_each compare j s (drop (i + 1) ts)) (f ∙ ap (both n) e) ∙ sym (ap (with_each compare n s) (drop_item ts i t within is)) ∙ kept
+pub with_each_next : (compare : Form → Form → Node) (n m k all : Node) (s : Sight) (ts : List Sight) (i : ℕ) (t : Sight) → i < length ts → t ≡ get_or ts i t → k ≡ compared compare s t → m ≡ both_nodes n k → with_each compare n s (drop i ts) ≡ all → with_each compare m s (drop (i + 1) ts) ≡ all
+with_each_next compare n m k all s ts i t within is e f kept = ap (λ j. with_each compare j s (drop (i + 1) ts)) (f ∙ ap (both_nodes n) e) ∙ sym (ap (with_each compare n s) (drop_item ts i t within is)) ∙ kept
 
-pub fits-operation : (o : Operation) (f g : Form) → form_fits (operation o f g) ≡ true
-fits-operation Sum f g = fits-built (plus f g)
+pub fits-operation : (o : Operation) (f g : Form) → form_fits (operation_result o f g) ≡ true
+fits-operation Sum f g = fits-built (form_plus f g)
 fits-operation Difference f g = fits-difference f g
 fits-operation Product f g = fits-product f g
 
 -- a list of fewer than two has no neighbours
-pub in_row_end : (compare : Form → Form → Node) (n : Node) (ss : List Sight) → length ss < 2 → in_row compare n ss ≡ n
+pub in_row_end : (compare : Form → Form → Node) (n : Node) (ss : List Sight) → length ss < 2 → neighbours_in_row compare n ss ≡ n
 in_row_end compare n [] h = refl
 in_row_end compare n (s ∷ []) h = refl
 in_row_end compare n (s ∷ t ∷ ss) h = absurd (omega arith)

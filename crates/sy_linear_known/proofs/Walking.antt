@@ -21,9 +21,9 @@ use Rattle.sy_linear_known.specs.declared.sight.Node.{Node}
 use Rattle.sy_linear_known.specs.declared.sight.Seen.{Seen}
 use Rattle.sy_linear_known.specs.declared.sight.Found.{Found}
 use Rattle.sy_linear_known.specs.declared.answer.Known.{Known}
-use Rattle.sy_linear_known.specs.Sights.{applied}
+use Rattle.sy_linear_known.specs.Sights.{operator_applied}
 use Rattle.sy_linear_known.specs.Fitting.{sight_fits, all_fit}
-use Rattle.sy_linear_known.specs.Seen.{of_value, value_seen, variable_sight, variable_sights, seen_as, sight_at, variable_seen, is_choice, live, nothing_found, with_next, noted, after, seen, all_seen, known_of}
+use Rattle.sy_linear_known.specs.Seen.{of_value, value_seen, variable_sight, variable_sights, seen_as, sight_at, variable_seen, is_ite, live, nothing_found, with_next, node_noted, after_bound, seen, all_seen, known_of}
 use Rattle.sy_linear_known.proofs.Steps.{drop_item}
 use Rattle.sy_linear_known.proofs.Agreement.{and_parts}
 
@@ -69,24 +69,24 @@ pub seen-var : {T : Type 0} (vars : List Sort) (path : List Fact) (names : List 
 unfolding seen
 seen-var vars path names at term number is = sym (ap (seen vars path names at) (var_is term number is))
 
-pub seen-app : {T : Type 0} (vars : List Sort) (path : List Fact) (names : List Sight) (at : ℕ) (term : Term T ℤ) (operator : Op) (arguments : Terms T ℤ) (below : Found) (n : Node) → term ≡ App operator arguments → below ≡ all_seen vars path names (is_choice operator) (at + 1) nothing_found (exprs_of Whole arguments.items.items) → n ≡ applied path operator below.sights → noted at n below ≡ seen vars path names at (expr_of Whole term)
+pub seen-app : {T : Type 0} (vars : List Sort) (path : List Fact) (names : List Sight) (at : ℕ) (term : Term T ℤ) (operator : Op) (arguments : Terms T ℤ) (below : Found) (n : Node) → term ≡ App operator arguments → below ≡ all_seen vars path names (is_ite operator) (at + 1) nothing_found (exprs_of Whole arguments.items.items) → n ≡ operator_applied path operator below.sights → node_noted at n below ≡ seen vars path names at (expr_of Whole term)
 unfolding seen
 seen-app vars path names at term operator arguments below n is e f =
-    ap (λ m. noted at m below) f
-    ∙ ap (λ b. noted at (applied path operator b.sights) b) e
+    ap (λ m. node_noted at m below) f
+    ∙ ap (λ b. node_noted at (operator_applied path operator b.sights) b) e
     ∙ sym (ap (seen vars path names at) (app_is term operator arguments is))
 
 pub seen-call : {T : Type 0} (vars : List Sort) (path : List Fact) (names : List Sight) (at : ℕ) (term : Term T ℤ) (function : Fun) (arguments : Terms T ℤ) → term ≡ Call function arguments → record { sight = Open; unknown = None; misfit = Some at } ≡ seen vars path names at (expr_of Whole term)
 unfolding seen
 seen-call vars path names at term function arguments is = sym (ap (seen vars path names at) (call_is term function arguments is))
 
-pub seen-let : {T : Type 0} (vars : List Sort) (path : List Fact) (names longer : List Sight) (at next : ℕ) (term : Term T ℤ) (bound : Terms T ℤ) (inner : Box (Term T ℤ) Global) (below : Found) (s : Seen) → term ≡ Let bound inner → below ≡ all_seen vars path names false (at + 1) nothing_found (exprs_of Whole bound.items.items) → longer ≡ names ++ below.sights → next ≡ at + 1 + nodes_of (exprs_of Whole bound.items.items) → s ≡ seen vars path longer next (expr_of Whole inner.value) → after below s ≡ seen vars path names at (expr_of Whole term)
+pub seen-let : {T : Type 0} (vars : List Sort) (path : List Fact) (names longer : List Sight) (at next : ℕ) (term : Term T ℤ) (bound : Terms T ℤ) (inner : Box (Term T ℤ) Global) (below : Found) (s : Seen) → term ≡ Let bound inner → below ≡ all_seen vars path names false (at + 1) nothing_found (exprs_of Whole bound.items.items) → longer ≡ names ++ below.sights → next ≡ at + 1 + nodes_of (exprs_of Whole bound.items.items) → s ≡ seen vars path longer next (expr_of Whole inner.value) → after_bound below s ≡ seen vars path names at (expr_of Whole term)
 unfolding seen
 seen-let vars path names longer at next term bound inner below s is e f g h =
     let es : Exprs = exprs_of Whole bound.items.items in
     let i : Expr = expr_of Whole inner.value in
-    ap (after below) (h ∙ ap₂ (λ ns k. seen vars path ns k i) f g)
-    ∙ ap (λ b. after b (seen vars path (names ++ b.sights) (at + 1 + nodes_of es) i)) e
+    ap (after_bound below) (h ∙ ap₂ (λ ns k. seen vars path ns k i) f g)
+    ∙ ap (λ b. after_bound b (seen vars path (names ++ b.sights) (at + 1 + nodes_of es) i)) e
     ∙ sym (ap (seen vars path names at) (let_is term bound inner is))
 
 -- ---- arguments

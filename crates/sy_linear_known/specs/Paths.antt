@@ -17,14 +17,14 @@ abbrev pub form_at : List Val → Form → ℤ
 form_at values f = form_value f (number_in values)
 
 -- the fact holds at the assignment
-abbrev pub Holds : List Val → Fact → Type 0
-Holds values (AtLeast f) = pos 0 ≤ℤ form_at values f
-Holds values (Is variable b) = value_at_position values variable ≡ Truth b
+abbrev pub FactHolds : List Val → Fact → Type 0
+FactHolds values (AtLeast f) = pos 0 ≤ℤ form_at values f
+FactHolds values (Is variable b) = value_at_position values variable ≡ Truth b
 
 -- each fact holds at the assignment
-abbrev pub Meets : List Val → List Fact → Type 0
-Meets values [] = Unit {0}
-Meets values (fact ∷ facts) = Holds values fact × Meets values facts
+abbrev pub MeetsPath : List Val → List Fact → Type 0
+MeetsPath values [] = Unit {0}
+MeetsPath values (fact ∷ facts) = FactHolds values fact × MeetsPath values facts
 
 -- the fact is that the form is at least 0
 abbrev pub is_form : Form → Fact → Bool

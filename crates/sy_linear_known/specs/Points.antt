@@ -11,5 +11,5 @@ combined_at [] x = 0ℚ
 combined_at (c ∷ cs) x = whole_ℚ c.1 *ℚ x c.0 +ℚ combined_at cs x
 
 -- the value of a form where the variables have these values
-unfoldable pub value_at : Form → (ℕ → ℚ) → ℚ
-value_at f x = combined_at f.coefs x +ℚ whole_ℚ f.constant
+unfoldable pub form_value_at : Form → (ℕ → ℚ) → ℚ
+form_value_at f x = combined_at f.coefs x +ℚ whole_ℚ f.constant

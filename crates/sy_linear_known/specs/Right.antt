@@ -10,8 +10,8 @@ use Rattle.sy_terms.specs.declared.sort.Sort.TheVariants as sorts
 use Rattle.sy_linear_known.specs.declared.path.Fact.{Fact}
 use Rattle.sy_linear_known.specs.declared.answer.Known.{Known}
 use Rattle.sy_linear_known.specs.declared.answer.Known.TheVariants as known
-use Rattle.sy_linear_known.specs.Paths.{Meets}
-use Rattle.sy_linear_known.specs.Seen.{Query, query_seen}
+use Rattle.sy_linear_known.specs.Paths.{MeetsPath}
+use Rattle.sy_linear_known.specs.Seen.{LinearQuery, query_seen}
 
 -- an assignment of whole numbers and truth values, each of its variable's sort
 abbrev pub Assigns : List Sort → List Val → Type 0
@@ -21,11 +21,11 @@ Assigns (sorts.Bool ∷ rest) (Truth b ∷ values) = Assigns rest values
 Assigns _ _ = ⊥
 
 -- a query that is known true is true at every assignment that meets the path, and likewise false
-abbrev pub IsRight : Query → List Fact → Known → Type 0
-IsRight q path known.True = (values : List Val) → Assigns q.vars values → Meets values path → meaning [] [] values q.body ≡ Truth true
-IsRight q path known.False = (values : List Val) → Assigns q.vars values → Meets values path → meaning [] [] values q.body ≡ Truth false
-IsRight q path (known.Undecided t) = Unit {0}
-IsRight q path (known.OutOfRange n) = Unit {0}
+abbrev pub KnownIsRight : LinearQuery → List Fact → Known → Type 0
+KnownIsRight q path known.True = (values : List Val) → Assigns q.vars values → MeetsPath values path → meaning [] [] values q.body ≡ Truth true
+KnownIsRight q path known.False = (values : List Val) → Assigns q.vars values → MeetsPath values path → meaning [] [] values q.body ≡ Truth false
+KnownIsRight q path (known.Undecided t) = Unit {0}
+KnownIsRight q path (known.OutOfRange n) = Unit {0}
 
 -- ---- queries that fit
 -- the sorts of linear arithmetic
@@ -35,12 +35,12 @@ is_linear_sort sorts.Int = true
 is_linear_sort (sorts.Bits w) = false
 
 -- a truth value's term of the logic, which calls nothing, over integers and truth values
-pub record Fits (q : Query) : Type 0 where
+pub record IsLinearQuery (q : LinearQuery) : Type 0 where
   pub vars : list_all is_linear_sort q.vars ≡ true
   pub body : sort_in (record { owned = owned; defined = []; wanted = [] }) q.vars q.body ≡ Some sorts.Bool
 
 -- an answer out of range names the first node at which a form doesn't fit
-abbrev pub IsMisfit : Query → List Fact → Known → Type 0
+abbrev pub IsMisfit : LinearQuery → List Fact → Known → Type 0
 IsMisfit q path (known.OutOfRange n) = (query_seen q path).misfit ≡ Some n
 IsMisfit q path known.True = Unit {0}
 IsMisfit q path known.False = Unit {0}

@@ -18,7 +18,7 @@ use Rattle.sy_linear_known.specs.declared.sight.Found.{Found}
 use Rattle.sy_linear_known.specs.declared.answer.Known.{Known}
 use Rattle.sy_linear_known.specs.declared.answer.Known.TheVariants as known
 use Rattle.sy_linear_known.specs.Paths.{given}
-use Rattle.sy_linear_known.specs.Sights.{is_open, or_else, applied}
+use Rattle.sy_linear_known.specs.Sights.{is_open, or_else, operator_applied}
 
 -- ---- names
 abbrev pub of_given : Option Bool → Sight
@@ -55,9 +55,9 @@ abbrev pub variable_test : List Sort → Sight → ℕ → Option Test
 variable_test vars s i = cond (is_open s && is_truths (slice_get vars i)) (Some (test.Holds i)) None
 
 -- ---- live arguments
-abbrev pub is_choice : Op → Bool
-is_choice ops.Ite = true
-is_choice _ = false
+abbrev pub is_ite : Op → Bool
+is_ite ops.Ite = true
+is_ite _ = false
 
 -- whether the next argument is live, by what is told of those before it: of a choice the condition,
 -- and the branch that a known condition chooses
@@ -92,12 +92,12 @@ abbrev pub with_next : Found → Seen → Found
 with_next before s = record { sights = before.sights ++ s.sight ∷ []; unknown = or_else before.unknown s.unknown; misfit = or_else before.misfit s.misfit }
 
 -- what is found at a node of this number and below it
-abbrev pub noted : ℕ → Node → Found → Seen
-noted at n below = record { sight = n.sight; unknown = or_else n.unknown below.unknown; misfit = or_else (cond n.fits None (Some at)) below.misfit }
+abbrev pub node_noted : ℕ → Node → Found → Seen
+node_noted at n below = record { sight = n.sight; unknown = or_else n.unknown below.unknown; misfit = or_else (cond n.fits None (Some at)) below.misfit }
 
 -- what is found in bound terms and then in the term that they are bound in
-abbrev pub after : Found → Seen → Seen
-after below s = record { sight = s.sight; unknown = or_else below.unknown s.unknown; misfit = or_else below.misfit s.misfit }
+abbrev pub after_bound : Found → Seen → Seen
+after_bound below s = record { sight = s.sight; unknown = or_else below.unknown s.unknown; misfit = or_else below.misfit s.misfit }
 
 abbrev pub variable_seen : List Sort → List Sight → ℕ → Seen
 variable_seen vars names i = record { sight = sight_at names i; unknown = variable_test vars (sight_at names i) i; misfit = None }
@@ -108,12 +108,12 @@ unfoldable mutual
   seen vars path names at (Constant value) = value_seen at value
   seen vars path names at (Variable i) = variable_seen vars names i
   seen vars path names at (Apply operator arguments) =
-      let below : Found = all_seen vars path names (is_choice operator) (at + 1) nothing_found arguments in
-      noted at (applied path operator below.sights) below
+      let below : Found = all_seen vars path names (is_ite operator) (at + 1) nothing_found arguments in
+      node_noted at (operator_applied path operator below.sights) below
   seen vars path names at (Invoke function arguments) = record { sight = Open; unknown = None; misfit = Some at }
   seen vars path names at (Bind bound inner) =
       let below : Found = all_seen vars path names false (at + 1) nothing_found bound in
-      after below (seen vars path (names ++ below.sights) (at + 1 + nodes_of bound) inner)
+      after_bound below (seen vars path (names ++ below.sights) (at + 1 + nodes_of bound) inner)
 
   -- in arguments after those before; the first node of those left has this number
   pub all_seen : List Sort → List Fact → List Sight → Bool → ℕ → Found → Exprs → Found
@@ -123,7 +123,7 @@ unfoldable mutual
 
 -- ---- queries
 -- the sorts of the variables, and a truth value's term over them
-pub record Query : Type 0 where
+pub record LinearQuery : Type 0 where
   pub vars : List Sort
   pub body : Expr
 
@@ -147,9 +147,9 @@ abbrev pub known_of : Seen → Known
 known_of s = of_misfit s.misfit (of_sight s.sight (of_open s.unknown))
 
 -- what is found in the query
-abbrev pub query_seen : Query → List Fact → Seen
+abbrev pub query_seen : LinearQuery → List Fact → Seen
 query_seen q path = seen q.vars path (variable_sights path 0 q.vars) 0 q.body
 
 -- what the path tells of the query
-abbrev pub query_known : Query → List Fact → Known
+abbrev pub query_known : LinearQuery → List Fact → Known
 query_known q path = known_of (query_seen q path)

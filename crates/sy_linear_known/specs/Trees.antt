@@ -1,26 +1,26 @@
 -- Refutation trees of a query.
 use Rattle.std.specs.Prelude.{◌≡◌, ℕ, ◌<◌, ◌≤ℤ◌, true, false, cond, List, [], ◌∷◌, ◌++◌, map, ℤ, pos, ◌+ℤ◌, ◌*ℤ◌, neg_ℤ, nat_lt, slice_get, Some}
 use Rattle.sy_frac.specs.Fraction.{Fraction}
-use Rattle.sy_frac.specs.Rational.{ℚ, 0ℚ, ◌+ℚ◌, ◌*ℚ◌, over, is_negative, value}
+use Rattle.sy_frac.specs.Rational.{ℚ, 0ℚ, ◌+ℚ◌, ◌*ℚ◌, over, is_negative_rational, value}
 use Rattle.sy_terms.specs.declared.sort.Sort.{Sort}
 use Rattle.sy_terms.specs.declared.sort.Sort.TheVariants as sorts
 use Rattle.sy_linear_forms.specs.declared.form.Form.{Form}
-use Rattle.sy_linear_forms.specs.Forms.{Coefficient, before, constant_form, variable_form, minus, negation}
+use Rattle.sy_linear_forms.specs.Forms.{Coefficient, before, constant_form, variable_form, form_minus, form_negation}
 use Rattle.sy_linear_known.specs.declared.path.Fact.{Fact}
 use Rattle.sy_linear_known.specs.declared.path.Fact.TheVariants.{AtLeast, Is}
 use Rattle.sy_linear_known.specs.declared.path.Test.{Test}
 use Rattle.sy_linear_known.specs.declared.path.Test.TheVariants as test
 use Rattle.sy_linear_known.specs.declared.answer.Known.TheVariants as known
-use Rattle.sy_linear_known.specs.Seen.{Query, query_known}
+use Rattle.sy_linear_known.specs.Seen.{LinearQuery, query_known}
 
 -- a tree without its points; the multipliers are those of the path's forms, in order
-pub data Shape : Type 0 where
-  Split : (test : Test) → (left right : Shape) → Shape
-  Branch : (variable : ℕ) → (bound : ℤ) → (left right : Shape) → Shape
-  Cut : (multipliers : List Fraction) → (divisor : ℤ) → (inner : Shape) → Shape
-  Farkas : (multipliers : List Fraction) → Shape
-  Shown : Shape
-  Unfinished : Shape
+pub data TreeShape : Type 0 where
+  Split : (test : Test) → (left right : TreeShape) → TreeShape
+  Branch : (variable : ℕ) → (bound : ℤ) → (left right : TreeShape) → TreeShape
+  Cut : (multipliers : List Fraction) → (divisor : ℤ) → (inner : TreeShape) → TreeShape
+  Farkas : (multipliers : List Fraction) → TreeShape
+  Shown : TreeShape
+  Unfinished : TreeShape
 
 -- ---- facts that nodes add
 abbrev pub added_fact : Test → Fact
@@ -28,12 +28,12 @@ added_fact (test.AtLeast f) = AtLeast f
 added_fact (test.Holds u) = Is u true
 
 abbrev pub opposite_fact : Test → Fact
-opposite_fact (test.AtLeast f) = AtLeast (negation f)
+opposite_fact (test.AtLeast f) = AtLeast (form_negation f)
 opposite_fact (test.Holds u) = Is u false
 
 -- bound - x, which is at least 0 exactly where x is at most the bound
 abbrev pub at_or_below : ℕ → ℤ → Form
-at_or_below i bound = minus (constant_form bound) (variable_form i)
+at_or_below i bound = form_minus (constant_form bound) (variable_form i)
 
 -- the forms of the path, in order
 abbrev pub forms : List Fact → List Form
@@ -83,7 +83,7 @@ rationals fractions = map value fractions
 -- one multiplier for each form: a fraction over a positive number, not negative
 abbrev pub AreMultipliers : List Fraction → List Form → Type 0
 AreMultipliers [] [] = Unit {0}
-AreMultipliers (m ∷ ms) (f ∷ fs) = (0 < m.den) × (is_negative (value m) ≡ false) × AreMultipliers ms fs
+AreMultipliers (m ∷ ms) (f ∷ fs) = (0 < m.den) × (is_negative_rational (value m) ≡ false) × AreMultipliers ms fs
 AreMultipliers _ _ = ⊥
 
 abbrev pub AllZero : List Weight → Type 0
@@ -101,14 +101,14 @@ pub record IsCut (ms : List Fraction) (d : ℤ) (fs : List Form) (added : Form) 
   pub multipliers : AreMultipliers ms fs
   pub positive : pos 1 ≤ℤ d
   pub multiples : AreMultiples d (combination (rationals ms) fs).weights added.coefs
-  pub below : is_negative ((combination (rationals ms) fs).constant +ℚ whole_ℚ (neg_ℤ (d *ℤ added.constant))) ≡ false
-  pub next : is_negative ((combination (rationals ms) fs).constant +ℚ whole_ℚ (neg_ℤ (d *ℤ (added.constant +ℤ pos 1)))) ≡ true
+  pub below : is_negative_rational ((combination (rationals ms) fs).constant +ℚ whole_ℚ (neg_ℤ (d *ℤ added.constant))) ≡ false
+  pub next : is_negative_rational ((combination (rationals ms) fs).constant +ℚ whole_ℚ (neg_ℤ (d *ℤ (added.constant +ℤ pos 1)))) ≡ true
 
 -- the combination is a negative constant
 pub record IsContradiction (ms : List Fraction) (fs : List Form) : Type 0 where
   pub multipliers : AreMultipliers ms fs
   pub zero : AllZero (combination (rationals ms) fs).weights
-  pub negative : is_negative (combination (rationals ms) fs).constant ≡ true
+  pub negative : is_negative_rational (combination (rationals ms) fs).constant ≡ true
 
 -- ---- what is asked of variables
 abbrev pub IsOf : Sort → List Sort → ℕ → Type 0
@@ -118,15 +118,15 @@ abbrev pub OverIntegers : List Sort → List Coefficient → Type 0
 OverIntegers vars [] = Unit {0}
 OverIntegers vars (c ∷ cs) = IsOf sorts.Int vars c.0 × OverIntegers vars cs
 
-abbrev pub Suits : List Sort → Test → Type 0
-Suits vars (test.AtLeast f) = OverIntegers vars f.coefs
-Suits vars (test.Holds u) = IsOf sorts.Bool vars u
+abbrev pub TestSuits : List Sort → Test → Type 0
+TestSuits vars (test.AtLeast f) = OverIntegers vars f.coefs
+TestSuits vars (test.Holds u) = IsOf sorts.Bool vars u
 
 -- the tree refutes the query under the path
-abbrev pub Refutes : Query → List Fact → Shape → Type 0
-Refutes q path (Split t left right) = Suits q.vars t × Refutes q (path ++ added_fact t ∷ []) left × Refutes q (path ++ opposite_fact t ∷ []) right
-Refutes q path (Branch i bound left right) = IsOf sorts.Int q.vars i × Refutes q (path ++ AtLeast (at_or_below i bound) ∷ []) left × Refutes q (path ++ AtLeast (negation (at_or_below i bound)) ∷ []) right
-Refutes q path (Cut ms d inner) = (e : Form) × (IsCut ms d (forms path) e × Refutes q (path ++ AtLeast e ∷ []) inner)
-Refutes q path (Farkas ms) = IsContradiction ms (forms path)
-Refutes q path Shown = query_known q path ≡ known.False
-Refutes q path Unfinished = ⊥
+abbrev pub TreeRefutes : LinearQuery → List Fact → TreeShape → Type 0
+TreeRefutes q path (Split t left right) = TestSuits q.vars t × TreeRefutes q (path ++ added_fact t ∷ []) left × TreeRefutes q (path ++ opposite_fact t ∷ []) right
+TreeRefutes q path (Branch i bound left right) = IsOf sorts.Int q.vars i × TreeRefutes q (path ++ AtLeast (at_or_below i bound) ∷ []) left × TreeRefutes q (path ++ AtLeast (form_negation (at_or_below i bound)) ∷ []) right
+TreeRefutes q path (Cut ms d inner) = (e : Form) × (IsCut ms d (forms path) e × TreeRefutes q (path ++ AtLeast e ∷ []) inner)
+TreeRefutes q path (Farkas ms) = IsContradiction ms (forms path)
+TreeRefutes q path Shown = query_known q path ≡ known.False
+TreeRefutes q path Unfinished = ⊥

@@ -1,6 +1,6 @@
 // What a path tells of an application.
 ghost use Rattle.std.specs.Prelude.{◌≡◌, IfOk, true};
-ghost use Rattle.sy_linear_known.specs.Sights.{applied};
+ghost use Rattle.sy_linear_known.specs.Sights.{operator_applied};
 ghost use Rattle.sy_linear_known.specs.Fitting.{sight_fits, all_fit};
 
 use crate::arithmetic::{Operation, chosen, negated};
@@ -13,10 +13,10 @@ use sy_seq::Want;
 use sy_terms::Op;
 
 /// What the path tells of the operator's application, by what it tells of the arguments.
-#[tactic(auto, unfolding(crate::specs::Sights::applied))]
+#[tactic(auto, unfolding(crate::specs::Sights::operator_applied))]
 fn value_of(alloc: Global, path: &[Fact], operator: &Op, sights: &[Sight]) -> Result<Node, Want>
     requires { all_fit sights.now ≡ true }
-    ensures { IfOk result (λ n. n ≡ applied path.now operator.now sights.now) }
+    ensures { IfOk result (λ n. n ≡ operator_applied path.now operator.now sights.now) }
 {
     match operator {
         Op::And => Ok(Node::told(all_of(sights))),
@@ -53,7 +53,7 @@ pub(crate) fn applied(
     sights: &[Sight],
 ) -> Result<Node, Want>
     requires { all_fit sights.now ≡ true }
-    ensures ok { IfOk result (λ n. n ≡ applied path.now operator.now sights.now) }
+    ensures ok { IfOk result (λ n. n ≡ operator_applied path.now operator.now sights.now) }
     ensures fits { IfOk result (λ n. sight_fits n.sight ≡ true) }
 {
     let node = value_of(alloc, path, operator, sights)?;

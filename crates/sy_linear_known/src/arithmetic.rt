@@ -1,9 +1,9 @@
 // Forms of sums, differences and products.
 ghost use Rattle.std.specs.Prelude.{◌≡◌, ◌∷◌, IfOk, true};
-ghost use Rattle.sy_linear_forms.specs.Forms.{fits, is_constant};
+ghost use Rattle.sy_linear_forms.specs.Forms.{form_is_in_range, is_constant_form};
 ghost use Rattle.sy_linear_known.specs.Sights as spec;
 ghost use Rattle.sy_linear_known.specs.Fitting.{form_fits, sight_fits, all_fit};
-ghost use Rattle.sy_linear_known.specs.Operations.{operation};
+ghost use Rattle.sy_linear_known.specs.Operations.{operation_result};
 
 use crate::sight::{Node, Sight};
 use std::alloc::{AllocError, Global};
@@ -20,9 +20,9 @@ pub(crate) enum Operation {
 
 /// The sum; none where it doesn't fit.
 pub(crate) fn sum(alloc: Global, f: &Form, g: &Form) -> Result<Option<Form>, Want>
-    requires left { fits f.now ≡ true }
-    requires right { fits g.now ≡ true }
-    ensures ok { IfOk result (λ form. form ≡ spec.sum f.now g.now) }
+    requires left { form_is_in_range f.now ≡ true }
+    requires right { form_is_in_range g.now ≡ true }
+    ensures ok { IfOk result (λ form. form ≡ spec.form_sum f.now g.now) }
     ensures fits { IfOk result (λ form. form_fits form ≡ true) }
 {
     match f.plus(alloc, g) {
@@ -34,8 +34,8 @@ pub(crate) fn sum(alloc: Global, f: &Form, g: &Form) -> Result<Option<Form>, Wan
 
 /// The multiple; none where it doesn't fit.
 pub(crate) fn multiple(alloc: Global, factor: i128, f: &Form) -> Result<Option<Form>, Want>
-    requires { fits f.now ≡ true }
-    ensures ok { IfOk result (λ form. form ≡ spec.multiple factor f.now) }
+    requires { form_is_in_range f.now ≡ true }
+    ensures ok { IfOk result (λ form. form ≡ spec.form_multiple factor f.now) }
     ensures fits { IfOk result (λ form. form_fits form ≡ true) }
 {
     match f.times(alloc, factor) {
@@ -47,9 +47,9 @@ pub(crate) fn multiple(alloc: Global, factor: i128, f: &Form) -> Result<Option<F
 
 /// The difference; none where it doesn't fit.
 pub(crate) fn difference(alloc: Global, f: &Form, g: &Form) -> Result<Option<Form>, Want>
-    requires left { fits f.now ≡ true }
-    requires right { fits g.now ≡ true }
-    ensures ok { IfOk result (λ form. form ≡ spec.difference f.now g.now) }
+    requires left { form_is_in_range f.now ≡ true }
+    requires right { form_is_in_range g.now ≡ true }
+    ensures ok { IfOk result (λ form. form ≡ spec.form_difference f.now g.now) }
     ensures fits { IfOk result (λ form. form_fits form ≡ true) }
 {
     match f.minus(alloc, g) {
@@ -61,8 +61,8 @@ pub(crate) fn difference(alloc: Global, f: &Form, g: &Form) -> Result<Option<For
 
 /// The form that is at least 0 exactly where the first is above the second; none where it doesn't fit.
 pub(crate) fn excess(alloc: Global, f: &Form, g: &Form) -> Result<Option<Form>, Want>
-    requires left { fits f.now ≡ true }
-    requires right { fits g.now ≡ true }
+    requires left { form_is_in_range f.now ≡ true }
+    requires right { form_is_in_range g.now ≡ true }
     ensures ok { IfOk result (λ form. form ≡ spec.excess f.now g.now) }
     ensures fits { IfOk result (λ form. form_fits form ≡ true) }
 {
@@ -75,16 +75,16 @@ pub(crate) fn excess(alloc: Global, f: &Form, g: &Form) -> Result<Option<Form>, 
 
 /// Whether no variable has a coefficient.
 pub(crate) fn is_constant(f: &Form) -> bool
-    ensures { result ≡ is_constant f.now }
+    ensures { result ≡ is_constant_form f.now }
 {
     f.coefs.len() == 0
 }
 
 /// The product, one factor of which is constant; none where it doesn't fit or both factors vary.
 pub(crate) fn product(alloc: Global, f: &Form, g: &Form) -> Result<Option<Form>, Want>
-    requires left { fits f.now ≡ true }
-    requires right { fits g.now ≡ true }
-    ensures ok { IfOk result (λ form. form ≡ spec.product f.now g.now) }
+    requires left { form_is_in_range f.now ≡ true }
+    requires right { form_is_in_range g.now ≡ true }
+    ensures ok { IfOk result (λ form. form ≡ spec.form_product f.now g.now) }
     ensures fits { IfOk result (λ form. form_fits form ≡ true) }
 {
     if is_constant(f) {
@@ -99,9 +99,9 @@ pub(crate) fn product(alloc: Global, f: &Form, g: &Form) -> Result<Option<Form>,
 impl Operation {
     /// The operation on two forms; none where it doesn't fit.
     fn apply(self, alloc: Global, f: &Form, g: &Form) -> Result<Option<Form>, Want>
-        requires left { fits f.now ≡ true }
-        requires right { fits g.now ≡ true }
-        ensures ok { IfOk result (λ form. form ≡ operation self f.now g.now) }
+        requires left { form_is_in_range f.now ≡ true }
+        requires right { form_is_in_range g.now ≡ true }
+        ensures ok { IfOk result (λ form. form ≡ operation_result self f.now g.now) }
         ensures fits { IfOk result (λ form. form_fits form ≡ true) }
     {
         match self {
@@ -115,7 +115,7 @@ impl Operation {
     fn combined(self, alloc: Global, node: &Node, sight: &Sight) -> Result<Node, Want>
         requires node { sight_fits node.now.sight ≡ true }
         requires sight { sight_fits sight.now ≡ true }
-        ensures { IfOk result (λ n. n ≡ spec.combined (operation self) node.now sight.now) }
+        ensures { IfOk result (λ n. n ≡ spec.sights_combined (operation_result self) node.now sight.now) }
     {
         match (&node.sight, sight) {
             (Sight::Linear(f), Sight::Linear(g)) => {
@@ -133,7 +133,7 @@ impl Operation {
     /// The operation taken from the left over what is told of terms.
     pub(crate) fn folded(self, alloc: Global, sights: &[Sight]) -> Result<Node, Want>
         requires { all_fit sights.now ≡ true }
-        ensures { IfOk result (λ n. n ≡ spec.folded (operation self) sights.now) }
+        ensures { IfOk result (λ n. n ≡ spec.sights_folded (operation_result self) sights.now) }
     {
         let Some((first, rest)) = sights.split_first() else {
             return Ok(Node::told(Sight::Open));
@@ -149,7 +149,7 @@ impl Operation {
 /// What is told of the opposite of a number.
 pub(crate) fn negated(alloc: Global, sights: &[Sight]) -> Result<Node, Want>
     requires { all_fit sights.now ≡ true }
-    ensures { IfOk result (λ n. n ≡ spec.negated sights.now) }
+    ensures { IfOk result (λ n. n ≡ spec.truth_negated sights.now) }
 {
     match sights {
         [Sight::Linear(f)] => {

@@ -1,6 +1,6 @@
 // Comparisons of terms under a path.
 ghost use Rattle.std.specs.Prelude.{◌≡◌, IfOk, true};
-ghost use Rattle.sy_linear_forms.specs.Forms.{fits};
+ghost use Rattle.sy_linear_forms.specs.Forms.{form_is_in_range};
 ghost use Rattle.sy_linear_known.specs.Sights as spec;
 ghost use Rattle.sy_linear_known.specs.Fitting.{form_fits, sight_fits, all_fit};
 ghost use Rattle.sy_linear_known.specs.Operations.{comparison};
@@ -23,14 +23,14 @@ pub(crate) enum Comparison {
     Distinct,
 }
 
-/// Whether the form is a constant of at least 0, or stands in the path.
+/// Whether the path has the form, or it is a constant that isn't negative.
 fn known_true(path: &[Fact], form: &Form) -> bool
     ensures { result ≡ spec.known_true path.now form.now }
 {
     is_constant(form) && form.constant >= 0 || has_form(form, path)
 }
 
-/// Whether the form is a negative constant, or its negation stands in the path.
+/// Whether the path has the form's negation, or it is a constant below 0.
 fn known_false(path: &[Fact], form: &Form, negation: &Form) -> bool
     ensures { result ≡ spec.known_false path.now form.now negation.now }
 {
@@ -71,8 +71,8 @@ fn tested(alloc: Global, path: &[Fact], form: Option<Form>) -> Result<Node, Want
 
 /// Whether the first is at most the second.
 fn at_most(alloc: Global, path: &[Fact], f: &Form, g: &Form) -> Result<Node, Want>
-    requires left { fits f.now ≡ true }
-    requires right { fits g.now ≡ true }
+    requires left { form_is_in_range f.now ≡ true }
+    requires right { form_is_in_range g.now ≡ true }
     ensures { IfOk result (λ n. n ≡ spec.at_most path.now f.now g.now) }
 {
     let form = difference(alloc, g, f)?;
@@ -81,8 +81,8 @@ fn at_most(alloc: Global, path: &[Fact], f: &Form, g: &Form) -> Result<Node, Wan
 
 /// Whether the first is less than the second.
 fn less(alloc: Global, path: &[Fact], f: &Form, g: &Form) -> Result<Node, Want>
-    requires left { fits f.now ≡ true }
-    requires right { fits g.now ≡ true }
+    requires left { form_is_in_range f.now ≡ true }
+    requires right { form_is_in_range g.now ≡ true }
     ensures { IfOk result (λ n. n ≡ spec.less path.now f.now g.now) }
 {
     let form = excess(alloc, g, f)?;
@@ -91,9 +91,9 @@ fn less(alloc: Global, path: &[Fact], f: &Form, g: &Form) -> Result<Node, Want>
 
 /// Whether the two are equal.
 fn equal(alloc: Global, path: &[Fact], f: &Form, g: &Form) -> Result<Node, Want>
-    requires left { fits f.now ≡ true }
-    requires right { fits g.now ≡ true }
-    ensures { IfOk result (λ n. n ≡ spec.equal path.now f.now g.now) }
+    requires left { form_is_in_range f.now ≡ true }
+    requires right { form_is_in_range g.now ≡ true }
+    ensures { IfOk result (λ n. n ≡ spec.forms_equal path.now f.now g.now) }
 {
     let first = at_most(alloc, path, g, f)?;
     let second = at_most(alloc, path, f, g)?;
@@ -102,8 +102,8 @@ fn equal(alloc: Global, path: &[Fact], f: &Form, g: &Form) -> Result<Node, Want>
 
 /// Whether the two differ.
 fn distinct(alloc: Global, path: &[Fact], f: &Form, g: &Form) -> Result<Node, Want>
-    requires left { fits f.now ≡ true }
-    requires right { fits g.now ≡ true }
+    requires left { form_is_in_range f.now ≡ true }
+    requires right { form_is_in_range g.now ≡ true }
     ensures { IfOk result (λ n. n ≡ spec.distinct path.now f.now g.now) }
 {
     let node = equal(alloc, path, f, g)?;
@@ -113,8 +113,8 @@ fn distinct(alloc: Global, path: &[Fact], f: &Form, g: &Form) -> Result<Node, Wa
 impl Comparison {
     /// The comparison of two forms.
     fn compare(self, alloc: Global, path: &[Fact], f: &Form, g: &Form) -> Result<Node, Want>
-        requires left { fits f.now ≡ true }
-        requires right { fits g.now ≡ true }
+        requires left { form_is_in_range f.now ≡ true }
+        requires right { form_is_in_range g.now ≡ true }
         ensures { IfOk result (λ n. n ≡ comparison self path.now f.now g.now) }
     {
         match self {
@@ -148,7 +148,7 @@ impl Comparison {
     /// The comparison of each term with the one after it.
     pub(crate) fn in_row(self, alloc: Global, path: &[Fact], sights: &[Sight]) -> Result<Node, Want>
         requires { all_fit sights.now ≡ true }
-        ensures { IfOk result (λ n. n ≡ spec.in_row (comparison self path.now) spec.none_yet sights.now) }
+        ensures { IfOk result (λ n. n ≡ spec.neighbours_in_row (comparison self path.now) spec.none_yet sights.now) }
     {
         let mut node = Node::told(Sight::Settled(true));
         let mut left = sights;

@@ -2,8 +2,8 @@
 ghost use Rattle.std.specs.Prelude.{◌≡◌, ◌<◌, ◌^◌, IfOk, length, true};
 ghost use Rattle.sy_terms.specs.Expr.{nodes};
 ghost use Rattle.sy_linear_known.specs.Seen as spec;
-ghost use Rattle.sy_linear_known.specs.Right.{Fits, IsMisfit, IsRight};
-ghost use Rattle.sy_linear_known.specs.Stored.{query_of};
+ghost use Rattle.sy_linear_known.specs.Right.{IsLinearQuery, IsMisfit, KnownIsRight};
+ghost use Rattle.sy_linear_known.specs.Stored.{linear_query_of};
 ghost use Rattle.sy_linear_known.specs.Fitting.{sight_fits, all_fit};
 
 use crate::answer::Known;
@@ -81,7 +81,7 @@ const MOST: usize = 1 << 31;
 
 /// Whether numbers of 32 bits count the query's nodes and variables: it has fewer than 2^31 of each.
 pub fn is_numbered(q: &Query<IntTheory>) -> bool
-    ensures nodes { result ≡ true → nodes (query_of q.now).body < 2 ^ 31 }
+    ensures nodes { result ≡ true → nodes (linear_query_of q.now).body < 2 ^ 31 }
     ensures vars { result ≡ true → length q.now.vars < 2 ^ 31 }
 {
     q.vars.len() < MOST && q.body.size(MOST as u64) < MOST as u64
@@ -89,11 +89,11 @@ pub fn is_numbered(q: &Query<IntTheory>) -> bool
 
 /// What the facts tell of the query, as `known` says it.
 pub fn known_under(alloc: Global, q: &Query<IntTheory>, facts: &[Fact]) -> Result<Known, Want>
-    requires nodes { nodes (query_of q.now).body < 2 ^ 31 }
+    requires nodes { nodes (linear_query_of q.now).body < 2 ^ 31 }
     requires vars { length q.now.vars < 2 ^ 31 }
-    ensures known { IfOk result (λ k. k ≡ spec.query_known (query_of q.now) facts.now) }
-    ensures right { IfOk result (λ k. IsRight (query_of q.now) facts.now k) }
-    ensures range { Fits (query_of q.now) → IfOk result (λ k. IsMisfit (query_of q.now) facts.now k) }
+    ensures known { IfOk result (λ k. k ≡ spec.query_known (linear_query_of q.now) facts.now) }
+    ensures right { IfOk result (λ k. KnownIsRight (linear_query_of q.now) facts.now k) }
+    ensures range { IsLinearQuery (linear_query_of q.now) → IfOk result (λ k. IsMisfit (linear_query_of q.now) facts.now k) }
 {
     let vars = q.vars.as_slice();
     let mut names = variable_sights(alloc, facts, vars)?;
@@ -108,9 +108,9 @@ pub fn known_under(alloc: Global, q: &Query<IntTheory>, facts: &[Fact]) -> Resul
 /// operator that isn't of linear arithmetic and a call count as forms that don't fit. A query of 2^31 nodes or variables
 /// is answered as want of memory.
 pub fn known(alloc: Global, q: &Query<IntTheory>, path: &Path) -> Result<Known, Want>
-    ensures known { IfOk result (λ k. k ≡ spec.query_known (query_of q.now) path.now.facts) }
-    ensures right { IfOk result (λ k. IsRight (query_of q.now) path.now.facts k) }
-    ensures range { Fits (query_of q.now) → IfOk result (λ k. IsMisfit (query_of q.now) path.now.facts k) }
+    ensures known { IfOk result (λ k. k ≡ spec.query_known (linear_query_of q.now) path.now.facts) }
+    ensures right { IfOk result (λ k. KnownIsRight (linear_query_of q.now) path.now.facts k) }
+    ensures range { IsLinearQuery (linear_query_of q.now) → IfOk result (λ k. IsMisfit (linear_query_of q.now) path.now.facts k) }
 {
     if !is_numbered(q) {
         return Err(AllocError);

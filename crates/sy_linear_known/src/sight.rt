@@ -1,8 +1,8 @@
 // What a path tells of a term.
 ghost use Rattle.std.specs.Prelude.{◌≡◌, IfOk, ◌∷◌, []};
 ghost use Rattle.std.specs.List.{list_any, list_all};
-ghost use Rattle.sy_linear_known.specs.Seen.{seen_as, nothing_found, with_next, noted, after};
-ghost use Rattle.sy_linear_known.specs.Sights.{is_true, is_false, is_open, all_of, any_of, opposite, told, unfit, or_else, both, turned, of_form};
+ghost use Rattle.sy_linear_known.specs.Seen.{seen_as, nothing_found, with_next, node_noted, after_bound};
+ghost use Rattle.sy_linear_known.specs.Sights.{is_true, is_false, is_open, all_of, any_of, sight_opposite, told, unfit, or_else, both_nodes, turned, of_form};
 
 use crate::path::Test;
 use std::alloc::Global;
@@ -143,7 +143,7 @@ pub(crate) fn any_of(sights: &[Sight]) -> Sight
 
 /// What is told of the negation.
 fn opposite(sight: &Sight) -> Sight
-    ensures { result ≡ opposite sight.now }
+    ensures { result ≡ sight_opposite sight.now }
 {
     match sight {
         Sight::Settled(truth) => Sight::Settled(!*truth),
@@ -209,7 +209,7 @@ impl Node {
 
     /// Both, this one before the other.
     pub(crate) fn both(self, other: Node) -> Node
-        ensures { result ≡ both self other }
+        ensures { result ≡ both_nodes self other }
     {
         Node {
             sight: both_of(&self.sight, &other.sight),
@@ -244,7 +244,7 @@ impl Seen {
 
     /// What is found at the node of this number and below it.
     pub(crate) fn noted(at: u32, node: Node, below: Found) -> Seen
-        ensures { result ≡ noted at node below }
+        ensures { result ≡ node_noted at node below }
     {
         let misfit = if node.fits { None } else { Some(at) };
         Seen {
@@ -256,7 +256,7 @@ impl Seen {
 
     /// What is found in bound terms and then in the term that they are bound in.
     pub(crate) fn after(below: Found, inner: Seen) -> Seen
-        ensures { result ≡ after below inner }
+        ensures { result ≡ after_bound below inner }
     {
         Seen {
             sight: inner.sight,

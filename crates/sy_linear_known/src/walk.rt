@@ -64,7 +64,7 @@ fn variable(alloc: Global, vars: &[Sort], names: &[Sight], number: u32) -> Resul
 
 /// Whether the operator chooses between branches.
 fn is_choice(operator: &Op) -> bool
-    ensures { result ≡ spec.is_choice operator.now }
+    ensures { result ≡ spec.is_ite operator.now }
 {
     matches!(operator, Op::Ite)
 }

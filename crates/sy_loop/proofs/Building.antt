@@ -26,7 +26,7 @@ use Rattle.sy_bank_rows.specs.Banks.{Entry, Lost, Merged, IsDropped, IsKept}
 use Rattle.sy_bank_rows.specs.Columns.{HasRow}
 use Rattle.sy_bank_rows.specs.Rows.{ArePointsOf}
 use Rattle.sy_bank.specs.Bank.{merged_of}
-use Rattle.sy_bank.specs.Promised.{IsBank, IsWhole, IsFull}
+use Rattle.sy_bank.specs.Promised.{IsBank, BankIsWhole, BankIsFull}
 use Rattle.sy_bank.specs.declared.bank.Bank.{Bank}
 use Rattle.sy_bank.specs.declared.bank.BankEnd.{BankEnd}
 use Rattle.sy_bank.specs.declared.bank.BankEnd.TheVariants as ends
@@ -39,8 +39,8 @@ use Rattle.sy_loop_bounds.specs.declared.reach.Reach.{Reach}
 use Rattle.sy_loop_history.specs.Budgets.{BankMet, MemberLeaves}
 use Rattle.sy_loop_candidate.specs.Known.{IsKnown}
 use Rattle.sy_loop_candidate.proofs.Items.{has_place}
-use Rattle.sy_loop.specs.Banks.{IsBankOf, IsWholeOf, IsFullOf, AreBanks, AreBuilt, IsFullBank, AreCarried}
-use Rattle.sy_loop_outcome.specs.Right.{Leaves}
+use Rattle.sy_loop.specs.Banks.{IsBankOf, IsWholeOf, IsFullOf, AreBanks, BanksAreBuilt, IsFullBank, AreCarried}
+use Rattle.sy_loop_outcome.specs.Right.{HasLeftRange}
 use Rattle.sy_loop_outcome.specs.declared.outcome.LoopRange.{LoopRange}
 use Rattle.sy_loop_outcome.specs.declared.outcome.LoopRange.TheVariants.{Member, Checked}
 use Rattle.sy_bank_rows.specs.Stored.{lost_of}
@@ -117,11 +117,11 @@ bank_of number problem limits asked level function wanted tuples bank at is buil
 }
 
 pub whole_of : {T N : Type 0} (number : N → Val) (problem : Problem T N) (function : ℕ) (wanted : Wanted T N) (bank : Merged) → slice_get problem.wanted function ≡ Some wanted →
-    IsWhole (syntax_from number wanted.grammar) (functions (bodies number problem.defs)) (vals_of number problem.pool) bank → IsWholeOf (question_of number problem) function bank
+    BankIsWhole (syntax_from number wanted.grammar) (functions (bodies number problem.defs)) (vals_of number problem.pool) bank → IsWholeOf (question_of number problem) function bank
 whole_of number problem function wanted bank at whole = record { goal = goal_of number wanted; at = goal_at number problem function wanted at; whole = whole }
 
 pub full_of : {T N : Type 0} (number : N → Val) (problem : Problem T N) (limits : Limits) (function : ℕ) (wanted : Wanted T N) (bank : Merged) (nonterminal : ℕ) (next : Entry) → slice_get problem.wanted function ≡ Some wanted →
-    IsFull (syntax_from number wanted.grammar) (functions (bodies number problem.defs)) (vals_of number problem.pool) limits.bank bank nonterminal next → IsFullOf (question_of number problem) limits function bank nonterminal next
+    BankIsFull (syntax_from number wanted.grammar) (functions (bodies number problem.defs)) (vals_of number problem.pool) limits.bank bank nonterminal next → IsFullOf (question_of number problem) limits function bank nonterminal next
 full_of number problem limits function wanted bank nonterminal next at full = record { goal = goal_of number wanted; at = goal_at number problem function wanted at; full = full }
 
 from_map : {A B : Type 0} (f : A → B) (xs : List A) (k : ℕ) (y : B) → slice_get (map f xs) k ≡ Some y → (x : A) × (slice_get xs k ≡ Some x) × (f x ≡ y)
@@ -159,7 +159,7 @@ pub bank_met : (reach : Reach) (question : Question) (limits : Limits) (history 
 bank_met reach question limits history asked level function bank nonterminal next known room opened of full =
     let same_goal : Some full.goal ≡ Some of.goal = sym full.at ∙ of.at in
     let goal : full.goal ≡ of.goal = cc in
-    let is : IsFull of.goal.grammar (functions question.definitions) question.pool limits.bank bank nonterminal next = subst (λ (g : Goal). IsFull g.grammar (functions question.definitions) question.pool limits.bank bank nonterminal next) goal full.full in
+    let is : BankIsFull of.goal.grammar (functions question.definitions) question.pool limits.bank bank nonterminal next = subst (λ (g : Goal). BankIsFull g.grammar (functions question.definitions) question.pool limits.bank bank nonterminal next) goal full.full in
     record {
       honest = known.honest;
       room = room;
@@ -199,11 +199,11 @@ member_leaves reach question limits history asked level function bank lost tuple
 -- a bank that is full
 pub built_full : {T N : Type 0} (number : N → Val) (problem : Problem T N) (limits : Limits) (asked : Asked) (level function : ℕ) (wanted : Wanted T N) (tuples : List (List Val)) (end : BankEnd T N) (banks : Banks T N) → slice_get problem.wanted function ≡ Some wanted → of_function asked function ≡ tuples →
     OnBank number (Err end) (IsBank (syntax_from number wanted.grammar) (functions (bodies number problem.defs)) (vals_of number problem.pool) tuples level limits.bank) →
-    IfFull number (Err end) (IsFull (syntax_from number wanted.grammar) (functions (bodies number problem.defs)) (vals_of number problem.pool) limits.bank) →
-    IsFullBank function end banks → AreBuilt number (question_of number problem) limits asked level banks
+    IfFull number (Err end) (BankIsFull (syntax_from number wanted.grammar) (functions (bodies number problem.defs)) (vals_of number problem.pool) limits.bank) →
+    IsFullBank function end banks → BanksAreBuilt number (question_of number problem) limits asked level banks
 built_full number problem limits asked level function wanted tuples ends.Want banks at is bank full made = absurd made
 built_full number problem limits asked level function wanted tuples (ends.Full found nonterminal next) banks at is bank full made =
-    subst (AreBuilt number (question_of number problem) limits asked level) (sym made)
+    subst (BanksAreBuilt number (question_of number problem) limits asked level) (sym made)
     (bank_of number problem limits asked level function wanted tuples (merged_of number found) at is bank, full_of number problem limits function wanted (merged_of number found) nonterminal (entry_of number next) at full)
 
 -- a dropped term was dropped at one of the points
@@ -216,7 +216,7 @@ placed question limits asked level function bank of = at bank.dropped of.is.lost
 
 -- it is the cause
 pub dropped_leaves : {T N : Type 0} (number : N → Val) (reach : Reach) (question : Question) (limits : Limits) (history : List Counterexample) (asked : Asked) (level function : ℕ) (bank : Merged) (left : LoopRange T N) → IsKnown reach question limits history asked → length history < limits.rounds →
-    IsOpenNumber reach question limits.size history level → IsBankOf question limits asked level function bank → IsDroppedBy number function bank left → Leaves number reach question limits history left
+    IsOpenNumber reach question limits.size history level → IsBankOf question limits asked level function bank → IsDroppedBy number function bank left → HasLeftRange number reach question limits history left
 dropped_leaves number reach question limits history asked level function bank (Checked bodies assignment) known room opened of by = absurd by
 dropped_leaves number reach question limits history asked level function bank (Member other term tuple) known room opened of by =
     let leaves = member_leaves reach question limits history asked level function bank by.0 (vals_of number tuple) known room opened of by.1 by.4 in

@@ -11,7 +11,7 @@ use Rattle.sy_grammar_base.specs.Grown.{syntax_from}
 use Rattle.sy_grammar_base.specs.declared.problem.Problem.{Problem}
 use Rattle.sy_grammar_base.specs.declared.problem.Wanted.{Wanted}
 use Rattle.sy_query_limits.specs.declared.Limits.{Limits}
-use Rattle.sy_bank.specs.Answers.{IsBuilt}
+use Rattle.sy_bank.specs.Answers.{BankIsBuilt}
 use Rattle.sy_bank.specs.Bank.{merged_of}
 use Rattle.sy_bank.specs.Promised.{IsBank}
 use Rattle.sy_bank.specs.declared.bank.Bank.{Bank}
@@ -68,7 +68,7 @@ none_carried owned number problem limits level function wanted bank at here = ab
 
 -- a bank as it was built or grown may be carried
 pub bank_carried : {T N : Type 0} (owned : Op → Bool) (number : N → Val) (problem : Problem T N) (limits : Limits) (level : ℕ) (wanted : Wanted T N) (points : List (List Val)) (bank : Bank T N) →
-    IsBuilt number (scope_of owned problem.defs) (syntax_from number wanted.grammar) (functions (bodies number problem.defs)) (vals_of number problem.pool) bank →
+    BankIsBuilt number (scope_of owned problem.defs) (syntax_from number wanted.grammar) (functions (bodies number problem.defs)) (vals_of number problem.pool) bank →
     IsBank (syntax_from number wanted.grammar) (functions (bodies number problem.defs)) (vals_of number problem.pool) points level limits.bank (merged_of number bank) → IsCarried owned number problem wanted limits level bank
 bank_carried owned number problem limits level wanted points bank built is = record { built = built; small = omega (arith, is.up); few = is.within }
 

@@ -24,10 +24,10 @@ use Rattle.sy_bank_rows.specs.declared.kept.Kept.{Kept}
 use Rattle.sy_bank.specs.Bank.{merged_of}
 use Rattle.sy_bank.specs.declared.bank.Bank.{Bank}
 use Rattle.sy_loop_candidate.proofs.Items.{all_at}
-use Rattle.sy_loop.specs.Levels.{AreHonest, SumTo, HaveRows, IsBegun, AreChoices}
+use Rattle.sy_loop.specs.Levels.{AreHonest, BodiesSumTo, BodiesHaveRows, BodiesAreBegun, AreChoices}
 
-begin_more : (pool : List Val) (goals : List Goal) (bodies : List Expr) (goal : Goal) (term : Expr) (tree : Tree) (total size : ℕ) → SumTo pool goals bodies total → slice_get goals (length bodies) ≡ Some goal → Derives goal.grammar 0 tree term →
-    tree_size goal.grammar pool 0 tree ≡ size → SumTo pool goals (bodies ++ term ∷ []) (total + size)
+begin_more : (pool : List Val) (goals : List Goal) (bodies : List Expr) (goal : Goal) (term : Expr) (tree : Tree) (total size : ℕ) → BodiesSumTo pool goals bodies total → slice_get goals (length bodies) ≡ Some goal → Derives goal.grammar 0 tree term →
+    tree_size goal.grammar pool 0 tree ≡ size → BodiesSumTo pool goals (bodies ++ term ∷ []) (total + size)
 begin_more pool [] [] goal term tree total size sum at derives sized = absurd (cc)
 begin_more pool (g ∷ goals) [] goal term tree total size sum at derives sized =
     let same : g ≡ goal = cc in
@@ -39,7 +39,7 @@ begin_more pool (g ∷ goals) (body ∷ bodies) goal term tree total size sum at
     (sum.0, sum.1 + size, sum.2, begin_more pool goals bodies goal term tree sum.1 size sum.3 at derives sized, omega (arith, sum.4))
 
 -- bodies of all functions
-pub all_begun : (pool : List Val) (n : ℕ) (goals : List Goal) (bodies : List Expr) (total : ℕ) → SumTo pool goals bodies total → length bodies ≡ length goals → total ≤ n → AreWithin pool n goals bodies
+pub all_begun : (pool : List Val) (n : ℕ) (goals : List Goal) (bodies : List Expr) (total : ℕ) → BodiesSumTo pool goals bodies total → length bodies ≡ length goals → total ≤ n → AreWithin pool n goals bodies
 all_begun pool n [] [] total sum same small = tt
 all_begun pool n [] (body ∷ bodies) total sum same small = absurd sum
 all_begun pool n (goal ∷ goals) [] total sum same small = absurd (omega (arith, same))
@@ -68,8 +68,8 @@ pub terms_length : (entries : List Entry) → length (terms entries) ≡ length 
 terms_length [] = refl
 terms_length (e ∷ entries) = ap suc (terms_length entries)
 
-rows_more : (scope : Scope) (question : Question) (asked : Asked) (chosen : List Entry) (entry : Entry) → HaveRows scope question asked chosen → HasRow scope (functions question.definitions) (of_function asked (length chosen)) entry.term entry.row →
-    HaveRows scope question asked (chosen ++ entry ∷ [])
+rows_more : (scope : Scope) (question : Question) (asked : Asked) (chosen : List Entry) (entry : Entry) → BodiesHaveRows scope question asked chosen → HasRow scope (functions question.definitions) (of_function asked (length chosen)) entry.term entry.row →
+    BodiesHaveRows scope question asked (chosen ++ entry ∷ [])
 rows_more scope question asked chosen entry rows last function e at = ⊎_elim
     (λ (old : slice_get chosen function ≡ Some e). rows function e old)
     (λ (new : (function ≡ length chosen) × (entry ≡ e)).
@@ -78,16 +78,16 @@ rows_more scope question asked chosen entry rows last function e at = ⊎_elim
 
 -- a kept term of the next function's start symbol may be the next body
 choices : (scope : Scope) (question : Question) (asked : Asked) (size : ℕ) (banks : List Merged) (chosen : List Entry) (bank : Merged) (kept : List Entry) (own rest left : ℕ) → AreHonest scope question asked banks → slice_get banks (length chosen) ≡ Some bank → kept ≡ kept_at bank.levels 0 own →
-    IsBegun scope question asked size chosen left → own + rest ≡ left → AreChoices scope question asked size chosen kept rest
+    BodiesAreBegun scope question asked size chosen left → own + rest ≡ left → AreChoices scope question asked size chosen kept rest
 choices scope question asked size banks chosen bank kept own rest left honest at is begun split =
     let of = honest.each (length chosen) bank at in
-    all_from_at (λ (entry : Entry). IsBegun scope question asked size (chosen ++ entry ∷ []) rest) kept (λ k entry place.
+    all_from_at (λ (entry : Entry). BodiesAreBegun scope question asked size (chosen ++ entry ∷ []) rest) kept (λ k entry place.
     let place' : slice_get (kept_at bank.levels 0 own) k ≡ Some entry = subst (λ all. slice_get all k ≡ Some entry) is place in
     let sound = of.honest.each 0 own k entry place' in
     let goal : slice_get question.goals (length (terms chosen)) ≡ Some of.goal = subst (λ n. slice_get question.goals n ≡ Some of.goal) (sym (terms_length chosen)) of.at in
     record {
       total = begun.total + own;
-      sum = subst (λ bodies. SumTo question.pool question.goals bodies (begun.total + own)) (sym (terms_push chosen entry))
+      sum = subst (λ bodies. BodiesSumTo question.pool question.goals bodies (begun.total + own)) (sym (terms_push chosen entry))
           (begin_more question.pool question.goals (terms chosen) of.goal entry.term entry.tree begun.total own begun.sum goal sound.1.derives (sound.1.sized ∙ sound.0));
       within = omega (arith, begun.within, split);
       rows = rows_more scope question asked chosen entry begun.rows
@@ -95,7 +95,7 @@ choices scope question asked size banks chosen bank kept own rest left honest at
     })
 
 -- nothing is chosen yet
-pub nothing_chosen : (scope : Scope) (question : Question) (asked : Asked) (size level : ℕ) → level ≤ size → IsBegun scope question asked size [] level
+pub nothing_chosen : (scope : Scope) (question : Question) (asked : Asked) (size level : ℕ) → level ≤ size → BodiesAreBegun scope question asked size [] level
 nothing_chosen scope question asked size level small = record { total = 0; sum = refl; within = omega (arith, small); rows = λ function entry at. absurd (cc) }
 
 -- one kept term is chosen after the others
@@ -115,10 +115,10 @@ next_length initial before after x same pushed = omega (arith, ap length pushed,
 
 -- one body more
 pub next_begun : {T N : Type 0} (number : N → Val) (scope : Scope) (question : Question) (asked : Asked) (size left : ℕ) (initial before after : List (Bor (Kept T N))) (kept : List (Kept T N)) (index : ℕ) (choice : Bor (Kept T N)) →
-    AreChoices scope question asked size (chosen_of number initial) (entries_of number kept) left → before ≡ initial → after ≡ before ++ choice ∷ [] → index < length kept → choice.now ≡ get_or kept index choice.now → IsBegun scope question asked size (chosen_of number after) left
+    AreChoices scope question asked size (chosen_of number initial) (entries_of number kept) left → before ≡ initial → after ≡ before ++ choice ∷ [] → index < length kept → choice.now ≡ get_or kept index choice.now → BodiesAreBegun scope question asked size (chosen_of number after) left
 next_begun number scope question asked size left initial before after kept index choice choices same pushed within at =
-    let begun = all_at (λ (entry : Entry). IsBegun scope question asked size (chosen_of number initial ++ entry ∷ []) left) (entry_of number) kept index choice.now within at choices in
-    subst (λ chosen. IsBegun scope question asked size chosen left) (sym (chosen_pushed number initial before after choice same pushed)) begun
+    let begun = all_at (λ (entry : Entry). BodiesAreBegun scope question asked size (chosen_of number initial ++ entry ∷ []) left) (entry_of number) kept index choice.now within at choices in
+    subst (λ chosen. BodiesAreBegun scope question asked size chosen left) (sym (chosen_pushed number initial before after choice same pushed)) begun
 
 -- the bank at a place
 pub bank_at : {A B : Type 0} (f : A → B) (xs : List A) (k : ℕ) (x : A) → k < length xs → x ≡ get_or xs k x → slice_get (map f xs) k ≡ Some (f x)
@@ -128,7 +128,7 @@ bank_at f (y ∷ xs) (suc k) x within at = bank_at f xs k x (omega (arith, withi
 
 -- the kept terms of one size, as next bodies
 pub kept_choices : {T N : Type 0} (number : N → Val) (scope : Scope) (question : Question) (asked : Asked) (size left own rest function : ℕ) (banks : List (Bank T N)) (initial chosen : List (Bor (Kept T N))) (bank : Bank T N) (kept : List (Kept T N)) →
-    AreHonest scope question asked (map (merged_of number) banks) → IsBegun scope question asked size (chosen_of number initial) left → chosen ≡ initial → function < length banks → bank ≡ get_or banks function bank → function ≡ length initial →
+    AreHonest scope question asked (map (merged_of number) banks) → BodiesAreBegun scope question asked size (chosen_of number initial) left → chosen ≡ initial → function < length banks → bank ≡ get_or banks function bank → function ≡ length initial →
     entries_of number kept ≡ kept_at (merged_of number (get_or banks function bank)).levels 0 own → own + rest ≡ left → AreChoices scope question asked size (chosen_of number chosen) (entries_of number kept) rest
 kept_choices number scope question asked size left own rest function banks initial chosen bank kept honest begun same within at is kept_is split =
     let place : length (chosen_of number initial) ≡ function = omega (arith, is, length-map initial (λ (k : Bor (Kept _ _)). entry_of number k.now)) in
@@ -138,7 +138,7 @@ kept_choices number scope question asked size left own rest function banks initi
     (subst (λ (b : Bank _ _). entries_of number kept ≡ kept_at (merged_of number b).levels 0 own) (sym at) kept_is) begun split)
 
 -- bodies of all functions are a candidate
-pub chosen_all : {T N : Type 0} (number : N → Val) (scope : Scope) (question : Question) (asked : Asked) (size left : ℕ) (banks : List (Bank T N)) (chosen : List (Bor (Kept T N))) → AreHonest scope question asked (map (merged_of number) banks) → IsBegun scope question asked size (chosen_of number chosen) left →
+pub chosen_all : {T N : Type 0} (number : N → Val) (scope : Scope) (question : Question) (asked : Asked) (size left : ℕ) (banks : List (Bank T N)) (chosen : List (Bor (Kept T N))) → AreHonest scope question asked (map (merged_of number) banks) → BodiesAreBegun scope question asked size (chosen_of number chosen) left →
     length chosen ≡ length banks → AreWithin question.pool size question.goals (terms (chosen_of number chosen))
 chosen_all number scope question asked size left banks chosen honest begun all =
     all_begun question.pool size question.goals (terms (chosen_of number chosen)) begun.total begun.sum

@@ -19,8 +19,8 @@ use Rattle.sy_loop_laws.specs.Refuting.{AllRefuted, AllTreesViolate, AreDoneBelo
 use Rattle.sy_loop_laws.proofs.Done as done
 use Rattle.sy_loop_laws.proofs.Refuted.{next_refuted}
 use Rattle.sy_loop.specs.Banks.{AreBanks}
-use Rattle.sy_loop.specs.Dropping.{AreWhole}
-use Rattle.sy_loop.specs.Levels.{AreKept, AllAreRefuted}
+use Rattle.sy_loop.specs.Dropping.{DroppedNothing}
+use Rattle.sy_loop.specs.Levels.{AreKeptBodies, AllAreRefuted}
 use Rattle.sy_loop.specs.Trees.{TreesFollow}
 
 -- the same of what is known
@@ -38,7 +38,7 @@ same_follow reach question history history' asked asked' n banks same same' foll
 abbrev AreSized : List Merged → Type 0
 AreSized banks = (function size place : ℕ) (bank : Merged) (entry : Entry) → slice_get banks function ≡ Some bank → slice_get (kept_at bank.levels 0 size) place ≡ Some entry → entry.size ≡ size
 
-chosen_kept : (banks : List Merged) (chosen : List Entry) (total : ℕ) → AreSized banks → AreChosen banks chosen → sizes chosen ≡ total → AreKept banks (terms chosen) total
+chosen_kept : (banks : List Merged) (chosen : List Entry) (total : ℕ) → AreSized banks → AreChosen banks chosen → sizes chosen ≡ total → AreKeptBodies banks (terms chosen) total
 chosen_kept [] [] total sized kept same = sym same
 chosen_kept [] (entry ∷ chosen) total sized kept same = absurd kept
 chosen_kept (bank ∷ banks) [] total sized kept same = absurd kept
@@ -70,16 +70,16 @@ module _ (question : Question) (limits : Limits) (history : List Counterexample)
   sized : AreBanks question limits asked level banks → AreSized banks
   sized are function size place bank entry at found = ((are.each function bank at).is.honest.each 0 size place entry found).0
 
-  none_dropped : AreWhole banks → (function : ℕ) (bank : Merged) → slice_get banks function ≡ Some bank → bank.dropped ≡ None
+  none_dropped : DroppedNothing banks → (function : ℕ) (bank : Merged) → slice_get banks function ≡ Some bank → bank.dropped ≡ None
   none_dropped whole function bank at = All-contains (λ (b : Merged). b.dropped ≡ None) banks bank whole (has_place banks function bank at)
 
   -- all members of the size are refuted
-  level_refuted : (reach : Reach) → AssumptionsAskNothing question → AreBanks question limits asked level banks → AreWhole banks → AllAreRefuted question history asked [] banks level → AreDoneBelow reach question history asked level →
+  level_refuted : (reach : Reach) → AssumptionsAskNothing question → AreBanks question limits asked level banks → DroppedNothing banks → AllAreRefuted question history asked [] banks level → AreDoneBelow reach question history asked level →
       AllRefuted question history asked level
   level_refuted reach assumes are whole refuted below =
       next_refuted question history asked level banks assumes (are_covering are (none_dropped whole)) below.refuted (λ chosen kept same. refuted.each (terms chosen) (chosen_kept banks chosen level (sized are) kept same))
 
-  module _ (reach : Reach) (assumes : AssumptionsAskNothing question) (are : AreBanks question limits asked level banks) (whole : AreWhole banks) (refuted : AllAreRefuted question history asked [] banks level)
+  module _ (reach : Reach) (assumes : AssumptionsAskNothing question) (are : AreBanks question limits asked level banks) (whole : DroppedNothing banks) (refuted : AllAreRefuted question history asked [] banks level)
       (follow : TreesFollow reach question history asked level banks) (below : AreDoneBelow reach question history asked level) where
     -- and so are all conditional trees in its bound
     pub trees_done : AllTreesViolate reach question history level

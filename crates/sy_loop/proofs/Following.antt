@@ -15,16 +15,16 @@ use Rattle.sy_loop_history.specs.Histories.{Counterexample}
 use Rattle.sy_loop_laws.specs.Refuting.{AllTreesViolate}
 use Rattle.sy_loop_join.specs.Clauses.{HasNoTreesFor, IsPlanFor, IsPlannedFor}
 use Rattle.sy_loop_join.specs.Joining.{IsJoinable, TreesFollowFrom}
-use Rattle.sy_loop_join.specs.Plans.{HasNoTrees}
+use Rattle.sy_loop_join.specs.Plans.{TriesNoTrees}
 use Rattle.sy_loop_join.specs.declared.plan.Plan.{Plan}
 use Rattle.sy_loop.specs.Levels.{AreHonest}
 use Rattle.sy_loop.specs.Trees.{TreesFollow}
 
 -- where there are none
-pub none_follow : (reach : Reach) (question : Question) (history : List Counterexample) (asked : Asked) (n : ℕ) (banks : List Merged) → HasNoTrees reach question → TreesFollow reach question history asked n banks
+pub none_follow : (reach : Reach) (question : Question) (history : List Counterexample) (asked : Asked) (n : ℕ) (banks : List Merged) → TriesNoTrees reach question → TreesFollow reach question history asked n banks
 none_follow reach question history asked n banks none covering all = violate reach none
   where
-    violate : (r : Reach) → HasNoTrees r question → AllTreesViolate r question history n
+    violate : (r : Reach) → TriesNoTrees r question → AllTreesViolate r question history n
     violate Sizes has_none = tt
     violate Joins has_none = λ bodies joined. absurd (has_none tt n bodies joined)
     violate Beyond has_none = tt

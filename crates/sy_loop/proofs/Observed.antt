@@ -36,7 +36,7 @@ use Rattle.sy_loop_candidate.proofs.Ending.{members}
 use Rattle.sy_loop_refutation.specs.Bodies.{AreBodies}
 use Rattle.sy_loop_refutation.specs.Observing as observing
 use Rattle.sy_loop_refutation.specs.Refuting.{AreAssignments}
-use Rattle.sy_loop.specs.Levels.{HaveRows}
+use Rattle.sy_loop.specs.Levels.{BodiesHaveRows}
 
 -- members fit as bodies
 pub candidate_fits : {T N : Type 0} (owned : Op → Bool) (numeric : Sort → Bool) (number : N → Val) (problem : Problem T N) (size : ℕ) (bodies : List (Term T N)) → QuestionFits owned numeric (question_of number problem) → (numeric sorts.Int ≡ true → owned ops.Neg ≡ true) →
@@ -62,8 +62,8 @@ pub chosen_fit : {T N : Type 0} (owned : Op → Bool) (numeric : Sort → Bool) 
 chosen_fit owned numeric number problem size bodies fit negation candidate =
     all_fit owned numeric number problem negation problem.wanted bodies (problem_grammars owned numeric number problem fit) (members (question_of number problem).pool size (question_of number problem).goals bodies candidate)
 
-pub rows_are : {T N : Type 0} (owned : Op → Bool) (number : N → Val) (problem : Problem T N) (asked : Asked) (chosen : List (Bor (Kept T N))) → HaveRows (scope_of owned problem.defs) (question_of number problem) asked (chosen_of number chosen) →
-    observing.HaveRows owned number problem.defs asked chosen
+pub rows_are : {T N : Type 0} (owned : Op → Bool) (number : N → Val) (problem : Problem T N) (asked : Asked) (chosen : List (Bor (Kept T N))) → BodiesHaveRows (scope_of owned problem.defs) (question_of number problem) asked (chosen_of number chosen) →
+    observing.KeptHaveRows owned number problem.defs asked chosen
 rows_are owned number problem asked chosen rows function kept at =
     rows function (entry_of number kept.now) (slice_get-map (λ (k : Bor (Kept _ _)). entry_of number k.now) chosen function ∙ ap (option_map (λ (k : Bor (Kept _ _)). entry_of number k.now)) at)
 

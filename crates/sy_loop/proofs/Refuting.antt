@@ -18,10 +18,10 @@ use Rattle.sy_bank.specs.Bank.{merged_of}
 use Rattle.sy_bank.specs.declared.bank.Bank.{Bank}
 use Rattle.sy_loop_history.specs.Histories.{Counterexample}
 use Rattle.sy_loop_history.specs.Trials.{IsRefuted}
-use Rattle.sy_loop.specs.Levels.{AreKept, AllAreRefuted}
+use Rattle.sy_loop.specs.Levels.{AreKeptBodies, AllAreRefuted}
 use Rattle.sy_loop.proofs.Choosing.{terms_push, chosen_pushed, next_length, bank_at}
 
-none_kept : (banks : List Merged) (bodies : List Expr) (total : ℕ) → banks ≡ [] → AreKept banks bodies total → (bodies ≡ []) × (total ≡ 0)
+none_kept : (banks : List Merged) (bodies : List Expr) (total : ℕ) → banks ≡ [] → AreKeptBodies banks bodies total → (bodies ≡ []) × (total ≡ 0)
 none_kept [] [] total none kept = (refl, kept)
 none_kept [] (body ∷ bodies) total none kept = absurd kept
 none_kept (bank ∷ banks) bodies total none kept = absurd (cc)
@@ -81,7 +81,7 @@ module _ (question : Question) (history : List Counterexample) (asked : Asked) w
   }
 
   whole : (bank : Merged) (chosen : List Expr) (banks : List Merged) (left least : ℕ) (bodies : List Expr) → (least ≡ 0) ⊎ ((banks ≡ []) × (least ≡ left)) → AreRefutedBelow bank chosen banks left least (left + 1) →
-      AreKept (bank ∷ banks) bodies left → IsRefuted question history asked (chosen ++ bodies)
+      AreKeptBodies (bank ∷ banks) bodies left → IsRefuted question history asked (chosen ++ bodies)
   whole bank chosen banks left least [] from done kept = absurd kept
   whole bank chosen banks left least (body ∷ bodies) from done kept =
       let size = kept.0 in
@@ -90,7 +90,7 @@ module _ (question : Question) (history : List Counterexample) (asked : Asked) w
       let above : least ≤ size = elim from [ inl none ↦ omega (arith, none) | inr last ↦ omega (arith, last.1, kept.7, (none_kept banks bodies rest last.0 kept.6).1) ] in
       let given = done.each size kept.2 entry kept.4 above (omega (arith, kept.7)) in
       let split : rest ≡ left - size = omega (arith, kept.7) in
-      let refuted = given.each bodies (subst (AreKept banks bodies) split kept.6) in
+      let refuted = given.each bodies (subst (AreKeptBodies banks bodies) split kept.6) in
       subst (IsRefuted question history asked) (append_assoc chosen (entry.term ∷ []) bodies ∙ ap (λ b. chosen ++ b ∷ bodies) kept.5) refuted
 
   -- all sizes
@@ -99,7 +99,7 @@ module _ (question : Question) (history : List Counterexample) (asked : Asked) w
   below_whole bank chosen all n left least within at from done =
       let split : drop n all ≡ bank ∷ drop (n + 1) all = drop_more all n bank within ∙ ap (λ b. b ∷ drop (n + 1) all) (sym at) in
       let from' : (least ≡ 0) ⊎ ((drop (n + 1) all ≡ []) × (least ≡ left)) = elim from [ inl none ↦ inl none | inr last ↦ inr (drop_all (n + 1) all (omega (arith, last.0)), last.1) ] in
-      record { each = λ bodies kept. whole bank chosen (drop (n + 1) all) left least bodies from' done (subst (λ bs. AreKept bs bodies left) split kept) }
+      record { each = λ bodies kept. whole bank chosen (drop (n + 1) all) left least bodies from' done (subst (λ bs. AreKeptBodies bs bodies left) split kept) }
 
   -- one kept term more was chosen after the others
   pub next_refuted : {T N : Type 0} (number : N → Val) (initial before after : List (Bor (Kept T N))) (choice : Bor (Kept T N)) (kept : List (Kept T N)) (index : ℕ) (banks : List Merged) (left : ℕ) (history' : List Counterexample) (asked' : Asked) →

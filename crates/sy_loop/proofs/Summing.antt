@@ -7,13 +7,13 @@ use Rattle.sy_grammar_base.specs.Grown.{syntax_from}
 use Rattle.sy_grammar_base.specs.Questions.{Goal, goal_of, question_of}
 use Rattle.sy_grammar_base.specs.declared.problem.Problem.{Problem}
 use Rattle.sy_grammar_base.specs.declared.problem.Wanted.{Wanted}
-use Rattle.sy_grammar_chains.specs.Greatest.{IsSize, IsEmpty, IsLargest, IsExceeded}
+use Rattle.sy_grammar_chains.specs.Greatest.{IsSize, DerivesNothing, IsLargest, IsExceeded}
 use Rattle.sy_loop_history.specs.Sizes.{SumTo, AreAtMost}
 
 largest_least : (syntax : Syntax) (pool : List Val) (m n : ℕ) → IsLargest syntax pool m → IsLargest syntax pool n → m ≤ n
 largest_least syntax pool m n first second = ⊎_elim
     (λ (met : IsSize syntax pool 0 m). second.bounds m met)
-    (λ (none : IsEmpty syntax pool 0 × (m ≡ 0)). omega (arith, none.1))
+    (λ (none : DerivesNothing syntax pool 0 × (m ≡ 0)). omega (arith, none.1))
     first.met
 
 largest_once : (syntax : Syntax) (pool : List Val) (m n : ℕ) → IsLargest syntax pool m → IsLargest syntax pool n → m ≡ n

@@ -11,11 +11,11 @@ use Rattle.sy_grammar_base.specs.declared.problem.Problem.{Problem}
 use Rattle.sy_grammar_base.specs.declared.problem.Wanted.{Wanted}
 use Rattle.sy_query_limits.specs.declared.Limits.{Limits}
 use Rattle.sy_points.specs.Asked.{Asked, of_function}
-use Rattle.sy_bank_rows.specs.Banks.{Entry, Merged, count}
+use Rattle.sy_bank_rows.specs.Banks.{Entry, Merged, kept_count}
 use Rattle.sy_bank_rows.specs.Stored.{entry_of}
-use Rattle.sy_bank.specs.Answers.{IsBuilt}
+use Rattle.sy_bank.specs.Answers.{BankIsBuilt}
 use Rattle.sy_bank.specs.Bank.{merged_of}
-use Rattle.sy_bank.specs.Promised.{IsBank, IsWhole, IsFull}
+use Rattle.sy_bank.specs.Promised.{IsBank, BankIsWhole, BankIsFull}
 use Rattle.sy_bank.specs.declared.bank.Bank.{Bank}
 use Rattle.sy_bank.specs.declared.bank.BankEnd.{BankEnd}
 use Rattle.sy_bank.specs.declared.bank.BankEnd.TheVariants as ends
@@ -32,13 +32,13 @@ pub record IsBankOf (question : Question) (limits : Limits) (asked : Asked) (lev
 pub record IsWholeOf (question : Question) (function : ℕ) (bank : Merged) : Type 0 where
   pub goal : Goal
   pub at : slice_get question.goals function ≡ Some goal
-  pub whole : IsWhole goal.grammar (functions question.definitions) question.pool bank
+  pub whole : BankIsWhole goal.grammar (functions question.definitions) question.pool bank
 
 -- it is full, and the nonterminal has one more term
 pub record IsFullOf (question : Question) (limits : Limits) (function : ℕ) (bank : Merged) (nonterminal : ℕ) (next : Entry) : Type 0 where
   pub goal : Goal
   pub at : slice_get question.goals function ≡ Some goal
-  pub full : IsFull goal.grammar (functions question.definitions) question.pool limits.bank bank nonterminal next
+  pub full : BankIsFull goal.grammar (functions question.definitions) question.pool limits.bank bank nonterminal next
 
 -- a bank for each function to be found
 pub record AreBanks (question : Question) (limits : Limits) (asked : Asked) (level : ℕ) (banks : List Merged) : Type 0 where
@@ -47,9 +47,9 @@ pub record AreBanks (question : Question) (limits : Limits) (asked : Asked) (lev
   pub all : length banks ≡ length question.goals
 
 -- what taking them gives
-abbrev pub AreBuilt : {T N : Type 0} → (N → Val) → Question → Limits → Asked → ℕ → Banks T N → Type 0
-AreBuilt number question limits asked level (Built banks) = AreBanks question limits asked level (map (merged_of number) banks.items)
-AreBuilt number question limits asked level (Full function bank nonterminal next) =
+abbrev pub BanksAreBuilt : {T N : Type 0} → (N → Val) → Question → Limits → Asked → ℕ → Banks T N → Type 0
+BanksAreBuilt number question limits asked level (Built banks) = AreBanks question limits asked level (map (merged_of number) banks.items)
+BanksAreBuilt number question limits asked level (Full function bank nonterminal next) =
     IsBankOf question limits asked level function (merged_of number bank) × IsFullOf question limits function (merged_of number bank) nonterminal (entry_of number next)
 
 -- what is made of a bank that is full
@@ -59,9 +59,9 @@ IsFullBank function ends.Want banks = ⊥
 
 -- a bank that an earlier round left: built for the function's grammar, up to no larger size and of no more terms than it may have
 pub record IsCarried {T N : Type 0} (owned : Op → Bool) (number : N → Val) (problem : Problem T N) (wanted : Wanted T N) (limits : Limits) (level : ℕ) (bank : Bank T N) : Type 0 where
-  pub built : IsBuilt number (scope_of owned problem.defs) (syntax_from number wanted.grammar) (functions (bodies number problem.defs)) (vals_of number problem.pool) bank
+  pub built : BankIsBuilt number (scope_of owned problem.defs) (syntax_from number wanted.grammar) (functions (bodies number problem.defs)) (vals_of number problem.pool) bank
   pub small : (merged_of number bank).upto ≤ level
-  pub few : count (merged_of number bank).levels ≤ limits.bank
+  pub few : kept_count (merged_of number bank).levels ≤ limits.bank
 
 -- so each, for the function of its place
 abbrev pub AreCarried : {T N : Type 0} → (Op → Bool) → (N → Val) → Problem T N → Limits → ℕ → List (Bank T N) → Type 0

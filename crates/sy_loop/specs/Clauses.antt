@@ -19,11 +19,11 @@ use Rattle.sy_loop_history.specs.Stored.{history_of}
 use Rattle.sy_loop_candidate.specs.declared.step.Known.{Known}
 use Rattle.sy_loop_laws.specs.Refuting.{AreDoneBelow}
 use Rattle.sy_loop_outcome.specs.declared.outcome.Outcome.{Outcome}
-use Rattle.sy_loop.specs.Banks.{AreBanks, AreBuilt, IsCarried, AreCarried}
-use Rattle.sy_loop.specs.Levels.{AreHonest, IsBegun, AreChoices, HaveRows, AllAreRefuted}
+use Rattle.sy_loop.specs.Banks.{AreBanks, BanksAreBuilt, IsCarried, AreCarried}
+use Rattle.sy_loop.specs.Levels.{AreHonest, BodiesAreBegun, AreChoices, BodiesHaveRows, AllAreRefuted}
 use Rattle.sy_loop.specs.Least.{FindsLeast}
 use Rattle.sy_loop.specs.Trees.{TreesFollow}
-use Rattle.sy_loop.specs.Rounds.{AreDone, Carries, EndsLeast, Follows, Rounds}
+use Rattle.sy_loop.specs.Rounds.{LesserAreDone, Carries, EndsLeast, LevelFollows, Rounds}
 use Rattle.sy_loop.specs.declared.banks.Banks.{Banks}
 use Rattle.sy_loop.specs.declared.round.Round.{Round}
 
@@ -32,10 +32,10 @@ module _ {T N : Type 0} (theory : TheoryOf T N) (problem : Problem T N) where
   AreHonestFor points banks = AreHonest (scope_of theory.owned problem.defs) (question_of theory.denotes problem) points (map (merged_of theory.denotes) banks)
 
   abbrev pub HaveRowsFor : Asked → List Entry → Type 0
-  HaveRowsFor = HaveRows (scope_of theory.owned problem.defs) (question_of theory.denotes problem)
+  HaveRowsFor = BodiesHaveRows (scope_of theory.owned problem.defs) (question_of theory.denotes problem)
 
   abbrev pub IsBegunFor : Asked → ℕ → List Entry → ℕ → Type 0
-  IsBegunFor = IsBegun (scope_of theory.owned problem.defs) (question_of theory.denotes problem)
+  IsBegunFor = BodiesAreBegun (scope_of theory.owned problem.defs) (question_of theory.denotes problem)
 
   abbrev pub AreChoicesFor : Asked → ℕ → List Entry → List Entry → ℕ → Type 0
   AreChoicesFor = AreChoices (scope_of theory.owned problem.defs) (question_of theory.denotes problem)
@@ -52,7 +52,7 @@ module _ {T N : Type 0} (theory : TheoryOf T N) (problem : Problem T N) (limits 
   AreBanksFor points level banks = AreBanks (question_of theory.denotes problem) limits points level (map (merged_of theory.denotes) banks)
 
   abbrev pub AreBuiltFor : Asked → ℕ → Banks T N → Type 0
-  AreBuiltFor = AreBuilt theory.denotes (question_of theory.denotes problem) limits
+  AreBuiltFor = BanksAreBuilt theory.denotes (question_of theory.denotes problem) limits
 
   abbrev pub AreCarriedFor : ℕ → List (Bank T N) → Type 0
   AreCarriedFor = AreCarried theory.owned theory.denotes problem limits
@@ -69,7 +69,7 @@ module _ {T N : Type 0} (theory : TheoryOf T N) (reach : Reach) (problem : Probl
   AreDoneBelowFor known = AreDoneBelow reach (question_of theory.denotes problem) (history_of theory.denotes known.stored) known.points
 
   abbrev pub AreDoneFor : {P S : Type 0} → Round T P S N → Type 0
-  AreDoneFor = AreDone theory.denotes reach (question_of theory.denotes problem)
+  AreDoneFor = LesserAreDone theory.denotes reach (question_of theory.denotes problem)
 
   abbrev pub TreesFollowFor : Known T N → ℕ → List (Bank T N) → Type 0
   TreesFollowFor known level banks =
@@ -85,8 +85,8 @@ module _ {T N : Type 0} (theory : TheoryOf T N) (reach : Reach) (problem : Probl
   abbrev pub IsUnsolvedFor : Type 0
   IsUnsolvedFor = NoSolutionWithin reach (question_of theory.denotes problem) limits.size
 
-  abbrev pub FollowsFor : {P S : Type 0} → ℕ → Round T P S N → Type 0
-  FollowsFor = Follows theory.denotes reach (question_of theory.denotes problem) limits
+  abbrev pub LevelFollowsFor : {P S : Type 0} → ℕ → Round T P S N → Type 0
+  LevelFollowsFor = LevelFollows theory.denotes reach (question_of theory.denotes problem) limits
 
 module _ {T N D P S : Type 0} (theory : TheoryOf T N) (solver : DecideOf D T P S N) (reach : Reach) (problem : Problem T N) (limits : Limits) where
   abbrev pub RoundsFor : Known T N → ℕ → Round T P S N → Type 0

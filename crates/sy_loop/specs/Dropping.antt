@@ -7,8 +7,8 @@ use Rattle.sy_loop_outcome.specs.declared.outcome.LoopRange.{LoopRange}
 use Rattle.sy_loop_outcome.specs.declared.outcome.LoopRange.TheVariants.{Member, Checked}
 
 -- banks that dropped nothing
-abbrev pub AreWhole : List Merged → Type 0
-AreWhole banks = All (λ (bank : Merged). bank.dropped ≡ None) banks
+abbrev pub DroppedNothing : List Merged → Type 0
+DroppedNothing banks = All (λ (bank : Merged). bank.dropped ≡ None) banks
 
 -- a term that was dropped was so at one of the points
 abbrev pub IsPlaced : Merged → Type 0

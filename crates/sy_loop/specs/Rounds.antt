@@ -17,7 +17,7 @@ use Rattle.sy_loop_outcome.specs.Right.{IsRight}
 use Rattle.sy_loop_candidate.specs.Known.{IsKnown, left}
 use Rattle.sy_loop_laws.specs.Refuting.{AllTreesViolate, AreDoneBelow}
 use Rattle.sy_loop.specs.Banks.{AreBanks, AreCarried}
-use Rattle.sy_loop.specs.Dropping.{AreWhole}
+use Rattle.sy_loop.specs.Dropping.{DroppedNothing}
 use Rattle.sy_loop.specs.Least.{FindsLeast}
 use Rattle.sy_loop.specs.Levels.{AllAreRefuted}
 use Rattle.sy_loop.specs.declared.round.Round.{Round}
@@ -37,10 +37,10 @@ Rounds owned number accepted budget shows reach question limits history asked le
 
 -- the next size follows: the banks dropped nothing, and what is known refutes all bodies of kept terms of them whose sizes
 -- sum to this one, and all conditional trees in its bound
-pub record IsDone (reach : Reach) (question : Question) (limits : Limits) (history : List Counterexample) (asked : Asked) (level : ℕ) (banks : List Merged) (next : ℕ) : Type 0 where
+pub record LevelIsDone (reach : Reach) (question : Question) (limits : Limits) (history : List Counterexample) (asked : Asked) (level : ℕ) (banks : List Merged) (next : ℕ) : Type 0 where
   pub one_more : next ≡ level + 1
   pub are : AreBanks question limits asked level banks
-  pub whole : AreWhole banks
+  pub whole : DroppedNothing banks
   pub refuted : AllAreRefuted question history asked [] banks level
   pub trees : AllTreesViolate reach question history level
 
@@ -50,14 +50,14 @@ Carries owned number problem limits (Goes known banks next) = AreCarried owned n
 Carries owned number problem limits (Ends outcome) = Unit {0}
 
 -- the same size follows, or it is done
-abbrev pub Follows : {T P S N : Type 0} → (N → Val) → Reach → Question → Limits → ℕ → Round T P S N → Type 0
-Follows number reach question limits level (Goes known banks next) = (next ≡ level) ⊎ IsDone reach question limits (history_of number known.stored) known.points level (map (merged_of number) banks.items) next
-Follows number reach question limits level (Ends outcome) = Unit {0}
+abbrev pub LevelFollows : {T P S N : Type 0} → (N → Val) → Reach → Question → Limits → ℕ → Round T P S N → Type 0
+LevelFollows number reach question limits level (Goes known banks next) = (next ≡ level) ⊎ LevelIsDone reach question limits (history_of number known.stored) known.points level (map (merged_of number) banks.items) next
+LevelFollows number reach question limits level (Ends outcome) = Unit {0}
 
 -- all sizes before the one with which the search goes on are done
-abbrev pub AreDone : {T P S N : Type 0} → (N → Val) → Reach → Question → Round T P S N → Type 0
-AreDone number reach question (Goes known banks next) = AreDoneBelow reach question (history_of number known.stored) known.points next
-AreDone number reach question (Ends outcome) = Unit {0}
+abbrev pub LesserAreDone : {T P S N : Type 0} → (N → Val) → Reach → Question → Round T P S N → Type 0
+LesserAreDone number reach question (Goes known banks next) = AreDoneBelow reach question (history_of number known.stored) known.points next
+LesserAreDone number reach question (Ends outcome) = Unit {0}
 
 -- a search that ends with a solution ends with one of the least bound
 abbrev pub EndsLeast : {T P S N : Type 0} → (N → Val) → Reach → Question → Round T P S N → Type 0

@@ -6,9 +6,9 @@ ghost use Rattle.sy_terms.specs.Meaning.{functions};
 ghost use Rattle.sy_grammar_base.specs.Formed.{is_formed};
 ghost use Rattle.sy_grammar_base.specs.Grown.{syntax_from};
 ghost use Rattle.sy_bank_rows.specs.Rows.{ArePointsOf};
-ghost use Rattle.sy_bank.specs.Answers.{OnBank, IfFull, IsBuilt};
+ghost use Rattle.sy_bank.specs.Answers.{OnBank, IfFull, BankIsBuilt};
 ghost use Rattle.sy_bank.specs.Bank.{merged_of};
-ghost use Rattle.sy_bank.specs.Promised.{IsBank, IsWhole, IsFull};
+ghost use Rattle.sy_bank.specs.Promised.{IsBank, BankIsWhole, BankIsFull};
 ghost use Rattle.sy_loop.specs.Banks.{IsFullBank, OnBanks};
 ghost use Rattle.sy_grammar_base.specs.Fits.{ProblemFits};
 ghost use Rattle.sy_loop_candidate.specs.Clauses.{IsKnownFor};
@@ -85,9 +85,9 @@ fn take_bank<T: Theory>(
     requires points { ArePointsOf wanted.now.grammar.args (map (vals_of T.denotes) points.now) }
     requires carried { IfSome carried (IsCarriedFor T.Theory problem.now wanted.now limits.now level) }
     ensures bank { OnBank T.denotes result (IsBank (syntax_from T.denotes wanted.now.grammar) (functions (bodies T.denotes problem.now.defs)) (vals_of T.denotes problem.now.pool) (map (vals_of T.denotes) points.now) level limits.now.bank) }
-    ensures whole { IfOk result (λ bank. IsWhole (syntax_from T.denotes wanted.now.grammar) (functions (bodies T.denotes problem.now.defs)) (vals_of T.denotes problem.now.pool) (merged_of T.denotes bank)) }
-    ensures full { IfFull T.denotes result (IsFull (syntax_from T.denotes wanted.now.grammar) (functions (bodies T.denotes problem.now.defs)) (vals_of T.denotes problem.now.pool) limits.now.bank) }
-    ensures built { IfOk result (IsBuilt T.denotes (scope_of T.owned problem.now.defs) (syntax_from T.denotes wanted.now.grammar) (functions (bodies T.denotes problem.now.defs)) (vals_of T.denotes problem.now.pool)) }
+    ensures whole { IfOk result (λ bank. BankIsWhole (syntax_from T.denotes wanted.now.grammar) (functions (bodies T.denotes problem.now.defs)) (vals_of T.denotes problem.now.pool) (merged_of T.denotes bank)) }
+    ensures full { IfFull T.denotes result (BankIsFull (syntax_from T.denotes wanted.now.grammar) (functions (bodies T.denotes problem.now.defs)) (vals_of T.denotes problem.now.pool) limits.now.bank) }
+    ensures built { IfOk result (BankIsBuilt T.denotes (scope_of T.owned problem.now.defs) (syntax_from T.denotes wanted.now.grammar) (functions (bodies T.denotes problem.now.defs)) (vals_of T.denotes problem.now.pool)) }
 {
     if let Some(bank) = carried {
         if bank.overflow().is_none() && are_same::<T>(bank.points(), points.as_slice()) {

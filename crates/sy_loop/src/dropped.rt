@@ -1,7 +1,7 @@
 // Terms that banks dropped.
 ghost use Rattle.std.specs.Prelude.{◌≡◌, ◌<◌, length, map, IfOk, MatchOption, None};
 ghost use Rattle.sy_bank.specs.Bank.{merged_of};
-ghost use Rattle.sy_loop.specs.Dropping.{AreWhole, IsPlaced, IsDroppedBy};
+ghost use Rattle.sy_loop.specs.Dropping.{DroppedNothing, IsPlaced, IsDroppedBy};
 ghost use Rattle.sy_loop_candidate.specs.Clauses.{IsKnownFor};
 ghost use Rattle.sy_loop_outcome.specs.Right.{LeavesFor};
 ghost use Rattle.sy_loop.specs.Clauses.{AreBanksFor};
@@ -32,7 +32,7 @@ pub(crate) fn dropped_term<T: Theory>(
     requires room { length known.now.stored.items < limits.now.rounds }
     requires opened { IsOpenFor T.Theory reach problem.now limits.now known.now level }
     requires known { IsKnownFor T.Theory reach problem.now limits.now known.now }
-    ensures { IfOk result (λ found. MatchOption found (AreWhole (map (merged_of T.denotes) banks.now)) (LeavesFor T.Theory reach problem.now limits.now known.now.stored)) }
+    ensures { IfOk result (λ found. MatchOption found (DroppedNothing (map (merged_of T.denotes) banks.now)) (LeavesFor T.Theory reach problem.now limits.now known.now.stored)) }
 {
     for function in 0..functions {
         let Some(bank) = banks.get(function as usize) else {

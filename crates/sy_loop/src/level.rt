@@ -4,7 +4,7 @@ ghost use Rattle.sy_terms.specs.Denoted.{expr_of};
 ghost use Rattle.sy_bank.specs.Bank.{merged_of};
 ghost use Rattle.sy_bank_rows.specs.Covering.{terms};
 ghost use Rattle.sy_bank_rows.specs.Stored.{entry_of, entries_of, chosen_of};
-ghost use Rattle.sy_loop_candidate.specs.Traces.{Grows};
+ghost use Rattle.sy_loop_candidate.specs.Traces.{TuplesGrow};
 ghost use Rattle.sy_loop_join.specs.Going.{OnNext};
 ghost use Rattle.sy_grammar_base.specs.Fits.{ProblemFits};
 ghost use Rattle.sy_loop_candidate.specs.Clauses.{IsKnownFor, StepsFor};
@@ -166,7 +166,7 @@ fn try_chosen<T: Theory, D: Decide<T>>(
     requires known { IsKnownFor T.Theory task.now.reach task.now.problem.now task.now.limits.now known.old }
     requires room { length known.old.stored.items < task.now.limits.now.rounds }
     ensures known { OnOk result (IsKnownFor T.Theory task.now.reach task.now.problem.now task.now.limits.now known.new) }
-    ensures grows { OnOk result (Grows known.old.points known.new.points) }
+    ensures grows { OnOk result (TuplesGrow known.old.points known.new.points) }
     ensures step { IfOk result (StepsFor T.Theory D.Decide task.now.reach task.now.problem.now task.now.limits.now (terms (chosen_of T.denotes chosen.now)) known.old known.new) }
 {
     let refuted = are_refuted(

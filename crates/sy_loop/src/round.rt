@@ -6,7 +6,7 @@ ghost use Rattle.sy_loop_candidate.specs.Clauses.{IsKnownFor};
 ghost use Rattle.sy_loop_outcome.specs.Right.{IsRightFor};
 ghost use Rattle.sy_loop_bounds.specs.declared.reach.Reach.TheVariants.{Beyond};
 ghost use Rattle.sy_loop_join.specs.Clauses.{IsPlannedFor};
-ghost use Rattle.sy_loop.specs.Clauses.{AreDoneBelowFor, AreDoneFor, AreBanksFor, AreCarriedFor, CarriesFor, EndsLeastFor, FindsLeastFor, FollowsFor, RoundsFor, AllAreRefutedFor, IsUnsolvedFor, TreesFollowFor};
+ghost use Rattle.sy_loop.specs.Clauses.{AreDoneBelowFor, AreDoneFor, AreBanksFor, AreCarriedFor, CarriesFor, EndsLeastFor, FindsLeastFor, LevelFollowsFor, RoundsFor, AllAreRefutedFor, IsUnsolvedFor, TreesFollowFor};
 
 use crate::banks::{Banks, take_banks};
 use crate::dropped::dropped_term;
@@ -59,7 +59,7 @@ pub(crate) fn run_round<T: Theory, D: Decide<T>>(
     ensures round { IfOk result (RoundsFor T.Theory D.Decide reach problem.now limits.now known level) }
     ensures carries { IfOk result (CarriesFor T.Theory problem.now limits.now) }
     ensures done { IfOk result (AreDoneFor T.Theory reach problem.now) }
-    ensures follows { IfOk result (FollowsFor T.Theory reach problem.now limits.now level) }
+    ensures follows { IfOk result (LevelFollowsFor T.Theory reach problem.now limits.now level) }
     ensures least { IfOk result (EndsLeastFor T.Theory reach problem.now) }
 {
     let mut known = known;
@@ -116,7 +116,7 @@ fn after_level<T: Theory, D: Decide<T>>(
     ensures round { IfOk result (RoundsFor T.Theory D.Decide reach problem.now limits.now known level) }
     ensures carries { IfOk result (CarriesFor T.Theory problem.now limits.now) }
     ensures done { IfOk result (AreDoneFor T.Theory reach problem.now) }
-    ensures follows { IfOk result (FollowsFor T.Theory reach problem.now limits.now level) }
+    ensures follows { IfOk result (LevelFollowsFor T.Theory reach problem.now limits.now level) }
     ensures least { IfOk result (EndsLeastFor T.Theory reach problem.now) }
 {
     let all = banks.as_slice();

@@ -14,11 +14,11 @@ use Rattle.sy_points.specs.declared.stored.Stored.{Stored}
 use Rattle.sy_bank_rows.specs.Banks.{Merged}
 use Rattle.sy_loop_samples.specs.Banked.{IsOneBank}
 use Rattle.sy_loop_bounds.specs.declared.reach.Reach.TheVariants.{Joins}
-use Rattle.sy_loop_history.specs.Histories.{Counterexample, IsHonest}
+use Rattle.sy_loop_history.specs.Histories.{Counterexample, IsHonestHistory}
 use Rattle.sy_loop_history.specs.Stored.{counterexample_of, history_of}
 use Rattle.sy_loop_outcome.specs.declared.outcome.LoopRange.{LoopRange}
 use Rattle.sy_loop_outcome.specs.declared.outcome.LoopRange.TheVariants.{Member, Checked}
-use Rattle.sy_loop_outcome.specs.Right.{Leaves}
+use Rattle.sy_loop_outcome.specs.Right.{HasLeftRange}
 use Rattle.sy_loop_beyond.specs.Exceeding.{IsMet}
 use Rattle.sy_loop_samples.proofs.One.{one_goal}
 
@@ -31,7 +31,7 @@ one_bank question limits history function bank one first is = record {
 }
 
 -- assignments of an honest history are of the problem's variables
-pub honest_assigned : {T N : Type 0} (number : N → Val) (problem : Problem T N) (size rounds : ℕ) (stored : Stored T N) → IsHonest Joins (question_of number problem) size rounds (history_of number stored) →
+pub honest_assigned : {T N : Type 0} (number : N → Val) (problem : Problem T N) (size rounds : ℕ) (stored : Stored T N) → IsHonestHistory Joins (question_of number problem) size rounds (history_of number stored) →
     (place : ℕ) (pair : List (Value N) × List (Term T N)) → slice_get stored.items place ≡ Some pair → AreValues problem.vars (vals_of number pair.0)
 honest_assigned number problem size rounds stored honest place pair at =
     (honest.each place (counterexample_of number pair) (slice_get-map (counterexample_of number) stored.items place ∙ ap (option_map (counterexample_of number)) at)).values
@@ -42,7 +42,7 @@ pub stored_assigned : {T N : Type 0} (number : N → Val) (problem : Problem T N
 stored_assigned number problem limits stored function bank is = honest_assigned number problem limits.size limits.rounds stored is.met.honest
 
 -- and those after which a number left the 128 bits
-pub left_assigned : {T N : Type 0} (number : N → Val) (problem : Problem T N) (limits : Limits) (stored : Stored T N) (left : LoopRange T N) → Leaves number Joins (question_of number problem) limits (history_of number stored) left →
+pub left_assigned : {T N : Type 0} (number : N → Val) (problem : Problem T N) (limits : Limits) (stored : Stored T N) (left : LoopRange T N) → HasLeftRange number Joins (question_of number problem) limits (history_of number stored) left →
     (place : ℕ) (pair : List (Value N) × List (Term T N)) → slice_get stored.items place ≡ Some pair → AreValues problem.vars (vals_of number pair.0)
 left_assigned number problem limits stored (Member function term tuple) leaves = honest_assigned number problem limits.size limits.rounds stored leaves.honest
 left_assigned number problem limits stored (Checked bodies assignment) leaves = honest_assigned number problem limits.size limits.rounds stored leaves.honest

@@ -24,10 +24,10 @@ leaves (Leaf tree term) = 1
 leaves (Test tree term there here) = leaves there + leaves here
 
 -- the leaf that it chooses at these values of its arguments
-abbrev pub reached : List Function → List Val → Conditional → Expr
-reached defined values (Leaf tree term) = term
-reached defined values (Test tree term there here) =
-    if truth (meaning defined [] values term) then reached defined values there else reached defined values here
+abbrev pub leaf_reached : List Function → List Val → Conditional → Expr
+leaf_reached defined values (Leaf tree term) = term
+leaf_reached defined values (Test tree term there here) =
+    if truth (meaning defined [] values term) then leaf_reached defined values there else leaf_reached defined values here
 
 -- the tree derives the term from the nonterminal, and its size is at most n
 pub record IsPart (syntax : Syntax) (pool : List Val) (nonterminal n : ℕ) (tree : Tree) (term : Expr) : Type 0 where

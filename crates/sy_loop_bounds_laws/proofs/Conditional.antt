@@ -10,15 +10,15 @@ use Rattle.sy_terms.specs.declared.op.Op.TheVariants as ops
 use Rattle.sy_grammar_base.specs.Patterns as patterns
 use Rattle.sy_grammar_base.specs.Patterns.{filled, all_filled, Pattern}
 use Rattle.sy_grammar_base.specs.Trees as trees
-use Rattle.sy_grammar_base.specs.Trees.{Syntax, Tree, Node, Derives, IsDerived, IsMember, Production, Template, EachConstant, EachVariable, rule_at, template, template_at, node_yield, joined, yield_from, yields_from}
-use Rattle.sy_loop_bounds.specs.Conditional.{Conditional, Leaf, Test, yield, reached, ArePartsWithin, IsTreeRule}
+use Rattle.sy_grammar_base.specs.Trees.{Syntax, Tree, Node, Derives, IsDerived, IsMember, Production, Template, EachConstant, EachVariable, rule_at, template, template_at, node_yield, terms_joined, yield_from, yields_from}
+use Rattle.sy_loop_bounds.specs.Conditional.{Conditional, Leaf, Test, yield, leaf_reached, ArePartsWithin, IsTreeRule}
 
 -- the leaf that a conditional tree reaches has its value
-pub tree_reaches : (defined : List Function) (values : List Val) (parts : Conditional) → meaning defined [] values (yield parts) ≡ meaning defined [] values (reached defined values parts)
+pub tree_reaches : (defined : List Function) (values : List Val) (parts : Conditional) → meaning defined [] values (yield parts) ≡ meaning defined [] values (leaf_reached defined values parts)
 unfolding meaning meanings op_value
 tree_reaches defined values (Leaf tree term) = refl
 tree_reaches defined values (Test tree term there here) =
-    chosen (truth (meaning defined [] values term)) (meaning defined [] values (yield there)) (meaning defined [] values (yield here)) (reached defined values there) (reached defined values here)
+    chosen (truth (meaning defined [] values term)) (meaning defined [] values (yield there)) (meaning defined [] values (yield here)) (leaf_reached defined values there) (leaf_reached defined values here)
     (tree_reaches defined values there) (tree_reaches defined values here)
   where
     chosen : (holds : Bool) (one two : Val) (first second : Expr) → one ≡ meaning defined [] values first → two ≡ meaning defined [] values second →

@@ -11,7 +11,7 @@ use Rattle.sy_loop_bounds.specs.Applications.{applications}
 use Rattle.sy_loop_bounds.specs.WrittenOut.{written_out}
 use Rattle.sy_loop_bounds.specs.Pointwise.{IsPosed, IsPointwise}
 use Rattle.sy_loop_bounds.specs.Resting.{RestsOn, IsGoodAt, IsBadAt}
-use Rattle.sy_loop_bounds.specs.Conditional.{Conditional, yield, reached}
+use Rattle.sy_loop_bounds.specs.Conditional.{Conditional, yield, leaf_reached}
 use Rattle.sy_loop_bounds_laws.proofs.Variables.{many_values}
 use Rattle.sy_loop_bounds_laws.proofs.Resting.{rest_decides}
 use Rattle.sy_loop_bounds_laws.proofs.Conditional.{tree_reaches}
@@ -56,11 +56,11 @@ module _ (question : Question) (assignments : List (List Val)) (pointwise : IsPo
   }
 
   -- a conditional tree is good there where the leaf that it reaches is
-  pub tree_is_good : (parts : Conditional) → IsGoodAt question assignments tuple (reached (functions question.definitions) tuple parts) → IsGoodAt question assignments tuple (yield parts)
-  tree_is_good parts good = good_alike (reached (functions question.definitions) tuple parts) (yield parts) (sym (tree_reaches (functions question.definitions) tuple parts)) good
+  pub tree_is_good : (parts : Conditional) → IsGoodAt question assignments tuple (leaf_reached (functions question.definitions) tuple parts) → IsGoodAt question assignments tuple (yield parts)
+  tree_is_good parts good = good_alike (leaf_reached (functions question.definitions) tuple parts) (yield parts) (sym (tree_reaches (functions question.definitions) tuple parts)) good
 
-  pub tree_is_bad : (parts : Conditional) → IsBadAt question assignments tuple (reached (functions question.definitions) tuple parts) → IsBadAt question assignments tuple (yield parts)
-  tree_is_bad parts bad = bad_alike (reached (functions question.definitions) tuple parts) (yield parts) (sym (tree_reaches (functions question.definitions) tuple parts)) bad
+  pub tree_is_bad : (parts : Conditional) → IsBadAt question assignments tuple (leaf_reached (functions question.definitions) tuple parts) → IsBadAt question assignments tuple (yield parts)
+  tree_is_bad parts bad = bad_alike (leaf_reached (functions question.definitions) tuple parts) (yield parts) (sym (tree_reaches (functions question.definitions) tuple parts)) bad
 
 -- what is good there isn't bad there
 pub good_not_bad : (question : Question) (assignments : List (List Val)) (tuple : List Val) (body : Expr) → IsGoodAt question assignments tuple body → IsBadAt question assignments tuple body → ⊥

@@ -25,10 +25,10 @@ use Rattle.sy_loop_bounds.specs.declared.reach.Reach.{Reach}
 use Rattle.sy_loop_history.specs.Histories.{Counterexample, IsCandidate, all_asked_by, trace}
 use Rattle.sy_loop_history.proofs.Staying.{tried_in_bound}
 use Rattle.sy_loop_history.specs.Truths.{asked_by, OneLeaves}
-use Rattle.sy_loop_history.specs.Adding.{IsAsked, Gains, room}
-use Rattle.sy_loop_candidate.specs.Answers.{Adds}
+use Rattle.sy_loop_history.specs.Adding.{IsAsked, GainsTuples, room}
+use Rattle.sy_loop_candidate.specs.Answers.{AddsCalls}
 use Rattle.sy_loop_candidate.specs.Known.{IsHeld, IsKnown}
-use Rattle.sy_loop_candidate.specs.Traces.{AreCalls, Grows, Widens, IsAskedBy, MeetAll, AsksAt, IsTraced, AreTraced, IsTracedAt, LeavesAt}
+use Rattle.sy_loop_candidate.specs.Traces.{AreCalls, TuplesGrow, Widens, IsAskedBy, MeetAll, AsksAt, IsTraced, AreTraced, IsTracedAt, LeavesRangeAt}
 use Rattle.sy_loop_candidate.specs.Answers.{Tries}
 use Rattle.sy_loop_candidate.specs.declared.calls.Adding.{Adding}
 use Rattle.sy_loop_candidate.specs.declared.calls.Adding.TheVariants.{There, New, Full}
@@ -47,7 +47,7 @@ asked_by_all question bodies values terms =
 
 -- the calls of the terms so far
 pub record AreCallsOf (question : Question) (bodies : List Expr) (values : List Val) (terms : List Expr) (calls : List (ℕ × List Val)) : Type 0 where
-  pub gains : tracing.Gains [] (asked_by_all question bodies values terms) calls
+  pub gains : tracing.GainsCalls [] (asked_by_all question bodies values terms) calls
   pub taken : All (IsCallOf (wanted_of question)) (asked_by_all question bodies values terms)
 
 one_more : (defined wanted : List Function) (values : List Val) (terms : List Expr) (term : Expr) → all_asked_by defined wanted values (terms ++ term ∷ []) ≡ all_asked_by defined wanted values terms ++ asked defined wanted values term
@@ -62,7 +62,7 @@ module _ (question : Question) (bodies : List Expr) (values : List Val) where
   calls_none = record { gains = record { is = refl }; taken = All-nil (IsCallOf (wanted_of question)) }
 
   -- one term more
-  pub calls_more : (terms : List Expr) (term : Expr) (calls calls' : List (ℕ × List Val)) → AreCallsOf question bodies values terms calls → tracing.Gains calls (asked_by question bodies values term) calls' →
+  pub calls_more : (terms : List Expr) (term : Expr) (calls calls' : List (ℕ × List Val)) → AreCallsOf question bodies values terms calls → tracing.GainsCalls calls (asked_by question bodies values term) calls' →
       All (IsCallOf (wanted_of question)) (asked_by question bodies values term) → AreCallsOf question bodies values (terms ++ term ∷ []) calls'
   calls_more terms term calls calls' so_far gains taken =
       let wanted = map (function_from (functions question.definitions)) bodies in
@@ -96,7 +96,7 @@ module _ {T N : Type 0} (owned : Op → Bool) (number : N → Val) (problem : Pr
 
   pub calls_next : (items : List (Term T N)) (k : ℕ) (term : Term T N) (calls calls' : List (ℕ × List Val)) → All (IsTruth owned number problem) problem.constraints → items ≡ problem.constraints → k < length items → term ≡ get_or items k term →
       AreCallsOf (question_of number problem) (map (expr_of number) terms) values (map (expr_of number) (take k items)) calls →
-      tracing.Gains calls (asks number problem.defs terms values (expr_of number term)) calls' → AsksRightly owned number problem.defs terms values (expr_of number term) →
+      tracing.GainsCalls calls (asks number problem.defs terms values (expr_of number term)) calls' → AsksRightly owned number problem.defs terms values (expr_of number term) →
       AreCallsOf (question_of number problem) (map (expr_of number) terms) values (map (expr_of number) (take (k + 1) items)) calls'
   calls_next items k term calls calls' truths same lt at so_far gains rightly =
       let question = question_of number problem in
@@ -109,7 +109,7 @@ module _ {T N : Type 0} (owned : Op → Bool) (number : N → Val) (problem : Pr
       let more : take (k + 1) items ≡ take k items ++ term ∷ [] = take_more items k term lt ∙ ap (λ x. take k items ++ x ∷ []) (sym at) in
       subst (λ all. AreCallsOf question bodies values all calls') (sym (ap (map (expr_of number)) more ∙ map_push (expr_of number) (take k items) term))
       (calls_more question bodies values (map (expr_of number) (take k items)) (expr_of number term) calls calls' so_far
-      (subst (λ all. tracing.Gains calls all calls') is gains) (subst (All (IsCallOf (wanted_of question))) is taken))
+      (subst (λ all. tracing.GainsCalls calls all calls') is gains) (subst (All (IsCallOf (wanted_of question))) is taken))
 
   pub leaves_next : (items : List (Term T N)) (k : ℕ) (term : Term T N) → All (IsTruth owned number problem) problem.constraints → items ≡ problem.constraints → k < length items → term ≡ get_or items k term →
       can_compute number problem.defs terms values (expr_of number term) ≡ false → OneLeaves (question_of number problem) (map (expr_of number) terms) values (map (expr_of number) problem.constraints)
@@ -137,7 +137,7 @@ module _ (question : Question) (limits : Limits) (history : List Counterexample)
       omega (arith, slice_get_within (wanted_of question) function it.signature it.at, held.functions, length-map question.goals (λ (goal : Goal). goal.signature))
 
   -- what is held after they were added
-  pub held_with : (before after : Asked) → IsHeld question limits history before → Gains calls before after → IsHeld question limits history after
+  pub held_with : (before after : Asked) → IsHeld question limits history before → GainsTuples calls before after → IsHeld question limits history after
   held_with before after held gains = record {
     assigned = held.assigned;
     limit = gains.limit ∙ held.limit;
@@ -149,7 +149,7 @@ module _ (question : Question) (limits : Limits) (history : List Counterexample)
         (gains.only function tuple is);
   }
 
-  pub widened : (before after : Asked) (place : ℕ) → slice_get history place ≡ Some c → Gains calls before after → Widens question history bodies before after
+  pub widened : (before after : Asked) (place : ℕ) → slice_get history place ≡ Some c → GainsTuples calls before after → Widens question history bodies before after
   widened before after place at gains = record {
     keeps = gains.keeps;
     only = λ function tuple is. ⊎_elim
@@ -173,7 +173,7 @@ module _ (question : Question) (history : List Counterexample) (bodies : List Ex
     less = omega (arith, first.less, second.less);
   }
 
-  pub grows_by : (before after : Asked) → Widens question history bodies before after → Grows before after
+  pub grows_by : (before after : Asked) → Widens question history bodies before after → TuplesGrow before after
   grows_by before after widens = record { keeps = widens.keeps; less = widens.less }
 
   -- what is known after a candidate asked
@@ -196,15 +196,15 @@ module _ (question : Question) (history : List Counterexample) (bodies : List Ex
         (widens.only function tuple is);
   }
 
-pub grows_not : (asked : Asked) → Grows asked asked
+pub grows_not : (asked : Asked) → TuplesGrow asked asked
 grows_not asked = record { keeps = λ function tuple at. at; less = omega arith }
 
-pub grows_then : (before now after : Asked) → Grows before now → Grows now after → Grows before after
+pub grows_then : (before now after : Asked) → TuplesGrow before now → TuplesGrow now after → TuplesGrow before after
 grows_then before now after first second = record { keeps = λ function tuple at. second.keeps function tuple (first.keeps function tuple at); less = omega (arith, first.less, second.less) }
 
 -- what became of all calls of a trace
 pub asks_at : (question : Question) (history : List Counterexample) (bodies : List Expr) (c : Counterexample) (calls : List (ℕ × List Val)) (before after : Asked) (place : ℕ) (adding : Adding) → slice_get history place ≡ Some c → AreCalls question bodies c.assignment calls →
-    Adds calls before after adding → AsksAt question history bodies place before after (Some adding)
+    AddsCalls calls before after adding → AsksAt question history bodies place before after (Some adding)
 asks_at question history bodies c calls before after place There at are adds =
     (record { counterexample = c; at = at; there = λ function tuple in_trace. adds.0 function tuple (are.all (function, tuple) in_trace) }, adds.1)
 asks_at question history bodies c calls before after place New at are adds =
@@ -212,7 +212,7 @@ asks_at question history bodies c calls before after place New at are adds =
 asks_at question history bodies c calls before after place (Full function) at are adds =
     record { counterexample = c; at = at; tuple = adds.tuple; asks = are.only (function, adds.tuple) adds.of; within = adds.within; new = adds.new; full = adds.full }
 
-pub asks_leaves : (question : Question) (history : List Counterexample) (bodies : List Expr) (c : Counterexample) (place : ℕ) → slice_get history place ≡ Some c → OneLeaves question bodies c.assignment question.constraints → LeavesAt question history bodies place
+pub asks_leaves : (question : Question) (history : List Counterexample) (bodies : List Expr) (c : Counterexample) (place : ℕ) → slice_get history place ≡ Some c → OneLeaves question bodies c.assignment question.constraints → LeavesRangeAt question history bodies place
 asks_leaves question history bodies c place at one = record {
   counterexample = c;
   at = at;

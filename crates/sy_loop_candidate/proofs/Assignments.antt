@@ -16,10 +16,10 @@ use Rattle.sy_points.specs.declared.stored.Stored.{Stored}
 use Rattle.sy_loop_history.specs.Histories.{Counterexample, all_asked_by, trace}
 use Rattle.sy_loop_history.specs.Stored.{counterexample_of, history_of}
 use Rattle.sy_loop_history.specs.Truths.{IsViolated, OneLeaves}
-use Rattle.sy_loop_history.specs.Adding.{Gains}
-use Rattle.sy_loop_candidate.specs.Answers.{Adds}
+use Rattle.sy_loop_history.specs.Adding.{GainsTuples}
+use Rattle.sy_loop_candidate.specs.Answers.{AddsCalls}
 use Rattle.sy_loop_candidate.specs.Known.{IsHeld}
-use Rattle.sy_loop_candidate.specs.Traces.{LeavesAt, Widens}
+use Rattle.sy_loop_candidate.specs.Traces.{LeavesRangeAt, Widens}
 use Rattle.sy_loop_candidate.specs.Answers.{Tries, trial_of}
 use Rattle.sy_loop_candidate.specs.declared.calls.Adding.{Adding}
 use Rattle.sy_loop_candidate.specs.declared.calls.Adding.TheVariants.{There, New, Full}
@@ -55,19 +55,19 @@ module _ (question : Question) (limits : Limits) (history : List Counterexample)
       within_held question limits history bodies c calls violated.constraint.is.taken traced_at before held function tuple at
 
   -- what is held after they were added
-  pub holds : (before after : Asked) → IsHeld question limits history before → Gains calls before after → IsHeld question limits history after
+  pub holds : (before after : Asked) → IsHeld question limits history before → GainsTuples calls before after → IsHeld question limits history after
   holds before after held gains = held_with question limits history bodies c calls violated.constraint.is.taken traced_at before after held gains
 
-  pub widens : (before after : Asked) (place : ℕ) → slice_get history place ≡ Some c → Gains calls before after → Widens question history bodies before after
+  pub widens : (before after : Asked) (place : ℕ) → slice_get history place ≡ Some c → GainsTuples calls before after → Widens question history bodies before after
   widens before after place at gains = widened question limits history bodies c calls violated.constraint.is.taken traced_at before after place at gains
 
   -- what became of the bodies
-  pub tried : (before after : Asked) (place : ℕ) (adding : Adding) → slice_get history place ≡ Some c → Adds calls before after adding → Tries question history bodies before after (trial_of adding place)
+  pub tried : (before after : Asked) (place : ℕ) (adding : Adding) → slice_get history place ≡ Some c → AddsCalls calls before after adding → Tries question history bodies before after (trial_of adding place)
   tried before after place There at adds =
       (record { counterexample = c; stored = has_place history place c at; calls = calls; violated = violated; there = adds.0 }, adds.1)
   tried before after place New at adds = adds.1
   tried before after place (Full function) at adds =
       record { counterexample = c; at = at; tuple = adds.tuple; asks = traced_at (function, adds.tuple) adds.of; within = adds.within; new = adds.new; full = adds.full }
 
-pub leaves_at : (question : Question) (history : List Counterexample) (bodies : List Expr) (place : ℕ) (c : Counterexample) → slice_get history place ≡ Some c → OneLeaves question bodies c.assignment (question.assumptions ++ question.constraints) → LeavesAt question history bodies place
+pub leaves_at : (question : Question) (history : List Counterexample) (bodies : List Expr) (place : ℕ) (c : Counterexample) → slice_get history place ≡ Some c → OneLeaves question bodies c.assignment (question.assumptions ++ question.constraints) → LeavesRangeAt question history bodies place
 leaves_at question history bodies place c at leaves = record { counterexample = c; at = at; leaves = leaves }

@@ -26,7 +26,7 @@ use Rattle.sy_loop_bounds.specs.Conditional.{yield}
 use Rattle.sy_loop_bounds.specs.declared.reach.Reach.{Reach}
 use Rattle.sy_loop_bounds.specs.declared.reach.Reach.TheVariants.{Sizes, Joins, Beyond}
 use Rattle.sy_loop_bounds_laws.proofs.Conditional.{tree_is_member}
-use Rattle.sy_loop_history.specs.Histories.{Counterexample, IsCandidate, IsDue, IsFewJoined, IsNext, IsHonest, IsMet, MayTry, trace}
+use Rattle.sy_loop_history.specs.Histories.{Counterexample, IsCandidate, IsDue, IsFewJoined, IsNextCounterexample, IsHonestHistory, IsMet, MayTry, trace}
 use Rattle.sy_loop_history.proofs.Staying.{candidate_stays, met_stays}
 use Rattle.sy_loop_history.specs.Budgets as budgets
 use Rattle.sy_loop_history.specs.Budgets.{RoundsMet, PointsMet, CheckedLeaves}
@@ -34,9 +34,9 @@ use Rattle.sy_loop_history.specs.Solutions.{IsSolution}
 use Rattle.sy_loop_history.specs.Stored.{counterexample_of, history_of}
 use Rattle.sy_loop_history.specs.Adding.{room}
 use Rattle.sy_loop_candidate.specs.Known.{IsKnown}
-use Rattle.sy_loop_candidate.specs.Traces.{AsksMore, LeavesAt, IsTraced, IsTracedAt}
+use Rattle.sy_loop_candidate.specs.Traces.{AsksMore, LeavesRangeAt, IsTraced, IsTracedAt}
 use Rattle.sy_loop_history.specs.Truths.{OneLeaves}
-use Rattle.sy_loop_candidate.specs.Steps.{Steps, Follows, IsFollowed, IsTracedOrLeaves}
+use Rattle.sy_loop_candidate.specs.Steps.{Steps, StepFollows, IsFollowed, IsTracedOrLeaves}
 use Rattle.sy_terms_laws.specs.Evaluation.{BodiesFit}
 use Rattle.sy_grammar_base.specs.declared.problem.Problem.{Problem}
 use Rattle.sy_loop_candidate.specs.declared.step.Step.{Step}
@@ -122,24 +122,24 @@ before_or_last {X} (y ∷ xs) x (suc place) k e = ⊎_elim
 
 -- the history is honest and has one counterexample more, to these bodies
 pub record HasMore (reach : Reach) (question : Question) (limits : Limits) (bodies : List Expr) (before after : List Counterexample) : Type 0 where
-  pub honest : IsHonest reach question limits.size limits.rounds after
+  pub honest : IsHonestHistory reach question limits.size limits.rounds after
   pub counterexample : Counterexample
   pub is : after ≡ before ++ counterexample ∷ []
   pub refutes : counterexample.bodies ≡ bodies
 
 -- one counterexample more
-honest_more : (reach : Reach) (question : Question) (size rounds : ℕ) (history : List Counterexample) (c : Counterexample) → IsHonest reach question size rounds history → length history < rounds → IsNext reach question size history c → IsHonest reach question size rounds (history ++ c ∷ [])
+honest_more : (reach : Reach) (question : Question) (size rounds : ℕ) (history : List Counterexample) (c : Counterexample) → IsHonestHistory reach question size rounds history → length history < rounds → IsNextCounterexample reach question size history c → IsHonestHistory reach question size rounds (history ++ c ∷ [])
 honest_more reach question size rounds history c honest room next = record {
   few = omega (arith, room, length-append history (c ∷ []));
   each = λ place k at. ⊎_elim
-      (λ (old : (slice_get history place ≡ Some k) × (take place (history ++ c ∷ []) ≡ take place history)). subst (λ before. IsNext reach question size before k) (sym old.1) (honest.each place k old.0))
-      (λ (last : (c ≡ k) × (take place (history ++ c ∷ []) ≡ history)). subst (λ before. IsNext reach question size before k) (sym last.1) (subst (IsNext reach question size history) last.0 next))
+      (λ (old : (slice_get history place ≡ Some k) × (take place (history ++ c ∷ []) ≡ take place history)). subst (λ before. IsNextCounterexample reach question size before k) (sym old.1) (honest.each place k old.0))
+      (λ (last : (c ≡ k) × (take place (history ++ c ∷ []) ≡ history)). subst (λ before. IsNextCounterexample reach question size before k) (sym last.1) (subst (IsNextCounterexample reach question size history) last.0 next))
       (before_or_last history c place k at);
 }
 
 pub stored_more : {T N : Type 0} (number : N → Val) (reach : Reach) (question : Question) (limits : Limits) (before after : Stored T N) (values : List (Value N)) (terms : List (Term T N)) (query : Query) →
     after.items ≡ before.items ++ (values, terms) ∷ [] → query ≡ violating question (map (expr_of number) terms) → IsViolation question (map (expr_of number) terms) query → Satisfies query (vals_of number values) →
-    IsHonest reach question limits.size limits.rounds (history_of number before) → length before.items < limits.rounds → IsDue reach question limits.size (history_of number before) (map (expr_of number) terms) →
+    IsHonestHistory reach question limits.size limits.rounds (history_of number before) → length before.items < limits.rounds → IsDue reach question limits.size (history_of number before) (map (expr_of number) terms) →
     HasMore reach question limits (map (expr_of number) terms) (history_of number before) (history_of number after)
 stored_more {T} {N} number reach question limits before after values terms query is query_is says satisfies honest room due =
     let bodies = map (expr_of number) terms in
@@ -148,11 +148,11 @@ stored_more {T} {N} number reach question limits before after values terms query
     let says' : IsViolation question bodies (violating question bodies) = subst (IsViolation question bodies) query_is says in
     let history_is : history_of number after ≡ history_of number before ++ counterexample_of number pair ∷ [] =
     ap (map (counterexample_of number)) is ∙ map_push (counterexample_of number) before.items pair in
-    let next : IsNext reach question limits.size (history_of number before) (counterexample_of number pair) =
+    let next : IsNextCounterexample reach question limits.size (history_of number before) (counterexample_of number pair) =
     record { values = satisfies'.sorted; due = due; violates = (says' (vals_of number values) satisfies'.sorted).0 satisfies' } in
     let few : length (history_of number before) < limits.rounds = omega (arith, room, length-map before.items (counterexample_of number)) in
     record {
-      honest = subst (IsHonest reach question limits.size limits.rounds) (sym history_is) (honest_more reach question limits.size limits.rounds (history_of number before) (counterexample_of number pair) honest few next);
+      honest = subst (IsHonestHistory reach question limits.size limits.rounds) (sym history_is) (honest_more reach question limits.size limits.rounds (history_of number before) (counterexample_of number pair) honest few next);
       counterexample = counterexample_of number pair;
       is = history_is;
       refutes = refl;
@@ -190,7 +190,7 @@ rounds_more reach question limits bodies history history' n more is full = recor
 taken_first : {X : Type 0} (xs : List X) (place : ℕ) (x : X) → Contains (take place xs) x → Contains xs x
 taken_first {X} xs place x of = subst (λ (all : List X). Contains all x) (take-append-drop place xs) (Contains-append_left (take place xs) (drop place xs) x of)
 
-pub stored_candidate : (reach : Reach) (question : Question) (limits : Limits) (history : List Counterexample) (place : ℕ) (c : Counterexample) → IsHonest reach question limits.size limits.rounds history → slice_get history place ≡ Some c →
+pub stored_candidate : (reach : Reach) (question : Question) (limits : Limits) (history : List Counterexample) (place : ℕ) (c : Counterexample) → IsHonestHistory reach question limits.size limits.rounds history → slice_get history place ≡ Some c →
     IsCandidate reach question limits.size history c.bodies
 stored_candidate reach question limits history place c honest at =
     candidate_stays question (take place history) history (λ k of. taken_first history place k of) reach limits.size c.bodies (honest.each place c at).due.candidate
@@ -212,7 +212,7 @@ last_fits {T} {N} owned number problem before after values terms place pair is l
 module _ {T P S N : Type 0} (owned : Op → Bool) (number : N → Val) (accepted : Query → P → Type 0) (budget : S → FailName) (shows : Query → Limits → FailName → S → Type 0) (reach : Reach) (question : Question) (limits : Limits)
     (bodies : List Expr) (history history' : List Counterexample) (asked asked' : Asked) where
   -- what comes of a candidate that was stored
-  pub followed : (place : ℕ) (step : Step T P S N) → HasMore reach question limits bodies history history' → place ≡ length history → length history' < limits.rounds → Follows owned number accepted budget shows reach question limits place history' asked asked' step →
+  pub followed : (place : ℕ) (step : Step T P S N) → HasMore reach question limits bodies history history' → place ≡ length history → length history' < limits.rounds → StepFollows owned number accepted budget shows reach question limits place history' asked asked' step →
       Steps owned number accepted budget shows reach question limits bodies history asked history' asked' step
   followed place Next more last few follows = absurd follows
   followed place Again more last few follows =
@@ -254,8 +254,8 @@ points_met reach question limits history asked bodies function place assignment 
     )
 
 -- an assumption or a constraint leaves the range
-pub checked_leaves : (reach : Reach) (question : Question) (limits : Limits) (history : List Counterexample) (bodies : List Expr) (place : ℕ) (assignment : List Val) → IsHonest reach question limits.size limits.rounds history → length history < limits.rounds → IsCandidate reach question limits.size history bodies →
-    LeavesAt question history bodies place → option_map (λ (k : Counterexample). k.assignment) (slice_get history place) ≡ Some assignment →
+pub checked_leaves : (reach : Reach) (question : Question) (limits : Limits) (history : List Counterexample) (bodies : List Expr) (place : ℕ) (assignment : List Val) → IsHonestHistory reach question limits.size limits.rounds history → length history < limits.rounds → IsCandidate reach question limits.size history bodies →
+    LeavesRangeAt question history bodies place → option_map (λ (k : Counterexample). k.assignment) (slice_get history place) ≡ Some assignment →
     CheckedLeaves reach question limits.size limits.rounds history bodies assignment
 checked_leaves reach question limits history bodies place assignment honest room candidate at is =
     let same = assignment_is history place at.counterexample assignment at.at is in
@@ -266,7 +266,7 @@ checked_leaves reach question limits history bodies place assignment honest room
       stored = (at.counterexample, has_place history place at.counterexample at.at, same);
       term = at.leaves.term;
       asked = at.leaves.of;
-      leaves = subst (λ values. budgets.Leaves question bodies values at.leaves.term) same at.leaves.leaves;
+      leaves = subst (λ values. budgets.LeavesRange question bodies values at.leaves.term) same at.leaves.leaves;
     }
 
 same_place : (history : List Counterexample) (place : ℕ) (c k : Counterexample) → slice_get history place ≡ Some c → slice_get history place ≡ Some k → c ≡ k
@@ -281,7 +281,7 @@ followed_at question history asked place c at it = record {
 }
 
 -- they leave the range there
-pub followed_leaves : (question : Question) (history : List Counterexample) (asked : Asked) (place : ℕ) (c : Counterexample) → slice_get history place ≡ Some c → LeavesAt question history c.bodies place → IsFollowed question history asked place
+pub followed_leaves : (question : Question) (history : List Counterexample) (asked : Asked) (place : ℕ) (c : Counterexample) → slice_get history place ≡ Some c → LeavesRangeAt question history c.bodies place → IsFollowed question history asked place
 followed_leaves question history asked place c at it = record {
   counterexample = it.counterexample;
   at = it.at;

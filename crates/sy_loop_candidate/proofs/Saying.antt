@@ -13,9 +13,9 @@ use Rattle.sy_terms.specs.declared.op.Op.{Op}
 use Rattle.sy_terms.specs.declared.sort.Sort.TheVariants as sorts
 use Rattle.sy_terms.specs.declared.term.Term.{Term}
 use Rattle.sy_terms.specs.declared.term.Def.{Def}
-use Rattle.sy_terms_laws.specs.Evaluation.{BodiesFit, TermFits, FitsWith, Gives, scope_with, wanted_functions, can_compute}
+use Rattle.sy_terms_laws.specs.Evaluation.{BodiesFit, TermFits, FitsWith, GivesValue, scope_with, wanted_functions, can_compute}
 use Rattle.sy_terms_laws.specs.Asking.{asks}
-use Rattle.sy_terms_laws.specs.Tracing.{Gains}
+use Rattle.sy_terms_laws.specs.Tracing.{GainsCalls}
 use Rattle.sy_meaning.specs.Calls.{IsCallOf, AsksRightly}
 use Rattle.sy_grammar_base.specs.Questions.{Goal, Question, goal_of, question_of, signatures, wanted_signature}
 use Rattle.sy_grammar_base.specs.Solving.{AreValues, IsTrueUnder, Meets}
@@ -24,8 +24,8 @@ use Rattle.sy_grammar_base.specs.declared.problem.Wanted.{Wanted}
 use Rattle.sy_loop_history.specs.Budgets as budgets
 use Rattle.sy_loop_candidate.specs.declared.truth.Truth as answer
 use Rattle.sy_loop_candidate.specs.declared.truth.Truth.TheVariants.{True, False, Leaves}
-use Rattle.sy_loop_history.specs.Truths.{asked_by, IsFalse, IsOneFalse, OneLeaves}
-use Rattle.sy_loop_candidate.specs.Answers.{IsDecided, Says, SaysOfAll, Judges}
+use Rattle.sy_loop_history.specs.Truths.{asked_by, IsFalseByCalls, IsOneFalse, OneLeaves}
+use Rattle.sy_loop_candidate.specs.Answers.{AnswersValue, Says, SaysOfAll, JudgesBodies}
 use Rattle.sy_loop_candidate.proofs.Traced.{gained_all, gained_only}
 use Rattle.sy_grammar_base.specs.Fits.{IsTruth, wanted_of}
 
@@ -49,7 +49,7 @@ module _ {T N : Type 0} (owned : Op → Bool) (number : N → Val) (problem : Pr
   pub fits_with : FitsWith owned number problem.defs terms values (expr_of number term)
   fits_with = record { wanted = signatures problem; bodies = fit; fits = term_fits }
 
-  means : (value : Val) → Gives owned number problem.defs terms values (expr_of number term) value →
+  means : (value : Val) → GivesValue owned number problem.defs terms values (expr_of number term) value →
       value ≡ meaning (functions (bodies number problem.defs)) (map (function_from (functions (bodies number problem.defs))) (map (expr_of number) terms)) values (expr_of number term)
   means value gives =
       (gives (signatures problem) fit term_fits).meaning ∙ ap (λ fs. meaning (functions (bodies number problem.defs)) fs values (expr_of number term)) (functions_are number problem.defs terms)
@@ -62,9 +62,9 @@ module _ {T N : Type 0} (owned : Op → Bool) (number : N → Val) (problem : Pr
       subst (λ wanted. IsCallOf wanted call) (signatures_are number problem.wanted)
       (All-contains (IsCallOf (signatures problem)) (asks number problem.defs terms values (expr_of number term)) call (rightly (signatures problem) fit term_fits) at)
 
-  is_false : (value : Val) (calls : List (ℕ × List Val)) → Gives owned number problem.defs terms values (expr_of number term) value → (value ≡ Truth true → ⊥) →
-      Gains [] (asks number problem.defs terms values (expr_of number term)) calls → AsksRightly owned number problem.defs terms values (expr_of number term) →
-      IsFalse (question_of number problem) (map (expr_of number) terms) values (expr_of number term) calls
+  is_false : (value : Val) (calls : List (ℕ × List Val)) → GivesValue owned number problem.defs terms values (expr_of number term) value → (value ≡ Truth true → ⊥) →
+      GainsCalls [] (asks number problem.defs terms values (expr_of number term)) calls → AsksRightly owned number problem.defs terms values (expr_of number term) →
+      IsFalseByCalls (question_of number problem) (map (expr_of number) terms) values (expr_of number term) calls
   is_false value calls gives untrue gains rightly =
       let all = asks number problem.defs terms values (expr_of number term) in
       record {
@@ -75,23 +75,23 @@ module _ {T N : Type 0} (owned : Op → Bool) (number : N → Val) (problem : Pr
       }
 
   -- the answer by a value
-  pub says : (value : Val) (calls : List (ℕ × List Val)) (given : answer.Truth T N) → Gives owned number problem.defs terms values (expr_of number term) value →
-      Gains [] (asks number problem.defs terms values (expr_of number term)) calls → AsksRightly owned number problem.defs terms values (expr_of number term) → IsDecided value calls given →
+  pub says : (value : Val) (calls : List (ℕ × List Val)) (given : answer.Truth T N) → GivesValue owned number problem.defs terms values (expr_of number term) value →
+      GainsCalls [] (asks number problem.defs terms values (expr_of number term)) calls → AsksRightly owned number problem.defs terms values (expr_of number term) → AnswersValue value calls given →
       Says (question_of number problem) (map (expr_of number) terms) values (expr_of number term) given
   says value calls True gives gains rightly decided = sym (means value gives) ∙ decided
   says value calls (False others) gives gains rightly decided =
-      subst (λ some. IsFalse (question_of number problem) (map (expr_of number) terms) values (expr_of number term) some) (sym decided.1) (is_false value calls gives decided.0 gains rightly)
+      subst (λ some. IsFalseByCalls (question_of number problem) (map (expr_of number) terms) values (expr_of number term) some) (sym decided.1) (is_false value calls gives decided.0 gains rightly)
   says value calls Leaves gives gains rightly decided = absurd decided
 
   -- where the term can't be computed
-  pub says_leaves : can_compute number problem.defs terms values (expr_of number term) ≡ false → budgets.Leaves (question_of number problem) (map (expr_of number) terms) values (expr_of number term)
+  pub says_leaves : can_compute number problem.defs terms values (expr_of number term) ≡ false → budgets.LeavesRange (question_of number problem) (map (expr_of number) terms) values (expr_of number term)
   says_leaves cannot = sym (ap (λ fs. computable (functions (bodies number problem.defs)) fs values (expr_of number term)) (functions_are number problem.defs terms)) ∙ cannot
 
 -- a term of a list
-pub one_false : (question : Question) (all : List Expr) (values : List Val) (items : List Expr) (term : Expr) (calls : List (ℕ × List Val)) → Contains items term → IsFalse question all values term calls → IsOneFalse question all values items calls
+pub one_false : (question : Question) (all : List Expr) (values : List Val) (items : List Expr) (term : Expr) (calls : List (ℕ × List Val)) → Contains items term → IsFalseByCalls question all values term calls → IsOneFalse question all values items calls
 one_false question all values items term calls of is = record { term = term; of = of; is = is }
 
-pub one_leaves : (question : Question) (all : List Expr) (values : List Val) (items : List Expr) (term : Expr) → Contains items term → budgets.Leaves question all values term → OneLeaves question all values items
+pub one_leaves : (question : Question) (all : List Expr) (values : List Val) (items : List Expr) (term : Expr) → Contains items term → budgets.LeavesRange question all values term → OneLeaves question all values items
 one_leaves question all values items term of leaves = record { term = term; of = of; leaves = leaves }
 
 -- an assumption isn't true
@@ -104,7 +104,7 @@ assumption_leaves question all values one =
     record { term = one.term; of = Contains-append_left question.assumptions question.constraints one.term one.of; leaves = one.leaves }
 
 -- the assumptions are true
-pub judged : {T N : Type 0} (question : Question) (all : List Expr) (values : List Val) (given : answer.Truth T N) → All (IsTrueUnder question all values) question.assumptions → SaysOfAll question all values question.constraints given → Judges question all values given
+pub judged : {T N : Type 0} (question : Question) (all : List Expr) (values : List Val) (given : answer.Truth T N) → All (IsTrueUnder question all values) question.assumptions → SaysOfAll question all values question.constraints given → JudgesBodies question all values given
 judged question all values True assumed says = λ _. says
 judged question all values (False calls) assumed says = record { assumed = assumed; constraint = says }
 judged question all values Leaves assumed says =

@@ -5,7 +5,7 @@ use Rattle.std.specs.List.{Contains}
 use Rattle.std.proofs.lemmas.List.Elements.{Contains-push, Contains-push_cases, Contains-append_left, Contains-append_right, Contains-append_cases}
 use mathlib.Core.Bool.{true≢false}
 use Rattle.sy_terms.specs.Values.{Val}
-use Rattle.sy_terms_laws.specs.Tracing.{same_values, has_call, traced, traced_all, Gains}
+use Rattle.sy_terms_laws.specs.Tracing.{same_values, has_call, traced, traced_all, GainsCalls}
 use Rattle.sy_terms_laws.proofs.Equations.{both_true}
 use Rattle.sy_terms_laws.proofs.Traced.{same_values_is}
 
@@ -86,10 +86,10 @@ all_only before (call ∷ asked) other at = ⊎_elim
     (all_only (traced before call) asked other at)
 
 -- from nothing, a trace gains the calls that are asked and no others
-pub gained_all : (asked after : List (ℕ × List Val)) → Gains [] asked after → (call : ℕ × List Val) → Contains asked call → Contains after call
+pub gained_all : (asked after : List (ℕ × List Val)) → GainsCalls [] asked after → (call : ℕ × List Val) → Contains asked call → Contains after call
 gained_all asked after gains call at = subst (λ all. Contains all call) (sym gains.is) (all_there [] asked call at)
 
-pub gained_only : (asked after : List (ℕ × List Val)) → Gains [] asked after → (call : ℕ × List Val) → Contains after call → Contains asked call
+pub gained_only : (asked after : List (ℕ × List Val)) → GainsCalls [] asked after → (call : ℕ × List Val) → Contains after call → Contains asked call
 gained_only asked after gains call at = ⊎_elim
     (λ (none : Contains [] call). absurd (no_element call none))
     (λ (new : Contains asked call). new)

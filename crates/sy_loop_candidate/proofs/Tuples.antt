@@ -9,8 +9,8 @@ use Rattle.sy_points.specs.Asked as points
 use Rattle.sy_points.specs.Asked.{Asked, of_function, with_tuple}
 use Rattle.sy_points.specs.declared.points.Added.TheVariants as added
 use Rattle.sy_points.proofs.Distinct.{bounded_with}
-use Rattle.sy_loop_history.specs.Adding.{IsAsked, room_in, room, Gains, AreAsked, IsFull}
-use Rattle.sy_loop_candidate.specs.Answers.{Adds}
+use Rattle.sy_loop_history.specs.Adding.{IsAsked, room_in, room, GainsTuples, AreAsked, FunctionIsFull}
+use Rattle.sy_loop_candidate.specs.Answers.{AddsCalls}
 use Rattle.sy_loop_candidate.specs.declared.calls.Adding.{Adding}
 use Rattle.sy_loop_candidate.specs.declared.calls.Adding.TheVariants.{There, New, Full}
 use Rattle.sy_loop_candidate.proofs.Items.{has_place}
@@ -56,11 +56,11 @@ push_room limit (l ∷ lists) zero tuple within short = omega (arith, short, len
 push_room limit (l ∷ lists) (suc function) tuple within short = omega (arith, push_room limit lists function tuple (omega (arith, within)) short)
 
 -- nothing happened yet
-pub gains_start : (calls : List (ℕ × List Val)) (before : Asked) → Gains calls before before
+pub gains_start : (calls : List (ℕ × List Val)) (before : Asked) → GainsTuples calls before before
 gains_start calls before = record { limit = refl; functions = refl; keeps = λ function tuple at. at; only = λ function tuple at. inl at; less = omega arith; bounded = λ bounded. bounded }
 
-gains_push : (calls : List (ℕ × List Val)) (before now : Asked) (function : ℕ) (tuple : List Val) → Gains calls before now → function < length now.tuples → (IsAsked now function tuple → ⊥) → length (of_function now function) < now.limit → Contains calls (function, tuple) →
-    Gains calls before (with_tuple now function tuple)
+gains_push : (calls : List (ℕ × List Val)) (before now : Asked) (function : ℕ) (tuple : List Val) → GainsTuples calls before now → function < length now.tuples → (IsAsked now function tuple → ⊥) → length (of_function now function) < now.limit → Contains calls (function, tuple) →
+    GainsTuples calls before (with_tuple now function tuple)
 gains_push calls before now function tuple gains within new short of = record {
   limit = gains.limit;
   functions = push_length now.tuples function tuple ∙ gains.functions;
@@ -74,12 +74,12 @@ gains_push calls before now function tuple gains within new short of = record {
 }
 
 -- what an addition leaves
-pub gains_more : (calls : List (ℕ × List Val)) (before now after : Asked) (place function : ℕ) (tuple : List Val) (answer : added.the_data) → Gains calls before now → function < length now.tuples → slice_get calls place ≡ Some (function, tuple) →
-    points.Adds now function tuple answer after → Gains calls before after
-gains_more calls before now after place function tuple added.There gains within at adds = subst (Gains calls before) (sym adds.1) gains
-gains_more calls before now after place function tuple added.Full gains within at adds = subst (Gains calls before) (sym adds.2) gains
+pub gains_more : (calls : List (ℕ × List Val)) (before now after : Asked) (place function : ℕ) (tuple : List Val) (answer : added.the_data) → GainsTuples calls before now → function < length now.tuples → slice_get calls place ≡ Some (function, tuple) →
+    points.Adds now function tuple answer after → GainsTuples calls before after
+gains_more calls before now after place function tuple added.There gains within at adds = subst (GainsTuples calls before) (sym adds.1) gains
+gains_more calls before now after place function tuple added.Full gains within at adds = subst (GainsTuples calls before) (sym adds.2) gains
 gains_more calls before now after place function tuple added.New gains within at adds =
-    subst (Gains calls before) (sym adds.2) (gains_push calls before now function tuple gains within adds.0 adds.1 (has_place calls place (function, tuple) at))
+    subst (GainsTuples calls before) (sym adds.2) (gains_push calls before now function tuple gains within adds.0 adds.1 (has_place calls place (function, tuple) at))
 
 -- what an addition did
 abbrev pub Changed : Asked → Asked → Adding → Type 0
@@ -123,17 +123,17 @@ there_more calls now after place function tuple added.New within at other adds a
 pub changed_not : (before now after : Asked) (function : ℕ) (tuple : List Val) (adding : Adding) → points.Adds now function tuple added.There after → Changed before now adding → Changed before after adding
 changed_not before now after function tuple adding adds changed = subst (λ a. Changed before a adding) (sym adds.1) changed
 
-pub changed_new : (calls : List (ℕ × List Val)) (before now after : Asked) (function : ℕ) (tuple : List Val) → Gains calls before now → function < length now.tuples → points.Adds now function tuple added.New after → Changed before after New
+pub changed_new : (calls : List (ℕ × List Val)) (before now after : Asked) (function : ℕ) (tuple : List Val) → GainsTuples calls before now → function < length now.tuples → points.Adds now function tuple added.New after → Changed before after New
 changed_new calls before now after function tuple gains within adds =
     subst (λ a. room a < room before) (sym adds.2) (omega (arith, gains.less, push_room now.limit now.tuples function tuple within adds.1))
 
 -- the answer at the end
-pub adds_all : (calls : List (ℕ × List Val)) (before after : Asked) (place : ℕ) (adding : Adding) → length calls ≤ place → AreAsked (take place calls) after → Changed before after adding → Adds calls before after adding
+pub adds_all : (calls : List (ℕ × List Val)) (before after : Asked) (place : ℕ) (adding : Adding) → length calls ≤ place → AreAsked (take place calls) after → Changed before after adding → AddsCalls calls before after adding
 adds_all calls before after place There done asked changed = (subst (λ all. AreAsked all after) (take_all place calls done) asked, changed)
 adds_all calls before after place New done asked changed = (subst (λ all. AreAsked all after) (take_all place calls done) asked, changed)
 adds_all calls before after place (Full function) done asked changed = absurd changed
 
-pub full_at : (calls : List (ℕ × List Val)) (now after : Asked) (place function : ℕ) (tuple : List Val) → function < length now.tuples → slice_get calls place ≡ Some (function, tuple) → points.Adds now function tuple added.Full after → IsFull calls after function
+pub full_at : (calls : List (ℕ × List Val)) (now after : Asked) (place function : ℕ) (tuple : List Val) → function < length now.tuples → slice_get calls place ≡ Some (function, tuple) → points.Adds now function tuple added.Full after → FunctionIsFull calls after function
 full_at calls now after place function tuple within at adds =
-    subst (λ a. IsFull calls a function) (sym adds.2)
+    subst (λ a. FunctionIsFull calls a function) (sym adds.2)
     (record { tuple = tuple; of = has_place calls place (function, tuple) at; within = within; new = adds.0; full = adds.1 })

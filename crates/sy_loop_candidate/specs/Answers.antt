@@ -5,12 +5,12 @@ use Rattle.sy_terms.specs.Expr.{Expr}
 use Rattle.sy_grammar_base.specs.Questions.{Question}
 use Rattle.sy_grammar_base.specs.Solving.{IsTrueUnder, Meets}
 use Rattle.sy_points.specs.Asked.{Asked}
-use Rattle.sy_loop_history.specs.Adding.{AreAsked, IsFull, room}
+use Rattle.sy_loop_history.specs.Adding.{AreAsked, FunctionIsFull, room}
 use Rattle.sy_loop_history.specs.Budgets as budgets
 use Rattle.sy_loop_history.specs.Histories.{Counterexample}
 use Rattle.sy_loop_history.specs.Trials.{IsRefuted}
-use Rattle.sy_loop_history.specs.Truths.{IsFalse, IsOneFalse, IsViolated, OneLeaves}
-use Rattle.sy_loop_candidate.specs.Traces.{AreTraced, AsksMore, LeavesAt, MeetAll}
+use Rattle.sy_loop_history.specs.Truths.{IsFalseByCalls, IsOneFalse, IsViolated, OneLeaves}
+use Rattle.sy_loop_candidate.specs.Traces.{AreTraced, AsksMore, LeavesRangeAt, MeetAll}
 use Rattle.sy_loop_candidate.specs.declared.calls.Adding.{Adding}
 use Rattle.sy_loop_candidate.specs.declared.calls.Adding.TheVariants as adding
 use Rattle.sy_loop_candidate.specs.declared.calls.Adding.TheVariants.{There, New}
@@ -21,16 +21,16 @@ use Rattle.sy_loop_candidate.specs.declared.truth.Truth as answer
 use Rattle.sy_loop_candidate.specs.declared.truth.Truth.TheVariants.{True, False, Leaves}
 
 -- the answer of a value
-abbrev pub IsDecided : {T N : Type 0} → Val → List (ℕ × List Val) → answer.Truth T N → Type 0
-IsDecided value calls True = value ≡ Truth true
-IsDecided value calls (False others) = (value ≡ Truth true → ⊥) × (others ≡ calls)
-IsDecided value calls Leaves = ⊥
+abbrev pub AnswersValue : {T N : Type 0} → Val → List (ℕ × List Val) → answer.Truth T N → Type 0
+AnswersValue value calls True = value ≡ Truth true
+AnswersValue value calls (False others) = (value ≡ Truth true → ⊥) × (others ≡ calls)
+AnswersValue value calls Leaves = ⊥
 
 -- the answer of a term
 abbrev pub Says : {T N : Type 0} → Question → List Expr → List Val → Expr → answer.Truth T N → Type 0
 Says question bodies values term True = IsTrueUnder question bodies values term
-Says question bodies values term (False calls) = IsFalse question bodies values term calls
-Says question bodies values term Leaves = budgets.Leaves question bodies values term
+Says question bodies values term (False calls) = IsFalseByCalls question bodies values term calls
+Says question bodies values term Leaves = budgets.LeavesRange question bodies values term
 
 -- the answer of all terms of a list
 abbrev pub SaysOfAll : {T N : Type 0} → Question → List Expr → List Val → List Expr → answer.Truth T N → Type 0
@@ -39,16 +39,16 @@ SaysOfAll question bodies values terms (False calls) = IsOneFalse question bodie
 SaysOfAll question bodies values terms Leaves = OneLeaves question bodies values terms
 
 -- the answer of a problem
-abbrev pub Judges : {T N : Type 0} → Question → List Expr → List Val → answer.Truth T N → Type 0
-Judges question bodies values True = Meets question bodies values
-Judges question bodies values (False calls) = IsViolated question bodies values calls
-Judges question bodies values Leaves = OneLeaves question bodies values (question.assumptions ++ question.constraints)
+abbrev pub JudgesBodies : {T N : Type 0} → Question → List Expr → List Val → answer.Truth T N → Type 0
+JudgesBodies question bodies values True = Meets question bodies values
+JudgesBodies question bodies values (False calls) = IsViolated question bodies values calls
+JudgesBodies question bodies values Leaves = OneLeaves question bodies values (question.assumptions ++ question.constraints)
 
 -- what becomes of calls
-abbrev pub Adds : List (ℕ × List Val) → Asked → Asked → Adding → Type 0
-Adds calls before after There = AreAsked calls after × (after ≡ before)
-Adds calls before after New = AreAsked calls after × (room after < room before)
-Adds calls before after (adding.Full function) = IsFull calls after function
+abbrev pub AddsCalls : List (ℕ × List Val) → Asked → Asked → Adding → Type 0
+AddsCalls calls before after There = AreAsked calls after × (after ≡ before)
+AddsCalls calls before after New = AreAsked calls after × (room after < room before)
+AddsCalls calls before after (adding.Full function) = FunctionIsFull calls after function
 
 -- the trial by what became of the calls at the assignment of this place
 abbrev pub trial_of : Adding → ℕ → Trial
@@ -63,4 +63,4 @@ Tries question history bodies before after Due =
 Tries question history bodies before after Refuted = IsRefuted question history after bodies × (after ≡ before)
 Tries question history bodies before after Asks = room after < room before
 Tries question history bodies before after (Full function place) = AsksMore question history after bodies function place
-Tries question history bodies before after (trials.Leaves place) = LeavesAt question history bodies place
+Tries question history bodies before after (trials.Leaves place) = LeavesRangeAt question history bodies place

@@ -9,7 +9,7 @@ use Rattle.sy_query_limits.specs.declared.Limits.{Limits}
 use Rattle.sy_points.specs.Asked.{Asked, IsBounded}
 use Rattle.sy_loop_bounds.specs.declared.reach.Reach.{Reach}
 use Rattle.sy_loop_history.specs.Adding.{IsAsked, room}
-use Rattle.sy_loop_history.specs.Histories.{Counterexample, IsHonest, IsMet}
+use Rattle.sy_loop_history.specs.Histories.{Counterexample, IsHonestHistory, IsMet}
 
 -- the assignments have values of the variables, and each function has distinct tuples of its arguments, at most so many
 pub record IsHeld (question : Question) (limits : Limits) (history : List Counterexample) (asked : Asked) : Type 0 where
@@ -22,7 +22,7 @@ pub record IsHeld (question : Question) (limits : Limits) (history : List Counte
 -- moreover the history is honest, and the tuples were met by it
 pub record IsKnown (reach : Reach) (question : Question) (limits : Limits) (history : List Counterexample) (asked : Asked) : Type 0 where
   pub held : IsHeld question limits history asked
-  pub honest : IsHonest reach question limits.size limits.rounds history
+  pub honest : IsHonestHistory reach question limits.size limits.rounds history
   pub met : (function : ℕ) (tuple : List Val) → IsAsked asked function tuple → IsMet reach question limits.size history function tuple
 
 -- how many rounds and tuples more there may be

@@ -29,23 +29,23 @@ use Rattle.sy_loop_candidate.specs.declared.step.Step.TheVariants.{Next, Again}
 use Rattle.sy_loop_candidate.specs.declared.step.Step.TheVariants as steps
 
 -- the values are the stored assignment of this place
-abbrev pub IsAssignment : {T N : Type 0} → (N → Val) → Stored T N → ℕ → List (Value N) → Type 0
-IsAssignment number stored place values =
+abbrev pub IsStoredAt : {T N : Type 0} → (N → Val) → Stored T N → ℕ → List (Value N) → Type 0
+IsStoredAt number stored place values =
     option_map (λ (c : Counterexample). c.assignment) (slice_get (history_of number stored) place) ≡ Some (vals_of number values)
 
 -- what a search knows shows how it ends
-abbrev pub IsEnd : {T P S N : Type 0} → (Op → Bool) → (N → Val) → (Query → P → Type 0) → (S → FailName) → (Query → Limits → FailName → S → Type 0) → Reach → Question → Limits → List Counterexample → Asked → End T P S N → Type 0
-IsEnd owned number accepted budget shows reach question limits history asked (Found bodies proof) =
+abbrev pub IsCandidateEnd : {T P S N : Type 0} → (Op → Bool) → (N → Val) → (Query → P → Type 0) → (S → FailName) → (Query → Limits → FailName → S → Type 0) → Reach → Question → Limits → List Counterexample → Asked → End T P S N → Type 0
+IsCandidateEnd owned number accepted budget shows reach question limits history asked (Found bodies proof) =
     IsSolution accepted question (map (expr_of number) bodies) proof × IsCandidate reach question limits.size history (map (expr_of number) bodies)
-IsEnd owned number accepted budget shows reach question limits history asked Rounds = RoundsMet reach question limits.size limits.rounds history
-IsEnd owned number accepted budget shows reach question limits history asked (Points function bodies assignment) =
+IsCandidateEnd owned number accepted budget shows reach question limits history asked Rounds = RoundsMet reach question limits.size limits.rounds history
+IsCandidateEnd owned number accepted budget shows reach question limits history asked (Points function bodies assignment) =
     PointsMet reach question limits.size limits.rounds limits.points history function (map (expr_of number) bodies) (vals_of number assignment) (of_function asked function)
     × (function < length asked.tuples)
-IsEnd owned number accepted budget shows reach question limits history asked (Weight bodies) =
+IsCandidateEnd owned number accepted budget shows reach question limits history asked (Weight bodies) =
     WeightMet owned reach question limits.size limits.rounds limits.weight history (map (expr_of number) bodies)
-IsEnd owned number accepted budget shows reach question limits history asked (Decide bodies spent) =
+IsCandidateEnd owned number accepted budget shows reach question limits history asked (Decide bodies spent) =
     DecideMet budget shows reach question limits history (map (expr_of number) bodies) spent
-IsEnd owned number accepted budget shows reach question limits history asked (Checked bodies assignment) =
+IsCandidateEnd owned number accepted budget shows reach question limits history asked (Checked bodies assignment) =
     CheckedLeaves reach question limits.size limits.rounds history (map (expr_of number) bodies) (vals_of number assignment)
 
 -- where a solver was asked, or would have been, all that the bodies ask at the history's assignments is known
@@ -76,7 +76,7 @@ Steps owned number accepted budget shows reach question limits bodies history as
 Steps owned number accepted budget shows reach question limits bodies history asked history' asked' Again =
     (left limits history' asked' < left limits history asked) × ((history' ≡ history) ⊎ IsStored question bodies history history' asked') × (length history' < limits.rounds)
 Steps owned number accepted budget shows reach question limits bodies history asked history' asked' (steps.End end) =
-    IsEnd owned number accepted budget shows reach question limits history' asked' end × IsTracedEnd number question history' asked' end
+    IsCandidateEnd owned number accepted budget shows reach question limits history' asked' end × IsTracedEnd number question history' asked' end
 
 -- the same of the stored bodies of a place, at their assignment
 pub record IsFollowed (question : Question) (history : List Counterexample) (asked : Asked) (place : ℕ) : Type 0 where
@@ -85,8 +85,8 @@ pub record IsFollowed (question : Question) (history : List Counterexample) (ask
   pub followed : IsTracedOrLeaves question asked counterexample.bodies counterexample.assignment
 
 -- what comes of the stored bodies of a place
-abbrev pub Follows : {T P S N : Type 0} → (Op → Bool) → (N → Val) → (Query → P → Type 0) → (S → FailName) → (Query → Limits → FailName → S → Type 0) → Reach → Question → Limits → ℕ → List Counterexample → Asked → Asked → Step T P S N → Type 0
-Follows owned number accepted budget shows reach question limits place history asked asked' Next = ⊥
-Follows owned number accepted budget shows reach question limits place history asked asked' Again = IsFollowed question history asked' place × (room asked' ≤ room asked)
-Follows owned number accepted budget shows reach question limits place history asked asked' (steps.End end) =
-    IsEnd owned number accepted budget shows reach question limits history asked' end × IsTracedEnd number question history asked' end
+abbrev pub StepFollows : {T P S N : Type 0} → (Op → Bool) → (N → Val) → (Query → P → Type 0) → (S → FailName) → (Query → Limits → FailName → S → Type 0) → Reach → Question → Limits → ℕ → List Counterexample → Asked → Asked → Step T P S N → Type 0
+StepFollows owned number accepted budget shows reach question limits place history asked asked' Next = ⊥
+StepFollows owned number accepted budget shows reach question limits place history asked asked' Again = IsFollowed question history asked' place × (room asked' ≤ room asked)
+StepFollows owned number accepted budget shows reach question limits place history asked asked' (steps.End end) =
+    IsCandidateEnd owned number accepted budget shows reach question limits history asked' end × IsTracedEnd number question history asked' end

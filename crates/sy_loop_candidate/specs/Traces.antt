@@ -37,7 +37,7 @@ pub record Widens (question : Question) (history : List Counterexample) (bodies 
   pub less : room after ≤ room before
 
 -- each function has the tuples that it had
-pub record Grows (before after : Asked) : Type 0 where
+pub record TuplesGrow (before after : Asked) : Type 0 where
   pub keeps : (function : ℕ) (tuple : List Val) → IsAsked before function tuple → IsAsked after function tuple
   pub less : room after ≤ room before
 
@@ -70,7 +70,7 @@ pub record AsksMore (question : Question) (history : List Counterexample) (asked
   pub full : asked.limit ≤ length (of_function asked function)
 
 -- at the history's assignment of this place an assumption or a constraint leaves the range
-pub record LeavesAt (question : Question) (history : List Counterexample) (bodies : List Expr) (place : ℕ) : Type 0 where
+pub record LeavesRangeAt (question : Question) (history : List Counterexample) (bodies : List Expr) (place : ℕ) : Type 0 where
   pub counterexample : Counterexample
   pub at : slice_get history place ≡ Some counterexample
   pub leaves : OneLeaves question bodies counterexample.assignment (question.assumptions ++ question.constraints)
@@ -80,4 +80,4 @@ abbrev pub AsksAt : Question → List Counterexample → List Expr → ℕ → A
 AsksAt question history bodies place before after (Some There) = IsTracedAt question history after bodies place × (after ≡ before)
 AsksAt question history bodies place before after (Some New) = IsTracedAt question history after bodies place × (room after < room before)
 AsksAt question history bodies place before after (Some (Full function)) = AsksMore question history after bodies function place
-AsksAt question history bodies place before after None = LeavesAt question history bodies place
+AsksAt question history bodies place before after None = LeavesRangeAt question history bodies place

@@ -1,7 +1,7 @@
 // The tuples that candidates ask for.
 ghost use Rattle.std.specs.Prelude.{ℕ, ◌<◌, length, Contains, IfOk, OnOk};
-ghost use Rattle.sy_loop_history.specs.Adding.{Gains};
-ghost use Rattle.sy_loop_candidate.specs.Answers.{Adds};
+ghost use Rattle.sy_loop_history.specs.Adding.{GainsTuples};
+ghost use Rattle.sy_loop_candidate.specs.Answers.{AddsCalls};
 
 use std::alloc::Global;
 use sy_meaning::Trace;
@@ -22,8 +22,8 @@ pub(crate) enum Adding {
 /// Adds the tuples of the calls to the points of their functions.
 pub(crate) fn add_calls<T: Theory>(points: &mut Points<T>, calls: &Trace<T>) -> Result<Adding, Want>
     requires within { (function : ℕ) (tuple : _) → Contains calls.now (function, tuple) → function < length points.old.tuples }
-    ensures gains { OnOk result (Gains calls.now points.old points.new) }
-    ensures answer { IfOk result (λ adding. Adds calls.now points.old points.new adding) }
+    ensures gains { OnOk result (GainsTuples calls.now points.old points.new) }
+    ensures answer { IfOk result (λ adding. AddsCalls calls.now points.old points.new adding) }
 {
     let mut adding = Adding::There;
     for place in 0..calls.len() {

@@ -1,7 +1,7 @@
 // Copies of bodies and of assignments.
 ghost use Rattle.std.specs.Prelude.{◌≡◌, ◌<◌, length, map, IfOk};
 ghost use Rattle.sy_terms.specs.Denoted.{expr_of};
-ghost use Rattle.sy_loop_candidate.specs.Steps.{IsAssignment};
+ghost use Rattle.sy_loop_candidate.specs.Steps.{IsStoredAt};
 
 use std::alloc::Global;
 use sy_points::Stored;
@@ -14,7 +14,7 @@ pub(crate) fn assignment_at<T: Theory>(
     place: usize,
 ) -> Result<Values<T>, Want>
     requires { place < length stored.now.items }
-    ensures { IfOk result (λ values. IsAssignment T.denotes stored.now place values) }
+    ensures { IfOk result (λ values. IsStoredAt T.denotes stored.now place values) }
 {
     let Some((assignment, _)) = stored.get(place) else {
         unreachable!();

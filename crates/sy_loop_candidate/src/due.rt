@@ -3,9 +3,9 @@ ghost use Rattle.std.specs.Prelude.{◌≡◌, ◌<◌, length, map, IfOk, OnOk,
 ghost use Rattle.sy_terms.specs.Denoted.{expr_of};
 ghost use Rattle.sy_grammar_base.specs.Questions.{question_of};
 ghost use Rattle.sy_loop_history.specs.Stored.{history_of};
-ghost use Rattle.sy_loop_candidate.specs.Traces.{AreTraced, Grows};
+ghost use Rattle.sy_loop_candidate.specs.Traces.{AreTraced, TuplesGrow};
 ghost use Rattle.sy_grammar_base.specs.Fits.{ProblemFits};
-ghost use Rattle.sy_loop_candidate.specs.Clauses.{FitAsBodies, IsKnownFor, StepsFor, FollowsFor, IsDueFor};
+ghost use Rattle.sy_loop_candidate.specs.Clauses.{FitAsBodies, IsKnownFor, StepsFor, StepFollowsFor, IsDueFor};
 
 use crate::asks::ask_at;
 use crate::calls::Adding;
@@ -37,7 +37,7 @@ pub(crate) fn decide_due<T: Theory, D: Decide<T>>(
     requires due { IsDueFor T.Theory reach problem.now limits.now known.old (map (expr_of T.denotes) bodies) }
     requires traced { AreTraced (question_of T.denotes problem.now) (history_of T.denotes known.old.stored) known.old.points (map (expr_of T.denotes) bodies) }
     ensures known { OnOk result (IsKnownFor T.Theory reach problem.now limits.now known.new) }
-    ensures grows { OnOk result (Grows known.old.points known.new.points) }
+    ensures grows { OnOk result (TuplesGrow known.old.points known.new.points) }
     ensures step { IfOk result (StepsFor T.Theory D.Decide reach problem.now limits.now (map (expr_of T.denotes) bodies) known.old known.new) }
 {
     let query = match build(alloc, problem, &bodies, limits.weight) {
@@ -76,8 +76,8 @@ fn follow<T: Theory, D: Decide<T>>(
     requires known { IsKnownFor T.Theory reach problem.now limits.now known.old }
     ensures stored { OnOk result (known.new.stored ≡ known.old.stored) }
     ensures known { OnOk result (IsKnownFor T.Theory reach problem.now limits.now known.new) }
-    ensures grows { OnOk result (Grows known.old.points known.new.points) }
-    ensures step { IfOk result (FollowsFor T.Theory D.Decide reach problem.now limits.now place known.old.points known.new) }
+    ensures grows { OnOk result (TuplesGrow known.old.points known.new.points) }
+    ensures step { IfOk result (StepFollowsFor T.Theory D.Decide reach problem.now limits.now place known.old.points known.new) }
 {
     let Some((_, bodies)) = known.stored.get(place) else {
         unreachable!();

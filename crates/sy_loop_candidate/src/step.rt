@@ -1,7 +1,7 @@
 // One step of a search: what comes of a candidate.
 ghost use Rattle.std.specs.Prelude.{◌<◌, length, map, IfOk, OnOk};
 ghost use Rattle.sy_terms.specs.Denoted.{expr_of};
-ghost use Rattle.sy_loop_candidate.specs.Traces.{Grows};
+ghost use Rattle.sy_loop_candidate.specs.Traces.{TuplesGrow};
 ghost use Rattle.sy_grammar_base.specs.Fits.{ProblemFits};
 ghost use Rattle.sy_loop_candidate.specs.Clauses.{FitAsBodies, IsCandidateFor, IsKnownFor, StepsFor};
 
@@ -68,7 +68,7 @@ pub fn try_candidate<T: Theory, D: Decide<T>>(
     requires known { IsKnownFor T.Theory reach problem.now limits.now known.old }
     requires room { length known.old.stored.items < limits.now.rounds }
     ensures known { OnOk result (IsKnownFor T.Theory reach problem.now limits.now known.new) }
-    ensures grows { OnOk result (Grows known.old.points known.new.points) }
+    ensures grows { OnOk result (TuplesGrow known.old.points known.new.points) }
     ensures step { IfOk result (StepsFor T.Theory D.Decide reach problem.now limits.now (map (expr_of T.denotes) bodies) known.old known.new) }
 {
     match try_bodies(

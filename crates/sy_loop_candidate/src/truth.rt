@@ -4,7 +4,7 @@ ghost use Rattle.sy_terms.specs.Values as spec;
 ghost use Rattle.sy_terms.specs.Denoted.{val_of, expr_of, vals_of};
 ghost use Rattle.sy_grammar_base.specs.Questions.{question_of};
 ghost use Rattle.sy_grammar_base.specs.Solving.{AreValues};
-ghost use Rattle.sy_loop_candidate.specs.Answers.{Says, SaysOfAll, Judges, IsDecided};
+ghost use Rattle.sy_loop_candidate.specs.Answers.{Says, SaysOfAll, JudgesBodies, AnswersValue};
 ghost use Rattle.sy_grammar_base.specs.Fits.{ProblemFits, IsTruth};
 ghost use Rattle.sy_loop_candidate.specs.Clauses.{FitAsBodies};
 
@@ -33,7 +33,7 @@ pub(crate) fn judge<T: Theory>(
     requires problem { ProblemFits T.Theory problem.now }
     requires bodies { FitAsBodies T.Theory problem.now bodies.now }
     requires values { AreValues problem.now.vars (vals_of T.denotes values.now) }
-    ensures { IfOk result (Judges (question_of T.denotes problem.now) (map (expr_of T.denotes) bodies.now) (vals_of T.denotes values.now)) }
+    ensures { IfOk result (JudgesBodies (question_of T.denotes problem.now) (map (expr_of T.denotes) bodies.now) (vals_of T.denotes values.now)) }
 {
     match all_true(
         alloc,
@@ -104,7 +104,7 @@ fn decide_term<T: Theory>(
 
 /// True where the value is; else false by these calls.
 fn decided<T: Theory>(value: &Value<T::Num>, calls: Trace<T>) -> Truth<T>
-    ensures { IsDecided (val_of T.denotes value.now) calls result }
+    ensures { AnswersValue (val_of T.denotes value.now) calls result }
 {
     if is_true::<T>(value) {
         Truth::True

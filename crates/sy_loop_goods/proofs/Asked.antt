@@ -15,7 +15,7 @@ use Rattle.sy_loop_bounds_laws.proofs.Goodness.{posed_in}
 use Rattle.sy_loop_bounds_laws.proofs.Resting.{rests_asks}
 use Rattle.sy_loop_bounds_laws.proofs.Variables.{many_values}
 use Rattle.sy_loop_history.specs.Histories.{Counterexample, all_asked_by, trace}
-use Rattle.sy_loop_candidate.specs.Traces.{AsksMore, LeavesAt}
+use Rattle.sy_loop_candidate.specs.Traces.{AsksMore, LeavesRangeAt}
 use Rattle.sy_loop_candidate.proofs.Items.{has_place}
 use Rattle.sy_loop_candidate.proofs.Traced.{first_or_later, no_element}
 use Rattle.sy_loop_trees_laws.specs.Goods.{AllRestWithin}
@@ -74,7 +74,7 @@ module _ (question : Question) (pointwise : IsPointwise question) where
     }
 
 -- a constraint that is never computable isn't under any bodies
-pub leaves_under : (question : Question) (history : List Counterexample) (place : ℕ) → AlwaysLeaves question history place → (bodies : List Expr) → LeavesAt question history bodies place
+pub leaves_under : (question : Question) (history : List Counterexample) (place : ℕ) → AlwaysLeaves question history place → (bodies : List Expr) → LeavesRangeAt question history bodies place
 leaves_under question history place always bodies = record {
   counterexample = always.counterexample;
   at = always.at;

@@ -26,12 +26,12 @@ use Rattle.sy_loop_candidate.proofs.Items.{has_place}
 use Rattle.sy_loop_candidate.proofs.Traced.{first_or_later, no_element}
 use Rattle.sy_loop_history.specs.Histories.{Counterexample}
 use Rattle.sy_loop_trees_laws.specs.Goods.{AreGoods, assignments_of}
-use Rattle.sy_loop_trees_laws.specs.Trees.{HaveRows}
+use Rattle.sy_loop_trees_laws.specs.Trees.{EntriesHaveRows}
 use Rattle.sy_loop_goods.proofs.Placing.{item_at}
 use Rattle.sy_loop_goods.specs.Columns.{AreColumns, IsColumn, IsSaid, is_on, row_from}
 use Rattle.sy_loop_goods.specs.Judged.{IsCopied, JudgesLeaf, good_of, judged_by, leaving_of}
-use Rattle.sy_loop_goods.specs.Leaves.{AreAssigned, IsLeaving}
-use Rattle.sy_loop_goods.specs.Judging.{IsOneUntrue, IsTrueAt, IsWithin, Judges}
+use Rattle.sy_loop_goods.specs.Leaves.{AreAssigned, LeafLeaves}
+use Rattle.sy_loop_goods.specs.Judging.{IsOneUntrue, IsTrueAt, IsWithin, JudgesRests}
 use Rattle.sy_loop_goods.specs.Rests.{AreRests, IsRest}
 use Rattle.sy_loop_goods.specs.declared.goods.Leaving.{Leaving}
 use Rattle.sy_loop_goods.specs.declared.judging.Judged.{Judged}
@@ -260,7 +260,7 @@ beside question assignments tuple (leaf ∷ leaves) (first ∷ column) (suc plac
 -- one leaf more, by what is known of it
 module _ {T N : Type 0} (number : N → Val) (question : Question) (history : List Counterexample) (points : List (List Val)) (rests here : List Rest) (point : ℕ) (distinct : AreDistinct points)
     (are : AreRests question (assignments_of history) points rests) (is_here : here ≡ filter (is_on point) rests) (pointwise : IsPointwise question) (assigned : AreAssigned question history) (leaves : List (Bor (Kept T N)))
-    (rows : HaveRows (functions question.definitions) points (chosen_of number leaves)) (k : ℕ) (goods : List Bool) (judged : Judged) (judges : JudgesLeaf question history (chosen_of number leaves) k point here goods judged) (leaving : Option Leaving) where
+    (rows : EntriesHaveRows (functions question.definitions) points (chosen_of number leaves)) (k : ℕ) (goods : List Bool) (judged : Judged) (judges : JudgesLeaf question history (chosen_of number leaves) k point here goods judged) (leaving : Option Leaving) where
   kept_next : (entry : Entry) → slice_get (chosen_of number leaves) k ≡ Some entry → chosen_of number (take (k + 1) leaves) ≡ chosen_of number (take k leaves) ++ entry ∷ []
   kept_next entry at =
       let many = length-map leaves (λ (leaf : Bor (Kept T N)). entry_of number leaf.now) in
@@ -289,7 +289,7 @@ module _ {T N : Type 0} (number : N → Val) (question : Question) (history : Li
   all_on : (tuple : List Val) → slice_get points point ≡ Some tuple → AreRestsOn question (assignments_of history) tuple here
   all_on tuple at_point = subst (AreRestsOn question (assignments_of history) tuple) (sym is_here) (those_on question (assignments_of history) points rests point tuple distinct are at_point)
 
-  evaluated_said : (judged : Judged) (entry : Entry) → Judges question history (entry.term ∷ []) here judged → leaving_of judged k ≡ None → (tuple : List Val) → slice_get points point ≡ Some tuple → IsSaid question (assignments_of history) tuple entry.term (good_of judged)
+  evaluated_said : (judged : Judged) (entry : Entry) → JudgesRests question history (entry.term ∷ []) here judged → leaving_of judged k ≡ None → (tuple : List Val) → slice_get points point ≡ Some tuple → IsSaid question (assignments_of history) tuple entry.term (good_of judged)
   evaluated_said Good entry judges none tuple at_point = says_good question (assignments_of history) tuple here entry.term (all_on tuple at_point) judges
   evaluated_said Bad entry judges none tuple at_point = says_bad question (assignments_of history) tuple here entry.term (all_on tuple at_point) judges
   evaluated_said (Leaves place) entry judges none tuple at_point = absurd (cc)
@@ -310,15 +310,15 @@ module _ {T N : Type 0} (number : N → Val) (question : Question) (history : Li
   never_left true = refl
   never_left false = refl
 
-  left_next : (judged : Judged) (entry : Entry) → slice_get (chosen_of number leaves) k ≡ Some entry → Judges question history (entry.term ∷ []) here judged → IfSome leaving (IsLeaving question history (chosen_of number leaves)) →
-      IfSome (option_or (leaving_of judged k) leaving) (IsLeaving question history (chosen_of number leaves))
+  left_next : (judged : Judged) (entry : Entry) → slice_get (chosen_of number leaves) k ≡ Some entry → JudgesRests question history (entry.term ∷ []) here judged → IfSome leaving (LeafLeaves question history (chosen_of number leaves)) →
+      IfSome (option_or (leaving_of judged k) leaving) (LeafLeaves question history (chosen_of number leaves))
   left_next Good entry at judges so_far = so_far
   left_next Bad entry at judges so_far = so_far
   left_next (Leaves place) entry at judges so_far = record { entry = entry; at = at; leaves_at = judges }
 
-  pub leaving_next : IfSome leaving (IsLeaving question history (chosen_of number leaves)) → IfSome (option_or (leaving_of judged k) leaving) (IsLeaving question history (chosen_of number leaves))
+  pub leaving_next : IfSome leaving (LeafLeaves question history (chosen_of number leaves)) → IfSome (option_or (leaving_of judged k) leaving) (LeafLeaves question history (chosen_of number leaves))
   leaving_next so_far = elim judges [
-    | inl copy ↦ subst (λ found. IfSome (option_or found leaving) (IsLeaving question history (chosen_of number leaves))) (sym (ap (λ (j : Judged). leaving_of j k) copy.2 ∙ never_left copy.0)) so_far
+    | inl copy ↦ subst (λ found. IfSome (option_or found leaving) (LeafLeaves question history (chosen_of number leaves))) (sym (ap (λ (j : Judged). leaving_of j k) copy.2 ∙ never_left copy.0)) so_far
     | inr evaluated ↦ left_next judged evaluated.entry evaluated.at evaluated.judges so_far
   ]
 

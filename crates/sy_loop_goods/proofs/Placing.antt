@@ -24,13 +24,13 @@ use Rattle.sy_loop_bounds_laws.proofs.Applied.{in_nothing}
 use Rattle.sy_loop_bounds_laws.proofs.Goodness.{posed_in}
 use Rattle.sy_loop_bounds_laws.proofs.Resting.{rests_on_one}
 use Rattle.sy_loop_bounds_laws.proofs.Variables.{many_values}
-use Rattle.sy_loop_history.specs.Adding.{Gains, IsAsked, room}
+use Rattle.sy_loop_history.specs.Adding.{GainsTuples, IsAsked, room}
 use Rattle.sy_loop_history.specs.Histories.{Counterexample}
 use Rattle.sy_loop_candidate.specs.Known.{IsHeld}
 use Rattle.sy_loop_candidate.proofs.Items.{has_place}
 use Rattle.sy_loop_candidate.proofs.Traced.{first_or_later, no_element}
 use Rattle.sy_loop_candidate.proofs.Tuples.{changed_new, gains_more, gains_start}
-use Rattle.sy_loop_pointwise.specs.Posed.{ArePosed, Poses}
+use Rattle.sy_loop_pointwise.specs.Posed.{ArePosed, PosesConstraint}
 use Rattle.sy_loop_pointwise.specs.Rests.{RestsAt}
 use Rattle.sy_loop_pointwise.specs.declared.posed.Posed.{Posed}
 use Rattle.sy_loop_trees_laws.specs.Goods.{assignments_of}
@@ -159,7 +159,7 @@ module _ (question : Question) (limits : Limits) (history : List Counterexample)
       let functions = held.functions in
       omega (arith, within, functions, length-map question.goals (λ (goal : Goal). goal.signature))
 
-  gains : Gains ((0, tuple) ∷ []) before after
+  gains : GainsTuples ((0, tuple) ∷ []) before after
   gains = gains_more ((0, tuple) ∷ []) before before after 0 0 tuple answer (gains_start ((0, tuple) ∷ []) before) call_within refl adds
 
   the_one : (call : ℕ × List Val) → Contains ((0, tuple) ∷ []) call → (0, tuple) ≡ call
@@ -242,7 +242,7 @@ pub record IsConstraint {T N : Type 0} (question : Question) (posed : Posed T N)
   pub constraint : Expr
   pub at : slice_get question.constraints number ≡ Some constraint
   pub of : Contains question.constraints constraint
-  pub poses : Poses question constraint posed
+  pub poses : PosesConstraint question constraint posed
 
 pub the_constraint : {T N : Type 0} (question : Question) (all : List (Posed T N)) (number : ℕ) (posed : Posed T N) → ArePosed question all → slice_get all number ≡ Some posed → IsConstraint question posed number
 the_constraint question all number posed are at =

@@ -16,22 +16,22 @@ use Rattle.sy_terms.specs.declared.op.Op.{Op}
 use Rattle.sy_terms.specs.declared.sort.Value.{Value}
 use Rattle.sy_terms.specs.declared.term.Def.{Def}
 use Rattle.sy_terms.specs.declared.term.Term.{Term}
-use Rattle.sy_terms_laws.specs.Evaluation.{BodiesFit, Gives, wanted_functions}
+use Rattle.sy_terms_laws.specs.Evaluation.{BodiesFit, GivesValue, wanted_functions}
 use Rattle.sy_grammar_base.specs.Fits.{IsTruth}
 use Rattle.sy_grammar_base.specs.Questions.{question_of, signatures}
 use Rattle.sy_grammar_base.specs.Solving.{AreValues, IsTrueUnder}
 use Rattle.sy_grammar_base.specs.declared.problem.Problem.{Problem}
 use Rattle.sy_points.specs.declared.stored.Stored.{Stored}
-use Rattle.sy_loop_history.specs.Budgets.{Leaves}
+use Rattle.sy_loop_history.specs.Budgets.{LeavesRange}
 use Rattle.sy_loop_history.specs.Stored.{counterexample_of, history_of}
 use Rattle.sy_loop_candidate.proofs.Assignments.{place_of}
 use Rattle.sy_loop_candidate.proofs.Items.{has_place}
 use Rattle.sy_loop_candidate.proofs.Saying.{fits_with}
-use Rattle.sy_loop_candidate.specs.Traces.{LeavesAt}
+use Rattle.sy_loop_candidate.specs.Traces.{LeavesRangeAt}
 use Rattle.sy_loop_trees_laws.specs.Goods.{assignments_of}
 use Rattle.sy_loop_goods.proofs.Placing.{assignment_at}
 use Rattle.sy_loop_goods.specs.Judging.{IsOneUntrue, IsTrueAt}
-use Rattle.sy_loop_goods.specs.Telling.{Tells}
+use Rattle.sy_loop_goods.specs.Telling.{TellsTruth}
 use Rattle.sy_loop_goods.specs.declared.rests.Rest.{Rest}
 
 functions_are : {T N : Type 0} (number : N → Val) (defs : List (Def T N)) (terms : List (Term T N)) → wanted_functions number defs terms ≡ map (function_from (functions (bodies number defs))) (map (expr_of number) terms)
@@ -40,13 +40,13 @@ functions_are number defs (term ∷ terms) = ap (λ (fs : List Function). functi
 
 -- what a value tells
 module _ {T N : Type 0} (owned : Op → Bool) (number : N → Val) (problem : Problem T N) (terms : List (Term T N)) (values : List Val) (term : Term T N) (fit : BodiesFit owned number problem.defs terms (signatures problem))
-    (are : AreValues problem.vars values) (truth : IsTruth owned number problem term) (value : Val) (gives : Gives owned number problem.defs terms values (expr_of number term) value) where
+    (are : AreValues problem.vars values) (truth : IsTruth owned number problem term) (value : Val) (gives : GivesValue owned number problem.defs terms values (expr_of number term) value) where
   means : value ≡ meaning (functions (bodies number problem.defs)) (map (function_from (functions (bodies number problem.defs))) (map (expr_of number) terms)) values (expr_of number term)
   means =
       let fits = fits_with owned number problem terms values term fit are truth in
       (gives fits.wanted fits.bodies fits.fits).meaning ∙ ap (λ fs. meaning (functions (bodies number problem.defs)) fs values (expr_of number term)) (functions_are number problem.defs terms)
 
-  pub told : (holds : Bool) → (IsTrue holds ↔ value ≡ Truth true) → Tells (question_of number problem) (map (expr_of number) terms) values (expr_of number term) (Some holds)
+  pub told : (holds : Bool) → (IsTrue holds ↔ value ≡ Truth true) → TellsTruth (question_of number problem) (map (expr_of number) terms) values (expr_of number term) (Some holds)
   told true decided = sym means ∙ decided.0 refl
   told false decided = λ is. true≢false (sym (decided.1 (means ∙ is)))
 
@@ -82,7 +82,7 @@ module _ {T N : Type 0} (number : N → Val) (problem : Problem T N) (stored : S
     untrue = untrue;
   }
 
-  pub one_leaves : Leaves (question_of number problem) bodies (vals_of number pair.0) (expr_of number constraint) → LeavesAt (question_of number problem) (history_of number stored) bodies rest.place
+  pub one_leaves : LeavesRange (question_of number problem) bodies (vals_of number pair.0) (expr_of number constraint) → LeavesRangeAt (question_of number problem) (history_of number stored) bodies rest.place
   one_leaves leaves =
       let question = question_of number problem in
       record {

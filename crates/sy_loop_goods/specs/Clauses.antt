@@ -13,11 +13,11 @@ use Rattle.sy_loop_history.specs.Stored.{history_of}
 use Rattle.sy_loop_trees_laws.specs.Goods.{assignments_of, AreGoods}
 use Rattle.sy_loop_goods.specs.Columns.{IsColumn}
 use Rattle.sy_loop_goods.specs.Judged.{JudgesLeaf}
-use Rattle.sy_loop_goods.specs.Judging.{IsWithin, Judges}
-use Rattle.sy_loop_goods.specs.Leaves.{AreLeaves, AreAssigned, IsLeaving}
+use Rattle.sy_loop_goods.specs.Judging.{IsWithin, JudgesRests}
+use Rattle.sy_loop_goods.specs.Leaves.{AreLeaves, AreAssigned, LeafLeaves}
 use Rattle.sy_loop_goods.specs.Placing.{Places}
 use Rattle.sy_loop_goods.specs.Rests.{AreRests}
-use Rattle.sy_loop_goods.specs.Resting.{Rests, WidensByRests}
+use Rattle.sy_loop_goods.specs.Resting.{AnswersResting, WidensByRests}
 use Rattle.sy_loop_goods.specs.declared.goods.Leaving.{Leaving}
 use Rattle.sy_loop_goods.specs.declared.judging.Judged.{Judged}
 use Rattle.sy_loop_goods.specs.declared.rests.Placed.{Placed}
@@ -29,7 +29,7 @@ module _ {T N : Type 0} (theory : TheoryOf T N) (problem : Problem T N) where
   WidensByRestsFor stored = WidensByRests (question_of theory.denotes problem) (history_of theory.denotes stored)
 
   abbrev pub RestsFor : Stored T N → Asked → Asked → Resting → Type 0
-  RestsFor stored = Rests (question_of theory.denotes problem) (history_of theory.denotes stored)
+  RestsFor stored = AnswersResting (question_of theory.denotes problem) (history_of theory.denotes stored)
 
   -- what becomes of the constraints from the first numbers to the last, at the stored assignment of this place
   abbrev pub PlacesFor : Stored T N → ℕ → ℕ → ℕ → ℕ → ℕ → Asked → List Rest → Asked → List Rest → Placed → Type 0
@@ -50,14 +50,14 @@ module _ {T N : Type 0} (theory : TheoryOf T N) (problem : Problem T N) where
   AreGoodsFor stored asked = AreGoods (question_of theory.denotes problem) (assignments_of (history_of theory.denotes stored)) (of_function asked 0)
 
   abbrev pub IsLeavingFor : Stored T N → List Entry → Leaving → Type 0
-  IsLeavingFor stored = IsLeaving (question_of theory.denotes problem) (history_of theory.denotes stored)
+  IsLeavingFor stored = LeafLeaves (question_of theory.denotes problem) (history_of theory.denotes stored)
 
   -- there are a constraint and a stored assignment of these numbers
   abbrev pub IsWithinFor : Stored T N → Rest → Type 0
   IsWithinFor stored = IsWithin (question_of theory.denotes problem) (assignments_of (history_of theory.denotes stored))
 
   abbrev pub JudgesFor : Stored T N → List Expr → List Rest → Judged → Type 0
-  JudgesFor stored = Judges (question_of theory.denotes problem) (history_of theory.denotes stored)
+  JudgesFor stored = JudgesRests (question_of theory.denotes problem) (history_of theory.denotes stored)
 
   abbrev pub JudgesLeafFor : Stored T N → List Entry → ℕ → ℕ → List Rest → List Bool → Judged → Type 0
   JudgesLeafFor stored = JudgesLeaf (question_of theory.denotes problem) (history_of theory.denotes stored)

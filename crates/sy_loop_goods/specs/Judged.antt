@@ -4,7 +4,7 @@ use Rattle.sy_terms.specs.Values.{Val}
 use Rattle.sy_grammar_base.specs.Questions.{Question}
 use Rattle.sy_bank_rows.specs.Banks.{Entry}
 use Rattle.sy_loop_history.specs.Histories.{Counterexample}
-use Rattle.sy_loop_goods.specs.Judging.{Judges}
+use Rattle.sy_loop_goods.specs.Judging.{JudgesRests}
 use Rattle.sy_loop_goods.specs.declared.goods.Leaving.{Leaving}
 use Rattle.sy_loop_goods.specs.declared.judging.Judged.{Judged}
 use Rattle.sy_loop_goods.specs.declared.judging.Judged.TheVariants.{Good, Bad, Leaves}
@@ -42,7 +42,7 @@ pub record IsCopied (leaves : List Entry) (leaf point : ℕ) (goods : List Bool)
 pub record IsEvaluated (question : Question) (history : List Counterexample) (leaves : List Entry) (leaf : ℕ) (here : List Rest) (judged : Judged) : Type 0 where
   pub entry : Entry
   pub at : slice_get leaves leaf ≡ Some entry
-  pub judges : Judges question history (entry.term ∷ []) here judged
+  pub judges : JudgesRests question history (entry.term ∷ []) here judged
 
 -- what is known of the leaf of this number: what is known of another, or what evaluation tells
 abbrev pub JudgesLeaf : Question → List Counterexample → List Entry → ℕ → ℕ → List Rest → List Bool → Judged → Type 0

@@ -4,7 +4,7 @@ use Rattle.sy_terms.specs.Values.{Val}
 use Rattle.sy_terms.specs.Expr.{Expr}
 use Rattle.sy_grammar_base.specs.Questions.{Question}
 use Rattle.sy_grammar_base.specs.Solving.{IsTrueUnder}
-use Rattle.sy_loop_candidate.specs.Traces.{LeavesAt}
+use Rattle.sy_loop_candidate.specs.Traces.{LeavesRangeAt}
 use Rattle.sy_loop_history.specs.Histories.{Counterexample}
 use Rattle.sy_loop_trees_laws.specs.Goods.{assignments_of}
 use Rattle.sy_loop_goods.specs.declared.judging.Judged.{Judged}
@@ -32,7 +32,7 @@ pub record IsOneUntrue (question : Question) (assignments : List (List Val)) (bo
   pub untrue : IsTrueUnder question bodies values constraint → ⊥
 
 -- the answer
-abbrev pub Judges : Question → List Counterexample → List Expr → List Rest → Judged → Type 0
-Judges question history bodies rests Good = All (IsTrueAt question (assignments_of history) bodies) rests
-Judges question history bodies rests Bad = IsOneUntrue question (assignments_of history) bodies rests
-Judges question history bodies rests (Leaves place) = LeavesAt question history bodies place
+abbrev pub JudgesRests : Question → List Counterexample → List Expr → List Rest → Judged → Type 0
+JudgesRests question history bodies rests Good = All (IsTrueAt question (assignments_of history) bodies) rests
+JudgesRests question history bodies rests Bad = IsOneUntrue question (assignments_of history) bodies rests
+JudgesRests question history bodies rests (Leaves place) = LeavesRangeAt question history bodies place

@@ -7,7 +7,7 @@ use Rattle.sy_points.specs.Asked.{Asked, of_function}
 use Rattle.sy_loop_bounds.specs.Resting.{RestsOn}
 use Rattle.sy_loop_history.specs.Adding.{IsAsked, room}
 use Rattle.sy_loop_history.specs.Histories.{Counterexample}
-use Rattle.sy_loop_pointwise.specs.Rests.{LeavesAt}
+use Rattle.sy_loop_pointwise.specs.Rests.{TermLeavesAt}
 use Rattle.sy_loop_trees_laws.specs.Goods.{assignments_of}
 use Rattle.sy_loop_goods.specs.Rests.{AreRests}
 use Rattle.sy_loop_goods.specs.declared.rests.Resting as answer
@@ -47,11 +47,11 @@ pub record AlwaysLeaves (question : Question) (history : List Counterexample) (p
   pub at : slice_get history place ≡ Some counterexample
   pub constraint : Expr
   pub of : Contains question.constraints constraint
-  pub leaves : LeavesAt question counterexample.assignment constraint
+  pub leaves : TermLeavesAt question counterexample.assignment constraint
 
 -- the answer
-abbrev pub Rests : Question → List Counterexample → Asked → Asked → answer.Resting → Type 0
-Rests question history before after (All rests) = AreRests question (assignments_of history) (of_function after 0) rests.items × (after ≡ before)
-Rests question history before after New = room after < room before
-Rests question history before after (Full place) = RestsOnMore question history after place
-Rests question history before after (Leaves place) = AlwaysLeaves question history place
+abbrev pub AnswersResting : Question → List Counterexample → Asked → Asked → answer.Resting → Type 0
+AnswersResting question history before after (All rests) = AreRests question (assignments_of history) (of_function after 0) rests.items × (after ≡ before)
+AnswersResting question history before after New = room after < room before
+AnswersResting question history before after (Full place) = RestsOnMore question history after place
+AnswersResting question history before after (Leaves place) = AlwaysLeaves question history place

@@ -4,10 +4,10 @@ use Rattle.sy_terms.specs.Values.{Val}
 use Rattle.sy_terms.specs.Expr.{Expr}
 use Rattle.sy_grammar_base.specs.Questions.{Question}
 use Rattle.sy_grammar_base.specs.Solving.{IsTrueUnder}
-use Rattle.sy_loop_history.specs.Budgets.{Leaves}
+use Rattle.sy_loop_history.specs.Budgets.{LeavesRange}
 
 -- it is true, it isn't, or it isn't computable
-abbrev pub Tells : Question → List Expr → List Val → Expr → Option Bool → Type 0
-Tells question bodies values term (Some true) = IsTrueUnder question bodies values term
-Tells question bodies values term (Some false) = IsTrueUnder question bodies values term → ⊥
-Tells question bodies values term None = Leaves question bodies values term
+abbrev pub TellsTruth : Question → List Expr → List Val → Expr → Option Bool → Type 0
+TellsTruth question bodies values term (Some true) = IsTrueUnder question bodies values term
+TellsTruth question bodies values term (Some false) = IsTrueUnder question bodies values term → ⊥
+TellsTruth question bodies values term None = LeavesRange question bodies values term

@@ -8,7 +8,7 @@ ghost use Rattle.sy_grammar_base.specs.Questions.{question_of};
 ghost use Rattle.sy_grammar_base.specs.Solving.{AreValues};
 ghost use Rattle.sy_loop_candidate.specs.Clauses.{FitAsBodies};
 ghost use Rattle.sy_loop_goods.specs.Clauses.{AreAssignedFor, IsWithinFor, JudgesFor};
-ghost use Rattle.sy_loop_goods.specs.Telling.{Tells};
+ghost use Rattle.sy_loop_goods.specs.Telling.{TellsTruth};
 
 use crate::rests::Rest;
 use std::alloc::{AllocError, Global};
@@ -102,7 +102,7 @@ fn tell<T: Theory>(
     requires bodies { FitAsBodies T.Theory problem.now bodies.now }
     requires values { AreValues problem.now.vars (vals_of T.denotes values.now) }
     requires constraint { IsTruth T.owned T.denotes problem.now constraint.now }
-    ensures { IfOk result (Tells (question_of T.denotes problem.now) (map (expr_of T.denotes) bodies.now) (vals_of T.denotes values.now) (expr_of T.denotes constraint.now)) }
+    ensures { IfOk result (TellsTruth (question_of T.denotes problem.now) (map (expr_of T.denotes) bodies.now) (vals_of T.denotes values.now) (expr_of T.denotes constraint.now)) }
 {
     let mut calls = Trace::new(alloc);
     match evaluate_with(alloc, &problem.defs, bodies, values, constraint, &mut calls) {

@@ -9,7 +9,7 @@ use Rattle.sy_grammar_base.specs.Solving.{AreWithin}
 use Rattle.sy_loop_bounds.specs.Bounds.{InBound}
 use Rattle.sy_loop_bounds.specs.declared.reach.Reach.{Reach}
 use Rattle.sy_loop_bounds.specs.declared.reach.Reach.TheVariants.{Sizes, Joins, Beyond}
-use Rattle.sy_loop_history.specs.Histories.{Counterexample, IsViolatedIn, AreViolatedBelow, IsOpenNumber, IsMet, IsFewJoined, MayTry, IsCandidate, IsKept}
+use Rattle.sy_loop_history.specs.Histories.{Counterexample, IsViolatedIn, AreViolatedBelow, IsOpenNumber, IsMet, IsFewJoined, MayTry, IsCandidate, HistoryIsKept}
 
 -- bodies that are in bound by their sizes
 pub in_bound : (reach : Reach) (question : Question) (n : ℕ) (bodies : List Expr) → AreWithin question.pool n question.goals bodies → InBound reach question n bodies
@@ -39,7 +39,7 @@ below_down Beyond question history m n less below = tt
 pub open_down : (reach : Reach) (question : Question) (size : ℕ) (history : List Counterexample) (m n : ℕ) → m ≤ n → IsOpenNumber reach question size history n → IsOpenNumber reach question size history m
 open_down reach question size history m n less is = record { within = omega (arith, less, is.within); below = below_down reach question history m n less is.below }
 
-module _ (question : Question) (history history' : List Counterexample) (keeps : IsKept history history') where
+module _ (question : Question) (history history' : List Counterexample) (keeps : HistoryIsKept history history') where
   pub violated_stays : (bodies : List Expr) → IsViolatedIn question history bodies → IsViolatedIn question history' bodies
   violated_stays bodies is = record { counterexample = is.counterexample; stored = keeps is.counterexample is.stored; violates = is.violates }
 

@@ -16,7 +16,7 @@ abbrev pub room : Asked → ℕ
 room asked = room_in asked.limit asked.tuples
 
 -- each function has the tuples that it had, and others of these calls alone
-pub record Gains (calls : List (ℕ × List Val)) (before after : Asked) : Type 0 where
+pub record GainsTuples (calls : List (ℕ × List Val)) (before after : Asked) : Type 0 where
   pub limit : after.limit ≡ before.limit
   pub functions : length after.tuples ≡ length before.tuples
   pub keeps : (function : ℕ) (tuple : List Val) → IsAsked before function tuple → IsAsked after function tuple
@@ -29,7 +29,7 @@ abbrev pub AreAsked : List (ℕ × List Val) → Asked → Type 0
 AreAsked calls asked = (function : ℕ) (tuple : List Val) → Contains calls (function, tuple) → IsAsked asked function tuple
 
 -- the function has as many tuples as it may, and one of these calls isn't among them
-pub record IsFull (calls : List (ℕ × List Val)) (asked : Asked) (function : ℕ) : Type 0 where
+pub record FunctionIsFull (calls : List (ℕ × List Val)) (asked : Asked) (function : ℕ) : Type 0 where
   pub tuple : List Val
   pub of : Contains calls (function, tuple)
   pub within : function < length asked.tuples

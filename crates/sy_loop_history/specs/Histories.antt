@@ -27,8 +27,8 @@ trace question bodies values =
     all_asked_by (functions question.definitions) (map (function_from (functions question.definitions)) bodies) values question.constraints
 
 -- the second history has each counterexample of the first
-abbrev pub IsKept : List Counterexample → List Counterexample → Type 0
-IsKept history history' = (counterexample : Counterexample) → Contains history counterexample → Contains history' counterexample
+abbrev pub HistoryIsKept : List Counterexample → List Counterexample → Type 0
+HistoryIsKept history history' = (counterexample : Counterexample) → Contains history counterexample → Contains history' counterexample
 
 -- the bodies violate the problem at an assignment of the history
 pub record IsViolatedIn (question : Question) (history : List Counterexample) (bodies : List Expr) : Type 0 where
@@ -87,13 +87,13 @@ pub record IsDue (reach : Reach) (question : Question) (size : ℕ) (history : L
   pub meets : All (λ (c : Counterexample). Meets question bodies c.assignment) history
 
 -- a counterexample to bodies that were due
-pub record IsNext (reach : Reach) (question : Question) (size : ℕ) (history : List Counterexample) (counterexample : Counterexample) : Type 0 where
+pub record IsNextCounterexample (reach : Reach) (question : Question) (size : ℕ) (history : List Counterexample) (counterexample : Counterexample) : Type 0 where
   pub values : AreValues question.variables counterexample.assignment
   pub due : IsDue reach question size history counterexample.bodies
   pub violates : Violates question counterexample.bodies counterexample.assignment
 
 -- at most so many counterexamples, each next after those before it
-pub record IsHonest (reach : Reach) (question : Question) (size rounds : ℕ) (history : List Counterexample) : Type 0 where
+pub record IsHonestHistory (reach : Reach) (question : Question) (size rounds : ℕ) (history : List Counterexample) : Type 0 where
   pub few : length history ≤ rounds
   pub each : (place : ℕ) (counterexample : Counterexample) → slice_get history place ≡ Some counterexample →
-      IsNext reach question size (take place history) counterexample
+      IsNextCounterexample reach question size (take place history) counterexample

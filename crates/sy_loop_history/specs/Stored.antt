@@ -1,4 +1,4 @@
--- The histories that kept pairs of an assignment and the candidate that it refuted stand for.
+-- The histories that kept pairs stand for: each pair has a candidate and the assignment that refuted it.
 use Rattle.std.specs.Prelude.{List, map}
 use Rattle.sy_terms.specs.Values.{Val}
 use Rattle.sy_terms.specs.Denoted.{vals_of, expr_of}

@@ -15,7 +15,7 @@ asked_by question bodies values term =
     asked (functions question.definitions) (map (function_from (functions question.definitions)) bodies) values term
 
 -- the term isn't true, and asks for these calls and no others
-pub record IsFalse (question : Question) (bodies : List Expr) (values : List Val) (term : Expr) (calls : List (ℕ × List Val)) : Type 0 where
+pub record IsFalseByCalls (question : Question) (bodies : List Expr) (values : List Val) (term : Expr) (calls : List (ℕ × List Val)) : Type 0 where
   pub untrue : IsTrueUnder question bodies values term → ⊥
   pub all : (call : ℕ × List Val) → Contains (asked_by question bodies values term) call → Contains calls call
   pub only : (call : ℕ × List Val) → Contains calls call → Contains (asked_by question bodies values term) call
@@ -25,13 +25,13 @@ pub record IsFalse (question : Question) (bodies : List Expr) (values : List Val
 pub record IsOneFalse (question : Question) (bodies : List Expr) (values : List Val) (terms : List Expr) (calls : List (ℕ × List Val)) : Type 0 where
   pub term : Expr
   pub of : Contains terms term
-  pub is : IsFalse question bodies values term calls
+  pub is : IsFalseByCalls question bodies values term calls
 
 -- one of the terms leaves the range
 pub record OneLeaves (question : Question) (bodies : List Expr) (values : List Val) (terms : List Expr) : Type 0 where
   pub term : Expr
   pub of : Contains terms term
-  pub leaves : budgets.Leaves question bodies values term
+  pub leaves : budgets.LeavesRange question bodies values term
 
 -- the bodies make all assumptions true and a constraint false, which asks for these calls
 pub record IsViolated (question : Question) (bodies : List Expr) (values : List Val) (calls : List (ℕ × List Val)) : Type 0 where

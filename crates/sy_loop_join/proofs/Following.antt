@@ -5,7 +5,7 @@ use Rattle.sy_terms.specs.Expr.{Expr}
 use Rattle.sy_terms.specs.Meaning.{functions}
 use Rattle.sy_grammar_base.specs.Questions.{Goal, Question}
 use Rattle.sy_query_limits.specs.declared.Limits.{Limits}
-use Rattle.sy_unify.specs.Unify.{IsUncovered, Serves}
+use Rattle.sy_unify.specs.Unify.{IsUncovered, ServesPoints}
 use Rattle.sy_unify.specs.declared.choice.Choice.{Choice}
 use Rattle.sy_points.specs.Asked.{Asked, of_function}
 use Rattle.sy_bank_rows.specs.Banks.{Entry, Merged}
@@ -21,7 +21,7 @@ use Rattle.sy_loop_laws.specs.Agreeing.{AssumptionsAskNothing}
 use Rattle.sy_loop_laws.specs.Refuting.{AllTreesViolate}
 use Rattle.sy_loop_goods.specs.declared.goods.Goods.{Goods}
 use Rattle.sy_loop_trees_laws.specs.Goods.{AreGoods, assignments_of}
-use Rattle.sy_loop_trees_laws.specs.Trees.{HaveRows, conditional_of, kept_below, truths}
+use Rattle.sy_loop_trees_laws.specs.Trees.{EntriesHaveRows, conditional_of, kept_below, truths}
 use Rattle.sy_loop_trees_laws.proofs.Kept.{kept_have_rows}
 use Rattle.sy_loop_trees_laws.proofs.Trees.{pointless_violates, served_violates, uncovered_violates}
 use Rattle.sy_loop_join.specs.Joining.{AreParts, IsJoinable, TreesFollowFrom}
@@ -61,13 +61,13 @@ module _ (reach : Reach) (question : Question) (limits : Limits) (history : List
         (uncovered_violates reach question limits.size limits.rounds n condition rule history asked bank goods.rows class known.honest nothing covering chooses' good' uncovered')
 
     -- the tree that serves all points is refuted
-    pub served_follow : (tree : Choice) (body : Expr) → Serves goods.rows rows (λ x. x < points) tree → body ≡ yield (conditional_of leaves conditions tree) → IsRefuted question history asked (body ∷ []) → TreesFollowFrom reach question history asked n bank
+    pub served_follow : (tree : Choice) (body : Expr) → ServesPoints goods.rows rows (λ x. x < points) tree → body ≡ yield (conditional_of leaves conditions tree) → IsRefuted question history asked (body ∷ []) → TreesFollowFrom reach question history asked n bank
     served_follow tree body serves is refuted covering all =
         let tuples = of_function asked 0 in
-        let have : HaveRows (functions question.definitions) tuples conditions =
-        subst (λ (cs : List Entry). HaveRows (functions question.definitions) tuples cs) (sym parts.conditions_are)
-        (subst (λ ps. HaveRows (functions question.definitions) ps (kept_below bank.levels condition (n + 1))) joinable.over (kept_have_rows joinable.goal.grammar (functions question.definitions) question.pool bank joinable.honest condition (n + 1))) in
-        let serves' = subst (λ (p : ℕ). Serves goods.rows (truths conditions) (λ x. x < p) tree) parts.points_are (subst (λ r. Serves goods.rows r (λ x. x < points) tree) parts.rows_are serves) in
+        let have : EntriesHaveRows (functions question.definitions) tuples conditions =
+        subst (λ (cs : List Entry). EntriesHaveRows (functions question.definitions) tuples cs) (sym parts.conditions_are)
+        (subst (λ ps. EntriesHaveRows (functions question.definitions) ps (kept_below bank.levels condition (n + 1))) joinable.over (kept_have_rows joinable.goal.grammar (functions question.definitions) question.pool bank joinable.honest condition (n + 1))) in
+        let serves' = subst (λ (p : ℕ). ServesPoints goods.rows (truths conditions) (λ x. x < p) tree) parts.points_are (subst (λ r. ServesPoints goods.rows r (λ x. x < points) tree) parts.rows_are serves) in
         trees_violate reach question history n
         (λ bodies joined. served_violates reach question limits.size limits.rounds history asked tuples leaves conditions goods.rows tree known.honest nothing pointwise have good parts.rest serves'
         (subst (λ (b : Expr). IsRefuted question history asked (b ∷ [])) is refuted) bodies)

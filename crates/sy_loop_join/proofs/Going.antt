@@ -23,7 +23,7 @@ use Rattle.sy_loop_candidate.specs.declared.step.Step.{Step}
 use Rattle.sy_loop_candidate.specs.declared.step.Step.TheVariants.{Next, Again}
 use Rattle.sy_loop_candidate.specs.declared.step.Step.TheVariants as steps
 use Rattle.sy_loop_history.specs.Trials.{IsRefuted}
-use Rattle.sy_loop_laws.specs.Refuting.{Grows}
+use Rattle.sy_loop_laws.specs.Refuting.{KnownGrows}
 use Rattle.sy_loop_join.specs.Going.{Goes, OnNext}
 
 -- as many stored pairs as the history has
@@ -32,7 +32,7 @@ same_room number before after rounds same room =
     omega (arith, room, ap length same, length-map before.items (counterexample_of number), length-map after.items (counterexample_of number))
 
 -- what a candidate leaves has what was known
-grown : (question : Question) (bodies : List Expr) (history history' : List Counterexample) (asked asked' : Asked) → (history' ≡ history) ⊎ IsStored question bodies history history' asked' → traces.Grows asked asked' → Grows history asked history' asked'
+grown : (question : Question) (bodies : List Expr) (history history' : List Counterexample) (asked asked' : Asked) → (history' ≡ history) ⊎ IsStored question bodies history history' asked' → traces.TuplesGrow asked asked' → KnownGrows history asked history' asked'
 grown question bodies history history' asked asked' stored grows = record {
   stored = λ c of. ⊎_elim
       (λ (same : history' ≡ history). subst (λ h. Contains h c) (sym same) of)
@@ -54,7 +54,7 @@ next_always A (steps.End end) fact = tt
 
 module _ {T P S N : Type 0} (owned : Op → Bool) (number : N → Val) (accepted : Query → P → Type 0) (budget : S → FailName) (shows : Query → Limits → FailName → S → Type 0) (reach : Reach) (question : Question) (limits : Limits) where
   -- one candidate
-  pub goes_by : (bodies : List Expr) (history history' : List Counterexample) (asked asked' : Asked) (step : Step T P S N) → Steps owned number accepted budget shows reach question limits bodies history asked history' asked' step → traces.Grows asked asked' →
+  pub goes_by : (bodies : List Expr) (history history' : List Counterexample) (asked asked' : Asked) (step : Step T P S N) → Steps owned number accepted budget shows reach question limits bodies history asked history' asked' step → traces.TuplesGrow asked asked' →
       Goes owned number accepted budget shows reach question limits history asked history' asked' step
   goes_by bodies history history' asked asked' Next came grows = (came.1, came.2)
   goes_by bodies history history' asked asked' Again came grows = (came.0, grown question bodies history history' asked asked' came.1 grows, came.2)
@@ -65,7 +65,7 @@ module _ {T P S N : Type 0} (owned : Op → Bool) (number : N → Val) (accepted
       Goes owned number accepted budget shows reach question limits first initial history' asked' step
   goes_after first history history' initial asked asked' Next same same' came = (came.0 ∙ same, came.1 ∙ same')
   goes_after first history history' initial asked asked' Again same same' came =
-      (subst (λ h. left limits history' asked' < left limits h initial) same (subst (λ a. left limits history' asked' < left limits history a) same' came.0), subst (λ h. Grows h initial history' asked') same (subst (λ a. Grows history a history' asked') same' came.1), came.2)
+      (subst (λ h. left limits history' asked' < left limits h initial) same (subst (λ a. left limits history' asked' < left limits history a) same' came.0), subst (λ h. KnownGrows h initial history' asked') same (subst (λ a. KnownGrows history a history' asked') same' came.1), came.2)
   goes_after first history history' initial asked asked' (steps.End end) same same' came = came
 
   -- where nothing new is learned, it is refuted

@@ -19,7 +19,7 @@ use Rattle.sy_grammar_base.specs.Solving.{AreMembers, AreWithin}
 use Rattle.sy_grammar_base.specs.declared.problem.Problem.{Problem}
 use Rattle.sy_grammar_laws.proofs.Candidates.{bodies_fit}
 use Rattle.sy_query_limits.specs.declared.Limits.{Limits}
-use Rattle.sy_unify.specs.Unify.{Serves, leaf_count}
+use Rattle.sy_unify.specs.Unify.{ServesPoints, leaf_count}
 use Rattle.sy_unify.specs.declared.choice.Choice.{Choice}
 use Rattle.sy_points.specs.Asked.{Asked, of_function}
 use Rattle.sy_bank_rows.specs.Banks.{Entry, Merged}
@@ -33,9 +33,9 @@ use Rattle.sy_loop_history.specs.Budgets.{CheckedLeaves}
 use Rattle.sy_loop_history.specs.Histories.{Counterexample, IsCandidate, IsFewJoined, IsMet, IsOpenNumber, MayTry}
 use Rattle.sy_loop_history.proofs.Staying.{may_try}
 use Rattle.sy_loop_candidate.specs.Known.{IsKnown}
-use Rattle.sy_loop_candidate.specs.Traces.{LeavesAt}
+use Rattle.sy_loop_candidate.specs.Traces.{LeavesRangeAt}
 use Rattle.sy_loop_candidate.proofs.Ending.{candidate_members, checked_leaves, members}
-use Rattle.sy_loop_goods.specs.Leaves.{AreLeaves, IsLeaving}
+use Rattle.sy_loop_goods.specs.Leaves.{AreLeaves, LeafLeaves}
 use Rattle.sy_loop_goods.specs.declared.goods.Goods.{Goods}
 use Rattle.sy_loop_goods.specs.declared.goods.Leaving.{Leaving}
 use Rattle.sy_loop_trees_laws.specs.Trees.{conditional_of, kept_below, truths}
@@ -98,18 +98,18 @@ module _ (reach : Reach) (question : Question) (limits : Limits) (history : List
   leaf_candidate k entry at = record { number = n; number_open = opened; by = may_try reach question limits.size history n (entry.term ∷ []) (kept_within question asked n pointwise bank joinable k entry at) }
 
   -- a leaf under which a term of the problem leaves the range
-  pub leaf_leaves : (leaves : List Entry) (leaving : Leaving) (entry : Entry) (assignment : List Val) → leaves ≡ kept_below bank.levels 0 (n + 1) → length history < limits.rounds → IsLeaving question history leaves leaving → slice_get leaves leaving.leaf ≡ Some entry →
+  pub leaf_leaves : (leaves : List Entry) (leaving : Leaving) (entry : Entry) (assignment : List Val) → leaves ≡ kept_below bank.levels 0 (n + 1) → length history < limits.rounds → LeafLeaves question history leaves leaving → slice_get leaves leaving.leaf ≡ Some entry →
       option_map (λ (k : Counterexample). k.assignment) (slice_get history leaving.place) ≡ Some assignment → CheckedLeaves reach question limits.size limits.rounds history (entry.term ∷ []) assignment
   leaf_leaves leaves leaving entry assignment are room is at there =
       let found : Some is.entry ≡ Some entry = sym is.at ∙ at in
       let same : is.entry ≡ entry = cc in
       let kept : slice_get (kept_below bank.levels 0 (n + 1)) leaving.leaf ≡ Some entry = subst (λ (all : List Entry). slice_get all leaving.leaf ≡ Some entry) are at in
       checked_leaves reach question limits history (entry.term ∷ []) leaving.place assignment known.honest room (leaf_candidate leaving.leaf entry kept)
-      (subst (λ (e : Entry). LeavesAt question history (e.term ∷ []) leaving.place) same is.leaves_at) there
+      (subst (λ (e : Entry). LeavesRangeAt question history (e.term ∷ []) leaving.place) same is.leaves_at) there
 
   -- a tree that serves all points
   pub tree_candidate : (condition rule points : ℕ) (leaves conditions : List Entry) (goods : Goods) (rows : List (List Bool)) (tree : Choice) (body : Expr) → TriesTrees reach → IsTreeRule joinable.goal.grammar rule condition →
-      AreParts question history asked condition n bank leaves conditions goods rows points → Serves goods.rows rows (λ x. x < points) tree → leaf_count tree ≤ points → body ≡ yield (conditional_of leaves conditions tree) →
+      AreParts question history asked condition n bank leaves conditions goods rows points → ServesPoints goods.rows rows (λ x. x < points) tree → leaf_count tree ≤ points → body ≡ yield (conditional_of leaves conditions tree) →
       IsCandidate reach question limits.size history (body ∷ [])
   tree_candidate condition rule points leaves conditions goods rows tree body tries chooses parts serves few is =
       let kept = kept_below bank.levels 0 (n + 1) in
@@ -117,7 +117,7 @@ module _ (reach : Reach) (question : Question) (limits : Limits) (history : List
       let tuples = of_function asked 0 in
       let long : points ≡ length bank.points = parts.points_are ∙ ap length (sym joinable.over) in
       let rows_are : rows ≡ truths tests = parts.rows_are ∙ ap truths parts.conditions_are in
-      let serves' : Serves goods.rows (truths tests) (λ x. x < length bank.points) tree = subst (λ r. Serves goods.rows r (λ x. x < length bank.points) tree) rows_are (subst (λ (p : ℕ). Serves goods.rows rows (λ x. x < p) tree) long serves) in
+      let serves' : ServesPoints goods.rows (truths tests) (λ x. x < length bank.points) tree = subst (λ r. ServesPoints goods.rows r (λ x. x < length bank.points) tree) rows_are (subst (λ (p : ℕ). ServesPoints goods.rows rows (λ x. x < p) tree) long serves) in
       let within = parts_within joinable.goal.grammar (functions question.definitions) question.pool bank joinable.honest condition n goods.rows (parts.many ∙ ap length parts.leaves_are) (λ x. x < length bank.points) 0 (omega (arith, parts.some, long)) tree serves'.good serves'.splits in
       let joined : IsJoinedWithin question n (yield (conditional_of kept tests tree) ∷ []) = record {
         goal = joinable.goal;

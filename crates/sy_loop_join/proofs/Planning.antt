@@ -21,11 +21,11 @@ use Rattle.sy_loop_bounds.specs.Pointwise.{IsPointwise}
 use Rattle.sy_loop_bounds.specs.declared.reach.Reach.{Reach}
 use Rattle.sy_loop_candidate.proofs.Items.{has_place}
 use Rattle.sy_loop_trees.specs.Conditions as conditions
-use Rattle.sy_loop_join.specs.Plans.{HasNoTrees}
+use Rattle.sy_loop_join.specs.Plans.{TriesNoTrees}
 
 module _ {T N : Type 0} (number : N → Val) (problem : Problem T N) (reach : Reach) where
   -- nothing is to be found
-  pub none_wanted : length problem.wanted ≤ 0 → HasNoTrees reach (question_of number problem)
+  pub none_wanted : length problem.wanted ≤ 0 → TriesNoTrees reach (question_of number problem)
   none_wanted none tries n bodies joined =
       let one : length (question_of number problem).goals ≡ 1 = ap length joined.one in
       absurd (omega (arith, one, none, length-map problem.wanted (goal_of number)))
@@ -34,14 +34,14 @@ module _ {T N : Type 0} (number : N → Val) (problem : Problem T N) (reach : Re
   first_goal wanted at = slice_get-map (goal_of number) problem.wanted 0 ∙ ap (option_map (goal_of number)) at
 
   -- no rule makes them
-  pub none_chooses : (wanted : Wanted T N) → slice_get problem.wanted 0 ≡ Some wanted → conditions.HasNoTrees (syntax_from number wanted.grammar) → HasNoTrees reach (question_of number problem)
+  pub none_chooses : (wanted : Wanted T N) → slice_get problem.wanted 0 ≡ Some wanted → conditions.HasNoTrees (syntax_from number wanted.grammar) → TriesNoTrees reach (question_of number problem)
   none_chooses wanted at none tries n bodies joined =
       let found : Some joined.goal ≡ Some (goal_of number wanted) = sym (ap (λ (goals : List Goal). slice_get goals 0) joined.one) ∙ first_goal wanted at in
       let same : joined.goal ≡ goal_of number wanted = cc in
       absurd (none joined.rule joined.condition (subst (λ (goal : Goal). IsTreeRule goal.grammar joined.rule joined.condition) same joined.chooses))
 
   -- some constraint isn't pointwise
-  pub none_pointwise : (IsPointwise (question_of number problem) → ⊥) → HasNoTrees reach (question_of number problem)
+  pub none_pointwise : (IsPointwise (question_of number problem) → ⊥) → TriesNoTrees reach (question_of number problem)
   none_pointwise none tries n bodies joined = absurd (none joined.pointwise)
 
 -- the first grammar is well formed

@@ -18,7 +18,7 @@ use Rattle.sy_loop_candidate.specs.declared.step.Known.{Known}
 use Rattle.sy_loop_candidate.specs.declared.step.Step.{Step}
 use Rattle.sy_loop_join.specs.Going.{Goes}
 use Rattle.sy_loop_join.specs.Joining.{AreParts, IsJoinable, TreesFollowFrom}
-use Rattle.sy_loop_join.specs.Plans.{HasNoTrees, IsPlan}
+use Rattle.sy_loop_join.specs.Plans.{TriesNoTrees, IsPlan}
 use Rattle.sy_loop_join.specs.declared.join.Parts.{Parts}
 use Rattle.sy_loop_join.specs.declared.plan.Plan.{Plan}
 
@@ -36,7 +36,7 @@ module _ {T N : Type 0} (theory : TheoryOf T N) (problem : Problem T N) where
 
 module _ {T N : Type 0} (theory : TheoryOf T N) (reach : Reach) (problem : Problem T N) where
   abbrev pub HasNoTreesFor : Type 0
-  HasNoTreesFor = HasNoTrees reach (question_of theory.denotes problem)
+  HasNoTreesFor = TriesNoTrees reach (question_of theory.denotes problem)
 
   abbrev pub IsPlanFor : Plan T N → Type 0
   IsPlanFor = IsPlan reach (question_of theory.denotes problem)

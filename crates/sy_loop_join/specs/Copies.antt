@@ -8,7 +8,7 @@ use Rattle.sy_points.specs.declared.stored.Stored.{Stored}
 use Rattle.sy_bank_rows.specs.Banks.{Entry}
 use Rattle.sy_loop_history.specs.Histories.{Counterexample}
 use Rattle.sy_loop_history.specs.Stored.{history_of}
-use Rattle.sy_loop_candidate.specs.Steps.{IsAssignment}
+use Rattle.sy_loop_candidate.specs.Steps.{IsStoredAt}
 use Rattle.sy_loop_goods.specs.declared.goods.Leaving.{Leaving}
 
 -- the bodies and the assignment are the stored ones of this place
@@ -16,11 +16,11 @@ pub record AreStored {T N : Type 0} (number : N → Val) (stored : Stored T N) (
   pub counterexample : Counterexample
   pub at : slice_get (history_of number stored) place ≡ Some counterexample
   pub bodies_are : map (expr_of number) bodies ≡ counterexample.bodies
-  pub assigned : IsAssignment number stored place assignment
+  pub assigned : IsStoredAt number stored place assignment
 
 -- the one body is the leaf, and the assignment the stored one of the place
 pub record AreLeft {T N : Type 0} (number : N → Val) (stored : Stored T N) (leaves : List Entry) (leaving : Leaving) (bodies : List (Term T N)) (assignment : List (Value N)) : Type 0 where
   pub entry : Entry
   pub at : slice_get leaves leaving.leaf ≡ Some entry
   pub bodies_are : map (expr_of number) bodies ≡ entry.term ∷ []
-  pub assigned : IsAssignment number stored leaving.place assignment
+  pub assigned : IsStoredAt number stored leaving.place assignment

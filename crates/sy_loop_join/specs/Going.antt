@@ -10,11 +10,11 @@ use Rattle.sy_points.specs.Asked.{Asked}
 use Rattle.sy_loop_bounds.specs.declared.reach.Reach.{Reach}
 use Rattle.sy_loop_history.specs.Histories.{Counterexample}
 use Rattle.sy_loop_candidate.specs.Known.{left}
-use Rattle.sy_loop_candidate.specs.Steps.{IsEnd}
+use Rattle.sy_loop_candidate.specs.Steps.{IsCandidateEnd}
 use Rattle.sy_loop_candidate.specs.declared.step.Step.{Step}
 use Rattle.sy_loop_candidate.specs.declared.step.Step.TheVariants.{Next, Again}
 use Rattle.sy_loop_candidate.specs.declared.step.Step.TheVariants as steps
-use Rattle.sy_loop_laws.specs.Refuting.{Grows}
+use Rattle.sy_loop_laws.specs.Refuting.{KnownGrows}
 
 -- a fact where nothing new is learned
 abbrev pub OnNext : {T P S N : Type 0} → Type 0 → Step T P S N → Type 0
@@ -26,6 +26,6 @@ OnNext fact (steps.End end) = Unit {0}
 abbrev pub Goes : {T P S N : Type 0} → (Op → Bool) → (N → Val) → (Query → P → Type 0) → (S → FailName) → (Query → Limits → FailName → S → Type 0) → Reach → Question → Limits → List Counterexample → Asked → List Counterexample → Asked → Step T P S N → Type 0
 Goes owned number accepted budget shows reach question limits history asked history' asked' Next = (history' ≡ history) × (asked' ≡ asked)
 Goes owned number accepted budget shows reach question limits history asked history' asked' Again =
-    (left limits history' asked' < left limits history asked) × Grows history asked history' asked' × (length history' < limits.rounds)
+    (left limits history' asked' < left limits history asked) × KnownGrows history asked history' asked' × (length history' < limits.rounds)
 Goes owned number accepted budget shows reach question limits history asked history' asked' (steps.End end) =
-    IsEnd owned number accepted budget shows reach question limits history' asked' end
+    IsCandidateEnd owned number accepted budget shows reach question limits history' asked' end

@@ -3,12 +3,12 @@ use Rattle.std.specs.Prelude.{ℕ, ◌+◌, ◌≡◌, ◌≤◌, Bool, List, le
 use Rattle.sy_terms.specs.Meaning.{functions}
 use Rattle.sy_grammar_base.specs.Questions.{Goal, Question}
 use Rattle.sy_points.specs.Asked.{AreDistinct, Asked, of_function}
-use Rattle.sy_bank_rows.specs.Banks.{Entry, Merged, IsHonest}
+use Rattle.sy_bank_rows.specs.Banks.{Entry, Merged, IsHonestBank}
 use Rattle.sy_loop_bounds.specs.declared.reach.Reach.{Reach}
 use Rattle.sy_loop_history.specs.Histories.{Counterexample}
 use Rattle.sy_loop_laws.specs.Merging.{IsCoveringOf}
 use Rattle.sy_loop_laws.specs.Refuting.{AllRefuted, AllTreesViolate}
-use Rattle.sy_loop_goods.specs.Leaves.{IsLeaving}
+use Rattle.sy_loop_goods.specs.Leaves.{LeafLeaves}
 use Rattle.sy_loop_goods.specs.declared.goods.Goods.{Goods}
 use Rattle.sy_loop_trees_laws.specs.Goods.{AllRestWithin, AreGoods, assignments_of}
 use Rattle.sy_loop_trees_laws.specs.Trees.{kept_below, truths}
@@ -18,7 +18,7 @@ pub record IsJoinable (question : Question) (asked : Asked) (bank : Merged) : Ty
   pub goal : Goal
   pub at : slice_get question.goals 0 ≡ Some goal
   pub over : bank.points ≡ of_function asked 0
-  pub honest : IsHonest goal.grammar (functions question.definitions) question.pool bank
+  pub honest : IsHonestBank goal.grammar (functions question.definitions) question.pool bank
 
 -- where the bank covers all derivations up to n, and all members of such sizes are refuted, so are all conditional trees in that bound
 abbrev pub TreesFollowFrom : Reach → Question → List Counterexample → Asked → ℕ → Merged → Type 0
@@ -33,7 +33,7 @@ pub record AreParts (question : Question) (history : List Counterexample) (asked
   pub rows_are : rows ≡ truths conditions
   pub many : length goods.rows ≡ length leaves
   pub good : goods.leaving ≡ None → AreGoods question (assignments_of history) (of_function asked 0) leaves goods.rows
-  pub leaving : IfSome goods.leaving (IsLeaving question history leaves)
+  pub leaving : IfSome goods.leaving (LeafLeaves question history leaves)
   pub points_are : points ≡ length (of_function asked 0)
   pub some : 1 ≤ points
   pub distinct : AreDistinct (of_function asked 0)

@@ -17,8 +17,8 @@ TriesTrees Joins = Unit {0}
 TriesTrees Beyond = Unit {0}
 
 -- it tries none, or the problem has none in any bound
-abbrev pub HasNoTrees : Reach → Question → Type 0
-HasNoTrees reach question = TriesTrees reach → (n : ℕ) (bodies : List Expr) → IsJoinedWithin question n bodies → ⊥
+abbrev pub TriesNoTrees : Reach → Question → Type 0
+TriesNoTrees reach question = TriesTrees reach → (n : ℕ) (bodies : List Expr) → IsJoinedWithin question n bodies → ⊥
 
 -- it tries trees, whose conditions are of the plan's nonterminal; the problem is pointwise, and the plan has its constraints
 pub record IsPlan {T N : Type 0} (reach : Reach) (question : Question) (plan : Plan T N) : Type 0 where

@@ -10,7 +10,7 @@ use Rattle.sy_grammar_base.specs.Questions.{Goal, Question}
 use Rattle.sy_grammar_base.specs.Solving.{AreWithin}
 use Rattle.sy_points.specs.Asked.{Asked, of_function}
 use Rattle.sy_bank_rows.specs.Rows.{IsRow}
-use Rattle.sy_bank_rows.specs.Banks.{Entry, Merged, IsKept, IsHonest}
+use Rattle.sy_bank_rows.specs.Banks.{Entry, Merged, IsKept, IsHonestBank}
 use Rattle.sy_bank_rows.specs.Covering.{Covers, sizes, terms}
 use Rattle.sy_bank_coverage_laws.proofs.Alike.{Alike, rows_alike}
 use Rattle.sy_loop_laws.specs.Merging.{AreCovering, AreChosen, AreMerged}
@@ -21,7 +21,7 @@ record Serves (defined : List Function) (pool : List Val) (goals : List Goal) (t
   pub at : slice_get goals place ≡ Some goal
   pub over : bank.points ≡ tuples place
   pub up : n ≤ bank.upto
-  pub honest : IsHonest goal.grammar defined pool bank
+  pub honest : IsHonestBank goal.grammar defined pool bank
   pub covers : Covers goal.grammar defined pool bank
 
 -- both have the same value at the tuple, where both are computable
@@ -82,7 +82,7 @@ matched defined pool n m (goal ∷ goals) tuples (bank ∷ banks) [] serve all s
 matched defined pool n m (goal ∷ goals) tuples (bank ∷ banks) (body ∷ bodies) serve all small within =
     let it = serve 0 bank refl in
     let same : goal ≡ it.goal = cc in
-    let honest = subst (λ (g : Goal). IsHonest g.grammar defined pool bank) (sym same) it.honest in
+    let honest = subst (λ (g : Goal). IsHonestBank g.grammar defined pool bank) (sym same) it.honest in
     let covers = subst (λ (g : Goal). Covers g.grammar defined pool bank) (sym same) it.covers in
     let size = tree_size goal.grammar pool 0 within.0 in
     let up = it.up in
@@ -104,7 +104,7 @@ kept_within defined pool n (goal ∷ goals) tuples (bank ∷ banks) [] serve all
 kept_within defined pool n (goal ∷ goals) tuples (bank ∷ banks) (entry ∷ chosen) serve all kept =
     let it = serve 0 bank refl in
     let same : goal ≡ it.goal = cc in
-    let honest = subst (λ (g : Goal). IsHonest g.grammar defined pool bank) (sym same) it.honest in
+    let honest = subst (λ (g : Goal). IsHonestBank g.grammar defined pool bank) (sym same) it.honest in
     let sound = (honest.each 0 kept.0.size kept.0.place entry kept.0.at).1 in
     let sized = sound.sized in
     let rest : sizes chosen ≡ (entry.size + sizes chosen) - tree_size goal.grammar pool 0 entry.tree = omega (arith, sized) in (

@@ -8,7 +8,7 @@ use Rattle.sy_grammar_base.specs.Questions.{Question}
 use Rattle.sy_grammar_base.specs.Solving.{Meets}
 use Rattle.sy_points.specs.Asked.{AreDistinct}
 use Rattle.sy_loop_bounds.specs.declared.reach.Reach.{Reach}
-use Rattle.sy_loop_history.specs.Histories.{Counterexample, IsHonest}
+use Rattle.sy_loop_history.specs.Histories.{Counterexample, IsHonestHistory}
 
 -- no assignment of a place is that of a place before it
 abbrev Differ : List (List Val) → Type 0
@@ -33,7 +33,7 @@ counterexample_at [] place values at = absurd (cc)
 counterexample_at (c ∷ history) zero values at = (c, refl, cc)
 counterexample_at (c ∷ history) (suc place) values at = counterexample_at history place values at
 
-pub assignments_differ : (reach : Reach) (question : Question) (size rounds : ℕ) (history : List Counterexample) → IsHonest reach question size rounds history → AreDistinct (map (λ (c : Counterexample). c.assignment) history)
+pub assignments_differ : (reach : Reach) (question : Question) (size rounds : ℕ) (history : List Counterexample) → IsHonestHistory reach question size rounds history → AreDistinct (map (λ (c : Counterexample). c.assignment) history)
 assignments_differ reach question size rounds history honest = distinct (map (λ (c : Counterexample). c.assignment) history) apart
   where
     apart : Differ (map (λ (c : Counterexample). c.assignment) history)

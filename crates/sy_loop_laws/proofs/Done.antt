@@ -8,10 +8,10 @@ use Rattle.sy_points.specs.Asked.{Asked}
 use Rattle.sy_loop_bounds.specs.Bounds.{IsJoinedWithin}
 use Rattle.sy_loop_bounds.specs.declared.reach.Reach.{Reach}
 use Rattle.sy_loop_bounds.specs.declared.reach.Reach.TheVariants.{Sizes, Joins, Beyond}
-use Rattle.sy_loop_history.specs.Histories.{AllViolate, AreViolatedBelow, Counterexample, IsHonest, IsOpenNumber}
+use Rattle.sy_loop_history.specs.Histories.{AllViolate, AreViolatedBelow, Counterexample, IsHonestHistory, IsOpenNumber}
 use Rattle.sy_loop_history.proofs.Staying.{below_stays}
 use Rattle.sy_loop_history.specs.Unsolved.{NoSolutionWithin}
-use Rattle.sy_loop_laws.specs.Refuting.{AllRefuted, AllTreesViolate, AreDoneBelow, Grows}
+use Rattle.sy_loop_laws.specs.Refuting.{AllRefuted, AllTreesViolate, AreDoneBelow, KnownGrows}
 use Rattle.sy_loop_laws.proofs.Refuted.{violated_in, stays_refuted, all_violate, no_solution_within}
 
 none_below : (reach : Reach) (question : Question) (history : List Counterexample) → AreViolatedBelow reach question history 0
@@ -48,7 +48,7 @@ module _ (question : Question) (history : List Counterexample) (asked : Asked) (
     violated = below_next reach all trees done.violated;
   }
 
-pub stays : (reach : Reach) (question : Question) (history history' : List Counterexample) (asked asked' : Asked) (n : ℕ) → Grows history asked history' asked' → AreDoneBelow reach question history asked n → AreDoneBelow reach question history' asked' n
+pub stays : (reach : Reach) (question : Question) (history history' : List Counterexample) (asked asked' : Asked) (n : ℕ) → KnownGrows history asked history' asked' → AreDoneBelow reach question history asked n → AreDoneBelow reach question history' asked' n
 stays reach question history history' asked asked' n grows done = record {
   refuted = λ m less bodies within. stays_refuted question history history' asked asked' bodies grows (done.refuted m less bodies within);
   violated = below_stays question history history' grows.stored reach n done.violated;
@@ -62,7 +62,7 @@ at_once Sizes question history n strict below = below n (omega arith)
 at_once Joins question history n strict below = below n (omega arith)
 at_once Beyond question history n strict below = absurd (strict refl)
 
-pub ends : (reach : Reach) (question : Question) (size rounds n : ℕ) (history : List Counterexample) (asked : Asked) → (reach ≡ Beyond → ⊥) → IsHonest reach question size rounds history →
+pub ends : (reach : Reach) (question : Question) (size rounds n : ℕ) (history : List Counterexample) (asked : Asked) → (reach ≡ Beyond → ⊥) → IsHonestHistory reach question size rounds history →
     AreDoneBelow reach question history asked (n + 1) → NoSolutionWithin reach question n
 ends reach question size rounds n history asked strict honest done =
     no_solution_within reach question size rounds n history honest (at_once reach question history n strict done.violated)

@@ -19,21 +19,21 @@ use Rattle.sy_bank_rows.specs.Banks.{Entry, Merged}
 use Rattle.sy_bank_rows.specs.Covering.{sizes, terms}
 use Rattle.sy_loop_bounds.specs.declared.reach.Reach.{Reach}
 use Rattle.sy_loop_bounds.specs.declared.reach.Reach.TheVariants.{Sizes}
-use Rattle.sy_loop_history.specs.Histories.{AllViolate, Counterexample, IsHonest, IsViolatedIn}
+use Rattle.sy_loop_history.specs.Histories.{AllViolate, Counterexample, IsHonestHistory, IsViolatedIn}
 use Rattle.sy_loop_history.proofs.Staying.{in_bound}
 use Rattle.sy_loop_history.specs.Sizes.{SumTo, AreAtMost}
 use Rattle.sy_loop_history.specs.Unsolved.{NoSolution, NoSolutionWithin}
 use Rattle.sy_loop_history.specs.Adding.{AreAsked}
-use Rattle.sy_loop_history.specs.Truths.{asked_by, IsFalse, IsViolated}
+use Rattle.sy_loop_history.specs.Truths.{asked_by, IsFalseByCalls, IsViolated}
 use Rattle.sy_loop_history.specs.Trials.{IsRefuted}
-use Rattle.sy_loop_laws.specs.Agreeing.{Agree, AssumptionsFit, AssumptionsAskNothing}
+use Rattle.sy_loop_laws.specs.Agreeing.{BodiesAgree, AssumptionsFit, AssumptionsAskNothing}
 use Rattle.sy_loop_laws.specs.Merging.{AreCovering, AreChosen, AreMerged}
-use Rattle.sy_loop_laws.specs.Refuting.{AllRefuted, Grows}
+use Rattle.sy_loop_laws.specs.Refuting.{AllRefuted, KnownGrows}
 use Rattle.sy_loop_laws.proofs.Same.{SameAt, Stands, stands, same_called}
 use Rattle.sy_loop_laws.proofs.Covered.{are_merged}
 
 -- bodies that agree have functions of the same values at the tuples
-same_at : (question : Question) (asked : Asked) (bodies others : List Expr) (calls : List (ℕ × List Val)) → Agree question asked bodies others → AreAsked calls asked →
+same_at : (question : Question) (asked : Asked) (bodies others : List Expr) (calls : List (ℕ × List Val)) → BodiesAgree question asked bodies others → AreAsked calls asked →
     SameAt (map (function_from (functions question.definitions)) bodies) (map (function_from (functions question.definitions)) others) calls
 same_at question asked bodies others calls agree there call of =
     same_called (functions question.definitions) bodies others call.0 call.1 agree.many (λ body other first second. agree.each call.0 body other call.1 first second (there call.0 call.1 of))
@@ -46,7 +46,7 @@ same_of : (question : Question) (bodies others : List Expr) (values : List Val) 
 same_of question bodies others values term calls same among = stands (functions question.definitions) _ _ values term (λ call of. same call (among call of))
 
 false_of : (question : Question) (bodies others : List Expr) (values : List Val) (term : Expr) (calls : List (ℕ × List Val)) →
-    SameAt (map (function_from (functions question.definitions)) bodies) (map (function_from (functions question.definitions)) others) calls → IsFalse question bodies values term calls → IsFalse question others values term calls
+    SameAt (map (function_from (functions question.definitions)) bodies) (map (function_from (functions question.definitions)) others) calls → IsFalseByCalls question bodies values term calls → IsFalseByCalls question others values term calls
 false_of question bodies others values term calls same is =
     let both = same_of question bodies others values term calls same is.all in
     record {
@@ -63,7 +63,7 @@ nothing_among [] more e call of = absurd (no_element call of)
     no_element x of = omega (arith, of.1)
 nothing_among (c ∷ calls) more e call of = absurd (cc)
 
-pub violated_together : (question : Question) (asked : Asked) (bodies others : List Expr) (values : List Val) (calls : List (ℕ × List Val)) → AssumptionsAskNothing question → Agree question asked bodies others → AreAsked calls asked →
+pub violated_together : (question : Question) (asked : Asked) (bodies others : List Expr) (values : List Val) (calls : List (ℕ × List Val)) → AssumptionsAskNothing question → BodiesAgree question asked bodies others → AreAsked calls asked →
     IsViolated question bodies values calls → IsViolated question others values calls
 violated_together question asked bodies others values calls assumes agree there violated =
     let same = same_at question asked bodies others calls agree there in
@@ -75,7 +75,7 @@ violated_together question asked bodies others values calls assumes agree there 
       constraint = record { term = one.term; of = one.of; is = false_of question bodies others values one.term calls same one.is };
     }
 
-pub refuted_together : (question : Question) (history : List Counterexample) (asked : Asked) (bodies others : List Expr) → AssumptionsAskNothing question → Agree question asked bodies others →
+pub refuted_together : (question : Question) (history : List Counterexample) (asked : Asked) (bodies others : List Expr) → AssumptionsAskNothing question → BodiesAgree question asked bodies others →
     IsRefuted question history asked bodies → IsRefuted question history asked others
 refuted_together question history asked bodies others assumes agree refuted = record {
   counterexample = refuted.counterexample;
@@ -126,7 +126,7 @@ next_refuted question history asked n banks assumes covering below kept bodies c
     less_or_same (suc m) (suc k) le = ⊎_elim (λ (less : m < k). inl (omega (arith, less))) (λ (same : m ≡ k). inr (ap suc same)) (less_or_same m k (omega (arith, le)))
 
 -- what is refuted stays so
-pub stays_refuted : (question : Question) (history history' : List Counterexample) (asked asked' : Asked) (bodies : List Expr) → Grows history asked history' asked' →
+pub stays_refuted : (question : Question) (history history' : List Counterexample) (asked asked' : Asked) (bodies : List Expr) → KnownGrows history asked history' asked' →
     IsRefuted question history asked bodies → IsRefuted question history' asked' bodies
 stays_refuted question history history' asked asked' bodies grows refuted = record {
   counterexample = refuted.counterexample;
@@ -140,13 +140,13 @@ pub all_violate : (question : Question) (history : List Counterexample) (asked :
 all_violate question history asked n all bodies candidate = violated_in question history asked bodies (all bodies candidate)
 
 -- the assignments of an honest history are values of the variables
-assigned : (reach : Reach) (question : Question) (size rounds : ℕ) (history : List Counterexample) (c : Counterexample) → IsHonest reach question size rounds history → Contains history c → AreValues question.variables c.assignment
+assigned : (reach : Reach) (question : Question) (size rounds : ℕ) (history : List Counterexample) (c : Counterexample) → IsHonestHistory reach question size rounds history → Contains history c → AreValues question.variables c.assignment
 assigned reach question size rounds history c honest of = let at = place_of history c of in (honest.each at.0 c at.1).values
   where
     place_of : {X : Type 0} (xs : List X) (x : X) → Contains xs x → (place : ℕ) × (slice_get xs place ≡ Some x)
     place_of xs x of = (of.0, slice_get-get_or xs of.0 x of.1 ∙ ap Some of.2)
 
-pub no_solution_within : (reach : Reach) (question : Question) (size rounds n : ℕ) (history : List Counterexample) → IsHonest reach question size rounds history → AllViolate reach question history n → NoSolutionWithin reach question n
+pub no_solution_within : (reach : Reach) (question : Question) (size rounds n : ℕ) (history : List Counterexample) → IsHonestHistory reach question size rounds history → AllViolate reach question history n → NoSolutionWithin reach question n
 no_solution_within reach question size rounds n history honest all bodies bound solves =
     let at = all bodies bound in
     at.violates.1 (solves at.counterexample.assignment (assigned reach question size rounds history at.counterexample honest at.stored) at.violates.0)

@@ -12,7 +12,7 @@ use Rattle.sy_loop_history.specs.Adding.{IsAsked}
 use Rattle.sy_loop_history.specs.Truths.{asked_by}
 
 -- as many bodies, and the two of each function have the same value at each of its tuples
-pub record Agree (question : Question) (asked : Asked) (bodies others : List Expr) : Type 0 where
+pub record BodiesAgree (question : Question) (asked : Asked) (bodies others : List Expr) : Type 0 where
   pub many : length bodies ≡ length others
   pub each : (function : ℕ) (body other : Expr) (tuple : List Val) → slice_get bodies function ≡ Some body → slice_get others function ≡ Some other → IsAsked asked function tuple →
       meaning (functions question.definitions) [] tuple body ≡ meaning (functions question.definitions) [] tuple other

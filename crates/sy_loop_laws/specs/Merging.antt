@@ -5,9 +5,9 @@ use Rattle.sy_terms.specs.Meaning.{functions}
 use Rattle.sy_grammar_base.specs.Questions.{Goal, Question}
 use Rattle.sy_grammar_base.specs.Solving.{AreWithin}
 use Rattle.sy_points.specs.Asked.{Asked, of_function}
-use Rattle.sy_bank_rows.specs.Banks.{Entry, Merged, IsKept, IsHonest}
+use Rattle.sy_bank_rows.specs.Banks.{Entry, Merged, IsKept, IsHonestBank}
 use Rattle.sy_bank_rows.specs.Covering.{Covers, sizes, terms}
-use Rattle.sy_loop_laws.specs.Agreeing.{Agree, AreComputable}
+use Rattle.sy_loop_laws.specs.Agreeing.{BodiesAgree, AreComputable}
 
 -- an honest bank of the function's grammar, over the function's tuples, which covers all derivations of sizes up to n
 pub record IsCoveringOf (question : Question) (asked : Asked) (n function : ℕ) (bank : Merged) : Type 0 where
@@ -15,7 +15,7 @@ pub record IsCoveringOf (question : Question) (asked : Asked) (n function : ℕ)
   pub at : slice_get question.goals function ≡ Some goal
   pub over : bank.points ≡ of_function asked function
   pub up : n ≤ bank.upto
-  pub honest : IsHonest goal.grammar (functions question.definitions) question.pool bank
+  pub honest : IsHonestBank goal.grammar (functions question.definitions) question.pool bank
   pub covers : Covers goal.grammar (functions question.definitions) question.pool bank
 
 -- one for each function to be found
@@ -37,6 +37,6 @@ pub record AreMerged (question : Question) (asked : Asked) (n : ℕ) (banks : Li
   pub kept : AreChosen banks chosen
   pub small : sizes chosen ≤ n
   pub members : AreWithin question.pool (sizes chosen) question.goals (terms chosen)
-  pub agree : Agree question asked (terms chosen) bodies
+  pub agree : BodiesAgree question asked (terms chosen) bodies
   pub kept_computable : AreComputable question asked (terms chosen)
   pub computable : AreComputable question asked bodies

@@ -28,6 +28,6 @@ pub record AreDoneBelow (reach : Reach) (question : Question) (history : List Co
   pub violated : AreViolatedBelow reach question history n
 
 -- the history has what it had, and each function the tuples that it had
-pub record Grows (history : List Counterexample) (asked : Asked) (history' : List Counterexample) (asked' : Asked) : Type 0 where
+pub record KnownGrows (history : List Counterexample) (asked : Asked) (history' : List Counterexample) (asked' : Asked) : Type 0 where
   pub stored : (counterexample : Counterexample) → Contains history counterexample → Contains history' counterexample
   pub tuples : (function : ℕ) (tuple : List Val) → IsAsked asked function tuple → IsAsked asked' function tuple

@@ -11,23 +11,23 @@ ghost use Rattle.sy_bank_rows.specs.Banks.{Entry, Merged};
 ghost use Rattle.sy_bank_rows.specs.Covering.{sizes, terms};
 ghost use Rattle.sy_loop_bounds.specs.declared.reach.Reach.{Reach};
 ghost use Rattle.sy_loop_bounds.specs.declared.reach.Reach.TheVariants.{Sizes, Beyond};
-ghost use Rattle.sy_loop_history.specs.Histories.{AllViolate, Counterexample, IsCandidate, IsHonest, IsKept, IsMet, IsOpenNumber};
+ghost use Rattle.sy_loop_history.specs.Histories.{AllViolate, Counterexample, IsCandidate, IsHonestHistory, HistoryIsKept, IsMet, IsOpenNumber};
 ghost use Rattle.sy_loop_history.specs.Sizes.{AreAtMost};
 ghost use Rattle.sy_loop_history.specs.Unsolved.{NoSolution, NoSolutionWithin};
 ghost use Rattle.sy_loop_history.specs.Adding.{AreAsked};
 ghost use Rattle.sy_loop_history.specs.Trials.{IsRefuted};
 ghost use Rattle.sy_loop_history.specs.Truths.{IsViolated};
-ghost use Rattle.sy_loop_laws.specs.Agreeing.{Agree, AssumptionsAskNothing, AssumptionsFit};
+ghost use Rattle.sy_loop_laws.specs.Agreeing.{BodiesAgree, AssumptionsAskNothing, AssumptionsFit};
 ghost use Rattle.sy_loop_laws.specs.Merging.{AreChosen, AreCovering, AreMerged};
-ghost use Rattle.sy_loop_laws.specs.Refuting.{AllRefuted, AllTreesViolate, AreDoneBelow, Grows};
+ghost use Rattle.sy_loop_laws.specs.Refuting.{AllRefuted, AllTreesViolate, AreDoneBelow, KnownGrows};
 
 /// Where bodies violate the problem by a constraint whose calls are among the tuples, all bodies that agree with them at
 /// the tuples violate it at that assignment, by the same calls.
 pub fn agreeing_bodies_are_refuted()
-    ensures at { (question : Question) (asked : Asked) (bodies others : List Expr) (values : List Val) (calls : List (ℕ × List Val)) → AssumptionsAskNothing question → Agree question asked bodies others →
+    ensures at { (question : Question) (asked : Asked) (bodies others : List Expr) (values : List Val) (calls : List (ℕ × List Val)) → AssumptionsAskNothing question → BodiesAgree question asked bodies others →
         AreAsked calls asked → IsViolated question bodies values calls → IsViolated question others values calls }
     ensures violates { (question : Question) (bodies : List Expr) (values : List Val) (calls : List (ℕ × List Val)) → IsViolated question bodies values calls → Violates question bodies values }
-    ensures stored { (question : Question) (history : List Counterexample) (asked : Asked) (bodies others : List Expr) → AssumptionsAskNothing question → Agree question asked bodies others →
+    ensures stored { (question : Question) (history : List Counterexample) (asked : Asked) (bodies others : List Expr) → AssumptionsAskNothing question → BodiesAgree question asked bodies others →
         IsRefuted question history asked bodies → IsRefuted question history asked others }
 {}
 
@@ -50,7 +50,7 @@ pub fn members_are_refuted()
 
 /// What is refuted stays so when the history and the tuples grow.
 pub fn what_is_refuted_stays_so()
-    ensures { (question : Question) (history history' : List Counterexample) (asked asked' : Asked) (bodies : List Expr) → Grows history asked history' asked' →
+    ensures { (question : Question) (history history' : List Counterexample) (asked asked' : Asked) (bodies : List Expr) → KnownGrows history asked history' asked' →
         IsRefuted question history asked bodies → IsRefuted question history' asked' bodies }
 {}
 
@@ -59,7 +59,7 @@ pub fn what_is_refuted_stays_so()
 /// members, no members at all do (`exhausted`).
 pub fn nothing_refuted_solves()
     ensures violated { (question : Question) (history : List Counterexample) (asked : Asked) (n : ℕ) → AllRefuted question history asked n → AllViolate Sizes question history n }
-    ensures unsolved { (reach : Reach) (question : Question) (size rounds n : ℕ) (history : List Counterexample) → IsHonest reach question size rounds history → AllViolate reach question history n →
+    ensures unsolved { (reach : Reach) (question : Question) (size rounds n : ℕ) (history : List Counterexample) → IsHonestHistory reach question size rounds history → AllViolate reach question history n →
         NoSolutionWithin reach question n }
     ensures exhausted { (reach : Reach) (question : Question) (n : ℕ) → AreAtMost question n → NoSolutionWithin reach question n → NoSolution question }
 {}
@@ -72,11 +72,11 @@ pub fn sizes_are_done()
     ensures begins { (reach : Reach) (question : Question) (history : List Counterexample) (asked : Asked) → AreDoneBelow reach question history asked 0 }
     ensures next { (question : Question) (history : List Counterexample) (asked : Asked) (n : ℕ) (reach : Reach) → AllRefuted question history asked n → AllTreesViolate reach question history n →
         AreDoneBelow reach question history asked n → AreDoneBelow reach question history asked (n + 1) }
-    ensures stays { (reach : Reach) (question : Question) (history history' : List Counterexample) (asked asked' : Asked) (n : ℕ) → Grows history asked history' asked' →
+    ensures stays { (reach : Reach) (question : Question) (history history' : List Counterexample) (asked asked' : Asked) (n : ℕ) → KnownGrows history asked history' asked' →
         AreDoneBelow reach question history asked n → AreDoneBelow reach question history' asked' n }
     ensures opens { (reach : Reach) (question : Question) (size n : ℕ) (history : List Counterexample) (asked : Asked) → n ≤ size → AreDoneBelow reach question history asked n →
         IsOpenNumber reach question size history n }
-    ensures ends { (reach : Reach) (question : Question) (size rounds n : ℕ) (history : List Counterexample) (asked : Asked) → (reach ≡ Beyond → ⊥) → IsHonest reach question size rounds history →
+    ensures ends { (reach : Reach) (question : Question) (size rounds n : ℕ) (history : List Counterexample) (asked : Asked) → (reach ≡ Beyond → ⊥) → IsHonestHistory reach question size rounds history →
         AreDoneBelow reach question history asked (n + 1) → NoSolutionWithin reach question n }
 {}
 
@@ -84,17 +84,17 @@ pub fn sizes_are_done()
 /// stays so when the history grows.
 pub fn open_numbers_stay_open()
     ensures lesser { (reach : Reach) (question : Question) (size : ℕ) (history : List Counterexample) (m n : ℕ) → m ≤ n → IsOpenNumber reach question size history n → IsOpenNumber reach question size history m }
-    ensures stays { (reach : Reach) (question : Question) (size n : ℕ) (history history' : List Counterexample) → IsKept history history' → IsOpenNumber reach question size history n →
+    ensures stays { (reach : Reach) (question : Question) (size n : ℕ) (history history' : List Counterexample) → HistoryIsKept history history' → IsOpenNumber reach question size history n →
         IsOpenNumber reach question size history' n }
-    ensures candidate { (reach : Reach) (question : Question) (size : ℕ) (history history' : List Counterexample) (bodies : List Expr) → IsKept history history' → IsCandidate reach question size history bodies →
+    ensures candidate { (reach : Reach) (question : Question) (size : ℕ) (history history' : List Counterexample) (bodies : List Expr) → HistoryIsKept history history' → IsCandidate reach question size history bodies →
         IsCandidate reach question size history' bodies }
-    ensures met { (reach : Reach) (question : Question) (size function : ℕ) (history history' : List Counterexample) (tuple : List Val) → IsKept history history' → IsMet reach question size history function tuple →
+    ensures met { (reach : Reach) (question : Question) (size function : ℕ) (history history' : List Counterexample) (tuple : List Val) → HistoryIsKept history history' → IsMet reach question size history function tuple →
         IsMet reach question size history' function tuple }
 {}
 
 /// The assignments of an honest history are pairwise distinct.
 pub fn honest_assignments_differ()
-    ensures { (reach : Reach) (question : Question) (size rounds : ℕ) (history : List Counterexample) → IsHonest reach question size rounds history →
+    ensures { (reach : Reach) (question : Question) (size rounds : ℕ) (history : List Counterexample) → IsHonestHistory reach question size rounds history →
         AreDistinct (map (λ (c : Counterexample). c.assignment) history) }
 {}
 

@@ -29,35 +29,35 @@ use Rattle.sy_loop_outcome.specs.declared.outcome.Outcome.{Outcome}
 use Rattle.sy_loop_outcome.specs.declared.outcome.Outcome.TheVariants.{Found, Infeasible, Fail}
 
 -- what left the 128 bits did so
-abbrev pub Leaves : {T N : Type 0} → (N → Val) → Reach → Question → Limits → List Counterexample → LoopRange T N → Type 0
-Leaves number reach question limits history (Member function term tuple) =
+abbrev pub HasLeftRange : {T N : Type 0} → (N → Val) → Reach → Question → Limits → List Counterexample → LoopRange T N → Type 0
+HasLeftRange number reach question limits history (Member function term tuple) =
     MemberLeaves reach question limits.size limits.rounds history function (expr_of number term) (vals_of number tuple)
-Leaves number reach question limits history (Checked bodies assignment) =
+HasLeftRange number reach question limits history (Checked bodies assignment) =
     CheckedLeaves reach question limits.size limits.rounds history (map (expr_of number) bodies) (vals_of number assignment)
 
 -- the cause holds
-abbrev pub Holds : {T S N : Type 0} → (Op → Bool) → (N → Val) → (S → FailName) → (Query → Limits → FailName → S → Type 0) → Reach → Question → Limits → FailCause T S N → Type 0
-Holds owned number budget shows reach question limits Size = NoSolutionWithin reach question limits.size × (AreAtMost question limits.size → ⊥)
-Holds owned number budget shows reach question limits (Rounds stored) = RoundsMet reach question limits.size limits.rounds (history_of number stored)
-Holds owned number budget shows reach question limits (Points stored function bodies assignment tuples) =
+abbrev pub CauseHolds : {T S N : Type 0} → (Op → Bool) → (N → Val) → (S → FailName) → (Query → Limits → FailName → S → Type 0) → Reach → Question → Limits → FailCause T S N → Type 0
+CauseHolds owned number budget shows reach question limits Size = NoSolutionWithin reach question limits.size × (AreAtMost question limits.size → ⊥)
+CauseHolds owned number budget shows reach question limits (Rounds stored) = RoundsMet reach question limits.size limits.rounds (history_of number stored)
+CauseHolds owned number budget shows reach question limits (Points stored function bodies assignment tuples) =
     PointsMet reach question limits.size limits.rounds limits.points (history_of number stored) function (map (expr_of number) bodies) (vals_of number assignment) (tuples_of number tuples)
-Holds owned number budget shows reach question limits (Bank stored function bank nonterminal next) =
+CauseHolds owned number budget shows reach question limits (Bank stored function bank nonterminal next) =
     BankMet reach question limits.size limits.rounds limits.bank (history_of number stored) function (merged_of number bank) nonterminal (entry_of number next)
-Holds owned number budget shows reach question limits (Weight stored bodies) =
+CauseHolds owned number budget shows reach question limits (Weight stored bodies) =
     WeightMet owned reach question limits.size limits.rounds limits.weight (history_of number stored) (map (expr_of number) bodies)
-Holds owned number budget shows reach question limits (Decide stored bodies spent) =
+CauseHolds owned number budget shows reach question limits (Decide stored bodies spent) =
     DecideMet budget shows reach question limits (history_of number stored) (map (expr_of number) bodies) spent
-Holds owned number budget shows reach question limits (Range stored left) = Leaves number reach question limits (history_of number stored) left
+CauseHolds owned number budget shows reach question limits (Range stored left) = HasLeftRange number reach question limits (history_of number stored) left
 
 -- a solution with its proof, or nonexistence, where the largest sizes sum to at most the bound, or a cause that holds
 abbrev pub IsRight : {T P S N : Type 0} → (Op → Bool) → (N → Val) → (Query → P → Type 0) → (S → FailName) → (Query → Limits → FailName → S → Type 0) → Reach → Question → Limits → Outcome T P S N → Type 0
 IsRight owned number accepted budget shows reach question limits (Found bodies proof) = IsSolution accepted question (map (expr_of number) bodies) proof
 IsRight owned number accepted budget shows reach question limits Infeasible = NoSolution question × AreAtMost question limits.size
-IsRight owned number accepted budget shows reach question limits (Fail cause) = Holds owned number budget shows reach question limits cause
+IsRight owned number accepted budget shows reach question limits (Fail cause) = CauseHolds owned number budget shows reach question limits cause
 
 -- the same of a problem, for a theory and a solver
 abbrev pub LeavesFor : {T N : Type 0} → TheoryOf T N → Reach → Problem T N → Limits → Stored T N → LoopRange T N → Type 0
-LeavesFor theory reach problem limits stored = Leaves theory.denotes reach (question_of theory.denotes problem) limits (history_of theory.denotes stored)
+LeavesFor theory reach problem limits stored = HasLeftRange theory.denotes reach (question_of theory.denotes problem) limits (history_of theory.denotes stored)
 
 abbrev pub IsRightFor : {T N D P S : Type 0} → TheoryOf T N → DecideOf D T P S N → Reach → Problem T N → Limits → Outcome T P S N → Type 0
 IsRightFor theory solver reach problem limits =

@@ -1,6 +1,6 @@
 // The names of causes.
 ghost use Rattle.std.specs.Prelude.{◌≡◌};
-ghost use Rattle.sy_loop_outcome.specs.Names.{name_of};
+ghost use Rattle.sy_loop_outcome.specs.Names.{fail_name_of};
 
 use crate::outcome::FailCause;
 use sy_query_decide::Decide;
@@ -9,7 +9,7 @@ use sy_terms::Theory;
 
 /// The cause's name; that of a solver's budget is the solver's.
 pub fn fail_name<T: Theory, D: Decide<T>>(cause: &FailCause<T, D::Spent>) -> FailName
-    ensures { result ≡ name_of D.budget cause.now }
+    ensures { result ≡ fail_name_of D.budget cause.now }
 {
     match cause {
         FailCause::Size => FailName::Size,

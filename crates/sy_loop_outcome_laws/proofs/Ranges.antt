@@ -24,7 +24,7 @@ use Rattle.sy_loop_history.specs.Budgets.{CheckedLeaves, MemberLeaves}
 use Rattle.sy_loop_history.specs.Histories.{Counterexample}
 use Rattle.sy_loop_candidate.proofs.Ending.{candidate_members}
 use Rattle.sy_terms.specs.Denoted.{expr_of, vals_of}
-use Rattle.sy_loop_outcome.specs.Right.{Leaves}
+use Rattle.sy_loop_outcome.specs.Right.{HasLeftRange}
 use Rattle.sy_loop_outcome.specs.declared.outcome.LoopRange.{LoopRange}
 use Rattle.sy_loop_outcome.specs.declared.outcome.LoopRange.TheVariants.{Member, Checked}
 use Rattle.sy_loop_outcome_laws.proofs.Computing.{AreTotal, none_total, more_total, computes, body_total, definitions_total}
@@ -102,7 +102,7 @@ module _ (owned : Op → Bool) (numeric : Sort → Bool) (negation : numeric sor
 
   -- so no number leaves the range
   pub never_leaves : {T N : Type 0} (number : N → Val) (reach : Reach) (question : Question) (limits : Limits) (history : List Counterexample) (left : LoopRange T N) → QuestionFits owned numeric question
-      → Leaves number reach question limits history left → ⊥
+      → HasLeftRange number reach question limits history left → ⊥
   never_leaves number reach question limits history (Member function term tuple) fit leaves =
       never_member reach question limits.size limits.rounds history function (expr_of number term) (vals_of number tuple) fit leaves
   never_leaves number reach question limits history (Checked bodies assignment) fit leaves =

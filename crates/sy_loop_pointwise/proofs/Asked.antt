@@ -8,7 +8,7 @@ use Rattle.sy_terms.specs.declared.term.Fun.TheVariants.{Wanted}
 use Rattle.sy_loop_bounds.specs.Applications.{applications, all_applications}
 use Rattle.sy_loop_bounds_laws.proofs.Applied.{in_nothing}
 use Rattle.sy_loop_subterms.specs.Shapes.{term_of}
-use Rattle.sy_loop_pointwise.specs.Asked.{AreAtOnce, IsTheCall, AreAsked}
+use Rattle.sy_loop_pointwise.specs.Asked.{AreAtOnce, IsTheCall, AreApplications}
 use Rattle.sy_loop_pointwise.specs.declared.asks.Asks.{Asks}
 use Rattle.sy_loop_pointwise.specs.declared.asks.Asks.TheVariants.{Mixed}
 
@@ -34,11 +34,11 @@ nothing_at_once all nothing = record { same = subst (All (λ (a : ℕ × Exprs).
 
 module _ (terms : List Expr) (ones others : List (ℕ × Exprs)) where
   -- where one of two lists has no applications, both have those of the other
-  pub nothing_first : (asks : Asks) → ones ≡ [] → AreAsked terms others asks → AreAsked terms (ones ++ others) asks
-  nothing_first asks nothing known = subst (λ all. AreAsked terms (all ++ others) asks) (sym nothing) known
+  pub nothing_first : (asks : Asks) → ones ≡ [] → AreApplications terms others asks → AreApplications terms (ones ++ others) asks
+  nothing_first asks nothing known = subst (λ all. AreApplications terms (all ++ others) asks) (sym nothing) known
 
-  pub nothing_second : (asks : Asks) → others ≡ [] → AreAsked terms ones asks → AreAsked terms (ones ++ others) asks
-  nothing_second asks nothing known = subst (λ all. AreAsked terms all asks) (sym (ap (λ rest. ones ++ rest) nothing ∙ append-nil ones)) known
+  pub nothing_second : (asks : Asks) → others ≡ [] → AreApplications terms ones asks → AreApplications terms (ones ++ others) asks
+  nothing_second asks nothing known = subst (λ all. AreApplications terms all asks) (sym (ap (λ rest. ones ++ rest) nothing ∙ append-nil ones)) known
 
   -- both are at once where each is, and the arguments are the same
   pub same_joined : (one other : ℕ) (first : IsTheCall terms ones one) (second : IsTheCall terms others other) → first.application.1 ≡ second.application.1 → IsTheCall terms (ones ++ others) one
@@ -54,16 +54,16 @@ module _ (terms : List Expr) (ones others : List (ℕ × Exprs)) where
   }
 
   -- and not where they aren't
-  pub others_joined : (one other : ℕ) (first : IsTheCall terms ones one) (second : IsTheCall terms others other) → (first.application.1 ≡ second.application.1 → ⊥) → AreAsked terms (ones ++ others) Mixed
+  pub others_joined : (one other : ℕ) (first : IsTheCall terms ones one) (second : IsTheCall terms others other) → (first.application.1 ≡ second.application.1 → ⊥) → AreApplications terms (ones ++ others) Mixed
   others_joined one other first second differ arguments all =
       let here = All-contains (λ (a : ℕ × Exprs). a.1 ≡ arguments) ones first.application (at_once_first ones others arguments all).same first.of in
       let there = All-contains (λ (a : ℕ × Exprs). a.1 ≡ arguments) others second.application (at_once_second ones others arguments all).same second.of in
       differ (here ∙ sym there)
 
-  pub mixed_first : AreAsked terms ones Mixed → AreAsked terms (ones ++ others) Mixed
+  pub mixed_first : AreApplications terms ones Mixed → AreApplications terms (ones ++ others) Mixed
   mixed_first mixed arguments all = mixed arguments (at_once_first ones others arguments all)
 
-  pub mixed_second : AreAsked terms others Mixed → AreAsked terms (ones ++ others) Mixed
+  pub mixed_second : AreApplications terms others Mixed → AreApplications terms (ones ++ others) Mixed
   mixed_second mixed arguments all = mixed arguments (at_once_second ones others arguments all)
 
 -- the applications within one, by those within its arguments
@@ -87,12 +87,12 @@ module _ (terms : List Expr) (function : ℕ) (arguments : Exprs) (number : ℕ)
   }
 
   -- and else they are not at once with it
-  pub applied_again : (other : ℕ) → IsTheCall terms (all_applications arguments) other → AreAsked terms (applications (Invoke (Wanted function) arguments)) Mixed
+  pub applied_again : (other : ℕ) → IsTheCall terms (all_applications arguments) other → AreApplications terms (applications (Invoke (Wanted function) arguments)) Mixed
   unfolding applications
   applied_again other call others all =
       let plain : all_applications arguments ≡ [] = ap all_applications (own others all) ∙ all.plain in
       in_nothing call.application (subst (λ apps. Contains apps call.application) plain call.of)
 
-  pub applied_mixed : AreAsked terms (all_applications arguments) Mixed → AreAsked terms (applications (Invoke (Wanted function) arguments)) Mixed
+  pub applied_mixed : AreApplications terms (all_applications arguments) Mixed → AreApplications terms (applications (Invoke (Wanted function) arguments)) Mixed
   unfolding applications
   applied_mixed mixed others all = mixed none (nothing_at_once (all_applications arguments) (ap all_applications (own others all) ∙ all.plain))

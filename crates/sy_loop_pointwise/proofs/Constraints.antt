@@ -14,13 +14,13 @@ use Rattle.sy_loop_bounds.specs.Applications.{applications}
 use Rattle.sy_loop_bounds.specs.Pointwise.{IsPosed, IsPointwise}
 use Rattle.sy_loop_bounds.specs.WrittenOut.{written_out}
 use Rattle.sy_loop_subterms.proofs.Lists.{at_more}
-use Rattle.sy_loop_pointwise.specs.Posed.{Poses, ArePosed}
+use Rattle.sy_loop_pointwise.specs.Posed.{PosesConstraint, ArePosed}
 use Rattle.sy_loop_pointwise.specs.declared.posed.Posed.{Posed}
 use Rattle.sy_loop_pointwise.specs.declared.posed.Posed.TheVariants.{Free, Applies}
 use Rattle.sy_loop_pointwise.proofs.Asked.{nothing_at_once}
 
 -- the constraint's applications have one list of arguments
-pub is_posed : {T N : Type 0} (question : Question) (constraint : Expr) (posed : Posed T N) → Poses question constraint posed → (arguments : Exprs) × IsPosed (written_out question constraint) arguments
+pub is_posed : {T N : Type 0} (question : Question) (constraint : Expr) (posed : Posed T N) → PosesConstraint question constraint posed → (arguments : Exprs) × IsPosed (written_out question constraint) arguments
 is_posed question constraint Free nothing =
     let all = nothing_at_once (applications (written_out question constraint)) nothing in
     (none, record { same = all.same; plain = all.plain })
@@ -56,15 +56,15 @@ constraint_at {T} {N} number constraints slice place term same within is =
 
 -- one constraint more is kept
 pub kept_more : {T N : Type 0} (question : Question) (all : List (Posed T N)) (index : ℕ) (constraint : Expr) (posed : Posed T N) → length all ≡ index →
-    ((place : ℕ) (other : Expr) (found : Posed T N) → slice_get question.constraints place ≡ Some other → slice_get all place ≡ Some found → Poses question other found) →
-    slice_get question.constraints index ≡ Some constraint → Poses question constraint posed →
-    (place : ℕ) (other : Expr) (found : Posed T N) → slice_get question.constraints place ≡ Some other → slice_get (all ++ posed ∷ []) place ≡ Some found → Poses question other found
+    ((place : ℕ) (other : Expr) (found : Posed T N) → slice_get question.constraints place ≡ Some other → slice_get all place ≡ Some found → PosesConstraint question other found) →
+    slice_get question.constraints index ≡ Some constraint → PosesConstraint question constraint posed →
+    (place : ℕ) (other : Expr) (found : Posed T N) → slice_get question.constraints place ≡ Some other → slice_get (all ++ posed ∷ []) place ≡ Some found → PosesConstraint question other found
 kept_more {T} {N} question all index constraint posed many each here poses place other found at there = elim (at_more all posed place found there) [
   | inl before ↦ each place other found at before
   | inr end ↦
       let same : Some constraint ≡ Some other = sym here ∙ ap (slice_get question.constraints) (sym (end.0 ∙ many)) ∙ at in
       let is : constraint ≡ other = cc in
-      subst (λ (p : Posed T N). Poses question other p) end.1 (subst (λ e. Poses question e posed) is poses)
+      subst (λ (p : Posed T N). PosesConstraint question other p) end.1 (subst (λ e. PosesConstraint question e posed) is poses)
 ]
 
 -- an answer by whether something was found

@@ -12,16 +12,16 @@ use Rattle.sy_loop_bounds_laws.proofs.Applied.{applications_append}
 use Rattle.sy_loop_subterms.specs.Shapes.{term_of, terms_of}
 use Rattle.sy_loop_subterms.proofs.Lists.{at_more}
 use Rattle.sy_loop_subterms.proofs.Numbered.{terms_of-append}
-use Rattle.sy_loop_pointwise.specs.Asked.{AreAsked, AreKnown}
+use Rattle.sy_loop_pointwise.specs.Asked.{AreApplications, AreKnown}
 use Rattle.sy_loop_pointwise.specs.declared.asks.Asks.{Asks}
 
 pub known_nothing : (terms : List Expr) → AreKnown terms []
 known_nothing terms number own at = absurd (none-some own at)
 
-pub known_more : (terms : List Expr) (asks : List Asks) (next : Asks) → AreKnown terms asks → AreAsked terms (applications (term_of terms (length asks))) next → AreKnown terms (asks ++ next ∷ [])
+pub known_more : (terms : List Expr) (asks : List Asks) (next : Asks) → AreKnown terms asks → AreApplications terms (applications (term_of terms (length asks))) next → AreKnown terms (asks ++ next ∷ [])
 known_more terms asks next known is number own at = elim (at_more asks next number own at) [
   | inl before ↦ known number own before
-  | inr end ↦ subst (λ (o : Asks). AreAsked terms (applications (term_of terms number)) o) end.1 (subst (λ n. AreAsked terms (applications (term_of terms n)) next) (sym end.0) is)
+  | inr end ↦ subst (λ (o : Asks). AreApplications terms (applications (term_of terms number)) o) end.1 (subst (λ n. AreApplications terms (applications (term_of terms n)) next) (sym end.0) is)
 ]
 
 -- what stands within a term, by its parts
@@ -33,20 +33,20 @@ pub within_variable : (term : Expr) (position : ℕ) → term ≡ Variable posit
 unfolding applications
 within_variable term position is = ap applications is
 
-pub within_operator : (terms : List Expr) (term : Expr) (operator : Op) (arguments : Exprs) (own : Asks) → term ≡ Apply operator arguments → AreAsked terms (all_applications arguments) own → AreAsked terms (applications term) own
+pub within_operator : (terms : List Expr) (term : Expr) (operator : Op) (arguments : Exprs) (own : Asks) → term ≡ Apply operator arguments → AreApplications terms (all_applications arguments) own → AreApplications terms (applications term) own
 unfolding applications
-within_operator terms term operator arguments own is asked = subst (λ all. AreAsked terms all own) (sym (ap applications is)) asked
+within_operator terms term operator arguments own is asked = subst (λ all. AreApplications terms all own) (sym (ap applications is)) asked
 
-pub within_defined : (terms : List Expr) (term : Expr) (function : ℕ) (arguments : Exprs) (own : Asks) → term ≡ Invoke (Defined function) arguments → AreAsked terms (all_applications arguments) own → AreAsked terms (applications term) own
+pub within_defined : (terms : List Expr) (term : Expr) (function : ℕ) (arguments : Exprs) (own : Asks) → term ≡ Invoke (Defined function) arguments → AreApplications terms (all_applications arguments) own → AreApplications terms (applications term) own
 unfolding applications
-within_defined terms term function arguments own is asked = subst (λ all. AreAsked terms all own) (sym (ap applications is)) asked
+within_defined terms term function arguments own is asked = subst (λ all. AreApplications terms all own) (sym (ap applications is)) asked
 
 -- what is known of the term of this number
 pub known_at : (terms : List Expr) (asks slice : List Asks) (number : ℕ) (term : Expr) (default own : Asks) → slice ≡ asks → AreKnown terms asks → number < length slice → term_of terms number ≡ term → get_or slice number default ≡ own →
-    AreAsked terms (applications term) own
+    AreApplications terms (applications term) own
 known_at terms asks slice number term default own same known within is at =
-    subst (λ (o : Asks). AreAsked terms (applications term) o) at
-    (subst (λ e. AreAsked terms (applications e) (get_or slice number default)) is (subst (AreKnown terms) (sym same) known number (get_or slice number default) (slice_get-get_or slice number default within)))
+    subst (λ (o : Asks). AreApplications terms (applications term) o) at
+    (subst (λ e. AreApplications terms (applications e) (get_or slice number default)) is (subst (AreKnown terms) (sym same) known number (get_or slice number default) (slice_get-get_or slice number default within)))
 
 -- what stands within no terms
 pub asked_nothing : all_applications none ≡ []

@@ -26,7 +26,7 @@ use Rattle.sy_loop_bounds_laws.proofs.Resting.{application_fits, arguments_leave
 use Rattle.sy_loop_bounds_laws.proofs.Variables.{many_values}
 use Rattle.sy_loop_subterms.specs.Shapes.{Shape, AreBelow, subterms, term_of, terms_of}
 use Rattle.sy_loop_pointwise.specs.Asked.{AreArguments, IsTheCall}
-use Rattle.sy_loop_pointwise.specs.Rests.{RestsAt, LeavesAt}
+use Rattle.sy_loop_pointwise.specs.Rests.{RestsAt, TermLeavesAt}
 use Rattle.sy_loop_pointwise.specs.Valued.{AreValued, EachIsValued}
 
 both_nothing : {A : Type 0} (first second : List A) → first ++ second ≡ [] → (first ≡ []) × (second ≡ [])
@@ -99,7 +99,7 @@ module _ (owned : Op → Bool) (numeric : Sort → Bool) (question : Question) (
   }
 
   -- where these aren't computable, neither is the constraint
-  pub leaves_at : (TermsFit (with_functions owned question.signatures []) values call.application.1 → all_computable (functions question.definitions) [] values call.application.1 ≡ false) → LeavesAt question values constraint
+  pub leaves_at : (TermsFit (with_functions owned question.signatures []) values call.application.1 → all_computable (functions question.definitions) [] values call.application.1 ≡ false) → TermLeavesAt question values constraint
   leaves_at unvalued wanted =
       let posed : IsPosed (written_out question constraint) call.application.1 = record { same = call.at_once.same; plain = call.at_once.plain } in
       arguments_leave question values (many_values question.variables values are) constraint call.application.1 posed wanted call.application call.of (unvalued (record { sorts = fits_as_call.function.takes; is = takes }))

@@ -21,7 +21,7 @@ use Rattle.sy_terms.specs.declared.sort.Value.{Value}
 use Rattle.sy_terms.specs.declared.term.Def.{Def}
 use Rattle.sy_terms.specs.declared.term.Fun.{Fun}
 use Rattle.sy_terms.specs.declared.term.Term.{Term, Const}
-use Rattle.sy_terms_laws.specs.Evaluation.{TermFits, TermsFit, HasValue, HaveValues, FitsWith, Gives}
+use Rattle.sy_terms_laws.specs.Evaluation.{TermFits, TermsFit, HasValue, HaveValues, FitsWith, GivesValue}
 use Rattle.sy_terms_laws.proofs.Equations.{with_sort_Some, applied_sort_Some, called_sort_Some, value_at_position_is}
 use Rattle.sy_terms_laws.proofs.Lists.{HaveValues-none, HaveValues-last}
 use Rattle.sy_loop_subterms.specs.Shapes.{AreBelow, term_of, terms_of}
@@ -185,8 +185,8 @@ module _ {T N : Type 0} (owned : Op → Bool) (number : N → Val) (defs : List 
   pub fits_plain : let none_to_find : List (Term T N) = [] in FitsWith owned number defs none_to_find (vals_of number vs) term
   fits_plain = let none_to_find : List (Term T N) = [] in subst (λ all. FitsWith owned number defs none_to_find (vals_of number all) term) (sym nothing) (record { wanted = []; bodies = tt; fits = fit })
 
-  pub gives_value : (value : Val) → (let none_to_find : List (Term T N) = [] in Gives owned number defs none_to_find (vals_of number vs) term value) → HasValue (scope_of owned defs) (functions (bodies number defs)) [] [] term value
-  gives_value value gives = let none_to_find : List (Term T N) = [] in (subst (λ all. Gives owned number defs none_to_find (vals_of number all) term value) nothing gives) [] tt fit
+  pub gives_value : (value : Val) → (let none_to_find : List (Term T N) = [] in GivesValue owned number defs none_to_find (vals_of number vs) term value) → HasValue (scope_of owned defs) (functions (bodies number defs)) [] [] term value
+  gives_value value gives = let none_to_find : List (Term T N) = [] in (subst (λ all. GivesValue owned number defs none_to_find (vals_of number all) term value) nothing gives) [] tt fit
 
 -- the values so far, with one more
 pub each_none : {N : Type 0} (number : N → Val) (scope : Scope) (defined : List Function) (values : List Val) (terms : List Expr) → let found : List (Option (Value N)) = [] in EachIsValued number scope defined values terms found

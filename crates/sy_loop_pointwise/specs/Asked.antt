@@ -21,14 +21,14 @@ pub record IsTheCall (terms : List Expr) (all : List (ℕ × Exprs)) (number : �
   pub at_once : AreAtOnce all application.1
 
 -- these are the applications: none, all at once, or neither
-abbrev pub AreAsked : List Expr → List (ℕ × Exprs) → Asks → Type 0
-AreAsked terms all Nothing = all ≡ []
-AreAsked terms all (Calls number) = IsTheCall terms all number
-AreAsked terms all Mixed = (arguments : Exprs) → AreAtOnce all arguments → ⊥
+abbrev pub AreApplications : List Expr → List (ℕ × Exprs) → Asks → Type 0
+AreApplications terms all Nothing = all ≡ []
+AreApplications terms all (Calls number) = IsTheCall terms all number
+AreApplications terms all Mixed = (arguments : Exprs) → AreAtOnce all arguments → ⊥
 
 -- those within the terms of the first numbers
 abbrev pub AreKnown : List Expr → List Asks → Type 0
-AreKnown terms asks = (number : ℕ) (own : Asks) → slice_get asks number ≡ Some own → AreAsked terms (applications (term_of terms number)) own
+AreKnown terms asks = (number : ℕ) (own : Asks) → slice_get asks number ≡ Some own → AreApplications terms (applications (term_of terms number)) own
 
 -- the numbers, all less, are those of the arguments of the call of this number
 pub record AreArguments (shapes : List Shape) (number : ℕ) (numbers : List ℕ) : Type 0 where

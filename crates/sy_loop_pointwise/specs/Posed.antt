@@ -10,11 +10,11 @@ use Rattle.sy_loop_pointwise.specs.declared.posed.Posed as kept
 use Rattle.sy_loop_pointwise.specs.declared.posed.Posed.TheVariants.{Free, Applies}
 
 -- what is kept of the constraint: it has no application, or the subterm of this number is one, and all have its arguments, which contain none
-abbrev pub Poses : {T N : Type 0} → Question → Expr → kept.Posed T N → Type 0
-Poses question constraint Free = applications (written_out question constraint) ≡ []
-Poses question constraint (Applies shapes call) = IsTheCall (subterms shapes) (applications (written_out question constraint)) call
+abbrev pub PosesConstraint : {T N : Type 0} → Question → Expr → kept.Posed T N → Type 0
+PosesConstraint question constraint Free = applications (written_out question constraint) ≡ []
+PosesConstraint question constraint (Applies shapes call) = IsTheCall (subterms shapes) (applications (written_out question constraint)) call
 
 -- what is kept of each constraint, in order
 pub record ArePosed {T N : Type 0} (question : Question) (all : List (kept.Posed T N)) : Type 0 where
   pub many : length all ≡ length question.constraints
-  pub each : (place : ℕ) (constraint : Expr) (posed : kept.Posed T N) → slice_get question.constraints place ≡ Some constraint → slice_get all place ≡ Some posed → Poses question constraint posed
+  pub each : (place : ℕ) (constraint : Expr) (posed : kept.Posed T N) → slice_get question.constraints place ≡ Some constraint → slice_get all place ≡ Some posed → PosesConstraint question constraint posed

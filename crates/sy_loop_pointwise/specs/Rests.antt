@@ -20,11 +20,11 @@ pub record RestsAt (question : Question) (values : List Val) (constraint : Expr)
   pub call : IsCallOf (wanted_of question) (0, tuple)
 
 -- it isn't computable there, whatever the functions to be found are
-abbrev pub LeavesAt : Question → List Val → Expr → Type 0
-LeavesAt question values constraint = (wanted : List Function) → computable (functions question.definitions) wanted values constraint ≡ false
+abbrev pub TermLeavesAt : Question → List Val → Expr → Type 0
+TermLeavesAt question values constraint = (wanted : List Function) → computable (functions question.definitions) wanted values constraint ≡ false
 
 -- where the constraint rests at these values of the variables
 abbrev pub Rests : {T N : Type 0} → (N → Val) → Question → List Val → Expr → Rested T N → Type 0
 Rests number question values constraint Nowhere = applications (written_out question constraint) ≡ []
 Rests number question values constraint (At tuple) = RestsAt question values constraint (vals_of number tuple)
-Rests number question values constraint Leaves = LeavesAt question values constraint
+Rests number question values constraint Leaves = TermLeavesAt question values constraint

@@ -6,7 +6,7 @@ ghost use Rattle.sy_terms.specs.declared.term.Fun.TheVariants.{Wanted};
 ghost use Rattle.sy_loop_bounds.specs.Applications.{applications, all_applications};
 ghost use Rattle.sy_loop_subterms.specs.Denoted.{shape_of, shapes_of};
 ghost use Rattle.sy_loop_subterms.specs.Shapes.{AreBelow, AreSubterms, numbers_of, shaped, subterms, term_of, terms_of};
-ghost use Rattle.sy_loop_pointwise.specs.Asked.{AreAsked, AreKnown, AreArguments};
+ghost use Rattle.sy_loop_pointwise.specs.Asked.{AreApplications, AreKnown, AreArguments};
 
 use std::alloc::Global;
 use sy_loop_subterms::{Shape, same_numbers};
@@ -51,8 +51,8 @@ fn same_arguments<T: Theory>(shapes: &[Shape<T>], first: usize, second: usize) -
 /// What stands within the subterms of two lists.
 fn joined<T: Theory>(shapes: &[Shape<T>], first: Asks, second: Asks) -> Asks
     requires subterms { AreSubterms (shapes_of T.denotes shapes.now) }
-    ensures { (ones others : List (ℕ × Exprs)) → AreAsked (subterms (shapes_of T.denotes shapes.now)) ones first →
-        AreAsked (subterms (shapes_of T.denotes shapes.now)) others second → AreAsked (subterms (shapes_of T.denotes shapes.now)) (ones ++ others) result }
+    ensures { (ones others : List (ℕ × Exprs)) → AreApplications (subterms (shapes_of T.denotes shapes.now)) ones first →
+        AreApplications (subterms (shapes_of T.denotes shapes.now)) others second → AreApplications (subterms (shapes_of T.denotes shapes.now)) (ones ++ others) result }
 {
     match (first, second) {
         (Asks::Nothing, _) => second,
@@ -73,7 +73,7 @@ fn asked_by<T: Theory>(shapes: &[Shape<T>], asks: &[Asks], numbers: &[u32]) -> A
     requires subterms { AreSubterms (shapes_of T.denotes shapes.now) }
     requires known { AreKnown (subterms (shapes_of T.denotes shapes.now)) asks.now }
     requires below { AreBelow (length asks.now) numbers.now }
-    ensures { AreAsked (subterms (shapes_of T.denotes shapes.now)) (all_applications (terms_of (subterms (shapes_of T.denotes shapes.now)) numbers.now)) result }
+    ensures { AreApplications (subterms (shapes_of T.denotes shapes.now)) (all_applications (terms_of (subterms (shapes_of T.denotes shapes.now)) numbers.now)) result }
 {
     let mut all = Asks::Nothing;
     for number in numbers {
@@ -88,7 +88,7 @@ fn asks_of<T: Theory>(shapes: &[Shape<T>], asks: &[Asks], shape: &Shape<T>) -> A
     requires known { AreKnown (subterms (shapes_of T.denotes shapes.now)) asks.now }
     requires below { AreBelow (length asks.now) (numbers_of (shape_of T.denotes shape.now)) }
     requires next { term_of (subterms (shapes_of T.denotes shapes.now)) (length asks.now) ≡ shaped (subterms (shapes_of T.denotes shapes.now)) (shape_of T.denotes shape.now) }
-    ensures { AreAsked (subterms (shapes_of T.denotes shapes.now)) (applications (term_of (subterms (shapes_of T.denotes shapes.now)) (length asks.now))) result }
+    ensures { AreApplications (subterms (shapes_of T.denotes shapes.now)) (applications (term_of (subterms (shapes_of T.denotes shapes.now)) (length asks.now))) result }
 {
     match shape {
         Shape::Const(_) => Asks::Nothing,
@@ -107,7 +107,7 @@ fn asks_of<T: Theory>(shapes: &[Shape<T>], asks: &[Asks], shape: &Shape<T>) -> A
 /// What stands within an application of this number, where this stands within its arguments.
 fn applied<T: Theory>(shapes: &[Shape<T>], within: Asks, number: usize) -> Asks
     ensures { (function : ℕ) (arguments : Exprs) → term_of (subterms (shapes_of T.denotes shapes.now)) number ≡ Invoke (Wanted function) arguments →
-        AreAsked (subterms (shapes_of T.denotes shapes.now)) (all_applications arguments) within → AreAsked (subterms (shapes_of T.denotes shapes.now)) (applications (Invoke (Wanted function) arguments)) result }
+        AreApplications (subterms (shapes_of T.denotes shapes.now)) (all_applications arguments) within → AreApplications (subterms (shapes_of T.denotes shapes.now)) (applications (Invoke (Wanted function) arguments)) result }
 {
     match within {
         Asks::Nothing => Asks::Calls(number),

@@ -5,7 +5,7 @@ ghost use Rattle.sy_terms.specs.Expr.{Exprs};
 ghost use Rattle.sy_grammar_base.specs.Questions.{question_of};
 ghost use Rattle.sy_loop_bounds.specs.Pointwise.{IsPosed, IsPointwise};
 ghost use Rattle.sy_loop_bounds.specs.WrittenOut.{written_out};
-ghost use Rattle.sy_loop_pointwise.specs.Posed.{Poses, ArePosed};
+ghost use Rattle.sy_loop_pointwise.specs.Posed.{PosesConstraint, ArePosed};
 
 use crate::asks::{Asks, all_asks};
 use std::alloc::Global;
@@ -30,7 +30,7 @@ fn pose_one<T: Theory>(
 ) -> Result<Option<Posed<T>>, Want>
     ensures { IfOk result (λ found. MatchOption found
         ((arguments : Exprs) → IsPosed (written_out (question_of T.denotes problem.now) (expr_of T.denotes constraint.now)) arguments → ⊥)
-        (Poses (question_of T.denotes problem.now) (expr_of T.denotes constraint.now))) }
+        (PosesConstraint (question_of T.denotes problem.now) (expr_of T.denotes constraint.now))) }
 {
     let (table, number) = written(alloc, problem.vars.len(), constraint)?;
     let asks = all_asks(alloc, table.shapes())?;

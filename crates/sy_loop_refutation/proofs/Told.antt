@@ -34,7 +34,7 @@ use Rattle.sy_loop_history.specs.Adding.{IsAsked, AreAsked}
 use Rattle.sy_loop_candidate.proofs.Items.{has_place}
 use Rattle.sy_bank_rows.specs.declared.kept.Kept.{Kept}
 use Rattle.sy_loop_refutation.specs.Bodies.{bodies_of, AreBodies, functions_by, FitsUnder, asks_under, all_asks_under}
-use Rattle.sy_loop_refutation.specs.Observing.{IsAt, IsTold, AllAreTold}
+use Rattle.sy_loop_refutation.specs.Observing.{HasValueAt, IsTold, AllAreTold}
 use Rattle.sy_loop_refutation.proofs.Calls.{no_calls, both_asked, one_asked}
 use Rattle.sy_loop_refutation.proofs.Reaching.{calls-body, body-within, defined-ok, wanted-ok}
 
@@ -124,7 +124,7 @@ module _ {T N : Type 0} (owned : Op → Bool) (number : N → Val) (defs : List 
   -- the row of a kept term
   pub wanted-told : (values : List Val) (term : Term T N) (function : Fun) (arguments : Terms T N) (found : List Val) (n : ℕ) (t : Expr) (row : List Val) (value : Val) → term ≡ Call function arguments → function ≡ Wanted n
       → FitsUnder owned defs exprs values (expr_of number term) → AllAreTold owned number defs exprs points values (exprs_of number arguments.items.items) found
-      → slice_get exprs n ≡ Some t → HasRow (scope_of owned defs) (functions (bodies number defs)) (of_function points n) t row → IsAt (of_function points n) row found value
+      → slice_get exprs n ≡ Some t → HasRow (scope_of owned defs) (functions (bodies number defs)) (of_function points n) t row → HasValueAt (of_function points n) row found value
       → IsTold owned number defs exprs points values (expr_of number term) value
   wanted-told values term function arguments found n t row value is is_wanted with_bodies all at has found_at =
       let its_value = subst (λ (v : Val). HasValue (scope_of owned defs) (functions (bodies number defs)) [] found t v) (at_position row found_at.place value found_at.value_is) (has.each found_at.place found found_at.tuple_is) in

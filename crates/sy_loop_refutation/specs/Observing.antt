@@ -15,12 +15,12 @@ use Rattle.sy_loop_history.specs.Adding.{IsAsked, AreAsked}
 use Rattle.sy_loop_refutation.specs.Bodies.{GivesUnder, AllGiveUnder, can_compute_under, can_compute_all_under, asks_under, all_asks_under}
 
 -- each of the kept terms has its row of values at its function's tuples
-abbrev pub HaveRows : {T N : Type 0} → (Op → Bool) → (N → Val) → List (Def T N) → Asked → List (Bor (Kept T N)) → Type 0
-HaveRows {T} {N} owned number defs asked chosen = (function : ℕ) (kept : Bor (Kept T N)) → slice_get chosen function ≡ Some kept →
+abbrev pub KeptHaveRows : {T N : Type 0} → (Op → Bool) → (N → Val) → List (Def T N) → Asked → List (Bor (Kept T N)) → Type 0
+KeptHaveRows {T} {N} owned number defs asked chosen = (function : ℕ) (kept : Bor (Kept T N)) → slice_get chosen function ≡ Some kept →
     HasRow (scope_of owned defs) (functions (bodies number defs)) (of_function asked function) (entry_of number kept.now).term (entry_of number kept.now).row
 
 -- the row has the value at the place of the tuple
-pub record IsAt (tuples : List (List Val)) (row tuple : List Val) (value : Val) : Type 0 where
+pub record HasValueAt (tuples : List (List Val)) (row tuple : List Val) (value : Val) : Type 0 where
   pub place : ℕ
   pub tuple_is : slice_get tuples place ≡ Some tuple
   pub value_is : slice_get row place ≡ Some value

@@ -10,12 +10,12 @@ use Rattle.sy_grammar_base.specs.declared.problem.Problem.{Problem}
 use Rattle.sy_meaning.specs.Calls.{IsCallOf}
 use Rattle.sy_points.specs.Asked.{Asked}
 use Rattle.sy_bank_rows.specs.declared.kept.Kept.{Kept}
-use Rattle.sy_loop_history.specs.Budgets.{Leaves}
+use Rattle.sy_loop_history.specs.Budgets.{LeavesRange}
 use Rattle.sy_loop_history.specs.Histories.{Counterexample}
 use Rattle.sy_loop_history.specs.Adding.{IsAsked, AreAsked}
-use Rattle.sy_loop_history.specs.Truths.{asked_by, IsFalse, IsViolated}
+use Rattle.sy_loop_history.specs.Truths.{asked_by, IsFalseByCalls, IsViolated}
 use Rattle.sy_loop_refutation.specs.Bodies.{AreBodies, bodies_of}
-use Rattle.sy_loop_refutation.specs.Observing.{HaveRows, IsMissing}
+use Rattle.sy_loop_refutation.specs.Observing.{KeptHaveRows, IsMissing}
 use Rattle.sy_loop_refutation.specs.declared.tell.Told.{Told}
 use Rattle.sy_loop_refutation.specs.declared.tell.Told.TheVariants.{True, False, Nothing}
 use Rattle.sy_grammar_base.specs.Fits.{wanted_of}
@@ -31,17 +31,17 @@ AreAssignments question history = (place : ℕ) (c : Counterexample) → slice_g
 -- kept terms with their rows, one for each function to be found, as bodies of which the rows may tell
 pub record AreReady {T N : Type 0} (owned : Op → Bool) (number : N → Val) (problem : Problem T N) (asked : Asked) (chosen : List (Bor (Kept T N))) : Type 0 where
   pub fit : AreBodies owned problem.defs (bodies_of number chosen) (signatures problem)
-  pub rows : HaveRows owned number problem.defs asked chosen
+  pub rows : KeptHaveRows owned number problem.defs asked chosen
   pub functions : length asked.tuples ≡ length (question_of number problem).goals
   pub taken : AreTaken (question_of number problem) asked
 
 -- under the bodies a value on the way to the term leaves the range, or a call that it asks for isn't among the tuples
 abbrev pub IsHidden : Question → Asked → List Expr → List Val → Expr → Type 0
-IsHidden question asked bodies values term = Leaves question bodies values term ⊎ IsMissing (asked_by question bodies values term) asked
+IsHidden question asked bodies values term = LeavesRange question bodies values term ⊎ IsMissing (asked_by question bodies values term) asked
 
 -- the term isn't true, by calls that are among the tuples
 pub record IsShownFalse (question : Question) (asked : Asked) (bodies : List Expr) (values : List Val) (term : Expr) : Type 0 where
-  pub is : IsFalse question bodies values term (asked_by question bodies values term)
+  pub is : IsFalseByCalls question bodies values term (asked_by question bodies values term)
   pub there : AreAsked (asked_by question bodies values term) asked
 
 -- what is told of a term
@@ -76,5 +76,5 @@ IsOpenAt question asked bodies values =
     IsOne (IsUnassured question asked bodies values) question.assumptions ⊎ All (IsUnrefuted question asked bodies values) question.constraints
 
 -- nor at any assignment of the history
-abbrev pub IsOpen : Question → List Counterexample → Asked → List Expr → Type 0
-IsOpen question history asked bodies = All (λ (c : Counterexample). IsOpenAt question asked bodies c.assignment) history
+abbrev pub IsOpenCandidate : Question → List Counterexample → Asked → List Expr → Type 0
+IsOpenCandidate question history asked bodies = All (λ (c : Counterexample). IsOpenAt question asked bodies c.assignment) history

@@ -3,7 +3,7 @@ ghost use Rattle.std.specs.Prelude.{◌≡◌, ◌≤◌, ◌++◌, length, IfOk
 ghost use Rattle.sy_terms.specs.Denoted.{val_of, vals_of, AreValid, expr_of, exprs_of};
 ghost use Rattle.sy_terms.specs.Definitions.{DefinitionsFit};
 ghost use Rattle.sy_loop_refutation.specs.Bodies.{bodies_of, FitsUnder, AllFitUnder};
-ghost use Rattle.sy_loop_refutation.specs.Observing.{HaveRows, IsTold, AllAreTold, IsUntold, AllUntold};
+ghost use Rattle.sy_loop_refutation.specs.Observing.{KeptHaveRows, IsTold, AllAreTold, IsUntold, AllUntold};
 
 use crate::place::value_at;
 use std::alloc::Global;
@@ -25,7 +25,7 @@ pub(crate) fn observe<T: Theory>(
 ) -> Result<Option<Value<T::Num>>, Want>
     requires definitions { DefinitionsFit T.owned T.denotes defs.now }
     requires functions { length chosen.now ≤ length points.now.tuples }
-    requires rows { HaveRows T.owned T.denotes defs.now points.now chosen.now }
+    requires rows { KeptHaveRows T.owned T.denotes defs.now points.now chosen.now }
     requires values { AreValid T.denotes values.now }
     requires term { FitsUnder T.owned defs.now (bodies_of T.denotes chosen.now) (vals_of T.denotes values.now) (expr_of T.denotes term.now) }
     ensures { IfOk result (λ found. MatchOption found (IsUntold T.denotes defs.now (bodies_of T.denotes chosen.now) points.now (vals_of T.denotes values.now) (expr_of T.denotes term.now))
@@ -81,7 +81,7 @@ fn observe_all<T: Theory>(
 ) -> Result<Option<Vec<Value<T::Num>>>, Want>
     requires definitions { DefinitionsFit T.owned T.denotes defs.now }
     requires functions { length chosen.now ≤ length points.now.tuples }
-    requires rows { HaveRows T.owned T.denotes defs.now points.now chosen.now }
+    requires rows { KeptHaveRows T.owned T.denotes defs.now points.now chosen.now }
     requires values { AreValid T.denotes values.now }
     requires terms { AllFitUnder T.owned defs.now (bodies_of T.denotes chosen.now) (vals_of T.denotes values.now) (exprs_of T.denotes terms.now.items.items) }
     ensures { IfOk result (λ found. MatchOption found (AllUntold T.denotes defs.now (bodies_of T.denotes chosen.now) points.now (vals_of T.denotes values.now) (exprs_of T.denotes terms.now.items.items))

@@ -2,7 +2,7 @@
 ghost use Rattle.std.specs.Prelude.{◌≡◌, ◌<◌, length, Contains, MatchOption, Some, slice_get};
 ghost use Rattle.sy_terms.specs.Denoted.{val_of, vals_of};
 ghost use Rattle.sy_points.specs.Asked.{tuples_of, of_function};
-ghost use Rattle.sy_loop_refutation.specs.Observing.{IsAt};
+ghost use Rattle.sy_loop_refutation.specs.Observing.{HasValueAt};
 
 use sy_bank_rows::Kept;
 use sy_points::Points;
@@ -29,7 +29,7 @@ pub(crate) fn value_at<T: Theory>(
 ) -> Option<Value<T::Num>>
     requires within { function < length points.now.tuples }
     requires sized { length kept.now.row ≡ length (of_function points.now function) }
-    ensures { MatchOption result (Contains (of_function points.now function) (vals_of T.denotes tuple.now) → ⊥) (λ value. IsAt (of_function points.now function) (vals_of T.denotes kept.now.row) (vals_of T.denotes tuple.now) (val_of T.denotes value)) }
+    ensures { MatchOption result (Contains (of_function points.now function) (vals_of T.denotes tuple.now) → ⊥) (λ value. HasValueAt (of_function points.now function) (vals_of T.denotes kept.now.row) (vals_of T.denotes tuple.now) (val_of T.denotes value)) }
 {
     let tuples = points.of(function);
     let place = place_of::<T>(tuples.as_slice(), tuple)?;

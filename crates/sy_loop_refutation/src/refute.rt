@@ -4,8 +4,8 @@ ghost use Rattle.sy_grammar_base.specs.Questions.{question_of, signatures};
 ghost use Rattle.sy_loop_history.specs.Stored.{history_of};
 ghost use Rattle.sy_loop_history.specs.Trials.{IsRefuted};
 ghost use Rattle.sy_loop_refutation.specs.Bodies.{AreBodies, bodies_of};
-ghost use Rattle.sy_loop_refutation.specs.Observing.{HaveRows};
-ghost use Rattle.sy_loop_refutation.specs.Refuting.{AreTaken, AreAssignments, IsOpen};
+ghost use Rattle.sy_loop_refutation.specs.Observing.{KeptHaveRows};
+ghost use Rattle.sy_loop_refutation.specs.Refuting.{AreTaken, AreAssignments, IsOpenCandidate};
 ghost use Rattle.sy_grammar_base.specs.Fits.{ProblemFits};
 
 use crate::tell::show_violation;
@@ -26,12 +26,12 @@ pub fn are_refuted<T: Theory>(
 ) -> Result<bool, Want>
     requires problem { ProblemFits T.Theory problem.now }
     requires bodies { AreBodies T.owned problem.now.defs (bodies_of T.denotes chosen.now) (signatures problem.now) }
-    requires rows { HaveRows T.owned T.denotes problem.now.defs points.now chosen.now }
+    requires rows { KeptHaveRows T.owned T.denotes problem.now.defs points.now chosen.now }
     requires functions { length points.now.tuples ≡ length (question_of T.denotes problem.now).goals }
     requires taken { AreTaken (question_of T.denotes problem.now) points.now }
     requires stored { AreAssignments (question_of T.denotes problem.now) (history_of T.denotes stored.now) }
     ensures refuted { IfOk result (λ refuted. IsTrue refuted → IsRefuted (question_of T.denotes problem.now) (history_of T.denotes stored.now) points.now (bodies_of T.denotes chosen.now)) }
-    ensures open { IfOk result (λ refuted. refuted ≡ false → IsOpen (question_of T.denotes problem.now) (history_of T.denotes stored.now) points.now (bodies_of T.denotes chosen.now)) }
+    ensures open { IfOk result (λ refuted. refuted ≡ false → IsOpenCandidate (question_of T.denotes problem.now) (history_of T.denotes stored.now) points.now (bodies_of T.denotes chosen.now)) }
 {
     for place in 0..stored.len() {
         let Some((assignment, _)) = stored.get(place) else {

@@ -12,11 +12,11 @@ use Rattle.sy_terms.specs.declared.sort.Sort.{Sort}
 use Rattle.sy_terms.specs.declared.term.Fun.{Fun}
 use Rattle.sy_terms.specs.declared.term.Term.{Term}
 use Rattle.sy_loop_bounds.specs.WrittenOut.{term_at, written, all_written, variables_from}
-use Rattle.sy_loop_subterms.specs.Shapes.{Shape, Fixed, Argument, Applied, Called, AreBelow, AreSubterms, Extends, IsNumbered, AreNumbered, subterms, term_of, terms_of}
+use Rattle.sy_loop_subterms.specs.Shapes.{Shape, Fixed, Argument, Applied, Called, AreBelow, AreSubterms, ShapesExtend, IsNumberOf, AreNumbered, subterms, term_of, terms_of}
 use Rattle.sy_loop_subterms.proofs.Shaped.{all_stay, unchanged, extends_both, below_more, shape_is, shape_stays}
 
-pub constant_numbered : (before after : List Shape) (names : List ℕ) (value : Val) (number : ℕ) → Extends before after → AreSubterms after → slice_get after number ≡ Some (Fixed value) →
-    IsNumbered before after names (Constant value) number
+pub constant_numbered : (before after : List Shape) (names : List ℕ) (value : Val) (number : ℕ) → ShapesExtend before after → AreSubterms after → slice_get after number ≡ Some (Fixed value) →
+    IsNumberOf before after names (Constant value) number
 unfolding written
 constant_numbered before after names value number extends are at = record {
   extends = extends;
@@ -39,7 +39,7 @@ below_at : (count : ℕ) (names : List ℕ) (position number : ℕ) → AreBelow
 below_at count names position number below at =
     subst (λ n. n < count) (get_or_from_slice_get names position number 0 at) (All-get_or (λ n. n < count) names position 0 (slice_get_within names position number at) below)
 
-pub name_numbered : (shapes : List Shape) (names : List ℕ) (position number : ℕ) → AreBelow (length shapes) names → slice_get names position ≡ Some number → IsNumbered shapes shapes names (Variable position) number
+pub name_numbered : (shapes : List Shape) (names : List ℕ) (position number : ℕ) → AreBelow (length shapes) names → slice_get names position ≡ Some number → IsNumberOf shapes shapes names (Variable position) number
 unfolding written
 name_numbered shapes names position number below at = record {
   extends = unchanged shapes;
@@ -47,8 +47,8 @@ name_numbered shapes names position number below at = record {
   is = sym (named_is (subterms shapes) names position number at);
 }
 
-pub no_name_numbered : (before after : List Shape) (names : List ℕ) (position number : ℕ) → slice_get names position ≡ None → Extends before after → AreSubterms after → slice_get after number ≡ Some (Fixed (Truth false)) →
-    IsNumbered before after names (Variable position) number
+pub no_name_numbered : (before after : List Shape) (names : List ℕ) (position number : ℕ) → slice_get names position ≡ None → ShapesExtend before after → AreSubterms after → slice_get after number ≡ Some (Fixed (Truth false)) →
+    IsNumberOf before after names (Variable position) number
 unfolding written
 no_name_numbered before after names position number nowhere extends are at = record {
   extends = extends;
@@ -56,8 +56,8 @@ no_name_numbered before after names position number nowhere extends are at = rec
   is = shape_is after number (Fixed (Truth false)) are at ∙ sym (unnamed_is (subterms before) names position nowhere);
 }
 
-pub apply_numbered : (before mid after : List Shape) (names : List ℕ) (operator : Op) (arguments : Exprs) (numbers : List ℕ) (number : ℕ) → AreNumbered before mid names arguments numbers → Extends mid after → AreSubterms after →
-    slice_get after number ≡ Some (Applied operator numbers) → IsNumbered before after names (Apply operator arguments) number
+pub apply_numbered : (before mid after : List Shape) (names : List ℕ) (operator : Op) (arguments : Exprs) (numbers : List ℕ) (number : ℕ) → AreNumbered before mid names arguments numbers → ShapesExtend mid after → AreSubterms after →
+    slice_get after number ≡ Some (Applied operator numbers) → IsNumberOf before after names (Apply operator arguments) number
 unfolding written
 apply_numbered before mid after names operator arguments numbers number below extends are at = record {
   extends = extends_both before mid after below.extends extends;
@@ -65,8 +65,8 @@ apply_numbered before mid after names operator arguments numbers number below ex
   is = shape_is after number (Applied operator numbers) are at ∙ shape_stays mid after (Applied operator numbers) extends below.within ∙ ap (Apply operator) below.are;
 }
 
-pub call_numbered : (before mid after : List Shape) (names : List ℕ) (function : Fun) (arguments : Exprs) (numbers : List ℕ) (number : ℕ) → AreNumbered before mid names arguments numbers → Extends mid after → AreSubterms after →
-    slice_get after number ≡ Some (Called function numbers) → IsNumbered before after names (Invoke function arguments) number
+pub call_numbered : (before mid after : List Shape) (names : List ℕ) (function : Fun) (arguments : Exprs) (numbers : List ℕ) (number : ℕ) → AreNumbered before mid names arguments numbers → ShapesExtend mid after → AreSubterms after →
+    slice_get after number ≡ Some (Called function numbers) → IsNumberOf before after names (Invoke function arguments) number
 unfolding written
 call_numbered before mid after names function arguments numbers number below extends are at = record {
   extends = extends_both before mid after below.extends extends;
@@ -83,7 +83,7 @@ pub names_within : (before mid : List Shape) (names : List ℕ) (bound : Exprs) 
 names_within before mid names bound numbers below first = All-append (λ n. n < length mid) names numbers (below_more before mid names first.extends below) first.within
 
 pub let_numbered : (before mid after : List Shape) (names : List ℕ) (bound : Exprs) (inner : Expr) (numbers : List ℕ) (number : ℕ) → AreBelow (length before) names → AreNumbered before mid names bound numbers →
-    IsNumbered mid after (names ++ numbers) inner number → IsNumbered before after names (Bind bound inner) number
+    IsNumberOf mid after (names ++ numbers) inner number → IsNumberOf before after names (Bind bound inner) number
 unfolding written
 let_numbered before mid after names bound inner numbers number below first second = record {
   extends = extends_both before mid after first.extends second.extends;
@@ -104,7 +104,7 @@ all_written-append known none second = refl
 all_written-append known (more term first) second = ap (more (written known term)) (all_written-append known first second)
 
 pub next_numbered : {T N : Type 0} (denotes : N → Val) (before mid after : List Shape) (names : List ℕ) (terms : List (Term T N)) (i : ℕ) (term : Term T N) (numbers : List ℕ) (number : ℕ) → i < length terms → term ≡ get_or terms i term →
-    AreBelow (length before) names → AreNumbered before mid names (exprs_of denotes (take i terms)) numbers → IsNumbered mid after names (expr_of denotes term) number →
+    AreBelow (length before) names → AreNumbered before mid names (exprs_of denotes (take i terms)) numbers → IsNumberOf mid after names (expr_of denotes term) number →
     AreNumbered before after names (exprs_of denotes (take (i + 1) terms)) (numbers ++ number ∷ [])
 unfolding all_written
 next_numbered denotes before mid after names terms i term numbers number within is below first second =
@@ -143,7 +143,7 @@ taken_many zero items within = refl
 taken_many (suc count) [] within = absurd (omega (arith, within))
 taken_many (suc count) (item ∷ items) within = omega (arith, taken_many count items (omega (arith, within)))
 
-pub more_variables : (before after : List Shape) (names : List ℕ) (count number : ℕ) → AreVariables before names count → Extends before after → AreSubterms after → slice_get after number ≡ Some (Argument count) →
+pub more_variables : (before after : List Shape) (names : List ℕ) (count number : ℕ) → AreVariables before names count → ShapesExtend before after → AreSubterms after → slice_get after number ≡ Some (Argument count) →
     AreVariables after (names ++ number ∷ []) (count + 1)
 more_variables before after names count number vars extends are at = record {
   within = All-push (λ n. n < length after) names number (below_more before after names extends vars.within) (slice_get_within after number (Argument count) at);
@@ -157,7 +157,7 @@ more_variables before after names count number vars extends are at = record {
 }
 
 -- a term numbered over all variables is the term written out
-pub all_variables : (before after : List Shape) (names : List ℕ) (count : ℕ) (term : Expr) (number : ℕ) (sorts : List Sort) → AreVariables before names count → IsNumbered before after names term number → length sorts ≡ count →
+pub all_variables : (before after : List Shape) (names : List ℕ) (count : ℕ) (term : Expr) (number : ℕ) (sorts : List Sort) → AreVariables before names count → IsNumberOf before after names term number → length sorts ≡ count →
     term_of (subterms after) number ≡ written (variables_from 0 sorts) term
 all_variables before after names count term number sorts vars is many =
     is.is ∙ ap (λ known. written known term) (vars.are sorts (omega (arith, many)) ∙ ap (variables_from 0) (take_all count sorts (omega (arith, many))))

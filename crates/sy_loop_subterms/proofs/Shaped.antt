@@ -6,7 +6,7 @@ use Rattle.std.proofs.lemmas.List.{get_or_append_left, append-nil}
 use Rattle.std.proofs.lemmas.List.Elements.{All-head, All-tail, All-weaker}
 use Rattle.sy_terms.specs.Values.{Truth}
 use Rattle.sy_terms.specs.Expr.{Expr, Constant, Apply, Invoke, more}
-use Rattle.sy_loop_subterms.specs.Shapes.{Shape, Fixed, Argument, Applied, Called, AreBelow, AreSubterms, Extends, numbers_of, subterms, subterms_after, shaped, term_of, terms_of}
+use Rattle.sy_loop_subterms.specs.Shapes.{Shape, Fixed, Argument, Applied, Called, AreBelow, AreSubterms, ShapesExtend, numbers_of, subterms, subterms_after, shaped, term_of, terms_of}
 use Rattle.sy_loop_subterms.proofs.Lists.{at_end}
 
 -- there are as many subterms as shapes
@@ -44,31 +44,31 @@ term_stays terms (shape ∷ shapes) number within =
     longer (first ∷ terms) last zero within = omega arith
     longer (first ∷ terms) last (suc number) within = omega (arith, longer terms last number (omega (arith, within)))
 
-pub stays : (before after : List Shape) (number : ℕ) → Extends before after → number < length before → term_of (subterms after) number ≡ term_of (subterms before) number
+pub stays : (before after : List Shape) (number : ℕ) → ShapesExtend before after → number < length before → term_of (subterms after) number ≡ term_of (subterms before) number
 stays before after number extends within =
     ap (λ shapes. term_of (subterms shapes) number) extends.is ∙ ap (λ terms. term_of terms number) (after_both [] before extends.added) ∙
     term_stays (subterms before) extends.added number (omega (arith, many before, within))
 
-pub all_stay : (before after : List Shape) (numbers : List ℕ) → Extends before after → AreBelow (length before) numbers → terms_of (subterms after) numbers ≡ terms_of (subterms before) numbers
+pub all_stay : (before after : List Shape) (numbers : List ℕ) → ShapesExtend before after → AreBelow (length before) numbers → terms_of (subterms after) numbers ≡ terms_of (subterms before) numbers
 all_stay before after [] extends below = refl
 all_stay before after (number ∷ numbers) extends below =
     λ i. more (stays before after number extends (All-head (λ n. n < length before) number numbers below) i) (all_stay before after numbers extends (All-tail (λ n. n < length before) number numbers below) i)
 
 -- one extension after another
-pub unchanged : (shapes : List Shape) → Extends shapes shapes
+pub unchanged : (shapes : List Shape) → ShapesExtend shapes shapes
 unchanged shapes = record { added = []; is = sym (append-nil shapes) }
 
-pub extends_both : (before mid after : List Shape) → Extends before mid → Extends mid after → Extends before after
+pub extends_both : (before mid after : List Shape) → ShapesExtend before mid → ShapesExtend mid after → ShapesExtend before after
 extends_both before mid after one two = record { added = one.added ++ two.added; is = two.is ∙ ap (λ shapes. shapes ++ two.added) one.is ∙ append_assoc before one.added two.added }
 
-pub not_fewer : (before after : List Shape) → Extends before after → length before ≤ length after
+pub not_fewer : (before after : List Shape) → ShapesExtend before after → length before ≤ length after
 not_fewer before after extends = subst (λ shapes. length before ≤ length shapes) (sym extends.is) (front before extends.added)
   where
     front : (before added : List Shape) → length before ≤ length (before ++ added)
     front [] added = omega arith
     front (shape ∷ before) added = omega (arith, front before added)
 
-pub below_more : (before after : List Shape) (numbers : List ℕ) → Extends before after → AreBelow (length before) numbers → AreBelow (length after) numbers
+pub below_more : (before after : List Shape) (numbers : List ℕ) → ShapesExtend before after → AreBelow (length before) numbers → AreBelow (length after) numbers
 below_more before after numbers extends below = All-weaker (λ n. n < length before) (λ n. n < length after) (λ n within. omega (arith, within, not_fewer before after extends)) numbers below
 
 -- the shapes before one, and those after it
@@ -90,7 +90,7 @@ last_is [] last = refl
 last_is (first ∷ terms) last = last_is terms last
 
 -- a shape over numbers that stay is the same term
-pub shape_stays : (before after : List Shape) (shape : Shape) → Extends before after → AreBelow (length before) (numbers_of shape) → shaped (subterms after) shape ≡ shaped (subterms before) shape
+pub shape_stays : (before after : List Shape) (shape : Shape) → ShapesExtend before after → AreBelow (length before) (numbers_of shape) → shaped (subterms after) shape ≡ shaped (subterms before) shape
 shape_stays before after (Fixed value) extends below = refl
 shape_stays before after (Argument position) extends below = refl
 shape_stays before after (Applied operator numbers) extends below = ap (Apply operator) (all_stay before after numbers extends below)
@@ -101,8 +101,8 @@ pub shape_is : (shapes : List Shape) (number : ℕ) (shape : Shape) → AreSubte
 shape_is shapes number shape are at =
     let split = around shapes number shape at in
     let upto = split.before ++ shape ∷ [] in
-    let more_after : Extends upto shapes = record { added = split.after; is = split.is } in
-    let more_before : Extends split.before shapes = extends_both split.before upto shapes (record { added = shape ∷ []; is = refl }) more_after in
+    let more_after : ShapesExtend upto shapes = record { added = split.after; is = split.is } in
+    let more_before : ShapesExtend split.before shapes = extends_both split.before upto shapes (record { added = shape ∷ []; is = refl }) more_after in
     let within : number < length upto = subst (λ n. n < length upto) split.many_before (slice_get_within upto (length split.before) shape (at_end split.before shape)) in
     let place : number ≡ length (subterms split.before) = sym (many split.before ∙ split.many_before) in
     stays upto shapes number more_after within ∙

@@ -6,8 +6,8 @@ use Rattle.std.proofs.lemmas.List.{take_all}
 use Rattle.std.proofs.lemmas.List.Elements.{Contains-append_left, Contains-push}
 use Rattle.sy_loop_subterms.specs.Shapes.{Shape, AreBelow, numbers_of}
 use Rattle.sy_loop_subterms.specs.Keys.{key_of}
-use Rattle.sy_loop_subterms.specs.Places.{IsAdded}
-use Rattle.sy_loop_subterms.specs.Tables.{IsWhole}
+use Rattle.sy_loop_subterms.specs.Places.{KeyIsAdded}
+use Rattle.sy_loop_subterms.specs.Tables.{TableIsWhole}
 use Rattle.sy_loop_subterms.proofs.Lists.{in_nothing, in_more, at_more}
 
 -- the shape is at none of these numbers
@@ -28,7 +28,7 @@ pub none-last : (shapes : List Shape) (shape : Shape) (numbers : List ℕ) (i : 
 none-last shapes shape numbers i beyond none = subst (IsAtNone shapes shape) (take_all i numbers beyond) none
 
 -- what is at none of the numbers of its key is nowhere
-pub find-all : (shapes kept : List Shape) (places : ℕ → List ℕ) (shape : Shape) (key : ℕ) (numbers : List ℕ) (found : Option ℕ) → IsWhole shapes places → kept ≡ shapes → key ≡ key_of shape → numbers ≡ places key →
+pub find-all : (shapes kept : List Shape) (places : ℕ → List ℕ) (shape : Shape) (key : ℕ) (numbers : List ℕ) (found : Option ℕ) → TableIsWhole shapes places → kept ≡ shapes → key ≡ key_of shape → numbers ≡ places key →
     MatchOption found (IsAtNone kept shape numbers) (λ number. slice_get kept number ≡ Some shape) →
     MatchOption found ((number : ℕ) → slice_get shapes number ≡ Some shape → ⊥) (λ number. slice_get shapes number ≡ Some shape)
 find-all shapes kept places shape key numbers (Some number) whole same is all at = ap (λ (all : List Shape). slice_get all number) (sym same) ∙ at
@@ -36,7 +36,7 @@ find-all shapes kept places shape key numbers None whole same is all none =
     λ number at. none number (subst (λ items. Contains items number) (ap places (sym is) ∙ sym all) (whole.found number shape at)) (ap (λ (all : List Shape). slice_get all number) same ∙ at)
 
 -- a table stays whole where keys have the same places, or more
-pub whole-same : (shapes : List Shape) (before after : ℕ → List ℕ) → ((key : ℕ) → after key ≡ before key) → IsWhole shapes before → IsWhole shapes after
+pub whole-same : (shapes : List Shape) (before after : ℕ → List ℕ) → ((key : ℕ) → after key ≡ before key) → TableIsWhole shapes before → TableIsWhole shapes after
 whole-same shapes before after same whole = record {
   are = whole.are;
   found = λ place shape at. subst (λ items. Contains items place) (sym (same (key_of shape))) (whole.found place shape at);
@@ -50,15 +50,15 @@ comes : (b : Bool) (items : List ℕ) (item : ℕ) → b ≡ true → Contains (
 comes true items item e = Contains-push items item
 comes false items item e = absurd (true≢false (sym e))
 
-pub whole-added : (shapes : List Shape) (before after : ℕ → List ℕ) (key place : ℕ) → IsAdded before key place after → IsWhole shapes before → IsWhole shapes after
+pub whole-added : (shapes : List Shape) (before after : ℕ → List ℕ) (key place : ℕ) → KeyIsAdded before key place after → TableIsWhole shapes before → TableIsWhole shapes after
 whole-added shapes before after key place added whole = record {
   are = whole.are;
   found = λ other shape at. subst (λ items. Contains items other) (sym (added (key_of shape))) (stays (nat_eq key (key_of shape)) (before (key_of shape)) place other (whole.found other shape at));
 }
 
 -- one shape more, which isn't there yet
-pub whole-more : (shapes : List Shape) (shape : Shape) (before after : ℕ → List ℕ) (key place : ℕ) → IsWhole shapes before → key ≡ key_of shape → place ≡ length shapes → IsAdded before key place after →
-    AreBelow (length shapes) (numbers_of shape) → ((number : ℕ) → slice_get shapes number ≡ Some shape → ⊥) → IsWhole (shapes ++ shape ∷ []) after
+pub whole-more : (shapes : List Shape) (shape : Shape) (before after : ℕ → List ℕ) (key place : ℕ) → TableIsWhole shapes before → key ≡ key_of shape → place ≡ length shapes → KeyIsAdded before key place after →
+    AreBelow (length shapes) (numbers_of shape) → ((number : ℕ) → slice_get shapes number ≡ Some shape → ⊥) → TableIsWhole (shapes ++ shape ∷ []) after
 whole-more shapes shape before after key place whole is end added below new = record {
   are = record {
     ordered = λ at item here. elim (at_more shapes shape at item here) [

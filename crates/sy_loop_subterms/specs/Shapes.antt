@@ -54,18 +54,18 @@ pub record AreSubterms (shapes : List Shape) : Type 0 where
   pub distinct : (place other : ℕ) (shape : Shape) → slice_get shapes place ≡ Some shape → slice_get shapes other ≡ Some shape → place ≡ other
 
 -- there are more shapes, after those that there were
-pub record Extends (before after : List Shape) : Type 0 where
+pub record ShapesExtend (before after : List Shape) : Type 0 where
   pub added : List Shape
   pub is : after ≡ before ++ added
 
 -- a term is added: the number is that of the term, over these terms for the names in force, written out
-pub record IsNumbered (before after : List Shape) (names : List ℕ) (term : Expr) (number : ℕ) : Type 0 where
-  pub extends : Extends before after
+pub record IsNumberOf (before after : List Shape) (names : List ℕ) (term : Expr) (number : ℕ) : Type 0 where
+  pub extends : ShapesExtend before after
   pub within : number < length after
   pub is : term_of (subterms after) number ≡ written (terms_of (subterms before) names) term
 
 -- so are several terms
 pub record AreNumbered (before after : List Shape) (names : List ℕ) (terms : Exprs) (numbers : List ℕ) : Type 0 where
-  pub extends : Extends before after
+  pub extends : ShapesExtend before after
   pub within : AreBelow (length after) numbers
   pub are : terms_of (subterms after) numbers ≡ all_written (terms_of (subterms before) names) terms

@@ -1,7 +1,7 @@
 // Numbers by which shapes are found.
 ghost use Rattle.std.specs.Prelude.{◌≡◌, ◌%◌, ◌^◌};
 ghost use Rattle.sy_terms.specs.Denoted.{val_of};
-ghost use Rattle.sy_grammar_base.specs.Trees.{magnitude};
+ghost use Rattle.sy_grammar_base.specs.Trees.{value_magnitude};
 ghost use Rattle.sy_loop_subterms.specs.Keys as spec;
 
 use sy_terms::{Theory, Value};
@@ -26,7 +26,7 @@ pub(crate) fn all_mixed(seed: u64, numbers: &[u32]) -> u64
 
 /// A number for the value.
 pub(crate) fn code<T: Theory>(value: &Value<T::Num>) -> u64
-    ensures { result ≡ magnitude (val_of T.denotes value.now) % 2 ^ 64 }
+    ensures { result ≡ value_magnitude (val_of T.denotes value.now) % 2 ^ 64 }
 {
     match value {
         Value::Truth(_) => 0,

@@ -11,11 +11,11 @@ pub struct Places {
 
 impl Places {
     ghost use Rattle.std.specs.Prelude.{ℕ, ◌≡◌, [], OnOk, OnErr};
-    ghost use Rattle.sy_loop_subterms.specs.Places.{places_of, IsAdded};
+    ghost use Rattle.sy_loop_subterms.specs.Places.{key_places, KeyIsAdded};
 
     /// No places. It takes no memory.
     pub fn new(alloc: Global) -> Places
-        ensures { (key : ℕ) → places_of result key ≡ [] }
+        ensures { (key : ℕ) → key_places result key ≡ [] }
     {
         Places {
             map: HashMap::new(alloc),
@@ -24,7 +24,7 @@ impl Places {
 
     /// The places for the key, in the order in which they came.
     pub fn of(&self, key: u64) -> &[u32]
-        ensures { result.now ≡ places_of self.now key }
+        ensures { result.now ≡ key_places self.now key }
     {
         match self.map.get(&key) {
             Some(places) => places.as_slice(),
@@ -34,8 +34,8 @@ impl Places {
 
     /// Adds the place for the key. On `Want` nothing changes.
     pub fn add(&mut self, alloc: Global, key: u64, place: u32) -> Result<(), Want>
-        ensures ok { OnOk result (IsAdded (places_of self.old) key place (places_of self.new)) }
-        ensures err { OnErr result ((other : ℕ) → places_of self.new other ≡ places_of self.old other) }
+        ensures ok { OnOk result (KeyIsAdded (key_places self.old) key place (key_places self.new)) }
+        ensures err { OnErr result ((other : ℕ) → key_places self.new other ≡ key_places self.old other) }
     {
         if let Some(places) = self.map.get_mut(&key) {
             places.push(place)?;

@@ -43,19 +43,19 @@ impl<T: Theory> Model for Table<T> {
     ghost use Rattle.std.specs.Prelude.{List};
     ghost use Rattle.sy_loop_subterms.specs.Shapes as spec;
     ghost use Rattle.sy_loop_subterms.specs.Denoted.{shapes_of};
-    ghost use Rattle.sy_loop_subterms.specs.Places.{places_of};
-    ghost use Rattle.sy_loop_subterms.specs.Tables.{IsWhole};
+    ghost use Rattle.sy_loop_subterms.specs.Places.{key_places};
+    ghost use Rattle.sy_loop_subterms.specs.Tables.{TableIsWhole};
 
     ghost Value = { List spec.Shape };
 
     ghost view = { λ t. shapes_of T.denotes t.shapes.items };
 
-    ghost invariant = { λ t. IsWhole (shapes_of T.denotes t.shapes.items) (places_of t.places) };
+    ghost invariant = { λ t. TableIsWhole (shapes_of T.denotes t.shapes.items) (key_places t.places) };
 }
 
 impl<T: Theory> Table<T> {
     ghost use Rattle.std.specs.Prelude.{ℕ, ◌≡◌, [], length, MatchOption, slice_get, Some, IfOk, OnOk};
-    ghost use Rattle.sy_loop_subterms.specs.Shapes.{AreBelow, AreSubterms, Extends, numbers_of};
+    ghost use Rattle.sy_loop_subterms.specs.Shapes.{AreBelow, AreSubterms, ShapesExtend, numbers_of};
 
     /// No shapes. It takes no memory.
     pub fn new(alloc: Global) -> Table<T>
@@ -97,7 +97,7 @@ impl<T: Theory> Table<T> {
     pub fn number(&mut self, alloc: Global, shape: Shape<T>) -> Result<u32, Want>
         requires below { AreBelow (length self.old) (numbers_of (shape_of T.denotes shape)) }
         ensures at { IfOk result (λ number. slice_get self.new number ≡ Some (shape_of T.denotes shape)) }
-        ensures extends { OnOk result (Extends self.old self.new) }
+        ensures extends { OnOk result (ShapesExtend self.old self.new) }
         ensures are { OnOk result (AreSubterms self.new) }
     {
         if let Some(number) = self.find(&shape) {

@@ -4,7 +4,7 @@ ghost use Rattle.sy_terms.specs.Denoted.{expr_of, exprs_of};
 ghost use Rattle.sy_terms.specs.Expr.{Variable};
 ghost use Rattle.sy_terms.specs.declared.sort.Sort.{Sort};
 ghost use Rattle.sy_loop_bounds.specs.WrittenOut.{written as written_term, variables_from};
-ghost use Rattle.sy_loop_subterms.specs.Shapes.{AreBelow, IsNumbered, AreNumbered, subterms, term_of};
+ghost use Rattle.sy_loop_subterms.specs.Shapes.{AreBelow, IsNumberOf, AreNumbered, subterms, term_of};
 
 use crate::shape::Shape;
 use crate::table::Table;
@@ -43,7 +43,7 @@ fn number_of<T: Theory>(
     term: &Term<T>,
 ) -> Result<u32, Want>
     requires names { AreBelow (length table.old) names.now }
-    ensures { IfOk result (λ number. IsNumbered table.old table.new names.now (expr_of T.denotes term.now) number) }
+    ensures { IfOk result (λ number. IsNumberOf table.old table.new names.now (expr_of T.denotes term.now) number) }
 {
     match term {
         Term::Const(value) => {
@@ -100,7 +100,7 @@ fn named<T: Theory>(
     position: u32,
 ) -> Result<u32, Want>
     requires names { AreBelow (length table.old) names.now }
-    ensures { IfOk result (λ number. IsNumbered table.old table.new names.now (Variable position) number) }
+    ensures { IfOk result (λ number. IsNumberOf table.old table.new names.now (Variable position) number) }
 {
     match names.get(position as usize) {
         Some(number) => Ok(*number),

@@ -16,7 +16,7 @@ use Rattle.sy_grammar_base.specs.declared.grammar.Non.{Non}
 use Rattle.sy_grammar_base.specs.declared.grammar.Rule.{Rule}
 use Rattle.sy_grammar_base.specs.Written.{pattern_of, patterns_of}
 use Rattle.sy_grammar_base.specs.declared.part.Part.{Part}
-use Rattle.sy_loop_trees.specs.Conditions.{HasNoTrees, IsConditionOf, first_of, place_of, tested_by}
+use Rattle.sy_loop_trees.specs.Conditions.{HasNoTrees, IsConditionOf, first_nonterminal, pattern_nonterminal, tested_by}
 
 both_left : (a b : Bool) → (a && b) ≡ true → a ≡ true
 both_left true b is = refl
@@ -71,11 +71,11 @@ choice_is (Template (Apply operator arguments)) is = applied operator arguments 
 
 -- what stands first in an operator's pattern
 module _ {T N : Type 0} (number : N → Val) (operator : Op) where
-  pub first_is : (parts : List (Part T N)) (part : Part T N) → slice_get parts 0 ≡ Some part → first_of (Apply operator (patterns_of number parts)) ≡ place_of (pattern_of number part)
+  pub first_is : (parts : List (Part T N)) (part : Part T N) → slice_get parts 0 ≡ Some part → first_nonterminal (Apply operator (patterns_of number parts)) ≡ pattern_nonterminal (pattern_of number part)
   first_is [] part at = absurd (cc)
-  first_is (first ∷ parts) part at = let same : first ≡ part = cc in ap (λ (p : Part T N). place_of (pattern_of number p)) same
+  first_is (first ∷ parts) part at = let same : first ≡ part = cc in ap (λ (p : Part T N). pattern_nonterminal (pattern_of number p)) same
 
-  pub no_first : (parts : List (Part T N)) → length parts ≤ 0 → first_of (Apply operator (patterns_of number parts)) ≡ None
+  pub no_first : (parts : List (Part T N)) → length parts ≤ 0 → first_nonterminal (Apply operator (patterns_of number parts)) ≡ None
   no_first [] empty = refl
   no_first (first ∷ parts) empty = absurd (omega (arith, empty))
 

@@ -15,16 +15,16 @@ pub record IsConditionOf (syntax : Syntax) (condition : ℕ) : Type 0 where
   pub chooses : IsTreeRule syntax rule condition
 
 -- the nonterminal that a pattern is
-abbrev pub place_of : Pattern → Option ℕ
-place_of (pattern.Occurrence nonterminal) = Some nonterminal
-place_of _ = None
+abbrev pub pattern_nonterminal : Pattern → Option ℕ
+pattern_nonterminal (pattern.Occurrence nonterminal) = Some nonterminal
+pattern_nonterminal _ = None
 
 -- the nonterminal that stands first in an operator's pattern
-abbrev pub first_of : Pattern → Option ℕ
-first_of (pattern.Apply operator (pattern.more first rest)) = place_of first
-first_of _ = None
+abbrev pub first_nonterminal : Pattern → Option ℕ
+first_nonterminal (pattern.Apply operator (pattern.more first rest)) = pattern_nonterminal first
+first_nonterminal _ = None
 
 -- the same of a rule
 abbrev pub tested_by : Production → Option ℕ
-tested_by (Template pattern) = first_of pattern
+tested_by (Template pattern) = first_nonterminal pattern
 tested_by _ = None

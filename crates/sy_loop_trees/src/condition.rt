@@ -3,7 +3,7 @@ ghost use Rattle.std.specs.Prelude.{◌≡◌, MatchOption};
 ghost use Rattle.sy_grammar_base.specs.Grown.{syntax_from, production_of};
 ghost use Rattle.sy_grammar_base.specs.Trees.{IsNumbered};
 ghost use Rattle.sy_grammar_base.specs.Written.{pattern_of};
-ghost use Rattle.sy_loop_trees.specs.Conditions.{HasNoTrees, IsConditionOf, first_of, place_of, tested_by};
+ghost use Rattle.sy_loop_trees.specs.Conditions.{HasNoTrees, IsConditionOf, first_nonterminal, pattern_nonterminal, tested_by};
 
 use sy_grammar_base::{Grammar, Part, Rule, tree_rule};
 use sy_terms::Theory;
@@ -33,7 +33,7 @@ fn tested<T: Theory>(rule: &Rule<T>) -> Option<u32>
 
 /// The same of a rule's part.
 fn first_place<T: Theory>(part: &Part<T>) -> Option<u32>
-    ensures { result ≡ first_of (pattern_of T.denotes part.now) }
+    ensures { result ≡ first_nonterminal (pattern_of T.denotes part.now) }
 {
     match part {
         Part::App(_, parts) => match parts.get(0) {
@@ -49,7 +49,7 @@ fn first_place<T: Theory>(part: &Part<T>) -> Option<u32>
 
 /// The nonterminal that the part is.
 fn place<T: Theory>(part: &Part<T>) -> Option<u32>
-    ensures { result ≡ place_of (pattern_of T.denotes part.now) }
+    ensures { result ≡ pattern_nonterminal (pattern_of T.denotes part.now) }
 {
     match part {
         Part::Non(nonterminal) => Some(*nonterminal),

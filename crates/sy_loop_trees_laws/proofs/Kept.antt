@@ -7,10 +7,10 @@ use Rattle.sy_terms.specs.Meaning.{Function, meaning, value_at_position}
 use Rattle.sy_grammar_base.specs.Trees.{Syntax, Tree}
 use Rattle.sy_unify.specs.Rows.{holds_at}
 use Rattle.sy_bank_rows.specs.Rows.{IsRow}
-use Rattle.sy_bank_rows.specs.Banks.{Entry, Merged, IsKept, IsHonest, kept_at}
+use Rattle.sy_bank_rows.specs.Banks.{Entry, Merged, IsKept, IsHonestBank, kept_at}
 use Rattle.sy_bank_rows.specs.Covering.{Covers}
 use Rattle.sy_loop_bounds.specs.Conditional.{IsPart}
-use Rattle.sy_loop_trees_laws.specs.Trees.{kept_below, truths, HaveRows}
+use Rattle.sy_loop_trees_laws.specs.Trees.{kept_below, truths, EntriesHaveRows}
 
 -- what stands in two lists in a row
 get_left : {X : Type 0} (xs ys : List X) (k : ℕ) (x : X) → slice_get xs k ≡ Some x → slice_get (xs ++ ys) k ≡ Some x
@@ -66,7 +66,7 @@ kept_only levels nonterminal (suc n) k entry at =
     ]
 
 -- so each is a part of its nonterminal
-pub kept_is_part : (syntax : Syntax) (defined : List Function) (pool : List Val) (bank : Merged) → IsHonest syntax defined pool bank → (nonterminal n k : ℕ) (entry : Entry) →
+pub kept_is_part : (syntax : Syntax) (defined : List Function) (pool : List Val) (bank : Merged) → IsHonestBank syntax defined pool bank → (nonterminal n k : ℕ) (entry : Entry) →
     slice_get (kept_below bank.levels nonterminal (n + 1)) k ≡ Some entry → IsPart syntax pool nonterminal n entry.tree entry.term
 kept_is_part syntax defined pool bank honest nonterminal n k entry at =
     let kept = kept_only bank.levels nonterminal (n + 1) k entry at in
@@ -77,7 +77,7 @@ kept_is_part syntax defined pool bank honest nonterminal n k entry at =
     record { derives = sound.1.derives; small = omega (arith, sized, is, under) }
 
 -- and has its row
-pub kept_have_rows : (syntax : Syntax) (defined : List Function) (pool : List Val) (bank : Merged) → IsHonest syntax defined pool bank → (nonterminal n : ℕ) → HaveRows defined bank.points (kept_below bank.levels nonterminal n)
+pub kept_have_rows : (syntax : Syntax) (defined : List Function) (pool : List Val) (bank : Merged) → IsHonestBank syntax defined pool bank → (nonterminal n : ℕ) → EntriesHaveRows defined bank.points (kept_below bank.levels nonterminal n)
 kept_have_rows syntax defined pool bank honest nonterminal n place entry at =
     let kept = kept_only bank.levels nonterminal n place entry at in
     (honest.each nonterminal kept.size kept.place entry kept.at).1.row
@@ -118,7 +118,7 @@ pub record IsTwin (defined : List Function) (points : List (List Val)) (levels :
   pub place : ℕ
   pub at : slice_get (kept_below levels nonterminal (n + 1)) place ≡ Some entry
 
-pub twin : (syntax : Syntax) (defined : List Function) (pool : List Val) (bank : Merged) (n : ℕ) → n ≤ bank.upto → IsHonest syntax defined pool bank → Covers syntax defined pool bank →
+pub twin : (syntax : Syntax) (defined : List Function) (pool : List Val) (bank : Merged) (n : ℕ) → n ≤ bank.upto → IsHonestBank syntax defined pool bank → Covers syntax defined pool bank →
     (nonterminal : ℕ) (tree : Tree) (term : Expr) → IsPart syntax pool nonterminal n tree term → IsTwin defined bank.points bank.levels nonterminal n term
 twin syntax defined pool bank n up honest covers nonterminal tree term part =
     let little = part.small in

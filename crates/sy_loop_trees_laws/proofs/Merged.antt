@@ -9,11 +9,11 @@ use Rattle.sy_terms.specs.Meaning.{Function, functions, meaning}
 use Rattle.sy_grammar_base.specs.Trees.{Syntax}
 use Rattle.sy_grammar_base.specs.Questions.{Question}
 use Rattle.sy_grammar_base.specs.Solving.{AreValues}
-use Rattle.sy_bank_rows.specs.Banks.{Entry, Merged, IsHonest}
+use Rattle.sy_bank_rows.specs.Banks.{Entry, Merged, IsHonestBank}
 use Rattle.sy_bank_rows.specs.Covering.{Covers}
 use Rattle.sy_loop_bounds.specs.Pointwise.{IsPointwise}
 use Rattle.sy_loop_bounds.specs.Resting.{IsGoodAt}
-use Rattle.sy_loop_bounds.specs.Conditional.{Conditional, Leaf, Test, reached, ArePartsWithin}
+use Rattle.sy_loop_bounds.specs.Conditional.{Conditional, Leaf, Test, leaf_reached, ArePartsWithin}
 use Rattle.sy_loop_bounds_laws.proofs.Goodness.{good_alike}
 use Rattle.sy_loop_trees_laws.specs.Trees.{IsKeptPart, IsMergedTree}
 use Rattle.sy_loop_trees_laws.proofs.Kept.{IsTwin, twin, twin_means}
@@ -35,7 +35,7 @@ same_side defined point false false there here there' here' same on_true on_fals
 same_side defined point true false there here there' here' same on_true on_false = absurd (true≢false same)
 same_side defined point false true there here there' here' same on_true on_false = absurd (true≢false (sym same))
 
-pub trees_are_merged : (syntax : Syntax) (defined : List Function) (pool : List Val) (bank : Merged) (condition n : ℕ) → n ≤ bank.upto → IsHonest syntax defined pool bank → Covers syntax defined pool bank →
+pub trees_are_merged : (syntax : Syntax) (defined : List Function) (pool : List Val) (bank : Merged) (condition n : ℕ) → n ≤ bank.upto → IsHonestBank syntax defined pool bank → Covers syntax defined pool bank →
     (parts : Conditional) → ArePartsWithin syntax pool condition n parts → IsMergedTree defined bank.points bank.levels condition n parts
 trees_are_merged syntax defined pool bank condition n up honest covers (Leaf tree term) within =
     let is = twin syntax defined pool bank n up honest covers 0 tree term within in
@@ -56,15 +56,15 @@ trees_are_merged syntax defined pool bank condition n up honest covers (Test tre
       means = λ point of.
           let at = numbered bank.points point of in
           same_side defined point (truth (meaning defined [] point is.entry.term)) (truth (meaning defined [] point term))
-          (reached defined point on_true.kept) (reached defined point on_false.kept) (reached defined point there) (reached defined point here)
+          (leaf_reached defined point on_true.kept) (leaf_reached defined point on_false.kept) (leaf_reached defined point there) (leaf_reached defined point here)
           (ap truth (twin_means defined bank.points bank.levels condition n term is at.0 point at.1)) (on_true.means point of) (on_false.means point of);
     }
 
 -- where the one reaches good leaves alone, so does the other
 pub merged_is_good : (question : Question) (assignments : List (List Val)) (bank : Merged) (condition n : ℕ) (parts : Conditional) → IsPointwise question → All (AreValues question.variables) assignments →
     (merged : IsMergedTree (functions question.definitions) bank.points bank.levels condition n parts) →
-    ((point : List Val) → Contains bank.points point → IsGoodAt question assignments point (reached (functions question.definitions) point parts)) →
-    (point : List Val) → Contains bank.points point → IsGoodAt question assignments point (reached (functions question.definitions) point merged.kept)
+    ((point : List Val) → Contains bank.points point → IsGoodAt question assignments point (leaf_reached (functions question.definitions) point parts)) →
+    (point : List Val) → Contains bank.points point → IsGoodAt question assignments point (leaf_reached (functions question.definitions) point merged.kept)
 merged_is_good question assignments bank condition n parts pointwise are merged good point of =
-    good_alike question assignments pointwise are point (reached (functions question.definitions) point parts) (reached (functions question.definitions) point merged.kept)
+    good_alike question assignments pointwise are point (leaf_reached (functions question.definitions) point parts) (leaf_reached (functions question.definitions) point merged.kept)
     (sym (merged.means point of)) (good point of)

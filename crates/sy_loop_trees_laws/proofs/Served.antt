@@ -13,18 +13,18 @@ use Rattle.sy_grammar_base.specs.Solving.{AreValues}
 use Rattle.sy_unify.specs.declared.choice.Choice.{Choice, Leaf, Test'}
 use Rattle.sy_unify.specs.Rows.{holds_at}
 use Rattle.sy_unify.specs.Unify as unify
-use Rattle.sy_unify.specs.Unify.{EachTestSplits, Serves, leaf_count}
-use Rattle.sy_bank_rows.specs.Banks.{Entry, Merged, IsHonest}
+use Rattle.sy_unify.specs.Unify.{EachTestSplits, ServesPoints, leaf_count}
+use Rattle.sy_bank_rows.specs.Banks.{Entry, Merged, IsHonestBank}
 use Rattle.sy_loop_bounds.specs.Pointwise.{IsPointwise}
 use Rattle.sy_loop_bounds.specs.Resting.{IsGoodAt}
-use Rattle.sy_loop_bounds.specs.Conditional.{yield, leaves as leaves_of, reached, ArePartsWithin}
+use Rattle.sy_loop_bounds.specs.Conditional.{yield, leaves as leaves_of, leaf_reached, ArePartsWithin}
 use Rattle.sy_loop_bounds_laws.proofs.Goodness.{tree_is_good}
 use Rattle.sy_loop_trees_laws.specs.Goods.{AreGoods}
-use Rattle.sy_loop_trees_laws.specs.Trees.{kept_below, truths, HaveRows, entry_at, conditional_of, nothing_kept}
+use Rattle.sy_loop_trees_laws.specs.Trees.{kept_below, truths, EntriesHaveRows, entry_at, conditional_of, nothing_kept}
 use Rattle.sy_loop_trees_laws.proofs.Kept.{kept_is_part, row_says, truths_say}
 
 -- the row of a condition says where it is true; so does the row of none
-condition_says : (defined : List Function) (points : List (List Val)) (x : ℕ) (point : List Val) → slice_get points x ≡ Some point → (conditions : List Entry) (test : ℕ) → HaveRows defined points conditions →
+condition_says : (defined : List Function) (points : List (List Val)) (x : ℕ) (point : List Val) → slice_get points x ≡ Some point → (conditions : List Entry) (test : ℕ) → EntriesHaveRows defined points conditions →
     truth (meaning defined [] point (entry_at conditions test).term) ≡ holds_at (truths conditions) test x
 unfolding meaning
 condition_says defined points x point at [] test rows = refl
@@ -33,12 +33,12 @@ condition_says defined points x point at (entry ∷ conditions) zero rows =
 condition_says defined points x point at (entry ∷ conditions) (suc test) rows = condition_says defined points x point at conditions test (λ place other is. rows (suc place) other is)
 
 -- a choice reaches the same leaf by its rows as the conditional tree does by its conditions
-choice_reaches : (defined : List Function) (points : List (List Val)) (x : ℕ) (point : List Val) → slice_get points x ≡ Some point → (leaves conditions : List Entry) → HaveRows defined points conditions → (tree : Choice) →
-    reached defined point (conditional_of leaves conditions tree) ≡ (entry_at leaves (unify.reached (truths conditions) x tree)).term
+choice_reaches : (defined : List Function) (points : List (List Val)) (x : ℕ) (point : List Val) → slice_get points x ≡ Some point → (leaves conditions : List Entry) → EntriesHaveRows defined points conditions → (tree : Choice) →
+    leaf_reached defined point (conditional_of leaves conditions tree) ≡ (entry_at leaves (unify.reached (truths conditions) x tree)).term
 choice_reaches defined points x point at leaves conditions rows (Leaf leaf) = refl
 choice_reaches defined points x point at leaves conditions rows (Test' test p there q here) =
     both_sides (truth (meaning defined [] point (entry_at conditions test).term)) (holds_at (truths conditions) test x) (condition_says defined points x point at conditions test rows)
-    (reached defined point (conditional_of leaves conditions there)) (reached defined point (conditional_of leaves conditions here))
+    (leaf_reached defined point (conditional_of leaves conditions there)) (leaf_reached defined point (conditional_of leaves conditions here))
     (unify.reached (truths conditions) x there) (unify.reached (truths conditions) x here)
     (choice_reaches defined points x point at leaves conditions rows there) (choice_reaches defined points x point at leaves conditions rows here)
   where
@@ -57,8 +57,8 @@ row_within (first ∷ rows) (suc row) x holds = let less = row_within rows row x
 
 -- so a tree that serves all points is good at each
 pub served_is_good : (question : Question) (assignments points : List (List Val)) (leaves conditions : List Entry) (goods : List (List Bool)) (tree : Choice) →
-    IsPointwise question → All (AreValues question.variables) assignments → AreGoods question assignments points leaves goods → HaveRows (functions question.definitions) points conditions →
-    Serves goods (truths conditions) (λ x. x < length points) tree → (x : ℕ) (tuple : List Val) → slice_get points x ≡ Some tuple → IsGoodAt question assignments tuple (yield (conditional_of leaves conditions tree))
+    IsPointwise question → All (AreValues question.variables) assignments → AreGoods question assignments points leaves goods → EntriesHaveRows (functions question.definitions) points conditions →
+    ServesPoints goods (truths conditions) (λ x. x < length points) tree → (x : ℕ) (tuple : List Val) → slice_get points x ≡ Some tuple → IsGoodAt question assignments tuple (yield (conditional_of leaves conditions tree))
 served_is_good question assignments points leaves conditions goods tree pointwise are good rows serves x tuple at =
     let defined = functions question.definitions in
     let leaf = unify.reached (truths conditions) x tree in
@@ -70,7 +70,7 @@ served_is_good question assignments points leaves conditions goods tree pointwis
     (subst (IsGoodAt question assignments tuple) (sym (choice_reaches defined points x tuple at leaves conditions rows tree)) (good.good leaf x (entry_at leaves leaf) tuple there at holds))
 
 -- a tree over kept terms that serves some points is one over parts
-module _ (syntax : Syntax) (defined : List Function) (pool : List Val) (bank : Merged) (honest : IsHonest syntax defined pool bank) (condition n : ℕ) (goods : List (List Bool)) (many : length goods ≡ length (kept_below bank.levels 0 (n + 1))) where
+module _ (syntax : Syntax) (defined : List Function) (pool : List Val) (bank : Merged) (honest : IsHonestBank syntax defined pool bank) (condition n : ℕ) (goods : List (List Bool)) (many : length goods ≡ length (kept_below bank.levels 0 (n + 1))) where
   pub parts_within : (P : ℕ → Type 0) (x : ℕ) → P x → (tree : Choice) →
       ((y : ℕ) → P y → holds_at goods (unify.reached (truths (kept_below bank.levels condition (n + 1))) y tree) y ≡ true) → EachTestSplits (truths (kept_below bank.levels condition (n + 1))) P tree →
       ArePartsWithin syntax pool condition n (conditional_of (kept_below bank.levels 0 (n + 1)) (kept_below bank.levels condition (n + 1)) tree)

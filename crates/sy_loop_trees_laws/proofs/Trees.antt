@@ -9,9 +9,9 @@ use Rattle.sy_grammar_base.specs.Trees.{Syntax, Tree}
 use Rattle.sy_grammar_base.specs.Questions.{Goal, Question}
 use Rattle.sy_grammar_base.specs.Solving.{AreWithin}
 use Rattle.sy_unify.specs.declared.choice.Choice.{Choice}
-use Rattle.sy_unify.specs.Unify.{IsUncovered, Serves}
+use Rattle.sy_unify.specs.Unify.{IsUncovered, ServesPoints}
 use Rattle.sy_points.specs.Asked.{Asked, of_function}
-use Rattle.sy_bank_rows.specs.Banks.{Entry, Merged, IsHonest}
+use Rattle.sy_bank_rows.specs.Banks.{Entry, Merged, IsHonestBank}
 use Rattle.sy_loop_bounds.specs.Bounds.{IsJoinedWithin}
 use Rattle.sy_loop_bounds.specs.Pointwise.{IsPointwise}
 use Rattle.sy_loop_bounds.specs.Conditional.{Conditional, Leaf, Test, yield, IsPart, ArePartsWithin, IsTreeRule}
@@ -21,14 +21,14 @@ use Rattle.sy_loop_bounds_laws.proofs.Resting.{nothing_rests_decides}
 use Rattle.sy_loop_bounds_laws.proofs.Goodness.{rests_or_not}
 use Rattle.sy_loop_bounds_laws.proofs.Variables.{many_values}
 use Rattle.sy_loop_history.specs.Adding.{IsAsked}
-use Rattle.sy_loop_history.specs.Histories.{Counterexample, IsHonest as IsHonestHistory, IsViolatedIn}
+use Rattle.sy_loop_history.specs.Histories.{Counterexample, IsHonestHistory, IsViolatedIn}
 use Rattle.sy_loop_history.specs.Trials.{IsRefuted}
-use Rattle.sy_loop_laws.specs.Agreeing.{Agree, AssumptionsAskNothing}
+use Rattle.sy_loop_laws.specs.Agreeing.{BodiesAgree, AssumptionsAskNothing}
 use Rattle.sy_loop_laws.specs.Merging.{IsCoveringOf}
 use Rattle.sy_loop_laws.specs.Refuting.{AllRefuted}
 use Rattle.sy_loop_laws.proofs.Refuted.{refuted_together, violated_in}
 use Rattle.sy_loop_trees_laws.specs.Goods.{AreGoods, AllRestWithin, assignments_of}
-use Rattle.sy_loop_trees_laws.specs.Trees.{kept_below, truths, HaveRows, conditional_of}
+use Rattle.sy_loop_trees_laws.specs.Trees.{kept_below, truths, EntriesHaveRows, conditional_of}
 use Rattle.sy_loop_trees_laws.proofs.Violated.{assigned, all_assigned, untrue_violates, bad_violates}
 use Rattle.sy_loop_trees_laws.proofs.Merged.{numbered}
 use Rattle.sy_loop_trees_laws.proofs.Uncovered.{one_condition, uncovered_is_bad}
@@ -55,9 +55,9 @@ uncovered_violates reach question size rounds n condition rule history asked ban
     subst (IsViolatedIn question history) (sym joined.is) (bad_violates reach question size rounds history honest nothing somewhere.tuple (yield joined.parts) somewhere.bad)
 
 pub served_violates : (reach : Reach) (question : Question) (size rounds : ℕ) (history : List Counterexample) (asked : Asked) (points : List (List Val)) (leaves conditions : List Entry) (goods : List (List Bool)) (tree : Choice) →
-    IsHonestHistory reach question size rounds history → AssumptionsAskNothing question → IsPointwise question → HaveRows (functions question.definitions) points conditions →
+    IsHonestHistory reach question size rounds history → AssumptionsAskNothing question → IsPointwise question → EntriesHaveRows (functions question.definitions) points conditions →
     AreGoods question (assignments_of history) points leaves goods → AllRestWithin question (assignments_of history) points →
-    Serves goods (truths conditions) (λ x. x < length points) tree → IsRefuted question history asked (yield (conditional_of leaves conditions tree) ∷ []) →
+    ServesPoints goods (truths conditions) (λ x. x < length points) tree → IsRefuted question history asked (yield (conditional_of leaves conditions tree) ∷ []) →
     (bodies : List Expr) → IsViolatedIn question history bodies
 served_violates reach question size rounds history asked points leaves conditions goods tree honest nothing pointwise rows good rests serves refuted bodies =
     let c = refuted.counterexample in
@@ -87,7 +87,7 @@ leftmost syntax pool condition n (Leaf tree term) within = (tree, term, within)
 leftmost syntax pool condition n (Test tree term there here) within = leftmost syntax pool condition n there within.1
 
 -- where nothing is asked, any two bodies agree
-pointless_agree : (question : Question) (asked : Asked) (body other : Expr) → of_function asked 0 ≡ [] → Agree question asked (body ∷ []) (other ∷ [])
+pointless_agree : (question : Question) (asked : Asked) (body other : Expr) → of_function asked 0 ≡ [] → BodiesAgree question asked (body ∷ []) (other ∷ [])
 pointless_agree question asked body other none = record { many = refl; each = each }
   where
     each : (function : ℕ) (one two : Expr) (tuple : List Val) → slice_get (body ∷ []) function ≡ Some one → slice_get (other ∷ []) function ≡ Some two → IsAsked asked function tuple →
@@ -113,8 +113,8 @@ the_goal (first ∷ second ∷ goals) goal one at = absurd (omega (arith, one))
 
 -- a tree over what an honest bank of the function keeps, which serves all points, is in bound
 pub served_is_joined : (question : Question) (n condition rule : ℕ) (goal : Goal) (bank : Merged) (goods : List (List Bool)) (tree : Choice) → IsPointwise question → slice_get question.goals 0 ≡ Some goal →
-    IsHonest goal.grammar (functions question.definitions) question.pool bank → IsTreeRule goal.grammar rule condition → 0 < length bank.points → length goods ≡ length (kept_below bank.levels 0 (n + 1)) →
-    Serves goods (truths (kept_below bank.levels condition (n + 1))) (λ x. x < length bank.points) tree →
+    IsHonestBank goal.grammar (functions question.definitions) question.pool bank → IsTreeRule goal.grammar rule condition → 0 < length bank.points → length goods ≡ length (kept_below bank.levels 0 (n + 1)) →
+    ServesPoints goods (truths (kept_below bank.levels condition (n + 1))) (λ x. x < length bank.points) tree →
     IsJoinedWithin question n (yield (conditional_of (kept_below bank.levels 0 (n + 1)) (kept_below bank.levels condition (n + 1)) tree) ∷ [])
 served_is_joined question n condition rule goal bank goods tree pointwise at honest chooses some many serves = record {
   goal = goal;

@@ -14,11 +14,11 @@ use Rattle.sy_grammar_base.specs.Questions.{Question}
 use Rattle.sy_grammar_base.specs.Solving.{AreValues}
 use Rattle.sy_unify.specs.Rows.{holds_at, IsAlike}
 use Rattle.sy_unify.specs.Unify.{IsUncovered}
-use Rattle.sy_bank_rows.specs.Banks.{Merged, IsHonest}
+use Rattle.sy_bank_rows.specs.Banks.{Merged, IsHonestBank}
 use Rattle.sy_bank_rows.specs.Covering.{Covers}
 use Rattle.sy_loop_bounds.specs.Pointwise.{IsPointwise}
 use Rattle.sy_loop_bounds.specs.Resting.{IsBadAt}
-use Rattle.sy_loop_bounds.specs.Conditional.{Conditional, Leaf, Test, yield, reached, IsPart, ArePartsWithin, IsTreeRule}
+use Rattle.sy_loop_bounds.specs.Conditional.{Conditional, Leaf, Test, yield, leaf_reached, IsPart, ArePartsWithin, IsTreeRule}
 use Rattle.sy_loop_bounds_laws.proofs.Goodness.{bad_alike, tree_is_bad}
 use Rattle.sy_loop_trees_laws.specs.Goods.{AreGoods}
 use Rattle.sy_loop_trees_laws.specs.Trees.{kept_below, truths}
@@ -68,7 +68,7 @@ record IsOneLeaf (syntax : Syntax) (defined : List Function) (pool : List Val) (
   pub tree : Tree
   pub term : Expr
   pub part : IsPart syntax pool 0 n tree term
-  pub reaches : (x : ℕ) (point : List Val) → Contains class x → slice_get points x ≡ Some point → reached defined point parts ≡ term
+  pub reaches : (x : ℕ) (point : List Val) → Contains class x → slice_get points x ≡ Some point → leaf_reached defined point parts ≡ term
 
 -- a condition that is alike at all of them chooses one side
 one_side : (syntax : Syntax) (defined : List Function) (pool : List Val) (points : List (List Val)) (n : ℕ) (class : List ℕ) (tree : Tree) (term : Expr) (there here : Conditional) (side : Bool) →
@@ -78,16 +78,16 @@ one_side syntax defined pool points n class tree term there here true takes on_t
   tree = on_true.tree;
   term = on_true.term;
   part = on_true.part;
-  reaches = λ x point of at. ap (λ (b : Bool). if b then reached defined point there else reached defined point here) (takes x point of at) ∙ on_true.reaches x point of at;
+  reaches = λ x point of at. ap (λ (b : Bool). if b then leaf_reached defined point there else leaf_reached defined point here) (takes x point of at) ∙ on_true.reaches x point of at;
 }
 one_side syntax defined pool points n class tree term there here false takes on_true on_false = record {
   tree = on_false.tree;
   term = on_false.term;
   part = on_false.part;
-  reaches = λ x point of at. ap (λ (b : Bool). if b then reached defined point there else reached defined point here) (takes x point of at) ∙ on_false.reaches x point of at;
+  reaches = λ x point of at. ap (λ (b : Bool). if b then leaf_reached defined point there else leaf_reached defined point here) (takes x point of at) ∙ on_false.reaches x point of at;
 }
 
-module _ (syntax : Syntax) (defined : List Function) (pool : List Val) (bank : Merged) (condition n : ℕ) (up : n ≤ bank.upto) (honest : IsHonest syntax defined pool bank) (covers : Covers syntax defined pool bank) where
+module _ (syntax : Syntax) (defined : List Function) (pool : List Val) (bank : Merged) (condition n : ℕ) (up : n ≤ bank.upto) (honest : IsHonestBank syntax defined pool bank) (covers : Covers syntax defined pool bank) where
   -- where all conditions treat the class alike, so do all conditional trees
   one_leaf : (class : List ℕ) (first : ℕ) → Contains class first → ((x y : ℕ) → Contains class x → Contains class y → IsAlike (truths (kept_below bank.levels condition (n + 1))) x y) →
       (parts : Conditional) → ArePartsWithin syntax pool condition n parts → IsOneLeaf syntax defined pool bank.points n class parts
@@ -105,7 +105,7 @@ pub record IsBadSomewhere (question : Question) (assignments : List (List Val)) 
 
 pub uncovered_is_bad : (question : Question) (assignments : List (List Val)) (syntax : Syntax) (bank : Merged) (condition n : ℕ) (goods : List (List Bool)) (class : List ℕ) (parts : Conditional) →
     IsPointwise question → All (AreValues question.variables) assignments → n ≤ bank.upto →
-    IsHonest syntax (functions question.definitions) question.pool bank → Covers syntax (functions question.definitions) question.pool bank →
+    IsHonestBank syntax (functions question.definitions) question.pool bank → Covers syntax (functions question.definitions) question.pool bank →
     AreGoods question assignments bank.points (kept_below bank.levels 0 (n + 1)) goods →
     IsUncovered goods (truths (kept_below bank.levels condition (n + 1))) (λ x. x < length bank.points) class →
     ArePartsWithin syntax question.pool condition n parts → IsBadSomewhere question assignments parts
@@ -120,7 +120,7 @@ uncovered_is_bad question assignments syntax bank condition n goods class parts 
     let at = slice_get-get_or bank.points worst.0 [] (uncovered.within worst.0 worst.1) in
     let bad = good.bad is.place worst.0 is.entry tuple is.at at worst.2 in
     let same = twin_means defined bank.points bank.levels 0 n one.term is worst.0 tuple at in
-    let leaf = bad_alike question assignments pointwise are tuple is.entry.term (reached defined tuple parts) (same ∙ ap (meaning defined [] tuple) (sym (one.reaches worst.0 tuple worst.1 at))) bad in
+    let leaf = bad_alike question assignments pointwise are tuple is.entry.term (leaf_reached defined tuple parts) (same ∙ ap (meaning defined [] tuple) (sym (one.reaches worst.0 tuple worst.1 at))) bad in
     record { tuple = tuple; bad = tree_is_bad question assignments pointwise are tuple parts leaf }
   where
     one_of : (xs : List ℕ) → 0 < length xs → (x : ℕ) × Contains xs x

@@ -11,7 +11,7 @@ use Rattle.sy_grammar_base.specs.Solving.{AreValues, IsTrueUnder}
 use Rattle.sy_loop_bounds.specs.Resting.{IsBadAt}
 use Rattle.sy_loop_bounds.specs.declared.reach.Reach.{Reach}
 use Rattle.sy_loop_bounds_laws.proofs.Applied.{in_nothing}
-use Rattle.sy_loop_history.specs.Histories.{Counterexample, IsHonest, IsNext, IsViolatedIn}
+use Rattle.sy_loop_history.specs.Histories.{Counterexample, IsHonestHistory, IsNextCounterexample, IsViolatedIn}
 use Rattle.sy_loop_laws.specs.Agreeing.{AssumptionsAskNothing}
 use Rattle.sy_loop_laws.proofs.Same.{stands}
 use Rattle.sy_loop_trees_laws.specs.Goods.{assignments_of}
@@ -24,9 +24,9 @@ from_map f (x ∷ xs) y (suc k, less, at) =
     let within = below.1.1 in
     (below.0, (suc below.1.0, omega (arith, within), below.1.2), below.2)
 
-module _ (reach : Reach) (question : Question) (size rounds : ℕ) (history : List Counterexample) (honest : IsHonest reach question size rounds history) where
+module _ (reach : Reach) (question : Question) (size rounds : ℕ) (history : List Counterexample) (honest : IsHonestHistory reach question size rounds history) where
   -- its counterexamples were next
-  was_next : (c : Counterexample) (of : Contains history c) → IsNext reach question size (take of.0 history) c
+  was_next : (c : Counterexample) (of : Contains history c) → IsNextCounterexample reach question size (take of.0 history) c
   was_next c of = honest.each of.0 c (slice_get-get_or history of.0 c of.1 ∙ ap Some of.2)
 
   pub assigned : (c : Counterexample) → Contains history c → AreValues question.variables c.assignment

@@ -9,7 +9,7 @@ use Rattle.sy_unify.specs.declared.choice.Choice.{Choice, Leaf, Test'}
 use Rattle.sy_bank_rows.specs.Banks.{Entry, IsKept, kept_at}
 use Rattle.sy_bank_rows.specs.Rows.{IsRow}
 use Rattle.sy_loop_bounds.specs.Conditional as conditional
-use Rattle.sy_loop_bounds.specs.Conditional.{Conditional, leaves, reached}
+use Rattle.sy_loop_bounds.specs.Conditional.{Conditional, leaves, leaf_reached}
 
 -- what is kept for a nonterminal at sizes less than n, by size
 abbrev pub kept_below : {X : Type 0} → List (List (List X)) → ℕ → ℕ → List X
@@ -21,8 +21,8 @@ abbrev pub truths : List Entry → List (List Bool)
 truths kept = map (λ (entry : Entry). map truth entry.row) kept
 
 -- each of the kept terms has its row at the points
-abbrev pub HaveRows : List Function → List (List Val) → List Entry → Type 0
-HaveRows defined points kept = (place : ℕ) (entry : Entry) → slice_get kept place ≡ Some entry → IsRow defined points entry.term entry.row
+abbrev pub EntriesHaveRows : List Function → List (List Val) → List Entry → Type 0
+EntriesHaveRows defined points kept = (place : ℕ) (entry : Entry) → slice_get kept place ≡ Some entry → IsRow defined points entry.term entry.row
 
 -- stands where there is no kept term
 abbrev pub nothing_kept : Entry
@@ -56,4 +56,4 @@ pub record IsMergedTree (defined : List Function) (points : List (List Val)) (le
   pub kept : Conditional
   pub are : AreKeptParts levels condition n kept
   pub many : leaves kept ≡ leaves parts
-  pub means : (point : List Val) → Contains points point → meaning defined [] point (reached defined point kept) ≡ meaning defined [] point (reached defined point parts)
+  pub means : (point : List Val) → Contains points point → meaning defined [] point (leaf_reached defined point kept) ≡ meaning defined [] point (leaf_reached defined point parts)

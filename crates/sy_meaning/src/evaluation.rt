@@ -2,8 +2,8 @@
 ghost use Rattle.std.specs.Prelude.{◌≡◌, ◌++◌, [], IfOk, OnOk, OnErr, IsErrOf, false};
 ghost use Rattle.sy_terms.specs.Denoted.{val_of, vals_of, AreValid, expr_of, exprs_of};
 ghost use Rattle.sy_terms.specs.Definitions.{DefinitionsFit, scope_of};
-ghost use Rattle.sy_terms_laws.specs.Evaluation.{TermFits, FitsWith, AllFitWith, Gives, AllGive, can_compute, can_compute_all};
-ghost use Rattle.sy_terms_laws.specs.Tracing.{Gains, TracedSome};
+ghost use Rattle.sy_terms_laws.specs.Evaluation.{TermFits, FitsWith, AllFitWith, GivesValue, AllGive, can_compute, can_compute_all};
+ghost use Rattle.sy_terms_laws.specs.Tracing.{GainsCalls, TracedSome};
 ghost use Rattle.sy_terms_laws.specs.Asking.{asks, all_asks, StandsWith};
 ghost use Rattle.sy_meaning.specs.Calls.{AsksRightly, AllAskRightly};
 
@@ -49,7 +49,7 @@ pub fn evaluate<T: Theory>(
     requires definitions { DefinitionsFit T.owned T.denotes defs.now }
     requires values { AreValid T.denotes values.now }
     requires term { FitsWith T.owned T.denotes defs.now [] (vals_of T.denotes values.now) (expr_of T.denotes term.now) }
-    ensures ok { IfOk result (λ v. Gives T.owned T.denotes defs.now [] (vals_of T.denotes values.now) (expr_of T.denotes term.now) (val_of T.denotes v)) }
+    ensures ok { IfOk result (λ v. GivesValue T.owned T.denotes defs.now [] (vals_of T.denotes values.now) (expr_of T.denotes term.now) (val_of T.denotes v)) }
     ensures range { IsErrOf result Eval.Range → can_compute T.denotes defs.now [] (vals_of T.denotes values.now) (expr_of T.denotes term.now) ≡ false }
 {
     let bodies: Bodies<T> = Seq::new(alloc);
@@ -77,9 +77,9 @@ pub fn evaluate_with<T: Theory>(
     requires definitions { DefinitionsFit T.owned T.denotes defs.now }
     requires values { AreValid T.denotes values.now }
     requires term { FitsWith T.owned T.denotes defs.now bodies.now (vals_of T.denotes values.now) (expr_of T.denotes term.now) }
-    ensures ok { IfOk result (λ v. Gives T.owned T.denotes defs.now bodies.now (vals_of T.denotes values.now) (expr_of T.denotes term.now) (val_of T.denotes v)) }
+    ensures ok { IfOk result (λ v. GivesValue T.owned T.denotes defs.now bodies.now (vals_of T.denotes values.now) (expr_of T.denotes term.now) (val_of T.denotes v)) }
     ensures range { IsErrOf result Eval.Range → can_compute T.denotes defs.now bodies.now (vals_of T.denotes values.now) (expr_of T.denotes term.now) ≡ false }
-    ensures traced { OnOk result (Gains trace.old (asks T.denotes defs.now bodies.now (vals_of T.denotes values.now) (expr_of T.denotes term.now)) trace.new) }
+    ensures traced { OnOk result (GainsCalls trace.old (asks T.denotes defs.now bodies.now (vals_of T.denotes values.now) (expr_of T.denotes term.now)) trace.new) }
     ensures begun { OnErr result (TracedSome trace.old (asks T.denotes defs.now bodies.now (vals_of T.denotes values.now) (expr_of T.denotes term.now)) trace.new) }
     ensures agreement { OnOk result (StandsWith T.denotes defs.now bodies.now (vals_of T.denotes values.now) (expr_of T.denotes term.now) trace.new) }
     ensures calls { OnOk result (AsksRightly T.owned T.denotes defs.now bodies.now (vals_of T.denotes values.now) (expr_of T.denotes term.now)) }
@@ -107,9 +107,9 @@ fn evaluate_under<T: Theory>(
     requires definitions { DefinitionsFit T.owned T.denotes defs.now }
     requires values { AreValid T.denotes values.now }
     requires term { FitsWith T.owned T.denotes defs.now bodies.now (vals_of T.denotes values.now) (expr_of T.denotes term.now) }
-    ensures ok { IfOk result (λ v. Gives T.owned T.denotes defs.now bodies.now (vals_of T.denotes values.now) (expr_of T.denotes term.now) (val_of T.denotes v)) }
+    ensures ok { IfOk result (λ v. GivesValue T.owned T.denotes defs.now bodies.now (vals_of T.denotes values.now) (expr_of T.denotes term.now) (val_of T.denotes v)) }
     ensures range { IsErrOf result Eval.Range → can_compute T.denotes defs.now bodies.now (vals_of T.denotes values.now) (expr_of T.denotes term.now) ≡ false }
-    ensures traced { OnOk result (Gains trace.old (asks T.denotes defs.now bodies.now (vals_of T.denotes values.now) (expr_of T.denotes term.now)) trace.new) }
+    ensures traced { OnOk result (GainsCalls trace.old (asks T.denotes defs.now bodies.now (vals_of T.denotes values.now) (expr_of T.denotes term.now)) trace.new) }
     ensures begun { OnErr result (TracedSome trace.old (asks T.denotes defs.now bodies.now (vals_of T.denotes values.now) (expr_of T.denotes term.now)) trace.new) }
     ensures calls { OnOk result (AsksRightly T.owned T.denotes defs.now bodies.now (vals_of T.denotes values.now) (expr_of T.denotes term.now)) }
 {
@@ -168,7 +168,7 @@ fn evaluate_all<T: Theory>(
     requires terms { AllFitWith T.owned T.denotes defs.now bodies.now (vals_of T.denotes values.now) (exprs_of T.denotes terms.now.items.items) }
     ensures ok { IfOk result (λ vs. AllGive T.owned T.denotes defs.now bodies.now (vals_of T.denotes values.now) (exprs_of T.denotes terms.now.items.items) (vals_of T.denotes vs.items)) }
     ensures range { IsErrOf result Eval.Range → can_compute_all T.denotes defs.now bodies.now (vals_of T.denotes values.now) (exprs_of T.denotes terms.now.items.items) ≡ false }
-    ensures traced { OnOk result (Gains trace.old (all_asks T.denotes defs.now bodies.now (vals_of T.denotes values.now) (exprs_of T.denotes terms.now.items.items)) trace.new) }
+    ensures traced { OnOk result (GainsCalls trace.old (all_asks T.denotes defs.now bodies.now (vals_of T.denotes values.now) (exprs_of T.denotes terms.now.items.items)) trace.new) }
     ensures begun { OnErr result (TracedSome trace.old (all_asks T.denotes defs.now bodies.now (vals_of T.denotes values.now) (exprs_of T.denotes terms.now.items.items)) trace.new) }
     ensures calls { OnOk result (AllAskRightly T.owned T.denotes defs.now bodies.now (vals_of T.denotes values.now) (exprs_of T.denotes terms.now.items.items)) }
 {

@@ -2,7 +2,7 @@
 ghost use Rattle.std.specs.Prelude.{◌≡◌, if◌then◌else◌, slice_get, IfOk, MatchOption, Some, None};
 ghost use Rattle.std.specs.Option.{option_map};
 ghost use Rattle.sy_terms.specs.Denoted.{val_of, expr_of, exprs_of, sorts_of, AreValid};
-ghost use Rattle.sy_meaning.specs.Signatures.{scope_of};
+ghost use Rattle.sy_meaning.specs.Signatures.{scope_and_wanted};
 ghost use Rattle.sy_terms.specs.Theories.{valid, sort_of_value};
 ghost use Rattle.sy_terms.specs.Fitting.{sort_in, sorts_in, same_sorts, given_by, called_sort, signature_of};
 ghost use Rattle.sy_terms.specs.Sorts.{sort_of};
@@ -30,7 +30,7 @@ pub fn term_sort<T: Theory>(
     sorts: &[Sort],
     term: &Term<T>,
 ) -> Result<Option<Sort>, Want>
-    ensures { IfOk result (λ sort. sort ≡ sort_in (scope_of T.owned defs.now wanted.now) sorts.now (expr_of T.denotes term.now)) }
+    ensures { IfOk result (λ sort. sort ≡ sort_in (scope_and_wanted T.owned defs.now wanted.now) sorts.now (expr_of T.denotes term.now)) }
 {
     match term {
         Term::Const(value) => Ok(constant_sort::<T>(value)),
@@ -71,7 +71,7 @@ fn term_sorts<T: Theory>(
     sorts: &[Sort],
     terms: &Terms<T>,
 ) -> Result<Option<Vec<Sort>>, Want>
-    ensures { IfOk result (λ found. option_map (λ all. all.items) found ≡ sorts_in (scope_of T.owned defs.now wanted.now) sorts.now (exprs_of T.denotes terms.now.items.items)) }
+    ensures { IfOk result (λ found. option_map (λ all. all.items) found ≡ sorts_in (scope_and_wanted T.owned defs.now wanted.now) sorts.now (exprs_of T.denotes terms.now.items.items)) }
 {
     let mut found = Vec::with_capacity(alloc, terms.len())?;
     for term in terms.as_slice() {
@@ -145,7 +145,7 @@ fn function_sort<T: Theory>(
     function: &Fun,
     sorts: &[Sort],
 ) -> Option<Sort>
-    ensures { result ≡ called_sort (signature_of (scope_of T.owned defs.now wanted.now) function.now) (Some sorts.now) }
+    ensures { result ≡ called_sort (signature_of (scope_and_wanted T.owned defs.now wanted.now) function.now) (Some sorts.now) }
 {
     match function {
         Fun::Defined(number) => {

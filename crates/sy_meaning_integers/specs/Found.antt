@@ -11,6 +11,6 @@ Found fits value None = fits ≡ false
 Found fits value (Some n) = (fits ≡ true) × (Whole n ≡ value)
 
 -- the answer of the theory
-abbrev pub applied : Option ℤ → Applied ℤ
-applied None = OutOfRange
-applied (Some n) = Is (Num n)
+abbrev pub applied_whole : Option ℤ → Applied ℤ
+applied_whole None = OutOfRange
+applied_whole (Some n) = Is (Num n)

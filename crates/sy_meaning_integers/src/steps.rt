@@ -68,7 +68,7 @@ impl Step for Times {
 impl Step for Quotient {
     ghost use Rattle.sy_terms.specs.Integers as int;
 
-    ghost exact = { int.quotient };
+    ghost exact = { int.whole_quotient };
 
     fn step(x: i128, y: i128) -> Option<i128> {
         if y == 0 {

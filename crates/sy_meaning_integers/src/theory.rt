@@ -1,6 +1,6 @@
 // The theory as generic code takes it.
 ghost use Rattle.std.specs.Prelude.{◌≡◌};
-ghost use Rattle.sy_meaning_integers.specs.Found.{applied};
+ghost use Rattle.sy_meaning_integers.specs.Found.{applied_whole};
 ghost use Rattle.sy_terms.specs.Theories.{in_ints};
 
 use crate::order::{Ge, Gt, Le, Lt, in_order};
@@ -118,7 +118,7 @@ fn in_ints(op: &Op) -> bool
 
 /// The number, or that it is out of range.
 fn applied(number: Option<i128>) -> Applied<i128>
-    ensures { result ≡ applied number }
+    ensures { result ≡ applied_whole number }
 {
     match number {
         Some(n) => Applied::Is(Value::Num(n)),

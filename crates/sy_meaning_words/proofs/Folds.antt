@@ -15,7 +15,7 @@ use Rattle.sy_meaning_words.specs.declared.word.Word.{Word}
 use Rattle.sy_terms.specs.Operators.{op_value}
 use Rattle.sy_terms.specs.declared.op.Op.{Op}
 use Rattle.sy_terms.specs.declared.op.Op.TheVariants as ops
-use Rattle.sy_meaning_words.specs.Vectors.{vector, in_vectors, is_bits, is_folded, Takes, TakesMany}
+use Rattle.sy_meaning_words.specs.Vectors.{vector, in_vectors, is_bits, is_folded, TakesSorts, TakesMany}
 use Rattle.sy_meaning_words.proofs.Shapes.{both_true, many, folded_takes}
 
 pub fold_step : (op : Op) (x y : Val) (rest : List Val) → is_folded op ≡ true → op_value op (x ∷ y ∷ rest) ≡ op_value op (op_value op (x ∷ y ∷ []) ∷ rest)
@@ -70,7 +70,7 @@ widths_of s t a b w e f g h =
     let right = ap sort_of_value f in
     cc
 
-pub takes_two : (op : Op) (v w : ℕ) → is_folded op ≡ true → v ≡ w → Takes op (Bits v ∷ Bits w ∷ [])
+pub takes_two : (op : Op) (v w : ℕ) → is_folded op ≡ true → v ≡ w → TakesSorts op (Bits v ∷ Bits w ∷ [])
 takes_two op v w f e = rw e (folded_takes op w f)
 
 -- one step of the loop
@@ -80,7 +80,7 @@ fold_next op total next made s t rest i whole f es et en within em before =
     let step = fold_step op (vector s) (vector t) (vals_of vector (drop (i + 1) rest)) f in
     rw (em, ← step, es, et, en, ← more) before
 
-pub many_values : (op : Op) (vs : List (Value Word)) → 3 ≤ length vs → in_vectors op ≡ true → Takes op (sorts_of vector vs) → TakesMany op (sorts_of vector vs)
+pub many_values : (op : Op) (vs : List (Value Word)) → 3 ≤ length vs → in_vectors op ≡ true → TakesSorts op (sorts_of vector vs) → TakesMany op (sorts_of vector vs)
 many_values op [] n o h = absurd (omega arith)
 many_values op (s ∷ []) n o h = absurd (omega arith)
 many_values op (s ∷ t ∷ []) n o h = absurd (omega arith)

@@ -7,13 +7,13 @@ use Rattle.sy_terms.specs.Denoted.{val_of, IsSorted}
 use Rattle.sy_terms.specs.declared.op.Op.{Op}
 use Rattle.sy_terms.specs.declared.op.Op.TheVariants as ops
 use Rattle.sy_terms.specs.declared.sort.Value.{Value}
-use Rattle.sy_meaning_words.specs.Vectors.{vector, in_vectors, is_bits, is_sort, Takes}
+use Rattle.sy_meaning_words.specs.Vectors.{vector, in_vectors, is_bits, has_a_sort, TakesSorts}
 use Rattle.sy_meaning_words.specs.declared.word.Word.{Word}
 use Rattle.sy_meaning_words.proofs.Ranges.{fits_always}
 use Rattle.sy_meaning_words.proofs.Shapes.{pair_bits, word_widths}
 
-pub pair-taken : (op : Op) (a b : Value Word) → IsSorted op (val_of vector a ∷ val_of vector b ∷ []) → Takes op (sort_of_value (val_of vector a) ∷ sort_of_value (val_of vector b) ∷ [])
-pair-taken op a b sorted = ap is_sort sorted.fits
+pub pair-taken : (op : Op) (a b : Value Word) → IsSorted op (val_of vector a ∷ val_of vector b ∷ []) → TakesSorts op (sort_of_value (val_of vector a) ∷ sort_of_value (val_of vector b) ∷ [])
+pair-taken op a b sorted = ap has_a_sort sorted.fits
 
 -- both are vectors
 pub both-bits : (op : Op) (a b : Value Word) → in_vectors op ≡ true → IsSorted op (val_of vector a ∷ val_of vector b ∷ []) → (is_bits (sort_of_value (val_of vector a)) ≡ true) × (is_bits (sort_of_value (val_of vector b)) ≡ true)

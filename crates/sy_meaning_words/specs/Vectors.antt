@@ -34,13 +34,13 @@ is_folded ops.BvAdd = true
 is_folded ops.BvMul = true
 is_folded _ = false
 
-abbrev pub is_sort : Sorted → Bool
-is_sort (Is sort) = true
-is_sort _ = false
+abbrev pub has_a_sort : Sorted → Bool
+has_a_sort (Is sort) = true
+has_a_sort _ = false
 
 -- the operator has a value at arguments of these sorts
-abbrev pub Takes : Op → List Sort → Type 0
-Takes op arguments = is_sort (sort_of op arguments) ≡ true
+abbrev pub TakesSorts : Op → List Sort → Type 0
+TakesSorts op arguments = has_a_sort (sort_of op arguments) ≡ true
 
 -- it takes many vectors of one width from the left
 pub record TakesMany (op : Op) (arguments : List Sort) : Type 0 where

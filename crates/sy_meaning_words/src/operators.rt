@@ -5,7 +5,7 @@ ghost use Rattle.sy_terms.specs.Theories.{sort_of_value};
 ghost use Rattle.sy_terms.specs.Denoted.{val_of, vals_of, sorts_of, IsSorted};
 ghost use Rattle.sy_terms.specs.declared.op.Op.TheVariants as ops;
 ghost use Rattle.sy_terms.specs.declared.sort.Sort.TheVariants as sorts;
-ghost use Rattle.sy_meaning_words.specs.Vectors.{vector, owned, in_vectors, is_bits, Takes, TakesMany};
+ghost use Rattle.sy_meaning_words.specs.Vectors.{vector, owned, in_vectors, is_bits, TakesSorts, TakesMany};
 
 use crate::arithmetic::{difference, negated, product, sum};
 use crate::bitwise::{and, inverted, nand, nor, or, xnor, xor};
@@ -34,7 +34,7 @@ pub(crate) fn word_of(value: &Value<Word>) -> Word
 #[tactic(auto, unfolding(sy_terms::specs::Operators::op_value, sy_terms::specs::Sorts::sort_of))]
 fn single_value(op: &Op, s: Word) -> Word
     requires ours { in_vectors op.now ≡ true }
-    requires takes { Takes op.now (sorts.Bits s.width ∷ []) }
+    requires takes { TakesSorts op.now (sorts.Bits s.width ∷ []) }
     ensures { vector result ≡ op_value op.now (vector s ∷ []) }
 {
     match *op {
@@ -56,7 +56,7 @@ fn same_width_value(op: &Op, s: Word, t: Word) -> Value<Word>
     requires ours { in_vectors op.now ≡ true }
     requires apart { op.now ≢ ops.Concat }
     requires same { s.width ≡ t.width }
-    requires takes { Takes op.now (sorts.Bits s.width ∷ sorts.Bits t.width ∷ []) }
+    requires takes { TakesSorts op.now (sorts.Bits s.width ∷ sorts.Bits t.width ∷ []) }
     ensures { val_of vector result ≡ op_value op.now (vector s ∷ vector t ∷ []) }
 {
     let word = match op {
@@ -95,7 +95,7 @@ fn same_width_value(op: &Op, s: Word, t: Word) -> Value<Word>
 #[tactic(auto, unfolding(sy_terms::specs::Operators::op_value))]
 fn pair_value(op: &Op, s: Word, t: Word) -> Value<Word>
     requires ours { in_vectors op.now ≡ true }
-    requires takes { Takes op.now (sorts.Bits s.width ∷ sorts.Bits t.width ∷ []) }
+    requires takes { TakesSorts op.now (sorts.Bits s.width ∷ sorts.Bits t.width ∷ []) }
     ensures { val_of vector result ≡ op_value op.now (vector s ∷ vector t ∷ []) }
 {
     match op {
@@ -120,7 +120,7 @@ fn folded_value(op: &Op, first: Word, rest: &[Value<Word>]) -> Value<Word>
 /// The value of an operator on vectors, at arguments that it takes.
 pub(crate) fn vector_value(op: &Op, args: &[Value<Word>]) -> Value<Word>
     requires ours { in_vectors op.now ≡ true }
-    requires takes { Takes op.now (sorts_of vector args.now) }
+    requires takes { TakesSorts op.now (sorts_of vector args.now) }
     ensures { val_of vector result ≡ op_value op.now (vals_of vector args.now) }
 {
     match args {

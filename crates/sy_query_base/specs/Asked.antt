@@ -23,7 +23,7 @@ abbrev pub query_of : {T N : Type 0} → (N → Val) → kept.Query T N → Quer
 query_of number query = record { variables = query.vars; body = expr_of number query.body }
 
 -- the variables have sorts of the theory, and the body is a truth value's term over them, which calls nothing
-pub record Fits (owned : Op → Bool) (numeric : Sort → Bool) (query : Query) : Type 0 where
+pub record QueryFits (owned : Op → Bool) (numeric : Sort → Bool) (query : Query) : Type 0 where
   pub variables : All (λ sort. is_known numeric sort ≡ true) query.variables
   pub body : sort_in (query_scope owned) query.variables query.body ≡ Some sorts.Bool
 

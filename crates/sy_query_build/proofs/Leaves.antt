@@ -17,7 +17,7 @@ use Rattle.sy_terms.specs.declared.term.Terms.{Terms}
 use Rattle.sy_query_build.specs.declared.room.Left.{Left}
 use Rattle.sy_query_base.specs.Placed.{count}
 use Rattle.sy_query_base.specs.Weights.{weight, sort_weight, operator_weight}
-use Rattle.sy_query_build.specs.Placing.{IsBuilt, IsApplied, applied_weight}
+use Rattle.sy_query_build.specs.Placing.{TermIsBuilt, ApplicationIsBuilt, applied_weight}
 
 pub any_err : {X E P : Type 0} (r : Result X E) → P → OnErr r P
 any_err (Ok x) h = tt
@@ -31,7 +31,7 @@ pub const-heavy : (scope : Scope) (sorts : List Sort) (v : Val) (left w : ℕ) (
 unfolding weight
 const-heavy scope sorts v left w sort is same weighs heavy = rw (const-sort scope sorts v sort is same) (omega (arith, weighs, heavy))
 
-pub const-built : (T : Type 0) {N : Type 0} (scope : Scope) (number : N → Val) (sorts : List Sort) (value : Value N) (before after : Left) (w : ℕ) (sort : Sort) → valid (val_of number value) ≡ true → sort ≡ sort_of_value (val_of number value) → w ≡ sort_weight (Some sort) → before.weight ≡ after.weight + w → after.counted ≡ before.counted → let t : Term T N = Const value in IsBuilt scope sorts (Constant (val_of number value)) before after (expr_of number t) sort
+pub const-built : (T : Type 0) {N : Type 0} (scope : Scope) (number : N → Val) (sorts : List Sort) (value : Value N) (before after : Left) (w : ℕ) (sort : Sort) → valid (val_of number value) ≡ true → sort ≡ sort_of_value (val_of number value) → w ≡ sort_weight (Some sort) → before.weight ≡ after.weight + w → after.counted ≡ before.counted → let t : Term T N = Const value in TermIsBuilt scope sorts (Constant (val_of number value)) before after (expr_of number t) sort
 unfolding weight
 const-built T scope number sorts value before after w sort is same weighs taken counted =
     let here = const-sort scope sorts (val_of number value) sort is same in
@@ -46,7 +46,7 @@ unfolding weight
 var-heavy scope sorts place left w sort within read weighs heavy = rw (var-sort scope sorts place sort within read) (omega (arith, weighs, heavy))
 
 pub var-built : (T : Type 0) {N : Type 0} (scope : Scope) (number : N → Val) (sorts : List Sort) (place position : ℕ) (before mid after : Left) (w : ℕ) (sort : Sort) → place < length sorts → sort ≡ get_or sorts place sort → w ≡ sort_weight (Some sort) → before.weight ≡ mid.weight + w → mid.counted ≡ before.counted
-    → after.weight ≡ mid.weight → (after.counted ≡ true → mid.counted ≡ true) → (after.counted ≡ true → position ≡ place) → let t : Term T N = Var position in IsBuilt scope sorts (Variable place) before after (expr_of number t) sort
+    → after.weight ≡ mid.weight → (after.counted ≡ true → mid.counted ≡ true) → (after.counted ≡ true → position ≡ place) → let t : Term T N = Var position in TermIsBuilt scope sorts (Variable place) before after (expr_of number t) sort
 unfolding weight
 var-built T scope number sorts place position before mid after w sort within read weighs taken same kept counted is =
     let here = var-sort scope sorts place sort within read in
@@ -62,7 +62,7 @@ applied-is number operator terms found w n own sort is many weighs all = all ∙
 pub applied-heavy : {T N : Type 0} (number : N → Val) (operator : Op) (terms : List (Term T N)) (found : List Sort) (left w n own : ℕ) (sort : Sort) → sort_of operator found ≡ Is sort → n ≡ length terms → own ≡ sort_weight (Some sort) → w ≡ operator_weight operator n own → left < w → left < applied_weight operator (exprs_of number terms) found
 applied-heavy number operator terms found left w n own sort is many weighs all heavy = rw (← applied-is number operator terms found w n own sort is many weighs all) heavy
 
-pub applied-built : {T N : Type 0} (number : N → Val) (operator : Op) (terms : Terms T N) (found : List Sort) (before after : Left) (w n own : ℕ) (sort : Sort) → sort_of operator found ≡ Is sort → n ≡ length terms.items.items → own ≡ sort_weight (Some sort) → w ≡ operator_weight operator n own → before.weight ≡ after.weight + w → after.counted ≡ before.counted → IsApplied operator (exprs_of number terms.items.items) found before after (expr_of number (App operator terms)) sort
+pub applied-built : {T N : Type 0} (number : N → Val) (operator : Op) (terms : Terms T N) (found : List Sort) (before after : Left) (w n own : ℕ) (sort : Sort) → sort_of operator found ≡ Is sort → n ≡ length terms.items.items → own ≡ sort_weight (Some sort) → w ≡ operator_weight operator n own → before.weight ≡ after.weight + w → after.counted ≡ before.counted → ApplicationIsBuilt operator (exprs_of number terms.items.items) found before after (expr_of number (App operator terms)) sort
 applied-built number operator terms found before after w n own sort is many weighs all taken counted = record {
   is = expr_of-App number operator terms;
   has = is;

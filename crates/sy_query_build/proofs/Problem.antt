@@ -21,7 +21,7 @@ use Rattle.sy_grammar_base.specs.declared.problem.Problem.{Problem}
 use Rattle.sy_grammar_laws.proofs.Problems.{problem_definitions, problem_variables, problem_assumptions, problem_constraints}
 use Rattle.sy_query_base.specs.Queries.{violating, without_calls}
 use Rattle.sy_query_base.specs.Weights.{weight, weights, query_scope}
-use Rattle.sy_query_base.specs.Asked.{Query, Fits, query_weight}
+use Rattle.sy_query_base.specs.Asked.{Query, QueryFits, query_weight}
 use Rattle.sy_query_build.specs.declared.room.Left.{Left}
 use Rattle.sy_query_build.specs.Placing.{all_placed_with, AllFitOver, AreBuilt}
 use Rattle.sy_query_build.specs.Sized.{IsSized}
@@ -47,7 +47,7 @@ row-sorts owned numeric number problem terms items problem_fits fit all =
     wholes-sort owned number problem.defs terms 0 problem.vars (exprs_of number items) (problem_definitions owned numeric number problem problem_fits) (omega arith)
     (record { wanted = signatures problem; bodies = fit; found = truths items; are = all-truths number (scope_with owned problem.defs (signatures problem)) problem.vars items all })
 
-pub query-fits : {T N : Type 0} (owned : Op → Bool) (numeric : Sort → Bool) (number : N → Val) (problem : Problem T N) (terms : List (Term T N)) → owned ops.And ≡ true → owned ops.Not ≡ true → QuestionFits owned numeric (question_of number problem) → BodiesFit owned number problem.defs terms (signatures problem) → Fits owned numeric (violating (question_of number problem) (map (expr_of number) terms))
+pub query-fits : {T N : Type 0} (owned : Op → Bool) (numeric : Sort → Bool) (number : N → Val) (problem : Problem T N) (terms : List (Term T N)) → owned ops.And ≡ true → owned ops.Not ≡ true → QuestionFits owned numeric (question_of number problem) → BodiesFit owned number problem.defs terms (signatures problem) → QueryFits owned numeric (violating (question_of number problem) (map (expr_of number) terms))
 query-fits owned numeric number problem terms and not problem_fits fit = record {
   variables = (problem_variables owned numeric number problem problem_fits);
   body = ap (sort_in (query_scope owned) problem.vars) (body-is number problem terms) ∙ violated-sort owned problem.vars (row number problem terms problem.assumptions) (row number problem terms problem.constraints) problem.assumptions problem.constraints and not

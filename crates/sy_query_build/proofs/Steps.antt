@@ -27,7 +27,7 @@ use Rattle.sy_terms_laws.proofs.Steps.{app-is, call-is, let-is}
 use Rattle.sy_query_base.specs.Placed.{count, all_placed}
 use Rattle.sy_query_base.specs.Weights.{weight, weights, sort_weight, operator_weight, with_sorts, query_scope}
 use Rattle.sy_query_build.specs.declared.room.Left.{Left}
-use Rattle.sy_query_build.specs.Placing.{placed_with, all_placed_with, called_with, Takes, FitsOver, AllFitOver, IsBuilt, AreBuilt, IsBound, bound_weight, HasSort, IsApplied, applied_weight}
+use Rattle.sy_query_build.specs.Placing.{placed_with, all_placed_with, called_with, FunctionTakes, FitsOver, AllFitOver, TermIsBuilt, AreBuilt, IsBound, bound_weight, OperatorHasSort, ApplicationIsBuilt, applied_weight}
 use Rattle.sy_query_build.specs.Sized.{IsSized}
 use Rattle.sy_query_build.proofs.Forms.{var-placed, app-placed, defined-called, wanted-called, whole-sort, wholes-sort}
 use Rattle.sy_query_build.proofs.Reaching.{defines, fills, weight_of-at}
@@ -40,11 +40,11 @@ use Rattle.sy_query_build.proofs.Weighing.{all-weigh, count-nodes}
 use Rattle.sy_query_build.proofs.Leaves.{count-terms}
 
 -- ---- what is built is what stands for the term
-built-as : (scope : Scope) (sorts : List Sort) (whole e : Expr) (before after : Left) (built : Expr) (sort : Sort) → whole ≡ e → (after.counted ≡ true → built ≡ e) → sort_in scope sorts e ≡ Some sort → before.weight ≡ after.weight + weight scope sorts e → (after.counted ≡ true → before.counted ≡ true) → IsBuilt scope sorts whole before after built sort
+built-as : (scope : Scope) (sorts : List Sort) (whole e : Expr) (before after : Left) (built : Expr) (sort : Sort) → whole ≡ e → (after.counted ≡ true → built ≡ e) → sort_in scope sorts e ≡ Some sort → before.weight ≡ after.weight + weight scope sorts e → (after.counted ≡ true → before.counted ≡ true) → TermIsBuilt scope sorts whole before after built sort
 built-as scope sorts whole e before after built sort at is sorted weighs counted = rw at (record { is = is; has = sorted; weight = weighs; counted = counted })
 
 -- the same, in other words
-pub rebuilt : (scope : Scope) (sorts : List Sort) (whole e : Expr) (before after : Left) (built : Expr) (sort : Sort) → whole ≡ e → IsBuilt scope sorts e before after built sort → IsBuilt scope sorts whole before after built sort
+pub rebuilt : (scope : Scope) (sorts : List Sort) (whole e : Expr) (before after : Left) (built : Expr) (sort : Sort) → whole ≡ e → TermIsBuilt scope sorts e before after built sort → TermIsBuilt scope sorts whole before after built sort
 rebuilt scope sorts whole e before after built sort at is = rw at is
 
 -- a constant
@@ -69,7 +69,7 @@ app-fits owned number defs terms own term operator arguments is fit =
     record { wanted = fit.wanted; bodies = fit.bodies; found = parts.sorts; are = parts.is }
 
 -- the operator has a value, at arguments as many as they weigh at most
-pub app-sorted : {T N : Type 0} (owned : Op → Bool) (number : N → Val) (defs : List (Def T N)) (terms : List (Term T N)) (first : ℕ) (all : List Sort) (term : Term T N) (operator : Op) (arguments : Terms T N) (before after : Left) (built : Exprs) (found : List Sort) → term ≡ App operator arguments → DefinitionsFit owned number defs → first ≤ length all → FitsOver owned number defs terms (drop first all) (expr_of number term) → AreBuilt (query_scope owned) all (all_placed_with number defs terms first (length all) (exprs_of number arguments.items.items)) before after built found → (owned operator ≡ true) × HasSort operator found
+pub app-sorted : {T N : Type 0} (owned : Op → Bool) (number : N → Val) (defs : List (Def T N)) (terms : List (Term T N)) (first : ℕ) (all : List Sort) (term : Term T N) (operator : Op) (arguments : Terms T N) (before after : Left) (built : Exprs) (found : List Sort) → term ≡ App operator arguments → DefinitionsFit owned number defs → first ≤ length all → FitsOver owned number defs terms (drop first all) (expr_of number term) → AreBuilt (query_scope owned) all (all_placed_with number defs terms first (length all) (exprs_of number arguments.items.items)) before after built found → (owned operator ≡ true) × OperatorHasSort operator found
 unfolding sort_in
 app-sorted owned number defs terms first all term operator arguments before after built found is definitions within fit are =
     let whole = whole-sort owned number defs terms first all (expr_of number term) definitions within fit in
@@ -78,7 +78,7 @@ app-sorted owned number defs terms first all term operator arguments before afte
     let same = same_Some parts.sorts found (sym parts.is ∙ are.have) in
     (parts.owned, record { sort = fit.sort; is = rw same at parts.fits })
 
-pub applied-built : (owned : Op → Bool) (all : List Sort) (whole : Expr) (operator : Op) (arguments : Exprs) (before mid after : Left) (built : Exprs) (found : List Sort) (result : Expr) (sort : Sort) → whole ≡ Apply operator arguments → owned operator ≡ true → AreBuilt (query_scope owned) all arguments before mid built found → IsApplied operator built found mid after result sort → IsBuilt (query_scope owned) all whole before after result sort
+pub applied-built : (owned : Op → Bool) (all : List Sort) (whole : Expr) (operator : Op) (arguments : Exprs) (before mid after : Left) (built : Exprs) (found : List Sort) (result : Expr) (sort : Sort) → whole ≡ Apply operator arguments → owned operator ≡ true → AreBuilt (query_scope owned) all arguments before mid built found → ApplicationIsBuilt operator built found mid after result sort → TermIsBuilt (query_scope owned) all whole before after result sort
 unfolding sort_in weight
 applied-built owned all whole operator arguments before mid after built found result sort at own are is =
     let here : sort_in (query_scope owned) all (Apply operator arguments) ≡ Some sort = rw (are.have, own, is.has) refl in
@@ -111,7 +111,7 @@ found-small owned number all arguments before after built found sized are =
     (weighed.0, omega (arith, same, length_is, nodes_are, weight_is, least), omega (arith, many, same, length_is))
 
 -- a binding
-pub bound-built : (owned : Op → Bool) (all : List Sort) (whole : Expr) (arguments : Exprs) (inner : Expr) (before mid after : Left) (built : Exprs) (found : List Sort) (result : Expr) (sort : Sort) → whole ≡ Bind arguments inner → AreBuilt (query_scope owned) all arguments before mid built found → IsBound (query_scope owned) (all ++ found) built inner mid after result sort → IsBuilt (query_scope owned) all whole before after result sort
+pub bound-built : (owned : Op → Bool) (all : List Sort) (whole : Expr) (arguments : Exprs) (inner : Expr) (before mid after : Left) (built : Exprs) (found : List Sort) (result : Expr) (sort : Sort) → whole ≡ Bind arguments inner → AreBuilt (query_scope owned) all arguments before mid built found → IsBound (query_scope owned) (all ++ found) built inner mid after result sort → TermIsBuilt (query_scope owned) all whole before after result sort
 unfolding sort_in weight
 bound-built owned all whole arguments inner before mid after built found result sort at are is =
     let here : sort_in (query_scope owned) all (Bind arguments inner) ≡ Some sort = rw are.have is.has in
@@ -162,7 +162,7 @@ call-fits owned number defs terms own term (Wanted n) arguments is fit =
     let parts = called_sort_Some (slice_get fit.wanted n) (sorts_in scope own (exprs_of number arguments.items.items)) fit.sort (rw (call-is number term (Wanted n) arguments is) at fit.is) in
     record { wanted = fit.wanted; bodies = fit.bodies; found = parts.function.takes; are = parts.takes }
 
-pub call-takes : {T N : Type 0} (owned : Op → Bool) (number : N → Val) (defs : List (Def T N)) (terms : List (Term T N)) (first : ℕ) (all : List Sort) (term : Term T N) (function : Fun) (arguments : Terms T N) (before after : Left) (built : Exprs) (found : List Sort) → term ≡ Call function arguments → DefinitionsFit owned number defs → first ≤ length all → FitsOver owned number defs terms (drop first all) (expr_of number term) → AreBuilt (query_scope owned) all (all_placed_with number defs terms first (length all) (exprs_of number arguments.items.items)) before after built found → Takes owned number defs terms function found
+pub call-takes : {T N : Type 0} (owned : Op → Bool) (number : N → Val) (defs : List (Def T N)) (terms : List (Term T N)) (first : ℕ) (all : List Sort) (term : Term T N) (function : Fun) (arguments : Terms T N) (before after : Left) (built : Exprs) (found : List Sort) → term ≡ Call function arguments → DefinitionsFit owned number defs → first ≤ length all → FitsOver owned number defs terms (drop first all) (expr_of number term) → AreBuilt (query_scope owned) all (all_placed_with number defs terms first (length all) (exprs_of number arguments.items.items)) before after built found → FunctionTakes owned number defs terms function found
 unfolding sort_in
 call-takes owned number defs terms first all term function arguments before after built found is definitions within fit are =
     let scope = scope_with owned defs fit.wanted in
@@ -178,7 +178,7 @@ pub record Calls {T N : Type 0} (owned : Op → Bool) (number : N → Val) (defs
   pub sort : Sort
   pub fits : sort_in (scope_of owned (take n defs)) found (body number def) ≡ Some sort
 
-pub calls : {T N : Type 0} (owned : Op → Bool) (number : N → Val) (defs : List (Def T N)) (terms : List (Term T N)) (function : Fun) (n : ℕ) (found : List Sort) → function ≡ Defined n → DefinitionsFit owned number defs → Takes owned number defs terms function found → Calls owned number defs n found
+pub calls : {T N : Type 0} (owned : Op → Bool) (number : N → Val) (defs : List (Def T N)) (terms : List (Term T N)) (function : Fun) (n : ℕ) (found : List Sort) → function ≡ Defined n → DefinitionsFit owned number defs → FunctionTakes owned number defs terms function found → Calls owned number defs n found
 calls owned number defs terms function n found which definitions takes =
     let reached = defines owned number defs n takes.signature definitions (rw which at takes.is) in
     record { def = reached.def; is = reached.is; before = reached.before; sort = takes.signature.gives; fits = subst (λ (ss : List Sort). sort_in (scope_of owned (take n defs)) ss (body number reached.def) ≡ Some takes.signature.gives) takes.takes reached.fits }
@@ -190,7 +190,7 @@ pub record CallsBody {T N : Type 0} (owned : Op → Bool) (number : N → Val) (
   pub sort : Sort
   pub fits : sort_in (scope_of owned defs) found (expr_of number term) ≡ Some sort
 
-pub calls-body : {T N : Type 0} (owned : Op → Bool) (number : N → Val) (defs : List (Def T N)) (terms : List (Term T N)) (function : Fun) (n : ℕ) (found : List Sort) → function ≡ Wanted n → Takes owned number defs terms function found → CallsBody owned number defs terms n found
+pub calls-body : {T N : Type 0} (owned : Op → Bool) (number : N → Val) (defs : List (Def T N)) (terms : List (Term T N)) (function : Fun) (n : ℕ) (found : List Sort) → function ≡ Wanted n → FunctionTakes owned number defs terms function found → CallsBody owned number defs terms n found
 calls-body owned number defs terms function n found which takes =
     let reached = fills owned number defs terms takes.wanted n takes.signature takes.bodies (rw which at takes.is) in
     record { term = reached.term; is = reached.is; sort = takes.signature.gives; fits = subst (λ (ss : List Sort). sort_in (scope_of owned defs) ss (expr_of number reached.term) ≡ Some takes.signature.gives) takes.takes reached.fits }
@@ -253,7 +253,7 @@ count-last expr.none last = refl
 count-last (expr.more e front) last = omega (arith, count-last front last)
 
 -- one term more
-pub more-built : {T N : Type 0} (number : N → Val) (scope : Scope) (defs : List (Def T N)) (terms : List (Term T N)) (first : ℕ) (all : List Sort) (items : List (Term T N)) (i : ℕ) (before mid after : Left) (built : List (Term T N)) (found : List Sort) (term result : Term T N) (sort : Sort) → i < length items → term ≡ get_or items i term → AreBuilt scope all (all_placed_with number defs terms first (length all) (exprs_of number (take i items))) before mid (exprs_of number built) found → IsBuilt scope all (placed_with number defs terms first (length all) (expr_of number term)) mid after (expr_of number result) sort → AreBuilt scope all (all_placed_with number defs terms first (length all) (exprs_of number (take (i + 1) items))) before after (exprs_of number (built ++ result ∷ [])) (found ++ sort ∷ [])
+pub more-built : {T N : Type 0} (number : N → Val) (scope : Scope) (defs : List (Def T N)) (terms : List (Term T N)) (first : ℕ) (all : List Sort) (items : List (Term T N)) (i : ℕ) (before mid after : Left) (built : List (Term T N)) (found : List Sort) (term result : Term T N) (sort : Sort) → i < length items → term ≡ get_or items i term → AreBuilt scope all (all_placed_with number defs terms first (length all) (exprs_of number (take i items))) before mid (exprs_of number built) found → TermIsBuilt scope all (placed_with number defs terms first (length all) (expr_of number term)) mid after (expr_of number result) sort → AreBuilt scope all (all_placed_with number defs terms first (length all) (exprs_of number (take (i + 1) items))) before after (exprs_of number (built ++ result ∷ [])) (found ++ sort ∷ [])
 unfolding all_placed
 more-built {T} {N} number scope defs terms first all items i before mid after built found term result sort within read are is =
     let longer : take (i + 1) items ≡ take i items ++ term ∷ [] = take_more items i term within ∙ ap (λ (t : Term T N). take i items ++ t ∷ []) (sym read) in

@@ -20,7 +20,7 @@ use Rattle.std.specs.declared.alloc.Global.{Global}
 use Rattle.sy_query_base.specs.Placed.{count, all_placed}
 use Rattle.sy_query_base.specs.Weights.{weight, weights, sort_weight, query_scope}
 use Rattle.sy_query_build.specs.declared.room.Left.{Left}
-use Rattle.sy_query_build.specs.Placing.{placed_with, all_placed_with, called_with, FitsOver, IsBuilt, AreBuilt, IsBound, bound_weight, IsApplied, applied_weight}
+use Rattle.sy_query_build.specs.Placing.{placed_with, all_placed_with, called_with, FitsOver, TermIsBuilt, AreBuilt, IsBound, bound_weight, ApplicationIsBuilt, applied_weight}
 use Rattle.sy_query_build.specs.Sized.{IsSized}
 use Rattle.sy_query_build.proofs.Forms.{app-placed, let-placed, call-placed}
 use Rattle.sy_query_build.proofs.Sorted.{sorts_in-length}
@@ -71,7 +71,7 @@ count-placed number defs terms first long expr.none = refl
 count-placed number defs terms first long (expr.more e rest) = omega (arith, count-placed number defs terms first long rest)
 
 -- ---- applications
-pub app-built : {T N : Type 0} (owned : Op → Bool) (number : N → Val) (defs : List (Def T N)) (terms : List (Term T N)) (first : ℕ) (all : List Sort) (term : Term T N) (operator : Op) (arguments : Terms T N) (before mid after : Left) (built : Exprs) (found : List Sort) (result : Expr) (sort : Sort) → term ≡ App operator arguments → DefinitionsFit owned number defs → first ≤ length all → FitsOver owned number defs terms (drop first all) (expr_of number term) → AreBuilt (query_scope owned) all (all_placed_with number defs terms first (length all) (exprs_of number arguments.items.items)) before mid built found → IsApplied operator built found mid after result sort → IsBuilt (query_scope owned) all (placed_with number defs terms first (length all) (expr_of number term)) before after result sort
+pub app-built : {T N : Type 0} (owned : Op → Bool) (number : N → Val) (defs : List (Def T N)) (terms : List (Term T N)) (first : ℕ) (all : List Sort) (term : Term T N) (operator : Op) (arguments : Terms T N) (before mid after : Left) (built : Exprs) (found : List Sort) (result : Expr) (sort : Sort) → term ≡ App operator arguments → DefinitionsFit owned number defs → first ≤ length all → FitsOver owned number defs terms (drop first all) (expr_of number term) → AreBuilt (query_scope owned) all (all_placed_with number defs terms first (length all) (exprs_of number arguments.items.items)) before mid built found → ApplicationIsBuilt operator built found mid after result sort → TermIsBuilt (query_scope owned) all (placed_with number defs terms first (length all) (expr_of number term)) before after result sort
 app-built owned number defs terms first all term operator arguments before mid after built found result sort is definitions within fit are applied =
     step.applied-built owned all (placed_with number defs terms first (length all) (expr_of number term)) operator (all_placed_with number defs terms first (length all) (exprs_of number arguments.items.items)) before mid after built found result sort (app-placed number defs terms first (length all) term operator arguments is)
     (step.app-sorted owned number defs terms first all term operator arguments before mid built found is definitions within fit are).0 are applied
@@ -86,7 +86,7 @@ app-arguments-heavy owned number defs terms first all term operator arguments be
     step.arguments-heavy (query_scope owned) all (placed_with number defs terms first (length all) (expr_of number term)) operator (all_placed_with number defs terms first (length all) (exprs_of number arguments.items.items)) before (app-placed number defs terms first (length all) term operator arguments is) heavy
 
 -- ---- calls
-pub call-built : {T N : Type 0} (owned : Op → Bool) (number : N → Val) (defs : List (Def T N)) (terms : List (Term T N)) (first : ℕ) (all new : List Sort) (term : Term T N) (function : Fun) (arguments : Terms T N) (before mid after : Left) (built : Exprs) (found : List Sort) (result : Expr) (sort : Sort) → term ≡ Call function arguments → new ≡ all → AreBuilt (query_scope owned) all (all_placed_with number defs terms first (length all) (exprs_of number arguments.items.items)) before mid built found → IsBound (query_scope owned) (new ++ found) built (called_with number defs terms function (length new) (length (new ++ found))) mid after result sort → IsBuilt (query_scope owned) all (placed_with number defs terms first (length all) (expr_of number term)) before after result sort
+pub call-built : {T N : Type 0} (owned : Op → Bool) (number : N → Val) (defs : List (Def T N)) (terms : List (Term T N)) (first : ℕ) (all new : List Sort) (term : Term T N) (function : Fun) (arguments : Terms T N) (before mid after : Left) (built : Exprs) (found : List Sort) (result : Expr) (sort : Sort) → term ≡ Call function arguments → new ≡ all → AreBuilt (query_scope owned) all (all_placed_with number defs terms first (length all) (exprs_of number arguments.items.items)) before mid built found → IsBound (query_scope owned) (new ++ found) built (called_with number defs terms function (length new) (length (new ++ found))) mid after result sort → TermIsBuilt (query_scope owned) all (placed_with number defs terms first (length all) (expr_of number term)) before after result sort
 call-built owned number defs terms first all new term function arguments before mid after built found result sort is same are bound =
     let counted : length (all ++ found) ≡ length all + count (exprs_of number arguments.items.items) = long-is owned all (all_placed_with number defs terms first (length all) (exprs_of number arguments.items.items)) before mid built found are ∙ ap (λ n. length all + n) (count-placed number defs terms first (length all) (exprs_of number arguments.items.items)) in
     step.bound-built owned all (placed_with number defs terms first (length all) (expr_of number term)) (all_placed_with number defs terms first (length all) (exprs_of number arguments.items.items)) (called_with number defs terms function (length all) (length (all ++ found))) before mid after built found result sort
@@ -105,7 +105,7 @@ call-arguments-heavy owned number defs terms first all term function arguments b
     step.bound-arguments-heavy (query_scope owned) all (placed_with number defs terms first (length all) (expr_of number term)) (all_placed_with number defs terms first (length all) (exprs_of number arguments.items.items)) _ before (call-placed number defs terms first (length all) term function arguments is) heavy
 
 -- ---- bindings
-pub let-built : {T N : Type 0} (owned : Op → Bool) (number : N → Val) (defs : List (Def T N)) (terms : List (Term T N)) (first : ℕ) (all new : List Sort) (term : Term T N) (bound : Terms T N) (inner : Box (Term T N) Global) (before mid after : Left) (built : Exprs) (found : List Sort) (result : Expr) (sort : Sort) → term ≡ Let bound inner → new ≡ all → AreBuilt (query_scope owned) all (all_placed_with number defs terms first (length all) (exprs_of number bound.items.items)) before mid built found → IsBound (query_scope owned) (new ++ found) built (placed_with number defs terms first (length (new ++ found)) (expr_of number inner.value)) mid after result sort → IsBuilt (query_scope owned) all (placed_with number defs terms first (length all) (expr_of number term)) before after result sort
+pub let-built : {T N : Type 0} (owned : Op → Bool) (number : N → Val) (defs : List (Def T N)) (terms : List (Term T N)) (first : ℕ) (all new : List Sort) (term : Term T N) (bound : Terms T N) (inner : Box (Term T N) Global) (before mid after : Left) (built : Exprs) (found : List Sort) (result : Expr) (sort : Sort) → term ≡ Let bound inner → new ≡ all → AreBuilt (query_scope owned) all (all_placed_with number defs terms first (length all) (exprs_of number bound.items.items)) before mid built found → IsBound (query_scope owned) (new ++ found) built (placed_with number defs terms first (length (new ++ found)) (expr_of number inner.value)) mid after result sort → TermIsBuilt (query_scope owned) all (placed_with number defs terms first (length all) (expr_of number term)) before after result sort
 let-built owned number defs terms first all new term bound inner before mid after built found result sort is same are bound_is =
     let counted : length (all ++ found) ≡ length all + count (exprs_of number bound.items.items) = long-is owned all (all_placed_with number defs terms first (length all) (exprs_of number bound.items.items)) before mid built found are ∙ ap (λ n. length all + n) (count-placed number defs terms first (length all) (exprs_of number bound.items.items)) in
     step.bound-built owned all (placed_with number defs terms first (length all) (expr_of number term)) (all_placed_with number defs terms first (length all) (exprs_of number bound.items.items)) (placed_with number defs terms first (length (all ++ found)) (expr_of number inner.value)) before mid after built found result sort
@@ -127,12 +127,12 @@ let-bound-heavy owned number defs terms first all term bound inner before is hea
 pub longer-own : (first : ℕ) (old new found : List Sort) → new ≡ old → first ≤ length old → first ≤ length (new ++ found)
 longer-own first old new found same own = rw (same, length-append old found) (omega (arith, own))
 
-pub inner-heavy : (scope : Scope) (sorts : List Sort) (inner : Expr) (before mid : Left) (w : ℕ) (built : Expr) (sort : Sort) → IsBuilt scope sorts inner before mid built sort → w ≡ sort_weight (Some sort) → mid.weight < w → before.weight < bound_weight scope sorts inner
+pub inner-heavy : (scope : Scope) (sorts : List Sort) (inner : Expr) (before mid : Left) (w : ℕ) (built : Expr) (sort : Sort) → TermIsBuilt scope sorts inner before mid built sort → w ≡ sort_weight (Some sort) → mid.weight < w → before.weight < bound_weight scope sorts inner
 inner-heavy scope sorts inner before mid w built sort is weighs heavy =
     let first = is.weight in
     rw is.has (omega (arith, first, weighs, heavy))
 
-pub inner-bound : {T N : Type 0} (number : N → Val) (scope : Scope) (sorts : List Sort) (inner : Expr) (before mid after : Left) (w : ℕ) (bound : Terms T N) (built : Term T N) (box : Box (Term T N) Global) (sort : Sort) → IsBuilt scope sorts inner before mid (expr_of number built) sort → w ≡ sort_weight (Some sort) → mid.weight ≡ after.weight + w → after.counted ≡ mid.counted → box.value ≡ built → IsBound scope sorts (exprs_of number bound.items.items) inner before after (expr_of number (Let bound box)) sort
+pub inner-bound : {T N : Type 0} (number : N → Val) (scope : Scope) (sorts : List Sort) (inner : Expr) (before mid after : Left) (w : ℕ) (bound : Terms T N) (built : Term T N) (box : Box (Term T N) Global) (sort : Sort) → TermIsBuilt scope sorts inner before mid (expr_of number built) sort → w ≡ sort_weight (Some sort) → mid.weight ≡ after.weight + w → after.counted ≡ mid.counted → box.value ≡ built → IsBound scope sorts (exprs_of number bound.items.items) inner before after (expr_of number (Let bound box)) sort
 inner-bound number scope sorts inner before mid after w bound built box sort is weighs taken counted holds =
     let first = is.weight in
     record {

@@ -33,7 +33,7 @@ abbrev pub called_with : {T N : Type 0} → (N → Val) → List (Def T N) → L
 called_with number defs terms function first long = called_at (placement_of (placements (bodies number defs)) (wanted_placements number defs terms) function) first long
 
 -- the function takes arguments of these sorts
-pub record Takes {T N : Type 0} (owned : Op → Bool) (number : N → Val) (defs : List (Def T N)) (terms : List (Term T N)) (function : Fun) (found : List Sort) : Type 0 where
+pub record FunctionTakes {T N : Type 0} (owned : Op → Bool) (number : N → Val) (defs : List (Def T N)) (terms : List (Term T N)) (function : Fun) (found : List Sort) : Type 0 where
   pub wanted : List Signature
   pub bodies : BodiesFit owned number defs terms wanted
   pub signature : Signature
@@ -55,7 +55,7 @@ pub record AllFitOver {T N : Type 0} (owned : Op → Bool) (number : N → Val) 
 
 -- The term that is built is this one, where all positions are counted; it has this sort, and what it weighs was taken from
 -- what was left.
-pub record IsBuilt (scope : Scope) (sorts : List Sort) (term : Expr) (before after : Left) (built : Expr) (sort : Sort) : Type 0 where
+pub record TermIsBuilt (scope : Scope) (sorts : List Sort) (term : Expr) (before after : Left) (built : Expr) (sort : Sort) : Type 0 where
   pub is : after.counted ≡ true → built ≡ term
   pub has : sort_in scope sorts term ≡ Some sort
   pub weight : before.weight ≡ after.weight + weight scope sorts term
@@ -80,7 +80,7 @@ pub record IsBound (scope : Scope) (sorts : List Sort) (bound : Exprs) (inner : 
   pub counted : after.counted ≡ true → before.counted ≡ true
 
 -- the operator has a value at arguments of these sorts
-pub record HasSort (operator : Op) (sorts : List Sort) : Type 0 where
+pub record OperatorHasSort (operator : Op) (sorts : List Sort) : Type 0 where
   pub sort : Sort
   pub is : sort_of operator sorts ≡ Is sort
 
@@ -89,7 +89,7 @@ abbrev pub applied_weight : Op → Exprs → List Sort → ℕ
 applied_weight operator arguments sorts = operator_weight operator (count arguments) (sort_weight (given_by (sort_of operator sorts)))
 
 -- an operator at arguments of these sorts; what the application itself weighs was taken
-pub record IsApplied (operator : Op) (arguments : Exprs) (sorts : List Sort) (before after : Left) (built : Expr) (sort : Sort) : Type 0 where
+pub record ApplicationIsBuilt (operator : Op) (arguments : Exprs) (sorts : List Sort) (before after : Left) (built : Expr) (sort : Sort) : Type 0 where
   pub is : built ≡ Apply operator arguments
   pub has : sort_of operator sorts ≡ Is sort
   pub weight : before.weight ≡ after.weight + applied_weight operator arguments sorts

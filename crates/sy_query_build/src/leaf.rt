@@ -5,7 +5,7 @@ ghost use Rattle.sy_terms.specs.Expr.{Constant, Variable};
 ghost use Rattle.sy_terms.specs.Theories.{valid};
 ghost use Rattle.sy_query_base.specs.Weights as spec;
 ghost use Rattle.sy_query_base.specs.Weights.{query_scope};
-ghost use Rattle.sy_query_build.specs.Placing.{IsBuilt, HasSort, IsApplied, applied_weight};
+ghost use Rattle.sy_query_build.specs.Placing.{TermIsBuilt, OperatorHasSort, ApplicationIsBuilt, applied_weight};
 
 use crate::built::Built;
 use crate::room::Room;
@@ -29,7 +29,7 @@ pub(crate) struct AllPlaced<T: Theory> {
 /// A constant.
 pub(crate) fn constant<T: Theory>(value: Value<T::Num>, room: &mut Room) -> Result<Placed<T>, Built>
     requires { valid (val_of T.denotes value) ≡ true }
-    ensures ok { IfOk result (λ p. IsBuilt (query_scope T.owned) room.old.sorts.items (Constant (val_of T.denotes value)) room.old.left room.new.left (expr_of T.denotes p.term) p.sort) }
+    ensures ok { IfOk result (λ p. TermIsBuilt (query_scope T.owned) room.old.sorts.items (Constant (val_of T.denotes value)) room.old.left room.new.left (expr_of T.denotes p.term) p.sort) }
     ensures kept { room.new.sorts ≡ room.old.sorts }
     ensures heavy { OnErr result (room.old.left.weight < spec.weight (query_scope T.owned) room.old.sorts.items (Constant (val_of T.denotes value))) }
 {
@@ -48,7 +48,7 @@ pub(crate) fn variable<T: Theory>(
     room: &mut Room,
 ) -> Result<Placed<T>, Built>
     requires within { first + position < length room.now.sorts.items }
-    ensures ok { IfOk result (λ p. IsBuilt (query_scope T.owned) room.old.sorts.items (Variable (first + position)) room.old.left room.new.left (expr_of T.denotes p.term) p.sort) }
+    ensures ok { IfOk result (λ p. TermIsBuilt (query_scope T.owned) room.old.sorts.items (Variable (first + position)) room.old.left room.new.left (expr_of T.denotes p.term) p.sort) }
     ensures kept { room.new.sorts ≡ room.old.sorts }
     ensures heavy { OnErr result (room.old.left.weight < spec.weight (query_scope T.owned) room.old.sorts.items (Variable (first + position))) }
 {
@@ -68,8 +68,8 @@ pub(crate) fn apply<T: Theory>(
     room: &mut Room,
 ) -> Result<Placed<T>, Built>
     requires arguments { length found.terms.items.items < 2 ^ 32 }
-    requires sorted { HasSort operator.now found.sorts.items }
-    ensures ok { IfOk result (λ p. IsApplied operator.now (exprs_of T.denotes found.terms.items.items) found.sorts.items room.old.left room.new.left (expr_of T.denotes p.term) p.sort) }
+    requires sorted { OperatorHasSort operator.now found.sorts.items }
+    ensures ok { IfOk result (λ p. ApplicationIsBuilt operator.now (exprs_of T.denotes found.terms.items.items) found.sorts.items room.old.left room.new.left (expr_of T.denotes p.term) p.sort) }
     ensures kept { room.new.sorts ≡ room.old.sorts }
     ensures heavy { OnErr result (room.old.left.weight < applied_weight operator.now (exprs_of T.denotes found.terms.items.items) found.sorts.items) }
 {

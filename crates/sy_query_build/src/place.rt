@@ -6,7 +6,7 @@ ghost use Rattle.sy_terms.specs.Fitting.{sort_in, sorts_in};
 ghost use Rattle.sy_query_base.specs.Weights as spec;
 ghost use Rattle.sy_query_base.specs.Weights.{query_scope};
 ghost use Rattle.sy_query_build.specs.Sized.{IsSized};
-ghost use Rattle.sy_query_build.specs.Placing.{placed_with, all_placed_with, FitsOver, AllFitOver, IsBuilt, AreBuilt, IsBound, bound_weight, called_with, Takes};
+ghost use Rattle.sy_query_build.specs.Placing.{placed_with, all_placed_with, FitsOver, AllFitOver, TermIsBuilt, AreBuilt, IsBound, bound_weight, called_with, FunctionTakes};
 
 use crate::built::Built;
 use crate::leaf::{AllPlaced, Placed, apply, constant, variable};
@@ -31,7 +31,7 @@ pub(crate) fn place<T: Theory>(
     requires own { first ≤ length room.now.sorts.items }
     requires small { room.now.left.weight < 2 ^ 32 }
     requires term { FitsOver T.owned T.denotes defs.now bodies.now (drop first room.now.sorts.items) (expr_of T.denotes term.now) }
-    ensures ok { IfOk result (λ p. IsBuilt (query_scope T.owned) room.old.sorts.items (placed_with T.denotes defs.now bodies.now first (length room.old.sorts.items) (expr_of T.denotes term.now)) room.old.left room.new.left (expr_of T.denotes p.term) p.sort) }
+    ensures ok { IfOk result (λ p. TermIsBuilt (query_scope T.owned) room.old.sorts.items (placed_with T.denotes defs.now bodies.now first (length room.old.sorts.items) (expr_of T.denotes term.now)) room.old.left room.new.left (expr_of T.denotes p.term) p.sort) }
     ensures kept { OnOk result (room.new.sorts.items ≡ room.old.sorts.items) }
     ensures heavy { IsErrOf result Built.Heavy → room.old.left.weight < spec.weight (query_scope T.owned) room.old.sorts.items (placed_with T.denotes defs.now bodies.now first (length room.old.sorts.items) (expr_of T.denotes term.now)) }
 {
@@ -98,7 +98,7 @@ fn call<T: Theory>(
     requires definitions { DefinitionsFit T.owned T.denotes defs.now }
     requires sized { All IsSized (room.now.sorts.items ++ found.sorts.items) }
     requires small { room.now.left.weight < 2 ^ 32 }
-    requires function { Takes T.owned T.denotes defs.now bodies.now function found.sorts.items }
+    requires function { FunctionTakes T.owned T.denotes defs.now bodies.now function found.sorts.items }
     ensures ok { IfOk result (λ p. IsBound (query_scope T.owned) (room.old.sorts.items ++ found.sorts.items) (exprs_of T.denotes found.terms.items.items) (called_with T.denotes defs.now bodies.now function (length room.old.sorts.items) (length (room.old.sorts.items ++ found.sorts.items))) room.old.left room.new.left (expr_of T.denotes p.term) p.sort) }
     ensures kept { OnOk result (room.new.sorts.items ≡ room.old.sorts.items) }
     ensures heavy { IsErrOf result Built.Heavy → room.old.left.weight < bound_weight (query_scope T.owned) (room.old.sorts.items ++ found.sorts.items) (called_with T.denotes defs.now bodies.now function (length room.old.sorts.items) (length (room.old.sorts.items ++ found.sorts.items))) }

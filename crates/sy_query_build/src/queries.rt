@@ -4,7 +4,7 @@ ghost use Rattle.sy_terms.specs.Denoted.{expr_of, exprs_of};
 ghost use Rattle.sy_terms_laws.specs.Evaluation.{BodiesFit};
 ghost use Rattle.sy_grammar_base.specs.Fits.{ProblemFits};
 ghost use Rattle.sy_grammar_base.specs.Questions.{question_of, signatures};
-ghost use Rattle.sy_query_base.specs.Asked.{query_of, query_weight, Fits};
+ghost use Rattle.sy_query_base.specs.Asked.{query_of, query_weight, QueryFits};
 ghost use Rattle.sy_query_base.specs.Queries.{violating, IsViolation};
 ghost use Rattle.sy_query_build.specs.Violating.{violated_by, conjoined};
 
@@ -17,8 +17,8 @@ use sy_query_base::Query;
 use sy_terms::{Bodies, Defs, Op, Seq, Sort, Term, Terms, Theory, Value, Want};
 
 /// The query of the problem and a body for each function to be found: every assumption, and not every constraint, with
-/// each call replaced by a `let` of its arguments around the called body. It is true exactly at the assignments where
-/// the bodies violate the problem. `Heavy` exactly where it weighs more than `limit`; then no more than that is built.
+/// each call replaced by a `let` of its arguments around the called body. An assignment satisfies it exactly where it
+/// shows that the bodies don't solve the problem. `Heavy` exactly where it weighs more than `limit`; then no more is built.
 /// Where 32 bits don't count one of its positions, `Want` comes, and only if it weighs no more than `limit`.
 pub fn build<T: Theory>(
     alloc: Global,
@@ -29,7 +29,7 @@ pub fn build<T: Theory>(
     requires problem { ProblemFits T.Theory problem.now }
     requires bodies { BodiesFit T.owned T.denotes problem.now.defs bodies.now (signatures problem.now) }
     ensures query { IfOk result (λ query. query_of T.denotes query ≡ violating (question_of T.denotes problem.now) (map (expr_of T.denotes) bodies.now)) }
-    ensures fits { IfOk result (λ query. Fits T.owned T.numeric (query_of T.denotes query)) }
+    ensures fits { IfOk result (λ query. QueryFits T.owned T.numeric (query_of T.denotes query)) }
     ensures violations { IfOk result (λ query. IsViolation (question_of T.denotes problem.now) (map (expr_of T.denotes) bodies.now) (query_of T.denotes query)) }
     ensures light { IfOk result (λ query. query_weight T.owned (query_of T.denotes query) ≤ limit) }
     ensures heavy { IsErrOf result Built.Heavy → limit < query_weight T.owned (violating (question_of T.denotes problem.now) (map (expr_of T.denotes) bodies.now)) }
@@ -54,7 +54,7 @@ pub fn build<T: Theory>(
 
 /// What the query weighs. `Heavy` exactly where that is more than `cap`.
 pub fn weigh<T: Theory>(alloc: Global, query: &Query<T>, cap: u32) -> Result<u32, Built>
-    requires { Fits T.owned T.numeric (query_of T.denotes query.now) }
+    requires { QueryFits T.owned T.numeric (query_of T.denotes query.now) }
     ensures weight { IfOk result (λ weight. weight ≡ query_weight T.owned (query_of T.denotes query.now)) }
     ensures light { IfOk result (λ weight. weight ≤ cap) }
     ensures heavy { IsErrOf result Built.Heavy → cap < query_weight T.owned (query_of T.denotes query.now) }

@@ -4,7 +4,7 @@ ghost use Rattle.sy_terms.specs.Values.{Truth};
 ghost use Rattle.sy_terms.specs.Denoted.{val_of, vals_of};
 ghost use Rattle.sy_terms.specs.Theories.{sort_of_value, valid};
 ghost use Rattle.sy_grammar_base.specs.Solving.{AreValues};
-ghost use Rattle.sy_query_base.specs.Asked.{query_of, Fits, Satisfies};
+ghost use Rattle.sy_query_base.specs.Asked.{query_of, QueryFits, Satisfies};
 
 use crate::constants::constants_of;
 use crate::numbers::{count, number_in, numbers_at, with_number};
@@ -27,7 +27,7 @@ const MANY: usize = 3;
 /// the like, and the query's constants and their neighbours. Where no variable is a vector, each then gets 0 or false, or the
 /// number of the variable before, if the query stays satisfied. Where none is found the query may be satisfied all the same.
 pub fn corner_model<T: Theory>(alloc: Global, query: &Query<T>) -> Result<Option<Values<T>>, Want>
-    requires { Fits T.owned T.numeric (query_of T.denotes query.now) }
+    requires { QueryFits T.owned T.numeric (query_of T.denotes query.now) }
     ensures { IfOk result (λ found. IfSome found (λ values. Satisfies (query_of T.denotes query.now) (vals_of T.denotes values))) }
 {
     let constants = constants_of(alloc, &query.body)?;
@@ -77,7 +77,7 @@ fn model_at<T: Theory>(
     constants: &[i128],
     places: &[usize],
 ) -> Result<Option<Values<T>>, Want>
-    requires { Fits T.owned T.numeric (query_of T.denotes query.now) }
+    requires { QueryFits T.owned T.numeric (query_of T.denotes query.now) }
     ensures { IfOk result (λ found. IfSome found (λ values. Satisfies (query_of T.denotes query.now) (vals_of T.denotes values))) }
 {
     let numbers = numbers_at(alloc, query.vars.as_slice(), constants, places)?;
@@ -106,7 +106,7 @@ struct Model<T: Theory> {
 /// The model with 0 or false for one variable after the other where the query stays satisfied; then with the number of the
 /// variable before. So the models of a search differ in few numbers, and candidates are asked at few points.
 fn simplified<T: Theory>(alloc: Global, query: &Query<T>, model: Model<T>) -> Result<Model<T>, Want>
-    requires fits { Fits T.owned T.numeric (query_of T.denotes query.now) }
+    requires fits { QueryFits T.owned T.numeric (query_of T.denotes query.now) }
     requires model { Satisfies (query_of T.denotes query.now) (vals_of T.denotes model.values) }
     ensures { IfOk result (λ simple. Satisfies (query_of T.denotes query.now) (vals_of T.denotes simple.values)) }
 {
@@ -130,7 +130,7 @@ fn changed<T: Theory>(
     place: usize,
     number: i128,
 ) -> Result<Model<T>, Want>
-    requires fits { Fits T.owned T.numeric (query_of T.denotes query.now) }
+    requires fits { QueryFits T.owned T.numeric (query_of T.denotes query.now) }
     requires model { Satisfies (query_of T.denotes query.now) (vals_of T.denotes model.values) }
     ensures { IfOk result (λ model. Satisfies (query_of T.denotes query.now) (vals_of T.denotes model.values)) }
 {
@@ -147,7 +147,7 @@ fn satisfying<T: Theory>(
     query: &Query<T>,
     numbers: &[i128],
 ) -> Result<Option<Values<T>>, Want>
-    requires { Fits T.owned T.numeric (query_of T.denotes query.now) }
+    requires { QueryFits T.owned T.numeric (query_of T.denotes query.now) }
     ensures { IfOk result (λ found. IfSome found (λ values. Satisfies (query_of T.denotes query.now) (vals_of T.denotes values))) }
 {
     let Some(values) = corner::<T>(alloc, query.vars.as_slice(), numbers)? else {
@@ -195,7 +195,7 @@ fn value_of<T: Theory>(sort: Sort, number: i128) -> Option<Value<T::Num>>
 
 /// Whether the query is true at the values. A value on the way that leaves the 128 bits makes it count as false.
 fn holds<T: Theory>(alloc: Global, query: &Query<T>, values: &[Value<T::Num>]) -> Result<bool, Want>
-    requires fits { Fits T.owned T.numeric (query_of T.denotes query.now) }
+    requires fits { QueryFits T.owned T.numeric (query_of T.denotes query.now) }
     requires values { AreValues query.now.vars (vals_of T.denotes values.now) }
     ensures { IfOk result (λ yes. IsTrue yes → Satisfies (query_of T.denotes query.now) (vals_of T.denotes values.now)) }
 {

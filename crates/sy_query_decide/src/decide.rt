@@ -17,7 +17,7 @@ pub trait Decide<T: Theory> {
     ghost use Rattle.sy_terms.specs.Denoted.{vals_of};
     ghost use Rattle.sy_query_limits.specs.declared.FailName.{FailName};
     ghost use Rattle.sy_query_limits.specs.declared.Limits.{Limits};
-    ghost use Rattle.sy_query_base.specs.Asked.{Query, query_of, Fits, IsNever};
+    ghost use Rattle.sy_query_base.specs.Asked.{Query, query_of, QueryFits, IsNever};
     ghost use Rattle.sy_query_decide.specs.Budgets.{is_solver_budget};
     ghost use Rattle.sy_query_decide.specs.Answers.{Answers};
 
@@ -38,7 +38,7 @@ pub trait Decide<T: Theory> {
         query: &Query<T>,
         limits: &Limits,
     ) -> Result<Verdict<T, Self::Proof, Self::Spent>, Want>
-        requires { Fits T.owned T.numeric (query_of T.denotes query.now) }
+        requires { QueryFits T.owned T.numeric (query_of T.denotes query.now) }
         ensures { IfOk result (Answers T.denotes accepted budget shows (query_of T.denotes query.now) limits.now) };
 
     /// Which budget ran out: `Clauses`, `Nodes`, `Pivots` or `Range`.
@@ -47,5 +47,5 @@ pub trait Decide<T: Theory> {
         ensures own { is_solver_budget result ≡ true };
 
     /// A query for which a proof is accepted is never satisfied.
-    ghost sound: { (query : Query) (proof : Self.Proof) → Fits T.owned T.numeric query → accepted query proof → IsNever query };
+    ghost sound: { (query : Query) (proof : Self.Proof) → QueryFits T.owned T.numeric query → accepted query proof → IsNever query };
 }

@@ -11,7 +11,7 @@ use Rattle.sy_terms.specs.declared.sort.Sort.{Sort}
 use Rattle.sy_terms.specs.declared.term.Fun.{Fun}
 use Rattle.sy_terms.specs.declared.term.Fun.TheVariants.{Defined, Wanted}
 use Rattle.sy_grammar_base.specs.Trees.{is_negative}
-use Rattle.sy_reply.specs.Writable.{is_literal, IsDefined, IsWritable, AreWritable}
+use Rattle.sy_reply.specs.Writable.{is_plain_value, IsDefined, IsWritable, AreWritable}
 
 abbrev mutual
   -- neither a `let` nor a negative number stands in the term
@@ -44,7 +44,7 @@ if_some : {A : Type 0} (test : Bool) (x y : A) → (if test then Some x else Non
 if_some true x y is = refl
 if_some false x y is = cc
 
-valid_literal : (value : Val) → valid value ≡ true → is_negative value ≡ false → is_literal value ≡ true
+valid_literal : (value : Val) → valid value ≡ true → is_negative value ≡ false → is_plain_value value ≡ true
 valid_literal (Truth truth) ok positive = refl
 valid_literal (Whole (pos n)) ok positive = refl
 valid_literal (Whole (negsuc n)) ok positive = cc

@@ -16,17 +16,17 @@ use Rattle.sy_terms.specs.declared.sort.Sort.{Sort}
 use Rattle.sy_grammar_base.specs.Patterns as pattern
 use Rattle.sy_grammar_base.specs.Patterns.{Pattern, Patterns, occurring, all_occurring, filled, all_filled}
 use Rattle.sy_grammar_base.specs.Trees as trees
-use Rattle.sy_grammar_base.specs.Trees.{Production, Template, EachConstant, EachVariable, Nonterminal, Syntax, Tree, Trees, Node, ConstantLeaf, VariableLeaf, rule_at, rule_of, is_written, literal, node_yield, constant_yield, variable_yield, is_sort, joined, yield_from, yields_from, IsMember}
-use Rattle.sy_grammar_base.specs.Formed.{is_known, is_plain, is_linear, pattern_sort, pattern_sorts, rule_sort, fits, is_formed}
+use Rattle.sy_grammar_base.specs.Trees.{Production, Template, EachConstant, EachVariable, Nonterminal, Syntax, Tree, Trees, Node, ConstantLeaf, VariableLeaf, rule_at, rule_of, is_written, literal, node_yield, constant_yield, variable_yield, is_sort, terms_joined, yield_from, yields_from, IsMember}
+use Rattle.sy_grammar_base.specs.Formed.{is_known, is_plain, is_linear, pattern_sort, pattern_sorts, rule_sort, nonterminal_fits, is_formed}
 use Rattle.sy_grammar_base.specs.Questions.{Goal}
 use Rattle.sy_grammar_base.specs.Solving.{AreMembers}
-use Rattle.sy_reply.specs.Writable.{is_literal, IsWritable, AreWritable, HaveBodies}
+use Rattle.sy_reply.specs.Writable.{is_plain_value, IsWritable, AreWritable, HaveBodies}
 use Rattle.sy_reply.proofs.Fitting.{applied_some, called_some, with_some}
 
 abbrev mutual
   -- a pattern over so many arguments that calls only so many definitions, and in which no negative constant stands
   pub PatternWritable : ℕ → ℕ → Pattern → Type 0
-  PatternWritable arguments definitions (pattern.Constant value) = is_literal value ≡ true
+  PatternWritable arguments definitions (pattern.Constant value) = is_plain_value value ≡ true
   PatternWritable arguments definitions (pattern.Variable position) = position < arguments
   PatternWritable arguments definitions (pattern.Occurrence nonterminal) = Unit {0}
   PatternWritable arguments definitions (pattern.Apply operator parts) = PatternsWritable arguments definitions parts
@@ -49,7 +49,7 @@ if_found : {A : Type 0} (test : Bool) (found : Option A) (y : A) → (if test th
 if_found true found y is = is
 if_found false found y is = cc
 
-plain_literal : (value : Val) → is_plain value ≡ true → is_literal value ≡ true
+plain_literal : (value : Val) → is_plain value ≡ true → is_plain_value value ≡ true
 plain_literal (Truth truth) ok = refl
 plain_literal (Whole (pos n)) ok = refl
 plain_literal (Whole (negsuc n)) ok = ok
@@ -93,17 +93,17 @@ passes test [] place item all is = cc
 passes test (first ∷ rest) zero item all is = let same : first ≡ item = cc in subst (λ x. test x ≡ true) same (first_so (test first) (list_all test rest) all)
 passes test (first ∷ rest) (suc place) item all is = passes test rest place item (second_so (test first) (list_all test rest) all) is
 
-fitting_group : (numeric : Sort → Bool) (scope : Scope) (syntax : Syntax) (group : Nonterminal) (rule : ℕ) (production : Production) → fits numeric scope syntax group ≡ true → slice_get group.rules rule ≡ Some production
+fitting_group : (numeric : Sort → Bool) (scope : Scope) (syntax : Syntax) (group : Nonterminal) (rule : ℕ) (production : Production) → nonterminal_fits numeric scope syntax group ≡ true → slice_get group.rules rule ≡ Some production
     → RuleWritable (length syntax.arguments) (length scope.defined) production
 fitting_group numeric scope syntax group rule production ok at =
     let sized = second_so (is_known numeric group.sort) (nat_lt (length group.rules) (2 ^ 31) && list_all (λ rule. is_sort group.sort (rule_sort scope syntax rule)) group.rules) ok in
     let all = second_so (nat_lt (length group.rules) (2 ^ 31)) (list_all (λ rule. is_sort group.sort (rule_sort scope syntax rule)) group.rules) sized in
     fitting_rule scope syntax group.sort production (passes (λ rule. is_sort group.sort (rule_sort scope syntax rule)) group.rules rule production all at)
 
-all_fit : (numeric : Sort → Bool) (scope : Scope) (syntax : Syntax) → is_formed numeric scope syntax ≡ true → list_all (fits numeric scope syntax) syntax.nonterminals ≡ true
+all_fit : (numeric : Sort → Bool) (scope : Scope) (syntax : Syntax) → is_formed numeric scope syntax ≡ true → list_all (nonterminal_fits numeric scope syntax) syntax.nonterminals ≡ true
 all_fit numeric scope syntax formed =
-    let known = second_so (nat_le 1 (length syntax.nonterminals) && nat_lt (length syntax.nonterminals) (2 ^ 31)) (list_all (is_known numeric) syntax.arguments && list_all (fits numeric scope syntax) syntax.nonterminals) formed in
-    second_so (list_all (is_known numeric) syntax.arguments) (list_all (fits numeric scope syntax) syntax.nonterminals) known
+    let known = second_so (nat_le 1 (length syntax.nonterminals) && nat_lt (length syntax.nonterminals) (2 ^ 31)) (list_all (is_known numeric) syntax.arguments && list_all (nonterminal_fits numeric scope syntax) syntax.nonterminals) formed in
+    second_so (list_all (is_known numeric) syntax.arguments) (list_all (nonterminal_fits numeric scope syntax) syntax.nonterminals) known
 
 rule_written : (numeric : Sort → Bool) (scope : Scope) (syntax : Syntax) → is_formed numeric scope syntax ≡ true → (nonterminal rule : ℕ) (production : Production) → rule_at syntax nonterminal rule ≡ Some production
     → RuleWritable (length syntax.arguments) (length scope.defined) production
@@ -111,7 +111,7 @@ rule_written numeric scope syntax formed nonterminal rule production is = go (sl
   where
     go : (found : Option Nonterminal) → slice_get syntax.nonterminals nonterminal ≡ found → rule_of found rule ≡ Some production → RuleWritable (length syntax.arguments) (length scope.defined) production
     go None at e = cc
-    go (Some group) at e = fitting_group numeric scope syntax group rule production (passes (fits numeric scope syntax) syntax.nonterminals nonterminal group (all_fit numeric scope syntax formed) at) e
+    go (Some group) at e = fitting_group numeric scope syntax group rule production (passes (nonterminal_fits numeric scope syntax) syntax.nonterminals nonterminal group (all_fit numeric scope syntax formed) at) e
 
 abbrev EachWritable : ℕ → ℕ → List Expr → Type 0
 EachWritable arguments definitions [] = Unit {0}
@@ -196,7 +196,7 @@ node_written arguments definitions (Some (Template p)) children term rule below 
 node_written arguments definitions (Some (EachConstant sort)) children term rule below is = cc
 node_written arguments definitions (Some (EachVariable sort)) children term rule below is = cc
 
-joined_gives : (first : Option Expr) (rest : Option (List Expr)) (all : List Expr) → joined first rest ≡ Some all → (term : Expr) × (terms : List Expr) × (first ≡ Some term) × (rest ≡ Some terms) × (all ≡ term ∷ terms)
+joined_gives : (first : Option Expr) (rest : Option (List Expr)) (all : List Expr) → terms_joined first rest ≡ Some all → (term : Expr) × (terms : List Expr) × (first ≡ Some term) × (rest ≡ Some terms) × (all ≡ term ∷ terms)
 joined_gives None rest all is = cc
 joined_gives (Some term) None all is = cc
 joined_gives (Some term) (Some terms) all is = (term, terms, refl, refl, cc)

@@ -22,7 +22,7 @@ use Rattle.sy_scope_titles.specs.declared.Title.{Title}
 use Rattle.sy_grammar_base.specs.Questions.{Goal, goal_of}
 use Rattle.sy_grammar_base.specs.declared.problem.Wanted.{Wanted as Asked}
 use Rattle.sy_reply.specs.Replies.{line, bracketed, spaced, sort_text, operator_text, value_text, name_text, function_text, called_text, term_text, terms_text, argument_text, arguments_text, definition_text, definitions_text}
-use Rattle.sy_reply.specs.Writable.{is_literal, IsDefined, IsWritable, AreWritable, AreTitled, HaveBodies}
+use Rattle.sy_reply.specs.Writable.{is_plain_value, IsDefined, IsWritable, AreWritable, AreTitled, HaveBodies}
 
 -- a tail call's answer
 pub on_ok : {T E : Type 0} {P Q : Type 0} (r : Result T E) → OnOk r P → (P → Q) → OnOk r Q
@@ -142,7 +142,7 @@ module _ {T N : Type 0} (number : N → Val) where
   call-falls term function parts is = rw (is, expr_of-Call) (omega arith)
 
 module _ {T N : Type 0} (number : N → Val) (arguments definitions : ℕ) where
-  pub constant-fits : (term : Term T N) (value : Value N) → term ≡ Const value → IsWritable arguments definitions (expr_of number term) → is_literal (val_of number value) ≡ true
+  pub constant-fits : (term : Term T N) (value : Value N) → term ≡ Const value → IsWritable arguments definitions (expr_of number term) → is_plain_value (val_of number value) ≡ true
   unfolding IsWritable
   constant-fits term value is fits = rw (is, expr_of-Const) at fits
 

@@ -11,11 +11,11 @@ use Rattle.sy_terms.specs.declared.term.Fun.TheVariants.{Defined, Wanted}
 use Rattle.sy_grammar_base.specs.Questions.{Goal, Question}
 
 -- a value of its sort that isn't negative
-abbrev pub is_literal : Val → Bool
-is_literal (Truth truth) = true
-is_literal (Whole (pos n)) = true
-is_literal (Whole (negsuc n)) = false
-is_literal (Bits width n) = valid (Bits width n)
+abbrev pub is_plain_value : Val → Bool
+is_plain_value (Truth truth) = true
+is_plain_value (Whole (pos n)) = true
+is_plain_value (Whole (negsuc n)) = false
+is_plain_value (Bits width n) = valid (Bits width n)
 
 -- one of so many definitions
 abbrev pub IsDefined : ℕ → Fun → Type 0
@@ -25,7 +25,7 @@ IsDefined definitions (Wanted number) = ⊥
 unfoldable mutual
   -- a term over so many arguments that calls only so many definitions, and in which no `let` and no negative constant stands
   pub IsWritable : ℕ → ℕ → Expr → Type 0
-  IsWritable arguments definitions (Constant value) = is_literal value ≡ true
+  IsWritable arguments definitions (Constant value) = is_plain_value value ≡ true
   IsWritable arguments definitions (Variable position) = position < arguments
   IsWritable arguments definitions (Apply operator parts) = AreWritable arguments definitions parts
   IsWritable arguments definitions (Invoke function parts) = IsDefined definitions function × AreWritable arguments definitions parts

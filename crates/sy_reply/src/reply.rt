@@ -28,7 +28,7 @@ pub fn reply_text<T: Theory>(
     problem: &Problem<T>,
     bodies: &Bodies<T>,
 ) -> Result<Bytes, Want>
-    // At least as many titles as functions to be found, and each title used has its function's number of argument names.
+    // At least as many titles as functions to be found, and as many argument names in each as its function has arguments.
     requires titles { AreTitled titles.now.wanted (question_of T.denotes problem.now).goals }
     // At least as many names as definitions.
     requires names { length problem.now.defs ≤ length titles.now.defined }

@@ -3,7 +3,7 @@ ghost use Rattle.std.specs.Prelude.{◌≡◌, ◌++◌, ◌∷◌, map, true, O
 ghost use Rattle.sy_text.specs.Spelling.{numeral_text};
 ghost use Rattle.sy_terms.specs.Denoted.{val_of};
 ghost use Rattle.sy_reply.specs.Replies as replies;
-ghost use Rattle.sy_reply.specs.Writable.{is_literal};
+ghost use Rattle.sy_reply.specs.Writable.{is_plain_value};
 
 use sy_io::Bytes;
 use sy_seq::Want;
@@ -59,7 +59,7 @@ fn write_indexed(out: &mut Bytes, name: &str, indices: &[u8]) -> Result<(), Want
 /// Appends a value.
 #[tactic(auto, unfolding(crate::specs::Replies::value_text))]
 pub fn write_value<T: Theory>(out: &mut Bytes, value: &Value<T::Num>) -> Result<(), Want>
-    requires { is_literal (val_of T.denotes value.now) ≡ true }
+    requires { is_plain_value (val_of T.denotes value.now) ≡ true }
     ensures { OnOk result (out.new ≡ out.old ++ replies.value_text (val_of T.denotes value.now)) }
 {
     match value {

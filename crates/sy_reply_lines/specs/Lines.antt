@@ -2,7 +2,7 @@
 use Rattle.std.specs.Prelude.{ℕ, ◌+◌, List, [], ◌∷◌, ◌++◌, take, count_by, nat_eq, not, codes}
 use Rattle.std.specs.List.{suffix_len}
 use Rattle.sy_text.specs.Spelling.{numeral_text}
-use Rattle.sy_scope_causes.specs.Causes.{number_of, name_of}
+use Rattle.sy_scope_causes.specs.Causes.{number_of_cause, cause_name}
 use Rattle.sy_scope_causes.specs.declared.cause.Refused.{Refused}
 use Rattle.sy_query_limits.specs.declared.FailName.{FailName}
 use Rattle.sy_query_limits.specs.declared.FailName.TheVariants as fail
@@ -21,7 +21,7 @@ refusal_line bytes r =
     codes "refused: command " ++ (numeral_text r.command
     ++ (codes " line " ++ (numeral_text (line_of bytes r.place.at)
     ++ (codes " column " ++ (numeral_text (column_of bytes r.place.at)
-    ++ (codes " cause " ++ (numeral_text (number_of r.cause) ++ (codes " " ++ (name_of r.cause ++ 10 ∷ [])))))))))
+    ++ (codes " cause " ++ (numeral_text (number_of_cause r.cause) ++ (codes " " ++ (cause_name r.cause ++ 10 ∷ [])))))))))
 
 unfoldable pub fail_name : FailName → List ℕ
 fail_name fail.Size = codes "Size"

@@ -25,9 +25,9 @@ fn fault_name(fault: &TextFault) -> &'static str
 }
 
 /// Appends the name of a cause.
-#[tactic(auto, unfolding(sy_scope_causes::specs::Causes::name_of))]
+#[tactic(auto, unfolding(sy_scope_causes::specs::Causes::cause_name))]
 fn put_cause(out: &mut Bytes, cause: &Cause) -> Result<(), Want>
-    ensures { OnOk result (out.new ≡ out.old ++ causes.name_of cause.now) }
+    ensures { OnOk result (out.new ≡ out.old ++ causes.cause_name cause.now) }
 {
     match cause {
         Cause::Text(fault) => {

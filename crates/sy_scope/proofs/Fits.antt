@@ -11,7 +11,7 @@ use Rattle.sy_grammar_base.specs.declared.problem.Problem.{Problem}
 use Rattle.sy_terms.specs.Logics.{IsTheoryOf}
 use Rattle.sy_grammar_base.specs.Fits.{QuestionFits}
 use Rattle.sy_scope_steps.specs.Contexts as spec
-use Rattle.sy_scope_steps.specs.Files.{Outcome, file_read}
+use Rattle.sy_scope_steps.specs.Files.{FileOutcome, file_read}
 use Rattle.sy_scope_laws.proofs.Files.{file_fits}
 use Rattle.sy_scope_context.specs.Seen.{context_of}
 use Rattle.sy_scope_context.specs.declared.context.Context.{Context}
@@ -29,5 +29,5 @@ of_problems {T} {N} number P (p ∷ problems) fit =
 pub read_fit : {T N : Type 0} (owned : Op → Bool) (numeric : Sort → Bool) (number : N → Val) (logic : Logic) (context : Context T N) (file : List ℕ) →
     IsTheoryOf logic owned numeric → context.logic ≡ logic → file_read file ≡ Ok (context_of number context) → ProblemsFit owned numeric number context.questions
 read_fit owned numeric number logic context file theory same is =
-    let fit = subst (λ (o : Outcome). IfOk o (λ (c : spec.Context). c.logic ≡ Some logic → All (QuestionFits owned numeric) c.questions)) is (file_fits file logic owned numeric theory) in
+    let fit = subst (λ (o : FileOutcome). IfOk o (λ (c : spec.Context). c.logic ≡ Some logic → All (QuestionFits owned numeric) c.questions)) is (file_fits file logic owned numeric theory) in
     of_problems number (QuestionFits owned numeric) context.questions (fit (ap Some same))

@@ -5,16 +5,16 @@ use Rattle.sy_scope_causes.specs.declared.cause.Refused.{Refused}
 use Rattle.sy_forms_items.specs.declared.fault.Fault.{Fault}
 use Rattle.sy_scope_steps.specs.Contexts.{Context, beginning}
 use Rattle.sy_scope_steps.specs.Steps.{step}
-use Rattle.sy_scope_steps.specs.Files.{Outcome, command_read, after_command, then_next, refused_at, file_from, file_read}
-use Rattle.sy_forms_items.specs.Readings.{Fails}
+use Rattle.sy_scope_steps.specs.Files.{FileOutcome, command_read, after_command, then_next, refused_at, file_from, file_read}
+use Rattle.sy_forms_items.specs.Readings.{ReadingFails}
 use Rattle.sy_forms_items.specs.declared.fault.ReadEnd.{ReadEnd}
 use Rattle.sy_forms_items.specs.declared.fault.ReadEnd.TheVariants as read_ends
 use Rattle.sy_scope.specs.declared.job.ScopeEnd.{ScopeEnd}
 use Rattle.sy_scope.specs.declared.job.ScopeEnd.TheVariants as ends
-use Rattle.sy_scope.specs.Read.{LeadsTo, EndsAs, ended_as}
+use Rattle.sy_scope.specs.Read.{LeadsToOutcome, EndsAs, ended_as}
 
 -- what follows after an offset
-abbrev onward : ℕ → ℕ → List ℕ → ℕ → Context → Outcome
+abbrev onward : ℕ → ℕ → List ℕ → ℕ → Context → FileOutcome
 onward turns command file after later = file_from turns (command + 1) file after later
 
 unfolded : (turns command : ℕ) (file : List ℕ) (at : ℕ) (context : Context) →
@@ -22,7 +22,7 @@ unfolded : (turns command : ℕ) (file : List ℕ) (at : ℕ) (context : Context
 unfolding file_from
 unfolded turns command file at context = refl
 
-module _ (file : List ℕ) (at command : ℕ) (context : Context) (outcome : Outcome) where
+module _ (file : List ℕ) (at command : ℕ) (context : Context) (outcome : FileOutcome) where
   -- in the next turn
   in_turn : (turns : ℕ) → file_from (suc turns) command file at context ≡ outcome → (found : Result (Option (Item × ℕ)) Refused) → command_read file command at ≡ found →
       after_command command context found (onward turns command file) ≡ outcome
@@ -31,7 +31,7 @@ module _ (file : List ℕ) (at command : ℕ) (context : Context) (outcome : Out
 
   on_by : (turns : ℕ) → length file < at + turns → command ≤ at + 1 → file_from turns command file at context ≡ outcome →
       (later : Context) (x : Item × ℕ) → command_read file command at ≡ Ok (Some x) → at < x.1 → x.1 ≤ length file → step context x.0 ≡ Ok later →
-      LeadsTo file x.1 (command + 1) later outcome
+      LeadsToOutcome file x.1 (command + 1) later outcome
   on_by zero enough counted same later x read forward inside stepped = absurd (omega arith)
   on_by (suc turns) enough counted same later x read forward inside stepped = record {
     turns = turns;
@@ -42,8 +42,8 @@ module _ (file : List ℕ) (at command : ℕ) (context : Context) (outcome : Out
   }
 
   -- a command that steps
-  pub leads_on : LeadsTo file at command context outcome → (later : Context) (x : Item × ℕ) → command_read file command at ≡ Ok (Some x) →
-      at < x.1 → x.1 ≤ length file → step context x.0 ≡ Ok later → LeadsTo file x.1 (command + 1) later outcome
+  pub leads_on : LeadsToOutcome file at command context outcome → (later : Context) (x : Item × ℕ) → command_read file command at ≡ Ok (Some x) →
+      at < x.1 → x.1 ≤ length file → step context x.0 ≡ Ok later → LeadsToOutcome file x.1 (command + 1) later outcome
   leads_on l later x read forward inside stepped = on_by l.turns l.enough l.counted l.same later x read forward inside stepped
 
   end_by : (turns : ℕ) → length file < at + turns → at ≤ length file → file_from turns command file at context ≡ outcome → command_read file command at ≡ Ok None → outcome ≡ Ok context
@@ -51,7 +51,7 @@ module _ (file : List ℕ) (at command : ℕ) (context : Context) (outcome : Out
   end_by (suc turns) enough within same read = sym (in_turn turns same (Ok None) read)
 
   -- no more commands
-  pub leads_to_end : LeadsTo file at command context outcome → command_read file command at ≡ Ok None → outcome ≡ Ok context
+  pub leads_to_end : LeadsToOutcome file at command context outcome → command_read file command at ≡ Ok None → outcome ≡ Ok context
   leads_to_end l read = end_by l.turns l.enough l.within l.same read
 
   unread_by : (turns : ℕ) → length file < at + turns → at ≤ length file → file_from turns command file at context ≡ outcome →
@@ -60,7 +60,7 @@ module _ (file : List ℕ) (at command : ℕ) (context : Context) (outcome : Out
   unread_by (suc turns) enough within same refused read = sym (in_turn turns same (Err refused) read)
 
   -- a command that isn't read
-  pub leads_to_unread : LeadsTo file at command context outcome → (refused : Refused) → command_read file command at ≡ Err refused → outcome ≡ Err refused
+  pub leads_to_unread : LeadsToOutcome file at command context outcome → (refused : Refused) → command_read file command at ≡ Err refused → outcome ≡ Err refused
   leads_to_unread l refused read = unread_by l.turns l.enough l.within l.same refused read
 
   fault_by : (turns : ℕ) → length file < at + turns → at ≤ length file → file_from turns command file at context ≡ outcome →
@@ -70,12 +70,12 @@ module _ (file : List ℕ) (at command : ℕ) (context : Context) (outcome : Out
       sym (sym (ap (λ s. then_next command s (onward turns command file x.1)) stepped) ∙ in_turn turns same (Ok (Some x)) read)
 
   -- a command that is refused
-  pub leads_to_fault : LeadsTo file at command context outcome → (fault : Fault) (x : Item × ℕ) → command_read file command at ≡ Ok (Some x) →
+  pub leads_to_fault : LeadsToOutcome file at command context outcome → (fault : Fault) (x : Item × ℕ) → command_read file command at ≡ Ok (Some x) →
       step context x.0 ≡ Err fault → outcome ≡ Err (refused_at command fault)
   leads_to_fault l fault x read stepped = fault_by l.turns l.enough l.within l.same fault x read stepped
 
 -- the file from its beginning
-pub leads_from_beginning : (file : List ℕ) → LeadsTo file 0 1 beginning (file_read file)
+pub leads_from_beginning : (file : List ℕ) → LeadsToOutcome file 0 1 beginning (file_read file)
 leads_from_beginning file = record {
   turns = length file + 1;
   enough = omega arith;
@@ -84,14 +84,14 @@ leads_from_beginning file = record {
   same = refl;
 }
 
-module _ (file : List ℕ) (at command : ℕ) (context : Context) (outcome : Outcome) where
+module _ (file : List ℕ) (at command : ℕ) (context : Context) (outcome : FileOutcome) where
   -- the reader ends where a command isn't read
-  pub ends_unread : LeadsTo file at command context outcome → (end : ScopeEnd) → EndsAs end (command_read file command at) → EndsAs end outcome
+  pub ends_unread : LeadsToOutcome file at command context outcome → (end : ScopeEnd) → EndsAs end (command_read file command at) → EndsAs end outcome
   ends_unread l ends.Want f = tt
   ends_unread l (ends.Refused refused) f = leads_to_unread file at command context outcome l refused f
 
   -- the reader ends where a command is refused
-  pub ends_fault : LeadsTo file at command context outcome → (x : Item × ℕ) → command_read file command at ≡ Ok (Some x) → (end : ReadEnd) →
-      Fails end (step context x.0) → EndsAs (ended_as command end) outcome
+  pub ends_fault : LeadsToOutcome file at command context outcome → (x : Item × ℕ) → command_read file command at ≡ Ok (Some x) → (end : ReadEnd) →
+      ReadingFails end (step context x.0) → EndsAs (ended_as command end) outcome
   ends_fault l x read read_ends.Want f = tt
   ends_fault l x read (read_ends.Refused place cause) f = leads_to_fault file at command context outcome l (record { place = place; cause = cause }) x read f

@@ -11,15 +11,15 @@ use Rattle.sy_terms.specs.declared.op.Op.{Op}
 use Rattle.sy_terms.specs.declared.sort.Logic.{Logic}
 use Rattle.sy_terms.specs.declared.sort.Sort.{Sort}
 use Rattle.sy_terms_laws.proofs.Equations.{both_true}
-use Rattle.sy_grammar_base.specs.Formed.{is_known, fits}
+use Rattle.sy_grammar_base.specs.Formed.{is_known, nonterminal_fits}
 use Rattle.sy_grammar_base.specs.Questions.{Goal}
 use Rattle.sy_grammar_base.specs.Trees.{Nonterminal, Syntax}
 use Rattle.sy_terms.specs.Logics.{IsTheoryOf, number_sorts, operators_of}
 use Rattle.sy_grammar_base.specs.Fits.{with_functions, GoalFits}
 use Rattle.sy_forms_items.specs.Readings.{Reading}
-use Rattle.sy_scope_steps.specs.Contexts.{Context, beginning, with_logic, goal_of}
+use Rattle.sy_scope_steps.specs.Contexts.{Context, beginning, with_logic, goal_sought}
 use Rattle.sy_scope_steps.specs.Steps.{step}
-use Rattle.sy_scope_laws.specs.Sound.{defined_in, IsSound, SoundBy, Sound}
+use Rattle.sy_scope_laws.specs.Sound.{defined_in, ContextIsSound, SoundBy, Sound}
 use Rattle.sy_scope_laws.proofs.Files.{begun_sound, step_sound}
 
 -- a file's first context
@@ -32,12 +32,12 @@ stays_sound context later item sound is = subst (λ (read : Reading Context). If
 
 -- the functions to be found fit under the theory of the logic
 pub goals_fit : (logic : Logic) (owned : Op → Bool) (numeric : Sort → Bool) (context : Context) (signatures : List Signature) → IsTheoryOf logic owned numeric → context.logic ≡ Some logic → Sound context → signatures ≡ defined_in context.definitions
-    → All (GoalFits owned numeric signatures) (map goal_of context.sought)
+    → All (GoalFits owned numeric signatures) (map goal_sought context.sought)
 goals_fit logic owned numeric context signatures of set sound same =
-    let fit : IsSound logic context = subst (λ l. SoundBy l context) set sound in
+    let fit : ContextIsSound logic context = subst (λ l. SoundBy l context) set sound in
     let operators : operators_of logic ≡ owned = λ i. λ operator. sym (of.operators operator) i in
     let numbers : number_sorts logic ≡ numeric = λ i. λ s. sym (of.sorts s) i in
-    let goals = All-map (GoalFits (operators_of logic) (number_sorts logic) (defined_in context.definitions)) goal_of context.sought fit.sought in
-    subst (λ (o : Op → Bool). All (GoalFits o numeric signatures) (map goal_of context.sought)) operators
-    (subst (λ (n : Sort → Bool). All (GoalFits (operators_of logic) n signatures) (map goal_of context.sought)) numbers
-    (subst (λ (ss : List Signature). All (GoalFits (operators_of logic) (number_sorts logic) ss) (map goal_of context.sought)) (sym same) goals))
+    let goals = All-map (GoalFits (operators_of logic) (number_sorts logic) (defined_in context.definitions)) goal_sought context.sought fit.sought in
+    subst (λ (o : Op → Bool). All (GoalFits o numeric signatures) (map goal_sought context.sought)) operators
+    (subst (λ (n : Sort → Bool). All (GoalFits (operators_of logic) n signatures) (map goal_sought context.sought)) numbers
+    (subst (λ (ss : List Signature). All (GoalFits (operators_of logic) (number_sorts logic) ss) (map goal_sought context.sought)) (sym same) goals))

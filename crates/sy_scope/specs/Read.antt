@@ -11,7 +11,7 @@ use Rattle.sy_meaning_words.specs.Vectors.{vector}
 use Rattle.sy_forms_items.specs.declared.fault.ReadEnd.{ReadEnd}
 use Rattle.sy_forms_items.specs.declared.fault.ReadEnd.TheVariants as read_ends
 use Rattle.sy_scope_steps.specs.Contexts.{Context, beginning, with_logic}
-use Rattle.sy_scope_steps.specs.Files.{Outcome, file_from}
+use Rattle.sy_scope_steps.specs.Files.{FileOutcome, file_from}
 use Rattle.sy_scope_steps.specs.Jobs.{Wish}
 use Rattle.sy_scope.specs.declared.job.Job.{Job}
 use Rattle.sy_scope.specs.declared.job.Job.TheVariants as jobs
@@ -24,12 +24,12 @@ abbrev pub EndsAs : {Y : Type 0} → ScopeEnd → Result Y Refused → Type 0
 EndsAs ends.Want outcome = Unit {0}
 EndsAs (ends.Refused refused) outcome = outcome ≡ Err refused
 
-abbrev pub Reads : {X Y : Type 0} → (X → Y) → Result X ScopeEnd → Result Y Refused → Type 0
-Reads view (Ok x) outcome = outcome ≡ Ok (view x)
-Reads view (Err end) outcome = EndsAs end outcome
+abbrev pub ReadsFile : {X Y : Type 0} → (X → Y) → Result X ScopeEnd → Result Y Refused → Type 0
+ReadsFile view (Ok x) outcome = outcome ≡ Ok (view x)
+ReadsFile view (Err end) outcome = EndsAs end outcome
 
 -- the commands from an offset on, of which the first has a number, give what the whole file gives
-pub record LeadsTo (file : List ℕ) (at command : ℕ) (context : Context) (outcome : Outcome) : Type 0 where
+pub record LeadsToOutcome (file : List ℕ) (at command : ℕ) (context : Context) (outcome : FileOutcome) : Type 0 where
   pub turns : ℕ
   pub enough : length file < at + turns
   pub within : at ≤ length file
@@ -47,11 +47,11 @@ opened_by None = beginning
 opened_by (Some logic) = with_logic logic beginning
 
 -- the commands before the logic are done
-abbrev pub Opens : List ℕ → Option Opened → Outcome → Type 0
+abbrev pub Opens : List ℕ → Option Opened → FileOutcome → Type 0
 Opens file None outcome = outcome ≡ Ok beginning
-Opens file (Some opened) outcome = LeadsTo file opened.at opened.command (with_logic opened.logic beginning) outcome
+Opens file (Some opened) outcome = LeadsToOutcome file opened.at opened.command (with_logic opened.logic beginning) outcome
 
-abbrev pub OpensAs : List ℕ → Result (Option Opened) ScopeEnd → Outcome → Type 0
+abbrev pub OpensAs : List ℕ → Result (Option Opened) ScopeEnd → FileOutcome → Type 0
 OpensAs file (Ok opened) outcome = Opens file opened outcome
 OpensAs file (Err end) outcome = EndsAs end outcome
 

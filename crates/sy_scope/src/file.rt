@@ -4,11 +4,11 @@ ghost use Rattle.sy_text.specs.Views.{command_of};
 ghost use Rattle.sy_terms.specs.Logics.{IsTheoryOf, Serves};
 ghost use Rattle.sy_text.specs.Views.{item_of};
 ghost use Rattle.sy_scope_commands.specs.Asked.{request_in};
-ghost use Rattle.sy_forms_items.specs.Readings.{Gives};
+ghost use Rattle.sy_forms_items.specs.Readings.{ReadingGives};
 ghost use Rattle.sy_scope_steps.specs.Contexts as contexts;
 ghost use Rattle.sy_scope_steps.specs.Files as spec;
 ghost use Rattle.sy_scope_steps.specs.Jobs.{wished};
-ghost use Rattle.sy_scope.specs.Read.{Reads, LeadsTo, OpensAs, ended_as, opened_by, wish_in, wish_over};
+ghost use Rattle.sy_scope.specs.Read.{ReadsFile, LeadsToOutcome, OpensAs, ended_as, opened_by, wish_in, wish_over};
 ghost use Rattle.sy_scope.specs.Fit.{ProblemsFit, JobFits};
 ghost use Rattle.sy_scope_context.specs.Seen.{context_of};
 ghost use Rattle.sy_scope_steps.specs.Steps as steps;
@@ -69,7 +69,7 @@ fn next(
     command: u32,
 ) -> Result<Option<(Sexp, usize)>, ScopeEnd>
     requires { at ≤ length bytes.now }
-    ensures read { Reads command_of result (spec.command_read bytes.now command at) }
+    ensures read { ReadsFile command_of result (spec.command_read bytes.now command at) }
     ensures forward { IfOk result (λ answer. IfSome answer (λ x. (at < x.1) × (x.1 ≤ length bytes.now))) }
 {
     match next_command(alloc, bytes, at) {
@@ -101,7 +101,7 @@ fn logic_named(name: &[u8]) -> Option<Logic>
 /// The logic that is set by a command before which none was.
 #[tactic(auto, unfolding(sy_scope_steps::specs::Steps::perform_first))]
 fn first_logic(asked: Asked<'_>) -> Result<Option<Logic>, ReadEnd>
-    ensures { Gives opened_by result (steps.perform_first contexts.beginning asked.entry.at (request_in asked.entry.request)) }
+    ensures { ReadingGives opened_by result (steps.perform_first contexts.beginning asked.entry.at (request_in asked.entry.request)) }
 {
     match asked.request {
         Request::SetLogic(name) => match logic_named(name.name.as_slice()) {
@@ -120,7 +120,7 @@ fn first_logic(asked: Asked<'_>) -> Result<Option<Logic>, ReadEnd>
 /// The logic that is set by the command that the item is, before which none was.
 #[tactic(auto, unfolding(sy_scope_steps::specs::Steps::step))]
 fn open_with(item: &Sexp) -> Result<Option<Logic>, ReadEnd>
-    ensures { Gives opened_by result (steps.step contexts.beginning (item_of item.now)) }
+    ensures { ReadingGives opened_by result (steps.step contexts.beginning (item_of item.now)) }
 {
     let asked = read_request(item)?;
     let logic = first_logic(asked)?;
@@ -157,8 +157,8 @@ fn read_commands<T: Theory>(
     requires short { length bytes.now ≤ 4194304 }
     requires serves { Serves T.numeric opened.logic }
     requires theory { IsTheoryOf opened.logic T.owned T.numeric }
-    requires opened { LeadsTo bytes.now opened.at opened.command (contexts.with_logic opened.logic contexts.beginning) (spec.file_read bytes.now) }
-    ensures read { Reads (context_of T.denotes) result (spec.file_read bytes.now) }
+    requires opened { LeadsToOutcome bytes.now opened.at opened.command (contexts.with_logic opened.logic contexts.beginning) (spec.file_read bytes.now) }
+    ensures read { ReadsFile (context_of T.denotes) result (spec.file_read bytes.now) }
     ensures logic { IfOk result (λ context. context.logic ≡ opened.logic) }
 {
     let mut context = Context::new(alloc, opened.logic);
@@ -184,8 +184,8 @@ fn read_in<T: Theory>(
     requires short { length bytes.now ≤ 4194304 }
     requires serves { Serves T.numeric opened.logic }
     requires theory { IsTheoryOf opened.logic T.owned T.numeric }
-    requires opened { LeadsTo bytes.now opened.at opened.command (contexts.with_logic opened.logic contexts.beginning) (spec.file_read bytes.now) }
-    ensures read { Reads (wish_over T.denotes opened.logic) result (wished (spec.file_read bytes.now)) }
+    requires opened { LeadsToOutcome bytes.now opened.at opened.command (contexts.with_logic opened.logic contexts.beginning) (spec.file_read bytes.now) }
+    ensures read { ReadsFile (wish_over T.denotes opened.logic) result (wished (spec.file_read bytes.now)) }
     ensures fit { IfOk result (λ x. ProblemsFit T.owned T.numeric T.denotes x.0) }
 {
     let context = read_commands(alloc, bytes, opened)?;
@@ -198,7 +198,7 @@ fn read_in<T: Theory>(
 /// told, counted from 1, with its first condition that doesn't hold. All terms and grammars of the problems fit.
 pub fn read_file(alloc: Global, bytes: &[u8]) -> Result<Job, ScopeEnd>
     requires { length bytes.now ≤ 4194304 }
-    ensures read { Reads wish_in result (wished (spec.file_read bytes.now)) }
+    ensures read { ReadsFile wish_in result (wished (spec.file_read bytes.now)) }
     ensures fit { IfOk result JobFits }
 {
     let Some(opened) = read_opening(alloc, bytes)? else {

@@ -5,23 +5,23 @@ use Rattle.sy_text.specs.declared.fault.TextFault.TheVariants as fault
 use Rattle.sy_scope_causes.specs.declared.cause.Cause.{Cause}
 use Rattle.sy_scope_causes.specs.declared.cause.Cause.TheVariants as cause
 
-unfoldable pub number_of : Cause → ℕ
-number_of (cause.Text f) = 1
-number_of cause.CommandNotInProfile = 2
-number_of cause.Shape = 3
-number_of cause.Logic = 4
-number_of cause.Feature = 5
-number_of cause.UnknownSort = 6
-number_of cause.Width = 7
-number_of cause.UnknownName = 8
-number_of cause.NameTaken = 9
-number_of cause.SortMismatch = 10
-number_of cause.Nonlinear = 11
-number_of cause.LiteralRange = 12
-number_of cause.FunctionNotHere = 13
-number_of cause.Predeclared = 14
-number_of cause.InvShape = 15
-number_of cause.TooMany = 16
+unfoldable pub number_of_cause : Cause → ℕ
+number_of_cause (cause.Text f) = 1
+number_of_cause cause.CommandNotInProfile = 2
+number_of_cause cause.Shape = 3
+number_of_cause cause.Logic = 4
+number_of_cause cause.Feature = 5
+number_of_cause cause.UnknownSort = 6
+number_of_cause cause.Width = 7
+number_of_cause cause.UnknownName = 8
+number_of_cause cause.NameTaken = 9
+number_of_cause cause.SortMismatch = 10
+number_of_cause cause.Nonlinear = 11
+number_of_cause cause.LiteralRange = 12
+number_of_cause cause.FunctionNotHere = 13
+number_of_cause cause.Predeclared = 14
+number_of_cause cause.InvShape = 15
+number_of_cause cause.TooMany = 16
 
 unfoldable pub fault_name : TextFault → List ℕ
 fault_name (fault.BadByte at) = codes "BadByte"
@@ -31,20 +31,20 @@ fault_name (fault.LiteralRange at) = codes "LiteralRange"
 fault_name (fault.TooDeep at) = codes "TooDeep"
 
 -- the name of a cause; that of a fault of the text has the fault's name behind it
-unfoldable pub name_of : Cause → List ℕ
-name_of (cause.Text f) = codes "Text " ++ fault_name f
-name_of cause.CommandNotInProfile = codes "CommandNotInProfile"
-name_of cause.Shape = codes "Shape"
-name_of cause.Logic = codes "Logic"
-name_of cause.Feature = codes "Feature"
-name_of cause.UnknownSort = codes "UnknownSort"
-name_of cause.Width = codes "Width"
-name_of cause.UnknownName = codes "UnknownName"
-name_of cause.NameTaken = codes "NameTaken"
-name_of cause.SortMismatch = codes "SortMismatch"
-name_of cause.Nonlinear = codes "Nonlinear"
-name_of cause.LiteralRange = codes "LiteralRange"
-name_of cause.FunctionNotHere = codes "FunctionNotHere"
-name_of cause.Predeclared = codes "Predeclared"
-name_of cause.InvShape = codes "InvShape"
-name_of cause.TooMany = codes "TooMany"
+unfoldable pub cause_name : Cause → List ℕ
+cause_name (cause.Text f) = codes "Text " ++ fault_name f
+cause_name cause.CommandNotInProfile = codes "CommandNotInProfile"
+cause_name cause.Shape = codes "Shape"
+cause_name cause.Logic = codes "Logic"
+cause_name cause.Feature = codes "Feature"
+cause_name cause.UnknownSort = codes "UnknownSort"
+cause_name cause.Width = codes "Width"
+cause_name cause.UnknownName = codes "UnknownName"
+cause_name cause.NameTaken = codes "NameTaken"
+cause_name cause.SortMismatch = codes "SortMismatch"
+cause_name cause.Nonlinear = codes "Nonlinear"
+cause_name cause.LiteralRange = codes "LiteralRange"
+cause_name cause.FunctionNotHere = codes "FunctionNotHere"
+cause_name cause.Predeclared = codes "Predeclared"
+cause_name cause.InvShape = codes "InvShape"
+cause_name cause.TooMany = codes "TooMany"

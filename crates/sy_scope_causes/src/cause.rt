@@ -1,6 +1,6 @@
 // Why a command is refused.
 ghost use Rattle.std.specs.Prelude.{◌≡◌};
-ghost use Rattle.sy_scope_causes.specs.Causes.{number_of};
+ghost use Rattle.sy_scope_causes.specs.Causes.{number_of_cause};
 
 use sy_text::{Place, TextFault};
 
@@ -50,9 +50,9 @@ pub struct Refused {
 }
 
 /// The number of the cause, by the order in which the causes stand above, from 1.
-#[tactic(auto, unfolding(crate::specs::Causes::number_of))]
+#[tactic(auto, unfolding(crate::specs::Causes::number_of_cause))]
 pub fn cause_number(c: &Cause) -> u8
-    ensures { result ≡ number_of c.now }
+    ensures { result ≡ number_of_cause c.now }
 {
     match c {
         Cause::Text(_) => 1,

@@ -5,7 +5,7 @@ use Rattle.sy_text.specs.Items.{Item, leaf, group, Items, none, more}
 use Rattle.sy_text.specs.declared.atom.Atom.{Atom}
 use Rattle.sy_text.specs.declared.atom.Atom.TheVariants as atoms
 use Rattle.sy_text.specs.declared.atom.Place.{Place}
-use Rattle.sy_forms_items.specs.Parts.{symbol, place_of, is_empty}
+use Rattle.sy_forms_items.specs.Parts.{symbol, place_of, has_no_items}
 use Rattle.sy_scope_commands.specs.declared.commands.Command.{Command}
 use Rattle.sy_scope_commands.specs.declared.commands.Command.TheVariants.{SetLogic, SetFeature, SetInfo, SetOption, DeclareVar, DefineSort, DefineFun, SynthFun, SynthInv, Constraint, Assume, InvConstraint, CheckSynth}
 
@@ -61,8 +61,8 @@ abbrev pub spelled_by : Place → Option (List ℕ) → Option Spelled
 spelled_by place None = None
 spelled_by place (Some name) = Some (record { name = name; place = place })
 
-abbrev pub spelled : Item → Option Spelled
-spelled item = spelled_by (place_of item) (symbol item)
+abbrev pub symbol_spelled : Item → Option Spelled
+symbol_spelled item = spelled_by (place_of item) (symbol item)
 
 abbrev pub keyword_in : Place → Atom → Option Spelled
 keyword_in place (atoms.Keyword name) = Some (record { name = name; place = place })
@@ -86,7 +86,7 @@ switch item = switch_named (symbol item)
 
 abbrev pub is_no_parameters : Option Listed → Bool
 is_no_parameters None = false
-is_no_parameters (Some list) = is_empty list.items
+is_no_parameters (Some list) = has_no_items list.items
 
 abbrev pub rulebook_of : Option Listed → Option Listed → Option Rulebook
 rulebook_of None groups = None
@@ -97,21 +97,21 @@ abbrev pub rulebook : Item → Item → Option Rulebook
 rulebook predeclared groups = rulebook_of (list_in predeclared) (list_in groups)
 
 -- the only item of a list, or all of a list of two or more
-abbrev pub one : Items → Option Item
-one (more first none) = Some first
-one _ = None
+abbrev pub only_item : Items → Option Item
+only_item (more first none) = Some first
+only_item _ = None
 
-abbrev pub two : Items → Option (Item × Item)
-two none = None
-two (more first rest) = option_map (λ x. (first, x)) (one rest)
+abbrev pub two_items : Items → Option (Item × Item)
+two_items none = None
+two_items (more first rest) = option_map (λ x. (first, x)) (only_item rest)
 
-abbrev pub three : Items → Option (Item × Item × Item)
-three none = None
-three (more first rest) = option_map (λ x. (first, x.0, x.1)) (two rest)
+abbrev pub three_items : Items → Option (Item × Item × Item)
+three_items none = None
+three_items (more first rest) = option_map (λ x. (first, x.0, x.1)) (two_items rest)
 
 abbrev pub four : Items → Option (Item × Item × Item × Item)
 four none = None
-four (more first rest) = option_map (λ x. (first, x.0, x.1, x.2)) (three rest)
+four (more first rest) = option_map (λ x. (first, x.0, x.1, x.2)) (three_items rest)
 
 abbrev pub five : Items → Option (Item × Item × Item × Item × Item)
 five none = None
@@ -122,9 +122,9 @@ abbrev pub logic_setting : Option Spelled → Option Request
 logic_setting None = None
 logic_setting (Some logic) = Some (ToSetLogic logic)
 
-abbrev pub set_logic : Items → Option Request
-set_logic (more logic none) = logic_setting (spelled logic)
-set_logic _ = None
+abbrev pub set_logic_request : Items → Option Request
+set_logic_request (more logic none) = logic_setting (symbol_spelled logic)
+set_logic_request _ = None
 
 -- `set-feature`
 abbrev pub feature_setting : Option Spelled → Option Bool → Option Request
@@ -136,17 +136,17 @@ abbrev pub feature_by : Option (Item × Item) → Option Request
 feature_by None = None
 feature_by (Some (feature, on)) = feature_setting (keyword feature) (switch on)
 
-abbrev pub set_feature : Items → Option Request
-set_feature parts = feature_by (two parts)
+abbrev pub set_feature_request : Items → Option Request
+set_feature_request parts = feature_by (two_items parts)
 
--- `set-info` and `set-option`: a keyword, and no or one item of any form
-abbrev pub noted : Option Spelled → Option Request
-noted None = None
-noted (Some name) = Some ToNote
+-- `set-info` and `set-option`: a keyword, and at most one item behind it, whatever it is
+abbrev pub info_request : Option Spelled → Option Request
+info_request None = None
+info_request (Some name) = Some ToNote
 
 abbrev pub note : Items → Option Request
-note (more name none) = noted (keyword name)
-note (more name (more value none)) = noted (keyword name)
+note (more name none) = info_request (keyword name)
+note (more name (more value none)) = info_request (keyword name)
 note _ = None
 
 -- `declare-var`
@@ -156,10 +156,10 @@ variable (Some name) sort = Some (ToDeclareVariable name sort)
 
 abbrev pub variable_by : Option (Item × Item) → Option Request
 variable_by None = None
-variable_by (Some (name, sort)) = variable (spelled name) sort
+variable_by (Some (name, sort)) = variable (symbol_spelled name) sort
 
 abbrev pub declare_var : Items → Option Request
-declare_var parts = variable_by (two parts)
+declare_var parts = variable_by (two_items parts)
 
 -- `define-sort`: both spellings, with an empty list of parameters, and without
 abbrev pub abbreviation : Option Spelled → Item → Option Request
@@ -167,12 +167,12 @@ abbreviation None sort = None
 abbreviation (Some name) sort = Some (ToDefineSort name sort)
 
 abbrev pub abbreviation_by : Option (Item × Item) → Option (Item × Item × Item) → Option Request
-abbreviation_by (Some (name, sort)) longer = abbreviation (spelled name) sort
+abbreviation_by (Some (name, sort)) longer = abbreviation (symbol_spelled name) sort
 abbreviation_by None None = None
-abbreviation_by None (Some (name, parameters, sort)) = if is_no_parameters (list_in parameters) then abbreviation (spelled name) sort else None
+abbreviation_by None (Some (name, parameters, sort)) = if is_no_parameters (list_in parameters) then abbreviation (symbol_spelled name) sort else None
 
-abbrev pub define_sort : Items → Option Request
-define_sort parts = abbreviation_by (two parts) (three parts)
+abbrev pub define_sort_request : Items → Option Request
+define_sort_request parts = abbreviation_by (two_items parts) (three_items parts)
 
 -- `define-fun`
 abbrev pub definition : Option Spelled → Option Listed → Item → Item → Option Request
@@ -182,7 +182,7 @@ definition (Some name) (Some arguments) sort body = Some (ToDefine name argument
 
 abbrev pub definition_by : Option (Item × Item × Item × Item) → Option Request
 definition_by None = None
-definition_by (Some (name, arguments, sort, body)) = definition (spelled name) (list_in arguments) sort body
+definition_by (Some (name, arguments, sort, body)) = definition (symbol_spelled name) (list_in arguments) sort body
 
 abbrev pub define_fun : Items → Option Request
 define_fun parts = definition_by (four parts)
@@ -200,12 +200,12 @@ ruled_synthesis (Some name) (Some arguments) sort None = None
 ruled_synthesis (Some name) (Some arguments) sort (Some rules) = Some (ToSynthesise name arguments.items sort (Some rules))
 
 abbrev pub synthesis_by : Option (Item × Item × Item) → Option (Item × Item × Item × Item × Item) → Option Request
-synthesis_by (Some (name, arguments, sort)) longer = synthesis (spelled name) (list_in arguments) sort
+synthesis_by (Some (name, arguments, sort)) longer = synthesis (symbol_spelled name) (list_in arguments) sort
 synthesis_by None None = None
-synthesis_by None (Some (name, arguments, sort, predeclared, groups)) = ruled_synthesis (spelled name) (list_in arguments) sort (rulebook predeclared groups)
+synthesis_by None (Some (name, arguments, sort, predeclared, groups)) = ruled_synthesis (symbol_spelled name) (list_in arguments) sort (rulebook predeclared groups)
 
 abbrev pub synth_fun : Items → Option Request
-synth_fun parts = synthesis_by (three parts) (five parts)
+synth_fun parts = synthesis_by (three_items parts) (five parts)
 
 -- `synth-inv`
 abbrev pub invariant_synthesis : Option Spelled → Option Listed → Option Request
@@ -220,21 +220,21 @@ ruled_invariant (Some name) (Some arguments) None = None
 ruled_invariant (Some name) (Some arguments) (Some rules) = Some (ToSynthesiseInvariant name arguments.items (Some rules))
 
 abbrev pub invariant_by : Option (Item × Item) → Option (Item × Item × Item × Item) → Option Request
-invariant_by (Some (name, arguments)) longer = invariant_synthesis (spelled name) (list_in arguments)
+invariant_by (Some (name, arguments)) longer = invariant_synthesis (symbol_spelled name) (list_in arguments)
 invariant_by None None = None
-invariant_by None (Some (name, arguments, predeclared, groups)) = ruled_invariant (spelled name) (list_in arguments) (rulebook predeclared groups)
+invariant_by None (Some (name, arguments, predeclared, groups)) = ruled_invariant (symbol_spelled name) (list_in arguments) (rulebook predeclared groups)
 
 abbrev pub synth_inv : Items → Option Request
-synth_inv parts = invariant_by (two parts) (four parts)
+synth_inv parts = invariant_by (two_items parts) (four parts)
 
 -- `constraint` and `assume`
-abbrev pub constraint : Items → Option Request
-constraint (more term none) = Some (ToConstrain term)
-constraint _ = None
+abbrev pub constraint_request : Items → Option Request
+constraint_request (more term none) = Some (ToConstrain term)
+constraint_request _ = None
 
-abbrev pub assume : Items → Option Request
-assume (more term none) = Some (ToAssume term)
-assume _ = None
+abbrev pub assume_request : Items → Option Request
+assume_request (more term none) = Some (ToAssume term)
+assume_request _ = None
 
 -- `inv-constraint`
 abbrev pub invariant_conditions : Option Spelled → Option Spelled → Option Spelled → Option Spelled → Option Request
@@ -246,28 +246,28 @@ invariant_conditions (Some invariant) (Some before) (Some step) (Some after) = S
 
 abbrev pub conditions_by : Option (Item × Item × Item × Item) → Option Request
 conditions_by None = None
-conditions_by (Some (invariant, before, step, after)) = invariant_conditions (spelled invariant) (spelled before) (spelled step) (spelled after)
+conditions_by (Some (invariant, before, step, after)) = invariant_conditions (symbol_spelled invariant) (symbol_spelled before) (symbol_spelled step) (symbol_spelled after)
 
 abbrev pub inv_constraint : Items → Option Request
 inv_constraint parts = conditions_by (four parts)
 
 -- `check-synth`
-abbrev pub check_synth : Items → Option Request
-check_synth none = Some ToCheck
-check_synth (more first rest) = None
+abbrev pub check_synth_request : Items → Option Request
+check_synth_request none = Some ToCheck
+check_synth_request (more first rest) = None
 
 -- the parts of a command, where their number and kinds are right
 unfoldable pub request_of : Command → Items → Option Request
-request_of SetLogic parts = set_logic parts
-request_of SetFeature parts = set_feature parts
+request_of SetLogic parts = set_logic_request parts
+request_of SetFeature parts = set_feature_request parts
 request_of SetInfo parts = note parts
 request_of SetOption parts = note parts
 request_of DeclareVar parts = declare_var parts
-request_of DefineSort parts = define_sort parts
+request_of DefineSort parts = define_sort_request parts
 request_of DefineFun parts = define_fun parts
 request_of SynthFun parts = synth_fun parts
 request_of SynthInv parts = synth_inv parts
-request_of Constraint parts = constraint parts
-request_of Assume parts = assume parts
+request_of Constraint parts = constraint_request parts
+request_of Assume parts = assume_request parts
 request_of InvConstraint parts = inv_constraint parts
-request_of CheckSynth parts = check_synth parts
+request_of CheckSynth parts = check_synth_request parts

@@ -15,7 +15,7 @@ use sy_text::Sexp;
 
 /// The only item.
 fn one<'a>(parts: Rest<'a>) -> Option<&'a Sexp>
-    ensures { option_map (λ item. item_of item.now) result ≡ spec.one (items_in parts.entry) }
+    ensures { option_map (λ item. item_of item.now) result ≡ spec.only_item (items_in parts.entry) }
 {
     let (first, rest) = parts.split()?;
     if rest.is_empty() { Some(first) } else { None }
@@ -23,7 +23,7 @@ fn one<'a>(parts: Rest<'a>) -> Option<&'a Sexp>
 
 /// All items of a list of two.
 fn two<'a>(parts: Rest<'a>) -> Option<(&'a Sexp, &'a Sexp)>
-    ensures { option_map two_of result ≡ spec.two (items_in parts.entry) }
+    ensures { option_map two_of result ≡ spec.two_items (items_in parts.entry) }
 {
     let (first, rest) = parts.split()?;
     let second = one(rest)?;
@@ -32,7 +32,7 @@ fn two<'a>(parts: Rest<'a>) -> Option<(&'a Sexp, &'a Sexp)>
 
 /// All items of a list of three.
 fn three<'a>(parts: Rest<'a>) -> Option<(&'a Sexp, &'a Sexp, &'a Sexp)>
-    ensures { option_map three_of result ≡ spec.three (items_in parts.entry) }
+    ensures { option_map three_of result ≡ spec.three_items (items_in parts.entry) }
 {
     let (first, rest) = parts.split()?;
     let (second, third) = two(rest)?;
@@ -68,7 +68,7 @@ fn feature_setting<'a>(feature: &'a Sexp, on: &'a Sexp) -> Option<Request<'a>>
 
 /// `declare-var`, by its parts.
 fn variable<'a>(name: &'a Sexp, sort: &'a Sexp) -> Option<Request<'a>>
-    ensures { option_map request_in result ≡ spec.variable (spec.spelled (item_of name.now)) (item_of sort.now) }
+    ensures { option_map request_in result ≡ spec.variable (spec.symbol_spelled (item_of name.now)) (item_of sort.now) }
 {
     let name = spelling(name)?;
     Some(Request::DeclareVariable(name, sort))
@@ -76,7 +76,7 @@ fn variable<'a>(name: &'a Sexp, sort: &'a Sexp) -> Option<Request<'a>>
 
 /// `define-sort`, by its name and its sort.
 fn abbreviation<'a>(name: &'a Sexp, sort: &'a Sexp) -> Option<Request<'a>>
-    ensures { option_map request_in result ≡ spec.abbreviation (spec.spelled (item_of name.now)) (item_of sort.now) }
+    ensures { option_map request_in result ≡ spec.abbreviation (spec.symbol_spelled (item_of name.now)) (item_of sort.now) }
 {
     let name = spelling(name)?;
     Some(Request::DefineSort(name, sort))
@@ -89,7 +89,7 @@ fn definition<'a>(
     sort: &'a Sexp,
     body: &'a Sexp,
 ) -> Option<Request<'a>>
-    ensures { option_map request_in result ≡ spec.definition (spec.spelled (item_of name.now)) (spec.list_in (item_of arguments.now)) (item_of sort.now) (item_of body.now) }
+    ensures { option_map request_in result ≡ spec.definition (spec.symbol_spelled (item_of name.now)) (spec.list_in (item_of arguments.now)) (item_of sort.now) (item_of body.now) }
 {
     let name = spelling(name)?;
     let arguments = list_in(arguments)?;
@@ -98,7 +98,7 @@ fn definition<'a>(
 
 /// `synth-fun` without a grammar, by its parts.
 fn synthesis<'a>(name: &'a Sexp, arguments: &'a Sexp, sort: &'a Sexp) -> Option<Request<'a>>
-    ensures { option_map request_in result ≡ spec.synthesis (spec.spelled (item_of name.now)) (spec.list_in (item_of arguments.now)) (item_of sort.now) }
+    ensures { option_map request_in result ≡ spec.synthesis (spec.symbol_spelled (item_of name.now)) (spec.list_in (item_of arguments.now)) (item_of sort.now) }
 {
     let name = spelling(name)?;
     let arguments = list_in(arguments)?;
@@ -112,7 +112,7 @@ fn ruled_synthesis<'a>(
     sort: &'a Sexp,
     rules: Option<Rulebook<'a>>,
 ) -> Option<Request<'a>>
-    ensures { option_map request_in result ≡ spec.ruled_synthesis (spec.spelled (item_of name.now)) (spec.list_in (item_of arguments.now)) (item_of sort.now) (option_map rulebook_of rules.entry) }
+    ensures { option_map request_in result ≡ spec.ruled_synthesis (spec.symbol_spelled (item_of name.now)) (spec.list_in (item_of arguments.now)) (item_of sort.now) (option_map rulebook_of rules.entry) }
 {
     let name = spelling(name)?;
     let arguments = list_in(arguments)?;
@@ -122,7 +122,7 @@ fn ruled_synthesis<'a>(
 
 /// `synth-inv` without a grammar, by its parts.
 fn invariant_synthesis<'a>(name: &'a Sexp, arguments: &'a Sexp) -> Option<Request<'a>>
-    ensures { option_map request_in result ≡ spec.invariant_synthesis (spec.spelled (item_of name.now)) (spec.list_in (item_of arguments.now)) }
+    ensures { option_map request_in result ≡ spec.invariant_synthesis (spec.symbol_spelled (item_of name.now)) (spec.list_in (item_of arguments.now)) }
 {
     let name = spelling(name)?;
     let arguments = list_in(arguments)?;
@@ -135,7 +135,7 @@ fn ruled_invariant<'a>(
     arguments: &'a Sexp,
     rules: Option<Rulebook<'a>>,
 ) -> Option<Request<'a>>
-    ensures { option_map request_in result ≡ spec.ruled_invariant (spec.spelled (item_of name.now)) (spec.list_in (item_of arguments.now)) (option_map rulebook_of rules.entry) }
+    ensures { option_map request_in result ≡ spec.ruled_invariant (spec.symbol_spelled (item_of name.now)) (spec.list_in (item_of arguments.now)) (option_map rulebook_of rules.entry) }
 {
     let name = spelling(name)?;
     let arguments = list_in(arguments)?;
@@ -150,7 +150,7 @@ fn invariant_conditions<'a>(
     step: &'a Sexp,
     after: &'a Sexp,
 ) -> Option<Request<'a>>
-    ensures { option_map request_in result ≡ spec.invariant_conditions (spec.spelled (item_of invariant.now)) (spec.spelled (item_of before.now)) (spec.spelled (item_of step.now)) (spec.spelled (item_of after.now)) }
+    ensures { option_map request_in result ≡ spec.invariant_conditions (spec.symbol_spelled (item_of invariant.now)) (spec.symbol_spelled (item_of before.now)) (spec.symbol_spelled (item_of step.now)) (spec.symbol_spelled (item_of after.now)) }
 {
     let invariant = spelling(invariant)?;
     let before = spelling(before)?;
@@ -161,7 +161,7 @@ fn invariant_conditions<'a>(
 
 /// The parts of `(set-logic L)`.
 fn set_logic<'a>(parts: Rest<'a>) -> Option<Request<'a>>
-    ensures { option_map request_in result ≡ spec.set_logic (items_in parts.entry) }
+    ensures { option_map request_in result ≡ spec.set_logic_request (items_in parts.entry) }
 {
     let (logic, rest) = parts.split()?;
     if !rest.is_empty() {
@@ -172,7 +172,7 @@ fn set_logic<'a>(parts: Rest<'a>) -> Option<Request<'a>>
 
 /// The parts of `(set-feature k b)`.
 fn set_feature<'a>(parts: Rest<'a>) -> Option<Request<'a>>
-    ensures { option_map request_in result ≡ spec.set_feature (items_in parts.entry) }
+    ensures { option_map request_in result ≡ spec.set_feature_request (items_in parts.entry) }
 {
     let (feature, on) = two(parts)?;
     feature_setting(feature, on)
@@ -202,7 +202,7 @@ fn declare_var<'a>(parts: Rest<'a>) -> Option<Request<'a>>
 
 /// The parts of `(define-sort n s)` and `(define-sort n () s)`.
 fn define_sort<'a>(parts: Rest<'a>) -> Option<Request<'a>>
-    ensures { option_map request_in result ≡ spec.define_sort (items_in parts.entry) }
+    ensures { option_map request_in result ≡ spec.define_sort_request (items_in parts.entry) }
 {
     if let Some((name, sort)) = two(parts) {
         return abbreviation(name, sort);
@@ -247,7 +247,7 @@ fn synth_inv<'a>(parts: Rest<'a>) -> Option<Request<'a>>
 
 /// The parts of `(constraint t)`.
 fn constraint<'a>(parts: Rest<'a>) -> Option<Request<'a>>
-    ensures { option_map request_in result ≡ spec.constraint (items_in parts.entry) }
+    ensures { option_map request_in result ≡ spec.constraint_request (items_in parts.entry) }
 {
     let (term, rest) = parts.split()?;
     if rest.is_empty() {
@@ -259,7 +259,7 @@ fn constraint<'a>(parts: Rest<'a>) -> Option<Request<'a>>
 
 /// The parts of `(assume t)`.
 fn assume<'a>(parts: Rest<'a>) -> Option<Request<'a>>
-    ensures { option_map request_in result ≡ spec.assume (items_in parts.entry) }
+    ensures { option_map request_in result ≡ spec.assume_request (items_in parts.entry) }
 {
     let (term, rest) = parts.split()?;
     if rest.is_empty() {
@@ -279,7 +279,7 @@ fn inv_constraint<'a>(parts: Rest<'a>) -> Option<Request<'a>>
 
 /// The parts of `(check-synth)`.
 fn check_synth<'a>(parts: Rest<'a>) -> Option<Request<'a>>
-    ensures { option_map request_in result ≡ spec.check_synth (items_in parts.entry) }
+    ensures { option_map request_in result ≡ spec.check_synth_request (items_in parts.entry) }
 {
     if parts.is_empty() {
         Some(Request::Check)

@@ -60,7 +60,7 @@ pub enum Request<'a> {
 
 /// The symbol that the item is.
 pub fn spelling(item: &Sexp) -> Option<Spelled<'_>>
-    ensures { option_map spelled_of result ≡ spec.spelled (item_of item.now) }
+    ensures { option_map spelled_of result ≡ spec.symbol_spelled (item_of item.now) }
 {
     let name = symbol(item)?;
     Some(Spelled {

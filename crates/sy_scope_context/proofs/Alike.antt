@@ -10,17 +10,17 @@ use Rattle.sy_terms.specs.declared.op.Op.{Op}
 use Rattle.sy_terms.specs.declared.sort.Sort.{Sort}
 use Rattle.sy_terms_laws.proofs.Equations.{both_true}
 use Rattle.sy_grammar_base.specs.Fits.{with_functions, GoalFits}
-use Rattle.sy_grammar_base.specs.Formed.{is_known, fits}
+use Rattle.sy_grammar_base.specs.Formed.{is_known, nonterminal_fits}
 use Rattle.sy_grammar_base.specs.Questions.{Goal}
 use Rattle.sy_grammar_base.specs.Trees.{Nonterminal, Syntax}
 
 -- the start symbol of a well-formed grammar, and so the value of its function, has a sort of the theory
-first_known : (numeric : Sort → Bool) (scope : Scope) (syntax : Syntax) (nonterminals : List Nonterminal) (sort : Sort) → list_all (fits numeric scope syntax) nonterminals ≡ true → option_map (λ (n : Nonterminal). n.sort) (slice_get nonterminals 0) ≡ Some sort
+first_known : (numeric : Sort → Bool) (scope : Scope) (syntax : Syntax) (nonterminals : List Nonterminal) (sort : Sort) → list_all (nonterminal_fits numeric scope syntax) nonterminals ≡ true → option_map (λ (n : Nonterminal). n.sort) (slice_get nonterminals 0) ≡ Some sort
     → is_known numeric sort ≡ true
 first_known numeric scope syntax [] sort fit at = absurd cc
 first_known numeric scope syntax (n ∷ nonterminals) sort fit at =
     let same : n.sort ≡ sort = cc in
-    let both = both_true (fits numeric scope syntax n) (list_all (fits numeric scope syntax) nonterminals) fit in
+    let both = both_true (nonterminal_fits numeric scope syntax n) (list_all (nonterminal_fits numeric scope syntax) nonterminals) fit in
     let known = both_true (is_known numeric n.sort) _ both.0 in
     subst (λ s. is_known numeric s ≡ true) same known.0
 
@@ -28,8 +28,8 @@ pub value_known : (owned : Op → Bool) (numeric : Sort → Bool) (signatures : 
 value_known owned numeric signatures goal fit =
     let scope = with_functions owned signatures [] in
     let syntax = goal.grammar in
-    let all = both_true (nat_le 1 (length syntax.nonterminals) && nat_lt (length syntax.nonterminals) (2 ^ 31)) (list_all (is_known numeric) syntax.arguments && list_all (fits numeric scope syntax) syntax.nonterminals) fit.formed in
-    first_known numeric scope syntax syntax.nonterminals goal.signature.gives (both_true (list_all (is_known numeric) syntax.arguments) (list_all (fits numeric scope syntax) syntax.nonterminals) all.1).1 fit.start
+    let all = both_true (nat_le 1 (length syntax.nonterminals) && nat_lt (length syntax.nonterminals) (2 ^ 31)) (list_all (is_known numeric) syntax.arguments && list_all (nonterminal_fits numeric scope syntax) syntax.nonterminals) fit.formed in
+    first_known numeric scope syntax syntax.nonterminals goal.signature.gives (both_true (list_all (is_known numeric) syntax.arguments) (list_all (nonterminal_fits numeric scope syntax) syntax.nonterminals) all.1).1 fit.start
 
 -- what holds of each that is seen so holds of one
 pub holds_at : {A B C : Type 0} (P : C → Type 0) (f : B → C) (g : A → B) (xs : List A) (i : ℕ) (x : A) → i < length xs → x ≡ get_or xs i x → All P (map f (map g xs)) → P (f (g x))

@@ -5,9 +5,9 @@ use Rattle.std.proofs.lemmas.Bool.{le-ltb}
 use Rattle.sy_text.specs.declared.atom.Place.{Place}
 use Rattle.sy_terms.specs.declared.sort.Logic.{Logic}
 use Rattle.sy_scope_causes.specs.declared.cause.Cause.TheVariants as cause
-use Rattle.sy_forms_names.specs.Environments.{entry}
+use Rattle.sy_forms_names.specs.Environments.{entry_under}
 use Rattle.sy_forms_names.specs.Operators.{is_reserved}
-use Rattle.sy_forms_items.specs.Readings.{Reading, Fails, refuse, ◌>>=◌}
+use Rattle.sy_forms_items.specs.Readings.{Reading, ReadingFails, refuse, ◌>>=◌}
 use Rattle.sy_forms_items.specs.declared.fault.ReadEnd.{ReadEnd}
 use Rattle.sy_forms.proofs.Forms as form
 use Rattle.sy_scope_steps.specs.Contexts.{Context, has_room, new_name, new_sought}
@@ -24,9 +24,9 @@ by_tests context at name false true = refl
 by_tests context at name false false = refl
 
 pub sought_by : (context : Context) (logic : Logic) (at : Place) (name : List ℕ) → new_sought context logic at name ≡ (new_name context logic at name >>= with_room context at)
-sought_by context logic at name = by_tests context at name (is_reserved logic name || is_some (entry name context.entities)) (has_room context 1)
+sought_by context logic at name = by_tests context at name (is_reserved logic name || is_some (entry_under name context.entities)) (has_room context 1)
 
-pub sought_fails : (context : Context) (logic : Logic) (at : Place) (name : List ℕ) (e : ReadEnd) → Fails e (new_name context logic at name) → Fails e (new_sought context logic at name)
+pub sought_fails : (context : Context) (logic : Logic) (at : Place) (name : List ℕ) (e : ReadEnd) → ReadingFails e (new_name context logic at name) → ReadingFails e (new_sought context logic at name)
 sought_fails context logic at name e f = form.fails_same e _ _ (sought_by context logic at name) (form.fails_bind e _ (with_room context at) f)
 
 pub sought_full : (context : Context) (logic : Logic) (at : Place) (name new : List ℕ) → new_name context logic at name ≡ Ok new → 4 ≤ length context.sought →

@@ -11,5 +11,5 @@ called_of f = record { function = f.function; takes = f.takes.now; gives = f.giv
 abbrev pub parts_of : Parts → spec.Parts
 parts_of x = record { invariant = x.invariant; before = x.before; step = x.step; after = x.after }
 
-abbrev pub asked_of : Asked → spec.Asked
+abbrev pub asked_of : Asked → spec.PlacedRequest
 asked_of x = record { request = request_in x.request; place = x.place; at = x.at }

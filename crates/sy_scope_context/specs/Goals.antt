@@ -3,8 +3,8 @@ use Rattle.std.specs.Prelude.{Bool, map, All}
 use Rattle.sy_terms.specs.declared.op.Op.{Op}
 use Rattle.sy_terms.specs.declared.sort.Sort.{Sort}
 use Rattle.sy_grammar_base.specs.Fits.{GoalFits}
-use Rattle.sy_scope_steps.specs.Contexts.{Context, signature_of, goal_of}
+use Rattle.sy_scope_steps.specs.Contexts.{Context, definition_signature, goal_sought}
 
 -- the grammars are well formed, and each is that of its function's arguments and value
 abbrev pub GoalsFit : (Op → Bool) → (Sort → Bool) → Context → Type 0
-GoalsFit owned numeric context = All (GoalFits owned numeric (map signature_of context.definitions)) (map goal_of context.sought)
+GoalsFit owned numeric context = All (GoalFits owned numeric (map definition_signature context.definitions)) (map goal_sought context.sought)

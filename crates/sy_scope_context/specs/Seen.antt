@@ -9,7 +9,7 @@ use Rattle.sy_grammar_base.specs.Questions.{question_of}
 use Rattle.sy_forms_names.specs.declared.names.Named.{Named}
 use Rattle.sy_forms_phrases.specs.Meant.{phrase_of}
 use Rattle.sy_forms_phrases.specs.Measured.{measures_of}
-use Rattle.sy_scope_rules.specs.Lists.{sorts_of}
+use Rattle.sy_scope_rules.specs.Lists.{sorts_of_names}
 use Rattle.sy_scope_rules.specs.Seen.{group_of}
 use Rattle.sy_scope_rules.specs.declared.groups.Group.{Group}
 use Rattle.sy_grammar_defaults.specs.Defaults.{default_syntax}
@@ -28,8 +28,8 @@ definition_of number d = record { name = d.name; arguments = d.arguments; sort =
 
 -- the grammar that is written, or that of a function without one
 abbrev pub grammar_of : {T N : Type 0} → (N → Val) → Logic → List Named → Sort → Option (List (Group T N)) → Syntax
-grammar_of number logic arguments sort None = default_syntax logic (sorts_of arguments) sort
-grammar_of number logic arguments sort (Some groups) = record { arguments = sorts_of arguments; nonterminals = map (group_of number) groups }
+grammar_of number logic arguments sort None = default_syntax logic (sorts_of_names arguments) sort
+grammar_of number logic arguments sort (Some groups) = record { arguments = sorts_of_names arguments; nonterminals = map (group_of number) groups }
 
 -- what is read of a grammar
 abbrev pub ruled_of : {T N : Type 0} → (N → Val) → Logic → List Named → Sort → Ruled T N → Written

@@ -8,7 +8,7 @@ ghost use Rattle.sy_grammar_base.specs.Questions.{question_of};
 ghost use Rattle.sy_grammar_base.specs.Grown.{syntax_from};
 ghost use Rattle.sy_forms_phrases.specs.Meant.{phrase_of};
 ghost use Rattle.sy_forms_phrases.specs.Phrases.{expr_at};
-ghost use Rattle.sy_forms_items.specs.Readings.{Gives};
+ghost use Rattle.sy_forms_items.specs.Readings.{ReadingGives};
 ghost use Rattle.sy_grammar_base.specs.Fits.{GoalFits};
 ghost use Rattle.sy_scope_steps.specs.Contexts as contexts;
 ghost use Rattle.sy_scope_context.specs.Goals.{GoalsFit};
@@ -31,7 +31,7 @@ const QUESTIONS_MAX: usize = 16;
 
 /// A definition with its body as a term.
 fn def_of<T: Theory>(alloc: Global, definition: &Definition<T>) -> Result<Def<T>, Want>
-    ensures signature { IfOk result (λ def. signature def ≡ contexts.signature_of (definition_of T.denotes definition.now)) }
+    ensures signature { IfOk result (λ def. signature def ≡ contexts.definition_signature (definition_of T.denotes definition.now)) }
     ensures body { IfOk result (λ def. body T.denotes def ≡ contexts.body_of (definition_of T.denotes definition.now)) }
 {
     let args = sorts_of(alloc, definition.arguments.as_slice())?;
@@ -48,7 +48,7 @@ fn def_of<T: Theory>(alloc: Global, definition: &Definition<T>) -> Result<Def<T>
 
 /// Definitions with their bodies as terms, in order.
 fn defs_of<T: Theory>(alloc: Global, definitions: &[Definition<T>]) -> Result<Defs<T>, Want>
-    ensures signatures { IfOk result (λ defs. map signature defs ≡ map contexts.signature_of (map (definition_of T.denotes) definitions.now)) }
+    ensures signatures { IfOk result (λ defs. map signature defs ≡ map contexts.definition_signature (map (definition_of T.denotes) definitions.now)) }
     ensures bodies { IfOk result (λ defs. bodies T.denotes defs ≡ map contexts.body_of (map (definition_of T.denotes) definitions.now)) }
 {
     let mut defs = Seq::new(alloc);
@@ -110,7 +110,7 @@ fn grammar_in<T: Theory>(
     defs: &Defs<T>,
 ) -> Result<Grammar<T>, Want>
     requires theory { IsTheoryOf logic T.owned T.numeric }
-    requires fits { GoalFits T.owned T.numeric (map signature defs.now) (contexts.goal_of (sought_of T.denotes logic sought.now)) }
+    requires fits { GoalFits T.owned T.numeric (map signature defs.now) (contexts.goal_sought (sought_of T.denotes logic sought.now)) }
     ensures { IfOk result (λ grammar. syntax_from T.denotes grammar ≡ grammar_of T.denotes logic sought.now.arguments sought.now.sort sought.now.groups) }
 {
     let args = sorts_of(alloc, sought.arguments.as_slice())?;
@@ -129,8 +129,8 @@ fn wanted_of<T: Theory>(
     defs: &Defs<T>,
 ) -> Result<Wanted<T>, Want>
     requires theory { IsTheoryOf logic T.owned T.numeric }
-    requires fits { GoalFits T.owned T.numeric (map signature defs.now) (contexts.goal_of (sought_of T.denotes logic sought.now)) }
-    ensures { IfOk result (λ wanted. questions.goal_of T.denotes wanted ≡ contexts.goal_of (sought_of T.denotes logic sought.now)) }
+    requires fits { GoalFits T.owned T.numeric (map signature defs.now) (contexts.goal_sought (sought_of T.denotes logic sought.now)) }
+    ensures { IfOk result (λ wanted. questions.goal_of T.denotes wanted ≡ contexts.goal_sought (sought_of T.denotes logic sought.now)) }
 {
     let args = sorts_of(alloc, sought.arguments.as_slice())?;
     let grammar = grammar_in(alloc, logic, sought, defs)?;
@@ -149,8 +149,8 @@ fn all_wanted<T: Theory>(
     defs: &Defs<T>,
 ) -> Result<Seq<Wanted<T>>, Want>
     requires theory { IsTheoryOf logic T.owned T.numeric }
-    requires fit { All (GoalFits T.owned T.numeric (map signature defs.now)) (map contexts.goal_of (map (sought_of T.denotes logic) sought.now)) }
-    ensures { IfOk result (λ wanted. map (questions.goal_of T.denotes) wanted ≡ map contexts.goal_of (map (sought_of T.denotes logic) sought.now)) }
+    requires fit { All (GoalFits T.owned T.numeric (map signature defs.now)) (map contexts.goal_sought (map (sought_of T.denotes logic) sought.now)) }
+    ensures { IfOk result (λ wanted. map (questions.goal_of T.denotes) wanted ≡ map contexts.goal_sought (map (sought_of T.denotes logic) sought.now)) }
 {
     let mut wanted = Seq::new(alloc);
     for one in sought {
@@ -189,7 +189,7 @@ impl<T: Theory> Context<T> {
     pub(crate) fn check_synth(&mut self, alloc: Global, at: Place) -> Result<(), ReadEnd>
         requires theory { IsTheoryOf self.old.logic T.owned T.numeric }
         requires fit { GoalsFit T.owned T.numeric (context_of T.denotes self.old) }
-        ensures step { Gives (λ _. context_of T.denotes self.new) result (spec.check_synth (context_of T.denotes self.old) at) }
+        ensures step { ReadingGives (λ _. context_of T.denotes self.new) result (spec.check_synth (context_of T.denotes self.old) at) }
         ensures logic { OnOk result (self.new.logic ≡ self.old.logic) }
     {
         if self.questions.len() >= QUESTIONS_MAX {

@@ -1,7 +1,7 @@
 // Constraints and assumptions.
 ghost use Rattle.std.specs.Prelude.{◌≡◌, OnOk};
 ghost use Rattle.sy_text.specs.Views.{item_of};
-ghost use Rattle.sy_forms_items.specs.Readings.{Gives};
+ghost use Rattle.sy_forms_items.specs.Readings.{ReadingGives};
 ghost use Rattle.sy_terms.specs.Logics.{Serves};
 ghost use Rattle.sy_scope_context.specs.Seen.{context_of};
 ghost use Rattle.sy_scope_steps.specs.Steps as spec;
@@ -17,7 +17,7 @@ impl<T: Theory> Context<T> {
     /// `constraint`: a term of sort `Bool`.
     pub(crate) fn constrain(&mut self, alloc: Global, term: &Sexp) -> Result<(), ReadEnd>
         requires { Serves T.numeric self.old.logic }
-        ensures step { Gives (λ _. context_of T.denotes self.new) result (spec.constrain (context_of T.denotes self.old) self.old.logic (item_of term.now)) }
+        ensures step { ReadingGives (λ _. context_of T.denotes self.new) result (spec.constrain (context_of T.denotes self.old) self.old.logic (item_of term.now)) }
         ensures logic { OnOk result (self.new.logic ≡ self.old.logic) }
     {
         let phrase = self.read_in(alloc, Role::Constraint, &[], Sort::Bool, term)?;
@@ -29,7 +29,7 @@ impl<T: Theory> Context<T> {
     /// `assume`: a term of sort `Bool` in which no function to be found stands.
     pub(crate) fn assume(&mut self, alloc: Global, term: &Sexp) -> Result<(), ReadEnd>
         requires { Serves T.numeric self.old.logic }
-        ensures step { Gives (λ _. context_of T.denotes self.new) result (spec.assume (context_of T.denotes self.old) self.old.logic (item_of term.now)) }
+        ensures step { ReadingGives (λ _. context_of T.denotes self.new) result (spec.assume (context_of T.denotes self.old) self.old.logic (item_of term.now)) }
         ensures logic { OnOk result (self.new.logic ≡ self.old.logic) }
     {
         let phrase = self.read_in(alloc, Role::Assumption, &[], Sort::Bool, term)?;

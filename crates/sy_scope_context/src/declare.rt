@@ -1,11 +1,11 @@
 // Variables, abbreviations of sorts, and terms in a context.
 ghost use Rattle.std.specs.Prelude.{◌≡◌, None, true, OnOk, IfOk};
 ghost use Rattle.sy_text.specs.Views.{item_of};
-ghost use Rattle.sy_forms_names.specs.Environments.{entry};
+ghost use Rattle.sy_forms_names.specs.Environments.{entry_under};
 ghost use Rattle.sy_forms_phrases.specs.Meant.{phrase_of};
 ghost use Rattle.sy_forms_phrases.specs.Measured.{measures_of};
-ghost use Rattle.sy_forms_phrases.specs.Measures.{is_small};
-ghost use Rattle.sy_forms_items.specs.Readings.{Gives};
+ghost use Rattle.sy_forms_phrases.specs.Measures.{is_within_limits};
+ghost use Rattle.sy_forms_items.specs.Readings.{ReadingGives};
 ghost use Rattle.sy_terms.specs.Logics.{Serves};
 ghost use Rattle.sy_scope_commands.specs.Asked.{spelled_of};
 ghost use Rattle.sy_scope_context.specs.Seen.{context_of};
@@ -22,7 +22,7 @@ use sy_text::Sexp;
 impl<T: Theory> Context<T> {
     /// Declares a variable that has a new name.
     fn add_variable(&mut self, name: &[u8], sort: Sort) -> Result<(), Want>
-        requires { entry name.now self.old.names.entities ≡ None }
+        requires { entry_under name.now self.old.names.entities ≡ None }
         ensures step { OnOk result (context_of T.denotes self.new ≡ spec.with_variable (context_of T.denotes self.old) name.now sort) }
         ensures logic { OnOk result (self.new.logic ≡ self.old.logic) }
     {
@@ -37,7 +37,7 @@ impl<T: Theory> Context<T> {
 
     /// `declare-var`: a new name and a sort.
     pub(crate) fn declare_variable(&mut self, name: Spelled<'_>, sort: &Sexp) -> Result<(), ReadEnd>
-        ensures step { Gives (λ _. context_of T.denotes self.new) result (spec.declare_variable (context_of T.denotes self.old) self.old.logic (spelled_of name.entry) (item_of sort.now)) }
+        ensures step { ReadingGives (λ _. context_of T.denotes self.new) result (spec.declare_variable (context_of T.denotes self.old) self.old.logic (spelled_of name.entry) (item_of sort.now)) }
         ensures logic { OnOk result (self.new.logic ≡ self.old.logic) }
     {
         let bytes = name.name.as_slice();
@@ -49,7 +49,7 @@ impl<T: Theory> Context<T> {
 
     /// `define-sort`: a new name and a sort.
     pub(crate) fn define_sort(&mut self, name: Spelled<'_>, sort: &Sexp) -> Result<(), ReadEnd>
-        ensures step { Gives (λ _. context_of T.denotes self.new) result (spec.define_sort (context_of T.denotes self.old) self.old.logic (spelled_of name.entry) (item_of sort.now)) }
+        ensures step { ReadingGives (λ _. context_of T.denotes self.new) result (spec.define_sort (context_of T.denotes self.old) self.old.logic (spelled_of name.entry) (item_of sort.now)) }
         ensures logic { OnOk result (self.new.logic ≡ self.old.logic) }
     {
         let bytes = name.name.as_slice();
@@ -69,8 +69,8 @@ impl<T: Theory> Context<T> {
         item: &Sexp,
     ) -> Result<Phrase<T>, ReadEnd>
         requires { Serves T.numeric self.now.logic }
-        ensures read { Gives (phrase_of T.denotes) result (spec.read_in (context_of T.denotes self.now) self.now.logic role arguments.now sort (item_of item.now)) }
-        ensures small { IfOk result (λ phrase. is_small (measures_of self.now.measures) (phrase_of T.denotes phrase) ≡ true) }
+        ensures read { ReadingGives (phrase_of T.denotes) result (spec.read_in (context_of T.denotes self.now) self.now.logic role arguments.now sort (item_of item.now)) }
+        ensures small { IfOk result (λ phrase. is_within_limits (measures_of self.now.measures) (phrase_of T.denotes phrase) ≡ true) }
     {
         let env = Environment {
             logic: self.logic,

@@ -1,11 +1,11 @@
 // Definitions.
 ghost use Rattle.std.specs.Prelude.{◌≡◌, None, true, OnOk};
 ghost use Rattle.sy_text.specs.Views.{item_of};
-ghost use Rattle.sy_forms_names.specs.Environments.{entry};
+ghost use Rattle.sy_forms_names.specs.Environments.{entry_under};
 ghost use Rattle.sy_forms_phrases.specs.Meant.{phrase_of};
 ghost use Rattle.sy_forms_phrases.specs.Measured.{measures_of};
-ghost use Rattle.sy_forms_phrases.specs.Measures.{is_small, literals};
-ghost use Rattle.sy_forms_items.specs.Readings.{Gives};
+ghost use Rattle.sy_forms_phrases.specs.Measures.{is_within_limits, literals_in};
+ghost use Rattle.sy_forms_items.specs.Readings.{ReadingGives};
 ghost use Rattle.sy_terms.specs.Logics.{Serves};
 ghost use Rattle.sy_scope_pool.specs.Kept.{pool_of};
 ghost use Rattle.sy_scope_pool.specs.Pools.{pooled};
@@ -29,7 +29,7 @@ pub(crate) fn note_literals<T: Theory>(
     pool: &mut Pool<T>,
     phrase: &Phrase<T>,
 ) -> Result<(), Want>
-    ensures { OnOk result (pool_of T.denotes pool.new ≡ pooled (pool_of T.denotes pool.old) (literals (phrase_of T.denotes phrase.now))) }
+    ensures { OnOk result (pool_of T.denotes pool.new ≡ pooled (pool_of T.denotes pool.old) (literals_in (phrase_of T.denotes phrase.now))) }
 {
     let mut values = Seq::new(alloc);
     phrase.literals(&mut values)?;
@@ -39,7 +39,7 @@ pub(crate) fn note_literals<T: Theory>(
 
 /// Adds the measures of a definition's body, which are small.
 fn measure<T: Theory>(measures: &mut Measures, body: &Phrase<T>) -> Result<(), Want>
-    requires { is_small (measures_of measures.old) (phrase_of T.denotes body.now) ≡ true }
+    requires { is_within_limits (measures_of measures.old) (phrase_of T.denotes body.now) ≡ true }
     ensures { OnOk result (measures_of measures.new ≡ spec.measured (measures_of measures.old) (phrase_of T.denotes body.now)) }
 {
     let size = body.unfolded_size(measures.sizes.as_slice(), u64::MAX);
@@ -52,8 +52,8 @@ fn measure<T: Theory>(measures: &mut Measures, body: &Phrase<T>) -> Result<(), W
 impl<T: Theory> Context<T> {
     /// Adds a definition that has a new name and a small body.
     fn add_definition(&mut self, alloc: Global, definition: Definition<T>) -> Result<(), Want>
-        requires new { entry definition.name self.old.names.entities ≡ None }
-        requires small { is_small (measures_of self.old.measures) (phrase_of T.denotes definition.body) ≡ true }
+        requires new { entry_under definition.name self.old.names.entities ≡ None }
+        requires small { is_within_limits (measures_of self.old.measures) (phrase_of T.denotes definition.body) ≡ true }
         ensures step { OnOk result (context_of T.denotes self.new ≡ spec.with_definition (context_of T.denotes self.old) (definition_of T.denotes definition)) }
         ensures logic { OnOk result (self.new.logic ≡ self.old.logic) }
     {
@@ -79,7 +79,7 @@ impl<T: Theory> Context<T> {
         body: &Sexp,
     ) -> Result<(), ReadEnd>
         requires { Serves T.numeric self.old.logic }
-        ensures step { Gives (λ _. context_of T.denotes self.new) result (spec.define (context_of T.denotes self.old) self.old.logic (spelled_of name.entry) arguments.now (item_of sort.now) (item_of body.now)) }
+        ensures step { ReadingGives (λ _. context_of T.denotes self.new) result (spec.define (context_of T.denotes self.old) self.old.logic (spelled_of name.entry) arguments.now (item_of sort.now) (item_of body.now)) }
         ensures logic { OnOk result (self.new.logic ≡ self.old.logic) }
     {
         let bytes = name.name.as_slice();

@@ -1,8 +1,8 @@
 // The conditions of invariants.
 ghost use Rattle.std.specs.Prelude.{◌≡◌, ◌++◌, ◌*◌, length, true, OnOk, IfOk};
 ghost use Rattle.std.specs.Option.{option_map};
-ghost use Rattle.sy_forms_names.specs.Environments.{entry};
-ghost use Rattle.sy_forms_items.specs.Readings.{Gives};
+ghost use Rattle.sy_forms_names.specs.Environments.{entry_under};
+ghost use Rattle.sy_forms_items.specs.Readings.{ReadingGives};
 ghost use Rattle.sy_scope_commands.specs.Asked.{spelled_of};
 ghost use Rattle.sy_scope_context.specs.Calls.{called_of, parts_of};
 ghost use Rattle.sy_scope_steps.specs.Contexts as contexts;
@@ -40,7 +40,7 @@ pub(crate) struct Parts {
 
 /// The function that a name stands for.
 fn function_of(entity: Option<&Entity>) -> Option<Called<'_>>
-    ensures { option_map called_of result ≡ spec.function_of (option_map (λ e. e.now) entity.entry) }
+    ensures { option_map called_of result ≡ spec.called_function (option_map (λ e. e.now) entity.entry) }
 {
     match entity? {
         Entity::Variable(_, _) => None,
@@ -54,7 +54,7 @@ fn function_of(entity: Option<&Entity>) -> Option<Called<'_>>
 
 /// The declared function of this name; `UnknownName` comes at a name that is none.
 fn function_named<'a>(names: &'a Names, name: Spelled<'_>) -> Result<Called<'a>, ReadEnd>
-    ensures { Gives called_of result (spec.function_named (declared names.now 0) (spelled_of name.entry)) }
+    ensures { ReadingGives called_of result (spec.function_named (declared names.now 0) (spelled_of name.entry)) }
 {
     match function_of(names.entity(name.name.as_slice())) {
         Some(called) => Ok(called),
@@ -64,7 +64,7 @@ fn function_named<'a>(names: &'a Names, name: Spelled<'_>) -> Result<Called<'a>,
 
 /// The number of a function to be found that gives truth values; else `InvShape` at the name.
 fn as_invariant(name: Spelled<'_>, f: Called<'_>) -> Result<u32, ReadEnd>
-    ensures { Gives (λ number. number) result (spec.as_invariant (spelled_of name.entry) (called_of f.entry)) }
+    ensures { ReadingGives (λ number. number) result (spec.as_invariant (spelled_of name.entry) (called_of f.entry)) }
 {
     let refusal = ReadEnd::Refused(name.place, Cause::InvShape);
     if !same_sort(&f.gives, &Sort::Bool) {
@@ -78,7 +78,7 @@ fn as_invariant(name: Spelled<'_>, f: Called<'_>) -> Result<u32, ReadEnd>
 
 /// The number of a definition of truth values over these sorts; else `InvShape` at the name.
 fn as_condition(name: Spelled<'_>, takes: &[Sort], f: Called<'_>) -> Result<u32, ReadEnd>
-    ensures { Gives (λ number. number) result (spec.as_condition (spelled_of name.entry) takes.now (called_of f.entry)) }
+    ensures { ReadingGives (λ number. number) result (spec.as_condition (spelled_of name.entry) takes.now (called_of f.entry)) }
 {
     let refusal = ReadEnd::Refused(name.place, Cause::InvShape);
     if !(same_sort(&f.gives, &Sort::Bool) && same_sorts(f.takes, takes)) {
@@ -134,7 +134,7 @@ fn invariant_parts(
     names: Spellings<'_>,
     functions: Functions<'_>,
 ) -> Result<Parts, ReadEnd>
-    ensures { Gives parts_of result (spec.invariant_parts (spelled_of names.entry.invariant) (spelled_of names.entry.before) (spelled_of names.entry.step) (spelled_of names.entry.after) (called_of functions.entry.invariant) (called_of functions.entry.before) (called_of functions.entry.step) (called_of functions.entry.after)) }
+    ensures { ReadingGives parts_of result (spec.invariant_parts (spelled_of names.entry.invariant) (spelled_of names.entry.before) (spelled_of names.entry.step) (spelled_of names.entry.after) (called_of functions.entry.invariant) (called_of functions.entry.before) (called_of functions.entry.step) (called_of functions.entry.after)) }
 {
     let state = functions.invariant.takes;
     let invariant = as_invariant(names.invariant, functions.invariant)?;
@@ -201,7 +201,7 @@ impl<T: Theory> Context<T> {
         place: Place,
         names: Spellings<'_>,
     ) -> Result<(), ReadEnd>
-        ensures step { Gives (λ _. context_of T.denotes self.new) result (spec.constrain_invariant (context_of T.denotes self.old) place (spelled_of names.entry.invariant) (spelled_of names.entry.before) (spelled_of names.entry.step) (spelled_of names.entry.after)) }
+        ensures step { ReadingGives (λ _. context_of T.denotes self.new) result (spec.constrain_invariant (context_of T.denotes self.old) place (spelled_of names.entry.invariant) (spelled_of names.entry.before) (spelled_of names.entry.step) (spelled_of names.entry.after)) }
         ensures logic { OnOk result (self.new.logic ≡ self.old.logic) }
     {
         let functions = Functions {

@@ -2,7 +2,7 @@
 ghost use Rattle.std.specs.Prelude.{◌≡◌, OnOk, Some};
 ghost use Rattle.sy_text.specs.Views.{item_of};
 ghost use Rattle.sy_terms.specs.Logics.{IsTheoryOf, Serves};
-ghost use Rattle.sy_forms_items.specs.Readings.{Gives};
+ghost use Rattle.sy_forms_items.specs.Readings.{ReadingGives};
 ghost use Rattle.sy_scope_commands.specs.Asked.{spelled_of};
 ghost use Rattle.sy_scope_context.specs.Calls.{asked_of};
 ghost use Rattle.sy_scope_context.specs.Seen.{context_of};
@@ -20,7 +20,7 @@ use sy_text::{Place, Sexp};
 
 /// `set-feature`: grammars alone can be switched on; else `Feature` at the keyword.
 pub fn check_feature(feature: Spelled<'_>, on: bool) -> Result<(), ReadEnd>
-    ensures { Gives (λ _. tt) result (spec.feature_set (spelled_of feature.entry) on) }
+    ensures { ReadingGives (λ _. tt) result (spec.feature_set (spelled_of feature.entry) on) }
 {
     if on && !is(feature.name.as_slice(), b"grammars") {
         Err(ReadEnd::Refused(feature.place, Cause::Feature))
@@ -40,7 +40,7 @@ pub struct Asked<'a> {
 /// What the item asks for as a command. `Shape` comes at it where it isn't a list that begins with a symbol, then
 /// `CommandNotInProfile` at the symbol, and then `Shape` at the item where its parts aren't those of the command.
 pub fn read_request(item: &Sexp) -> Result<Asked<'_>, ReadEnd>
-    ensures { Gives asked_of result (spec.asked (item_of item.now)) }
+    ensures { ReadingGives asked_of result (spec.command_asked (item_of item.now)) }
 {
     let Sexp::List(items, place) = item else {
         return Err(ReadEnd::Refused(place_of(item), Cause::Shape));
@@ -73,7 +73,7 @@ impl<T: Theory> Context<T> {
         requires serves { Serves T.numeric self.old.logic }
         requires theory { IsTheoryOf self.old.logic T.owned T.numeric }
         requires fit { GoalsFit T.owned T.numeric (context_of T.denotes self.old) }
-        ensures step { Gives (λ _. context_of T.denotes self.new) result (spec.perform (context_of T.denotes self.old) (Some self.old.logic) (asked_of asked.entry)) }
+        ensures step { ReadingGives (λ _. context_of T.denotes self.new) result (spec.perform (context_of T.denotes self.old) (Some self.old.logic) (asked_of asked.entry)) }
         ensures logic { OnOk result (self.new.logic ≡ self.old.logic) }
     {
         match asked.request {
@@ -113,7 +113,7 @@ impl<T: Theory> Context<T> {
         requires serves { Serves T.numeric self.old.logic }
         requires theory { IsTheoryOf self.old.logic T.owned T.numeric }
         requires fit { GoalsFit T.owned T.numeric (context_of T.denotes self.old) }
-        ensures step { Gives (λ _. context_of T.denotes self.new) result (spec.step (context_of T.denotes self.old) (item_of item.now)) }
+        ensures step { ReadingGives (λ _. context_of T.denotes self.new) result (spec.step (context_of T.denotes self.old) (item_of item.now)) }
         ensures logic { OnOk result (self.new.logic ≡ self.old.logic) }
     {
         let asked = read_request(item)?;

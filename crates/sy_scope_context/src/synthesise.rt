@@ -3,8 +3,8 @@ ghost use Rattle.std.specs.Prelude.{◌≡◌, None, OnOk, IfOk};
 ghost use Rattle.std.specs.Option.{option_map};
 ghost use Rattle.sy_text.specs.Views.{item_of};
 ghost use Rattle.sy_terms.specs.Denoted.{vals_of};
-ghost use Rattle.sy_forms_names.specs.Environments.{entry};
-ghost use Rattle.sy_forms_items.specs.Readings.{Gives};
+ghost use Rattle.sy_forms_names.specs.Environments.{entry_under};
+ghost use Rattle.sy_forms_items.specs.Readings.{ReadingGives};
 ghost use Rattle.sy_terms.specs.Logics.{Serves};
 ghost use Rattle.sy_scope_commands.specs.Asked.{spelled_of, rulebook_of};
 ghost use Rattle.sy_scope_steps.specs.Contexts as contexts;
@@ -34,7 +34,7 @@ impl<T: Theory> Context<T> {
         rules: Option<Rulebook<'_>>,
     ) -> Result<Ruled<T>, ReadEnd>
         requires { Serves T.numeric self.now.logic }
-        ensures { Gives (ruled_of T.denotes self.now.logic arguments.now sort) result (spec.read_grammar (context_of T.denotes self.now) self.now.logic arguments.now sort (option_map rulebook_of rules.entry)) }
+        ensures { ReadingGives (ruled_of T.denotes self.now.logic arguments.now sort) result (spec.read_grammar (context_of T.denotes self.now) self.now.logic arguments.now sort (option_map rulebook_of rules.entry)) }
     {
         let Some(book) = rules else {
             return Ok(Ruled {
@@ -56,8 +56,8 @@ impl<T: Theory> Context<T> {
 
     /// Tests a new name of a function to be found: `TooMany` also comes where there are four already.
     fn new_sought(&self, name: Spelled<'_>) -> Result<(), ReadEnd>
-        ensures name { Gives (λ _. name.entry.name.now) result (contexts.new_sought (context_of T.denotes self.now) self.now.logic name.entry.place name.entry.name.now) }
-        ensures free { IfOk result (λ _. entry name.entry.name.now self.now.names.entities ≡ None) }
+        ensures name { ReadingGives (λ _. name.entry.name.now) result (contexts.new_sought (context_of T.denotes self.now) self.now.logic name.entry.place name.entry.name.now) }
+        ensures free { IfOk result (λ _. entry_under name.entry.name.now self.now.names.entities ≡ None) }
     {
         let bytes = name.name.as_slice();
         new_name(&self.names, self.fresh, self.logic, name.place, bytes)?;
@@ -75,7 +75,7 @@ impl<T: Theory> Context<T> {
         sought: Sought<T>,
         values: Values<T>,
     ) -> Result<(), Want>
-        requires { entry sought.name self.old.names.entities ≡ None }
+        requires { entry_under sought.name self.old.names.entities ≡ None }
         ensures step { OnOk result (context_of T.denotes self.new ≡ spec.with_sought (context_of T.denotes self.old) (sought_of T.denotes self.old.logic sought) (vals_of T.denotes values)) }
         ensures logic { OnOk result (self.new.logic ≡ self.old.logic) }
     {
@@ -92,7 +92,7 @@ impl<T: Theory> Context<T> {
 
     /// The sort that is written, or that of an invariant.
     fn value_sort(&self, sort: Option<&Sexp>) -> Result<Sort, ReadEnd>
-        ensures { Gives (λ found. found) result (spec.value_sort (context_of T.denotes self.now) self.now.logic (option_map (λ item. item_of item.now) sort.entry)) }
+        ensures { ReadingGives (λ found. found) result (spec.value_sort (context_of T.denotes self.now) self.now.logic (option_map (λ item. item_of item.now) sort.entry)) }
     {
         let Some(item) = sort else {
             return Ok(Sort::Bool);
@@ -111,7 +111,7 @@ impl<T: Theory> Context<T> {
         rules: Option<Rulebook<'_>>,
     ) -> Result<(), ReadEnd>
         requires { Serves T.numeric self.old.logic }
-        ensures step { Gives (λ _. context_of T.denotes self.new) result (spec.synthesise (context_of T.denotes self.old) self.old.logic (spelled_of name.entry) arguments.now (option_map (λ item. item_of item.now) sort.entry) (option_map rulebook_of rules.entry)) }
+        ensures step { ReadingGives (λ _. context_of T.denotes self.new) result (spec.synthesise (context_of T.denotes self.old) self.old.logic (spelled_of name.entry) arguments.now (option_map (λ item. item_of item.now) sort.entry) (option_map rulebook_of rules.entry)) }
         ensures logic { OnOk result (self.new.logic ≡ self.old.logic) }
     {
         self.new_sought(name)?;

@@ -23,7 +23,7 @@ use Rattle.sy_inv.specs.Conditions.{starts, keeps, ends}
 use Rattle.sy_forms_names.specs.declared.names.Entity.{Entity}
 use Rattle.sy_forms_names.specs.declared.names.Entity.TheVariants as entity
 use Rattle.sy_forms_names.specs.declared.names.Role.TheVariants as role
-use Rattle.sy_forms_names.specs.Environments.{entry}
+use Rattle.sy_forms_names.specs.Environments.{entry_under}
 use Rattle.sy_forms_phrases.specs.Phrases.{Phrase}
 use Rattle.sy_scope_commands.specs.Requests.{Spelled}
 use Rattle.sy_forms_laws.specs.Fitting.{phrase_sort}
@@ -35,9 +35,9 @@ use Rattle.sy_forms_laws.proofs.Sorts.{entry_has}
 use Rattle.sy_forms_laws.proofs.Terms.{whole_fits}
 use Rattle.sy_forms_laws.proofs.Whole.{term_fits}
 use Rattle.sy_scope_steps.specs.Contexts as contexts
-use Rattle.sy_scope_steps.specs.Contexts.{Context, Sought, Condition, Expanded, question_at, goal_of, has_room}
-use Rattle.sy_scope_steps.specs.Steps.{environment, read_in, constrain, assume, Called, function_of, function_named, invariant_number, definition_number, as_invariant, as_condition, Parts, with_invariant, invariant_parts, constrain_invariant, with_question, check_synth}
-use Rattle.sy_scope_laws.specs.Sound.{defined_in, wanted_in, signature_of_sought, setting_with, IsDeclared, ConditionFits, IsSound}
+use Rattle.sy_scope_steps.specs.Contexts.{Context, Sought, Condition, Expanded, question_at, goal_sought, has_room}
+use Rattle.sy_scope_steps.specs.Steps.{environment, read_in, constrain, assume, Called, called_function, function_named, invariant_number, called_definition, as_invariant, as_condition, Parts, with_invariant, invariant_parts, constrain_invariant, with_question, check_synth}
+use Rattle.sy_scope_laws.specs.Sound.{defined_in, signatures_wanted, signature_of_sought, setting_with, IsDeclared, ConditionFits, ContextIsSound}
 use Rattle.sy_scope_laws.proofs.Conditions.{AreFrom, IsInvariant, starts_fits, keeps_fits, ends_fits}
 use Rattle.sy_scope_laws.proofs.Declaring.{declared_all}
 use Rattle.sy_scope_laws.proofs.Extending.{extends_itself, extends_last, condition_wider, phrase_wider, list_all-append}
@@ -49,8 +49,8 @@ written_condition : (owned : Op → Bool) (defined wanted : List Signature) (var
 written_condition owned defined wanted variables it e ld lw lv d w v =
     term_fits (setting_with owned ld lw lv) it sorts.Bool refl (phrase_wider owned defined wanted variables ld lw lv d w v it sorts.Bool e)
 
-constraint_more : (logic : Logic) (context : Context) (conditions : List Condition) (pool : _) → IsSound logic context → All (ConditionFits (operators_of logic) (defined_in context.definitions) (wanted_in context.sought) context.variables) conditions
-    → IsSound logic (record context { constraints = context.constraints ++ conditions; pool = pool })
+constraint_more : (logic : Logic) (context : Context) (conditions : List Condition) (pool : _) → ContextIsSound logic context → All (ConditionFits (operators_of logic) (defined_in context.definitions) (signatures_wanted context.sought) context.variables) conditions
+    → ContextIsSound logic (record context { constraints = context.constraints ++ conditions; pool = pool })
 constraint_more logic context conditions pool sound fit = record {
   set = sound.set;
   abbreviations = sound.abbreviations;
@@ -60,22 +60,22 @@ constraint_more logic context conditions pool sound fit = record {
   definitions = sound.definitions;
   sought = sound.sought;
   assumptions = sound.assumptions;
-  constraints = All-append (ConditionFits (operators_of logic) (defined_in context.definitions) (wanted_in context.sought) context.variables) context.constraints conditions sound.constraints fit;
+  constraints = All-append (ConditionFits (operators_of logic) (defined_in context.definitions) (signatures_wanted context.sought) context.variables) context.constraints conditions sound.constraints fit;
   questions = sound.questions;
 }
 
-pub constrain_sound : (logic : Logic) (context : Context) (term : Item) → IsSound logic context → IfOk (constrain context logic term) (IsSound logic)
+pub constrain_sound : (logic : Logic) (context : Context) (term : Item) → ContextIsSound logic context → IfOk (constrain context logic term) (ContextIsSound logic)
 constrain_sound logic context term sound =
     let owned = operators_of logic in
     let defined = defined_in context.definitions in
-    let wanted = wanted_in context.sought in
-    chained (λ p. phrase_sort (setting_with owned defined wanted context.variables) [] p ≡ Some sorts.Bool) (IsSound logic) (read_in context logic role.Constraint [] sorts.Bool term) _
+    let wanted = signatures_wanted context.sought in
+    chained (λ p. phrase_sort (setting_with owned defined wanted context.variables) [] p ≡ Some sorts.Bool) (ContextIsSound logic) (read_in context logic role.Constraint [] sorts.Bool term) _
     (whole_fits (number_sorts logic) (setting_with owned defined wanted context.variables) (environment context logic role.Constraint []) (constraint_right logic context sound) context.measures sorts.Bool term) (λ p is fit.
     constraint_more logic context (contexts.Written p ∷ []) _ sound
     (All-cons (ConditionFits owned defined wanted context.variables) (contexts.Written p) [] (written_condition owned defined wanted context.variables p fit) (All-nil (ConditionFits owned defined wanted context.variables))))
 
-assumption_more : (logic : Logic) (context : Context) (p : Phrase) (pool : _) → IsSound logic context → phrase_sort (setting_with (operators_of logic) (defined_in context.definitions) [] context.variables) [] p ≡ Some sorts.Bool
-    → IsSound logic (record context { assumptions = context.assumptions ++ p ∷ []; pool = pool })
+assumption_more : (logic : Logic) (context : Context) (p : Phrase) (pool : _) → ContextIsSound logic context → phrase_sort (setting_with (operators_of logic) (defined_in context.definitions) [] context.variables) [] p ≡ Some sorts.Bool
+    → ContextIsSound logic (record context { assumptions = context.assumptions ++ p ∷ []; pool = pool })
 assumption_more logic context p pool sound fit = record {
   set = sound.set;
   abbreviations = sound.abbreviations;
@@ -89,11 +89,11 @@ assumption_more logic context p pool sound fit = record {
   questions = sound.questions;
 }
 
-pub assume_sound : (logic : Logic) (context : Context) (term : Item) → IsSound logic context → IfOk (assume context logic term) (IsSound logic)
+pub assume_sound : (logic : Logic) (context : Context) (term : Item) → ContextIsSound logic context → IfOk (assume context logic term) (ContextIsSound logic)
 assume_sound logic context term sound =
     let owned = operators_of logic in
     let defined = defined_in context.definitions in
-    chained (λ p. phrase_sort (setting_with owned defined [] context.variables) [] p ≡ Some sorts.Bool) (IsSound logic) (read_in context logic role.Assumption [] sorts.Bool term) _
+    chained (λ p. phrase_sort (setting_with owned defined [] context.variables) [] p ≡ Some sorts.Bool) (ContextIsSound logic) (read_in context logic role.Assumption [] sorts.Bool term) _
     (whole_fits (number_sorts logic) (setting_with owned defined [] context.variables) (environment context logic role.Assumption []) (assumption_right logic context sound) context.measures sorts.Bool term) (λ p is fit.
     assumption_more logic context p _ sound fit)
 
@@ -103,7 +103,7 @@ assume_sound logic context term sound =
 abbrev IsFunction : List Signature → List Signature → Called → Type 0
 IsFunction defined wanted f = signature_of (with_functions (λ operator. true) defined wanted) f.function ≡ Some (record { takes = f.takes; gives = f.gives })
 
-function_by : (defined wanted : List Signature) (variables : List Sort) (found : Option Entity) (f : Called) → ((it : Entity) → found ≡ Some it → IsDeclared defined wanted variables it) → function_of found ≡ Some f → IsFunction defined wanted f
+function_by : (defined wanted : List Signature) (variables : List Sort) (found : Option Entity) (f : Called) → ((it : Entity) → found ≡ Some it → IsDeclared defined wanted variables it) → called_function found ≡ Some f → IsFunction defined wanted f
 function_by defined wanted variables None f declared e = absurd cc
 function_by defined wanted variables (Some (entity.Variable position sort)) f declared e = absurd cc
 function_by defined wanted variables (Some (entity.Function function takes gives)) f declared e =
@@ -111,11 +111,11 @@ function_by defined wanted variables (Some (entity.Function function takes gives
     let same : it ≡ f = cc in
     subst (IsFunction defined wanted) same (declared (entity.Function function takes gives) refl)
 
-function_declared : (logic : Logic) (context : Context) → IsSound logic context → (name : Spelled) → IfOk (function_named context name) (IsFunction (defined_in context.definitions) (wanted_in context.sought))
+function_declared : (logic : Logic) (context : Context) → ContextIsSound logic context → (name : Spelled) → IfOk (function_named context name) (IsFunction (defined_in context.definitions) (signatures_wanted context.sought))
 function_declared logic context sound name =
-    where_found (IsFunction (defined_in context.definitions) (wanted_in context.sought)) name.place cause.UnknownName (function_of (entry name.name context.entities)) (λ f e.
-    function_by (defined_in context.definitions) (wanted_in context.sought) context.variables (entry name.name context.entities) f
-    (λ it g. entry_has (IsDeclared (defined_in context.definitions) (wanted_in context.sought) context.variables) name.name context.entities it sound.entities g) e)
+    where_found (IsFunction (defined_in context.definitions) (signatures_wanted context.sought)) name.place cause.UnknownName (called_function (entry_under name.name context.entities)) (λ f e.
+    function_by (defined_in context.definitions) (signatures_wanted context.sought) context.variables (entry_under name.name context.entities) f
+    (λ it g. entry_has (IsDeclared (defined_in context.definitions) (signatures_wanted context.sought) context.variables) name.name context.entities it sound.entities g) e)
 
 -- its number, where it is to be found, and where it is a definition
 wanted_number : (defined wanted : List Signature) (function : Fun) (takes : List Sort) (n : ℕ) → signature_of (with_functions (λ operator. true) defined wanted) function ≡ Some (record { takes = takes; gives = sorts.Bool }) → invariant_number function ≡ Some n
@@ -123,7 +123,7 @@ wanted_number : (defined wanted : List Signature) (function : Fun) (takes : List
 wanted_number defined wanted (Wanted m) takes n there e = let same : m ≡ n = cc in subst (λ k. slice_get wanted k ≡ Some (record { takes = takes; gives = sorts.Bool })) same there
 wanted_number defined wanted (Defined m) takes n there e = absurd cc
 
-defined_number : (defined wanted : List Signature) (function : Fun) (takes : List Sort) (n : ℕ) → signature_of (with_functions (λ operator. true) defined wanted) function ≡ Some (record { takes = takes; gives = sorts.Bool }) → definition_number function ≡ Some n
+defined_number : (defined wanted : List Signature) (function : Fun) (takes : List Sort) (n : ℕ) → signature_of (with_functions (λ operator. true) defined wanted) function ≡ Some (record { takes = takes; gives = sorts.Bool }) → called_definition function ≡ Some n
     → slice_get defined n ≡ Some (record { takes = takes; gives = sorts.Bool })
 defined_number defined wanted (Defined m) takes n there e = let same : m ≡ n = cc in subst (λ k. slice_get defined k ≡ Some (record { takes = takes; gives = sorts.Bool })) same there
 defined_number defined wanted (Wanted m) takes n there e = absurd cc
@@ -138,7 +138,7 @@ condition_there : (defined wanted : List Signature) (name : Spelled) (takes : Li
 condition_there defined wanted name takes f there =
     unless_refused (λ n. slice_get defined n ≡ Some (record { takes = takes; gives = sorts.Bool })) (same_sort f.gives sorts.Bool && same_sorts f.takes takes) name.place cause.InvShape _ (λ e.
     let both = both_true (same_sort f.gives sorts.Bool) (same_sorts f.takes takes) e in
-    where_found (λ n. slice_get defined n ≡ Some (record { takes = takes; gives = sorts.Bool })) name.place cause.InvShape (definition_number f.function) (λ n g.
+    where_found (λ n. slice_get defined n ≡ Some (record { takes = takes; gives = sorts.Bool })) name.place cause.InvShape (called_definition f.function) (λ n g.
     defined_number defined wanted f.function takes n
     (there ∙ ap (λ s. Some (record { takes = f.takes; gives = s })) (same_sort_is f.gives sorts.Bool both.0) ∙ ap (λ ss. Some (record { takes = ss; gives = sorts.Bool })) (same_sorts_is f.takes takes both.1)) g))
 
@@ -169,9 +169,9 @@ mapped P f (x ∷ xs) (suc n) y all e = mapped P f xs n y (All-tail P x xs all) 
 formed_arguments : (numeric : Sort → Bool) (scope : Scope) (syntax : _) → is_formed numeric scope syntax ≡ true → list_all (is_known numeric) syntax.arguments ≡ true
 formed_arguments numeric scope syntax e = (both_true (list_all (is_known numeric) syntax.arguments) _ (both_true _ _ e).1).0
 
-state_known : (logic : Logic) (context : Context) → IsSound logic context → (n : ℕ) (state : List Sort) → slice_get (wanted_in context.sought) n ≡ Some (record { takes = state; gives = sorts.Bool }) → list_all (is_known (number_sorts logic)) state ≡ true
+state_known : (logic : Logic) (context : Context) → ContextIsSound logic context → (n : ℕ) (state : List Sort) → slice_get (signatures_wanted context.sought) n ≡ Some (record { takes = state; gives = sorts.Bool }) → list_all (is_known (number_sorts logic)) state ≡ true
 state_known logic context sound n state there =
-    let it = mapped (λ (f : Sought). GoalFits (operators_of logic) (number_sorts logic) (defined_in context.definitions) (goal_of f)) signature_of_sought context.sought n (record { takes = state; gives = sorts.Bool }) sound.sought there in
+    let it = mapped (λ (f : Sought). GoalFits (operators_of logic) (number_sorts logic) (defined_in context.definitions) (goal_sought f)) signature_of_sought context.sought n (record { takes = state; gives = sorts.Bool }) sound.sought there in
     let known = formed_arguments (number_sorts logic) (with_functions (operators_of logic) (defined_in context.definitions) []) it.0.grammar it.1.formed in
     ap (list_all (is_known (number_sorts logic))) (sym (it.1.arguments ∙ ap (λ (s : Signature). s.takes) it.2)) ∙ known
 
@@ -205,12 +205,12 @@ conditions_fit owned defined wanted variables state parts is =
     (λ ld lw lv d w v. keeps_fits (with_functions owned ld lw) lv state parts first (later_invariant owned defined wanted ld lw state parts d w is) (fresh_from variables (state ++ state) lv v))
     (λ ld lw lv d w v. ends_fits (with_functions owned ld lw) lv state parts first (later_invariant owned defined wanted ld lw state parts d w is) (fresh_from variables (state ++ state) lv v))
 
-invariant_sound : (logic : Logic) (context : Context) (state : List Sort) (parts : Parts) → IsSound logic context → IsInvariant (with_functions (operators_of logic) (defined_in context.definitions) (wanted_in context.sought)) state parts
-    → IsSound logic (with_invariant context state parts)
+invariant_sound : (logic : Logic) (context : Context) (state : List Sort) (parts : Parts) → ContextIsSound logic context → IsInvariant (with_functions (operators_of logic) (defined_in context.definitions) (signatures_wanted context.sought)) state parts
+    → ContextIsSound logic (with_invariant context state parts)
 invariant_sound logic context state parts sound is =
     let owned = operators_of logic in
     let defined = defined_in context.definitions in
-    let wanted = wanted_in context.sought in
+    let wanted = signatures_wanted context.sought in
     let variables = context.variables ++ (state ++ state) in
     let d = extends_itself defined in
     let w = extends_itself wanted in
@@ -233,23 +233,23 @@ invariant_sound logic context state parts sound is =
       questions = sound.questions;
     }
 
-pub invariants_sound : (logic : Logic) (context : Context) (place : Place) (invariant before step after : Spelled) → IsSound logic context → IfOk (constrain_invariant context place invariant before step after) (IsSound logic)
+pub invariants_sound : (logic : Logic) (context : Context) (place : Place) (invariant before step after : Spelled) → ContextIsSound logic context → IfOk (constrain_invariant context place invariant before step after) (ContextIsSound logic)
 invariants_sound logic context place invariant before step after sound =
     let defined = defined_in context.definitions in
-    let wanted = wanted_in context.sought in
+    let wanted = signatures_wanted context.sought in
     let P = IsFunction defined wanted in
-    chained P (IsSound logic) (function_named context invariant) _ (function_declared logic context sound invariant) (λ i i_read i_is.
-    chained P (IsSound logic) (function_named context before) _ (function_declared logic context sound before) (λ p p_read p_is.
-    chained P (IsSound logic) (function_named context step) _ (function_declared logic context sound step) (λ t t_read t_is.
-    chained P (IsSound logic) (function_named context after) _ (function_declared logic context sound after) (λ q q_read q_is.
-    chained (IsInvariant (with_functions (operators_of logic) defined wanted) i.takes) (IsSound logic) (invariant_parts invariant before step after i p t q) _
+    chained P (ContextIsSound logic) (function_named context invariant) _ (function_declared logic context sound invariant) (λ i i_read i_is.
+    chained P (ContextIsSound logic) (function_named context before) _ (function_declared logic context sound before) (λ p p_read p_is.
+    chained P (ContextIsSound logic) (function_named context step) _ (function_declared logic context sound step) (λ t t_read t_is.
+    chained P (ContextIsSound logic) (function_named context after) _ (function_declared logic context sound after) (λ q q_read q_is.
+    chained (IsInvariant (with_functions (operators_of logic) defined wanted) i.takes) (ContextIsSound logic) (invariant_parts invariant before step after i p t q) _
     (parts_there logic defined wanted invariant before step after i p t q i_is p_is t_is q_is) (λ parts parts_read parts_are.
-    unless_refused (IsSound logic) (has_room context (2 * length i.takes)) place cause.TooMany (Ok (with_invariant context i.takes parts)) (λ e.
+    unless_refused (ContextIsSound logic) (has_room context (2 * length i.takes)) place cause.TooMany (Ok (with_invariant context i.takes parts)) (λ e.
     invariant_sound logic context i.takes parts sound parts_are))))))
 
 -- Questions
 
-question_more : (logic : Logic) (context : Context) → IsSound logic context → IsSound logic (record context { questions = context.questions ++ question_at context ∷ [] })
+question_more : (logic : Logic) (context : Context) → ContextIsSound logic context → ContextIsSound logic (record context { questions = context.questions ++ question_at context ∷ [] })
 question_more logic context sound = record {
   set = sound.set;
   abbreviations = sound.abbreviations;
@@ -263,6 +263,6 @@ question_more logic context sound = record {
   questions = All-push (QuestionFits (operators_of logic) (number_sorts logic)) context.questions (question_at context) sound.questions (question_fits logic context sound);
 }
 
-pub check_sound : (logic : Logic) (context : Context) (at : Place) → IsSound logic context → IfOk (check_synth context at) (IsSound logic)
+pub check_sound : (logic : Logic) (context : Context) (at : Place) → ContextIsSound logic context → IfOk (check_synth context at) (ContextIsSound logic)
 check_sound logic context at sound =
-    unless_refused (IsSound logic) (nat_lt (length context.questions) 16) at cause.TooMany (Ok (with_question context)) (λ e. question_more logic context sound)
+    unless_refused (ContextIsSound logic) (nat_lt (length context.questions) 16) at cause.TooMany (Ok (with_question context)) (λ e. question_more logic context sound)

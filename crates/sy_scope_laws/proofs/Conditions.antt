@@ -16,7 +16,7 @@ use Rattle.sy_terms.specs.declared.term.Fun.TheVariants.{Defined, Wanted}
 use Rattle.sy_grammar_base.proofs.Sorting.{same_sort_self}
 use Rattle.sy_forms_laws.proofs.Exprs.{front_at, back_at}
 use Rattle.sy_scope_steps.specs.Steps.{Parts}
-use Rattle.sy_inv.specs.Conditions.{variables, call, binary, starts, keeps, ends}
+use Rattle.sy_inv.specs.Conditions.{variables_at, call, binary, starts, keeps, ends}
 
 -- these sorts stand in a row from a position on
 abbrev pub AreFrom : List Sort → ℕ → List Sort → Type 0
@@ -29,7 +29,7 @@ next_from values first s found are i t e =
 first_from : (values : List Sort) (first : ℕ) (s : Sort) (found : List Sort) → AreFrom values first (s ∷ found) → slice_get values first ≡ Some s
 first_from values first s found are = subst (λ p. slice_get values p ≡ Some s) (omega arith) (are 0 s refl)
 
-variables_fit : (scope : Scope) (values : List Sort) (first : ℕ) (found : List Sort) → AreFrom values first found → sorts_in scope values (variables (range_with_len first (length found))) ≡ Some found
+variables_fit : (scope : Scope) (values : List Sort) (first : ℕ) (found : List Sort) → AreFrom values first found → sorts_in scope values (variables_at (range_with_len first (length found))) ≡ Some found
 unfolding sort_in sorts_in
 variables_fit scope values first [] are = refl
 variables_fit scope values first (s ∷ found) are =

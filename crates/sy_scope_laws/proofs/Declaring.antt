@@ -15,21 +15,21 @@ use Rattle.sy_terms.specs.Logics.{number_sorts, operators_of}
 use Rattle.sy_forms_names.specs.declared.names.Entity.{Entity}
 use Rattle.sy_forms_names.specs.declared.names.Entity.TheVariants as entity
 use Rattle.sy_forms_names.specs.declared.names.Role.TheVariants as role
-use Rattle.sy_forms_names.specs.Environments.{entry}
+use Rattle.sy_forms_names.specs.Environments.{entry_under}
 use Rattle.sy_forms_names.specs.Operators.{is_reserved}
 use Rattle.sy_forms_phrases.specs.Phrases.{Phrase}
 use Rattle.sy_forms_names.specs.Sorts.{read_sort}
 use Rattle.sy_scope_commands.specs.Requests.{Spelled}
-use Rattle.sy_scope_rules.specs.Lists.{sorts_of, read_named}
+use Rattle.sy_scope_rules.specs.Lists.{sorts_of_names, read_named}
 use Rattle.sy_forms_laws.specs.Fitting.{phrase_sort}
 use Rattle.sy_grammar_base.specs.Fits.{GoalFits}
 use Rattle.sy_forms_laws.specs.Right.{Extends}
 use Rattle.sy_forms_laws.proofs.Readings.{chained, unless_refused, where_not_refused, any_read}
 use Rattle.sy_forms_laws.proofs.Sorts.{Known, sort_known}
 use Rattle.sy_forms_laws.proofs.Terms.{whole_fits}
-use Rattle.sy_scope_steps.specs.Contexts.{Context, Definition, Sought, new_name, new_sought, new_sort_name, has_room, goal_of}
+use Rattle.sy_scope_steps.specs.Contexts.{Context, Definition, Sought, new_name, new_sought, new_sort_name, has_room, goal_sought}
 use Rattle.sy_scope_steps.specs.Steps.{with_variable, declare_variable, define_sort, read_in, with_definition, define, with_sought, environment}
-use Rattle.sy_scope_laws.specs.Sound.{defined_in, wanted_in, setting_with, IsDeclared, ConditionFits, IsSound}
+use Rattle.sy_scope_laws.specs.Sound.{defined_in, signatures_wanted, setting_with, IsDeclared, ConditionFits, ContextIsSound}
 use Rattle.sy_scope_laws.proofs.Extending.{extends_itself, extends_last, last_at, extends_defined, extends_wanted, defined_at, wanted_at, declared_wider, condition_wider, goal_wider, phrase_wider, fit_after-last, list_all-append}
 use Rattle.sy_scope_laws.proofs.Rightly.{body_right}
 
@@ -43,12 +43,12 @@ either_false true b e = absurd cc
 
 new_name_free : (context : Context) (logic : Logic) (at : Place) (name : List ℕ) → IfOk (new_name context logic at name) (IsFree logic)
 new_name_free context logic at name =
-    where_not_refused (IsFree logic) (is_reserved logic name || is_some (entry name context.entities)) at cause.NameTaken _ (λ e.
+    where_not_refused (IsFree logic) (is_reserved logic name || is_some (entry_under name context.entities)) at cause.NameTaken _ (λ e.
     unless_refused (IsFree logic) (has_room context 1) at cause.TooMany (Ok name) (λ f. either_false _ _ e))
 
 pub new_sought_free : (context : Context) (logic : Logic) (at : Place) (name : List ℕ) → IfOk (new_sought context logic at name) (IsFree logic)
 new_sought_free context logic at name =
-    where_not_refused (IsFree logic) (is_reserved logic name || is_some (entry name context.entities)) at cause.NameTaken _ (λ e.
+    where_not_refused (IsFree logic) (is_reserved logic name || is_some (entry_under name context.entities)) at cause.NameTaken _ (λ e.
     unless_refused (IsFree logic) (has_room context 1) at cause.TooMany _ (λ f.
     unless_refused (IsFree logic) (nat_lt (length context.sought) 4) at cause.TooMany (Ok name) (λ g. either_false _ _ e)))
 
@@ -62,11 +62,11 @@ declared_all defined wanted variables ld lw lv d w v entities all =
     All-weaker (λ (x : List ℕ × Entity). IsDeclared defined wanted variables x.1) (λ (x : List ℕ × Entity). IsDeclared ld lw lv x.1) (λ x e. declared_wider defined wanted variables ld lw lv d w v x.1 e) entities all
 
 -- a variable more
-variable_sound : (logic : Logic) (context : Context) (name : List ℕ) (sort : Sort) → IsSound logic context → IsFree logic name → Known (number_sorts logic) sort → IsSound logic (with_variable context name sort)
+variable_sound : (logic : Logic) (context : Context) (name : List ℕ) (sort : Sort) → ContextIsSound logic context → IsFree logic name → Known (number_sorts logic) sort → ContextIsSound logic (with_variable context name sort)
 variable_sound logic context name sort sound free known =
     let owned = operators_of logic in
     let defined = defined_in context.definitions in
-    let wanted = wanted_in context.sought in
+    let wanted = signatures_wanted context.sought in
     let variables = context.variables ++ sort ∷ [] in
     let d = extends_itself defined in
     let w = extends_itself wanted in
@@ -88,14 +88,14 @@ variable_sound logic context name sort sound free known =
       questions = sound.questions;
     }
 
-pub declare_sound : (logic : Logic) (context : Context) (name : Spelled) (sort : Item) → IsSound logic context → IfOk (declare_variable context logic name sort) (IsSound logic)
+pub declare_sound : (logic : Logic) (context : Context) (name : Spelled) (sort : Item) → ContextIsSound logic context → IfOk (declare_variable context logic name sort) (ContextIsSound logic)
 declare_sound logic context name sort sound =
-    chained (IsFree logic) (IsSound logic) (new_name context logic name.place name.name) _ (new_name_free context logic name.place name.name) (λ new is free.
-    chained (Known (number_sorts logic)) (IsSound logic) (read_sort logic context.sorts sort) _ (sort_known (operators_of logic) (number_sorts logic) logic context.sorts sort (record { operators = λ operator. refl; sorts = λ s. refl }) sound.abbreviations) (λ found found_is known.
+    chained (IsFree logic) (ContextIsSound logic) (new_name context logic name.place name.name) _ (new_name_free context logic name.place name.name) (λ new is free.
+    chained (Known (number_sorts logic)) (ContextIsSound logic) (read_sort logic context.sorts sort) _ (sort_known (operators_of logic) (number_sorts logic) logic context.sorts sort (record { operators = λ operator. refl; sorts = λ s. refl }) sound.abbreviations) (λ found found_is known.
     variable_sound logic context new found sound free known))
 
 -- an abbreviation more
-abbreviation_sound : (logic : Logic) (context : Context) (name : List ℕ) (sort : Sort) → IsSound logic context → Known (number_sorts logic) sort → IsSound logic (record context { sorts = context.sorts ++ (name, sort) ∷ [] })
+abbreviation_sound : (logic : Logic) (context : Context) (name : List ℕ) (sort : Sort) → ContextIsSound logic context → Known (number_sorts logic) sort → ContextIsSound logic (record context { sorts = context.sorts ++ (name, sort) ∷ [] })
 abbreviation_sound logic context name sort sound known =
     let x : List ℕ × Sort = (name, sort) in
     record {
@@ -111,25 +111,25 @@ abbreviation_sound logic context name sort sound known =
       questions = sound.questions;
     }
 
-pub define_sort_sound : (logic : Logic) (context : Context) (name : Spelled) (sort : Item) → IsSound logic context → IfOk (define_sort context logic name sort) (IsSound logic)
+pub define_sort_sound : (logic : Logic) (context : Context) (name : Spelled) (sort : Item) → ContextIsSound logic context → IfOk (define_sort context logic name sort) (ContextIsSound logic)
 define_sort_sound logic context name sort sound =
-    chained (λ x. ⊤) (IsSound logic) (new_sort_name context logic name.place name.name) _ (any_read (new_sort_name context logic name.place name.name)) (λ new is any.
-    chained (Known (number_sorts logic)) (IsSound logic) (read_sort logic context.sorts sort) _ (sort_known (operators_of logic) (number_sorts logic) logic context.sorts sort (record { operators = λ operator. refl; sorts = λ s. refl }) sound.abbreviations) (λ found found_is known.
+    chained (λ x. ⊤) (ContextIsSound logic) (new_sort_name context logic name.place name.name) _ (any_read (new_sort_name context logic name.place name.name)) (λ new is any.
+    chained (Known (number_sorts logic)) (ContextIsSound logic) (read_sort logic context.sorts sort) _ (sort_known (operators_of logic) (number_sorts logic) logic context.sorts sort (record { operators = λ operator. refl; sorts = λ s. refl }) sound.abbreviations) (λ found found_is known.
     abbreviation_sound logic context new found sound known))
 
 -- a definition more
-definition_sound : (logic : Logic) (context : Context) (d : Definition) → IsSound logic context → IsFree logic d.name → phrase_sort (setting_with (operators_of logic) (defined_in context.definitions) [] (sorts_of d.arguments)) [] d.body ≡ Some d.sort
-    → IsSound logic (with_definition context d)
+definition_sound : (logic : Logic) (context : Context) (d : Definition) → ContextIsSound logic context → IsFree logic d.name → phrase_sort (setting_with (operators_of logic) (defined_in context.definitions) [] (sorts_of_names d.arguments)) [] d.body ≡ Some d.sort
+    → ContextIsSound logic (with_definition context d)
 definition_sound logic context d sound free fit =
     let owned = operators_of logic in
     let numeric = number_sorts logic in
     let defined = defined_in context.definitions in
-    let wanted = wanted_in context.sought in
+    let wanted = signatures_wanted context.sought in
     let later = defined_in (context.definitions ++ d ∷ []) in
     let more = extends_defined context.definitions d in
     let w = extends_itself wanted in
     let v = extends_itself context.variables in
-    let x : List ℕ × Entity = (d.name, entity.Function (funs.Defined (length context.definitions)) (sorts_of d.arguments) d.sort) in
+    let x : List ℕ × Entity = (d.name, entity.Function (funs.Defined (length context.definitions)) (sorts_of_names d.arguments) d.sort) in
     record {
       set = sound.set;
       abbreviations = sound.abbreviations;
@@ -138,7 +138,7 @@ definition_sound logic context d sound free fit =
           (declared_all defined wanted context.variables later wanted context.variables more w v context.entities sound.entities) (defined_at context.definitions d);
       variables = sound.variables;
       definitions = fit_after-last owned [] context.definitions d sound.definitions fit;
-      sought = All-weaker (λ (f : Sought). GoalFits owned numeric defined (goal_of f)) (λ (f : Sought). GoalFits owned numeric later (goal_of f)) (λ f fits. goal_wider owned numeric defined later more (goal_of f) fits) context.sought sound.sought;
+      sought = All-weaker (λ (f : Sought). GoalFits owned numeric defined (goal_sought f)) (λ (f : Sought). GoalFits owned numeric later (goal_sought f)) (λ f fits. goal_wider owned numeric defined later more (goal_sought f) fits) context.sought sound.sought;
       assumptions = All-weaker (λ (p : Phrase). phrase_sort (setting_with owned defined [] context.variables) [] p ≡ Some sorts.Bool) _
           (λ p e. phrase_wider owned defined [] context.variables later [] context.variables more (extends_itself []) v p sorts.Bool e) context.assumptions sound.assumptions;
       constraints = All-weaker (ConditionFits owned defined wanted context.variables) (ConditionFits owned later wanted context.variables)
@@ -146,28 +146,28 @@ definition_sound logic context d sound free fit =
       questions = sound.questions;
     }
 
-pub define_sound : (logic : Logic) (context : Context) (name : Spelled) (arguments : Items) (sort body : Item) → IsSound logic context → IfOk (define context logic name arguments sort body) (IsSound logic)
+pub define_sound : (logic : Logic) (context : Context) (name : Spelled) (arguments : Items) (sort body : Item) → ContextIsSound logic context → IfOk (define context logic name arguments sort body) (ContextIsSound logic)
 define_sound logic context name arguments sort body sound =
-    chained (IsFree logic) (IsSound logic) (new_name context logic name.place name.name) _ (new_name_free context logic name.place name.name) (λ new is free.
-    chained (λ x. ⊤) (IsSound logic) (read_named context.sorts logic [] [] arguments) _ (any_read (read_named context.sorts logic [] [] arguments)) (λ named named_is any.
-    chained (λ x. ⊤) (IsSound logic) (read_sort logic context.sorts sort) _ (any_read (read_sort logic context.sorts sort)) (λ found found_is known.
-    chained (λ p. phrase_sort (setting_with (operators_of logic) (defined_in context.definitions) [] (sorts_of named)) [] p ≡ Some found) (IsSound logic) (read_in context logic role.Body named found body) _
-    (whole_fits (number_sorts logic) (setting_with (operators_of logic) (defined_in context.definitions) [] (sorts_of named)) (environment context logic role.Body named) (body_right logic context sound named) context.measures found body) (λ p p_is fit.
+    chained (IsFree logic) (ContextIsSound logic) (new_name context logic name.place name.name) _ (new_name_free context logic name.place name.name) (λ new is free.
+    chained (λ x. ⊤) (ContextIsSound logic) (read_named context.sorts logic [] [] arguments) _ (any_read (read_named context.sorts logic [] [] arguments)) (λ named named_is any.
+    chained (λ x. ⊤) (ContextIsSound logic) (read_sort logic context.sorts sort) _ (any_read (read_sort logic context.sorts sort)) (λ found found_is known.
+    chained (λ p. phrase_sort (setting_with (operators_of logic) (defined_in context.definitions) [] (sorts_of_names named)) [] p ≡ Some found) (ContextIsSound logic) (read_in context logic role.Body named found body) _
+    (whole_fits (number_sorts logic) (setting_with (operators_of logic) (defined_in context.definitions) [] (sorts_of_names named)) (environment context logic role.Body named) (body_right logic context sound named) context.measures found body) (λ p p_is fit.
     definition_sound logic context (record { name = new; arguments = named; sort = found; body = p }) sound free fit))))
 
 -- a function to be found more
-pub sought_sound : (logic : Logic) (context : Context) (f : Sought) (values : List Val) → IsSound logic context → IsFree logic f.name → GoalFits (operators_of logic) (number_sorts logic) (defined_in context.definitions) (goal_of f)
-    → IsSound logic (with_sought context f values)
+pub sought_sound : (logic : Logic) (context : Context) (f : Sought) (values : List Val) → ContextIsSound logic context → IsFree logic f.name → GoalFits (operators_of logic) (number_sorts logic) (defined_in context.definitions) (goal_sought f)
+    → ContextIsSound logic (with_sought context f values)
 sought_sound logic context f values sound free fit =
     let owned = operators_of logic in
     let numeric = number_sorts logic in
     let defined = defined_in context.definitions in
-    let wanted = wanted_in context.sought in
-    let later = wanted_in (context.sought ++ f ∷ []) in
+    let wanted = signatures_wanted context.sought in
+    let later = signatures_wanted (context.sought ++ f ∷ []) in
     let more = extends_wanted context.sought f in
     let d = extends_itself defined in
     let v = extends_itself context.variables in
-    let x : List ℕ × Entity = (f.name, entity.Function (funs.Wanted (length context.sought)) (sorts_of f.arguments) f.sort) in
+    let x : List ℕ × Entity = (f.name, entity.Function (funs.Wanted (length context.sought)) (sorts_of_names f.arguments) f.sort) in
     record {
       set = sound.set;
       abbreviations = sound.abbreviations;
@@ -176,7 +176,7 @@ sought_sound logic context f values sound free fit =
           (declared_all defined wanted context.variables defined later context.variables d more v context.entities sound.entities) (wanted_at context.sought f);
       variables = sound.variables;
       definitions = sound.definitions;
-      sought = All-push (λ (g : Sought). GoalFits owned numeric defined (goal_of g)) context.sought f sound.sought fit;
+      sought = All-push (λ (g : Sought). GoalFits owned numeric defined (goal_sought g)) context.sought f sound.sought fit;
       assumptions = sound.assumptions;
       constraints = All-weaker (ConditionFits owned defined wanted context.variables) (ConditionFits owned defined later context.variables)
           (λ c fits. condition_wider owned defined wanted context.variables defined later context.variables d more v c fits) context.constraints sound.constraints;

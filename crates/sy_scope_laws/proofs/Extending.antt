@@ -11,16 +11,16 @@ use Rattle.sy_forms_names.specs.declared.names.Entity.TheVariants as entity
 use Rattle.sy_terms_laws.proofs.Equations.{both_true}
 use Rattle.sy_forms_laws.specs.Fitting.{phrase_sort}
 use Rattle.sy_grammar_base.specs.Fits.{GoalFits}
-use Rattle.sy_forms_laws.specs.Right.{Extends, Widens}
+use Rattle.sy_forms_laws.specs.Right.{Extends, SettingWidens}
 use Rattle.sy_forms_laws.proofs.Exprs.{front_at}
 use Rattle.sy_forms_laws.proofs.Growing.{formed_wider}
 use Rattle.sy_forms_laws.proofs.Widening.{fits_wider}
 use Rattle.sy_forms_phrases.specs.Phrases.{Phrase}
 use Rattle.sy_grammar_base.specs.Questions.{Goal}
-use Rattle.sy_scope_rules.specs.Lists.{sorts_of}
+use Rattle.sy_scope_rules.specs.Lists.{sorts_of_names}
 use Rattle.sy_scope_steps.specs.Contexts as contexts
 use Rattle.sy_scope_steps.specs.Contexts.{Definition, Sought}
-use Rattle.sy_scope_laws.specs.Sound.{defined_in, signature_of_sought, wanted_in, setting_with, IsDeclared, FitAfter, ConditionFits}
+use Rattle.sy_scope_laws.specs.Sound.{defined_in, signature_of_sought, signatures_wanted, setting_with, IsDeclared, BodiesFitAfter, ConditionFits}
 
 pub extends_itself : {A : Type 0} (xs : List A) → Extends xs xs
 extends_itself xs place x e = e
@@ -33,30 +33,30 @@ last_at [] x = refl
 last_at (y ∷ xs) x = last_at xs x
 
 -- the signatures with one definition or function more
-pub defined_last : (definitions : List Definition) (d : Definition) → defined_in (definitions ++ d ∷ []) ≡ defined_in definitions ++ contexts.signature_of d ∷ []
+pub defined_last : (definitions : List Definition) (d : Definition) → defined_in (definitions ++ d ∷ []) ≡ defined_in definitions ++ contexts.definition_signature d ∷ []
 defined_last [] d = refl
-defined_last (e ∷ definitions) d = ap (λ (all : List Signature). contexts.signature_of e ∷ all) (defined_last definitions d)
+defined_last (e ∷ definitions) d = ap (λ (all : List Signature). contexts.definition_signature e ∷ all) (defined_last definitions d)
 
-pub wanted_last : (sought : List Sought) (f : Sought) → wanted_in (sought ++ f ∷ []) ≡ wanted_in sought ++ signature_of_sought f ∷ []
+pub wanted_last : (sought : List Sought) (f : Sought) → signatures_wanted (sought ++ f ∷ []) ≡ signatures_wanted sought ++ signature_of_sought f ∷ []
 wanted_last [] f = refl
 wanted_last (g ∷ sought) f = ap (λ (all : List Signature). signature_of_sought g ∷ all) (wanted_last sought f)
 
 pub extends_defined : (definitions : List Definition) (d : Definition) → Extends (defined_in definitions) (defined_in (definitions ++ d ∷ []))
-extends_defined definitions d = subst (Extends (defined_in definitions)) (sym (defined_last definitions d)) (extends_last (defined_in definitions) (contexts.signature_of d ∷ []))
+extends_defined definitions d = subst (Extends (defined_in definitions)) (sym (defined_last definitions d)) (extends_last (defined_in definitions) (contexts.definition_signature d ∷ []))
 
-pub extends_wanted : (sought : List Sought) (f : Sought) → Extends (wanted_in sought) (wanted_in (sought ++ f ∷ []))
-extends_wanted sought f = subst (Extends (wanted_in sought)) (sym (wanted_last sought f)) (extends_last (wanted_in sought) _)
+pub extends_wanted : (sought : List Sought) (f : Sought) → Extends (signatures_wanted sought) (signatures_wanted (sought ++ f ∷ []))
+extends_wanted sought f = subst (Extends (signatures_wanted sought)) (sym (wanted_last sought f)) (extends_last (signatures_wanted sought) _)
 
 pub count_of : {A B : Type 0} (f : A → B) (xs : List A) → length (map f xs) ≡ length xs
 count_of f [] = refl
 count_of f (x ∷ xs) = ap suc (count_of f xs)
 
 -- the new one stands at its number
-pub defined_at : (definitions : List Definition) (d : Definition) → slice_get (defined_in (definitions ++ d ∷ [])) (length definitions) ≡ Some (contexts.signature_of d)
+pub defined_at : (definitions : List Definition) (d : Definition) → slice_get (defined_in (definitions ++ d ∷ [])) (length definitions) ≡ Some (contexts.definition_signature d)
 defined_at [] d = refl
 defined_at (e ∷ definitions) d = defined_at definitions d
 
-pub wanted_at : (sought : List Sought) (f : Sought) → slice_get (wanted_in (sought ++ f ∷ [])) (length sought) ≡ Some (signature_of_sought f)
+pub wanted_at : (sought : List Sought) (f : Sought) → slice_get (signatures_wanted (sought ++ f ∷ [])) (length sought) ≡ Some (signature_of_sought f)
 wanted_at [] f = refl
 wanted_at (g ∷ sought) f = wanted_at sought f
 
@@ -68,7 +68,7 @@ declared_wider defined wanted variables ld lw lv d w v (entity.Function (Defined
 declared_wider defined wanted variables ld lw lv d w v (entity.Function (Wanted f) takes gives) e = w f (record { takes = takes; gives = gives }) e
 
 pub setting_wider : (owned : Op → Bool) (defined wanted : List Signature) (values : List Sort) (later_defined later_wanted : List Signature) (later_values : List Sort) → Extends defined later_defined → Extends wanted later_wanted → Extends values later_values
-    → Widens (setting_with owned defined wanted values) (setting_with owned later_defined later_wanted later_values)
+    → SettingWidens (setting_with owned defined wanted values) (setting_with owned later_defined later_wanted later_values)
 setting_wider owned defined wanted values ld lw lv d w v = record {
   operators = λ operator e. e;
   defined = d;
@@ -92,17 +92,17 @@ goal_wider owned numeric defined later more goal fit = record {
 }
 
 -- one definition more
-pub fit_after-last : (owned : Op → Bool) (earlier : List Signature) (definitions : List Definition) (d : Definition) → FitAfter owned earlier definitions
-    → phrase_sort (setting_with owned (earlier ++ defined_in definitions) [] (sorts_of d.arguments)) [] d.body ≡ Some d.sort → FitAfter owned earlier (definitions ++ d ∷ [])
-fit_after-last owned earlier [] d fit e = (subst (λ all. phrase_sort (setting_with owned all [] (sorts_of d.arguments)) [] d.body ≡ Some d.sort) (append_none earlier) e, tt)
+pub fit_after-last : (owned : Op → Bool) (earlier : List Signature) (definitions : List Definition) (d : Definition) → BodiesFitAfter owned earlier definitions
+    → phrase_sort (setting_with owned (earlier ++ defined_in definitions) [] (sorts_of_names d.arguments)) [] d.body ≡ Some d.sort → BodiesFitAfter owned earlier (definitions ++ d ∷ [])
+fit_after-last owned earlier [] d fit e = (subst (λ all. phrase_sort (setting_with owned all [] (sorts_of_names d.arguments)) [] d.body ≡ Some d.sort) (append_none earlier) e, tt)
   where
     append_none : (all : List Signature) → all ++ [] ≡ all
     append_none [] = refl
     append_none (x ∷ all) = ap (λ (rest : List Signature). x ∷ rest) (append_none all)
 fit_after-last owned earlier (first ∷ definitions) d fit e = (
   fit.0,
-  fit_after-last owned (earlier ++ contexts.signature_of first ∷ []) definitions d fit.1
-      (subst (λ all. phrase_sort (setting_with owned all [] (sorts_of d.arguments)) [] d.body ≡ Some d.sort) (sym (append_assoc earlier (contexts.signature_of first ∷ []) (defined_in definitions))) e),
+  fit_after-last owned (earlier ++ contexts.definition_signature first ∷ []) definitions d fit.1
+      (subst (λ all. phrase_sort (setting_with owned all [] (sorts_of_names d.arguments)) [] d.body ≡ Some d.sort) (sym (append_assoc earlier (contexts.definition_signature first ∷ []) (defined_in definitions))) e),
 )
 
 pub list_all-append : (p : Sort → Bool) (xs ys : List Sort) → list_all p xs ≡ true → list_all p ys ≡ true → list_all p (xs ++ ys) ≡ true

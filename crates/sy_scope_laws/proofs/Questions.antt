@@ -14,38 +14,38 @@ use Rattle.sy_forms_names.specs.declared.names.Named.{Named}
 use Rattle.sy_forms_laws.specs.Fitting.{phrase_sort}
 use Rattle.sy_grammar_base.specs.Fits.{with_functions, FitInTurn, GoalFits, QuestionFits}
 use Rattle.sy_forms_laws.proofs.Whole.{term_fits}
-use Rattle.sy_scope_rules.specs.Lists.{sorts_of}
+use Rattle.sy_scope_rules.specs.Lists.{sorts_of_names}
 use Rattle.sy_scope_steps.specs.Contexts as contexts
-use Rattle.sy_scope_steps.specs.Contexts.{Context, Definition, Sought, Condition, condition_at, goal_of, question_at}
-use Rattle.sy_scope_laws.specs.Sound.{defined_in, signature_of_sought, wanted_in, setting_with, FitAfter, ConditionFits, IsSound}
+use Rattle.sy_scope_steps.specs.Contexts.{Context, Definition, Sought, Condition, condition_at, goal_sought, question_at}
+use Rattle.sy_scope_laws.specs.Sound.{defined_in, signature_of_sought, signatures_wanted, setting_with, BodiesFitAfter, ConditionFits, ContextIsSound}
 use Rattle.sy_scope_laws.proofs.Extending.{extends_itself, count_of}
 
-body_fits : (owned : Op → Bool) (defined : List Signature) (arguments : List Named) (it : Phrase) (sort : Sort) → phrase_sort (setting_with owned defined [] (sorts_of arguments)) [] it ≡ Some sort
-    → sort_in (with_functions owned defined []) (sorts_of arguments) (expr_at (length arguments) it) ≡ Some sort
+body_fits : (owned : Op → Bool) (defined : List Signature) (arguments : List Named) (it : Phrase) (sort : Sort) → phrase_sort (setting_with owned defined [] (sorts_of_names arguments)) [] it ≡ Some sort
+    → sort_in (with_functions owned defined []) (sorts_of_names arguments) (expr_at (length arguments) it) ≡ Some sort
 body_fits owned defined arguments it sort e =
-    subst (λ n. sort_in (with_functions owned defined []) (sorts_of arguments) (expr_at n it) ≡ Some sort) (count_of (λ (x : Named). x.sort) arguments) (term_fits (setting_with owned defined [] (sorts_of arguments)) it sort refl e)
+    subst (λ n. sort_in (with_functions owned defined []) (sorts_of_names arguments) (expr_at n it) ≡ Some sort) (count_of (λ (x : Named). x.sort) arguments) (term_fits (setting_with owned defined [] (sorts_of_names arguments)) it sort refl e)
 
-definitions_fit : (owned : Op → Bool) (earlier : List Signature) (definitions : List Definition) → FitAfter owned earlier definitions
-    → FitInTurn owned earlier (map contexts.signature_of definitions) (map contexts.body_of definitions)
+definitions_fit : (owned : Op → Bool) (earlier : List Signature) (definitions : List Definition) → BodiesFitAfter owned earlier definitions
+    → FitInTurn owned earlier (map contexts.definition_signature definitions) (map contexts.body_of definitions)
 definitions_fit owned earlier [] fit = tt
-definitions_fit owned earlier (d ∷ definitions) fit = (body_fits owned earlier d.arguments d.body d.sort fit.0, definitions_fit owned (earlier ++ contexts.signature_of d ∷ []) definitions fit.1)
+definitions_fit owned earlier (d ∷ definitions) fit = (body_fits owned earlier d.arguments d.body d.sort fit.0, definitions_fit owned (earlier ++ contexts.definition_signature d ∷ []) definitions fit.1)
 
-wanted_goals : (sought : List Sought) → wanted_in sought ≡ map (λ (g : Goal). g.signature) (map goal_of sought)
+wanted_goals : (sought : List Sought) → signatures_wanted sought ≡ map (λ (g : Goal). g.signature) (map goal_sought sought)
 wanted_goals [] = refl
 wanted_goals (f ∷ sought) = ap (λ (all : List Signature). signature_of_sought f ∷ all) (wanted_goals sought)
 
-pub question_fits : (logic : Logic) (context : Context) → IsSound logic context → QuestionFits (operators_of logic) (number_sorts logic) (question_at context)
+pub question_fits : (logic : Logic) (context : Context) → ContextIsSound logic context → QuestionFits (operators_of logic) (number_sorts logic) (question_at context)
 question_fits logic context sound =
     let owned = operators_of logic in
     let defined = defined_in context.definitions in
     record {
       definitions = definitions_fit owned [] context.definitions sound.definitions;
       variables = sound.variables;
-      goals = All-map (GoalFits owned (number_sorts logic) defined) goal_of context.sought sound.sought;
+      goals = All-map (GoalFits owned (number_sorts logic) defined) goal_sought context.sought sound.sought;
       assumptions = All-map (λ term. sort_in (with_functions owned defined []) context.variables term ≡ Some sorts.Bool) (expr_at (length context.variables)) context.assumptions
           (All-weaker (λ (p : Phrase). phrase_sort (setting_with owned defined [] context.variables) [] p ≡ Some sorts.Bool) _ (λ p e. term_fits (setting_with owned defined [] context.variables) p sorts.Bool refl e) context.assumptions sound.assumptions);
-      constraints = All-map (λ term. sort_in (with_functions owned defined (map (λ (g : Goal). g.signature) (map goal_of context.sought))) context.variables term ≡ Some sorts.Bool) (condition_at (length context.variables)) context.constraints
-          (All-weaker (ConditionFits owned defined (wanted_in context.sought) context.variables) _
+      constraints = All-map (λ term. sort_in (with_functions owned defined (map (λ (g : Goal). g.signature) (map goal_sought context.sought))) context.variables term ≡ Some sorts.Bool) (condition_at (length context.variables)) context.constraints
+          (All-weaker (ConditionFits owned defined (signatures_wanted context.sought) context.variables) _
           (λ c fit. subst (λ wanted. sort_in (with_functions owned defined wanted) context.variables (condition_at (length context.variables) c) ≡ Some sorts.Bool) (wanted_goals context.sought)
-          (fit defined (wanted_in context.sought) context.variables (extends_itself defined) (extends_itself (wanted_in context.sought)) (extends_itself context.variables))) context.constraints sound.constraints);
+          (fit defined (signatures_wanted context.sought) context.variables (extends_itself defined) (extends_itself (signatures_wanted context.sought)) (extends_itself context.variables))) context.constraints sound.constraints);
     }

@@ -12,72 +12,72 @@ use Rattle.sy_forms_names.specs.declared.names.Entity.TheVariants as entity
 use Rattle.sy_forms_names.specs.declared.names.Named.{Named}
 use Rattle.sy_forms_names.specs.declared.names.Role.TheVariants as role
 use Rattle.sy_forms_names.specs.Environments as env
-use Rattle.sy_forms_names.specs.Environments.{Sense, entry, or_else, place_among, sense_as, declared_in, sense_of}
-use Rattle.sy_forms_laws.specs.Right.{IsThere, IsRight}
+use Rattle.sy_forms_names.specs.Environments.{Sense, entry_under, or_else, place_among, sense_as, declared_in, sense_of}
+use Rattle.sy_forms_laws.specs.Right.{SenseIsThere, EnvironmentIsRight}
 use Rattle.sy_forms_laws.proofs.Names.{place_among_at}
 use Rattle.sy_forms_laws.proofs.Sorts.{entry_has}
-use Rattle.sy_scope_rules.specs.Lists.{sorts_of}
+use Rattle.sy_scope_rules.specs.Lists.{sorts_of_names}
 use Rattle.sy_scope_steps.specs.Contexts.{Context}
 use Rattle.sy_scope_steps.specs.Steps.{environment}
-use Rattle.sy_scope_laws.specs.Sound.{defined_in, wanted_in, setting_with, IsDeclared, IsSound}
+use Rattle.sy_scope_laws.specs.Sound.{defined_in, signatures_wanted, setting_with, IsDeclared, ContextIsSound}
 
 -- what a declared name stands for in a constraint
 in_constraint : (owned : Op → Bool) (defined wanted : List Signature) (variables : List Sort) (found : Option Entity) (sense : Sense) → ((it : Entity) → found ≡ Some it → IsDeclared defined wanted variables it)
-    → declared_in role.Constraint found ≡ Some sense → IsThere (setting_with owned defined wanted variables) [] sense
+    → declared_in role.Constraint found ≡ Some sense → SenseIsThere (setting_with owned defined wanted variables) [] sense
 in_constraint owned defined wanted variables None sense declared e = absurd cc
-in_constraint owned defined wanted variables (Some (entity.Variable position sort)) sense declared e = let same : env.Variable position sort ≡ sense = cc in subst (IsThere (setting_with owned defined wanted variables) []) same (declared (entity.Variable position sort) refl)
-in_constraint owned defined wanted variables (Some (entity.Function (Defined f) takes gives)) sense declared e = let same : env.Function (Defined f) takes gives ≡ sense = cc in subst (IsThere (setting_with owned defined wanted variables) []) same (declared (entity.Function (Defined f) takes gives) refl)
-in_constraint owned defined wanted variables (Some (entity.Function (Wanted f) takes gives)) sense declared e = let same : env.Function (Wanted f) takes gives ≡ sense = cc in subst (IsThere (setting_with owned defined wanted variables) []) same (declared (entity.Function (Wanted f) takes gives) refl)
+in_constraint owned defined wanted variables (Some (entity.Variable position sort)) sense declared e = let same : env.Variable position sort ≡ sense = cc in subst (SenseIsThere (setting_with owned defined wanted variables) []) same (declared (entity.Variable position sort) refl)
+in_constraint owned defined wanted variables (Some (entity.Function (Defined f) takes gives)) sense declared e = let same : env.Function (Defined f) takes gives ≡ sense = cc in subst (SenseIsThere (setting_with owned defined wanted variables) []) same (declared (entity.Function (Defined f) takes gives) refl)
+in_constraint owned defined wanted variables (Some (entity.Function (Wanted f) takes gives)) sense declared e = let same : env.Function (Wanted f) takes gives ≡ sense = cc in subst (SenseIsThere (setting_with owned defined wanted variables) []) same (declared (entity.Function (Wanted f) takes gives) refl)
 
 -- in an assumption, where no function to be found may be called
 in_assumption : (owned : Op → Bool) (defined wanted : List Signature) (variables : List Sort) (found : Option Entity) (sense : Sense) → ((it : Entity) → found ≡ Some it → IsDeclared defined wanted variables it)
-    → declared_in role.Assumption found ≡ Some sense → IsThere (setting_with owned defined [] variables) [] sense
+    → declared_in role.Assumption found ≡ Some sense → SenseIsThere (setting_with owned defined [] variables) [] sense
 in_assumption owned defined wanted variables None sense declared e = absurd cc
-in_assumption owned defined wanted variables (Some (entity.Variable position sort)) sense declared e = let same : env.Variable position sort ≡ sense = cc in subst (IsThere (setting_with owned defined [] variables) []) same (declared (entity.Variable position sort) refl)
-in_assumption owned defined wanted variables (Some (entity.Function (Defined f) takes gives)) sense declared e = let same : env.Function (Defined f) takes gives ≡ sense = cc in subst (IsThere (setting_with owned defined [] variables) []) same (declared (entity.Function (Defined f) takes gives) refl)
-in_assumption owned defined wanted variables (Some (entity.Function (Wanted f) takes gives)) sense declared e = let same : env.Withheld ≡ sense = cc in subst (IsThere (setting_with owned defined [] variables) []) same tt
+in_assumption owned defined wanted variables (Some (entity.Variable position sort)) sense declared e = let same : env.Variable position sort ≡ sense = cc in subst (SenseIsThere (setting_with owned defined [] variables) []) same (declared (entity.Variable position sort) refl)
+in_assumption owned defined wanted variables (Some (entity.Function (Defined f) takes gives)) sense declared e = let same : env.Function (Defined f) takes gives ≡ sense = cc in subst (SenseIsThere (setting_with owned defined [] variables) []) same (declared (entity.Function (Defined f) takes gives) refl)
+in_assumption owned defined wanted variables (Some (entity.Function (Wanted f) takes gives)) sense declared e = let same : env.Withheld ≡ sense = cc in subst (SenseIsThere (setting_with owned defined [] variables) []) same tt
 
 -- in a body, over arguments alone
 in_body : (owned : Op → Bool) (defined wanted : List Signature) (variables arguments : List Sort) (found : Option Entity) (sense : Sense) → ((it : Entity) → found ≡ Some it → IsDeclared defined wanted variables it)
-    → declared_in role.Body found ≡ Some sense → IsThere (setting_with owned defined [] arguments) [] sense
+    → declared_in role.Body found ≡ Some sense → SenseIsThere (setting_with owned defined [] arguments) [] sense
 in_body owned defined wanted variables arguments None sense declared e = absurd cc
 in_body owned defined wanted variables arguments (Some (entity.Variable position sort)) sense declared e = absurd cc
-in_body owned defined wanted variables arguments (Some (entity.Function (Defined f) takes gives)) sense declared e = let same : env.Function (Defined f) takes gives ≡ sense = cc in subst (IsThere (setting_with owned defined [] arguments) []) same (declared (entity.Function (Defined f) takes gives) refl)
-in_body owned defined wanted variables arguments (Some (entity.Function (Wanted f) takes gives)) sense declared e = let same : env.Withheld ≡ sense = cc in subst (IsThere (setting_with owned defined [] arguments) []) same tt
+in_body owned defined wanted variables arguments (Some (entity.Function (Defined f) takes gives)) sense declared e = let same : env.Function (Defined f) takes gives ≡ sense = cc in subst (SenseIsThere (setting_with owned defined [] arguments) []) same (declared (entity.Function (Defined f) takes gives) refl)
+in_body owned defined wanted variables arguments (Some (entity.Function (Wanted f) takes gives)) sense declared e = let same : env.Withheld ≡ sense = cc in subst (SenseIsThere (setting_with owned defined [] arguments) []) same tt
 
 -- an argument, or else what is declared
-argument_or : (owned : Op → Bool) (defined : List Signature) (arguments : List Named) (place : Option (ℕ × Sort)) (outer : Option Sense) (sense : Sense) → ((x : ℕ × Sort) → place ≡ Some x → slice_get (sorts_of arguments) x.0 ≡ Some x.1)
-    → (outer ≡ Some sense → IsThere (setting_with owned defined [] (sorts_of arguments)) [] sense) → or_else (sense_as env.Argument place) outer ≡ Some sense → IsThere (setting_with owned defined [] (sorts_of arguments)) [] sense
+argument_or : (owned : Op → Bool) (defined : List Signature) (arguments : List Named) (place : Option (ℕ × Sort)) (outer : Option Sense) (sense : Sense) → ((x : ℕ × Sort) → place ≡ Some x → slice_get (sorts_of_names arguments) x.0 ≡ Some x.1)
+    → (outer ≡ Some sense → SenseIsThere (setting_with owned defined [] (sorts_of_names arguments)) [] sense) → or_else (sense_as env.Argument place) outer ≡ Some sense → SenseIsThere (setting_with owned defined [] (sorts_of_names arguments)) [] sense
 argument_or owned defined arguments None outer sense inside outside e = outside e
-argument_or owned defined arguments (Some x) outer sense inside outside e = let same : env.Argument x.0 x.1 ≡ sense = cc in subst (IsThere (setting_with owned defined [] (sorts_of arguments)) []) same (inside x refl)
+argument_or owned defined arguments (Some x) outer sense inside outside e = let same : env.Argument x.0 x.1 ≡ sense = cc in subst (SenseIsThere (setting_with owned defined [] (sorts_of_names arguments)) []) same (inside x refl)
 
-declared_of : (logic : Logic) (context : Context) → IsSound logic context → (name : List ℕ) (it : Entity) → entry name context.entities ≡ Some it → IsDeclared (defined_in context.definitions) (wanted_in context.sought) context.variables it
-declared_of logic context sound name it e = entry_has (IsDeclared (defined_in context.definitions) (wanted_in context.sought) context.variables) name context.entities it sound.entities e
+declared_of : (logic : Logic) (context : Context) → ContextIsSound logic context → (name : List ℕ) (it : Entity) → entry_under name context.entities ≡ Some it → IsDeclared (defined_in context.definitions) (signatures_wanted context.sought) context.variables it
+declared_of logic context sound name it e = entry_has (IsDeclared (defined_in context.definitions) (signatures_wanted context.sought) context.variables) name context.entities it sound.entities e
 
-pub constraint_right : (logic : Logic) (context : Context) → IsSound logic context → IsRight (number_sorts logic) (setting_with (operators_of logic) (defined_in context.definitions) (wanted_in context.sought) context.variables) (environment context logic role.Constraint [])
+pub constraint_right : (logic : Logic) (context : Context) → ContextIsSound logic context → EnvironmentIsRight (number_sorts logic) (setting_with (operators_of logic) (defined_in context.definitions) (signatures_wanted context.sought) context.variables) (environment context logic role.Constraint [])
 constraint_right logic context sound = record {
   theory = record { operators = λ operator. refl; sorts = λ sort. refl };
   sorts = sound.abbreviations;
-  names = λ name sense e. in_constraint (operators_of logic) (defined_in context.definitions) (wanted_in context.sought) context.variables (entry name context.entities) sense (declared_of logic context sound name) e;
+  names = λ name sense e. in_constraint (operators_of logic) (defined_in context.definitions) (signatures_wanted context.sought) context.variables (entry_under name context.entities) sense (declared_of logic context sound name) e;
   constants = refl;
   lets = refl;
 }
 
-pub assumption_right : (logic : Logic) (context : Context) → IsSound logic context → IsRight (number_sorts logic) (setting_with (operators_of logic) (defined_in context.definitions) [] context.variables) (environment context logic role.Assumption [])
+pub assumption_right : (logic : Logic) (context : Context) → ContextIsSound logic context → EnvironmentIsRight (number_sorts logic) (setting_with (operators_of logic) (defined_in context.definitions) [] context.variables) (environment context logic role.Assumption [])
 assumption_right logic context sound = record {
   theory = record { operators = λ operator. refl; sorts = λ sort. refl };
   sorts = sound.abbreviations;
-  names = λ name sense e. in_assumption (operators_of logic) (defined_in context.definitions) (wanted_in context.sought) context.variables (entry name context.entities) sense (declared_of logic context sound name) e;
+  names = λ name sense e. in_assumption (operators_of logic) (defined_in context.definitions) (signatures_wanted context.sought) context.variables (entry_under name context.entities) sense (declared_of logic context sound name) e;
   constants = refl;
   lets = refl;
 }
 
-pub body_right : (logic : Logic) (context : Context) → IsSound logic context → (arguments : List Named) → IsRight (number_sorts logic) (setting_with (operators_of logic) (defined_in context.definitions) [] (sorts_of arguments)) (environment context logic role.Body arguments)
+pub body_right : (logic : Logic) (context : Context) → ContextIsSound logic context → (arguments : List Named) → EnvironmentIsRight (number_sorts logic) (setting_with (operators_of logic) (defined_in context.definitions) [] (sorts_of_names arguments)) (environment context logic role.Body arguments)
 body_right logic context sound arguments = record {
   theory = record { operators = λ operator. refl; sorts = λ sort. refl };
   sorts = sound.abbreviations;
-  names = λ name sense e. argument_or (operators_of logic) (defined_in context.definitions) arguments (place_among name arguments) (declared_in role.Body (entry name context.entities)) sense (place_among_at name arguments)
-      (λ f. in_body (operators_of logic) (defined_in context.definitions) (wanted_in context.sought) context.variables (sorts_of arguments) (entry name context.entities) sense (declared_of logic context sound name) f) e;
+  names = λ name sense e. argument_or (operators_of logic) (defined_in context.definitions) arguments (place_among name arguments) (declared_in role.Body (entry_under name context.entities)) sense (place_among_at name arguments)
+      (λ f. in_body (operators_of logic) (defined_in context.definitions) (signatures_wanted context.sought) context.variables (sorts_of_names arguments) (entry_under name context.entities) sense (declared_of logic context sound name) f) e;
   constants = refl;
   lets = refl;
 }

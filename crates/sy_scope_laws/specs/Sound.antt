@@ -15,19 +15,19 @@ use Rattle.sy_terms.specs.Logics.{number_sorts, operators_of}
 use Rattle.sy_forms_laws.specs.Fitting.{Setting, phrase_sort}
 use Rattle.sy_grammar_base.specs.Fits.{with_functions, GoalFits, QuestionFits}
 use Rattle.sy_forms_laws.specs.Right.{Extends}
-use Rattle.sy_scope_rules.specs.Lists.{sorts_of}
+use Rattle.sy_scope_rules.specs.Lists.{sorts_of_names}
 use Rattle.sy_scope_steps.specs.Contexts as contexts
-use Rattle.sy_scope_steps.specs.Contexts.{Context, Definition, Sought, Condition, beginning, condition_at, goal_of}
+use Rattle.sy_scope_steps.specs.Contexts.{Context, Definition, Sought, Condition, beginning, condition_at, goal_sought}
 
 -- the signatures of the definitions and of the functions to be found
 abbrev pub defined_in : List Definition → List Signature
-defined_in definitions = map contexts.signature_of definitions
+defined_in definitions = map contexts.definition_signature definitions
 
 abbrev pub signature_of_sought : Sought → Signature
-signature_of_sought f = record { takes = sorts_of f.arguments; gives = f.sort }
+signature_of_sought f = record { takes = sorts_of_names f.arguments; gives = f.sort }
 
-abbrev pub wanted_in : List Sought → List Signature
-wanted_in sought = map signature_of_sought sought
+abbrev pub signatures_wanted : List Sought → List Signature
+signatures_wanted sought = map signature_of_sought sought
 
 -- what terms may name that use values of these sorts
 abbrev pub setting_with : (Op → Bool) → List Signature → List Signature → List Sort → Setting
@@ -40,10 +40,10 @@ IsDeclared defined wanted variables (entity.Function function takes gives) =
     signature_of (with_functions (λ operator. true) defined wanted) function ≡ Some (record { takes = takes; gives = gives })
 
 -- each body fits under the definitions before it
-abbrev pub FitAfter : (Op → Bool) → List Signature → List Definition → Type 0
-FitAfter owned earlier [] = ⊤
-FitAfter owned earlier (d ∷ definitions) =
-    (phrase_sort (setting_with owned earlier [] (sorts_of d.arguments)) [] d.body ≡ Some d.sort) × FitAfter owned (earlier ++ contexts.signature_of d ∷ []) definitions
+abbrev pub BodiesFitAfter : (Op → Bool) → List Signature → List Definition → Type 0
+BodiesFitAfter owned earlier [] = ⊤
+BodiesFitAfter owned earlier (d ∷ definitions) =
+    (phrase_sort (setting_with owned earlier [] (sorts_of_names d.arguments)) [] d.body ≡ Some d.sort) × BodiesFitAfter owned (earlier ++ contexts.definition_signature d ∷ []) definitions
 
 -- a truth value, also where more is declared
 abbrev pub ConditionFits : (Op → Bool) → List Signature → List Signature → List Sort → Condition → Type 0
@@ -53,22 +53,22 @@ ConditionFits owned defined wanted variables condition =
     sort_in (with_functions owned later_defined later_wanted) later_variables (condition_at (length later_variables) condition) ≡ Some sorts.Bool
 
 -- a context of the logic in which all fits
-pub record IsSound (logic : Logic) (context : Context) : Type 0 where
+pub record ContextIsSound (logic : Logic) (context : Context) : Type 0 where
   pub set : context.logic ≡ Some logic
   pub abbreviations : All (λ (x : List ℕ × Sort). is_known (number_sorts logic) x.1 ≡ true) context.sorts
   pub names : All (λ (x : List ℕ × Entity). is_reserved logic x.0 ≡ false) context.entities
-  pub entities : All (λ (x : List ℕ × Entity). IsDeclared (defined_in context.definitions) (wanted_in context.sought) context.variables x.1) context.entities
+  pub entities : All (λ (x : List ℕ × Entity). IsDeclared (defined_in context.definitions) (signatures_wanted context.sought) context.variables x.1) context.entities
   pub variables : list_all (is_known (number_sorts logic)) context.variables ≡ true
-  pub definitions : FitAfter (operators_of logic) [] context.definitions
-  pub sought : All (λ (f : Sought). GoalFits (operators_of logic) (number_sorts logic) (defined_in context.definitions) (goal_of f)) context.sought
+  pub definitions : BodiesFitAfter (operators_of logic) [] context.definitions
+  pub sought : All (λ (f : Sought). GoalFits (operators_of logic) (number_sorts logic) (defined_in context.definitions) (goal_sought f)) context.sought
   pub assumptions : All (λ (p : Phrase). phrase_sort (setting_with (operators_of logic) (defined_in context.definitions) [] context.variables) [] p ≡ Some sorts.Bool) context.assumptions
-  pub constraints : All (ConditionFits (operators_of logic) (defined_in context.definitions) (wanted_in context.sought) context.variables) context.constraints
+  pub constraints : All (ConditionFits (operators_of logic) (defined_in context.definitions) (signatures_wanted context.sought) context.variables) context.constraints
   pub questions : All (QuestionFits (operators_of logic) (number_sorts logic)) context.questions
 
 -- before a logic is set there is nothing
 abbrev pub SoundBy : Option Logic → Context → Type 0
 SoundBy None context = context ≡ beginning
-SoundBy (Some logic) context = IsSound logic context
+SoundBy (Some logic) context = ContextIsSound logic context
 
 abbrev pub Sound : Context → Type 0
 Sound context = SoundBy context.logic context

@@ -15,7 +15,7 @@ use Rattle.sy_forms_names.specs.Operators.{is_reserved}
 use Rattle.sy_forms_items.specs.Parts.{place_of}
 use Rattle.sy_forms_items.specs.Readings.{◌>>=◌}
 use Rattle.sy_forms_names.specs.Sorts.{read_sort}
-use Rattle.sy_scope_commands.specs.Requests.{Spelled, spelled}
+use Rattle.sy_scope_commands.specs.Requests.{Spelled, symbol_spelled}
 use Rattle.sy_scope_rules.specs.Lists.{free_name, named_by, named_pair, named_item, counted, read_named}
 use Rattle.sy_scope_rules.proofs.Read.{bind_ok, if_ok, unless_ok}
 
@@ -48,7 +48,7 @@ by_read sorts logic taken done place (Some n) sort x e =
 pair_read : (sorts : List (List ℕ × Sort)) (logic : Logic) (taken done : List Named) (place : Place) (parts : Items) (x : Named) → named_pair sorts logic taken done place parts ≡ Ok x → IsNamed sorts logic x
 pair_read sorts logic taken done place none x e = absurd (cc)
 pair_read sorts logic taken done place (more name none) x e = absurd (cc)
-pair_read sorts logic taken done place (more name (more sort none)) x e = by_read sorts logic taken done place (spelled name) sort x e
+pair_read sorts logic taken done place (more name (more sort none)) x e = by_read sorts logic taken done place (symbol_spelled name) sort x e
 pair_read sorts logic taken done place (more name (more sort (more next rest))) x e = absurd (cc)
 
 item_read : (sorts : List (List ℕ × Sort)) (logic : Logic) (taken done : List Named) (item : Item) (x : Named) → named_item sorts logic taken done item ≡ Ok x → IsNamed sorts logic x

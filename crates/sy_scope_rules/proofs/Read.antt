@@ -13,7 +13,7 @@ use Rattle.sy_forms_names.specs.Environments.{Environment}
 use Rattle.sy_forms_items.specs.Parts.{place_of}
 use Rattle.sy_forms_items.specs.Readings.{Reading, refuse, ◌>>=◌}
 use Rattle.sy_forms.specs.Rules.{Ruling, production_at, read_rule}
-use Rattle.sy_scope_rules.specs.Grammars.{Collected, Grouped, Grown, with_rule, read_rules, grouped, is_group_of, opened, with_group, extended, read_grouped, read_group, read_groups}
+use Rattle.sy_scope_rules.specs.Grammars.{Collected, Grouped, GrownGrammar, with_rule, read_rules, grouped, is_group_of, opened, with_group, grammar_extended, read_grouped, read_group, read_groups}
 
 -- what is read first, where all is read
 pub bind_ok : {A B : Type 0} (read : Reading A) (next : A → Reading B) (y : B) → (read >>= next) ≡ Ok y → (x : A) × (read ≡ Ok x) × (next x ≡ Ok y)
@@ -91,38 +91,38 @@ AreGroups env (x ∷ named) (more first rest) (n ∷ ns) = IsGroup env x first n
 AreGroups env _ _ _ = ⊥
 
 -- the nonterminals behind those before them
-pub record Extends (env : Environment) (named : List Named) (items : Items) (before after : Grown) : Type 0 where
+pub record Extends (env : Environment) (named : List Named) (items : Items) (before after : GrownGrammar) : Type 0 where
   pub nonterminals : List Nonterminal
   pub are : AreGroups env named items nonterminals
   pub behind : after.nonterminals ≡ before.nonterminals ++ nonterminals
   pub few : after.count ≤ 1024
 
 -- one nonterminal behind those before it
-pub record ExtendsBy (env : Environment) (named : Named) (item : Item) (before after : Grown) : Type 0 where
+pub record ExtendsBy (env : Environment) (named : Named) (item : Item) (before after : GrownGrammar) : Type 0 where
   pub nonterminal : Nonterminal
   pub is : IsGroup env named item nonterminal
   pub behind : after.nonterminals ≡ before.nonterminals ++ nonterminal ∷ []
   pub few : after.count ≤ 1024
 
-grouped_read : (env : Environment) (named : Named) (item : Item) (parts : Option Grouped) (before after : Grown) → grouped item ≡ parts → before.count ≤ 1024 → read_grouped env named (place_of item) parts before ≡ Ok after → ExtendsBy env named item before after
+grouped_read : (env : Environment) (named : Named) (item : Item) (parts : Option Grouped) (before after : GrownGrammar) → grouped item ≡ parts → before.count ≤ 1024 → read_grouped env named (place_of item) parts before ≡ Ok after → ExtendsBy env named item before after
 grouped_read env named item None before after at few e = absurd (cc)
 grouped_read env named item (Some parts) before after at few e =
-    let own = if_ok (is_group_of env named parts) (place_of item) cause.Predeclared (extended env named.sort parts.rules before) after e in
+    let own = if_ok (is_group_of env named parts) (place_of item) cause.Predeclared (grammar_extended env named.sort parts.rules before) after e in
     let read = bind_ok (read_rules env named.sort (opened before) parts.rules) (λ collected. Ok (with_group before named.sort collected)) after own.1 in
     let added = rules_read env named.sort (opened before) parts.rules read.0 few read.1 in
     let same : with_group before named.sort read.0 ≡ after = cc in
     record {
       nonterminal = record { sort = named.sort; rules = read.0.rules };
       is = record { parts = parts; grouped = at; own = own.0; sort = refl; rules = rw (added.behind) added.are; few = rw (added.behind) (omega (arith, added.count, added.few)) };
-      behind = ap (λ (g : Grown). g.nonterminals) (sym same);
+      behind = ap (λ (g : GrownGrammar). g.nonterminals) (sym same);
       few = rw (sym same) added.few;
     }
 
-pub group_read : (env : Environment) (named : Named) (item : Item) (before after : Grown) → before.count ≤ 1024 → read_group env named item before ≡ Ok after → ExtendsBy env named item before after
+pub group_read : (env : Environment) (named : Named) (item : Item) (before after : GrownGrammar) → before.count ≤ 1024 → read_group env named item before ≡ Ok after → ExtendsBy env named item before after
 unfolding read_group
 group_read env named item before after few e = grouped_read env named item (grouped item) before after refl few e
 
-pub groups_read : (env : Environment) (named : List Named) (items : Items) (before after : Grown) → length (listed items) ≡ length named → before.count ≤ 1024 → read_groups env named items before ≡ Ok after → Extends env named items before after
+pub groups_read : (env : Environment) (named : List Named) (items : Items) (before after : GrownGrammar) → length (listed items) ≡ length named → before.count ≤ 1024 → read_groups env named items before ≡ Ok after → Extends env named items before after
 unfolding read_groups
 groups_read env [] none before after lengths few e =
     let same : before ≡ after = cc in

@@ -8,12 +8,12 @@ use Rattle.sy_terms.specs.declared.sort.Sort.{Sort}
 use Rattle.sy_scope_causes.specs.declared.cause.Cause.TheVariants as cause
 use Rattle.sy_forms_names.specs.declared.names.Named.{Named}
 use Rattle.sy_forms_names.specs.Environments.{Environment}
-use Rattle.sy_forms_items.specs.Parts.{place_of, is_empty}
+use Rattle.sy_forms_items.specs.Parts.{place_of, has_no_items}
 use Rattle.sy_forms_items.specs.Readings.{refuse, ◌>>=◌}
 use Rattle.sy_forms.specs.Rules.{read_rule}
-use Rattle.sy_scope_commands.specs.Requests.{spelled}
+use Rattle.sy_scope_commands.specs.Requests.{symbol_spelled}
 use Rattle.sy_scope_rules.specs.Lists.{read_named, named_item, named_pair, named_by, counted}
-use Rattle.sy_scope_rules.specs.Grammars.{Collected, Grown, nonempty, group_with, grouped_in, with_rule, read_rules, read_groups, read_group}
+use Rattle.sy_scope_rules.specs.Grammars.{Collected, GrownGrammar, nonempty, group_with, grouped_in, with_rule, read_rules, read_groups, read_group}
 
 pub named_none : (sorts : List (List ℕ × Sort)) (logic : Logic) (taken done : List Named) (items : Items) → items ≡ none → read_named sorts logic taken done items ≡ Ok done
 unfolding read_named
@@ -38,37 +38,37 @@ pub rules_more : (env : Environment) (sort : Sort) (collected : Collected) (item
 unfolding read_rules
 rules_more env sort collected items first rest e room = rw (e, room) refl
 
-pub groups_over : (env : Environment) (named : List Named) (items : Items) (grown : Grown) → named ≡ [] → read_groups env named items grown ≡ Ok grown
+pub groups_over : (env : Environment) (named : List Named) (items : Items) (grown : GrownGrammar) → named ≡ [] → read_groups env named items grown ≡ Ok grown
 unfolding read_groups
 groups_over env named items grown e = rw e refl
 
-pub groups_none : (env : Environment) (named : List Named) (items : Items) (grown : Grown) → items ≡ none → read_groups env named items grown ≡ Ok grown
+pub groups_none : (env : Environment) (named : List Named) (items : Items) (grown : GrownGrammar) → items ≡ none → read_groups env named items grown ≡ Ok grown
 unfolding read_groups
 groups_none env [] items grown e = refl
 groups_none env (x ∷ named) items grown e = rw e refl
 
-pub groups_more : (env : Environment) (named : List Named) (x : Named) (others : List Named) (items : Items) (first : Item) (rest : Items) (grown : Grown) → named ≡ x ∷ others → items ≡ more first rest
+pub groups_more : (env : Environment) (named : List Named) (x : Named) (others : List Named) (items : Items) (first : Item) (rest : Items) (grown : GrownGrammar) → named ≡ x ∷ others → items ≡ more first rest
     → read_groups env named items grown ≡ (read_group env x first grown >>= λ longer. read_groups env others rest longer)
 unfolding read_groups
 groups_more env named x others items first rest grown e f = rw (e, f) refl
 
-empty_none : (items : Items) → is_empty items ≡ true → items ≡ none
+empty_none : (items : Items) → has_no_items items ≡ true → items ≡ none
 empty_none none e = refl
 empty_none (more first rest) e = absurd (cc)
 
-pub pair_two : (sorts : List (List ℕ × Sort)) (logic : Logic) (taken done : List Named) (place : Place) (parts : Items) (name : Item) (rest : Items) (sort : Item) (last : Items) → parts ≡ more name rest → rest ≡ more sort last → is_empty last ≡ true
-    → named_pair sorts logic taken done place parts ≡ named_by sorts logic taken done place (spelled name) sort
+pub pair_two : (sorts : List (List ℕ × Sort)) (logic : Logic) (taken done : List Named) (place : Place) (parts : Items) (name : Item) (rest : Items) (sort : Item) (last : Items) → parts ≡ more name rest → rest ≡ more sort last → has_no_items last ≡ true
+    → named_pair sorts logic taken done place parts ≡ named_by sorts logic taken done place (symbol_spelled name) sort
 pair_two sorts logic taken done place parts name rest sort last e f g = rw (e, f, empty_none last g) refl
 
-pub group_three : (parts : Items) (name : Item) (rest : Items) (sort : Item) (next : Items) (rules : Item) (last : Items) → parts ≡ more name rest → rest ≡ more sort next → next ≡ more rules last → is_empty last ≡ true
+pub group_three : (parts : Items) (name : Item) (rest : Items) (sort : Item) (next : Items) (rules : Item) (last : Items) → parts ≡ more name rest → rest ≡ more sort next → next ≡ more rules last → has_no_items last ≡ true
     → grouped_in parts ≡ group_with name sort (nonempty rules)
 group_three parts name rest sort next rules last e f g h = rw (e, f, g, empty_none last h) refl
 
-many_parts : (name sort rules : Item) (last : Items) → is_empty last ≡ false → grouped_in (more name (more sort (more rules last))) ≡ None
+many_parts : (name sort rules : Item) (last : Items) → has_no_items last ≡ false → grouped_in (more name (more sort (more rules last))) ≡ None
 many_parts name sort rules none e = absurd (cc)
 many_parts name sort rules (more next rest) e = refl
 
-pub group_many : (parts : Items) (name : Item) (rest : Items) (sort : Item) (next : Items) (rules : Item) (last : Items) → parts ≡ more name rest → rest ≡ more sort next → next ≡ more rules last → is_empty last ≡ false
+pub group_many : (parts : Items) (name : Item) (rest : Items) (sort : Item) (next : Items) (rules : Item) (last : Items) → parts ≡ more name rest → rest ≡ more sort next → next ≡ more rules last → has_no_items last ≡ false
     → grouped_in parts ≡ None
 group_many parts name rest sort next rules last e f g h = rw (e, f, g) (many_parts name sort rules last h)
 

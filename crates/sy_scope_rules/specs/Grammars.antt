@@ -11,12 +11,12 @@ use Rattle.sy_forms_names.specs.declared.names.Entity.{Entity}
 use Rattle.sy_forms_names.specs.declared.names.Named.{Named}
 use Rattle.sy_forms_names.specs.declared.names.Role.TheVariants as role
 use Rattle.sy_forms_names.specs.Environments.{Environment}
-use Rattle.sy_forms_phrases.specs.Measures.{literals}
-use Rattle.sy_forms_items.specs.Parts.{symbol, place_of, is_empty, is_symbol}
+use Rattle.sy_forms_phrases.specs.Measures.{literals_in}
+use Rattle.sy_forms_items.specs.Parts.{symbol, place_of, has_no_items, is_symbol}
 use Rattle.sy_forms_items.specs.Readings.{Reading, refuse, ◌>>=◌}
 use Rattle.sy_forms.specs.Rules.{Ruling, Template, EachConstant, EachVariable, production_at, read_rule, constant_groups, has_sort}
 use Rattle.sy_scope_commands.specs.Requests.{Listed, Rulebook}
-use Rattle.sy_scope_rules.specs.Lists.{sorts_of, read_predeclared}
+use Rattle.sy_scope_rules.specs.Lists.{sorts_of_names, read_predeclared}
 
 -- Rules of one group
 
@@ -27,7 +27,7 @@ pub record Collected : Type 0 where
   pub values : List Val
 
 abbrev pub values_in : Ruling → List Val
-values_in (Template phrase) = literals phrase
+values_in (Template phrase) = literals_in phrase
 values_in (EachConstant sort) = []
 values_in (EachVariable sort) = []
 
@@ -57,7 +57,7 @@ pub record Grouped : Type 0 where
 -- a list of one item or more
 abbrev pub nonempty : Item → Option Items
 nonempty (leaf atom place) = None
-nonempty (group items place) = if is_empty items then None else Some items
+nonempty (group items place) = if has_no_items items then None else Some items
 
 abbrev pub group_with : Item → Item → Option Items → Option Grouped
 group_with name sort None = None
@@ -73,17 +73,17 @@ grouped (leaf atom place) = None
 grouped (group parts place) = grouped_in parts
 
 -- how many rules there are so far, the nonterminals that are done, and the values that were written in them
-pub record Grown : Type 0 where
+pub record GrownGrammar : Type 0 where
   pub count : ℕ
   pub nonterminals : List Nonterminal
   pub values : List Val
 
 -- before a nonterminal's first rule
-abbrev pub opened : Grown → Collected
+abbrev pub opened : GrownGrammar → Collected
 opened grown = record { count = grown.count; rules = []; values = grown.values }
 
 -- with one nonterminal more
-abbrev pub with_group : Grown → Sort → Collected → Grown
+abbrev pub with_group : GrownGrammar → Sort → Collected → GrownGrammar
 with_group grown sort collected = record {
   count = collected.count;
   nonterminals = grown.nonterminals ++ record { sort = sort; rules = collected.rules } ∷ [];
@@ -95,19 +95,19 @@ abbrev pub is_group_of : Environment → Named → Grouped → Bool
 is_group_of env named parts = is_symbol named.name parts.name && has_sort env named.sort parts.sort
 
 -- with one nonterminal more, whose rules these are
-abbrev pub extended : Environment → Sort → Items → Grown → Reading Grown
-extended env sort rules grown = read_rules env sort (opened grown) rules >>= λ collected. Ok (with_group grown sort collected)
+abbrev pub grammar_extended : Environment → Sort → Items → GrownGrammar → Reading GrownGrammar
+grammar_extended env sort rules grown = read_rules env sort (opened grown) rules >>= λ collected. Ok (with_group grown sort collected)
 
-abbrev pub read_grouped : Environment → Named → Place → Option Grouped → Grown → Reading Grown
+abbrev pub read_grouped : Environment → Named → Place → Option Grouped → GrownGrammar → Reading GrownGrammar
 read_grouped env named place None grown = refuse place cause.Shape
 read_grouped env named place (Some parts) grown =
-    if is_group_of env named parts then extended env named.sort parts.rules grown else refuse place cause.Predeclared
+    if is_group_of env named parts then grammar_extended env named.sort parts.rules grown else refuse place cause.Predeclared
 
-unfoldable pub read_group : Environment → Named → Item → Grown → Reading Grown
+unfoldable pub read_group : Environment → Named → Item → GrownGrammar → Reading GrownGrammar
 read_group env named item grown = read_grouped env named (place_of item) (grouped item) grown
 
 -- each nonterminal with its group
-unfoldable pub read_groups : Environment → List Named → Items → Grown → Reading Grown
+unfoldable pub read_groups : Environment → List Named → Items → GrownGrammar → Reading GrownGrammar
 read_groups env (named ∷ rest) (more first groups) grown = read_group env named first grown >>= λ longer. read_groups env rest groups longer
 read_groups env _ _ grown = Ok grown
 
@@ -126,8 +126,8 @@ rules_under sorts entities logic arguments = record {
 }
 
 -- where rules are read, with the nonterminals and which of these derive numerals alone
-abbrev pub among : Environment → List Named → Items → Environment
-among env nonterminals groups = record env {
+abbrev pub among_nonterminals : Environment → List Named → Items → Environment
+among_nonterminals env nonterminals groups = record env {
   nonterminals = nonterminals;
   constants = constant_groups env nonterminals (listed groups);
 }
@@ -137,18 +137,18 @@ pub record Written : Type 0 where
   pub grammar : Syntax
   pub values : List Val
 
-abbrev pub written_as : List Named → Grown → Written
-written_as arguments grown = record { grammar = record { arguments = sorts_of arguments; nonterminals = grown.nonterminals }; values = grown.values }
+abbrev pub written_as : List Named → GrownGrammar → Written
+written_as arguments grown = record { grammar = record { arguments = sorts_of_names arguments; nonterminals = grown.nonterminals }; values = grown.values }
 
-abbrev pub nothing_grown : Grown
+abbrev pub nothing_grown : GrownGrammar
 nothing_grown = record { count = 0; nonterminals = []; values = [] }
 
 -- as many groups as nonterminals, one or more
 unfoldable pub read_productions : Environment → List Named → Listed → Reading Written
 read_productions env nonterminals groups =
-    if is_empty groups.items then refuse groups.place cause.Shape
+    if has_no_items groups.items then refuse groups.place cause.Shape
     else if nat_eq (length (listed groups.items)) (length nonterminals) then
-    (read_groups (among env nonterminals groups.items) nonterminals groups.items nothing_grown >>= λ grown. Ok (written_as env.arguments grown))
+    (read_groups (among_nonterminals env nonterminals groups.items) nonterminals groups.items nothing_grown >>= λ grown. Ok (written_as env.arguments grown))
     else refuse groups.place cause.Predeclared
 
 -- a grammar of a function with these arguments and this sort

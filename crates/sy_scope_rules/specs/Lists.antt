@@ -9,14 +9,14 @@ use Rattle.sy_scope_causes.specs.declared.cause.Cause.TheVariants as cause
 use Rattle.sy_forms_names.specs.declared.names.Named.{Named}
 use Rattle.sy_forms_names.specs.Environments.{place_among}
 use Rattle.sy_forms_names.specs.Operators.{is_reserved}
-use Rattle.sy_forms_items.specs.Parts.{place_of, is_empty}
+use Rattle.sy_forms_items.specs.Parts.{place_of, has_no_items}
 use Rattle.sy_forms_items.specs.Readings.{Reading, refuse, ◌>>=◌}
 use Rattle.sy_forms_names.specs.Sorts.{read_sort}
-use Rattle.sy_scope_commands.specs.Requests.{Listed, Spelled, spelled}
+use Rattle.sy_scope_commands.specs.Requests.{Listed, Spelled, symbol_spelled}
 
 -- the sorts of names
-abbrev pub sorts_of : List Named → List Sort
-sorts_of named = map (λ (x : Named). x.sort) named
+abbrev pub sorts_of_names : List Named → List Sort
+sorts_of_names named = map (λ (x : Named). x.sort) named
 
 -- a name that is neither reserved nor one of these
 abbrev pub free_name : Logic → List Named → List Named → Place → List ℕ → Reading (List ℕ)
@@ -30,7 +30,7 @@ named_by sorts logic taken done place (Some x) sort =
     free_name logic taken done x.place x.name >>= λ free. read_sort logic sorts sort >>= λ found. Ok (record { name = free; sort = found })
 
 abbrev pub named_pair : List (List ℕ × Sort) → Logic → List Named → List Named → Place → Items → Reading Named
-named_pair sorts logic taken done place (more name (more sort none)) = named_by sorts logic taken done place (spelled name) sort
+named_pair sorts logic taken done place (more name (more sort none)) = named_by sorts logic taken done place (symbol_spelled name) sort
 named_pair sorts logic taken done place _ = refuse place cause.Shape
 
 unfoldable pub named_item : List (List ℕ × Sort) → Logic → List Named → List Named → Item → Reading Named
@@ -64,5 +64,5 @@ starts_with sort _ named = Ok named
 -- one nonterminal or more, of which the first has the function's sort
 abbrev pub read_predeclared : List (List ℕ × Sort) → Logic → List Named → Sort → Listed → Reading (List Named)
 read_predeclared sorts logic arguments sort list =
-    if is_empty list.items then refuse list.place cause.Shape
+    if has_no_items list.items then refuse list.place cause.Shape
     else (read_named sorts logic arguments [] list.items >>= λ named. starts_with sort (first_sort list.items) named)

@@ -9,7 +9,7 @@ use Rattle.sy_forms.specs.Rules.{production_at}
 use Rattle.sy_forms_names.specs.declared.names.Named.{Named}
 use Rattle.sy_forms.specs.declared.rule.Ruling.{Ruling}
 use Rattle.sy_scope_rules.specs.Grammars as spec
-use Rattle.sy_scope_rules.specs.Lists.{sorts_of}
+use Rattle.sy_scope_rules.specs.Lists.{sorts_of_names}
 use Rattle.sy_scope_rules.specs.declared.group.Collected.{Collected}
 use Rattle.sy_scope_rules.specs.declared.group.Grouped.{Grouped}
 use Rattle.sy_scope_rules.specs.declared.groups.Group.{Group}
@@ -28,9 +28,9 @@ collected_of number x = record { count = x.count; rules = map (production_in num
 abbrev pub group_of : {T N : Type 0} → (N → Val) → Group T N → Nonterminal
 group_of number group = record { sort = group.sort; rules = map (production_in number) group.rules }
 
-abbrev pub grown_of : {T N : Type 0} → (N → Val) → Grown T N → spec.Grown
-grown_of number x = record { count = x.count; nonterminals = map (group_of number) x.groups; values = vals_of number x.values }
+abbrev pub grown_grammar_of : {T N : Type 0} → (N → Val) → Grown T N → spec.GrownGrammar
+grown_grammar_of number x = record { count = x.count; nonterminals = map (group_of number) x.groups; values = vals_of number x.values }
 
 -- a grammar over these arguments
 abbrev pub written_of : {T N : Type 0} → (N → Val) → List Named → Written T N → spec.Written
-written_of number arguments x = record { grammar = record { arguments = sorts_of arguments; nonterminals = map (group_of number) x.groups }; values = vals_of number x.values }
+written_of number arguments x = record { grammar = record { arguments = sorts_of_names arguments; nonterminals = map (group_of number) x.groups }; values = vals_of number x.values }

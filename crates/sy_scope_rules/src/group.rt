@@ -4,7 +4,7 @@ ghost use Rattle.std.specs.Option.{option_map};
 ghost use Rattle.sy_text.specs.Views.{item_of};
 ghost use Rattle.sy_terms.specs.Denoted.{vals_of};
 ghost use Rattle.sy_forms.specs.Rulings.{ruling_of};
-ghost use Rattle.sy_forms_items.specs.Readings.{Gives};
+ghost use Rattle.sy_forms_items.specs.Readings.{ReadingGives};
 ghost use Rattle.sy_forms_names.specs.Seen.{environment_of};
 ghost use Rattle.sy_terms.specs.Logics.{Serves};
 ghost use Rattle.sy_forms_items.specs.Views.{items_in};
@@ -74,7 +74,7 @@ pub fn read_rules<T: Theory>(
     items: &Sexps,
 ) -> Result<Collected<T>, ReadEnd>
     requires { Serves T.numeric env.now.logic }
-    ensures { Gives (collected_of T.denotes) result (spec.read_rules (environment_of env.now) sort (collected_of T.denotes before) items.now) }
+    ensures { ReadingGives (collected_of T.denotes) result (spec.read_rules (environment_of env.now) sort (collected_of T.denotes before) items.now) }
 {
     let mut collected = before;
     let mut left = Rest::all(items);

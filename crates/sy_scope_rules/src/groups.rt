@@ -2,13 +2,13 @@
 ghost use Rattle.std.specs.Prelude.{◌≡◌, OnOk};
 ghost use Rattle.std.specs.Option.{option_map};
 ghost use Rattle.sy_text.specs.Views.{item_of};
-ghost use Rattle.sy_forms_items.specs.Readings.{Gives};
+ghost use Rattle.sy_forms_items.specs.Readings.{ReadingGives};
 ghost use Rattle.sy_forms.specs.Rules as rules;
 ghost use Rattle.sy_forms_names.specs.Seen.{environment_of};
 ghost use Rattle.sy_terms.specs.Logics.{Serves};
 ghost use Rattle.sy_forms_items.specs.Views.{items_in};
 ghost use Rattle.sy_scope_rules.specs.Grammars as spec;
-ghost use Rattle.sy_scope_rules.specs.Seen.{collected_of, grouped_of, grown_of};
+ghost use Rattle.sy_scope_rules.specs.Seen.{collected_of, grouped_of, grown_grammar_of};
 
 use crate::group::{Collected, Grouped, group_parts, read_rules};
 use std::alloc::Global;
@@ -38,7 +38,7 @@ pub struct Grown<T: Theory> {
 impl<T: Theory> Grown<T> {
     /// None. It takes no memory.
     fn new(alloc: Global) -> Self
-        ensures { grown_of T.denotes result ≡ spec.nothing_grown }
+        ensures { grown_grammar_of T.denotes result ≡ spec.nothing_grown }
     {
         Grown {
             count: 0,
@@ -74,7 +74,7 @@ fn extended<T: Theory>(
     grown: Grown<T>,
 ) -> Result<Grown<T>, ReadEnd>
     requires { Serves T.numeric env.now.logic }
-    ensures { Gives (grown_of T.denotes) result (spec.extended (environment_of env.now) sort items.now (grown_of T.denotes grown)) }
+    ensures { ReadingGives (grown_grammar_of T.denotes) result (spec.grammar_extended (environment_of env.now) sort items.now (grown_grammar_of T.denotes grown)) }
 {
     let Grown {
         count,
@@ -109,7 +109,7 @@ fn read_group<T: Theory>(
     grown: Grown<T>,
 ) -> Result<Grown<T>, ReadEnd>
     requires { Serves T.numeric env.now.logic }
-    ensures { Gives (grown_of T.denotes) result (spec.read_group (environment_of env.now) named.now (item_of item.now) (grown_of T.denotes grown)) }
+    ensures { ReadingGives (grown_grammar_of T.denotes) result (spec.read_group (environment_of env.now) named.now (item_of item.now) (grown_grammar_of T.denotes grown)) }
 {
     let Some(parts) = group_parts(item) else {
         return Err(ReadEnd::Refused(place_of(item), Cause::Shape));
@@ -129,7 +129,7 @@ pub fn read_groups<T: Theory>(
     groups: &Sexps,
 ) -> Result<Grown<T>, ReadEnd>
     requires { Serves T.numeric env.now.logic }
-    ensures { Gives (grown_of T.denotes) result (spec.read_groups (environment_of env.now) env.now.nonterminals.now groups.now spec.nothing_grown) }
+    ensures { ReadingGives (grown_grammar_of T.denotes) result (spec.read_groups (environment_of env.now) env.now.nonterminals.now groups.now spec.nothing_grown) }
 {
     let mut grown = Grown::new(alloc);
     let mut left = Rest::all(groups);

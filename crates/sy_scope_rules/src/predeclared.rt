@@ -2,7 +2,7 @@
 ghost use Rattle.std.specs.Prelude.{◌≡◌};
 ghost use Rattle.std.specs.Option.{option_map};
 ghost use Rattle.sy_text.specs.Views.{item_of};
-ghost use Rattle.sy_forms_items.specs.Readings.{Gives};
+ghost use Rattle.sy_forms_items.specs.Readings.{ReadingGives};
 ghost use Rattle.sy_forms_items.specs.Views.{items_in};
 ghost use Rattle.sy_scope_rules.specs.Lists as spec;
 
@@ -36,7 +36,7 @@ fn first_sort(items: Rest<'_>) -> Option<&Sexp>
 
 /// The nonterminals, where the first has this sort.
 fn starts_with(sort: Sort, first: Option<&Sexp>, named: Seq<Named>) -> Result<Seq<Named>, ReadEnd>
-    ensures { Gives (λ named. named) result (spec.starts_with sort (option_map (λ item. item_of item.now) first.entry) named) }
+    ensures { ReadingGives (λ named. named) result (spec.starts_with sort (option_map (λ item. item_of item.now) first.entry) named) }
 {
     if let (Some(item), Some(start)) = (first, named.get(0)) {
         if !same_sort(&start.sort, &sort) {
@@ -55,7 +55,7 @@ pub fn read_predeclared(
     items: &Sexps,
     place: Place,
 ) -> Result<Seq<Named>, ReadEnd>
-    ensures { Gives (λ named. named) result (spec.read_predeclared naming.now.names.now.sorts naming.now.logic naming.now.taken.now sort (record { items = items.now; place = place })) }
+    ensures { ReadingGives (λ named. named) result (spec.read_predeclared naming.now.names.now.sorts naming.now.logic naming.now.taken.now sort (record { items = items.now; place = place })) }
 {
     let first = Rest::all(items);
     if first.is_empty() {

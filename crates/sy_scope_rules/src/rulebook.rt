@@ -1,6 +1,6 @@
 // Written grammars.
 ghost use Rattle.std.specs.Prelude.{◌≡◌};
-ghost use Rattle.sy_forms_items.specs.Readings.{Gives};
+ghost use Rattle.sy_forms_items.specs.Readings.{ReadingGives};
 ghost use Rattle.sy_forms_names.specs.Seen.{environment_of};
 ghost use Rattle.sy_terms.specs.Logics.{Serves};
 ghost use Rattle.sy_scope_rules.specs.Grammars as spec;
@@ -36,7 +36,7 @@ fn read_productions<T: Theory>(
     place: Place,
 ) -> Result<Written<T>, ReadEnd>
     requires { Serves T.numeric env.now.logic }
-    ensures { Gives (written_of T.denotes env.now.arguments.now) result (spec.read_productions (environment_of env.now) nonterminals.now (record { items = groups.now; place = place })) }
+    ensures { ReadingGives (written_of T.denotes env.now.arguments.now) result (spec.read_productions (environment_of env.now) nonterminals.now (record { items = groups.now; place = place })) }
 {
     if Rest::all(groups).is_empty() {
         return Err(ReadEnd::Refused(place, Cause::Shape));
@@ -67,7 +67,7 @@ pub fn read_rulebook<T: Theory>(
     book: &Rulebook<'_>,
 ) -> Result<Written<T>, ReadEnd>
     requires { Serves T.numeric naming.now.logic }
-    ensures { Gives (written_of T.denotes naming.now.taken.now) result (spec.read_rulebook naming.now.names.now.sorts naming.now.names.now.entities naming.now.logic naming.now.taken.now sort (rulebook_of book.now)) }
+    ensures { ReadingGives (written_of T.denotes naming.now.taken.now) result (spec.read_rulebook naming.now.names.now.sorts naming.now.names.now.entities naming.now.logic naming.now.taken.now sort (rulebook_of book.now)) }
 {
     let predeclared = book.predeclared;
     let nonterminals = read_predeclared(alloc, naming, sort, predeclared.items, predeclared.place)?;

@@ -10,7 +10,7 @@ use Rattle.sy_grammar_base.specs.Formed.{gives_constants, all_give_constants}
 use Rattle.sy_grammar_base.specs.Trees.{Production, Nonterminal}
 use Rattle.sy_forms_names.specs.declared.names.Named.{Named}
 use Rattle.sy_forms_names.specs.Environments.{Environment, sense_of}
-use Rattle.sy_forms_items.specs.Parts.{is_empty, is_symbol, symbol}
+use Rattle.sy_forms_items.specs.Parts.{has_no_items, is_symbol, symbol}
 use Rattle.sy_forms.specs.Rules.{production_at, is_constant_rule, are_constant, constant_rules, constant_parts, is_constant_group, constant_groups, has_sort}
 use Rattle.sy_forms.specs.Terms.{flag_at}
 use Rattle.sy_scope_rules.specs.Grammars.{Grouped, nonempty, group_with, grouped_in, grouped}
@@ -51,7 +51,7 @@ unless_empty false c e = e
 parts_constant : (env : Environment) (name sort rules : Item) (parts : Grouped) → group_with name sort (nonempty rules) ≡ Some parts → constant_rules env rules ≡ true → are_constant env parts.rules ≡ true
 parts_constant env name sort (leaf atom place) parts is e = absurd cc
 parts_constant env name sort (group rs place) parts is e =
-    subst (λ items. are_constant env items ≡ true) (listed_rules (is_empty rs) rs name sort parts is) (unless_empty (is_empty rs) (are_constant env rs) e)
+    subst (λ items. are_constant env items ≡ true) (listed_rules (has_no_items rs) rs name sort parts is) (unless_empty (has_no_items rs) (are_constant env rs) e)
 
 items_constant : (env : Environment) (named : Named) (items : Items) (parts : Grouped) → grouped_in items ≡ Some parts → constant_parts env named items ≡ true → are_constant env parts.rules ≡ true
 items_constant env named none parts is e = absurd cc

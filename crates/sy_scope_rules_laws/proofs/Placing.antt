@@ -13,10 +13,10 @@ use Rattle.sy_forms_names.specs.Environments as env
 use Rattle.sy_forms_names.specs.Environments.{Environment, Sense, or_else, place_from, place_among, sense_as, sense_of}
 use Rattle.sy_forms_names.specs.Operators.{is_reserved}
 use Rattle.sy_forms.specs.Rules.{constant_groups}
-use Rattle.sy_scope_rules.specs.Lists.{sorts_of}
-use Rattle.sy_scope_rules.specs.Grammars.{rules_under, among}
+use Rattle.sy_scope_rules.specs.Lists.{sorts_of_names}
+use Rattle.sy_scope_rules.specs.Grammars.{rules_under, among_nonterminals}
 use Rattle.sy_forms_laws.specs.Fitting.{Setting}
-use Rattle.sy_forms_laws.specs.Right.{IsRight, IsThere}
+use Rattle.sy_forms_laws.specs.Right.{EnvironmentIsRight, SenseIsThere}
 use Rattle.sy_forms_laws.proofs.Names.{place_among_at}
 use Rattle.sy_scope_rules_laws.specs.Rightly.{argument_setting}
 
@@ -39,9 +39,9 @@ none_among logic word (x ∷ names) first all e =
 
 -- where nonterminals stand too
 abbrev pub grammar_setting : Scope → List Named → List Named → List Bool → Setting
-grammar_setting scope arguments nonterminals constants = record { scope = scope; values = sorts_of arguments; nonterminals = sorts_of nonterminals; constants = constants; lets = false }
+grammar_setting scope arguments nonterminals constants = record { scope = scope; values = sorts_of_names arguments; nonterminals = sorts_of_names nonterminals; constants = constants; lets = false }
 
-there_too : (scope : Scope) (arguments nonterminals : List Named) (constants : List Bool) (sense : Sense) → IsThere (argument_setting scope arguments) [] sense → IsThere (grammar_setting scope arguments nonterminals constants) [] sense
+there_too : (scope : Scope) (arguments nonterminals : List Named) (constants : List Bool) (sense : Sense) → SenseIsThere (argument_setting scope arguments) [] sense → SenseIsThere (grammar_setting scope arguments nonterminals constants) [] sense
 there_too scope arguments nonterminals constants (env.Local level sort) there = absurd cc
 there_too scope arguments nonterminals constants (env.Nonterminal number sort) there = absurd cc
 there_too scope arguments nonterminals constants (env.Argument position sort) there = there
@@ -50,20 +50,20 @@ there_too scope arguments nonterminals constants (env.Function function takes gi
 there_too scope arguments nonterminals constants env.Withheld there = there
 
 there_by : (scope : Scope) (arguments nonterminals : List Named) (constants : List Bool) (place : Option (ℕ × Sort)) (outer : Option Sense) (sense : Sense) →
-    ((x : ℕ × Sort) → place ≡ Some x → slice_get (sorts_of nonterminals) x.0 ≡ Some x.1) → ((found : Sense) → outer ≡ Some found → IsThere (argument_setting scope arguments) [] found) →
-    or_else (sense_as env.Nonterminal place) outer ≡ Some sense → IsThere (grammar_setting scope arguments nonterminals constants) [] sense
+    ((x : ℕ × Sort) → place ≡ Some x → slice_get (sorts_of_names nonterminals) x.0 ≡ Some x.1) → ((found : Sense) → outer ≡ Some found → SenseIsThere (argument_setting scope arguments) [] found) →
+    or_else (sense_as env.Nonterminal place) outer ≡ Some sense → SenseIsThere (grammar_setting scope arguments nonterminals constants) [] sense
 there_by scope arguments nonterminals constants None outer sense inside outside e = there_too scope arguments nonterminals constants sense (outside sense e)
 there_by scope arguments nonterminals constants (Some x) outer sense inside outside e =
     let same : env.Nonterminal x.0 x.1 ≡ sense = cc in
-    subst (IsThere (grammar_setting scope arguments nonterminals constants) []) same (inside x refl)
+    subst (SenseIsThere (grammar_setting scope arguments nonterminals constants) []) same (inside x refl)
 
 none_behind : (place : Option (ℕ × Sort)) (outer : Option Sense) → place ≡ None → outer ≡ None → or_else (sense_as env.Nonterminal place) outer ≡ None
 none_behind place outer e f = rw (e, f) refl
 
 -- names stand for what is there where the nonterminals' names aren't reserved
 pub right_among : (numeric : Sort → Bool) (scope : Scope) (sorts : List (List ℕ × Sort)) (entities : List (List ℕ × Entity)) (logic : Logic) (arguments nonterminals : List Named) (groups : Items) →
-    IsRight numeric (argument_setting scope arguments) (rules_under sorts entities logic arguments) → All (λ (x : Named). is_reserved logic x.name ≡ false) nonterminals →
-    IsRight numeric (grammar_setting scope arguments nonterminals (constant_groups (rules_under sorts entities logic arguments) nonterminals (listed groups))) (among (rules_under sorts entities logic arguments) nonterminals groups)
+    EnvironmentIsRight numeric (argument_setting scope arguments) (rules_under sorts entities logic arguments) → All (λ (x : Named). is_reserved logic x.name ≡ false) nonterminals →
+    EnvironmentIsRight numeric (grammar_setting scope arguments nonterminals (constant_groups (rules_under sorts entities logic arguments) nonterminals (listed groups))) (among_nonterminals (rules_under sorts entities logic arguments) nonterminals groups)
 right_among numeric scope sorts entities logic arguments nonterminals groups right free =
     record {
       theory = right.theory;
@@ -78,6 +78,6 @@ right_among numeric scope sorts entities logic arguments nonterminals groups rig
 -- and no reserved word stands for anything
 pub reserved_among : (sorts : List (List ℕ × Sort)) (entities : List (List ℕ × Entity)) (logic : Logic) (arguments nonterminals : List Named) (groups : Items) →
     ((word : List ℕ) → is_reserved logic word ≡ true → sense_of (rules_under sorts entities logic arguments) [] word ≡ None) → All (λ (x : Named). is_reserved logic x.name ≡ false) nonterminals →
-    (word : List ℕ) → is_reserved logic word ≡ true → sense_of (among (rules_under sorts entities logic arguments) nonterminals groups) [] word ≡ None
+    (word : List ℕ) → is_reserved logic word ≡ true → sense_of (among_nonterminals (rules_under sorts entities logic arguments) nonterminals groups) [] word ≡ None
 reserved_among sorts entities logic arguments nonterminals groups outside free word e =
     none_behind (place_among word nonterminals) (sense_of (rules_under sorts entities logic arguments) [] word) (none_among logic word nonterminals 0 free e) (outside word e)

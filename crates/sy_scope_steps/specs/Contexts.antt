@@ -11,12 +11,12 @@ use Rattle.sy_grammar_base.specs.Trees.{Syntax}
 use Rattle.sy_grammar_base.specs.Questions.{Goal, Question}
 use Rattle.sy_forms_names.specs.declared.names.Entity.{Entity}
 use Rattle.sy_forms_names.specs.declared.names.Named.{Named}
-use Rattle.sy_forms_names.specs.Environments.{entry}
+use Rattle.sy_forms_names.specs.Environments.{entry_under}
 use Rattle.sy_forms_phrases.specs.Measures.{Measures}
 use Rattle.sy_forms_names.specs.Operators.{is_reserved}
 use Rattle.sy_forms_phrases.specs.Phrases.{Phrase, expr_at}
 use Rattle.sy_forms_items.specs.Readings.{Reading, refuse}
-use Rattle.sy_scope_rules.specs.Lists.{sorts_of}
+use Rattle.sy_scope_rules.specs.Lists.{sorts_of_names}
 
 -- a definition: its name, its arguments, its value's sort, and its body
 pub record Definition : Type 0 where
@@ -86,14 +86,14 @@ has_room context names = nat_le (names_used context + names) 4096
 -- a new name of a variable or a function
 abbrev pub new_name : Context → Logic → Place → List ℕ → Reading (List ℕ)
 new_name context logic at name =
-    if is_reserved logic name || is_some (entry name context.entities) then refuse at cause.NameTaken
+    if is_reserved logic name || is_some (entry_under name context.entities) then refuse at cause.NameTaken
     else if has_room context 1 then Ok name
     else refuse at cause.TooMany
 
 -- a new name of a function to be found, of which there are at most four
 abbrev pub new_sought : Context → Logic → Place → List ℕ → Reading (List ℕ)
 new_sought context logic at name =
-    if is_reserved logic name || is_some (entry name context.entities) then refuse at cause.NameTaken
+    if is_reserved logic name || is_some (entry_under name context.entities) then refuse at cause.NameTaken
     else if has_room context 1 then (if nat_lt (length context.sought) 4 then Ok name else refuse at cause.TooMany)
     else refuse at cause.TooMany
 
@@ -104,7 +104,7 @@ is_sort_name name = bytes_eq name (codes "Bool") || bytes_eq name (codes "Int") 
 -- a new name of a sort
 abbrev pub new_sort_name : Context → Logic → Place → List ℕ → Reading (List ℕ)
 new_sort_name context logic at name =
-    if is_reserved logic name || is_sort_name name || is_some (entry name context.sorts) then refuse at cause.NameTaken
+    if is_reserved logic name || is_sort_name name || is_some (entry_under name context.sorts) then refuse at cause.NameTaken
     else if has_room context 1 then Ok name
     else refuse at cause.TooMany
 
@@ -114,22 +114,22 @@ abbrev pub condition_at : ℕ → Condition → Expr
 condition_at variables (Written phrase) = expr_at variables phrase
 condition_at variables (Expanded term) = term
 
-abbrev pub signature_of : Definition → Signature
-signature_of d = record { takes = sorts_of d.arguments; gives = d.sort }
+abbrev pub definition_signature : Definition → Signature
+definition_signature d = record { takes = sorts_of_names d.arguments; gives = d.sort }
 
 abbrev pub body_of : Definition → Expr
 body_of d = expr_at (length d.arguments) d.body
 
-abbrev pub goal_of : Sought → Goal
-goal_of f = record { signature = record { takes = sorts_of f.arguments; gives = f.sort }; grammar = f.grammar }
+abbrev pub goal_sought : Sought → Goal
+goal_sought f = record { signature = record { takes = sorts_of_names f.arguments; gives = f.sort }; grammar = f.grammar }
 
 -- what a check-synth asks: let names of assumptions and constraints stand behind all variables
 abbrev pub question_at : Context → Question
 question_at context = record {
-  signatures = map signature_of context.definitions;
+  signatures = map definition_signature context.definitions;
   definitions = map body_of context.definitions;
   variables = context.variables;
-  goals = map goal_of context.sought;
+  goals = map goal_sought context.sought;
   assumptions = map (expr_at (length context.variables)) context.assumptions;
   constraints = map (condition_at (length context.variables)) context.constraints;
   pool = context.pool;

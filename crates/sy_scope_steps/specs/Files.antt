@@ -27,8 +27,8 @@ abbrev pub refused_text : ℕ → TextFault → Refused
 refused_text command fault = record { command = command; place = record { at = offset_of fault }; cause = cause.Text fault }
 
 -- the context after all commands, or the first that is refused
-abbrev pub Outcome : Type 0
-Outcome = Result Context Refused
+abbrev pub FileOutcome : Type 0
+FileOutcome = Result Context Refused
 
 abbrev pub read_as : ℕ → Result (Option (Item × ℕ)) TextFault → Result (Option (Item × ℕ)) Refused
 read_as command (Ok found) = Ok found
@@ -39,21 +39,21 @@ abbrev pub command_read : List ℕ → ℕ → ℕ → Result (Option (Item × �
 command_read file command at = read_as command (command_at (length file) (drop at file))
 
 -- after a step, the commands that follow
-abbrev pub then_next : ℕ → Reading Context → (Context → Outcome) → Outcome
+abbrev pub then_next : ℕ → Reading Context → (Context → FileOutcome) → FileOutcome
 then_next command (Ok context) next = next context
 then_next command (Err fault) next = Err (refused_at command fault)
 
-abbrev pub after_command : ℕ → Context → Result (Option (Item × ℕ)) Refused → (ℕ → Context → Outcome) → Outcome
+abbrev pub after_command : ℕ → Context → Result (Option (Item × ℕ)) Refused → (ℕ → Context → FileOutcome) → FileOutcome
 after_command command context (Ok None) next = Ok context
 after_command command context (Ok (Some x)) next = then_next command (step context x.0) (next x.1)
 after_command command context (Err refused) next = Err refused
 
 -- the commands from an offset on, of which the first has a number; the first argument bounds how many there are
-unfoldable pub file_from : ℕ → ℕ → List ℕ → ℕ → Context → Outcome
+unfoldable pub file_from : ℕ → ℕ → List ℕ → ℕ → Context → FileOutcome
 file_from zero command file at context = Ok context
 file_from (suc most) command file at context =
     after_command command context (command_read file command at) (λ after later. file_from most (command + 1) file after later)
 
 -- the context after the file, where each command steps, or else its first fault; each command takes a byte or more
-abbrev pub file_read : List ℕ → Outcome
+abbrev pub file_read : List ℕ → FileOutcome
 file_read file = file_from (length file + 1) 1 file 0 beginning

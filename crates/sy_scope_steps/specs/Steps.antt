@@ -16,15 +16,15 @@ use Rattle.sy_forms_names.specs.declared.names.Entity.TheVariants as entity
 use Rattle.sy_forms_names.specs.declared.names.Named.{Named}
 use Rattle.sy_forms_names.specs.declared.names.Role.{Role}
 use Rattle.sy_forms_names.specs.declared.names.Role.TheVariants as role
-use Rattle.sy_forms_names.specs.Environments.{Environment, entry}
+use Rattle.sy_forms_names.specs.Environments.{Environment, entry_under}
 use Rattle.sy_terms.specs.Values.{Val}
-use Rattle.sy_forms_phrases.specs.Measures.{Measures, unfolded_size, unfolded_depth, literals}
+use Rattle.sy_forms_phrases.specs.Measures.{Measures, unfolded_size, unfolded_depth, literals_in}
 use Rattle.sy_forms_items.specs.Parts.{symbol, place_of}
 use Rattle.sy_forms_phrases.specs.Phrases.{Phrase}
 use Rattle.sy_forms_items.specs.Readings.{Reading, refuse, found_or, ◌>>=◌}
 use Rattle.sy_forms_names.specs.Sorts.{read_sort}
 use Rattle.sy_forms.specs.Terms.{read_whole}
-use Rattle.sy_scope_rules.specs.Lists.{sorts_of, read_named}
+use Rattle.sy_scope_rules.specs.Lists.{sorts_of_names, read_named}
 use Rattle.sy_scope_rules.specs.Grammars.{Written, read_rulebook}
 use Rattle.sy_grammar_defaults.specs.Defaults.{default_syntax}
 use Rattle.sy_scope_pool.specs.Pools.{pooled}
@@ -99,10 +99,10 @@ measured measures body = record {
 
 abbrev pub with_definition : Context → Definition → Context
 with_definition context definition = record context {
-  entities = context.entities ++ (definition.name, entity.Function (funs.Defined (length context.definitions)) (sorts_of definition.arguments) definition.sort) ∷ [];
+  entities = context.entities ++ (definition.name, entity.Function (funs.Defined (length context.definitions)) (sorts_of_names definition.arguments) definition.sort) ∷ [];
   definitions = context.definitions ++ definition ∷ [];
   measures = measured context.measures definition.body;
-  pool = pooled context.pool (literals definition.body);
+  pool = pooled context.pool (literals_in definition.body);
 }
 
 abbrev pub define : Context → Logic → Spelled → Items → Item → Item → Reading Context
@@ -116,14 +116,14 @@ define context logic name arguments sort body =
 -- `synth-fun` and `synth-inv`
 abbrev pub with_sought : Context → Sought → List Val → Context
 with_sought context sought values = record context {
-  entities = context.entities ++ (sought.name, entity.Function (funs.Wanted (length context.sought)) (sorts_of sought.arguments) sought.sort) ∷ [];
+  entities = context.entities ++ (sought.name, entity.Function (funs.Wanted (length context.sought)) (sorts_of_names sought.arguments) sought.sort) ∷ [];
   sought = context.sought ++ sought ∷ [];
   pool = pooled context.pool values;
 }
 
 -- the grammar that is written, or that of a function without one
 abbrev pub read_grammar : Context → Logic → List Named → Sort → Option Rulebook → Reading Written
-read_grammar context logic arguments sort None = Ok (record { grammar = default_syntax logic (sorts_of arguments) sort; values = [] })
+read_grammar context logic arguments sort None = Ok (record { grammar = default_syntax logic (sorts_of_names arguments) sort; values = [] })
 read_grammar context logic arguments sort (Some book) = read_rulebook context.sorts context.entities logic arguments sort book
 
 -- the sort that is written, or that of an invariant
@@ -143,12 +143,12 @@ synthesise context logic name arguments sort rules =
 abbrev pub constrain : Context → Logic → Item → Reading Context
 constrain context logic term =
     read_in context logic role.Constraint [] sorts.Bool term >>= λ phrase.
-    Ok (record context { constraints = context.constraints ++ contexts.Written phrase ∷ []; pool = pooled context.pool (literals phrase) })
+    Ok (record context { constraints = context.constraints ++ contexts.Written phrase ∷ []; pool = pooled context.pool (literals_in phrase) })
 
 abbrev pub assume : Context → Logic → Item → Reading Context
 assume context logic term =
     read_in context logic role.Assumption [] sorts.Bool term >>= λ phrase.
-    Ok (record context { assumptions = context.assumptions ++ phrase ∷ []; pool = pooled context.pool (literals phrase) })
+    Ok (record context { assumptions = context.assumptions ++ phrase ∷ []; pool = pooled context.pool (literals_in phrase) })
 
 -- `inv-constraint`
 
@@ -158,22 +158,22 @@ pub record Called : Type 0 where
   pub takes : List Sort
   pub gives : Sort
 
-abbrev pub function_of : Option Entity → Option Called
-function_of None = None
-function_of (Some (entity.Variable position sort)) = None
-function_of (Some (entity.Function function takes gives)) = Some (record { function = function; takes = takes; gives = gives })
+abbrev pub called_function : Option Entity → Option Called
+called_function None = None
+called_function (Some (entity.Variable position sort)) = None
+called_function (Some (entity.Function function takes gives)) = Some (record { function = function; takes = takes; gives = gives })
 
 -- the declared function of this name
 abbrev pub function_named : Context → Spelled → Reading Called
-function_named context name = found_or name.place cause.UnknownName (function_of (entry name.name context.entities))
+function_named context name = found_or name.place cause.UnknownName (called_function (entry_under name.name context.entities))
 
 abbrev pub invariant_number : Fun → Option ℕ
 invariant_number (funs.Wanted number) = Some number
 invariant_number (funs.Defined number) = None
 
-abbrev pub definition_number : Fun → Option ℕ
-definition_number (funs.Defined number) = Some number
-definition_number (funs.Wanted number) = None
+abbrev pub called_definition : Fun → Option ℕ
+called_definition (funs.Defined number) = Some number
+called_definition (funs.Wanted number) = None
 
 -- a function to be found with a truth value
 abbrev pub as_invariant : Spelled → Called → Reading ℕ
@@ -183,7 +183,7 @@ as_invariant name f =
 -- a definition of a truth value with arguments of these sorts
 abbrev pub as_condition : Spelled → List Sort → Called → Reading ℕ
 as_condition name takes f =
-    if same_sort f.gives sorts.Bool && same_sorts f.takes takes then found_or name.place cause.InvShape (definition_number f.function) else refuse name.place cause.InvShape
+    if same_sort f.gives sorts.Bool && same_sorts f.takes takes then found_or name.place cause.InvShape (called_definition f.function) else refuse name.place cause.InvShape
 
 -- the numbers of the functions of an `inv-constraint`
 pub record Parts : Type 0 where
@@ -235,28 +235,28 @@ check_synth context at = if nat_lt (length context.questions) 16 then Ok (with_q
 -- Commands
 
 -- what a command asks for, and the places of its bracket and its name
-pub record Asked : Type 0 where
+pub record PlacedRequest : Type 0 where
   pub request : Request
   pub place : Place
   pub at : Place
 
-abbrev pub asked_by : Place → Place → Option Request → Reading Asked
-asked_by place at None = refuse place cause.Shape
-asked_by place at (Some request) = Ok (record { request = request; place = place; at = at })
+abbrev pub request_asked : Place → Place → Option Request → Reading PlacedRequest
+request_asked place at None = refuse place cause.Shape
+request_asked place at (Some request) = Ok (record { request = request; place = place; at = at })
 
-abbrev pub asked_as : Place → Place → Option Command → Items → Reading Asked
+abbrev pub asked_as : Place → Place → Option Command → Items → Reading PlacedRequest
 asked_as place at None parts = refuse at cause.CommandNotInProfile
-asked_as place at (Some command) parts = asked_by place at (request_of command parts)
+asked_as place at (Some command) parts = request_asked place at (request_of command parts)
 
-abbrev pub asked_named : Place → Place → Option (List ℕ) → Items → Reading Asked
+abbrev pub asked_named : Place → Place → Option (List ℕ) → Items → Reading PlacedRequest
 asked_named place at None parts = refuse place cause.Shape
 asked_named place at (Some name) parts = asked_as place at (command_named name) parts
 
 -- a command is a list that begins with a symbol
-abbrev pub asked : Item → Reading Asked
-asked (leaf atom place) = refuse place cause.Shape
-asked (group none place) = refuse place cause.Shape
-asked (group (more head parts) place) = asked_named place (place_of head) (symbol head) parts
+abbrev pub command_asked : Item → Reading PlacedRequest
+command_asked (leaf atom place) = refuse place cause.Shape
+command_asked (group none place) = refuse place cause.Shape
+command_asked (group (more head parts) place) = asked_named place (place_of head) (symbol head) parts
 
 -- a command in a logic
 unfoldable pub perform_in : Context → Logic → Place → Place → Request → Reading Context
@@ -280,9 +280,9 @@ perform_first context at (requests.ToSetFeature feature on) = set_feature contex
 perform_first context at requests.ToNote = Ok context
 perform_first context at _ = refuse at cause.Logic
 
-abbrev pub perform : Context → Option Logic → Asked → Reading Context
+abbrev pub perform : Context → Option Logic → PlacedRequest → Reading Context
 perform context None x = perform_first context x.at x.request
 perform context (Some logic) x = perform_in context logic x.place x.at x.request
 
 unfoldable pub step : Context → Item → Reading Context
-step context item = asked item >>= λ x. perform context context.logic x
+step context item = command_asked item >>= λ x. perform context context.logic x

@@ -1,7 +1,7 @@
 // Room for names, and new names.
 ghost use Rattle.std.specs.Prelude.{◌≡◌, None, IfOk};
-ghost use Rattle.sy_forms_names.specs.Environments.{entry};
-ghost use Rattle.sy_forms_items.specs.Readings.{Gives};
+ghost use Rattle.sy_forms_names.specs.Environments.{entry_under};
+ghost use Rattle.sy_forms_items.specs.Readings.{ReadingGives};
 ghost use Rattle.sy_scope_steps.specs.Contexts as spec;
 ghost use Rattle.sy_scope_steps.specs.Known.{declared};
 
@@ -30,8 +30,8 @@ pub fn new_name(
     at: Place,
     name: &[u8],
 ) -> Result<(), ReadEnd>
-    ensures name { Gives (λ _. name.now) result (spec.new_name (declared names.now fresh) logic at name.now) }
-    ensures free { IfOk result (λ _. entry name.now names.now.entities ≡ None) }
+    ensures name { ReadingGives (λ _. name.now) result (spec.new_name (declared names.now fresh) logic at name.now) }
+    ensures free { IfOk result (λ _. entry_under name.now names.now.entities ≡ None) }
 {
     if is_reserved(logic, name) || names.entity(name).is_some() {
         return Err(ReadEnd::Refused(at, Cause::NameTaken));
@@ -59,8 +59,8 @@ pub fn new_sort_name(
     at: Place,
     name: &[u8],
 ) -> Result<(), ReadEnd>
-    ensures name { Gives (λ _. name.now) result (spec.new_sort_name (declared names.now fresh) logic at name.now) }
-    ensures free { IfOk result (λ _. entry name.now names.now.sorts ≡ None) }
+    ensures name { ReadingGives (λ _. name.now) result (spec.new_sort_name (declared names.now fresh) logic at name.now) }
+    ensures free { IfOk result (λ _. entry_under name.now names.now.sorts ≡ None) }
 {
     if is_reserved(logic, name) || is_sort_name(name) || names.sort(name).is_some() {
         return Err(ReadEnd::Refused(at, Cause::NameTaken));

@@ -20,9 +20,9 @@ use Rattle.sy_scope_commands.specs.Requests as requests
 use Rattle.sy_scope_commands.specs.Requests.{Request, Rulebook, Spelled}
 use Rattle.sy_forms_laws.proofs.Readings.{chained, unless_refused, where_found, any_read}
 use Rattle.sy_scope_steps.specs.Contexts.{Context, Definition, Sought, beginning, with_logic, new_name, new_sought, new_sort_name, has_room, question_at}
-use Rattle.sy_scope_steps.specs.Files.{Outcome, command_read, then_next, after_command, file_from, file_read}
+use Rattle.sy_scope_steps.specs.Files.{FileOutcome, command_read, then_next, after_command, file_from, file_read}
 use Rattle.sy_scope_steps.specs.Jobs.{title_of, titles_of}
-use Rattle.sy_scope_steps.specs.Steps.{Asked, Called, Parts, logic_named, first_logic, set_logic, feature_set, set_feature, declare_variable, define_sort, read_in, with_definition, define, value_sort, read_grammar, with_sought, synthesise, constrain, assume, function_named, invariant_parts, with_invariant, add_invariant, constrain_invariant, with_question, check_synth, asked, perform_in, perform_first, perform, step}
+use Rattle.sy_scope_steps.specs.Steps.{PlacedRequest, Called, Parts, logic_named, first_logic, set_logic, feature_set, set_feature, declare_variable, define_sort, read_in, with_definition, define, value_sort, read_grammar, with_sought, synthesise, constrain, assume, function_named, invariant_parts, with_invariant, add_invariant, constrain_invariant, with_question, check_synth, command_asked, perform_in, perform_first, perform, step}
 use Rattle.sy_scope_titles_laws.specs.Titled.{AreNamed}
 use Rattle.sy_reply.specs.Writable.{IsTitled}
 use Rattle.sy_scope_titles_laws.proofs.Titles.{function_more, definition_more, titled_now}
@@ -135,20 +135,20 @@ performed_named context logic place at (requests.ToAssume term) named = assume_n
 performed_named context logic place at (requests.ToConstrainInvariant i p t q) named = invariant_named context place i p t q named
 performed_named context logic place at requests.ToCheck named = check_named context at named
 
-perform_named : (context : Context) (logic : Option Logic) (x : Asked) → AreNamed context → IfOk (perform context logic x) AreNamed
+perform_named : (context : Context) (logic : Option Logic) (x : PlacedRequest) → AreNamed context → IfOk (perform context logic x) AreNamed
 perform_named context None x named = first_named context x.at x.request named
 perform_named context (Some logic) x named = performed_named context logic x.place x.at x.request named
 
 step_named : (context : Context) (item : Item) → AreNamed context → IfOk (step context item) AreNamed
 unfolding step
-step_named context item named = after_any (asked item) _ (λ x. perform_named context context.logic x named)
+step_named context item named = after_any (command_asked item) _ (λ x. perform_named context context.logic x named)
 
 -- and so does a file
-next_named : (command : ℕ) (read : Reading Context) (next : Context → Outcome) → IfOk read AreNamed → ((context : Context) → AreNamed context → IfOk (next context) AreNamed) → IfOk (then_next command read next) AreNamed
+next_named : (command : ℕ) (read : Reading Context) (next : Context → FileOutcome) → IfOk read AreNamed → ((context : Context) → AreNamed context → IfOk (next context) AreNamed) → IfOk (then_next command read next) AreNamed
 next_named command (Ok context) next holds later = later context holds
 next_named command (Err fault) next holds later = tt
 
-after_named : (command : ℕ) (context : Context) (read : Result (Option (Item × ℕ)) Refused) (next : ℕ → Context → Outcome) → AreNamed context → ((after : ℕ) (later : Context) → AreNamed later → IfOk (next after later) AreNamed) → IfOk (after_command command context read next) AreNamed
+after_named : (command : ℕ) (context : Context) (read : Result (Option (Item × ℕ)) Refused) (next : ℕ → Context → FileOutcome) → AreNamed context → ((after : ℕ) (later : Context) → AreNamed later → IfOk (next after later) AreNamed) → IfOk (after_command command context read next) AreNamed
 after_named command context (Ok None) next named later = named
 after_named command context (Ok (Some x)) next named later = next_named command (step context x.0) (next x.1) (step_named context x.0 named) (later x.1)
 after_named command context (Err refused) next named later = tt

@@ -9,7 +9,7 @@ use Rattle.sy_scope_titles.specs.declared.Titles.{Titles}
 use Rattle.sy_grammar_base.specs.Questions.{Goal, Question}
 use Rattle.sy_forms_names.specs.declared.names.Named.{Named}
 use Rattle.sy_reply.specs.Writable.{AreTitled}
-use Rattle.sy_scope_steps.specs.Contexts.{Context, Definition, Sought, goal_of, body_of, question_at}
+use Rattle.sy_scope_steps.specs.Contexts.{Context, Definition, Sought, goal_sought, body_of, question_at}
 use Rattle.sy_scope_steps.specs.Jobs.{title_of, titles_of}
 use Rattle.sy_scope_titles_laws.specs.Titled.{AreNamed}
 use Rattle.sy_reply.specs.Writable.{IsTitled}
@@ -28,7 +28,7 @@ argument_count [] = refl
 argument_count (x ∷ arguments) = ap suc (argument_count arguments)
 
 -- functions have their own titles
-pub titled_itself : (sought : List Sought) → AreTitled (map title_of sought) (map goal_of sought)
+pub titled_itself : (sought : List Sought) → AreTitled (map title_of sought) (map goal_sought sought)
 titled_itself [] = tt
 titled_itself (f ∷ sought) = (argument_count f.arguments, titled_itself sought)
 

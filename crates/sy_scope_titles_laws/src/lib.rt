@@ -3,8 +3,8 @@
 
 ghost use Rattle.sy_scope_titles_laws.specs.Titled.{FilesTitled};
 
-/// A file that is read asks at most 16 questions, and none where its logic isn't that of bit vectors; the names of its
-/// functions are those of each question's functions.
+/// A file that is read asks at most 16 questions, and its functions and definitions, with their arguments, have their
+/// names in each of these.
 pub fn files_titled()
     ensures { FilesTitled }
 {}

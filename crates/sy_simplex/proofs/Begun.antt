@@ -3,15 +3,15 @@ use Rattle.std.specs.Prelude.{◌≡◌, ℕ, ◌<◌, ◌+◌, ◌++◌, ◌∷
 use Rattle.std.proofs.Common.{refl, sym, ◌∙◌, ap, subst, arith, length-append, inl, inr, ◌⊎◌, true, false, ◌≢◌}
 use Rattle.std.proofs.Math.Dec.{eqb}
 use Rattle.std.proofs.lemmas.Bool.Decides.{eqb_tells}
-use Rattle.sy_frac.specs.Fraction.{Fraction, Fits}
+use Rattle.sy_frac.specs.Fraction.{Fraction, IsInRange}
 use Rattle.sy_linear_forms.specs.declared.form.Form.{Form}
-use Rattle.sy_simplex_tableau.specs.Operations.{whole, opposite}
+use Rattle.sy_simplex_tableau.specs.Operations.{fraction_of_whole, fraction_opposite}
 use Rattle.sy_simplex_tableau.specs.Rows.{at}
-use Rattle.sy_simplex_tableau.specs.States.{State}
+use Rattle.sy_simplex_tableau.specs.States.{TableauState}
 use Rattle.sy_simplex_tableau.proofs.Pushed.{each_pushed}
 use Rattle.sy_simplex.specs.Problems.{form}
 use Rattle.sy_simplex.specs.Runs.{FormFits, IsInitial}
-use Rattle.sy_simplex.specs.Beginnings.{AreZeros, IsFullRow, CoefficientsFit, AllFit}
+use Rattle.sy_simplex.specs.Beginnings.{AreZeros, IsFullRow, CoefficientsFit, FormsFit}
 
 -- the numbers below n, in order
 pub record AreCounted (n : ℕ) (xs : List ℕ) : Type 0 where
@@ -25,7 +25,7 @@ pub record IsBegun (vars : ℕ) (forms : List Form) (n : ℕ) (basics : List ℕ
   pub rows_length : length rows ≡ n
   pub full : (i : ℕ) → i < n → IsFullRow vars (form forms i).coefs (get_or rows i [])
   pub bounds_length : length bounds ≡ n
-  pub bounds_are : (i : ℕ) → i < n → at bounds i ≡ whole (neg_ℤ (form forms i).constant)
+  pub bounds_are : (i : ℕ) → i < n → at bounds i ≡ fraction_of_whole (neg_ℤ (form forms i).constant)
   pub fit : (i : ℕ) → i < n → FormFits (form forms i)
 
 pub length_pushed : {A : Type 0} → (xs ys : List A) (x : A) (n : ℕ) → ys ≡ xs ++ x ∷ [] → length xs ≡ n → length ys ≡ n + 1
@@ -41,8 +41,8 @@ more P n all here i l = by (eqb_tells i n)
 pub counted_more : (n : ℕ) (xs ys : List ℕ) → ys ≡ xs ++ n ∷ [] → AreCounted n xs → AreCounted (n + 1) ys
 counted_more n xs ys e h = record { len = length_pushed xs ys n n e h.len; each = each_pushed (λ i x. x ≡ i) 0 xs ys n n e h.len h.each refl }
 
-pub zeros_more : (n : ℕ) (xs ys : List Fraction) (x : Fraction) → ys ≡ xs ++ x ∷ [] → x ≡ whole (pos 0) → AreZeros n xs → AreZeros (n + 1) ys
-zeros_more n xs ys x e z h = record { len = length_pushed xs ys x n e h.len; each = each_pushed (λ i y. y ≡ whole (pos 0)) (whole (pos 0)) xs ys x n e h.len h.each z }
+pub zeros_more : (n : ℕ) (xs ys : List Fraction) (x : Fraction) → ys ≡ xs ++ x ∷ [] → x ≡ fraction_of_whole (pos 0) → AreZeros n xs → AreZeros (n + 1) ys
+zeros_more n xs ys x e z h = record { len = length_pushed xs ys x n e h.len; each = each_pushed (λ i y. y ≡ fraction_of_whole (pos 0)) (fraction_of_whole (pos 0)) xs ys x n e h.len h.each z }
 
 pub begun_none : (vars : ℕ) (forms : List Form) → IsBegun vars forms 0 [] [] []
 begun_none vars forms = record {
@@ -55,23 +55,23 @@ begun_none vars forms = record {
   fit = λ i l. absurd (omega (arith, l));
 }
 
-pub begun_more : (vars : ℕ) (forms : List Form) (n : ℕ) (basics basics' : List ℕ) (rows rows' : List (List Fraction)) (bounds bounds' : List Fraction) (row : List Fraction) (constant bound : Fraction) (basic : ℕ) → IsBegun vars forms n basics rows bounds → basics' ≡ basics ++ basic ∷ [] → basic ≡ vars + n → rows' ≡ rows ++ row ∷ [] → IsFullRow vars (form forms n).coefs row → CoefficientsFit (form forms n).coefs → bounds' ≡ bounds ++ bound ∷ [] → bound ≡ opposite constant → Fits (form forms n).constant × (constant ≡ whole (form forms n).constant) → IsBegun vars forms (n + 1) basics' rows' bounds'
+pub begun_more : (vars : ℕ) (forms : List Form) (n : ℕ) (basics basics' : List ℕ) (rows rows' : List (List Fraction)) (bounds bounds' : List Fraction) (row : List Fraction) (constant bound : Fraction) (basic : ℕ) → IsBegun vars forms n basics rows bounds → basics' ≡ basics ++ basic ∷ [] → basic ≡ vars + n → rows' ≡ rows ++ row ∷ [] → IsFullRow vars (form forms n).coefs row → CoefficientsFit (form forms n).coefs → bounds' ≡ bounds ++ bound ∷ [] → bound ≡ fraction_opposite constant → IsInRange (form forms n).constant × (constant ≡ fraction_of_whole (form forms n).constant) → IsBegun vars forms (n + 1) basics' rows' bounds'
 begun_more vars forms n basics basics' rows rows' bounds bounds' row constant bound basic h be bi re ri fi oe oi ci = record {
   basics_length = length_pushed basics basics' basic n be h.basics_length;
   basics_are = each_pushed (λ i x. x ≡ vars + i) 0 basics basics' basic n be h.basics_length h.basics_are bi;
   rows_length = length_pushed rows rows' row n re h.rows_length;
   full = each_pushed (λ i x. IsFullRow vars (form forms i).coefs x) [] rows rows' row n re h.rows_length h.full ri;
   bounds_length = length_pushed bounds bounds' bound n oe h.bounds_length;
-  bounds_are = each_pushed (λ i x. x ≡ whole (neg_ℤ (form forms i).constant)) (whole (pos 0)) bounds bounds' bound n oe h.bounds_length h.bounds_are (oi ∙ ap opposite ci.1);
+  bounds_are = each_pushed (λ i x. x ≡ fraction_of_whole (neg_ℤ (form forms i).constant)) (fraction_of_whole (pos 0)) bounds bounds' bound n oe h.bounds_length h.bounds_are (oi ∙ ap fraction_opposite ci.1);
   fit = more (λ i. FormFits (form forms i)) n h.fit (record { coefs = fi; constant = ci.0 });
 }
 
 -- the same for an equal form
-pub begun_item : (vars : ℕ) (forms : List Form) (n : ℕ) (f : Form) (basics basics' : List ℕ) (rows rows' : List (List Fraction)) (bounds bounds' : List Fraction) (row : List Fraction) (constant bound : Fraction) (basic : ℕ) → f ≡ form forms n → IsBegun vars forms n basics rows bounds → basics' ≡ basics ++ basic ∷ [] → basic ≡ vars + n → rows' ≡ rows ++ row ∷ [] → IsFullRow vars f.coefs row → CoefficientsFit f.coefs → bounds' ≡ bounds ++ bound ∷ [] → bound ≡ opposite constant → Fits f.constant × (constant ≡ whole f.constant) → IsBegun vars forms (n + 1) basics' rows' bounds'
+pub begun_item : (vars : ℕ) (forms : List Form) (n : ℕ) (f : Form) (basics basics' : List ℕ) (rows rows' : List (List Fraction)) (bounds bounds' : List Fraction) (row : List Fraction) (constant bound : Fraction) (basic : ℕ) → f ≡ form forms n → IsBegun vars forms n basics rows bounds → basics' ≡ basics ++ basic ∷ [] → basic ≡ vars + n → rows' ≡ rows ++ row ∷ [] → IsFullRow vars f.coefs row → CoefficientsFit f.coefs → bounds' ≡ bounds ++ bound ∷ [] → bound ≡ fraction_opposite constant → IsInRange f.constant × (constant ≡ fraction_of_whole f.constant) → IsBegun vars forms (n + 1) basics' rows' bounds'
 begun_item vars forms n f basics basics' rows rows' bounds bounds' row constant bound basic e h be bi re ri fi oe oi ci =
-    begun_more vars forms n basics basics' rows rows' bounds bounds' row constant bound basic h be bi re (subst (λ g. IsFullRow vars g.coefs row) e ri) (subst (λ g. CoefficientsFit g.coefs) e fi) oe oi (subst (λ g. Fits g.constant × (constant ≡ whole g.constant)) e ci)
+    begun_more vars forms n basics basics' rows rows' bounds bounds' row constant bound basic h be bi re (subst (λ g. IsFullRow vars g.coefs row) e ri) (subst (λ g. CoefficientsFit g.coefs) e fi) oe oi (subst (λ g. IsInRange g.constant × (constant ≡ fraction_of_whole g.constant)) e ci)
 
-pub begun_is : (vars : ℕ) (forms : List Form) (t : State) (n : ℕ) → t.vars ≡ vars → n ≡ length forms → AreCounted vars t.columns → AreZeros (length forms) t.values → IsBegun vars forms n t.basics t.rows t.bounds → IsInitial vars forms t
+pub begun_is : (vars : ℕ) (forms : List Form) (t : TableauState) (n : ℕ) → t.vars ≡ vars → n ≡ length forms → AreCounted vars t.columns → AreZeros (length forms) t.values → IsBegun vars forms n t.basics t.rows t.bounds → IsInitial vars forms t
 begun_is vars forms t n vars_is e columns values h =
     let k : IsBegun vars forms (length forms) t.basics t.rows t.bounds = subst (λ m. IsBegun vars forms m t.basics t.rows t.bounds) e h in
     record {
@@ -89,5 +89,5 @@ begun_is vars forms t n vars_is e columns values h =
       bounds_are = k.bounds_are;
     }
 
-pub begun_fits : (vars : ℕ) (forms : List Form) (n : ℕ) (basics : List ℕ) (rows : List (List Fraction)) (bounds : List Fraction) → n ≡ length forms → IsBegun vars forms n basics rows bounds → AllFit forms
+pub begun_fits : (vars : ℕ) (forms : List Form) (n : ℕ) (basics : List ℕ) (rows : List (List Fraction)) (bounds : List Fraction) → n ≡ length forms → IsBegun vars forms n basics rows bounds → FormsFit forms
 begun_fits vars forms n basics rows bounds e h i l = h.fit i (omega (arith, e, l))

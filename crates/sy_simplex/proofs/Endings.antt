@@ -3,15 +3,15 @@ use Rattle.std.specs.Prelude.{◌≡◌, ◌≢◌, ℕ, zero, suc, ◌<◌, ◌
 use Rattle.std.proofs.Common.{refl, sym, ◌∙◌, ap, ap₂, subst, arith, inl, inr, ◌⊎◌, ◌==◌, ltb-true, ltb-false}
 use Rattle.std.proofs.Math.Dec.{eqb, ltb}
 use Rattle.std.proofs.lemmas.Bool.Decides.{eqb_tells}
-use Rattle.sy_frac.specs.Rational.{ℚ, 0ℚ, 1ℚ, ◌+ℚ◌, ◌*ℚ◌, neg_ℚ, is_negative, not_negative_plus, zero_not_negative, one_not_negative, +ℚ_cancel, +ℚ_comm, +ℚ_zero, zero-+ℚ, +ℚ-neg, *ℚ_zero, zero-*ℚ, one-*ℚ, *ℚ-+ℚ, +ℚ-*ℚ, neg_ℚ-*ℚ}
-use Rattle.sy_linear_forms.specs.Total.{total, total-same, total-plus, total_zero, total_split, without, without_same, without_other, combined}
-use Rattle.sy_linear_forms.specs.Systems.{System, form_at, Meets, IsRefutation, IsCorner, total_not_negative}
+use Rattle.sy_frac.specs.Rational.{ℚ, 0ℚ, 1ℚ, ◌+ℚ◌, ◌*ℚ◌, neg_ℚ, is_negative_rational, not_negative_plus, zero_not_negative, one_not_negative, +ℚ_cancel, +ℚ_comm, +ℚ_zero, zero-+ℚ, +ℚ-neg, *ℚ_zero, zero-*ℚ, one-*ℚ, *ℚ-+ℚ, +ℚ-*ℚ, neg_ℚ-*ℚ}
+use Rattle.sy_linear_forms.specs.Total.{total, total-same, total-plus, total_zero, total_split, zero_at, without_same, without_other, combined_total}
+use Rattle.sy_linear_forms.specs.Systems.{System, form_at_point, MeetsSystem, IsRefutation, IsCorner, total_not_negative}
 use Rattle.sy_simplex.proofs.Tables.{Table, Holds, initial, basics_agree}
 
 -- ---- points and assignments
 -- the assignment of a point: a form variable has the value of the form's linear part
 unfoldable pub lifted : System → (ℕ → ℚ) → ℕ → ℚ
-lifted s x v = cond (ltb v s.vars) (x v) (combined s.vars (s.linear (v - s.vars)) x)
+lifted s x v = cond (ltb v s.vars) (x v) (combined_total s.vars (s.linear (v - s.vars)) x)
 
 test_lt : (m n : ℕ) → m < n → ltb m n ≡ true
 test_lt m n h = by (ltb m n) refl
@@ -31,14 +31,14 @@ pub lifted_free : (s : System) (x : ℕ → ℚ) (v : ℕ) → v < s.vars → li
 unfolding lifted
 lifted_free s x v h = rw (test_lt v s.vars h)
 
-pub lifted_form : (s : System) (x : ℕ → ℚ) (i : ℕ) → lifted s x (s.vars + i) ≡ combined s.vars (s.linear i) x
+pub lifted_form : (s : System) (x : ℕ → ℚ) (i : ℕ) → lifted s x (s.vars + i) ≡ combined_total s.vars (s.linear i) x
 unfolding lifted
 lifted_form s x i =
     let e : s.vars + i - s.vars ≡ i = omega arith in
     rw (test_ge (s.vars + i) s.vars (omega arith), e)
 
 pub lifted_holds : (s : System) (x : ℕ → ℚ) → Holds s.vars s.count (initial s.vars s.linear) (lifted s x)
-unfolding Holds initial combined
+unfolding Holds initial combined_total
 lifted_holds s x i l = lifted_form s x i ∙ total-same s.vars (λ j. s.linear i j *ℚ x j) (λ j. s.linear i j *ℚ lifted s x j) (λ j m. ap (λ t. s.linear i j *ℚ t) (sym (lifted_free s x j m)))
 
 -- ---- multipliers from a row
@@ -70,11 +70,11 @@ pick_zero u i = by (i == u)
     by true = refl
     by false = refl
 
-pick_not_negative : (u i : ℕ) (q : ℚ) → is_negative q ≡ false → is_negative (pick u i q) ≡ false
+pick_not_negative : (u i : ℕ) (q : ℚ) → is_negative_rational q ≡ false → is_negative_rational (pick u i q) ≡ false
 unfolding pick
 pick_not_negative u i q h = by (i == u)
   where
-    by : (b : Bool) → is_negative (cond b q 0ℚ) ≡ false
+    by : (b : Bool) → is_negative_rational (cond b q 0ℚ) ≡ false
     by true = h
     by false = zero_not_negative
 
@@ -82,11 +82,11 @@ pick_not_negative u i q h = by (i == u)
 total_pick : (n u : ℕ) (q : ℚ) (g : ℕ → ℚ) → u < n → total n (λ i. pick u i q *ℚ g i) ≡ q *ℚ g u
 total_pick n u q g h =
     total_split n u (λ i. pick u i q *ℚ g i) h
-    ∙ ap₂ (λ a b. a +ℚ b) (ap (λ a. a *ℚ g u) (pick_same u q)) (total-same n (without u (λ i. pick u i q *ℚ g i)) (λ i. 0ℚ) (λ i l. by i (eqb_tells i u)) ∙ total_zero n)
+    ∙ ap₂ (λ a b. a +ℚ b) (ap (λ a. a *ℚ g u) (pick_same u q)) (total-same n (zero_at u (λ i. pick u i q *ℚ g i)) (λ i. 0ℚ) (λ i l. by i (eqb_tells i u)) ∙ total_zero n)
     ∙ +ℚ_zero (q *ℚ g u)
   where
-    by : (i : ℕ) → ((eqb i u ≡ true) × (i ≡ u)) ⊎ ((eqb i u ≡ false) × (i ≢ u)) → without u (λ i. pick u i q *ℚ g i) i ≡ 0ℚ
-    by i (inl k) = subst (λ m. without u (λ i. pick u i q *ℚ g i) m ≡ 0ℚ) (sym k.1) (without_same u (λ i. pick u i q *ℚ g i))
+    by : (i : ℕ) → ((eqb i u ≡ true) × (i ≡ u)) ⊎ ((eqb i u ≡ false) × (i ≢ u)) → zero_at u (λ i. pick u i q *ℚ g i) i ≡ 0ℚ
+    by i (inl k) = subst (λ m. zero_at u (λ i. pick u i q *ℚ g i) m ≡ 0ℚ) (sym k.1) (without_same u (λ i. pick u i q *ℚ g i))
     by i (inr k) = without_other u i (λ i. pick u i q *ℚ g i) k.1 ∙ ap (λ a. a *ℚ g i) (pick_other u i q k.1) ∙ zero-*ℚ (g i)
 
 total_pick_zero : (n u : ℕ) (g : ℕ → ℚ) → total n (λ i. pick u i 0ℚ *ℚ g i) ≡ 0ℚ
@@ -113,9 +113,9 @@ total_spread count (suc n) form c g h =
 pub record IsStuck (s : System) (t : Table) (v : ℕ → ℚ) (r own : ℕ) (form : ℕ → ℕ) : Type 0 where
   pub own_below : own < s.count
   pub own_is : t.basic r ≡ s.vars + own
-  pub below : is_negative (v (t.basic r) +ℚ s.constant own) ≡ true
+  pub below : is_negative_rational (v (t.basic r) +ℚ s.constant own) ≡ true
   pub columns : (j : ℕ) → j < s.vars → (t.coef r j ≡ 0ℚ) ⊎ ((form j < s.count) × (t.nonbasic j ≡ s.vars + form j) × (v (t.nonbasic j) +ℚ s.constant (form j) ≡ 0ℚ))
-  pub signs : (j : ℕ) → j < s.vars → is_negative (neg_ℚ (t.coef r j)) ≡ false
+  pub signs : (j : ℕ) → j < s.vars → is_negative_rational (neg_ℚ (t.coef r j)) ≡ false
 
 -- 1 for the form of the row, and the opposite of its coefficient for the form of each column
 unfoldable pub multiplier : System → Table → ℕ → ℕ → (ℕ → ℕ) → ℕ → ℚ
@@ -153,19 +153,19 @@ module _ (s : System) (t : Table) (v : ℕ → ℚ) (r own : ℕ) (form : ℕ �
       ∙ ap₂ (λ a b. a +ℚ b) (total_pick s.count own 1ℚ g stuck.own_below ∙ one-*ℚ (g own)) (total_spread s.count s.vars form (λ j. neg_ℚ (t.coef r j)) g formed)
 
   -- the linear parts cancel at every point
-  cancels : (x : ℕ → ℚ) → combined s.vars (s.linear own) x +ℚ total s.vars (λ j. weights j *ℚ combined s.vars (s.linear (form j)) x) ≡ 0ℚ
-  unfolding weights Holds combined
+  cancels : (x : ℕ → ℚ) → combined_total s.vars (s.linear own) x +ℚ total s.vars (λ j. weights j *ℚ combined_total s.vars (s.linear (form j)) x) ≡ 0ℚ
+  unfolding weights Holds combined_total
   cancels x =
-      ap (λ a. a +ℚ total s.vars (λ j. neg_ℚ (t.coef r j) *ℚ combined s.vars (s.linear (form j)) x)) (sym (lifted_form s x own) ∙ ap (lifted s x) (sym stuck.own_is) ∙ onto (lifted s x) (lifted_holds s x) r in_range)
-      ∙ total_opposite s.vars (λ j. t.coef r j *ℚ lifted s x (t.nonbasic j)) (λ j. neg_ℚ (t.coef r j) *ℚ combined s.vars (s.linear (form j)) x) (λ j l. by j (stuck.columns j l))
+      ap (λ a. a +ℚ total s.vars (λ j. neg_ℚ (t.coef r j) *ℚ combined_total s.vars (s.linear (form j)) x)) (sym (lifted_form s x own) ∙ ap (lifted s x) (sym stuck.own_is) ∙ onto (lifted s x) (lifted_holds s x) r in_range)
+      ∙ total_opposite s.vars (λ j. t.coef r j *ℚ lifted s x (t.nonbasic j)) (λ j. neg_ℚ (t.coef r j) *ℚ combined_total s.vars (s.linear (form j)) x) (λ j l. by j (stuck.columns j l))
     where
-      by : (j : ℕ) → (t.coef r j ≡ 0ℚ) ⊎ ((form j < s.count) × (t.nonbasic j ≡ s.vars + form j) × (v (t.nonbasic j) +ℚ s.constant (form j) ≡ 0ℚ)) → neg_ℚ (t.coef r j) *ℚ combined s.vars (s.linear (form j)) x ≡ neg_ℚ (t.coef r j *ℚ lifted s x (t.nonbasic j))
-      by j (inl e) = subst (λ c. neg_ℚ c *ℚ combined s.vars (s.linear (form j)) x ≡ neg_ℚ (c *ℚ lifted s x (t.nonbasic j))) (sym e) (ap (λ a. a *ℚ combined s.vars (s.linear (form j)) x) neg_zero ∙ zero-*ℚ (combined s.vars (s.linear (form j)) x) ∙ sym (ap neg_ℚ (zero-*ℚ (lifted s x (t.nonbasic j))) ∙ neg_zero))
-      by j (inr k) = neg_ℚ-*ℚ (t.coef r j) (combined s.vars (s.linear (form j)) x) ∙ ap (λ a. neg_ℚ (t.coef r j *ℚ a)) (sym (ap (lifted s x) k.1 ∙ lifted_form s x (form j)))
+      by : (j : ℕ) → (t.coef r j ≡ 0ℚ) ⊎ ((form j < s.count) × (t.nonbasic j ≡ s.vars + form j) × (v (t.nonbasic j) +ℚ s.constant (form j) ≡ 0ℚ)) → neg_ℚ (t.coef r j) *ℚ combined_total s.vars (s.linear (form j)) x ≡ neg_ℚ (t.coef r j *ℚ lifted s x (t.nonbasic j))
+      by j (inl e) = subst (λ c. neg_ℚ c *ℚ combined_total s.vars (s.linear (form j)) x ≡ neg_ℚ (c *ℚ lifted s x (t.nonbasic j))) (sym e) (ap (λ a. a *ℚ combined_total s.vars (s.linear (form j)) x) neg_zero ∙ zero-*ℚ (combined_total s.vars (s.linear (form j)) x) ∙ sym (ap neg_ℚ (zero-*ℚ (lifted s x (t.nonbasic j))) ∙ neg_zero))
+      by j (inr k) = neg_ℚ-*ℚ (t.coef r j) (combined_total s.vars (s.linear (form j)) x) ∙ ap (λ a. neg_ℚ (t.coef r j *ℚ a)) (sym (ap (lifted s x) k.1 ∙ lifted_form s x (form j)))
 
   -- the constants combine to the row's distance from its bound
   distance : s.constant own +ℚ total s.vars (λ j. weights j *ℚ s.constant (form j)) ≡ v (t.basic r) +ℚ s.constant own
-  unfolding weights Holds combined
+  unfolding weights Holds combined_total
   distance = +ℚ_comm (s.constant own) (total s.vars (λ j. neg_ℚ (t.coef r j) *ℚ s.constant (form j))) ∙ ap (λ a. a +ℚ s.constant own) (total-same s.vars (λ j. neg_ℚ (t.coef r j) *ℚ s.constant (form j)) (λ j. t.coef r j *ℚ v (t.nonbasic j)) (λ j l. by j (stuck.columns j l)) ∙ sym (holds r in_range))
     where
       by : (j : ℕ) → (t.coef r j ≡ 0ℚ) ⊎ ((form j < s.count) × (t.nonbasic j ≡ s.vars + form j) × (v (t.nonbasic j) +ℚ s.constant (form j) ≡ 0ℚ)) → neg_ℚ (t.coef r j) *ℚ s.constant (form j) ≡ t.coef r j *ℚ v (t.nonbasic j)
@@ -174,7 +174,7 @@ module _ (s : System) (t : Table) (v : ℕ → ℚ) (r own : ℕ) (form : ℕ �
 
   -- a row that cannot be raised refutes the forms
   pub stuck_refutes : IsRefutation s (multiplier s t r own form)
-  unfolding multiplier form_at weights spread
+  unfolding multiplier form_at_point weights spread
   stuck_refutes = record {
     not_negative = λ i l. not_negative_plus (pick own i 1ℚ) (total s.vars (λ j. pick (form j) i (neg_ℚ (t.coef r j)))) (pick_not_negative own i 1ℚ one_not_negative) (total_not_negative s.vars (λ j. pick (form j) i (neg_ℚ (t.coef r j))) (λ j k. pick_not_negative (form j) i (neg_ℚ (t.coef r j)) (stuck.signs j k)));
     constant = v (t.basic r) +ℚ s.constant own;
@@ -182,18 +182,18 @@ module _ (s : System) (t : Table) (v : ℕ → ℚ) (r own : ℕ) (form : ℕ �
     combines = λ x. all x;
   }
     where
-      all : (x : ℕ → ℚ) → total s.count (λ i. multiplier s t r own form i *ℚ (combined s.vars (s.linear i) x +ℚ s.constant i)) ≡ v (t.basic r) +ℚ s.constant own
+      all : (x : ℕ → ℚ) → total s.count (λ i. multiplier s t r own form i *ℚ (combined_total s.vars (s.linear i) x +ℚ s.constant i)) ≡ v (t.basic r) +ℚ s.constant own
       all x =
-          total-same s.count (λ i. multiplier s t r own form i *ℚ (combined s.vars (s.linear i) x +ℚ s.constant i)) (λ i. multiplier s t r own form i *ℚ combined s.vars (s.linear i) x +ℚ multiplier s t r own form i *ℚ s.constant i) (λ i l. *ℚ-+ℚ (multiplier s t r own form i) (combined s.vars (s.linear i) x) (s.constant i))
-          ∙ total-plus s.count (λ i. multiplier s t r own form i *ℚ combined s.vars (s.linear i) x) (λ i. multiplier s t r own form i *ℚ s.constant i)
-          ∙ ap₂ (λ a b. a +ℚ b) (gathered (λ i. combined s.vars (s.linear i) x) ∙ cancels x) (gathered s.constant ∙ distance)
+          total-same s.count (λ i. multiplier s t r own form i *ℚ (combined_total s.vars (s.linear i) x +ℚ s.constant i)) (λ i. multiplier s t r own form i *ℚ combined_total s.vars (s.linear i) x +ℚ multiplier s t r own form i *ℚ s.constant i) (λ i l. *ℚ-+ℚ (multiplier s t r own form i) (combined_total s.vars (s.linear i) x) (s.constant i))
+          ∙ total-plus s.count (λ i. multiplier s t r own form i *ℚ combined_total s.vars (s.linear i) x) (λ i. multiplier s t r own form i *ℚ s.constant i)
+          ∙ ap₂ (λ a b. a +ℚ b) (gathered (λ i. combined_total s.vars (s.linear i) x) ∙ cancels x) (gathered s.constant ∙ distance)
           ∙ zero-+ℚ (v (t.basic r) +ℚ s.constant own)
 
 -- ---- the end of a run at a point
 -- where every form variable is at least its bound, the free variables' values meet every form
-pub bounds_met : (s : System) (v : ℕ → ℚ) → Holds s.vars s.count (initial s.vars s.linear) v → ((i : ℕ) → i < s.count → is_negative (v (s.vars + i) +ℚ s.constant i) ≡ false) → Meets s v
-unfolding Meets form_at Holds initial
-bounds_met s v h b i l = ap (λ a. is_negative (a +ℚ s.constant i)) (sym (h i l)) ∙ b i l
+pub bounds_met : (s : System) (v : ℕ → ℚ) → Holds s.vars s.count (initial s.vars s.linear) v → ((i : ℕ) → i < s.count → is_negative_rational (v (s.vars + i) +ℚ s.constant i) ≡ false) → MeetsSystem s v
+unfolding MeetsSystem form_at_point Holds initial
+bounds_met s v h b i l = ap (λ a. is_negative_rational (a +ℚ s.constant i)) (sym (h i l)) ∙ b i l
 
 -- v is among f 0, .., f (n - 1)
 unfoldable pub among : ℕ → (ℕ → ℕ) → ℕ → Bool
@@ -233,11 +233,11 @@ module _ (s : System) (t : Table) (v : ℕ → ℚ) (onto : (w : ℕ → ℚ) �
   first_holds : Holds s.vars s.count (initial s.vars s.linear) v
   first_holds = back v holds
 
-  form_is : (i : ℕ) → i < s.count → form_at s i v ≡ v (s.vars + i) +ℚ s.constant i
-  unfolding form_at Holds initial
+  form_is : (i : ℕ) → i < s.count → form_at_point s i v ≡ v (s.vars + i) +ℚ s.constant i
+  unfolding form_at_point Holds initial
   form_is i l = ap (λ a. a +ℚ s.constant i) (sym (first_holds i l))
 
-  form_zero : (i j : ℕ) → i < s.count → j < s.vars → t.nonbasic j ≡ s.vars + i → form_at s i v ≡ 0ℚ
+  form_zero : (i j : ℕ) → i < s.count → j < s.vars → t.nonbasic j ≡ s.vars + i → form_at_point s i v ≡ 0ℚ
   unfolding AtRest
   form_zero i j l m e = form_is i l ∙ by (rest j m)
     where
@@ -253,15 +253,15 @@ module _ (s : System) (t : Table) (v : ℕ → ℚ) (onto : (w : ℕ → ℚ) �
       by (inl p) = p.1
       by (inr p) = absurd (omega (arith, e, p.2))
 
-  columns_agree : (y : ℕ → ℚ) → ((i : ℕ) → i < s.count → among s.vars t.nonbasic (s.vars + i) ≡ true → form_at s i y ≡ 0ℚ) → ((u : ℕ) → u < s.vars → among s.vars t.nonbasic u ≡ true → y u ≡ 0ℚ) → (j : ℕ) → j < s.vars → lifted s y (t.nonbasic j) ≡ v (t.nonbasic j)
-  unfolding AtRest form_at
+  columns_agree : (y : ℕ → ℚ) → ((i : ℕ) → i < s.count → among s.vars t.nonbasic (s.vars + i) ≡ true → form_at_point s i y ≡ 0ℚ) → ((u : ℕ) → u < s.vars → among s.vars t.nonbasic u ≡ true → y u ≡ 0ℚ) → (j : ℕ) → j < s.vars → lifted s y (t.nonbasic j) ≡ v (t.nonbasic j)
+  unfolding AtRest form_at_point
   columns_agree y f g j m = by (rest j m)
     where
       by : ((t.nonbasic j < s.vars) × (v (t.nonbasic j) ≡ 0ℚ)) ⊎ ((k : ℕ) × (k < s.count) × (t.nonbasic j ≡ s.vars + k) × (v (t.nonbasic j) +ℚ s.constant k ≡ 0ℚ)) → lifted s y (t.nonbasic j) ≡ v (t.nonbasic j)
       by (inl p) = lifted_free s y (t.nonbasic j) p.0 ∙ g (t.nonbasic j) p.0 (among_holds s.vars t.nonbasic j m) ∙ sym p.1
       by (inr p) =
           let chosen : among s.vars t.nonbasic (s.vars + p.0) ≡ true = subst (λ u. among s.vars t.nonbasic u ≡ true) p.2 (among_holds s.vars t.nonbasic j m) in
-          ap (lifted s y) p.2 ∙ lifted_form s y p.0 ∙ +ℚ_cancel (combined s.vars (s.linear p.0) y) (v (t.nonbasic j)) (s.constant p.0) (f p.0 p.1 chosen ∙ sym p.3)
+          ap (lifted s y) p.2 ∙ lifted_form s y p.0 ∙ +ℚ_cancel (combined_total s.vars (s.linear p.0) y) (v (t.nonbasic j)) (s.constant p.0) (f p.0 p.1 chosen ∙ sym p.3)
 
   -- where the columns are at rest, the point is a corner
   pub rests_at_corner : IsCorner s v
@@ -273,6 +273,6 @@ module _ (s : System) (t : Table) (v : ℕ → ℚ) (onto : (w : ℕ → ℚ) �
     only = λ y f g u l. both y f g u l (basis u l);
   }
     where
-      both : (y : ℕ → ℚ) → ((i : ℕ) → i < s.count → among s.vars t.nonbasic (s.vars + i) ≡ true → form_at s i y ≡ 0ℚ) → ((u : ℕ) → u < s.vars → among s.vars t.nonbasic u ≡ true → y u ≡ 0ℚ) → (u : ℕ) → u < s.vars → ((i : ℕ) × (i < s.count) × (t.basic i ≡ u)) ⊎ ((j : ℕ) × (j < s.vars) × (t.nonbasic j ≡ u)) → y u ≡ v u
+      both : (y : ℕ → ℚ) → ((i : ℕ) → i < s.count → among s.vars t.nonbasic (s.vars + i) ≡ true → form_at_point s i y ≡ 0ℚ) → ((u : ℕ) → u < s.vars → among s.vars t.nonbasic u ≡ true → y u ≡ 0ℚ) → (u : ℕ) → u < s.vars → ((i : ℕ) × (i < s.count) × (t.basic i ≡ u)) ⊎ ((j : ℕ) × (j < s.vars) × (t.nonbasic j ≡ u)) → y u ≡ v u
       both y f g u l (inl p) = sym (lifted_free s y u l) ∙ ap (lifted s y) (sym p.2) ∙ basics_agree s.vars s.count t (lifted s y) v (onto (lifted s y) (lifted_holds s y)) holds (columns_agree y f g) p.0 p.1 ∙ ap v p.2
       both y f g u l (inr p) = sym (lifted_free s y u l) ∙ ap (lifted s y) (sym p.2) ∙ columns_agree y f g p.0 p.1 ∙ ap v p.2

@@ -5,14 +5,14 @@ use Rattle.std.proofs.Math.Dec.{eqb, ltb}
 use Rattle.std.proofs.lemmas.Bool.Decides.{eqb_tells}
 use Rattle.std.proofs.lemmas.Int.{ints}
 use Rattle.sy_frac.specs.Fraction.{Fraction}
-use Rattle.sy_frac.specs.Rational.{ℚ, 0ℚ, 1ℚ, ◌+ℚ◌, ◌*ℚ◌, neg_ℚ, value as number, is_negative, +ℚ_zero, zero-+ℚ}
+use Rattle.sy_frac.specs.Rational.{ℚ, 0ℚ, 1ℚ, ◌+ℚ◌, ◌*ℚ◌, neg_ℚ, value as number, is_negative_rational, +ℚ_zero, zero-+ℚ}
 use Rattle.sy_linear_forms.specs.declared.form.Form.{Form}
-use Rattle.sy_linear_forms.specs.Total.{total, total-same, total_zero, total_split, without, without_same, without_other}
-use Rattle.sy_linear_forms.specs.Systems.{form_at, IsRefutation}
+use Rattle.sy_linear_forms.specs.Total.{total, total-same, total_zero, total_split, zero_at, without_same, without_other}
+use Rattle.sy_linear_forms.specs.Systems.{form_at_point, IsRefutation}
 use Rattle.sy_simplex_tableau.specs.Rows.{at, Raises}
-use Rattle.sy_simplex_tableau.specs.States.{State, column, basic, row, coef, value, bound, IsStuck}
+use Rattle.sy_simplex_tableau.specs.States.{TableauState, variable_of_column, basic, row, coef, row_value, bound, IsStuck}
 use Rattle.sy_simplex.specs.Problems.{system_of, numbers}
-use Rattle.sy_simplex.specs.Runs.{IsMultiplier, AreMultipliers}
+use Rattle.sy_simplex.specs.Runs.{IsMultiplier, AreRowMultipliers}
 use Rattle.sy_simplex.proofs.Values.{zero_is, one_is, value_opposite, less_negative, opposite_not_negative, zero_numerator}
 use Rattle.sy_simplex.proofs.Bridge.{table_of, coef_positive, value_positive, bound_positive, column_variable, basic_variable, neg_neg}
 use Rattle.sy_simplex.proofs.Endings.{IsStuck as IsStuckTable, multiplier, spread, pick, pick_same, pick_other, pick_zero, neg_zero, stuck_refutes}
@@ -29,13 +29,13 @@ none n f h = total-same n f (λ j. 0ℚ) h ∙ total_zero n
 
 -- a total whose terms are 0 but one
 one : (n e : ℕ) (f : ℕ → ℚ) → e < n → ((j : ℕ) → j < n → j ≢ e → f j ≡ 0ℚ) → total n f ≡ f e
-one n e f l h = total_split n e f l ∙ ap (λ x. f e +ℚ x) (none n (without e f) (λ j k. by j k (eqb_tells j e))) ∙ +ℚ_zero (f e)
+one n e f l h = total_split n e f l ∙ ap (λ x. f e +ℚ x) (none n (zero_at e f) (λ j k. by j k (eqb_tells j e))) ∙ +ℚ_zero (f e)
   where
-    by : (j : ℕ) → j < n → ((eqb j e ≡ true) × (j ≡ e)) ⊎ ((eqb j e ≡ false) × (j ≢ e)) → without e f j ≡ 0ℚ
-    by j k (inl s) = ap (without e f) s.1 ∙ without_same e f
+    by : (j : ℕ) → j < n → ((eqb j e ≡ true) × (j ≡ e)) ⊎ ((eqb j e ≡ false) × (j ≢ e)) → zero_at e f j ≡ 0ℚ
+    by j k (inl s) = ap (zero_at e f) s.1 ∙ without_same e f
     by j k (inr s) = without_other e j f s.1 ∙ h j k s.1
 
-module _ (vars : ℕ) (forms : List Form) (t : State) (steady : IsSteady vars forms t) (r : ℕ) (stuck : IsStuck t r) where
+module _ (vars : ℕ) (forms : List Form) (t : TableauState) (steady : IsSteady vars forms t) (r : ℕ) (stuck : IsStuck t r) where
   row_below : r < length forms
   row_below = omega (arith, steady.basics_length, stuck.leaving.first.row_below)
 
@@ -43,7 +43,7 @@ module _ (vars : ℕ) (forms : List Form) (t : State) (steady : IsSteady vars fo
   own = basic t r - vars
 
   form_of : ℕ → ℕ
-  form_of j = column t j - vars
+  form_of j = variable_of_column t j - vars
 
   own_is : basic t r ≡ vars + own
   unfolding own
@@ -58,29 +58,29 @@ module _ (vars : ℕ) (forms : List Form) (t : State) (steady : IsSteady vars fo
   unraised j k h = stuck.none j (omega (arith, steady.columns_length, k)) h
 
   AtBound : ℕ → Type 0
-  AtBound j = (form_of j < length forms) × (column t j ≡ vars + form_of j) × (assignment vars forms t steady (column t j) +ℚ constant vars forms t steady (form_of j) ≡ 0ℚ)
+  AtBound j = (form_of j < length forms) × (variable_of_column t j ≡ vars + form_of j) × (assignment vars forms t steady (variable_of_column t j) +ℚ constant vars forms t steady (form_of j) ≡ 0ℚ)
 
   column_is : (j : ℕ) → j < vars → (number (coef t r j) ≡ 0ℚ) ⊎ AtBound j
   unfolding form_of AtBound
-  column_is j k = by (ltb (column t j) vars) refl
+  column_is j k = by (ltb (variable_of_column t j) vars) refl
     where
-      by : (b : Bool) → ltb (column t j) vars ≡ b → (number (coef t r j) ≡ 0ℚ) ⊎ AtBound j
+      by : (b : Bool) → ltb (variable_of_column t j) vars ≡ b → (number (coef t r j) ≡ 0ℚ) ⊎ AtBound j
       by true e =
-          let free : column t j < t.vars = omega (arith, ltb-true (column t j) vars e, steady.vars_is) in
+          let free : variable_of_column t j < t.vars = omega (arith, ltb-true (variable_of_column t j) vars e, steady.vars_is) in
           inl (zero_numerator (coef t r j) (coef_positive vars (length forms) t steady.shape steady.columns_length steady.basics_length r j row_below k)
           (zero_between (coef t r j).num (λ h. unraised j k (inl h)) (λ h. unraised j k (inr (h, free)))))
       by false e =
-          let h : vars ≤ column t j = ltb-false (column t j) vars e in
-          let l : column t j < vars + length forms = of_tableau vars forms t steady (column t j) (column_variable vars (length forms) t steady.shape steady.columns_length steady.basics_length j k) in
-          let i : column t j - vars < length forms = omega (arith, h, l) in
-          let is : column t j ≡ vars + (column t j - vars) = omega (arith, h) in
-          inr (i, is, column_zero vars forms t steady (column t j - vars) j i k is)
+          let h : vars ≤ variable_of_column t j = ltb-false (variable_of_column t j) vars e in
+          let l : variable_of_column t j < vars + length forms = of_tableau vars forms t steady (variable_of_column t j) (column_variable vars (length forms) t steady.shape steady.columns_length steady.basics_length j k) in
+          let i : variable_of_column t j - vars < length forms = omega (arith, h, l) in
+          let is : variable_of_column t j ≡ vars + (variable_of_column t j - vars) = omega (arith, h) in
+          inr (i, is, column_zero vars forms t steady (variable_of_column t j - vars) j i k is)
 
-  below : is_negative (assignment vars forms t steady (basic t r) +ℚ constant vars forms t steady own) ≡ true
+  below : is_negative_rational (assignment vars forms t steady (basic t r) +ℚ constant vars forms t steady own) ≡ true
   below =
-      ap (λ x. is_negative (x +ℚ constant vars forms t steady own)) (at_row vars forms t steady r row_below)
-      ∙ ap (λ x. is_negative (number (value t r) +ℚ x)) (sym (ap neg_ℚ (bound_number vars forms t steady own own_below (basic t r) own_is) ∙ neg_neg (constant vars forms t steady own)))
-      ∙ less_negative (value t r) (bound t (basic t r)) (value_positive vars (length forms) t steady.shape steady.columns_length steady.basics_length r row_below) (bound_positive vars (length forms) t steady.shape steady.columns_length steady.basics_length (basic t r) stuck.leaving.bounded (basic_variable vars (length forms) t steady.shape steady.columns_length steady.basics_length r row_below)) stuck.leaving.below
+      ap (λ x. is_negative_rational (x +ℚ constant vars forms t steady own)) (at_row vars forms t steady r row_below)
+      ∙ ap (λ x. is_negative_rational (number (row_value t r) +ℚ x)) (sym (ap neg_ℚ (bound_number vars forms t steady own own_below (basic t r) own_is) ∙ neg_neg (constant vars forms t steady own)))
+      ∙ less_negative (row_value t r) (bound t (basic t r)) (value_positive vars (length forms) t steady.shape steady.columns_length steady.basics_length r row_below) (bound_positive vars (length forms) t steady.shape steady.columns_length steady.basics_length (basic t r) stuck.leaving.bounded (basic_variable vars (length forms) t steady.shape steady.columns_length steady.basics_length r row_below)) stuck.leaving.below
 
   stuck_table : IsStuckTable (system_of vars forms) (table_of t) (assignment vars forms t steady) r own form_of
   unfolding system_of AtBound constant
@@ -100,7 +100,7 @@ module _ (vars : ℕ) (forms : List Form) (t : State) (steady : IsSteady vars fo
   part : ℕ → ℕ → ℚ
   part i j = pick (form_of j) i (neg_ℚ (number (coef t r j)))
 
-  other_part : (i j : ℕ) → j < vars → (column t j ≢ vars + i) → part i j ≡ 0ℚ
+  other_part : (i j : ℕ) → j < vars → (variable_of_column t j ≢ vars + i) → part i j ≡ 0ℚ
   unfolding part AtBound
   other_part i j k h = by (column_is j k)
     where
@@ -108,7 +108,7 @@ module _ (vars : ℕ) (forms : List Form) (t : State) (steady : IsSteady vars fo
       by (inl e) = ap (pick (form_of j) i) (ap neg_ℚ e ∙ neg_zero) ∙ pick_zero (form_of j) i
       by (inr b) = pick_other (form_of j) i (neg_ℚ (number (coef t r j))) (λ e. h (b.1 ∙ ap (λ n. vars + n) (sym e)))
 
-  module _ (ms : List Fraction) (given : AreMultipliers t r ms) where
+  module _ (ms : List Fraction) (given : AreRowMultipliers t r ms) where
     multiplier_is : (i : ℕ) → i < length forms → numbers ms i ≡ multiplier (system_of vars forms) (table_of t) r own form_of i
     unfolding numbers multiplier spread system_of part form_of
     multiplier_is i l = by (subst (λ v. IsMultiplier t r (v + i) (at ms i)) steady.vars_is (given.each i (omega (arith, steady.bounds_length, l))))
@@ -134,8 +134,8 @@ module _ (vars : ℕ) (forms : List Form) (t : State) (steady : IsSteady vars fo
     given_refute =
         let all : IsRefutation (system_of vars forms) (multiplier (system_of vars forms) (table_of t) r own form_of) = refutes in
         record {
-          not_negative = λ i l. ap is_negative (multiplier_is i l) ∙ all.not_negative i l;
+          not_negative = λ i l. ap is_negative_rational (multiplier_is i l) ∙ all.not_negative i l;
           constant = all.constant;
           negative = all.negative;
-          combines = λ x. total-same (length forms) (λ i. numbers ms i *ℚ form_at (system_of vars forms) i x) (λ i. multiplier (system_of vars forms) (table_of t) r own form_of i *ℚ form_at (system_of vars forms) i x) (λ i l. ap (λ a. a *ℚ form_at (system_of vars forms) i x) (multiplier_is i l)) ∙ all.combines x;
+          combines = λ x. total-same (length forms) (λ i. numbers ms i *ℚ form_at_point (system_of vars forms) i x) (λ i. multiplier (system_of vars forms) (table_of t) r own form_of i *ℚ form_at_point (system_of vars forms) i x) (λ i l. ap (λ a. a *ℚ form_at_point (system_of vars forms) i x) (multiplier_is i l)) ∙ all.combines x;
         }

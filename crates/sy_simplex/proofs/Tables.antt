@@ -5,7 +5,7 @@ use Rattle.std.proofs.Common.{sym, ◌∙◌, ap, subst, inl, inr, ◌⊎◌}
 use Rattle.std.proofs.Math.Dec.{eqb}
 use Rattle.std.proofs.lemmas.Bool.Decides.{eqb_tells}
 use Rattle.sy_frac.specs.Rational.{ℚ, ◌*ℚ◌}
-use Rattle.sy_linear_forms.specs.Total.{total-same, combined, replaced, replaced_same, replaced_other, IsSolved, IsPut, solved_gives, put_gives, solved_back, put_back}
+use Rattle.sy_linear_forms.specs.Total.{total-same, combined_total, replaced, replaced_same, replaced_other, IsSolved, IsPut, solved_gives, put_gives, solved_back, put_back}
 
 -- rows and columns with their variables, and the coefficients of the rows
 pub record Table : Type 0 where
@@ -15,7 +15,7 @@ pub record Table : Type 0 where
 
 -- each basic variable is its combination of the nonbasic ones
 unfoldable pub Holds : (columns rows : ℕ) → Table → (ℕ → ℚ) → Type 0
-Holds columns rows t x = (i : ℕ) → i < rows → x (t.basic i) ≡ combined columns (t.coef i) (λ j. x (t.nonbasic j))
+Holds columns rows t x = (i : ℕ) → i < rows → x (t.basic i) ≡ combined_total columns (t.coef i) (λ j. x (t.nonbasic j))
 
 -- at first the form variables are basic, and stand for the linear parts of the forms
 unfoldable pub initial : ℕ → (ℕ → ℕ → ℚ) → Table
@@ -41,8 +41,8 @@ exchange_back {columns} {rows} {r} {e} {t} {u} x = record {
 }
 
 -- the values of the columns after the exchange
-columns_after : (columns rows r e : ℕ) (t u : Table) (v : ℕ → ℚ) (a : ℕ → ℚ) → IsExchange columns rows r e t u → combined columns a (λ j. v (u.nonbasic j)) ≡ combined columns a (replaced e (v (t.basic r)) (λ j. v (t.nonbasic j)))
-unfolding combined
+columns_after : (columns rows r e : ℕ) (t u : Table) (v : ℕ → ℚ) (a : ℕ → ℚ) → IsExchange columns rows r e t u → combined_total columns a (λ j. v (u.nonbasic j)) ≡ combined_total columns a (replaced e (v (t.basic r)) (λ j. v (t.nonbasic j)))
+unfolding combined_total
 columns_after columns rows r e t u v a x =
     total-same columns (λ j. a j *ℚ v (u.nonbasic j)) (λ j. a j *ℚ replaced e (v (t.basic r)) (λ j. v (t.nonbasic j)) j)
     (λ j l. ap (λ s. a j *ℚ s) (by j l (eqb_tells j e)))
@@ -55,11 +55,11 @@ pub exchange_keeps : (columns rows r e : ℕ) (t u : Table) (v : ℕ → ℚ) �
 unfolding Holds
 exchange_keeps columns rows r e t u v p q x h i l = by (eqb_tells i r)
   where
-    entering : v (t.nonbasic e) ≡ combined columns (u.coef r) (replaced e (v (t.basic r)) (λ j. v (t.nonbasic j)))
+    entering : v (t.nonbasic e) ≡ combined_total columns (u.coef r) (replaced e (v (t.basic r)) (λ j. v (t.nonbasic j)))
     entering = solved_gives columns e (t.coef r) (u.coef r) (λ j. v (t.nonbasic j)) (v (t.basic r)) q x.solved (h r p)
 
-    by : ((eqb i r ≡ true) × (i ≡ r)) ⊎ ((eqb i r ≡ false) × (i ≢ r)) → v (u.basic i) ≡ combined columns (u.coef i) (λ j. v (u.nonbasic j))
-    by (inl k) = subst (λ m. v (u.basic m) ≡ combined columns (u.coef m) (λ j. v (u.nonbasic j))) (sym k.1) (ap v x.enters ∙ entering ∙ sym (columns_after columns rows r e t u v (u.coef r) x))
+    by : ((eqb i r ≡ true) × (i ≡ r)) ⊎ ((eqb i r ≡ false) × (i ≢ r)) → v (u.basic i) ≡ combined_total columns (u.coef i) (λ j. v (u.nonbasic j))
+    by (inl k) = subst (λ m. v (u.basic m) ≡ combined_total columns (u.coef m) (λ j. v (u.nonbasic j))) (sym k.1) (ap v x.enters ∙ entering ∙ sym (columns_after columns rows r e t u v (u.coef r) x))
     by (inr k) =
         ap v (x.rows_stay i l k.1)
         ∙ put_gives columns e (u.coef r) (t.coef i) (u.coef i) (λ j. v (t.nonbasic j)) (v (t.basic r)) (v (t.basic i)) q (x.put i l k.1) entering (h i l)
@@ -68,6 +68,6 @@ exchange_keeps columns rows r e t u v p q x h i l = by (eqb_tells i r)
 -- ---- values
 -- rows that hold of two assignments, which agree on the columns, agree on the basic variables
 pub basics_agree : (columns rows : ℕ) (t : Table) (v w : ℕ → ℚ) → Holds columns rows t v → Holds columns rows t w → ((j : ℕ) → j < columns → v (t.nonbasic j) ≡ w (t.nonbasic j)) → (i : ℕ) → i < rows → v (t.basic i) ≡ w (t.basic i)
-unfolding Holds combined
+unfolding Holds combined_total
 basics_agree columns rows t v w h k same i l =
     h i l ∙ total-same columns (λ j. t.coef i j *ℚ v (t.nonbasic j)) (λ j. t.coef i j *ℚ w (t.nonbasic j)) (λ j m. ap (λ s. t.coef i j *ℚ s) (same j m)) ∙ sym (k i l)

@@ -4,15 +4,15 @@ use Rattle.std.proofs.Common.{refl, sym, ◌∙◌, ap, subst, arith, ltb-true}
 use Rattle.std.proofs.Math.IntN.{*ℤ_comm, zero-*ℤ}
 use borrow.Author.Differences.{up, down, ints, same_in, sum_is_lem}
 use Rattle.sy_frac.specs.Fraction.{Fraction, sum_over, difference_over}
-use Rattle.sy_frac.specs.Rational.{ℚ, 0ℚ, 1ℚ, ◌+ℚ◌, ◌*ℚ◌, neg_ℚ, is_negative, over, value, over_same, sum_over_is, product_over_is, value_sum, value_product, over_negative, one_over, +ℚ_comm, +ℚ_cancel, +ℚ-neg, zero-+ℚ}
+use Rattle.sy_frac.specs.Rational.{ℚ, 0ℚ, 1ℚ, ◌+ℚ◌, ◌*ℚ◌, neg_ℚ, is_negative_rational, over, value, over_same, sum_over_is, product_over_is, value_sum, value_product, over_negative, one_over, +ℚ_comm, +ℚ_cancel, +ℚ-neg, zero-+ℚ}
 use Rattle.sy_linear_forms.specs.Laws.{times_assoc, distributes}
-use Rattle.sy_simplex_tableau.specs.Operations.{Gives, difference, quotient, opposite, whole, IsPlusProduct, IsShift}
+use Rattle.sy_simplex_tableau.specs.Operations.{HasResult, difference, quotient, fraction_opposite, fraction_of_whole, IsPlusProduct, IsShift}
 use Rattle.sy_simplex_tableau.specs.States.{IsLess}
 
 positive_product : (a b : ℕ) → 0 < a → 0 < b → 0 < a * b
 positive_product a b p q = grind arith
 
-pub zero_is : value (whole (pos 0)) ≡ 0ℚ
+pub zero_is : value (fraction_of_whole (pos 0)) ≡ 0ℚ
 zero_is = +ℚ_cancel zero 0ℚ zero (sum_over_is (pos 0) (pos 0) 1 1 one_positive one_positive ∙ over_same (pos 0 *ℤ pos 1 +ℤ pos 0 *ℤ pos 1) (pos 0) (1 * 1) 1 (omega arith) one_positive refl ∙ sym (zero-+ℚ zero))
   where
     zero : ℚ
@@ -21,7 +21,7 @@ zero_is = +ℚ_cancel zero 0ℚ zero (sum_over_is (pos 0) (pos 0) 1 1 one_positi
     one_positive : 0 < 1
     one_positive = omega arith
 
-pub one_is : value (whole (pos 1)) ≡ 1ℚ
+pub one_is : value (fraction_of_whole (pos 1)) ≡ 1ℚ
 one_is = one_over
 
 none : (n : ℤ) → neg_ℤ n +ℤ n ≡ pos 0
@@ -46,11 +46,11 @@ opposite_cancels n d p =
         nothing : (x : ℤ) → x +ℤ neg_ℤ x ≡ pos 0
         nothing x = same_in _ _ (omega (arith, ints))
 
-pub value_opposite : (f : Fraction) → 0 < f.den → value (opposite f) ≡ neg_ℚ (value f)
-value_opposite f p = +ℚ_cancel (value (opposite f)) (neg_ℚ (value f)) (value f) (+ℚ_comm (value (opposite f)) (value f) ∙ opposite_cancels f.num f.den p ∙ sym (+ℚ_comm (neg_ℚ (value f)) (value f) ∙ +ℚ-neg (value f)))
+pub value_opposite : (f : Fraction) → 0 < f.den → value (fraction_opposite f) ≡ neg_ℚ (value f)
+value_opposite f p = +ℚ_cancel (value (fraction_opposite f)) (neg_ℚ (value f)) (value f) (+ℚ_comm (value (fraction_opposite f)) (value f) ∙ opposite_cancels f.num f.den p ∙ sym (+ℚ_comm (neg_ℚ (value f)) (value f) ∙ +ℚ-neg (value f)))
 
 -- f is r * g
-pub value_quotient : (f g r : Fraction) → 0 < f.den → 0 < g.den → Gives quotient f g r → value r *ℚ value g ≡ value f
+pub value_quotient : (f g r : Fraction) → 0 < f.den → 0 < g.den → HasResult quotient f g r → value r *ℚ value g ≡ value f
 value_quotient f g r p q h =
     product_over_is r.num g.num r.den g.den h.exact.lowest.positive q
     ∙ over_same (r.num *ℤ g.num) f.num (r.den * g.den) f.den (positive_product r.den g.den h.exact.lowest.positive q) p crossed
@@ -61,12 +61,12 @@ value_quotient f g r p q h =
         ∙ times_assoc f.num (pos g.den) (pos r.den) ∙ ap (λ k. f.num *ℤ k) (*ℤ_comm (pos g.den) (pos r.den))
 
 -- r is f - g
-pub value_difference : (f g r : Fraction) → 0 < f.den → 0 < g.den → Gives difference f g r → value r ≡ value f +ℚ neg_ℚ (value g)
+pub value_difference : (f g r : Fraction) → 0 < f.den → 0 < g.den → HasResult difference f g r → value r ≡ value f +ℚ neg_ℚ (value g)
 value_difference f g r p q h =
-    value_sum f (opposite g) r p q (record { value = h.exact.value ∙ ap (λ k. k *ℤ pos r.den) (turned f g); lowest = h.exact.lowest })
+    value_sum f (fraction_opposite g) r p q (record { value = h.exact.value ∙ ap (λ k. k *ℤ pos r.den) (turned f g); lowest = h.exact.lowest })
     ∙ ap (λ k. value f +ℚ k) (value_opposite g q)
   where
-    turned : (f g : Fraction) → difference_over f g ≡ sum_over f (opposite g)
+    turned : (f g : Fraction) → difference_over f g ≡ sum_over f (fraction_opposite g)
     turned f g = taken (f.num *ℤ pos g.den) (g.num *ℤ pos f.den) ∙ ap (λ k. f.num *ℤ pos g.den +ℤ k) (sym (turned_times g.num (pos f.den)))
       where
         taken : (x y : ℤ) → x -ℤ y ≡ x +ℤ neg_ℤ y
@@ -100,8 +100,8 @@ lt_false (pos n) h = by (int_lt (pos n) (pos 0)) refl
     by false e = refl
 lt_false (negsuc n) h = absurd (h (omega (arith, ints)))
 
-pub less_negative : (f g : Fraction) → 0 < f.den → 0 < g.den → IsLess f g → is_negative (value f +ℚ neg_ℚ (value g)) ≡ true
-less_negative f g p q h = ap is_negative (over_difference f g p q) ∙ over_negative (f.num *ℤ pos g.den +ℤ neg_ℤ g.num *ℤ pos f.den) (f.den * g.den) ∙ lt_true (f.num *ℤ pos g.den +ℤ neg_ℤ g.num *ℤ pos f.den) (below (f.num *ℤ pos g.den) (g.num *ℤ pos f.den) (neg_ℤ g.num *ℤ pos f.den) (turned_times g.num (pos f.den)) h)
+pub less_negative : (f g : Fraction) → 0 < f.den → 0 < g.den → IsLess f g → is_negative_rational (value f +ℚ neg_ℚ (value g)) ≡ true
+less_negative f g p q h = ap is_negative_rational (over_difference f g p q) ∙ over_negative (f.num *ℤ pos g.den +ℤ neg_ℤ g.num *ℤ pos f.den) (f.den * g.den) ∙ lt_true (f.num *ℤ pos g.den +ℤ neg_ℤ g.num *ℤ pos f.den) (below (f.num *ℤ pos g.den) (g.num *ℤ pos f.den) (neg_ℤ g.num *ℤ pos f.den) (turned_times g.num (pos f.den)) h)
   where
     below : (a b c : ℤ) → c ≡ neg_ℤ b → a <ℤ b → (a +ℤ c) <ℤ pos 0
     below a b c e h = subst (λ k. (a +ℤ k) <ℤ pos 0) (sym e) (less a b h)
@@ -109,8 +109,8 @@ less_negative f g p q h = ap is_negative (over_difference f g p q) ∙ over_nega
         less : (a b : ℤ) → a <ℤ b → (a +ℤ neg_ℤ b) <ℤ pos 0
         less a b h = omega (arith, ints, h)
 
-pub not_less_negative : (f g : Fraction) → 0 < f.den → 0 < g.den → ¬ (IsLess f g) → is_negative (value f +ℚ neg_ℚ (value g)) ≡ false
-not_less_negative f g p q h = ap is_negative (over_difference f g p q) ∙ over_negative (f.num *ℤ pos g.den +ℤ neg_ℤ g.num *ℤ pos f.den) (f.den * g.den) ∙ lt_false (f.num *ℤ pos g.den +ℤ neg_ℤ g.num *ℤ pos f.den) (λ k. h (back (f.num *ℤ pos g.den) (g.num *ℤ pos f.den) (neg_ℤ g.num *ℤ pos f.den) (turned_times g.num (pos f.den)) k))
+pub not_less_negative : (f g : Fraction) → 0 < f.den → 0 < g.den → ¬ (IsLess f g) → is_negative_rational (value f +ℚ neg_ℚ (value g)) ≡ false
+not_less_negative f g p q h = ap is_negative_rational (over_difference f g p q) ∙ over_negative (f.num *ℤ pos g.den +ℤ neg_ℤ g.num *ℤ pos f.den) (f.den * g.den) ∙ lt_false (f.num *ℤ pos g.den +ℤ neg_ℤ g.num *ℤ pos f.den) (λ k. h (back (f.num *ℤ pos g.den) (g.num *ℤ pos f.den) (neg_ℤ g.num *ℤ pos f.den) (turned_times g.num (pos f.den)) k))
   where
     back : (a b c : ℤ) → c ≡ neg_ℤ b → (a +ℤ c) <ℤ pos 0 → a <ℤ b
     back a b c e h = less a b (subst (λ k. (a +ℤ k) <ℤ pos 0) e h)
@@ -119,8 +119,8 @@ not_less_negative f g p q h = ap is_negative (over_difference f g p q) ∙ over_
         less a b h = omega (arith, ints, h)
 
 -- where the numerator isn't positive, the opposite isn't negative
-pub opposite_not_negative : (f : Fraction) → 0 < f.den → ¬ (pos 0 <ℤ f.num) → is_negative (neg_ℚ (value f)) ≡ false
-opposite_not_negative f p h = ap is_negative (sym (value_opposite f p)) ∙ over_negative (neg_ℤ f.num) f.den ∙ lt_false (neg_ℤ f.num) (λ k. h (back f.num k))
+pub opposite_not_negative : (f : Fraction) → 0 < f.den → ¬ (pos 0 <ℤ f.num) → is_negative_rational (neg_ℚ (value f)) ≡ false
+opposite_not_negative f p h = ap is_negative_rational (sym (value_opposite f p)) ∙ over_negative (neg_ℤ f.num) f.den ∙ lt_false (neg_ℤ f.num) (λ k. h (back f.num k))
   where
     back : (n : ℤ) → neg_ℤ n <ℤ pos 0 → pos 0 <ℤ n
     back n k = omega (arith, ints, k)

@@ -1,26 +1,26 @@
 -- What each answer says of the forms, and of the run.
 use Rattle.std.specs.Prelude.{◌≡◌, ℕ, List, length}
 use Rattle.sy_linear_forms.specs.declared.form.Form.{Form}
-use Rattle.sy_linear_forms.specs.Systems.{Meets, IsCorner, IsRefutation}
+use Rattle.sy_linear_forms.specs.Systems.{MeetsSystem, IsCorner, IsRefutation}
 use Rattle.sy_simplex_tableau.specs.Rows.{AreLowest}
 use Rattle.sy_simplex.specs.declared.answer.Feasible.{Feasible}
 use Rattle.sy_simplex.specs.declared.answer.Feasible.TheVariants.{Point, Conflict, Pivots, Range}
 use Rattle.sy_simplex.specs.Problems.{system_of, numbers}
-use Rattle.sy_simplex.specs.Runs.{EndsAt, EndsStuck, IsSpent, IsOutOfRange}
+use Rattle.sy_simplex.specs.Runs.{EndsAt, EndsStuck, RunIsSpent, IsOutOfRange}
 
 -- the point meets every form and is a corner of them; the multipliers, fractions in lowest terms, refute them
-abbrev pub IsSound : ℕ → List Form → Feasible → Type 0
-IsSound vars forms (Point p) = (length p ≡ vars) × Meets (system_of vars forms) (numbers p) × IsCorner (system_of vars forms) (numbers p)
-IsSound vars forms (Conflict m) = (length m ≡ length forms) × IsRefutation (system_of vars forms) (numbers m) × AreLowest m
-IsSound vars forms (Pivots run) = Unit {0}
-IsSound vars forms (Range run) = Unit {0}
+abbrev pub AnswerIsSound : ℕ → List Form → Feasible → Type 0
+AnswerIsSound vars forms (Point p) = (length p ≡ vars) × MeetsSystem (system_of vars forms) (numbers p) × IsCorner (system_of vars forms) (numbers p)
+AnswerIsSound vars forms (Conflict m) = (length m ≡ length forms) × IsRefutation (system_of vars forms) (numbers m) × AreLowest m
+AnswerIsSound vars forms (Pivots run) = Unit {0}
+AnswerIsSound vars forms (Range run) = Unit {0}
 
 -- the run ends at the point, or at a row that can't be raised; or it is spent, or an operation doesn't fit
-abbrev pub Tells : ℕ → List Form → ℕ → Feasible → Type 0
-Tells vars forms pivots (Point p) = EndsAt vars forms pivots p
-Tells vars forms pivots (Conflict m) = EndsStuck vars forms pivots
-Tells vars forms pivots (Pivots run) = IsSpent vars forms pivots run.steps
-Tells vars forms pivots (Range run) = IsOutOfRange vars forms pivots run.steps
+abbrev pub TellsFeasible : ℕ → List Form → ℕ → Feasible → Type 0
+TellsFeasible vars forms pivots (Point p) = EndsAt vars forms pivots p
+TellsFeasible vars forms pivots (Conflict m) = EndsStuck vars forms pivots
+TellsFeasible vars forms pivots (Pivots run) = RunIsSpent vars forms pivots run.steps
+TellsFeasible vars forms pivots (Range run) = IsOutOfRange vars forms pivots run.steps
 
 -- the same answer: one point, or one list of steps; a conflict may have several multipliers
 abbrev pub IsSameAnswer : Feasible → Feasible → Type 0

@@ -1,26 +1,26 @@
 -- The parts of the initial tableau.
 use Rattle.std.specs.Prelude.{◌≡◌, ℕ, ◌<◌, List, length, ℤ, pos, get_or}
-use Rattle.sy_frac.specs.Fraction.{Fraction, Fits}
+use Rattle.sy_frac.specs.Fraction.{Fraction, IsInRange}
 use Rattle.sy_linear_forms.specs.declared.form.Form.{Form}
-use Rattle.sy_simplex_tableau.specs.Operations.{whole}
+use Rattle.sy_simplex_tableau.specs.Operations.{fraction_of_whole}
 use Rattle.sy_simplex_tableau.specs.Rows.{at}
 use Rattle.sy_simplex.specs.Problems.{coefficient, form}
 use Rattle.sy_simplex.specs.Runs.{FormFits}
 
 pub record AreZeros (count : ℕ) (xs : List Fraction) : Type 0 where
   pub len : length xs ≡ count
-  pub each : (i : ℕ) → i < count → at xs i ≡ whole (pos 0)
+  pub each : (i : ℕ) → i < count → at xs i ≡ fraction_of_whole (pos 0)
 
 -- the coefficient of each variable
 pub record IsFullRow (vars : ℕ) (coefs : List (ℕ × ℤ)) (xs : List Fraction) : Type 0 where
   pub len : length xs ≡ vars
-  pub each : (j : ℕ) → j < vars → at xs j ≡ whole (coefficient coefs j)
+  pub each : (j : ℕ) → j < vars → at xs j ≡ fraction_of_whole (coefficient coefs j)
 
 abbrev pub CoefficientsFit : List (ℕ × ℤ) → Type 0
-CoefficientsFit coefs = (k : ℕ) → k < length coefs → Fits (get_or coefs k (0, pos 0)).1
+CoefficientsFit coefs = (k : ℕ) → k < length coefs → IsInRange (get_or coefs k (0, pos 0)).1
 
-abbrev pub AllFit : List Form → Type 0
-AllFit forms = (i : ℕ) → i < length forms → FormFits (form forms i)
+abbrev pub FormsFit : List Form → Type 0
+FormsFit forms = (i : ℕ) → i < length forms → FormFits (form forms i)
 
 abbrev pub SomeUnfit : List Form → Type 0
 SomeUnfit forms = (i : ℕ) × (i < length forms) × ¬ (FormFits (form forms i))

@@ -1,8 +1,8 @@
 // What the end of a run gives.
 ghost use Rattle.std.specs.Prelude.{◌≡◌, ◌<◌, ◌^◌, length, IfOk};
 ghost use Rattle.sy_simplex_tableau.specs.States.{IsShaped, IsVariable};
-ghost use Rattle.sy_simplex_tableau.specs.Stated.{state_of};
-ghost use Rattle.sy_simplex.specs.Runs.{IsValue, IsPoint, IsMultiplier, AreMultipliers};
+ghost use Rattle.sy_simplex_tableau.specs.Stated.{tableau_state_of};
+ghost use Rattle.sy_simplex.specs.Runs.{IsValue, IsPoint, IsMultiplier, AreRowMultipliers};
 
 use std::alloc::Global;
 use sy_frac::Frac;
@@ -11,9 +11,9 @@ use sy_simplex_tableau::{Tableau, negated, one, zero};
 
 /// The value of a variable.
 fn value_of(tableau: &Tableau, variable: u32) -> Frac
-    requires shaped { IsShaped (state_of tableau.now) }
-    requires below { IsVariable (state_of tableau.now) variable }
-    ensures { IsValue (state_of tableau.now) variable result }
+    requires shaped { IsShaped (tableau_state_of tableau.now) }
+    requires below { IsVariable (tableau_state_of tableau.now) variable }
+    ensures { IsValue (tableau_state_of tableau.now) variable result }
 {
     for row in 0..tableau.basics.len() {
         if tableau.basics[row] == variable {
@@ -25,8 +25,8 @@ fn value_of(tableau: &Tableau, variable: u32) -> Frac
 
 /// The values of the free variables.
 pub(crate) fn point(alloc: Global, tableau: &Tableau) -> Result<Seq<Frac>, Want>
-    requires { IsShaped (state_of tableau.now) }
-    ensures { IfOk result (λ point. IsPoint (state_of tableau.now) point) }
+    requires { IsShaped (tableau_state_of tableau.now) }
+    ensures { IfOk result (λ point. IsPoint (tableau_state_of tableau.now) point) }
 {
     let mut point = Seq::new(alloc);
     for variable in 0..tableau.vars {
@@ -37,9 +37,9 @@ pub(crate) fn point(alloc: Global, tableau: &Tableau) -> Result<Seq<Frac>, Want>
 
 /// The multiplier of the form with this variable, by the row.
 fn multiplier(tableau: &Tableau, row: usize, variable: u32) -> Frac
-    requires shaped { IsShaped (state_of tableau.now) }
-    requires row_below { row < length (state_of tableau.now).basics }
-    ensures { IsMultiplier (state_of tableau.now) row variable result }
+    requires shaped { IsShaped (tableau_state_of tableau.now) }
+    requires row_below { row < length (tableau_state_of tableau.now).basics }
+    ensures { IsMultiplier (tableau_state_of tableau.now) row variable result }
 {
     if tableau.basics[row] == variable {
         return one();
@@ -54,11 +54,11 @@ fn multiplier(tableau: &Tableau, row: usize, variable: u32) -> Frac
 
 /// The multipliers by which the row, whose variable can't be raised, refutes the forms.
 pub(crate) fn multipliers(alloc: Global, tableau: &Tableau, row: usize) -> Result<Seq<Frac>, Want>
-    requires shaped { IsShaped (state_of tableau.now) }
-    requires row_below { row < length (state_of tableau.now).basics }
-    requires few_vars { (state_of tableau.now).vars < 2 ^ 31 }
-    requires few_forms { length (state_of tableau.now).bounds < 2 ^ 31 }
-    ensures { IfOk result (λ all. AreMultipliers (state_of tableau.now) row all) }
+    requires shaped { IsShaped (tableau_state_of tableau.now) }
+    requires row_below { row < length (tableau_state_of tableau.now).basics }
+    requires few_vars { (tableau_state_of tableau.now).vars < 2 ^ 31 }
+    requires few_forms { length (tableau_state_of tableau.now).bounds < 2 ^ 31 }
+    ensures { IfOk result (λ all. AreRowMultipliers (tableau_state_of tableau.now) row all) }
 {
     let mut all = Seq::new(alloc);
     for form in 0..tableau.bounds.len() {

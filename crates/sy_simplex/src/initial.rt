@@ -1,11 +1,11 @@
 // The initial tableau.
 ghost use Rattle.std.specs.Prelude.{◌≡◌, ◌<◌, ◌^◌, length, IfOk, IsErrOf, MatchOption};
-ghost use Rattle.sy_frac.specs.Fraction.{Fits};
-ghost use Rattle.sy_simplex_tableau.specs.Operations.{whole as whole_fraction};
-ghost use Rattle.sy_simplex_tableau.specs.Stated.{state_of};
+ghost use Rattle.sy_frac.specs.Fraction.{IsInRange};
+ghost use Rattle.sy_simplex_tableau.specs.Operations.{fraction_of_whole as whole_fraction};
+ghost use Rattle.sy_simplex_tableau.specs.Stated.{tableau_state_of};
 ghost use Rattle.sy_simplex.specs.Problems.{AreForms, IsForm};
 ghost use Rattle.sy_simplex.specs.Runs.{IsInitial};
-ghost use Rattle.sy_simplex.specs.Beginnings.{AreZeros, IsFullRow, CoefficientsFit, AllFit, SomeUnfit};
+ghost use Rattle.sy_simplex.specs.Beginnings.{AreZeros, IsFullRow, CoefficientsFit, FormsFit, SomeUnfit};
 
 use std::alloc::Global;
 use sy_frac::Frac;
@@ -14,7 +14,7 @@ use sy_simplex_tableau::{Fault, Row, Tableau, negated, whole, zero};
 
 /// The fraction of a whole number; `None` exactly where the number is `-2^127`.
 fn fraction(number: &i128) -> Option<Frac>
-    ensures { MatchOption result (¬ (Fits number.now)) (λ f. Fits number.now × (f ≡ whole_fraction number.now)) }
+    ensures { MatchOption result (¬ (IsInRange number.now)) (λ f. IsInRange number.now × (f ≡ whole_fraction number.now)) }
 {
     let value = *number;
     whole(value)
@@ -49,14 +49,14 @@ fn full_row(alloc: Global, vars: u32, form: &Form) -> Result<Vec<Frac>, Fault>
     Ok(row)
 }
 
-/// The initial tableau: the form variables are basic, and all values are 0. `Unfit` exactly where a coefficient or
+/// The initial tableau: each row is a form's, and everything stands at 0. `Unfit` exactly where a coefficient or
 /// constant of a form doesn't fit.
 pub(crate) fn initial(alloc: Global, vars: u32, forms: &[Form]) -> Result<Tableau, Fault>
     requires forms { AreForms vars forms.now }
     requires few_vars { vars < 2 ^ 31 }
     requires few_forms { length forms.now < 2 ^ 31 }
-    ensures fits { IfOk result (λ tableau. AllFit forms.now) }
-    ensures ok { IfOk result (λ tableau. IsInitial vars forms.now (state_of tableau)) }
+    ensures fits { IfOk result (λ tableau. FormsFit forms.now) }
+    ensures ok { IfOk result (λ tableau. IsInitial vars forms.now (tableau_state_of tableau)) }
     ensures unfit { IsErrOf result Fault.Unfit → SomeUnfit forms.now }
 {
     let mut columns = Vec::new(alloc);

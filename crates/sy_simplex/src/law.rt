@@ -2,10 +2,10 @@
 ghost use Rattle.std.specs.Prelude.{ℕ, List};
 ghost use Rattle.sy_linear_forms.specs.declared.form.Form.{Form};
 ghost use Rattle.sy_simplex.specs.declared.answer.Feasible.{Feasible};
-ghost use Rattle.sy_simplex.specs.Answers.{Tells, IsSameAnswer};
+ghost use Rattle.sy_simplex.specs.Answers.{TellsFeasible, IsSameAnswer};
 
 /// What one answer tells of a run, no other answer tells: so each answer of `feasible` comes exactly where its part of
-/// `Tells` holds, unless memory is wanted.
+/// `TellsFeasible` holds, unless memory is wanted.
 pub fn answers_are_determined()
-    ensures { (vars : ℕ) (forms : List Form) (pivots : ℕ) (a b : Feasible) → Tells vars forms pivots a → Tells vars forms pivots b → IsSameAnswer a b }
+    ensures { (vars : ℕ) (forms : List Form) (pivots : ℕ) (a b : Feasible) → TellsFeasible vars forms pivots a → TellsFeasible vars forms pivots b → IsSameAnswer a b }
 {}

@@ -1,7 +1,7 @@
 // The run from the initial tableau to its answer.
 ghost use Rattle.std.specs.Prelude.{◌<◌, ◌^◌, ◌↔◌, length, IfOk, IsTrue};
 ghost use Rattle.sy_simplex.specs.Problems.{AreForms};
-ghost use Rattle.sy_simplex.specs.Answers.{IsSound, Tells};
+ghost use Rattle.sy_simplex.specs.Answers.{AnswerIsSound, TellsFeasible};
 
 use crate::answer::{Ended, Feasible, Run};
 use crate::ends::{multipliers, point};
@@ -26,8 +26,8 @@ fn are_few(vars: u32, forms: &[Form]) -> bool
 /// More than 2^31 - 1 variables or forms are answered as want of memory.
 pub fn ended(alloc: Global, vars: u32, bounds: &Seq<Form>, pivots: u32) -> Result<Ended, Want>
     requires { AreForms vars bounds.now }
-    ensures sound { IfOk result (λ ended. IsSound vars bounds.now ended.answer) }
-    ensures exact { IfOk result (λ ended. Tells vars bounds.now pivots ended.answer) }
+    ensures sound { IfOk result (λ ended. AnswerIsSound vars bounds.now ended.answer) }
+    ensures exact { IfOk result (λ ended. TellsFeasible vars bounds.now pivots ended.answer) }
 {
     let forms = bounds.as_slice();
     if !are_few(vars, forms) {
@@ -89,8 +89,8 @@ pub fn ended(alloc: Global, vars: u32, bounds: &Seq<Form>, pivots: u32) -> Resul
 /// The answer of `ended`, without the tableau.
 pub fn feasible(alloc: Global, vars: u32, bounds: &Seq<Form>, pivots: u32) -> Result<Feasible, Want>
     requires { AreForms vars bounds.now }
-    ensures sound { IfOk result (λ answer. IsSound vars bounds.now answer) }
-    ensures exact { IfOk result (λ answer. Tells vars bounds.now pivots answer) }
+    ensures sound { IfOk result (λ answer. AnswerIsSound vars bounds.now answer) }
+    ensures exact { IfOk result (λ answer. TellsFeasible vars bounds.now pivots answer) }
 {
     let end = ended(alloc, vars, bounds, pivots)?;
     Ok(end.answer)

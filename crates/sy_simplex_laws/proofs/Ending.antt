@@ -2,8 +2,8 @@
 use Rattle.std.specs.Prelude.{◌≡◌, ℕ, ◌<◌, ◌≤◌, ◌+◌, ◌^◌, Bool, true, List, length}
 use Rattle.std.proofs.Common.{sym, ◌∙◌, subst, arith}
 use Rattle.sy_linear_forms.specs.declared.form.Form.{Form}
-use Rattle.sy_simplex_tableau.specs.States.{State, basic}
-use Rattle.sy_simplex.specs.Runs.{Ran, IsSpent}
+use Rattle.sy_simplex_tableau.specs.States.{TableauState, basic}
+use Rattle.sy_simplex.specs.Runs.{Ran, RunIsSpent}
 use Rattle.sy_simplex.proofs.Bridge.{basic_variable}
 use Rattle.sy_simplex.proofs.Sound.{IsSteady, of_tableau}
 use Rattle.sy_simplex.proofs.Endings.{among, among_found, among_holds}
@@ -13,28 +13,28 @@ use Rattle.sy_simplex_laws.proofs.Tracing.{state_at, steady_at, ran_at}
 use Rattle.sy_simplex_laws.proofs.Returning.{no_basis_twice}
 
 -- the basic variables, as a test
-in_basis : State → ℕ → Bool
+in_basis : TableauState → ℕ → Bool
 in_basis t v = among (length t.basics) (λ i. basic t i) v
 
-basis_back : (t : State) (v : ℕ) → in_basis t v ≡ true → IsBasic t v
+basis_back : (t : TableauState) (v : ℕ) → in_basis t v ≡ true → IsBasic t v
 unfolding in_basis
 basis_back t v h = let p : (j : ℕ) × (j < length t.basics) × (basic t j ≡ v) = among_found (length t.basics) (λ i. basic t i) v h in (p.0, p.1, p.2)
 
-basis_onto : (t : State) (v : ℕ) → IsBasic t v → in_basis t v ≡ true
+basis_onto : (t : TableauState) (v : ℕ) → IsBasic t v → in_basis t v ≡ true
 unfolding in_basis
 basis_onto t v b = subst (λ w. among (length t.basics) (λ i. basic t i) w ≡ true) b.2 (among_holds (length t.basics) (λ i. basic t i) b.0 b.1)
 
-basic_below : (vars : ℕ) (forms : List Form) (t : State) → IsSteady vars forms t → (v : ℕ) → IsBasic t v → v < vars + length forms
+basic_below : (vars : ℕ) (forms : List Form) (t : TableauState) → IsSteady vars forms t → (v : ℕ) → IsBasic t v → v < vars + length forms
 basic_below vars forms t steady v b = subst (λ w. w < vars + length forms) b.2 (of_tableau vars forms t steady (basic t b.0) (basic_variable vars (length forms) t steady.shape steady.columns_length steady.basics_length b.0 (omega (arith, steady.basics_length, b.1))))
 
 -- tableaus whose bases have one code
-coded_same : (vars : ℕ) (forms : List Form) (t u : State) → IsSteady vars forms t → IsSteady vars forms u → code (in_basis t) (vars + length forms) ≡ code (in_basis u) (vars + length forms) → HaveSameBasis t u
+coded_same : (vars : ℕ) (forms : List Form) (t u : TableauState) → IsSteady vars forms t → IsSteady vars forms u → code (in_basis t) (vars + length forms) ≡ code (in_basis u) (vars + length forms) → HaveSameBasis t u
 coded_same vars forms t u a b e = record {
   onto = λ v h. basis_back u v (sym (code_same (in_basis t) (in_basis u) (vars + length forms) e v (basic_below vars forms t a v h)) ∙ basis_onto t v h);
   back = λ v h. basis_back t v (code_same (in_basis t) (in_basis u) (vars + length forms) e v (basic_below vars forms u b v h) ∙ basis_onto u v h);
 }
 
-too_many : (vars : ℕ) (forms : List Form) (steps : List (ℕ × ℕ)) (u : State) → Ran vars forms steps u → 2 ^ (vars + length forms) ≤ length steps → ⊥
+too_many : (vars : ℕ) (forms : List Form) (steps : List (ℕ × ℕ)) (u : TableauState) → Ran vars forms steps u → 2 ^ (vars + length forms) ≤ length steps → ⊥
 unfolding Twice
 too_many vars forms steps u ran h =
     let set_at : ℕ → ℕ = λ k. code (in_basis (state_at ran k)) (vars + length forms) in
@@ -48,5 +48,5 @@ too_many vars forms steps u ran h =
         no_basis_twice vars forms a.0 b.0 (state_at ran q.0) (state_at ran q.1) a.1 b.1 (omega (arith, a.2, b.2, q.2))
         (coded_same vars forms (state_at ran q.0) (state_at ran q.1) (steady_at ran q.0) (steady_at ran q.1) q.4)
 
-pub never_spent : (vars : ℕ) (forms : List Form) (pivots : ℕ) (steps : List (ℕ × ℕ)) → 2 ^ (vars + length forms) ≤ pivots → ¬ (IsSpent vars forms pivots steps)
+pub never_spent : (vars : ℕ) (forms : List Form) (pivots : ℕ) (steps : List (ℕ × ℕ)) → 2 ^ (vars + length forms) ≤ pivots → ¬ (RunIsSpent vars forms pivots steps)
 never_spent vars forms pivots steps h e = too_many vars forms steps e.state e.ran (omega (arith, h, e.all))

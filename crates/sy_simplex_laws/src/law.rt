@@ -1,17 +1,17 @@
 // The laws of bases.
 ghost use Rattle.std.specs.Prelude.{ℕ, List, length, ◌<◌, ◌≤◌, ◌+◌, ◌^◌};
 ghost use Rattle.sy_linear_forms.specs.declared.form.Form.{Form};
-ghost use Rattle.sy_simplex_tableau.specs.States.{State};
-ghost use Rattle.sy_simplex.specs.Runs.{Ran, IsSpent};
+ghost use Rattle.sy_simplex_tableau.specs.States.{TableauState};
+ghost use Rattle.sy_simplex.specs.Runs.{Ran, RunIsSpent};
 ghost use Rattle.sy_simplex_laws.specs.Bases.{HaveSameBasis};
 
 /// In the run of some forms no two tableaus have the same basic variables.
 pub fn no_basis_comes_twice()
-    ensures { (vars : ℕ) (forms : List Form) (xs ys : List (ℕ × ℕ)) (t u : State) → Ran vars forms xs t → Ran vars forms ys u → length xs < length ys → ¬ (HaveSameBasis t u) }
+    ensures { (vars : ℕ) (forms : List Form) (xs ys : List (ℕ × ℕ)) (t u : TableauState) → Ran vars forms xs t → Ran vars forms ys u → length xs < length ys → ¬ (HaveSameBasis t u) }
 {}
 
 /// With as many pivots as there are sets of the variables, of which each form has one, no run is spent: `feasible` doesn't
 /// answer `Pivots` then.
 pub fn enough_pivots_are_never_spent()
-    ensures { (vars : ℕ) (forms : List Form) (pivots : ℕ) (steps : List (ℕ × ℕ)) → 2 ^ (vars + length forms) ≤ pivots → ¬ (IsSpent vars forms pivots steps) }
+    ensures { (vars : ℕ) (forms : List Form) (pivots : ℕ) (steps : List (ℕ × ℕ)) → 2 ^ (vars + length forms) ≤ pivots → ¬ (RunIsSpent vars forms pivots steps) }
 {}

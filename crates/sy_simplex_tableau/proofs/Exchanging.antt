@@ -4,25 +4,25 @@ use Rattle.std.proofs.Common.{sym, ◌∙◌, ap, subst, arith}
 use Rattle.std.proofs.Math.ListN.{length-set}
 use Rattle.std.proofs.lemmas.List.{get_or-set_same, get_or-set_other, get_or_read}
 use Rattle.sy_frac.specs.Fraction.{Fraction}
-use Rattle.sy_simplex_tableau.specs.Operations.{Gives, sum, whole, IsShift, IsPlusProduct}
+use Rattle.sy_simplex_tableau.specs.Operations.{HasResult, sum, fraction_of_whole, IsShift, IsPlusProduct}
 use Rattle.sy_simplex_tableau.specs.Rows.{at, IsSolvedRow, IsPutRow, ArePut, AreRaised}
-use Rattle.sy_simplex_tableau.specs.States.{State, column, basic, row, coef, value, bound, rest, IsShaped, IsStep}
+use Rattle.sy_simplex_tableau.specs.States.{TableauState, variable_of_column, basic, row, coef, row_value, bound, rest, IsShaped, IsPivot}
 
 -- what is read of a tableau for a step
-pub record AreRead (t : State) (r e leaves enters : ℕ) (b v f : Fraction) : Type 0 where
+pub record AreRead (t : TableauState) (r e leaves enters : ℕ) (b v f : Fraction) : Type 0 where
   pub leaves_is : leaves ≡ basic t r
-  pub enters_is : enters ≡ column t e
+  pub enters_is : enters ≡ variable_of_column t e
   pub bound_is : b ≡ bound t (basic t r)
-  pub value_is : v ≡ value t r
+  pub value_is : v ≡ row_value t r
   pub coef_is : f ≡ coef t r e
 
-pub are_read : (t : State) (r e leaves enters : ℕ) (b v f : Fraction) (cs ds : List Fraction) → IsShaped t → r < length t.basics → e < length t.columns → t.vars ≤ basic t r → leaves ≡ get_or t.basics r leaves → enters ≡ get_or t.columns e enters → b ≡ get_or t.bounds (leaves - t.vars) b → v ≡ get_or t.values r v → cs ≡ get_or t.rows r cs → ds ≡ cs → f ≡ get_or ds e f → AreRead t r e leaves enters b v f
+pub are_read : (t : TableauState) (r e leaves enters : ℕ) (b v f : Fraction) (cs ds : List Fraction) → IsShaped t → r < length t.basics → e < length t.columns → t.vars ≤ basic t r → leaves ≡ get_or t.basics r leaves → enters ≡ get_or t.columns e enters → b ≡ get_or t.bounds (leaves - t.vars) b → v ≡ get_or t.values r v → cs ≡ get_or t.rows r cs → ds ≡ cs → f ≡ get_or ds e f → AreRead t r e leaves enters b v f
 are_read t r e leaves enters b v f cs ds shape row_below column_below bounded l n bs vs rs ss fs = record {
   leaves_is = leaves_is;
   enters_is = get_or_read t.columns e enters column_below n 0;
-  bound_is = get_or_read t.bounds (leaves - t.vars) b (omega (arith, leaves_is, bounded, shape.basics_below r row_below)) bs (whole (pos 0)) ∙ ap (bound t) leaves_is;
-  value_is = get_or_read t.values r v (omega (arith, shape.values_length, row_below)) vs (whole (pos 0));
-  coef_is = get_or_read ds e f (omega (arith, ap length row_is, shape.widths r row_below, column_below)) fs (whole (pos 0)) ∙ ap (λ xs. at xs e) row_is;
+  bound_is = get_or_read t.bounds (leaves - t.vars) b (omega (arith, leaves_is, bounded, shape.basics_below r row_below)) bs (fraction_of_whole (pos 0)) ∙ ap (bound t) leaves_is;
+  value_is = get_or_read t.values r v (omega (arith, shape.values_length, row_below)) vs (fraction_of_whole (pos 0));
+  coef_is = get_or_read ds e f (omega (arith, ap length row_is, shape.widths r row_below, column_below)) fs (fraction_of_whole (pos 0)) ∙ ap (λ xs. at xs e) row_is;
 }
   where
     leaves_is : leaves ≡ basic t r
@@ -31,13 +31,13 @@ are_read t r e leaves enters b v f cs ds shape row_below column_below bounded l 
     row_is : ds ≡ row t r
     row_is = ss ∙ get_or_read t.rows r cs (omega (arith, shape.rows_length, row_below)) rs []
 
-pub shift_read : (P : Fraction → Fraction → Fraction → Type 0) (t : State) (r e leaves enters : ℕ) (b v f : Fraction) → AreRead t r e leaves enters b v f → P b v f → P (bound t (basic t r)) (value t r) (coef t r e)
-shift_read P t r e leaves enters b v f h p = subst (λ x. P x (value t r) (coef t r e)) h.bound_is (subst (λ x. P b x (coef t r e)) h.value_is (subst (λ x. P b v x) h.coef_is p))
+pub shift_read : (P : Fraction → Fraction → Fraction → Type 0) (t : TableauState) (r e leaves enters : ℕ) (b v f : Fraction) → AreRead t r e leaves enters b v f → P b v f → P (bound t (basic t r)) (row_value t r) (coef t r e)
+shift_read P t r e leaves enters b v f h p = subst (λ x. P x (row_value t r) (coef t r e)) h.bound_is (subst (λ x. P b x (coef t r e)) h.value_is (subst (λ x. P b v x) h.coef_is p))
 
-pub row_read : (t : State) (r : ℕ) (cs : List Fraction) → IsShaped t → r < length t.basics → cs ≡ get_or t.rows r cs → cs ≡ row t r
+pub row_read : (t : TableauState) (r : ℕ) (cs : List Fraction) → IsShaped t → r < length t.basics → cs ≡ get_or t.rows r cs → cs ≡ row t r
 row_read t r cs shape row_below e = get_or_read t.rows r cs (omega (arith, shape.rows_length, row_below)) e []
 
-pub step_is : (t u : State) (r e leaves enters : ℕ) (solved : List Fraction) (rows : List (List Fraction)) (values : List Fraction) (shift entered : Fraction) → IsShaped t → r < length t.basics → leaves ≡ basic t r → enters ≡ column t e → u.vars ≡ t.vars → u.bounds ≡ t.bounds → u.columns ≡ set t.columns e leaves → u.basics ≡ set t.basics r enters → u.rows ≡ set rows r solved → u.values ≡ set values r entered → IsSolvedRow (row t r) e solved → ArePut t.rows solved r e rows → IsShift (bound t (basic t r)) (value t r) (coef t r e) shift → Gives sum (rest t (column t e)) shift entered → AreRaised t.values t.rows r e shift values → IsStep t u r e
+pub step_is : (t u : TableauState) (r e leaves enters : ℕ) (solved : List Fraction) (rows : List (List Fraction)) (values : List Fraction) (shift entered : Fraction) → IsShaped t → r < length t.basics → leaves ≡ basic t r → enters ≡ variable_of_column t e → u.vars ≡ t.vars → u.bounds ≡ t.bounds → u.columns ≡ set t.columns e leaves → u.basics ≡ set t.basics r enters → u.rows ≡ set rows r solved → u.values ≡ set values r entered → IsSolvedRow (row t r) e solved → ArePut t.rows solved r e rows → IsShift (bound t (basic t r)) (row_value t r) (coef t r e) shift → HasResult sum (rest t (variable_of_column t e)) shift entered → AreRaised t.values t.rows r e shift values → IsPivot t u r e
 step_is t u r e leaves enters solved rows values shift entered shape row_below leaves_is enters_is vars_is bounds_are columns_are basics_are rows_are values_are solved_is put shift_is entered_is raised = record {
   vars_is = vars_is;
   bounds_are = bounds_are;
@@ -50,10 +50,10 @@ step_is t u r e leaves enters solved rows values shift entered shape row_below l
   };
   shift = shift;
   shift_is = shift_is;
-  entered = subst (Gives sum (rest t (column t e)) shift) (sym new_value) entered_is;
+  entered = subst (HasResult sum (rest t (variable_of_column t e)) shift) (sym new_value) entered_is;
   raised = record {
     len = ap length values_are ∙ length-set values r entered ∙ raised.len;
-    each = λ i l k. subst (IsPlusProduct (value t i) (coef t i e) shift) (sym (other_value i k)) (raised.each i l k);
+    each = λ i l k. subst (IsPlusProduct (row_value t i) (coef t i e) shift) (sym (other_value i k)) (raised.each i l k);
   };
 }
   where
@@ -63,8 +63,8 @@ step_is t u r e leaves enters solved rows values shift entered shape row_below l
     other_row : (i : ℕ) → i ≢ r → row u i ≡ get_or rows i []
     other_row i k = ap (λ xs. get_or xs i []) rows_are ∙ get_or-set_other rows r i solved [] k
 
-    new_value : value u r ≡ entered
-    new_value = ap (λ xs. at xs r) values_are ∙ get_or-set_same values r entered (whole (pos 0)) (omega (arith, raised.len, shape.values_length, row_below))
+    new_value : row_value u r ≡ entered
+    new_value = ap (λ xs. at xs r) values_are ∙ get_or-set_same values r entered (fraction_of_whole (pos 0)) (omega (arith, raised.len, shape.values_length, row_below))
 
-    other_value : (i : ℕ) → i ≢ r → value u i ≡ at values i
-    other_value i k = ap (λ xs. at xs i) values_are ∙ get_or-set_other values r i entered (whole (pos 0)) k
+    other_value : (i : ℕ) → i ≢ r → row_value u i ≡ at values i
+    other_value i k = ap (λ xs. at xs i) values_are ∙ get_or-set_other values r i entered (fraction_of_whole (pos 0)) k

@@ -7,7 +7,7 @@ use Rattle.std.proofs.lemmas.Bool.Decides.{eqb_tells}
 use Rattle.std.proofs.lemmas.List.{get_or-set_same, get_or-set_other}
 use Rattle.sy_frac.specs.Fraction.{Fraction, IsLowest}
 use Rattle.sy_simplex_tableau.specs.Rows.{at, AreLowest, IsSolvedRow, IsPutRow}
-use Rattle.sy_simplex_tableau.specs.States.{State, column, basic, row, value, IsVariable, IsShaped, IsStep}
+use Rattle.sy_simplex_tableau.specs.States.{TableauState, variable_of_column, basic, row, row_value, IsVariable, IsShaped, IsPivot}
 
 pub solved_lowest : (coefs solved : List Fraction) (e : ℕ) → IsSolvedRow coefs e solved → AreLowest solved
 solved_lowest coefs solved e h j l = by (eqb_tells j e)
@@ -30,20 +30,20 @@ changed P xs ys r x h e all new i l = by (eqb_tells i r)
     by (inl k) = subst (λ m. P (get_or ys m 0)) (sym k.1) (subst P (sym (ap (λ zs. get_or zs r 0) e ∙ get_or-set_same xs r x 0 h)) new)
     by (inr k) = subst P (sym (ap (λ zs. get_or zs i 0) e ∙ get_or-set_other xs r i x 0 k.1)) (all i low)
 
-pub step_shaped : (t u : State) (r e : ℕ) → IsShaped t → r < length t.basics → e < length t.columns → IsStep t u r e → IsShaped u
+pub step_shaped : (t u : TableauState) (r e : ℕ) → IsShaped t → r < length t.basics → e < length t.columns → IsPivot t u r e → IsShaped u
 step_shaped t u r e shape row_below column_below step = record {
   rows_length = rows_length;
   values_length = step.raised.len ∙ shape.values_length ∙ sym basics_length;
   widths = λ i l. width i (omega (arith, basics_length, l)) (eqb_tells i r);
-  basics_below = λ i l. variable (basic u i) (changed (IsVariable t) t.basics u.basics r (column t e) row_below step.basics_are shape.basics_below (shape.columns_below e column_below) i l);
-  columns_below = λ j l. variable (column u j) (changed (IsVariable t) t.columns u.columns e (basic t r) column_below step.columns_are shape.columns_below (shape.basics_below r row_below) j l);
+  basics_below = λ i l. variable (basic u i) (changed (IsVariable t) t.basics u.basics r (variable_of_column t e) row_below step.basics_are shape.basics_below (shape.columns_below e column_below) i l);
+  columns_below = λ j l. variable (variable_of_column u j) (changed (IsVariable t) t.columns u.columns e (basic t r) column_below step.columns_are shape.columns_below (shape.basics_below r row_below) j l);
   rows_lowest = λ i l. lowest i (omega (arith, basics_length, l)) (eqb_tells i r);
   values_lowest = λ i l. value_lowest i (omega (arith, step.raised.len, shape.values_length, l)) (eqb_tells i r);
   bounds_lowest = subst AreLowest (sym step.bounds_are) shape.bounds_lowest;
 }
   where
     basics_length : length u.basics ≡ length t.basics
-    basics_length = ap length step.basics_are ∙ length-set t.basics r (column t e)
+    basics_length = ap length step.basics_are ∙ length-set t.basics r (variable_of_column t e)
 
     columns_length : length u.columns ≡ length t.columns
     columns_length = ap length step.columns_are ∙ length-set t.columns e (basic t r)
@@ -65,6 +65,6 @@ step_shaped t u r e shape row_below column_below step = record {
     lowest i l (inl k) = subst (λ m. AreLowest (row u m)) (sym k.1) (solved_lowest (row t r) (row u r) e step.solved)
     lowest i l (inr k) = put_lowest (row t i) (row u r) e (row u i) (step.put.each i (in_rows i l) k.1)
 
-    value_lowest : (i : ℕ) → i < length t.basics → ((eqb i r ≡ true) × (i ≡ r)) ⊎ ((eqb i r ≡ false) × (i ≢ r)) → IsLowest (value u i)
-    value_lowest i l (inl k) = subst (λ m. IsLowest (value u m)) (sym k.1) step.entered.exact.lowest
+    value_lowest : (i : ℕ) → i < length t.basics → ((eqb i r ≡ true) × (i ≡ r)) ⊎ ((eqb i r ≡ false) × (i ≢ r)) → IsLowest (row_value u i)
+    value_lowest i l (inl k) = subst (λ m. IsLowest (row_value u m)) (sym k.1) step.entered.exact.lowest
     value_lowest i l (inr k) = (step.raised.each i (in_rows i l) k.1).sum_is.exact.lowest

@@ -5,9 +5,9 @@ use Rattle.std.proofs.Math.IntN.{*ℤ-zero, zero-*ℤ, +ℤ_idr}
 use Rattle.std.proofs.Math.Dec.{eqb}
 use Rattle.std.proofs.lemmas.Bool.Decides.{eqb_tells}
 use borrow.Author.Differences.{ints, same_in, product_is}
-use Rattle.sy_frac.specs.Fraction.{Fraction, Fits, IsLowest}
+use Rattle.sy_frac.specs.Fraction.{Fraction, IsInRange, IsLowest}
 use Rattle.sy_frac.proofs.Canonical.{same_quotient}
-use Rattle.sy_simplex_tableau.specs.Operations.{Gives, sum, product, whole, IsPlusProduct}
+use Rattle.sy_simplex_tableau.specs.Operations.{HasResult, sum, product, fraction_of_whole, IsPlusProduct}
 use Rattle.sy_simplex_tableau.specs.Rows.{at, AreLowest, beside, IsPutRow}
 use Rattle.sy_simplex_tableau.proofs.Exact.{one_positive, whole_lowest}
 
@@ -17,32 +17,32 @@ times_one n = same_in _ _ (omega (arith, ints, product_is n (pos 1)))
 one_times : (n : ℤ) → pos 1 *ℤ n ≡ n
 one_times n = same_in _ _ (omega (arith, ints, product_is (pos 1) n))
 
-zero_fits : Fits (pos 0)
+zero_fits : IsInRange (pos 0)
 zero_fits = lit< tt
 
-pub zero_lowest : IsLowest (whole (pos 0))
+pub zero_lowest : IsLowest (fraction_of_whole (pos 0))
 zero_lowest = whole_lowest (pos 0) zero_fits
 
 -- 0 in lowest terms
-pub zero_is : (f : Fraction) → IsLowest f → f.num ≡ pos 0 → f ≡ whole (pos 0)
-zero_is f h e = same_quotient f (whole (pos 0)) (pos 0) (pos 1) one_positive (record { value = times_one f.num ∙ e ∙ sym (zero-*ℤ (pos f.den)); lowest = h }) (record { value = refl; lowest = zero_lowest })
+pub zero_is : (f : Fraction) → IsLowest f → f.num ≡ pos 0 → f ≡ fraction_of_whole (pos 0)
+zero_is f h e = same_quotient f (fraction_of_whole (pos 0)) (pos 0) (pos 1) one_positive (record { value = times_one f.num ∙ e ∙ sym (zero-*ℤ (pos f.den)); lowest = h }) (record { value = refl; lowest = zero_lowest })
 
-fits_same : (m n : ℤ) → m ≡ n → Fits n → Fits m
-fits_same m n e h = subst Fits (sym e) h
+fits_same : (m n : ℤ) → m ≡ n → IsInRange n → IsInRange m
+fits_same m n e h = subst IsInRange (sym e) h
 
-zero_product : (g : Fraction) → IsLowest g → Gives product (whole (pos 0)) g (whole (pos 0))
+zero_product : (g : Fraction) → IsLowest g → HasResult product (fraction_of_whole (pos 0)) g (fraction_of_whole (pos 0))
 zero_product g h = record {
   fits = (fits_same (pos 0 *ℤ g.num) (pos 0) (zero-*ℤ g.num) zero_fits, fits_same (pos 1 *ℤ pos g.den) (pos g.den) (one_times (pos g.den)) h.den_fits);
   exact = record { value = zero-*ℤ (pos 1 *ℤ pos g.den) ∙ sym (times_one (pos 0 *ℤ g.num) ∙ zero-*ℤ g.num); lowest = zero_lowest };
 }
 
-product_zero : (f : Fraction) → IsLowest f → Gives product f (whole (pos 0)) (whole (pos 0))
+product_zero : (f : Fraction) → IsLowest f → HasResult product f (fraction_of_whole (pos 0)) (fraction_of_whole (pos 0))
 product_zero f h = record {
   fits = (fits_same (f.num *ℤ pos 0) (pos 0) (*ℤ-zero f.num) zero_fits, fits_same (pos f.den *ℤ pos 1) (pos f.den) (times_one (pos f.den)) h.den_fits);
   exact = record { value = zero-*ℤ (pos f.den *ℤ pos 1) ∙ sym (times_one (f.num *ℤ pos 0) ∙ *ℤ-zero f.num); lowest = zero_lowest };
 }
 
-sum_zero : (f : Fraction) → IsLowest f → Gives sum f (whole (pos 0)) f
+sum_zero : (f : Fraction) → IsLowest f → HasResult sum f (fraction_of_whole (pos 0)) f
 sum_zero f h = record {
   fits = record {
     crosses = record {
@@ -59,11 +59,11 @@ sum_zero f h = record {
     all = ap₂ (λ a b. a +ℤ b) (times_one f.num) (zero-*ℤ (pos f.den)) ∙ +ℤ_idr f.num
 
 pub plus_nothing : (own factor other : Fraction) → IsLowest own → IsLowest factor → IsLowest other → (factor.num ≡ pos 0) ⊎ (other.num ≡ pos 0) → IsPlusProduct own factor other own
-plus_nothing own factor other h k l e = record { part = whole (pos 0); part_is = part e; sum_is = sum_zero own h }
+plus_nothing own factor other h k l e = record { part = fraction_of_whole (pos 0); part_is = part e; sum_is = sum_zero own h }
   where
-    part : (factor.num ≡ pos 0) ⊎ (other.num ≡ pos 0) → Gives product factor other (whole (pos 0))
-    part (inl e) = subst (λ f. Gives product f other (whole (pos 0))) (sym (zero_is factor k e)) (zero_product other l)
-    part (inr e) = subst (λ f. Gives product factor f (whole (pos 0))) (sym (zero_is other l e)) (product_zero factor k)
+    part : (factor.num ≡ pos 0) ⊎ (other.num ≡ pos 0) → HasResult product factor other (fraction_of_whole (pos 0))
+    part (inl e) = subst (λ f. HasResult product f other (fraction_of_whole (pos 0))) (sym (zero_is factor k e)) (zero_product other l)
+    part (inr e) = subst (λ f. HasResult product factor f (fraction_of_whole (pos 0))) (sym (zero_is other l e)) (product_zero factor k)
 
 -- a row stays as it is where its coefficient of the column is 0
 pub put_nothing : (coefs solved : List Fraction) (e : ℕ) → length coefs ≡ length solved → e < length coefs → AreLowest coefs → AreLowest solved → (at coefs e).num ≡ pos 0 → IsPutRow coefs solved e coefs
@@ -73,5 +73,5 @@ put_nothing coefs solved e n h lows solved_lows zero = record {
 }
   where
     own : (j : ℕ) → ((eqb j e ≡ true) × (j ≡ e)) ⊎ ((eqb j e ≡ false) × (j ≢ e)) → beside coefs e j ≡ at coefs j
-    own j (inl k) = ap (λ b. cond b (whole (pos 0)) (at coefs j)) k.0 ∙ sym (ap (at coefs) k.1 ∙ zero_is (at coefs e) (lows e h) zero)
-    own j (inr k) = ap (λ b. cond b (whole (pos 0)) (at coefs j)) k.0
+    own j (inl k) = ap (λ b. cond b (fraction_of_whole (pos 0)) (at coefs j)) k.0 ∙ sym (ap (at coefs) k.1 ∙ zero_is (at coefs e) (lows e h) zero)
+    own j (inr k) = ap (λ b. cond b (fraction_of_whole (pos 0)) (at coefs j)) k.0

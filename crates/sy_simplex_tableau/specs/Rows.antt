@@ -1,11 +1,11 @@
 -- Rows of a tableau, solved for the variable of a column, and with a solved row put into them.
 use Rattle.std.specs.Prelude.{◌≡◌, ◌≢◌, ℕ, ◌<◌, ◌≤◌, ◌<ℤ◌, ◌⊎◌, ◌==◌, List, [], length, cond, pos, get_or}
 use Rattle.sy_frac.specs.Fraction.{Fraction, IsLowest}
-use Rattle.sy_simplex_tableau.specs.Operations.{Gives, OperationFits, quotient, whole, opposite, IsPlusProduct, PlusProductUnfit}
+use Rattle.sy_simplex_tableau.specs.Operations.{HasResult, OperationFits, quotient, fraction_of_whole, fraction_opposite, IsPlusProduct, PlusProductUnfit}
 
 -- the coefficient of a column
 abbrev pub at : List Fraction → ℕ → Fraction
-at coefs j = get_or coefs j (whole (pos 0))
+at coefs j = get_or coefs j (fraction_of_whole (pos 0))
 
 abbrev pub AreLowest : List Fraction → Type 0
 AreLowest coefs = (j : ℕ) → j < length coefs → IsLowest (at coefs j)
@@ -13,12 +13,12 @@ AreLowest coefs = (j : ℕ) → j < length coefs → IsLowest (at coefs j)
 -- the coefficient of column j in the row `coefs` solved for the variable of column e: there 1 over its coefficient,
 -- elsewhere the quotient by its opposite
 pub record IsSolvedAt (coefs : List Fraction) (e j : ℕ) (q : Fraction) : Type 0 where
-  pub here : j ≡ e → Gives quotient (whole (pos 1)) (at coefs e) q
-  pub elsewhere : j ≢ e → Gives quotient (at coefs j) (opposite (at coefs e)) q
+  pub here : j ≡ e → HasResult quotient (fraction_of_whole (pos 1)) (at coefs e) q
+  pub elsewhere : j ≢ e → HasResult quotient (at coefs j) (fraction_opposite (at coefs e)) q
 
 pub data SolvedAtUnfit (coefs : List Fraction) (e j : ℕ) : Type 0 where
-  here_unfit : j ≡ e → ¬ (OperationFits quotient (whole (pos 1)) (at coefs e)) → SolvedAtUnfit coefs e j
-  elsewhere_unfit : j ≢ e → ¬ (OperationFits quotient (at coefs j) (opposite (at coefs e))) → SolvedAtUnfit coefs e j
+  here_unfit : j ≡ e → ¬ (OperationFits quotient (fraction_of_whole (pos 1)) (at coefs e)) → SolvedAtUnfit coefs e j
+  elsewhere_unfit : j ≢ e → ¬ (OperationFits quotient (at coefs j) (fraction_opposite (at coefs e))) → SolvedAtUnfit coefs e j
 
 -- the row `solved` is the row `coefs` solved for the variable of column e
 pub record IsSolvedRow (coefs : List Fraction) (e : ℕ) (solved : List Fraction) : Type 0 where
@@ -33,7 +33,7 @@ pub record SolvedUnfit (coefs : List Fraction) (e : ℕ) : Type 0 where
 
 -- the coefficient of a column, where that of column e is left out
 abbrev pub beside : List Fraction → ℕ → ℕ → Fraction
-beside coefs e j = cond (j == e) (whole (pos 0)) (at coefs j)
+beside coefs e j = cond (j == e) (fraction_of_whole (pos 0)) (at coefs j)
 
 -- the row `new` is the row `coefs` in which the solved row stands for the variable of column e
 pub record IsPutRow (coefs solved : List Fraction) (e : ℕ) (new : List Fraction) : Type 0 where

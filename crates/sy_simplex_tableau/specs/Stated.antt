@@ -1,9 +1,9 @@
 -- The tableaus of the program, and what is chosen at one.
 use Rattle.sy_simplex_tableau.specs.declared.tableau.Tableau.{Tableau}
-use Rattle.sy_simplex_tableau.specs.States.{State}
+use Rattle.sy_simplex_tableau.specs.States.{TableauState}
 
-abbrev pub state_of : Tableau → State
-state_of t = record {
+abbrev pub tableau_state_of : Tableau → TableauState
+tableau_state_of t = record {
   vars = t.vars;
   columns = t.columns.items;
   basics = t.basics.items;

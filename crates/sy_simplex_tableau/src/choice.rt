@@ -1,8 +1,8 @@
 // The choice of a step by Bland's rule.
 ghost use Rattle.std.specs.Prelude.{◌≡◌, ◌≢◌, ◌<◌, ◌≤◌, ◌+◌, ◌↔◌, ◌⊎◌, ◌<ℤ◌, IsTrue, pos, length, MatchOption};
 ghost use Rattle.sy_simplex_tableau.specs.Rows.{LeastRaising, NoneRaises};
-ghost use Rattle.sy_simplex_tableau.specs.States.{IsShaped, IsAtLeast, IsClear, IsMet, FirstUnclear, SomeChoiceUnfit};
-ghost use Rattle.sy_simplex_tableau.specs.Stated.{state_of};
+ghost use Rattle.sy_simplex_tableau.specs.States.{IsShaped, IsAtLeast, IsClear, BoundsAreMet, FirstUnclear, SomeChoiceUnfit};
+ghost use Rattle.sy_simplex_tableau.specs.Stated.{tableau_state_of};
 ghost use Rattle.sy_simplex_tableau.specs.Choices.{IsChoice};
 
 use crate::tableau::Tableau;
@@ -62,9 +62,9 @@ fn entering_column(columns: &[u32], coefs: &[Frac], vars: u32) -> Option<usize>
 impl Tableau {
     /// Whether the row's variable is free, or at least its bound.
     fn is_clear(&self, row: usize) -> bool
-        requires shaped { IsShaped (state_of self.now) }
-        requires row_below { row < length (state_of self.now).basics }
-        ensures { IsTrue result ↔ IsClear (state_of self.now) row }
+        requires shaped { IsShaped (tableau_state_of self.now) }
+        requires row_below { row < length (tableau_state_of self.now).basics }
+        ensures { IsTrue result ↔ IsClear (tableau_state_of self.now) row }
     {
         let variable = self.basics[row];
         variable < self.vars
@@ -76,8 +76,8 @@ impl Tableau {
 
     /// The row of the least variable that isn't clear.
     fn first_unclear(&self) -> Option<usize>
-        requires { IsShaped (state_of self.now) }
-        ensures { MatchOption result (IsMet (state_of self.now)) (λ r. FirstUnclear (state_of self.now) (length (state_of self.now).basics) r) }
+        requires { IsShaped (tableau_state_of self.now) }
+        ensures { MatchOption result (BoundsAreMet (tableau_state_of self.now)) (λ r. FirstUnclear (tableau_state_of self.now) (length (tableau_state_of self.now).basics) r) }
     {
         let mut best: Option<usize> = None;
         for at in 0..self.basics.len() {
@@ -97,8 +97,8 @@ impl Tableau {
 
     /// The next exchange by Bland's rule, or the end of the run. `None` exactly where a comparison doesn't fit.
     pub fn choose(&self) -> Option<Choice>
-        requires { IsShaped (state_of self.now) }
-        ensures { MatchOption result (SomeChoiceUnfit (state_of self.now)) (λ choice. IsChoice (state_of self.now) choice) }
+        requires { IsShaped (tableau_state_of self.now) }
+        ensures { MatchOption result (SomeChoiceUnfit (tableau_state_of self.now)) (λ choice. IsChoice (tableau_state_of self.now) choice) }
     {
         let Some(row) = self.first_unclear() else {
             return Some(Choice::Met);

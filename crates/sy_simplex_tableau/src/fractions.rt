@@ -1,13 +1,13 @@
 // Operations on fractions.
 ghost use Rattle.std.specs.Prelude.{◌≡◌, ◌≢◌, ◌<◌, pos, MatchOption};
-ghost use Rattle.sy_frac.specs.Fraction.{Fits, IsLowest};
-ghost use Rattle.sy_simplex_tableau.specs.Operations.{opposite as opposite_of, whole as whole_fraction, IsPlusProduct, PlusProductUnfit, IsShift, ShiftUnfit};
+ghost use Rattle.sy_frac.specs.Fraction.{IsInRange, IsLowest};
+ghost use Rattle.sy_simplex_tableau.specs.Operations.{fraction_opposite as opposite_of, fraction_of_whole as whole_fraction, IsPlusProduct, PlusProductUnfit, IsShift, ShiftUnfit};
 
 use sy_frac::Frac;
 
 /// The fraction of a whole number; `None` exactly where the number is `-2^127`.
 pub fn whole(number: i128) -> Option<Frac>
-    ensures { MatchOption result (¬ (Fits number)) (λ f. Fits number × (f ≡ whole_fraction number)) }
+    ensures { MatchOption result (¬ (IsInRange number)) (λ f. IsInRange number × (f ≡ whole_fraction number)) }
 {
     Frac::new(number, 1)
 }

@@ -1,7 +1,7 @@
 // One row of a tableau.
 ghost use Rattle.std.specs.Prelude.{◌≡◌, ◌≢◌, ◌<◌, pos, length, IfOk, IsErrOf, MatchOption, get_or};
 ghost use Rattle.sy_frac.specs.Fraction.{IsLowest};
-ghost use Rattle.sy_simplex_tableau.specs.Operations.{opposite as opposite_of};
+ghost use Rattle.sy_simplex_tableau.specs.Operations.{fraction_opposite as opposite_of};
 ghost use Rattle.sy_simplex_tableau.specs.Rows.{at as coefficient_at, AreLowest, IsSolvedAt, SolvedAtUnfit, IsSolvedRow, SolvedUnfit, IsPutRow, PutUnfit};
 
 use crate::fault::Fault;

@@ -1,8 +1,8 @@
 // A tableau, and one step of it.
 ghost use Rattle.std.specs.Prelude.{◌≡◌, ◌≢◌, ℕ, ◌<◌, ◌≤◌, ◌+◌, pos, [], length, get_or, vec_len, OnOk, IsErrOf, MatchOption};
 ghost use Rattle.sy_simplex_tableau.specs.Rows.{AreLowest, ArePut, PutUnfitBeside, AreRaised, RaisedUnfitBeside};
-ghost use Rattle.sy_simplex_tableau.specs.States.{State, IsShaped, IsVariable, IsStep, StepUnfit, column as column_variable, basic, coef, rest as rest_of};
-ghost use Rattle.sy_simplex_tableau.specs.Stated.{state_of};
+ghost use Rattle.sy_simplex_tableau.specs.States.{TableauState, IsShaped, IsVariable, IsPivot, StepUnfit, variable_of_column as column_variable, basic, coef, rest as rest_of};
+ghost use Rattle.sy_simplex_tableau.specs.Stated.{tableau_state_of};
 
 use crate::fault::Fault;
 use crate::fractions::{plus_product, shift, zero};
@@ -29,8 +29,8 @@ pub struct Tableau {
 impl Tableau {
     /// The value of a column's variable: a free one stands at 0, a form's at its bound.
     pub fn rest(&self, variable: u32) -> Frac
-        requires { IsVariable (state_of self.now) variable }
-        ensures { result ≡ rest_of (state_of self.now) variable }
+        requires { IsVariable (tableau_state_of self.now) variable }
+        ensures { result ≡ rest_of (tableau_state_of self.now) variable }
     {
         if variable < self.vars {
             zero()
@@ -42,14 +42,14 @@ impl Tableau {
     /// Exchanges the variables of the row and of the column, and leaves the first at its bound.
     /// `Unfit` exactly where an operation doesn't fit; nothing is said of the tableau after an error.
     pub fn exchange(&mut self, alloc: Global, row: usize, column: usize) -> Result<(), Fault>
-        requires shaped { IsShaped (state_of self.old) }
-        requires row_below { row < length (state_of self.old).basics }
-        requires column_below { column < length (state_of self.old).columns }
-        requires bounded { self.old.vars ≤ basic (state_of self.old) row }
-        requires nonzero { (coef (state_of self.old) row column).num ≢ pos 0 }
-        ensures ok { OnOk result (IsStep (state_of self.old) (state_of self.new) row column) }
-        ensures shaped { OnOk result (IsShaped (state_of self.new)) }
-        ensures unfit { IsErrOf result Fault.Unfit → StepUnfit (state_of self.old) row column }
+        requires shaped { IsShaped (tableau_state_of self.old) }
+        requires row_below { row < length (tableau_state_of self.old).basics }
+        requires column_below { column < length (tableau_state_of self.old).columns }
+        requires bounded { self.old.vars ≤ basic (tableau_state_of self.old) row }
+        requires nonzero { (coef (tableau_state_of self.old) row column).num ≢ pos 0 }
+        ensures ok { OnOk result (IsPivot (tableau_state_of self.old) (tableau_state_of self.new) row column) }
+        ensures shaped { OnOk result (IsShaped (tableau_state_of self.new)) }
+        ensures unfit { IsErrOf result Fault.Unfit → StepUnfit (tableau_state_of self.old) row column }
     {
         let leaves = self.basics[row];
         let enters = self.columns[column];

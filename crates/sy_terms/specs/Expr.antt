@@ -4,7 +4,7 @@ use Rattle.sy_terms.specs.declared.op.Op.{Op}
 use Rattle.sy_terms.specs.declared.term.Fun.{Fun}
 
 -- a term, without where it lies in memory. A variable is a position of the list of values in force,
--- and a binding appends its values to that list for its inner term.
+-- which is longer by a binding's values in the binding's inner term.
 mutual
   pub data Expr : Type 0 where
     Constant : (value : Val) → Expr

@@ -56,7 +56,7 @@ fits ops.Abs values = one_fits int.absolute values
 fits ops.Sub values = from_left_fits ◌-ℤ◌ values
 fits ops.Add values = from_left_fits ◌+ℤ◌ values
 fits ops.Mul values = from_left_fits ◌*ℤ◌ values
-fits ops.Div values = from_left_fits int.quotient values
+fits ops.Div values = from_left_fits int.whole_quotient values
 fits _ values = true
 
 -- the operators of the theory Core

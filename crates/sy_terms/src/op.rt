@@ -3,7 +3,7 @@ ghost use Rattle.std.specs.Prelude.{◌≡◌, ◌↔◌, IsTrue};
 ghost use Rattle.sy_terms.specs.Spelling.{spelling};
 
 /// An operator with its indices. Where no number of arguments is named, there are one or two, as in SMT-LIB.
-#[derive(Clone, Copy, Debug, PartialEq, Eq, PartialOrd, Ord, Hash)]
+#[derive(Clone, Copy, Debug, PartialEq, Eq)]
 pub enum Op {
     // Core, in both logics
     /// `not`: negation

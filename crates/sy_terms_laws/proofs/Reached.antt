@@ -17,7 +17,7 @@ use Rattle.sy_terms.specs.declared.term.Fun.TheVariants.{Defined, Wanted}
 use Rattle.sy_terms.specs.declared.term.Term.{Term, Call}
 use Rattle.sy_terms.specs.declared.term.Terms.{Terms}
 use Rattle.sy_terms.specs.declared.term.Def.{Def}
-use Rattle.sy_terms_laws.specs.Evaluation.{TermFits, HasValue, HaveValues, BodiesFit, scope_with, wanted_functions, Gives, can_compute}
+use Rattle.sy_terms_laws.specs.Evaluation.{TermFits, HasValue, HaveValues, BodiesFit, scope_with, wanted_functions, GivesValue, can_compute}
 use Rattle.sy_terms_laws.proofs.Cases as cases
 use Rattle.sy_terms_laws.proofs.Steps as step
 use Rattle.sy_terms_laws.proofs.Asked.{asks_nothing}
@@ -125,7 +125,7 @@ pub body-fits : {T N : Type 0} {owned : Op → Bool} {number : N → Val} {defs 
 body-fits {terms = terms} {n = n} {gives = gives} called d at = rw (body-is called d at) (record { sort = gives; is = called.fits })
 
 -- what a call of a definition finds
-pub defined-ok : {T N : Type 0} (owned : Op → Bool) (number : N → Val) (defs : List (Def T N)) (terms : List (Term T N)) (values : List Val) (term : Term T N) (function : Fun) (arguments : Terms T N) (found : List Val) (n : ℕ) (d : Def T N) (value : Val) (wanted : List Signature) → term ≡ Call function arguments → function ≡ Defined n → DefinitionsFit owned number defs → TermFits (scope_with owned defs wanted) values (expr_of number term) → HaveValues (scope_with owned defs wanted) (functions (bodies number defs)) (wanted_functions number defs terms) values (exprs_of number arguments.items.items) found → Gives owned number (take n defs) [] found (body number (get_or defs n d)) value → HasValue (scope_with owned defs wanted) (functions (bodies number defs)) (wanted_functions number defs terms) values (expr_of number term) value
+pub defined-ok : {T N : Type 0} (owned : Op → Bool) (number : N → Val) (defs : List (Def T N)) (terms : List (Term T N)) (values : List Val) (term : Term T N) (function : Fun) (arguments : Terms T N) (found : List Val) (n : ℕ) (d : Def T N) (value : Val) (wanted : List Signature) → term ≡ Call function arguments → function ≡ Defined n → DefinitionsFit owned number defs → TermFits (scope_with owned defs wanted) values (expr_of number term) → HaveValues (scope_with owned defs wanted) (functions (bodies number defs)) (wanted_functions number defs terms) values (exprs_of number arguments.items.items) found → GivesValue owned number (take n defs) [] found (body number (get_or defs n d)) value → HasValue (scope_with owned defs wanted) (functions (bodies number defs)) (wanted_functions number defs terms) values (expr_of number term) value
 defined-ok {T} {N} owned number defs terms values term function arguments found n d value wanted is defined definitions fit have gives =
     let takes = step.call-takes (scope_with owned defs wanted) (functions (bodies number defs)) (wanted_functions number defs terms) number values term function arguments found (Defined n) is defined fit have in
     let called = calls owned number defs wanted n found fit.sort definitions takes in
@@ -143,7 +143,7 @@ defined-unfit owned number defs terms values term function arguments found n d w
     step.call-unfit (scope_with owned defs wanted) (functions (bodies number defs)) (wanted_functions number defs terms) number values term function arguments found (Defined n) (function_from (functions (bodies number (take n defs))) (body number called.def)) is defined have (function-at number defs n called.def called.is) (rw def_is at unfit)
 
 -- what a call of a function to be found finds
-pub wanted-ok : {T N : Type 0} (owned : Op → Bool) (number : N → Val) (defs : List (Def T N)) (terms : List (Term T N)) (values : List Val) (term : Term T N) (function : Fun) (arguments : Terms T N) (found : List Val) (n : ℕ) (d : Term T N) (value : Val) (wanted : List Signature) → term ≡ Call function arguments → function ≡ Wanted n → d ≡ get_or terms n d → BodiesFit owned number defs terms wanted → TermFits (scope_with owned defs wanted) values (expr_of number term) → HaveValues (scope_with owned defs wanted) (functions (bodies number defs)) (wanted_functions number defs terms) values (exprs_of number arguments.items.items) found → Gives owned number defs [] found (expr_of number d) value → HasValue (scope_with owned defs wanted) (functions (bodies number defs)) (wanted_functions number defs terms) values (expr_of number term) value
+pub wanted-ok : {T N : Type 0} (owned : Op → Bool) (number : N → Val) (defs : List (Def T N)) (terms : List (Term T N)) (values : List Val) (term : Term T N) (function : Fun) (arguments : Terms T N) (found : List Val) (n : ℕ) (d : Term T N) (value : Val) (wanted : List Signature) → term ≡ Call function arguments → function ≡ Wanted n → d ≡ get_or terms n d → BodiesFit owned number defs terms wanted → TermFits (scope_with owned defs wanted) values (expr_of number term) → HaveValues (scope_with owned defs wanted) (functions (bodies number defs)) (wanted_functions number defs terms) values (exprs_of number arguments.items.items) found → GivesValue owned number defs [] found (expr_of number d) value → HasValue (scope_with owned defs wanted) (functions (bodies number defs)) (wanted_functions number defs terms) values (expr_of number term) value
 wanted-ok {T} {N} owned number defs terms values term function arguments found n d value wanted is is_wanted at bodies_fit fit have gives =
     let takes = step.call-takes (scope_with owned defs wanted) (functions (bodies number defs)) (wanted_functions number defs terms) number values term function arguments found (Wanted n) is is_wanted fit have in
     let called = calls-body owned number defs terms wanted n found fit.sort bodies_fit takes in

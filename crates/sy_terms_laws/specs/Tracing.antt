@@ -25,7 +25,7 @@ traced_all calls [] = calls
 traced_all calls (call ∷ more) = traced_all (traced calls call) more
 
 -- the trace has gained each of these calls that it had not, in order
-pub record Gains (before asked after : List (ℕ × List Val)) : Type 0 where
+pub record GainsCalls (before asked after : List (ℕ × List Val)) : Type 0 where
   pub is : after ≡ traced_all before asked
 
 -- the trace after the first of these calls, up to one of them

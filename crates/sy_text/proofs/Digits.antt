@@ -10,7 +10,7 @@ use Rattle.sy_text.specs.declared.atom.Atom.TheVariants.{Symbol, Keyword, Numera
 use Rattle.sy_text.specs.Items.{Item, leaf, group, Items, none, more}
 use Rattle.sy_text.specs.Lexicon.{space, digit, binary_digit, hexadecimal_digit, bar_content, separator, digit_value, value_in}
 use Rattle.sy_text.specs.Reading.{may_follow}
-use Rattle.sy_text.specs.Spelling.{all, bare, is_numeral, digit_of, digits_of, decimal_len, vector_text, symbol_text, atom_text, item_text, inner_text, others_text, AtomFits, Fits, AllFit, parted}
+use Rattle.sy_text.specs.Spelling.{all_bytes, bare, is_numeral, digit_of, digits_of, decimal_len, vector_text, symbol_text, atom_text, item_text, inner_text, others_text, AtomFits, ItemFits, ItemsFit, parted}
 use Rattle.sy_text.specs.Grammar.{is_layout, no_quote, IsAtom, IsItem, AreItems}
 use Rattle.sy_text.proofs.Values.{next}
 use Rattle.sy_text.proofs.Again.{and_both}
@@ -101,11 +101,11 @@ value_digits (suc k) base n low high lt =
     ∙ ap (λ (m : ℕ). base * (n / base) + m) (digit_back (n % base) below)
     ∙ div-add-mod n base
 
-all_append : (p : ℕ → Bool) (xs : List ℕ) (b : ℕ) → all p xs ≡ true → p b ≡ true → all p (xs ++ b ∷ []) ≡ true
+all_append : (p : ℕ → Bool) (xs : List ℕ) (b : ℕ) → all_bytes p xs ≡ true → p b ≡ true → all_bytes p (xs ++ b ∷ []) ≡ true
 all_append p [] b h e = rw e refl
-all_append p (x ∷ xs) b h e = let both = and_both (p x) (all p xs) h in rw both.0 (all_append p xs b both.1 e)
+all_append p (x ∷ xs) b h e = let both = and_both (p x) (all_bytes p xs) h in rw both.0 (all_append p xs b both.1 e)
 
-all_digits : (p : ℕ → Bool) (k base n : ℕ) → 1 ≤ base → ((m : ℕ) → m < base → p (digit_of m) ≡ true) → all p (digits_of k base n) ≡ true
+all_digits : (p : ℕ → Bool) (k base n : ℕ) → 1 ≤ base → ((m : ℕ) → m < base → p (digit_of m) ≡ true) → all_bytes p (digits_of k base n) ≡ true
 unfolding digits_of
 all_digits p zero base n low h = refl
 all_digits p (suc k) base n low h = all_append p (digits_of k base (n / base)) (digit_of (n % base)) (all_digits p k base (n / base) low h) (h (n % base) (mod-lt n low))
@@ -159,10 +159,10 @@ unfolding decimal_len
 leads zero n some lt = leads_one n some (omega (arith, lt))
 leads (suc most) n some lt = leads_cases most n (nat_lt n 10) refl some (λ more. leads most (n / 10) more (divided 10 (suc most) n lt))
 
-is_numeral_of : (text : List ℕ) → Leads text → all digit text ≡ true → is_numeral text ≡ true
+is_numeral_of : (text : List ℕ) → Leads text → all_bytes digit text ≡ true → is_numeral text ≡ true
 unfolding is_numeral
 is_numeral_of text h e =
-    let P : List ℕ → Type 0 = λ l. all digit l ≡ true → is_numeral l ≡ true in
+    let P : List ℕ → Type 0 = λ l. all_bytes digit l ≡ true → is_numeral l ≡ true in
     subst P (sym h.parts) (λ a. rw (a, h.some) refl) e
 
 zero_text : is_numeral (digits_of (decimal_len 38 0) 10 0) ≡ true
@@ -197,7 +197,7 @@ unfolding space
 no_quote_of [] h = refl
 no_quote_of (b ∷ rest) h = ap not (test_no b 34 (λ e. quote_parts b e h))
 
-symbol_spelled : (name : List ℕ) (is_bare : Bool) (rest : List ℕ) → bare name ≡ is_bare → all bar_content name ≡ true → parted rest ≡ true → IsAtom (Symbol name) (cond is_bare name (124 ∷ name ++ 124 ∷ [])) rest
+symbol_spelled : (name : List ℕ) (is_bare : Bool) (rest : List ℕ) → bare name ≡ is_bare → all_bytes bar_content name ≡ true → parted rest ≡ true → IsAtom (Symbol name) (cond is_bare name (124 ∷ name ++ 124 ∷ [])) rest
 symbol_spelled name true rest e h p = inl (e, refl, parted_follows rest p)
 symbol_spelled name false rest e h p = inr (h, refl)
 
@@ -259,16 +259,16 @@ others_part none rest = refl
 others_part (more x xs) rest = refl
 
 mutual
-  pub item_spelled : (x : Item) (room depth : ℕ) (rest : List ℕ) → Fits room x → room + depth ≡ 1200 → parted rest ≡ true → IsItem depth x (item_text x) rest
+  pub item_spelled : (x : Item) (room depth : ℕ) (rest : List ℕ) → ItemFits room x → room + depth ≡ 1200 → parted rest ≡ true → IsItem depth x (item_text x) rest
   item_spelled (leaf a p) room depth rest h e f = atom_spelled a rest h f
   item_spelled (group xs p) room depth rest h e f = (inner_text xs, refl, omega (arith, e, h.0), inner_spelled xs (room - 1) (depth + 1) rest h.1 (omega (arith, e, h.0)))
 
-  inner_spelled : (xs : Items) (room depth : ℕ) (rest : List ℕ) → AllFit room xs → room + depth ≡ 1200 → AreItems depth xs (inner_text xs) rest
+  inner_spelled : (xs : Items) (room depth : ℕ) (rest : List ℕ) → ItemsFit room xs → room + depth ≡ 1200 → AreItems depth xs (inner_text xs) rest
   inner_spelled none room depth rest h e = ([], empty_gap, refl)
   inner_spelled (more x xs) room depth rest h e =
       ([], item_text x, others_text xs, empty_gap, item_spelled x room depth (others_text xs ++ rest) h.0 e (others_part xs rest), others_spelled xs room depth rest h.1 e, refl)
 
-  others_spelled : (xs : Items) (room depth : ℕ) (rest : List ℕ) → AllFit room xs → room + depth ≡ 1200 → AreItems depth xs (others_text xs) rest
+  others_spelled : (xs : Items) (room depth : ℕ) (rest : List ℕ) → ItemsFit room xs → room + depth ≡ 1200 → AreItems depth xs (others_text xs) rest
   others_spelled none room depth rest h e = ([], empty_gap, refl)
   others_spelled (more x xs) room depth rest h e =
       (32 ∷ [], item_text x, others_text xs, blank_gap, item_spelled x room depth (others_text xs ++ rest) h.0 e (others_part xs rest), others_spelled xs room depth rest h.1 e, refl)

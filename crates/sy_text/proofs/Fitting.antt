@@ -11,8 +11,8 @@ use Rattle.sy_text.specs.declared.fault.TextEnd.{TextEnd}
 use Rattle.sy_text.specs.Items.{Item, leaf, group, Items, none, more}
 use Rattle.sy_text.specs.Views.{item_of}
 use Rattle.sy_text.specs.Lexicon.{space, letter, mark, digit, binary_digit, hexadecimal_digit, symbol_byte, quotable, bar_content, digit_value}
-use Rattle.sy_text.specs.Spelling.{all, bare, AtomFits, Fits, AllFit}
-use Rattle.sy_text.specs.Grammar.{IsVector, IsAtom, IsItem, AreItems, IsFound}
+use Rattle.sy_text.specs.Spelling.{all_bytes, bare, AtomFits, ItemFits, ItemsFit}
+use Rattle.sy_text.specs.Grammar.{IsVector, IsAtom, IsItem, AreItems, StandsInFront}
 use Rattle.sy_text.proofs.Again.{and_both}
 use Rattle.sy_text.proofs.Values.{next, step, nothing, hexadecimal_small, binary_small}
 use Rattle.sy_text.proofs.Digits.{pow_of_pow}
@@ -23,21 +23,21 @@ symbol_content : (b : ℕ) → symbol_byte b ≡ true → bar_content b ≡ true
 unfolding symbol_byte bar_content quotable letter digit mark space
 symbol_content b h = grind (arith, common_steps)
 
-all_content : (bs : List ℕ) → all symbol_byte bs ≡ true → all bar_content bs ≡ true
+all_content : (bs : List ℕ) → all_bytes symbol_byte bs ≡ true → all_bytes bar_content bs ≡ true
 all_content [] h = refl
-all_content (b ∷ bs) h = let p = and_both (symbol_byte b) (all symbol_byte bs) h in rw (symbol_content b p.0) (all_content bs p.1)
+all_content (b ∷ bs) h = let p = and_both (symbol_byte b) (all_bytes symbol_byte bs) h in rw (symbol_content b p.0) (all_content bs p.1)
 
-bare_content : (name : List ℕ) → bare name ≡ true → all bar_content name ≡ true
+bare_content : (name : List ℕ) → bare name ≡ true → all_bytes bar_content name ≡ true
 unfolding bare
 bare_content [] h = absurd cc
-bare_content (b ∷ bs) h = all_content (b ∷ bs) (and_both (not (digit b)) (all symbol_byte (b ∷ bs)) h).1
+bare_content (b ∷ bs) h = all_content (b ∷ bs) (and_both (not (digit b)) (all_bytes symbol_byte (b ∷ bs)) h).1
 
 -- digits of a class stand for less than a power of the base
-all_below : (test : ℕ → Bool) (base acc : ℕ) (xs : List ℕ) → ((b : ℕ) → test b ≡ true → digit_value b < base) → all test xs ≡ true
+all_below : (test : ℕ → Bool) (base acc : ℕ) (xs : List ℕ) → ((b : ℕ) → test b ≡ true → digit_value b < base) → all_bytes test xs ≡ true
     → fold (next base) acc xs + 1 ≤ (acc + 1) * base ^ length xs
 all_below test base acc [] h a = nothing base acc
 all_below test base acc (x ∷ xs) h a =
-    let both = and_both (test x) (all test xs) a in
+    let both = and_both (test x) (all_bytes test xs) a in
     le_trans (all_below test base (next base acc x) xs h both.1) (step base acc (digit_value x) (length xs) (h x both.0))
 
 hexadecimal_range : (width n : ℕ) (text : List ℕ) → IsVector hexadecimal_digit 120 4 16 width n text → AtomFits (Bits width n)
@@ -64,18 +64,18 @@ atom_fits (Text content) text rest h = h.0
 -- ---- items
 
 mutual
-  pub item_fits : (depth room : ℕ) (x : Item) (text rest : List ℕ) → depth + room ≡ 1200 → IsItem depth x text rest → Fits room x
+  pub item_fits : (depth room : ℕ) (x : Item) (text rest : List ℕ) → depth + room ≡ 1200 → IsItem depth x text rest → ItemFits room x
   item_fits depth room (leaf a p) text rest e h = atom_fits a text rest h
   item_fits depth room (group xs p) text rest e h =
       let lt : depth < 1200 = h.2 in
       (omega (arith, lt, e), all_fit (depth + 1) (room - 1) xs h.0 rest (omega (arith, lt, e)) h.3)
 
-  pub all_fit : (depth room : ℕ) (xs : Items) (text rest : List ℕ) → depth + room ≡ 1200 → AreItems depth xs text rest → AllFit room xs
+  pub all_fit : (depth room : ℕ) (xs : Items) (text rest : List ℕ) → depth + room ≡ 1200 → AreItems depth xs text rest → ItemsFit room xs
   all_fit depth room none text rest e h = tt
   all_fit depth room (more x xs) text rest e h = (item_fits depth room x h.1 (h.2 ++ rest) e h.4, all_fit depth room xs h.2 rest e h.5)
 
 -- what next_command answers
-pub answer_fits : (r : Result (Option (Sexp × ℕ)) TextEnd) (total : ℕ) (bytes : List ℕ) → IfOk r (λ a. IfSome a (λ x. IsFound (item_of x.0) x.1 total bytes)) → IfOk r (λ a. IfSome a (λ x. Fits 1200 (item_of x.0)))
+pub answer_fits : (r : Result (Option (Sexp × ℕ)) TextEnd) (total : ℕ) (bytes : List ℕ) → IfOk r (λ a. IfSome a (λ x. StandsInFront (item_of x.0) x.1 total bytes)) → IfOk r (λ a. IfSome a (λ x. ItemFits 1200 (item_of x.0)))
 answer_fits (Ok (Some x)) total bytes h = item_fits 0 1200 (item_of x.0) h.text h.rest refl h.spells
 answer_fits (Ok None) total bytes h = tt
 answer_fits (Err e) total bytes h = tt

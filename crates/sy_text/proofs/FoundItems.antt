@@ -10,8 +10,8 @@ use Rattle.sy_text.specs.declared.fault.TextEnd.TheVariants as ends
 use Rattle.sy_text.specs.Items.{Item, Items, none, more}
 use Rattle.sy_text.specs.Views.{item_of, command_of}
 use Rattle.sy_text.specs.Lexicon.{space, line_end}
-use Rattle.sy_text.specs.Reading.{Gives, after_layout, atom_at, item_by, joined, items_at, command_at}
-use Rattle.sy_text.specs.Grammar.{is_layout, is_blank, IsItem, AreItems, IsFound, EndsBlank}
+use Rattle.sy_text.specs.Reading.{TextGives, after_layout, atom_at, item_by, item_joined, items_at, command_at}
+use Rattle.sy_text.specs.Grammar.{is_layout, is_blank, IsItem, AreItems, StandsInFront, EndsBlank}
 use Rattle.sy_text.proofs.Shorter.{ok, err, no_err, from_ok, chosen, past_err, bind_ok}
 use Rattle.sy_text.proofs.Nested.{Inside, turn, turn_is, front_item, command_turn, command_is, command_none}
 use Rattle.sy_text.proofs.Found.{atom_found}
@@ -82,7 +82,7 @@ gap_found false (c ∷ bytes) b rest e =
 
 -- ---- items
 
-joined_is : (x : Item) (r : Result Taken TextFault) (y : Taken) → joined x r ≡ Ok y → (z : Taken) × (r ≡ Ok z) × (ok (more x z.0, z.1) ≡ Ok y)
+joined_is : (x : Item) (r : Result Taken TextFault) (y : Taken) → item_joined x r ≡ Ok y → (z : Taken) × (r ≡ Ok z) × (ok (more x z.0, z.1) ≡ Ok y)
 joined_is x (Ok z) y e = (z, refl, e)
 joined_is x (Err f) y e = no_err f y e
 
@@ -128,7 +128,7 @@ items_found (suc n) total depth start bytes x le e =
 
 -- ---- a command
 
-command_front : (total : ℕ) (bytes front : List ℕ) (y : Item × ℕ) → after_layout false bytes ≡ front → command_turn total front ≡ Ok (Some y) → IsFound y.0 y.1 total bytes
+command_front : (total : ℕ) (bytes front : List ℕ) (y : Item × ℕ) → after_layout false bytes ≡ front → command_turn total front ≡ Ok (Some y) → StandsInFront y.0 y.1 total bytes
 command_front total bytes [] y a e = let clash : ok None ≡ ok (Some y) = e in absurd cc
 command_front total bytes (b ∷ rest) y a e =
     let p = past_err (nat_eq b 41) (Stray (total - length (b ∷ rest))) _ (Some y) e in
@@ -137,7 +137,7 @@ command_front total bytes (b ∷ rest) y a e =
     let one = item_found (items_at (length (b ∷ rest)) total 1 (total - length (b ∷ rest))) total 0 (total - length (b ∷ rest)) (b ∷ rest) q.0 (omega arith)
     (λ ys z lt. items_found (length (b ∷ rest)) total 1 (total - length (b ∷ rest)) ys z (omega arith)) q.1 in
     let g = gap_found false bytes b rest a in
-    let P : Item × ℕ → Type 0 = λ z. IsFound z.0 z.1 total bytes in
+    let P : Item × ℕ → Type 0 = λ z. StandsInFront z.0 z.1 total bytes in
     subst P some (record {
       gap = g.gap;
       text = one.text;
@@ -148,7 +148,7 @@ command_front total bytes (b ∷ rest) y a e =
       place = refl;
     })
 
-pub command_found : (total : ℕ) (bytes : List ℕ) (y : Item × ℕ) → command_at total bytes ≡ Ok (Some y) → IsFound y.0 y.1 total bytes
+pub command_found : (total : ℕ) (bytes : List ℕ) (y : Item × ℕ) → command_at total bytes ≡ Ok (Some y) → StandsInFront y.0 y.1 total bytes
 command_found total bytes y e = command_front total bytes (after_layout false bytes) y refl (sym (command_is total bytes) ∙ e)
 
 none_front : (total : ℕ) (front : List ℕ) → command_turn total front ≡ Ok None → front ≡ []
@@ -187,12 +187,12 @@ blank_empty true (b ∷ rest) e = blank_empty (not (line_end b)) rest e
 blank_empty false (b ∷ rest) e = skip_byte (nat_eq b 59) (space b) b (after_layout true rest) (after_layout false rest) rest (is_blank true rest) (is_blank false rest) (blank_empty true rest) (blank_empty false rest) e
 
 -- what next_command answers
-pub answer_found : (r : Result (Option (Sexp × ℕ)) TextEnd) (total : ℕ) (bytes : List ℕ) → Gives command_of r (command_at total bytes) → IfOk r (λ a. IfSome a (λ x. IsFound (item_of x.0) x.1 total bytes))
+pub answer_found : (r : Result (Option (Sexp × ℕ)) TextEnd) (total : ℕ) (bytes : List ℕ) → TextGives command_of r (command_at total bytes) → IfOk r (λ a. IfSome a (λ x. StandsInFront (item_of x.0) x.1 total bytes))
 answer_found (Ok (Some x)) total bytes h = command_found total bytes (item_of x.0, x.1) h
 answer_found (Ok None) total bytes h = tt
 answer_found (Err e) total bytes h = tt
 
-pub answer_none : (r : Result (Option (Sexp × ℕ)) TextEnd) (total : ℕ) (bytes : List ℕ) → Gives command_of r (command_at total bytes) → IfOk r (λ a. IfNone a (is_blank false bytes ≡ true))
+pub answer_none : (r : Result (Option (Sexp × ℕ)) TextEnd) (total : ℕ) (bytes : List ℕ) → TextGives command_of r (command_at total bytes) → IfOk r (λ a. IfNone a (is_blank false bytes ≡ true))
 answer_none (Ok (Some x)) total bytes h = tt
 answer_none (Ok None) total bytes h = empty_blank false bytes (command_empty total bytes h)
 answer_none (Err e) total bytes h = tt
@@ -204,7 +204,7 @@ fault_none : (f : TextFault) → err {A = Option (Item × ℕ)} f ≡ ok None �
 fault_none f e = absurd cc
 
 -- blank bytes are answered by None, unless memory ran out
-pub answer_blank : (r : Result (Option (Sexp × ℕ)) TextEnd) (total : ℕ) (bytes : List ℕ) → Gives command_of r (command_at total bytes) → is_blank false bytes ≡ true → EndsBlank r
+pub answer_blank : (r : Result (Option (Sexp × ℕ)) TextEnd) (total : ℕ) (bytes : List ℕ) → TextGives command_of r (command_at total bytes) → is_blank false bytes ≡ true → EndsBlank r
 answer_blank (Ok (Some x)) total bytes h b = some_none (item_of x.0, x.1) (sym h ∙ command_none total bytes (blank_empty false bytes b))
 answer_blank (Ok None) total bytes h b = tt
 answer_blank (Err ends.Want) total bytes h b = tt

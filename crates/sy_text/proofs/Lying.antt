@@ -10,7 +10,7 @@ use Rattle.sy_text.specs.declared.fault.TextEnd.TheVariants as ends
 use Rattle.sy_text.specs.Items.{Item, leaf, group, Items, Placed, AllPlaced}
 use Rattle.sy_text.specs.Views.{item_of, command_of}
 use Rattle.sy_text.specs.Lexicon.{digit, binary_digit, hexadecimal_digit, symbol_byte, quotable, bar_content, separator}
-use Rattle.sy_text.specs.Reading.{offset_of, FaultBelow, ◌>>=◌, Gives, after_layout, missing, may_follow, ended, literal, symbol_at, closing_bar, barred_at, text_at, keyword_at, vector_of, hexadecimal_at, binary_at, vector_at, decimal_at, integer_at, number_at, numeral_at, atom_at, item_by, joined, items_at, command_at}
+use Rattle.sy_text.specs.Reading.{offset_of, FaultBelow, ◌>>=◌, TextGives, after_layout, missing, may_follow, ended, literal_read, symbol_at, closing_bar, barred_at, text_at, keyword_at, vector_of, hexadecimal_at, binary_at, vector_at, decimal_at, integer_at, number_at, numeral_at, atom_at, item_by, item_joined, items_at, command_at}
 use Rattle.sy_text.proofs.Shorter.{drop_le}
 use Rattle.sy_text.proofs.Nested.{Inside, layout_within, turn, turn_is, item_shorter, items_shorter, front_item, command_turn, command_is}
 
@@ -44,8 +44,8 @@ unfolding ended may_follow
 ended_lies total atom [] le = tt
 ended_lies total atom (b ∷ rest) le = either (AtomLies total) (separator b) _ _ tt (here total b rest le)
 
-literal_lies : (total start : ℕ) (fits : Bool) (atom : Atom) (left : List ℕ) → start < total → length left ≤ total → AtomLies total (literal total start fits atom left)
-unfolding literal may_follow
+literal_lies : (total start : ℕ) (fits : Bool) (atom : Atom) (left : List ℕ) → start < total → length left ≤ total → AtomLies total (literal_read total start fits atom left)
+unfolding literal_read may_follow
 literal_lies total start fits atom [] s le = either (AtomLies total) fits _ _ tt s
 literal_lies total start fits atom (b ∷ rest) s le = either (AtomLies total) (separator b) _ _ (either (AtomLies total) fits _ _ tt s) (here total b rest le)
 
@@ -161,7 +161,7 @@ item_lies inside total depth start (b ∷ rest) s le h =
     (either (ItemLies total) (nat_eq depth 1200) _ _ s (group_lies total start (inside rest) s (h rest (omega arith))))
     (leaf_lies total start (atom_at total start (b ∷ rest)) s (atom_lies total start (b ∷ rest) s le))
 
-joined_lies : (total : ℕ) (x : Item) (r : Result Taken TextFault) → Placed total x → ItemsLie total r → ItemsLie total (joined x r)
+joined_lies : (total : ℕ) (x : Item) (r : Result Taken TextFault) → Placed total x → ItemsLie total r → ItemsLie total (item_joined x r)
 joined_lies total x (Ok xs) p h = (p, h)
 joined_lies total x (Err f) p h = h
 
@@ -220,12 +220,12 @@ command_lies total bytes le =
 given : (total : ℕ) (x y : Result (Option (Item × ℕ)) TextFault) → x ≡ y → CommandLies total x → CommandLies total y
 given total x y e = let P : Result (Option (Item × ℕ)) TextFault → Type 0 = CommandLies total in subst P e
 
-pub answer_placed : (r : Result (Option (Sexp × ℕ)) TextEnd) (total : ℕ) (bytes : List ℕ) → length bytes ≤ total → Gives command_of r (command_at total bytes) → IfOk r (λ a. IfSome a (λ x. Placed total (item_of x.0)))
+pub answer_placed : (r : Result (Option (Sexp × ℕ)) TextEnd) (total : ℕ) (bytes : List ℕ) → length bytes ≤ total → TextGives command_of r (command_at total bytes) → IfOk r (λ a. IfSome a (λ x. Placed total (item_of x.0)))
 answer_placed (Ok (Some x)) total bytes le h = given total _ _ h (command_lies total bytes le)
 answer_placed (Ok None) total bytes le h = tt
 answer_placed (Err e) total bytes le h = tt
 
-pub answer_fault : (r : Result (Option (Sexp × ℕ)) TextEnd) (total : ℕ) (bytes : List ℕ) → length bytes ≤ total → Gives command_of r (command_at total bytes) → IfErr r (λ e. FaultBelow total e)
+pub answer_fault : (r : Result (Option (Sexp × ℕ)) TextEnd) (total : ℕ) (bytes : List ℕ) → length bytes ≤ total → TextGives command_of r (command_at total bytes) → IfErr r (λ e. FaultBelow total e)
 answer_fault (Ok x) total bytes le h = tt
 answer_fault (Err ends.Want) total bytes le h = tt
 answer_fault (Err (ends.Fault f)) total bytes le h = given total _ _ h (command_lies total bytes le)

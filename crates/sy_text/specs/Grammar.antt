@@ -5,7 +5,7 @@ use Rattle.sy_text.specs.declared.atom.Atom.TheVariants.{Symbol, Keyword, Numera
 use Rattle.sy_text.specs.declared.fault.TextFault.{TextFault}
 use Rattle.sy_text.specs.Items.{Item, leaf, group, Items, none, more}
 use Rattle.sy_text.specs.Lexicon.{space, line_end, binary_digit, hexadecimal_digit, symbol_byte, quotable, bar_content, value_in}
-use Rattle.sy_text.specs.Spelling.{all, bare, doubled, is_numeral, is_decimal}
+use Rattle.sy_text.specs.Spelling.{all_bytes, bare, doubled, is_numeral, is_decimal}
 use Rattle.sy_text.specs.Reading.{may_follow}
 use Rattle.sy_text.specs.Views.{item_of}
 use Rattle.sy_text.specs.declared.sexp.Sexp.{Sexp}
@@ -28,7 +28,7 @@ is_blank false (b ∷ rest) = if nat_eq b 59 then is_blank true rest else space 
 pub record IsVector (class : ℕ → Bool) (sign bits base width n : ℕ) (text : List ℕ) : Type 0 where
   pub digits : List ℕ
   pub spelled : text ≡ 35 ∷ sign ∷ digits
-  pub of_class : all class digits ≡ true
+  pub of_class : all_bytes class digits ≡ true
   pub some : 0 < length digits
   pub wide : width ≡ bits * length digits
   pub narrow : width ≤ 64
@@ -42,12 +42,12 @@ no_quote (b ∷ rest) = not (nat_eq b 34)
 -- the text spells the atom, before what follows it
 abbrev pub IsAtom : Atom → List ℕ → List ℕ → Type 0
 IsAtom (Symbol name) text rest =
-    ((bare name ≡ true) × (text ≡ name) × (may_follow rest ≡ true)) ⊎ ((all bar_content name ≡ true) × (text ≡ 124 ∷ name ++ 124 ∷ []))
-IsAtom (Keyword name) text rest = (all symbol_byte name ≡ true) × (0 < length name) × (text ≡ 58 ∷ name) × (may_follow rest ≡ true)
+    ((bare name ≡ true) × (text ≡ name) × (may_follow rest ≡ true)) ⊎ ((all_bytes bar_content name ≡ true) × (text ≡ 124 ∷ name ++ 124 ∷ []))
+IsAtom (Keyword name) text rest = (all_bytes symbol_byte name ≡ true) × (0 < length name) × (text ≡ 58 ∷ name) × (may_follow rest ≡ true)
 IsAtom (Numeral n) text rest = (is_numeral text ≡ true) × (n ≡ value_in 10 text) × (n < 2 ^ 127) × (may_follow rest ≡ true)
 IsAtom (Decimal name) text rest = (is_decimal name ≡ true) × (text ≡ name) × (may_follow rest ≡ true)
 IsAtom (Bits width n) text rest = (IsVector hexadecimal_digit 120 4 16 width n text ⊎ IsVector binary_digit 98 1 2 width n text) × (may_follow rest ≡ true)
-IsAtom (Text content) text rest = (all quotable content ≡ true) × (text ≡ 34 ∷ doubled content ++ 34 ∷ []) × (no_quote rest ≡ true)
+IsAtom (Text content) text rest = (all_bytes quotable content ≡ true) × (text ≡ 34 ∷ doubled content ++ 34 ∷ []) × (no_quote rest ≡ true)
 
 -- the text spells the item, before what follows it, where depth lists are open
 abbrev mutual
@@ -96,7 +96,7 @@ EndsBlank (Err ends.Want) = Unit {0}
 EndsBlank (Err (ends.Fault f)) = ⊥
 
 -- the item stands at the front, behind white space and comments, and the offset behind it leaves what follows it
-pub record IsFound (x : Item) (behind total : ℕ) (bytes : List ℕ) : Type 0 where
+pub record StandsInFront (x : Item) (behind total : ℕ) (bytes : List ℕ) : Type 0 where
   pub gap : List ℕ
   pub text : List ℕ
   pub rest : List ℕ

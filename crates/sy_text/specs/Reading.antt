@@ -30,13 +30,13 @@ abbrev pub ◌>>=◌ : {A B : Type 0} → Result A TextFault → (A → Result B
 (Err e) >>= f = Err e
 
 -- What a function returned, seen by view, is what reading gives, unless memory ran out.
-abbrev pub Fails : {Y : Type 0} → TextEnd → Result Y TextFault → Type 0
-Fails ends.Want read = Unit {0}
-Fails (ends.Fault f) read = read ≡ Err f
+abbrev pub TextFails : {Y : Type 0} → TextEnd → Result Y TextFault → Type 0
+TextFails ends.Want read = Unit {0}
+TextFails (ends.Fault f) read = read ≡ Err f
 
-abbrev pub Gives : {X Y : Type 0} → (X → Y) → Result X TextEnd → Result Y TextFault → Type 0
-Gives view (Ok x) read = read ≡ Ok (view x)
-Gives view (Err e) read = Fails e read
+abbrev pub TextGives : {X Y : Type 0} → (X → Y) → Result X TextEnd → Result Y TextFault → Type 0
+TextGives view (Ok x) read = read ≡ Ok (view x)
+TextGives view (Err e) read = TextFails e read
 
 -- what is left behind white space and comments; inside says that a comment has begun
 unfoldable pub after_layout : Bool → List ℕ → List ℕ
@@ -59,8 +59,8 @@ unfoldable pub ended : ℕ → Atom → List ℕ → Result (Atom × List ℕ) T
 ended total atom left = if may_follow left then Ok (atom, left) else Err (BadByte (total - length left))
 
 -- the same for a literal, which ends well before its range counts
-unfoldable pub literal : ℕ → ℕ → Bool → Atom → List ℕ → Result (Atom × List ℕ) TextFault
-literal total start fits atom left =
+unfoldable pub literal_read : ℕ → ℕ → Bool → Atom → List ℕ → Result (Atom × List ℕ) TextFault
+literal_read total start fits atom left =
     if may_follow left then (if fits then Ok (atom, left) else Err (LiteralRange start)) else Err (BadByte (total - length left))
 
 unfoldable pub symbol_at : ℕ → List ℕ → Result (Atom × List ℕ) TextFault
@@ -94,7 +94,7 @@ keyword_at total start bytes =
 -- a vector of the digits, each of which stands for some bits
 unfoldable pub vector_of : ℕ → ℕ → ℕ → ℕ → List ℕ → List ℕ → Result (Atom × List ℕ) TextFault
 vector_of total start base bits digits left =
-    literal total start (not (nat_lt 64 (bits * length digits))) (Bits (bits * length digits) (value_in base digits)) left
+    literal_read total start (not (nat_lt 64 (bits * length digits))) (Bits (bits * length digits) (value_in base digits)) left
 
 -- behind #x
 unfoldable pub hexadecimal_at : ℕ → ℕ → List ℕ → Result (Atom × List ℕ) TextFault
@@ -124,7 +124,7 @@ decimal_at total start whole bytes =
 
 -- the numeral of the digits
 unfoldable pub integer_at : ℕ → ℕ → List ℕ → List ℕ → Result (Atom × List ℕ) TextFault
-integer_at total start digits left = literal total start (nat_lt (value_in 10 digits) (2 ^ 127)) (Numeral (value_in 10 digits)) left
+integer_at total start digits left = literal_read total start (nat_lt (value_in 10 digits) (2 ^ 127)) (Numeral (value_in 10 digits)) left
 
 -- behind the digits of a numeral or decimal
 unfoldable pub number_at : ℕ → ℕ → List ℕ → List ℕ → Result (Atom × List ℕ) TextFault
@@ -157,9 +157,9 @@ item_by inside total depth start (b ∷ rest) =
     if nat_eq b 40 then (if nat_eq depth 1200 then Err (TooDeep start) else (inside rest >>= λ xs. Ok (group xs.0 (record { at = start }), xs.1)))
     else (atom_at total start (b ∷ rest) >>= λ a. Ok (leaf a.0 (record { at = start }), a.1))
 
-abbrev pub joined : Item → Result (Items × List ℕ) TextFault → Result (Items × List ℕ) TextFault
-joined x (Ok xs) = Ok (more x xs.0, xs.1)
-joined x (Err f) = Err f
+abbrev pub item_joined : Item → Result (Items × List ℕ) TextFault → Result (Items × List ℕ) TextFault
+item_joined x (Ok xs) = Ok (more x xs.0, xs.1)
+item_joined x (Err f) = Err f
 
 -- The items up to the bracket that closes the list which began at start. The first number bounds the turns:
 -- each turn takes a byte, so one more than there are bytes is enough.
@@ -168,7 +168,7 @@ items_at zero total depth start bytes = Err (Unclosed start)
 items_at (suc n) total depth start bytes = elim (after_layout false bytes) [
   | [] ↦ Err (Unclosed start)
   | b ∷ rest ↦ if nat_eq b 41 then Ok (none, rest)
-      else (item_by (items_at n total (depth + 1) (total - length (b ∷ rest))) total depth (total - length (b ∷ rest)) (b ∷ rest) >>= λ x. joined x.0 (items_at n total depth start x.1))
+      else (item_by (items_at n total (depth + 1) (total - length (b ∷ rest))) total depth (total - length (b ∷ rest)) (b ∷ rest) >>= λ x. item_joined x.0 (items_at n total depth start x.1))
 ]
 
 -- the next item, where no list is open, and the offset behind it

@@ -7,14 +7,14 @@ use Rattle.sy_text.specs.Items.{Item, leaf, group, Items, none, more}
 use Rattle.sy_text.specs.Lexicon.{space, digit, symbol_byte, bar_content, quotable}
 
 -- all bytes pass a test
-abbrev pub all : (ℕ → Bool) → List ℕ → Bool
-all test [] = true
-all test (b ∷ bs) = test b && all test bs
+abbrev pub all_bytes : (ℕ → Bool) → List ℕ → Bool
+all_bytes test [] = true
+all_bytes test (b ∷ bs) = test b && all_bytes test bs
 
 -- symbol bytes that don't begin with a digit
 unfoldable pub bare : List ℕ → Bool
 bare [] = false
-bare (b ∷ bs) = not (digit b) && all symbol_byte (b ∷ bs)
+bare (b ∷ bs) = not (digit b) && all_bytes symbol_byte (b ∷ bs)
 
 -- a symbol stands bare where it can, and in bars otherwise
 unfoldable pub symbol_text : List ℕ → List ℕ
@@ -73,12 +73,12 @@ abbrev mutual
 -- digits, of which the first is 0 only where it stands alone
 unfoldable pub is_numeral : List ℕ → Bool
 is_numeral [] = false
-is_numeral (b ∷ bs) = all digit (b ∷ bs) && (not (nat_eq b 48) || nat_eq (length bs) 0)
+is_numeral (b ∷ bs) = all_bytes digit (b ∷ bs) && (not (nat_eq b 48) || nat_eq (length bs) 0)
 
 -- a point and one or more digits
 unfoldable pub is_fraction : List ℕ → Bool
 is_fraction [] = false
-is_fraction (b ∷ bs) = nat_eq b 46 && all digit bs && nat_lt 0 (length bs)
+is_fraction (b ∷ bs) = nat_eq b 46 && all_bytes digit bs && nat_lt 0 (length bs)
 
 -- a numeral, a point and digits
 unfoldable pub is_decimal : List ℕ → Bool
@@ -86,22 +86,22 @@ is_decimal name = is_numeral (take (prefix_len digit name) name) && is_fraction 
 
 -- what can be spelled
 abbrev pub AtomFits : Atom → Type 0
-AtomFits (Symbol name) = all bar_content name ≡ true
-AtomFits (Keyword name) = (all symbol_byte name ≡ true) × (0 < length name)
+AtomFits (Symbol name) = all_bytes bar_content name ≡ true
+AtomFits (Keyword name) = (all_bytes symbol_byte name ≡ true) × (0 < length name)
 AtomFits (Numeral n) = n < 2 ^ 127
 AtomFits (Decimal name) = is_decimal name ≡ true
 AtomFits (Bits width n) = (1 ≤ width) × (width ≤ 64) × (n < 2 ^ width)
-AtomFits (Text content) = all quotable content ≡ true
+AtomFits (Text content) = all_bytes quotable content ≡ true
 
 -- what can be spelled, where so many more lists may be open at once
 abbrev mutual
-  pub Fits : ℕ → Item → Type 0
-  Fits room (leaf a p) = AtomFits a
-  Fits room (group xs p) = (1 ≤ room) × AllFit (room - 1) xs
+  pub ItemFits : ℕ → Item → Type 0
+  ItemFits room (leaf a p) = AtomFits a
+  ItemFits room (group xs p) = (1 ≤ room) × ItemsFit (room - 1) xs
 
-  pub AllFit : ℕ → Items → Type 0
-  AllFit room none = Unit {0}
-  AllFit room (more x xs) = Fits room x × AllFit room xs
+  pub ItemsFit : ℕ → Items → Type 0
+  ItemsFit room none = Unit {0}
+  ItemsFit room (more x xs) = ItemFits room x × ItemsFit room xs
 
 -- white space, a closing bracket or the end
 abbrev pub parted : List ℕ → Bool

@@ -10,8 +10,9 @@ pub struct Place {
     pub at: usize,
 }
 
-/// An item without parts, as SMT-LIB 2.6 spells it. A symbol byte is a letter, a digit or one of
-/// `~ ! @ $ % ^ & * _ - + = < > . ? /`. Bars and quotes hold the bytes 9, 10, 13, 32 to 126 and 128 to 255.
+/// An item without parts, as SMT-LIB 2.6 spells it. Symbol bytes are letters, digits and these:
+/// `~ ! @ $ % ^ & * _ - + = < > . ? /`. Between bars or quotes any byte may stand but 127 and control bytes other than
+/// 9, 10 and 13.
 #[derive(Drop)]
 pub enum Atom {
     /// Symbol bytes of which the first is no digit, or any bytes in bars but `|` and `\`. Both

@@ -1,11 +1,11 @@
 // Reading nested lists.
 ghost use Rattle.std.specs.Prelude.{◌≡◌, ◌≤◌, ◌<◌, ◌+◌, ◌-◌, ◌*◌, ◌^◌, ◌∷◌, [], length, suc, drop, IfOk, MatchOption};
 ghost use Rattle.std.specs.Prelude.{ℕ, List, ◌++◌, true, false, IfSome, IfNone, IfErr};
-ghost use Rattle.sy_text.specs.Grammar.{is_layout, is_blank, IsItem, IsFound, Reads, EndsBlank};
+ghost use Rattle.sy_text.specs.Grammar.{is_layout, is_blank, IsItem, StandsInFront, Reads, EndsBlank};
 ghost use Rattle.sy_text.specs.Items.{Item, Placed};
 ghost use Rattle.sy_text.specs.Reading as reading;
-ghost use Rattle.sy_text.specs.Reading.{Gives, FaultBelow, after_layout};
-ghost use Rattle.sy_text.specs.Spelling.{Fits};
+ghost use Rattle.sy_text.specs.Reading.{TextGives, FaultBelow, after_layout};
+ghost use Rattle.sy_text.specs.Spelling.{ItemFits};
 ghost use Rattle.sy_text.specs.Views.{item_of, command_of};
 
 use crate::atom::Place;
@@ -39,7 +39,7 @@ fn read_items(
 ) -> Result<(Sexps, &[u8]), TextEnd>
     requires within { length bytes.now ≤ total }
     requires open { depth ≤ 1200 }
-    ensures exact { Gives (λ x. (x.0, x.1.now)) result (reading.items_at (suc (length bytes.now)) total depth start bytes.now) }
+    ensures exact { TextGives (λ x. (x.0, x.1.now)) result (reading.items_at (suc (length bytes.now)) total depth start bytes.now) }
     ensures shorter { IfOk result (λ x. length x.1.now < length bytes.now) }
 {
     let mut items = Sexps::new(alloc);
@@ -68,7 +68,7 @@ fn read_item(
 ) -> Result<(Sexp, &[u8]), TextEnd>
     requires within { length bytes.now ≤ total }
     requires open { depth ≤ 1200 }
-    ensures exact { Gives (λ x. (item_of x.0, x.1.now)) result (reading.item_by (reading.items_at (length bytes.now) total (depth + 1) (total - length bytes.now)) total depth (total - length bytes.now) bytes.now) }
+    ensures exact { TextGives (λ x. (item_of x.0, x.1.now)) result (reading.item_by (reading.items_at (length bytes.now) total (depth + 1) (total - length bytes.now)) total depth (total - length bytes.now) bytes.now) }
     ensures shorter { IfOk result (λ x. length x.1.now < length bytes.now) }
 {
     let start = total - bytes.len();
@@ -88,8 +88,8 @@ fn read_item(
 }
 
 /// The next item from `at` on, where no list is open, and the offset behind it; `None` where only
-/// white space and comments are left. White space is the bytes 9, 10, 13 and 32. A comment runs from `;`
-/// to the next byte 10 or 13, or to the end. A fault is the first one from left to right.
+/// white space and comments are left. White space is tabs, line feeds, carriage returns and blanks. A comment begins
+/// with `;` and ends with its line, at a line feed, a carriage return or the end. A fault is the leftmost one.
 pub fn next_command(
     alloc: Global,
     bytes: &[u8],
@@ -97,16 +97,16 @@ pub fn next_command(
 ) -> Result<Option<(Sexp, usize)>, TextEnd>
     requires { at ≤ length bytes.now }
     // Which item it is, or which fault, and where.
-    ensures exact { Gives command_of result (reading.command_at (length bytes.now) (drop at bytes.now)) }
+    ensures exact { TextGives command_of result (reading.command_at (length bytes.now) (drop at bytes.now)) }
     // What is read is spelled there by the grammar.
-    ensures found { IfOk result (λ answer. IfSome answer (λ x. IsFound (item_of x.0) x.1 (length bytes.now) (drop at bytes.now))) }
+    ensures found { IfOk result (λ answer. IfSome answer (λ x. StandsInFront (item_of x.0) x.1 (length bytes.now) (drop at bytes.now))) }
     // At least a byte is taken, and at most all.
     ensures forward { IfOk result (λ answer. IfSome answer (λ x. (at < x.1) × (x.1 ≤ length bytes.now))) }
     // The places of what is read lie within the bytes, and so does a fault.
     ensures places { IfOk result (λ answer. IfSome answer (λ x. Placed (length bytes.now) (item_of x.0))) }
     ensures fault { IfErr result (λ e. FaultBelow (length bytes.now) e) }
     // What is read can be written.
-    ensures fits { IfOk result (λ answer. IfSome answer (λ x. Fits 1200 (item_of x.0))) }
+    ensures fits { IfOk result (λ answer. IfSome answer (λ x. ItemFits 1200 (item_of x.0))) }
     // `None` is answered exactly where only white space and comments are left.
     ensures none { IfOk result (λ answer. IfNone answer (is_blank false (drop at bytes.now) ≡ true)) }
     ensures blank { is_blank false (drop at bytes.now) ≡ true → EndsBlank result }
@@ -118,7 +118,7 @@ pub fn next_command(
 
 fn read_command(alloc: Global, bytes: &[u8], at: usize) -> Result<Option<(Sexp, usize)>, TextEnd>
     requires { at ≤ length bytes.now }
-    ensures exact { Gives command_of result (reading.command_at (length bytes.now) (drop at bytes.now)) }
+    ensures exact { TextGives command_of result (reading.command_at (length bytes.now) (drop at bytes.now)) }
     ensures forward { IfOk result (λ answer. IfSome answer (λ x. (at < x.1) × (x.1 ≤ length bytes.now))) }
 {
     let total = bytes.len();

@@ -3,7 +3,7 @@ ghost use Rattle.std.specs.Prelude.{◌≡◌, ◌≤◌, ◌<◌, ◌+◌, ◌-
 ghost use Rattle.std.specs.List.{prefix_len};
 ghost use Rattle.sy_text.specs.Lexicon.{value_in, symbol_byte, bar_content, digit, hexadecimal_digit, binary_digit};
 ghost use Rattle.sy_text.specs.Reading as reading;
-ghost use Rattle.sy_text.specs.Reading.{Gives};
+ghost use Rattle.sy_text.specs.Reading.{TextGives};
 
 use crate::atom::{Atom, Name};
 use crate::fault::{TextEnd, TextFault};
@@ -109,7 +109,7 @@ fn may_follow(left: &[u8]) -> bool
 #[tactic(auto, unfolding(crate::specs::Reading::ended))]
 fn ended(total: usize, atom: Atom, left: &[u8]) -> Result<(Atom, &[u8]), TextEnd>
     requires { length left.now ≤ total }
-    ensures { Gives (λ x. (x.0, x.1.now)) result (reading.ended total atom left.now) }
+    ensures { TextGives (λ x. (x.0, x.1.now)) result (reading.ended total atom left.now) }
 {
     if may_follow(left) {
         Ok((atom, left))
@@ -121,7 +121,7 @@ fn ended(total: usize, atom: Atom, left: &[u8]) -> Result<(Atom, &[u8]), TextEnd
 #[tactic(auto, unfolding(crate::specs::Reading::symbol_at))]
 fn read_symbol(alloc: Global, total: usize, bytes: &[u8]) -> Result<(Atom, &[u8]), TextEnd>
     requires { length bytes.now ≤ total }
-    ensures { Gives (λ x. (x.0, x.1.now)) result (reading.symbol_at total bytes.now) }
+    ensures { TextGives (λ x. (x.0, x.1.now)) result (reading.symbol_at total bytes.now) }
 {
     let count = symbol_len(bytes);
     let (word, left) = bytes.split_at(count);
@@ -136,7 +136,7 @@ fn closing_bar(
     left: &[u8],
 ) -> Result<(Atom, &[u8]), TextEnd>
     requires { length left.now ≤ total }
-    ensures { Gives (λ x. (x.0, x.1.now)) result (reading.closing_bar total start atom left.now) }
+    ensures { TextGives (λ x. (x.0, x.1.now)) result (reading.closing_bar total start atom left.now) }
 {
     match left {
         [] => Err(TextEnd::Fault(TextFault::Unclosed(start))),
@@ -153,7 +153,7 @@ fn read_barred(
     bytes: &[u8],
 ) -> Result<(Atom, &[u8]), TextEnd>
     requires { length bytes.now ≤ total }
-    ensures { Gives (λ x. (x.0, x.1.now)) result (reading.barred_at total start bytes.now) }
+    ensures { TextGives (λ x. (x.0, x.1.now)) result (reading.barred_at total start bytes.now) }
 {
     let count = content_len(bytes);
     let (content, left) = bytes.split_at(count);
@@ -168,7 +168,7 @@ fn read_text(
     bytes: &[u8],
 ) -> Result<(Atom, &[u8]), TextEnd>
     requires { length bytes.now ≤ total }
-    ensures { Gives (λ x. (x.0, x.1.now)) result (reading.text_at total start false [] bytes.now) }
+    ensures { TextGives (λ x. (x.0, x.1.now)) result (reading.text_at total start false [] bytes.now) }
 {
     let mut content = Seq::new(alloc);
     let mut quote = false;
@@ -204,7 +204,7 @@ fn read_keyword(
     bytes: &[u8],
 ) -> Result<(Atom, &[u8]), TextEnd>
     requires { length bytes.now ≤ total }
-    ensures { Gives (λ x. (x.0, x.1.now)) result (reading.keyword_at total start bytes.now) }
+    ensures { TextGives (λ x. (x.0, x.1.now)) result (reading.keyword_at total start bytes.now) }
 {
     let count = symbol_len(bytes);
     if count == 0 {
@@ -232,7 +232,7 @@ fn value_of(digits: &[u8], base: u128) -> Option<u128>
     Some(value)
 }
 
-#[tactic(auto, unfolding(crate::specs::Reading::vector_of, crate::specs::Reading::literal))]
+#[tactic(auto, unfolding(crate::specs::Reading::vector_of, crate::specs::Reading::literal_read))]
 fn vector<'a>(
     total: usize,
     start: usize,
@@ -244,7 +244,7 @@ fn vector<'a>(
     requires left_fits { length left.now ≤ total }
     requires base_is { 1 ≤ base }
     requires value_fits { bits * length digits.now ≤ 64 → value_in base digits.now < 2 ^ 64 }
-    ensures { Gives (λ x. (x.0, x.1.now)) result (reading.vector_of total start base bits digits.now left.now) }
+    ensures { TextGives (λ x. (x.0, x.1.now)) result (reading.vector_of total start base bits digits.now left.now) }
 {
     let width = bits.saturating_mul(digits.len());
     if !may_follow(left) {
@@ -259,7 +259,7 @@ fn vector<'a>(
     }
 }
 
-#[tactic(auto, unfolding(crate::specs::Reading::integer_at, crate::specs::Reading::literal))]
+#[tactic(auto, unfolding(crate::specs::Reading::integer_at, crate::specs::Reading::literal_read))]
 fn integer<'a>(
     total: usize,
     start: usize,
@@ -267,7 +267,7 @@ fn integer<'a>(
     left: &'a [u8],
 ) -> Result<(Atom, &'a [u8]), TextEnd>
     requires { length left.now ≤ total }
-    ensures { Gives (λ x. (x.0, x.1.now)) result (reading.integer_at total start digits.now left.now) }
+    ensures { TextGives (λ x. (x.0, x.1.now)) result (reading.integer_at total start digits.now left.now) }
 {
     if !may_follow(left) {
         return Err(TextEnd::Fault(TextFault::BadByte(total - left.len())));
@@ -287,7 +287,7 @@ fn read_decimal<'a>(
     bytes: &'a [u8],
 ) -> Result<(Atom, &'a [u8]), TextEnd>
     requires { length bytes.now ≤ total }
-    ensures { Gives (λ x. (x.0, x.1.now)) result (reading.decimal_at total start whole.now bytes.now) }
+    ensures { TextGives (λ x. (x.0, x.1.now)) result (reading.decimal_at total start whole.now bytes.now) }
 {
     let count = digits_len(bytes);
     if count == 0 {
@@ -309,7 +309,7 @@ fn read_number<'a>(
     left: &'a [u8],
 ) -> Result<(Atom, &'a [u8]), TextEnd>
     requires { length left.now ≤ total }
-    ensures { Gives (λ x. (x.0, x.1.now)) result (reading.number_at total start digits.now left.now) }
+    ensures { TextGives (λ x. (x.0, x.1.now)) result (reading.number_at total start digits.now left.now) }
 {
     match left {
         [b'.', rest @ ..] => read_decimal(alloc, total, start, digits, rest),
@@ -326,7 +326,7 @@ fn read_numeral(
 ) -> Result<(Atom, &[u8]), TextEnd>
     requires fits { length bytes.now + start ≤ total }
     requires some { 0 < length bytes.now }
-    ensures { Gives (λ x. (x.0, x.1.now)) result (reading.numeral_at total start bytes.now) }
+    ensures { TextGives (λ x. (x.0, x.1.now)) result (reading.numeral_at total start bytes.now) }
 {
     let count = digits_len(bytes);
     if bytes[0] == b'0' && count > 1 {
@@ -339,7 +339,7 @@ fn read_numeral(
 #[tactic(auto, unfolding(crate::specs::Reading::hexadecimal_at))]
 fn read_hexadecimal(total: usize, start: usize, bytes: &[u8]) -> Result<(Atom, &[u8]), TextEnd>
     requires { length bytes.now ≤ total }
-    ensures { Gives (λ x. (x.0, x.1.now)) result (reading.hexadecimal_at total start bytes.now) }
+    ensures { TextGives (λ x. (x.0, x.1.now)) result (reading.hexadecimal_at total start bytes.now) }
 {
     let count = hexadecimal_len(bytes);
     if count == 0 {
@@ -352,7 +352,7 @@ fn read_hexadecimal(total: usize, start: usize, bytes: &[u8]) -> Result<(Atom, &
 #[tactic(auto, unfolding(crate::specs::Reading::binary_at))]
 fn read_binary(total: usize, start: usize, bytes: &[u8]) -> Result<(Atom, &[u8]), TextEnd>
     requires { length bytes.now ≤ total }
-    ensures { Gives (λ x. (x.0, x.1.now)) result (reading.binary_at total start bytes.now) }
+    ensures { TextGives (λ x. (x.0, x.1.now)) result (reading.binary_at total start bytes.now) }
 {
     let count = binary_len(bytes);
     if count == 0 {
@@ -365,7 +365,7 @@ fn read_binary(total: usize, start: usize, bytes: &[u8]) -> Result<(Atom, &[u8])
 #[tactic(auto, unfolding(crate::specs::Reading::vector_at))]
 fn read_vector(total: usize, start: usize, bytes: &[u8]) -> Result<(Atom, &[u8]), TextEnd>
     requires { length bytes.now ≤ total }
-    ensures { Gives (λ x. (x.0, x.1.now)) result (reading.vector_at total start bytes.now) }
+    ensures { TextGives (λ x. (x.0, x.1.now)) result (reading.vector_at total start bytes.now) }
 {
     match bytes {
         [] => Err(TextEnd::Fault(TextFault::Unclosed(start))),
@@ -384,7 +384,7 @@ pub fn read_atom(
     bytes: &[u8],
 ) -> Result<(Atom, &[u8]), TextEnd>
     requires { length bytes.now + start ≤ total }
-    ensures { Gives (λ x. (x.0, x.1.now)) result (reading.atom_at total start bytes.now) }
+    ensures { TextGives (λ x. (x.0, x.1.now)) result (reading.atom_at total start bytes.now) }
 {
     match bytes {
         [] => Err(TextEnd::Fault(TextFault::Unclosed(start))),

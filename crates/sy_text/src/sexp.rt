@@ -66,7 +66,7 @@ impl Sexps {
         self.items.get(i)
     }
 
-    /// Appends the item. On `Want` the list is unchanged and the item is dropped.
+    /// Appends the item. Where memory is refused, nothing is appended, and the item is lost.
     pub fn push(&mut self, item: Sexp) -> Result<(), Want>
         ensures ok { OnOk result (listed self.new ≡ listed self.old ++ item_of item ∷ []) }
         ensures err { OnErr result (self.new ≡ self.old) }

@@ -1,7 +1,7 @@
 // Writing items.
 ghost use Rattle.std.specs.Prelude.{◌≡◌, ◌≤◌, ◌<◌, ◌+◌, ◌*◌, ◌^◌, ◌++◌, length, OnOk, IfOk, Contains};
 ghost use Rattle.sy_text.specs.Spelling as spelling;
-ghost use Rattle.sy_text.specs.Spelling.{AtomFits, Fits, AllFit};
+ghost use Rattle.sy_text.specs.Spelling.{AtomFits, ItemFits, ItemsFit};
 ghost use Rattle.std.specs.Prelude.{ℕ, List, ◌-◌, true};
 ghost use Rattle.sy_text.specs.Grammar.{ReadAs};
 ghost use Rattle.sy_text.specs.Reading.{command_at};
@@ -17,7 +17,7 @@ use sy_io::Bytes;
 use sy_seq::Want;
 
 fn all_symbol_bytes(bytes: &[u8]) -> bool
-    ensures { result ≡ spelling.all symbol_byte bytes.now }
+    ensures { result ≡ spelling.all_bytes symbol_byte bytes.now }
 {
     for byte in bytes {
         if !is_symbol_byte(*byte) {
@@ -37,7 +37,7 @@ fn is_bare(name: &[u8]) -> bool
     }
 }
 
-/// Appends a symbol: bare where its bytes are a bare spelling, and in bars otherwise.
+/// Appends a symbol, in bars unless its bytes spell it without them.
 #[tactic(auto, unfolding(crate::specs::Spelling::symbol_text))]
 pub fn write_symbol(out: &mut Bytes, name: &[u8]) -> Result<(), Want>
     ensures { OnOk result (out.new ≡ out.old ++ spelling.symbol_text name.now) }
@@ -173,7 +173,7 @@ fn write_inner(out: &mut Bytes, items: &Sexps) -> Result<(), Want>
 
 /// The item as text, its parts separated by one space.
 pub fn write_sexp(alloc: Global, s: &Sexp) -> Result<Bytes, Want>
-    requires { Fits 1200 (item_of s.now) }
+    requires { ItemFits 1200 (item_of s.now) }
     ensures text { IfOk result (λ text. text ≡ spelling.item_text (item_of s.now)) }
     // What is written is read again, apart from places, before white space, a closing bracket or the end.
     ensures again { IfOk result (λ text. (total : ℕ) (rest : List ℕ) → parted rest ≡ true → ReadAs (item_of s.now) (total - length rest) (command_at total (text ++ rest))) }

@@ -23,7 +23,7 @@ EachTestSplits conditions P (Test' test p there q here) =
     × EachTestSplits conditions (λ x. P x × (holds_at conditions test x ≡ false)) here
 
 -- at each of these points the tree reaches a leaf that is good there, and both sides of each test are reached
-pub record Serves (goods conditions : List (List Bool)) (P : ℕ → Type 0) (tree : Choice) : Type 0 where
+pub record ServesPoints (goods conditions : List (List Bool)) (P : ℕ → Type 0) (tree : Choice) : Type 0 where
   pub good : (x : ℕ) → P x → holds_at goods (reached conditions x tree) x ≡ true
   pub splits : EachTestSplits conditions P tree
 
@@ -42,7 +42,7 @@ EachClassHasLeaf goods conditions P = (x : ℕ) → P x → (leaf : ℕ) × ((y 
 
 -- a tree that serves these points, or a class of them that no tree can serve
 abbrev pub IsJoin : List (List Bool) → List (List Bool) → (ℕ → Type 0) → Joined → Type 0
-IsJoin goods conditions P (Tree tree) = Serves goods conditions P tree × EachClassHasLeaf goods conditions P
+IsJoin goods conditions P (Tree tree) = ServesPoints goods conditions P tree × EachClassHasLeaf goods conditions P
 IsJoin goods conditions P (Uncovered class) = IsUncovered goods conditions P class
 
 -- how many leaves a tree has
@@ -56,9 +56,9 @@ LeavesWithin n (Tree tree) = leaf_count tree ≤ n
 LeavesWithin n (Uncovered class) = Unit {0}
 
 -- a leaf that is good at each of these points, a condition that splits them, or that there is neither
-abbrev pub IsStep : List (List Bool) → List (List Bool) → List ℕ → Step → Type 0
-IsStep goods conditions points (Serve leaf) = All (λ x. holds_at goods leaf x ≡ true) points
-IsStep goods conditions points (Split row) = ((x : ℕ) × Contains points x × (holds_at conditions row x ≡ true)) × ((x : ℕ) × Contains points x × (holds_at conditions row x ≡ false))
-IsStep goods conditions points Stop =
+abbrev pub IsTreeStep : List (List Bool) → List (List Bool) → List ℕ → Step → Type 0
+IsTreeStep goods conditions points (Serve leaf) = All (λ x. holds_at goods leaf x ≡ true) points
+IsTreeStep goods conditions points (Split row) = ((x : ℕ) × Contains points x × (holds_at conditions row x ≡ true)) × ((x : ℕ) × Contains points x × (holds_at conditions row x ≡ false))
+IsTreeStep goods conditions points Stop =
     ((leaf : ℕ) → (x : ℕ) × Contains points x × (holds_at goods leaf x ≡ false))
     × ((row : ℕ) → All (λ x. holds_at conditions row x ≡ holds_at conditions row (slice_index points 0)) points)

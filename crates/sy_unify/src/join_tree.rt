@@ -1,7 +1,7 @@
 // The join of leaves by conditions.
 ghost use Rattle.std.specs.Prelude.{◌≡◌, ◌<◌, ◌≤◌, ◌^◌, ℕ, length, IfOk, Contains};
 ghost use Rattle.std.specs.List.Sorted.{IsStrictlyIncreasing};
-ghost use Rattle.sy_unify.specs.Unify.{IsJoin, IsStep, LeavesWithin};
+ghost use Rattle.sy_unify.specs.Unify.{IsJoin, IsTreeStep, LeavesWithin};
 
 use crate::guide::{Guide, Hint};
 use crate::rows::{common_leaf, first_other, keep, splits, splitting_test};
@@ -60,7 +60,7 @@ fn next_step(
     requires some { 0 < length points.now }
     requires few_leaves { length goods.now < 2 ^ 31 }
     requires few_conditions { length conditions.now < 2 ^ 31 }
-    ensures { IsStep goods.now conditions.now points.now result }
+    ensures { IsTreeStep goods.now conditions.now points.now result }
 {
     if first_other(goods, hint.leaf, true, points).is_none() {
         return Step::Serve(hint.leaf);
@@ -112,8 +112,8 @@ fn join(
     Ok(Joined::Tree(Choice::Test(test, Box::new(alloc, yes)?, Box::new(alloc, no)?)))
 }
 
-/// A tree over leaves and conditions whose reached leaf is good at each point and whose tests each split
-/// their points, or the points of one class that every condition treats alike and no leaf serves.
+/// A tree over leaves and conditions that leads each point to a leaf which is good there, without a test at which all
+/// points go to one side; or the points of one class that every condition treats alike and no leaf serves.
 pub fn unify(
     alloc: Global,
     points: u32,

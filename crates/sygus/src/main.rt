@@ -1,4 +1,4 @@
-// The program: it reads one file of commands and answers each `check-synth`.
+// The program: a file of commands is read, and each `check-synth` in it is answered.
 #![tactic(auto)]
 
 use std::env;

@@ -9,9 +9,9 @@ use Rattle.sy_loop_bounds.specs.declared.reach.Reach.TheVariants.{Joins}
 use Rattle.sy_loop_history.specs.Histories.{Counterexample}
 use Rattle.sy_loop_outcome.specs.declared.outcome.LoopRange.{LoopRange}
 use Rattle.sy_loop_outcome.specs.declared.outcome.LoopRange.TheVariants.{Member, Checked}
-use Rattle.sy_loop_outcome.specs.Right.{Leaves}
+use Rattle.sy_loop_outcome.specs.Right.{HasLeftRange}
 use Rattle.sygus_answers.specs.Finding.{HasLeft}
 
-pub has_left : {T N : Type 0} (number : N → Val) (question : Question) (limits : Limits) (history : List Counterexample) (left : LoopRange T N) → Leaves number Joins question limits history left → HasLeft question limits history
+pub has_left : {T N : Type 0} (number : N → Val) (question : Question) (limits : Limits) (history : List Counterexample) (left : LoopRange T N) → HasLeftRange number Joins question limits history left → HasLeft question limits history
 has_left number question limits history (Member function term tuple) leaves = inl (function, expr_of number term, vals_of number tuple, leaves)
 has_left number question limits history (Checked bodies assignment) leaves = inr (map (expr_of number) bodies, vals_of number assignment, leaves)

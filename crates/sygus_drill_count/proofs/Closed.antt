@@ -10,7 +10,7 @@ use Rattle.sy_terms.specs.declared.sort.Sort.{Sort}
 use Rattle.sy_terms.specs.declared.sort.Sort.TheVariants as sorts
 use Rattle.sy_terms.specs.declared.term.Def.{Def}
 use Rattle.sy_terms.specs.declared.term.Term.{Term}
-use Rattle.sy_terms_laws.specs.Evaluation.{BodiesFit, TermFits, FitsWith, Gives, scope_with, wanted_functions, can_compute}
+use Rattle.sy_terms_laws.specs.Evaluation.{BodiesFit, TermFits, FitsWith, GivesValue, scope_with, wanted_functions, can_compute}
 use Rattle.sy_grammar_base.specs.Fits.{FitInTurn, IsTruth}
 use Rattle.sy_grammar_base.specs.Questions.{question_of, signatures}
 use Rattle.sy_grammar_base.specs.declared.problem.Problem.{Problem}
@@ -54,7 +54,7 @@ module _ {T N : Type 0} (owned : Op → Bool) (number : N → Val) (problem : Pr
   fits_closed = record { wanted = signatures problem; bodies = fit; fits = closed_fits }
 
   -- what its value says
-  pub says_met : (value : Val) → Gives owned number problem.defs terms [] (expr_of number term) value → truth value ≡ is_met (question_of number problem) (map (expr_of number) terms) (expr_of number term)
+  pub says_met : (value : Val) → GivesValue owned number problem.defs terms [] (expr_of number term) value → truth value ≡ is_met (question_of number problem) (map (expr_of number) terms) (expr_of number term)
   says_met value gives =
       let it = gives (signatures problem) fit closed_fits in
       ap truth (it.meaning ∙ ap (λ (fs : List Function). meaning (functions (bodies number problem.defs)) fs [] (expr_of number term)) (functions_are number problem.defs terms))

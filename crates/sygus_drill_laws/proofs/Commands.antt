@@ -4,7 +4,7 @@ use Rattle.std.specs.Prelude.{codes}
 use Rattle.sy_text.specs.declared.atom.Atom.TheVariants.{Symbol, Numeral, Bits}
 use Rattle.sy_text.specs.Grammar.{is_layout}
 use Rattle.sy_text.specs.Lexicon.{space, digit, letter, mark, symbol_byte, quotable, bar_content}
-use Rattle.sy_text.specs.Spelling.{all, atom_text, symbol_text, bare, vector_text, digits_of, decimal_len, digit_of, parted}
+use Rattle.sy_text.specs.Spelling.{all_bytes, atom_text, symbol_text, bare, vector_text, digits_of, decimal_len, digit_of, parted}
 use Rattle.sygus_drill.specs.Files.{condition, function, heading, constraint, line}
 use Rattle.sygus_drill.specs.declared.generator.Example.{Example}
 use Rattle.sygus_drill_laws.proofs.Laid.{Laid, word, list, Inside, close, next, text_in, texts_in, Stands, AllStand}
@@ -126,7 +126,7 @@ row_stands first rest h hs = (empty_gap, h, parted_behind rest, behind_stands re
 pub byte_stands : (n : ℕ) → n < 256 → Stands (byte n)
 byte_stands n lt = (omega arith, omega arith, omega (arith, lt))
 
-pub name_stands : (text : List ℕ) → all bar_content text ≡ true → Stands (name text)
+pub name_stands : (text : List ℕ) → all_bytes bar_content text ≡ true → Stands (name text)
 name_stands text h = h
 
 pub logic_stands : Stands logic
@@ -141,7 +141,7 @@ sort_stands = row_stands (name (codes "_")) (name (codes "BitVec") ∷ word (Num
 abbrev of_bytes : List ℕ → Laid
 of_bytes text = row (name text) (byte_sort ∷ [])
 
-bytes_stand : (text : List ℕ) → all bar_content text ≡ true → Stands (of_bytes text)
+bytes_stand : (text : List ℕ) → all_bytes bar_content text ≡ true → Stands (of_bytes text)
 bytes_stand text h = row_stands (name text) (byte_sort ∷ []) h (sort_stands, tt)
 
 arguments_stand : Stands arguments

@@ -8,7 +8,7 @@ use Rattle.sy_text.specs.Spelling.{parted}
 use Rattle.sy_scope_causes.specs.declared.cause.Refused.{Refused}
 use Rattle.sy_forms_items.specs.Readings.{Reading}
 use Rattle.sy_scope_steps.specs.Contexts.{Context}
-use Rattle.sy_scope_steps.specs.Files.{Outcome, file_from, read_as, command_read, then_next, after_command}
+use Rattle.sy_scope_steps.specs.Files.{FileOutcome, file_from, read_as, command_read, then_next, after_command}
 use Rattle.sy_scope_steps.specs.Steps.{step}
 use Rattle.sygus_drill_laws.proofs.Laid.{Laid, item_in, text_in, lists, Stands, placed, command_laid}
 
@@ -29,6 +29,6 @@ one_read x most command file front rest gap after context later e parts g h few 
     let read : command_read file command (length file - length rest) ≡ Ok (Some (found.item, length file - length after))
     = ap (λ (bytes : List ℕ). read_as command (command_at (length file) bytes)) here ∙ ap (read_as command) found.reads in
     let stepped : step context found.item ≡ Ok later = ap (step context) found.same ∙ steps found.item in
-    let others : ℕ → Context → Outcome = λ at c. file_from most (command + 1) file at c in
+    let others : ℕ → Context → FileOutcome = λ at c. file_from most (command + 1) file at c in
     ap (λ (r : Result (Option (Item × ℕ)) Refused). after_command command context r others) read
     ∙ ap (λ (r : Reading Context). then_next command r (others (length file - length after))) stepped

@@ -12,8 +12,8 @@ use Rattle.sy_terms.specs.declared.term.Fun.TheVariants.{Wanted}
 use Rattle.sy_forms_names.specs.declared.names.Entity.TheVariants as entity
 use Rattle.sy_forms_names.specs.Sorts.{read_sort}
 use Rattle.sy_forms_phrases.specs.Phrases.{Phrase, Literal, Operation, Invocation, none, more, pattern_at, patterns_at}
-use Rattle.sy_forms_phrases.specs.Measures.{unfolded_size, unfolded_sizes, unfolded_depth, unfolded_depths, literals, all_literals}
-use Rattle.sy_forms.specs.Terms.{atom_term, read_head, applied, read_term, read_list, read_terms}
+use Rattle.sy_forms_phrases.specs.Measures.{unfolded_size, unfolded_sizes, unfolded_depth, unfolded_depths, literals_in, all_literals}
+use Rattle.sy_forms.specs.Terms.{atom_term, read_head, head_applied, read_term, read_list, read_terms}
 use Rattle.sy_forms.specs.Rules.{read_rule}
 use Rattle.sy_scope_pool.specs.Pools.{pooled}
 use Rattle.sy_scope_commands.specs.Requests.{request_of}
@@ -54,12 +54,12 @@ unfolding step perform_first request_of
 logic_steps y = refl
 
 pub synthesis_steps : (k : ℕ) → k < 256 → (y : Item) → step (with_logic Bv beginning) (placed (item_in (synthesis k)) y) ≡ Ok (declared k [] (pooled [] (Bits 8 1 ∷ Bits 8 k ∷ [])))
-unfolding step perform_in request_of read_sort named_item read_named read_rules read_rule read_group read_groups read_productions atom_term read_head applied read_term read_list read_terms sort_of spelling pattern_at patterns_at literals all_literals
+unfolding step perform_in request_of read_sort named_item read_named read_rules read_rule read_group read_groups read_productions atom_term read_head head_applied read_term read_list read_terms sort_of spelling pattern_at patterns_at literals_in all_literals
 synthesis_steps k lt y = rw (below_large k lt, below_small k lt) refl
 
 pub example_steps : (k : ℕ) (e : Example) (constraints : List Condition) (pool : List Val) → e.argument < 256 → e.value < 256
     → (y : Item) → step (declared k constraints pool) (placed (item_in (example_at e)) y) ≡ Ok (declared k (constraints ++ Written (phrase_of e) ∷ []) (pooled pool (values_of e)))
-unfolding step perform_in request_of atom_term read_head applied read_term read_list read_terms sort_of spelling unfolded_size unfolded_sizes unfolded_depth unfolded_depths literals all_literals
+unfolding step perform_in request_of atom_term read_head head_applied read_term read_list read_terms sort_of spelling unfolded_size unfolded_sizes unfolded_depth unfolded_depths literals_in all_literals
 example_steps k e constraints pool argument value y = rw (below_large e.argument argument, below_small e.argument argument, below_large e.value value, below_small e.value value) refl
 
 pub check_steps : (k : ℕ) (constraints : List Condition) (pool : List Val) (y : Item) → step (declared k constraints pool) (placed (item_in check) y) ≡ Ok (with_question (declared k constraints pool))

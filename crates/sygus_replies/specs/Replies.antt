@@ -6,7 +6,7 @@ use Rattle.sy_terms.specs.Denoted.{expr_of}
 use Rattle.sy_terms.specs.declared.theory.Theory.{Ghosts as TheoryOf}
 use Rattle.sy_query_limits.specs.declared.FailName.{FailName}
 use Rattle.sy_query_decide.specs.declared.decide.Decide.{Ghosts as DecideOf}
-use Rattle.sy_loop_outcome.specs.Names.{name_of}
+use Rattle.sy_loop_outcome.specs.Names.{fail_name_of}
 use Rattle.sy_loop_outcome.specs.declared.outcome.Outcome.{Outcome}
 use Rattle.sy_loop_outcome.specs.declared.outcome.Outcome.TheVariants.{Found, Fail}
 use Rattle.sy_loop_outcome.specs.declared.outcome.Outcome.TheVariants as outcomes
@@ -21,7 +21,7 @@ pub data Reply : Type 0 where
 abbrev pub reply_of : {T P S N : Type 0} → (N → Val) → (S → FailName) → Outcome T P S N → Reply
 reply_of number budget (Found bodies proof) = Defined (map (expr_of number) bodies)
 reply_of number budget outcomes.Infeasible = Infeasible
-reply_of number budget (Fail cause) = Failed (name_of budget cause)
+reply_of number budget (Fail cause) = Failed (fail_name_of budget cause)
 
 -- the same of a theory and a solver
 abbrev pub reply_for : {T N D P S : Type 0} → TheoryOf T N → DecideOf D T P S N → Outcome T P S N → Reply

@@ -15,7 +15,7 @@ use Rattle.sy_scope_causes.specs.declared.cause.Refused.{Refused}
 use Rattle.sy_reply_lines.specs.Lines.{refusal_line}
 use Rattle.sy_scope_steps.specs.Files.{file_read}
 use Rattle.sy_scope_steps.specs.Jobs.{Wish, wished}
-use Rattle.sygus_run.specs.Runs.{Poses, IsRefused, longest}
+use Rattle.sygus_run.specs.Runs.{PosesFile, FileIsRefused, longest}
 
 -- the line that memory was wanted, where nothing was answered
 pub idle_line : (answers : Answers) (before after : Option (List ℕ)) (text : List ℕ) → answers ≡ Idle → Appends before after text → Appends before after (answer_lines 1 (replies_of answers) ++ text)
@@ -27,7 +27,7 @@ some_longer n = (replicate (n + 1) 0, omega (arith, length-replicate {A = ℕ} (
 
 -- a file that is too long is refused
 pub too_long : (words : List (List ℕ)) (held : Option Holding) (settings : Settings) (name : List ℕ) (before after : Option (List ℕ)) → IsReading words settings → name ≡ settings.file
-    → IfSome held (λ h. longest < length (bytes_under h name)) → Appends before after too_long_line → IsRefused words held before after
+    → IfSome held (λ h. longest < length (bytes_under h name)) → Appends before after too_long_line → FileIsRefused words held before after
 too_long words None settings name before after accepted same long written = record {
   settings = settings;
   file = (some_longer longest).0;
@@ -43,7 +43,7 @@ too_long words (Some h) settings name before after accepted same long written = 
 
 -- a file with a fault is refused
 pub refused_file : (words : List (List ℕ)) (held : Option Holding) (settings : Settings) (file name : List ℕ) (refused : Refused) (before after : Option (List ℕ)) → IsReading words settings → name ≡ settings.file
-    → IfSome held (λ h. file ≡ bytes_under h name) → length file ≤ longest → wished (file_read file) ≡ Err refused → Appends before after (refusal_line file refused) → IsRefused words held before after
+    → IfSome held (λ h. file ≡ bytes_under h name) → length file ≤ longest → wished (file_read file) ≡ Err refused → Appends before after (refusal_line file refused) → FileIsRefused words held before after
 refused_file words None settings file name refused before after accepted same whole short reads written = record {
   settings = settings;
   file = file;
@@ -59,7 +59,7 @@ refused_file words (Some h) settings file name refused before after accepted sam
 
 -- a file that was read is the one that the words name
 pub poses : (words : List (List ℕ)) (held : Option Holding) (settings : Settings) (wish : Wish) (file name : List ℕ) → IsReading words settings → name ≡ settings.file → IfSome held (λ h. file ≡ bytes_under h name)
-    → length file ≤ longest → wished (file_read file) ≡ Ok wish → Poses words held settings wish
+    → length file ≤ longest → wished (file_read file) ≡ Ok wish → PosesFile words held settings wish
 poses words None settings wish file name accepted same whole short reads = record {
   file = file;
   named = record { accepted = accepted; told = tt };

@@ -28,7 +28,7 @@ pub record Names (words : List (List ℕ)) (held : Option Holding) (settings : S
   pub told : IfSome held (λ h. file ≡ bytes_under h settings.file)
 
 -- the file of these words is in the profile, and this is what it asks for
-pub record Poses (words : List (List ℕ)) (held : Option Holding) (settings : Settings) (wish : Wish) : Type 0 where
+pub record PosesFile (words : List (List ℕ)) (held : Option Holding) (settings : Settings) (wish : Wish) : Type 0 where
   pub file : List ℕ
   pub named : Names words held settings file
   pub short : length file ≤ longest
@@ -38,14 +38,14 @@ pub record Poses (words : List (List ℕ)) (held : Option Holding) (settings : S
 pub record Answered (words : List (List ℕ)) (held : Option Holding) (answers : Answers) (out out' err err' : Option (List ℕ)) : Type 0 where
   pub settings : Settings
   pub wish : Wish
-  pub posed : Poses words held settings wish
+  pub posed : PosesFile words held settings wish
   pub right : AreRightAnswers settings.mode settings.limits wish.questions answers
   pub every : length (replies_of answers) ≡ length wish.questions
   pub replied : Appends out out' (texts wish.titles wish.questions (replies_of answers))
   pub lines : Appends err err' (answer_lines 1 (replies_of answers))
 
 -- a file that is refused at its first fault, or is too long, and the line that says so
-pub record IsRefused (words : List (List ℕ)) (held : Option Holding) (err err' : Option (List ℕ)) : Type 0 where
+pub record FileIsRefused (words : List (List ℕ)) (held : Option Holding) (err err' : Option (List ℕ)) : Type 0 where
   pub settings : Settings
   pub file : List ℕ
   pub named : Names words held settings file
@@ -56,7 +56,7 @@ pub record IsRefused (words : List (List ℕ)) (held : Option Holding) (err err'
 pub record Midway (words : List (List ℕ)) (held : Option Holding) (answers : Answers) (Written : Wish → Type 0) : Type 0 where
   pub settings : Settings
   pub wish : Wish
-  pub posed : Poses words held settings wish
+  pub posed : PosesFile words held settings wish
   pub right : AreRightAnswers settings.mode settings.limits wish.questions answers
   pub written : Written wish
 

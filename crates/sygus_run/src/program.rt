@@ -5,7 +5,7 @@ ghost use Rattle.sy_io.specs.Causes.{Rose};
 ghost use Rattle.sygus_replies.specs.Replies.{IsSettled, IsFail};
 ghost use Rattle.sygus_replies.specs.Texts.{answer_lines, words_line, read_line, memory_line};
 ghost use Rattle.sygus_run.specs.Answers.{replies_of, AreNamedFor};
-ghost use Rattle.sygus_run.specs.Runs.{HaveNoReading, Answered, IsRefused, IsCutOff, WantsMemory};
+ghost use Rattle.sygus_run.specs.Runs.{HaveNoReading, Answered, FileIsRefused, IsCutOff, WantsMemory};
 ghost use Rattle.sygus_run.specs.Drills.{AskDrill, AskNoDrill, EndsDrill};
 ghost use Rattle.sy_query_limits.specs.declared.Limits.{Limits};
 
@@ -49,7 +49,7 @@ pub fn run<S: Source, O: Sink, E: Sink>(
     ensures named { AreNamedFor result.answers }
 
     // 2: the file is refused
-    ensures refused { result.status ≡ 2 → IsRefused (map string_bytes words.now) (S.held source.old)
+    ensures refused { result.status ≡ 2 → FileIsRefused (map string_bytes words.now) (S.held source.old)
         (E.written err.old) (E.written err.new) }
 
     // 3: the words are refused

@@ -6,7 +6,7 @@ use Rattle.std.proofs.lemmas.Fmt.{digits_value-decimal}
 use Rattle.std.proofs.lemmas.Str.Parse.{numerals_by_value, tells_digits}
 use Rattle.clap.specs.Words.{Text}
 use Rattle.sy_query_limits.specs.declared.Limits.{Limits}
-use Rattle.sygus_words.specs.CommandLine.{LimitIs, DrillIs, ModeIs, AreLimits, IsReading, value_of}
+use Rattle.sygus_words.specs.CommandLine.{LimitIs, DrillIs, ModeIs, AreLimits, IsReading, word_value}
 use Rattle.sygus_words.specs.declared.settings.Mode.{Mode}
 use Rattle.sygus_words.specs.declared.settings.Mode.TheVariants.{Drill}
 use Rattle.sygus_words.specs.declared.settings.Settings.{Settings}
@@ -53,6 +53,6 @@ one_choice value l m first second = λ i. record {
 -- settings of the same words have the same mode and limits
 pub one_reading : (words : List Text) (s t : Settings) → IsReading words s → IsReading words t → (s.mode ≡ t.mode) × (s.limits ≡ t.limits)
 one_reading words s t first second = (
-  one_mode (value_of words (codes "mode")) (value_of words (codes "FILE")) s.mode t.mode first.given.mode second.given.mode,
-  one_choice (value_of words) s.limits t.limits first.given.limits second.given.limits,
+  one_mode (word_value words (codes "mode")) (word_value words (codes "FILE")) s.mode t.mode first.given.mode second.given.mode,
+  one_choice (word_value words) s.limits t.limits first.given.limits second.given.limits,
 )

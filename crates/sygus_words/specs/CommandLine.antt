@@ -68,15 +68,15 @@ pub record AreSettings (value : Text → Option Text) (settings : Settings) : Ty
   pub file : value (codes "FILE") ≡ Some settings.file
 
 -- the value that clap's matches of the words have for an option or for FILE
-abbrev pub value_of : List Text → Text → Option Text
-value_of words name = first_of name (matches_of sygus words)
+abbrev pub word_value : List Text → Text → Option Text
+word_value words name = first_of name (matches_of sygus words)
 
 -- clap refuses nothing, and its matches give the settings
 pub record IsReading (words : List Text) (settings : Settings) : Type 0 where
   pub accepted : fault_of sygus words ≡ []
-  pub given : AreSettings (value_of words) settings
+  pub given : AreSettings (word_value words) settings
 
 -- words are refused only where they have no reading
-abbrev pub IsRefused : List Text → WordFault → Type 0
-IsRefused words Refused = (settings : Settings) → IsReading words settings → ⊥
-IsRefused words Want = Unit {0}
+abbrev pub WordsAreRefused : List Text → WordFault → Type 0
+WordsAreRefused words Refused = (settings : Settings) → IsReading words settings → ⊥
+WordsAreRefused words Want = Unit {0}

@@ -3,7 +3,7 @@ ghost use Rattle.std.specs.Prelude.{◌≡◌, ◌≤◌, ◌<◌, ◌^◌, ℕ,
 ghost use Rattle.std.specs.Fmt.{decimal};
 ghost use Rattle.std.specs.String.{string_bytes};
 ghost use Rattle.clap.specs.Words.{fault_of, first_value, found_of, matches_of, rows_of};
-ghost use Rattle.sygus_words.specs.CommandLine.{sygus, greatest_drill, LimitIs, DrillIs, ModeIs, AreLimits, AreSettings, IsReading, IsRefused};
+ghost use Rattle.sygus_words.specs.CommandLine.{sygus, greatest_drill, LimitIs, DrillIs, ModeIs, AreLimits, AreSettings, IsReading, WordsAreRefused};
 ghost use Rattle.sygus_words.specs.declared.settings.Settings.{Settings};
 ghost use Rattle.sygus_words.specs.declared.settings.WordFault.TheVariants.{Refused};
 ghost use Rattle.sygus_words.specs.declared.settings.Mode.{Mode};
@@ -148,7 +148,7 @@ fn parsed<'a>(alloc: Global, words: &'a [String]) -> Result<ArgMatches<'a>, Word
 /// | `--pivots` | 10,000 | 100,000 |
 pub fn read_words(alloc: Global, words: &[String]) -> Result<Settings, WordFault>
     ensures ok { IfOk result (λ s. IsReading (map string_bytes words.now) s) }
-    ensures refused { IfErr result (λ e. IsRefused (map string_bytes words.now) e) }
+    ensures refused { IfErr result (λ e. WordsAreRefused (map string_bytes words.now) e) }
 {
     let matches = parsed(alloc, words)?;
     let settings = settings(alloc, &matches)?;

@@ -3,7 +3,7 @@ use Rattle.std.proofs.lemmas.List.{length-map}
 use Rattle.sy_grammar_base.specs.Grown.{nonterminal_of, production_of}
 use Rattle.sy_grammar_base.specs.declared.grammar.Non.{Non}
 use Rattle.sy_grammar_laws.proofs.Numbering.{numbered}
-use Rattle.sy_bank_level.specs.Task.{world, state_of}
+use Rattle.sy_bank_level.specs.Task.{world, level_state_of}
 use Rattle.sy_bank_level.proofs.Keeping.{grows-on}
 use Rattle.sy_bank_growth_laws.proofs.TriedLemmas.{rules-tried-more, all-rules}
 use Rattle.sy_bank.proofs.Places.{place, rule-place, few-rules}
@@ -40,9 +40,9 @@ pub loop-number-preserved : goal.loop-number-preserved
 loop-number-preserved g c =
     let number = g.T.Theory.denotes in
     let w = world g.T.Theory.owned number c.args.task.now in
-    let first = state_of number c.args.filling.now in
-    let s = state_of number c.loop-number.filling in
-    let t = state_of number c.try_rule.new.filling in
+    let first = level_state_of number c.args.filling.now in
+    let s = level_state_of number c.loop-number.filling in
+    let t = level_state_of number c.try_rule.new.filling in
     record {
       steady = c.in_ok-try_rule.ensures.steady;
       grows = grows-on w first s t c.loop-number.invariant.grows c.in_ok-try_rule.ensures.grows;
@@ -53,7 +53,7 @@ pub returns-clause-tried : goal.returns-clause-tried
 returns-clause-tried g c =
     let number = g.T.Theory.denotes in
     let w = world g.T.Theory.owned number c.args.task.now in
-    let s = state_of number c.loop-number.filling in
+    let s = level_state_of number c.loop-number.filling in
     let nons = c.args.task.now.grammar.now.nons in
     let read = c.as_slice.result.now in
     let non = get_or read c.args.nonterminal c.index-as_slice-nonterminal.result in

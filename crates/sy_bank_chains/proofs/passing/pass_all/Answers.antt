@@ -2,7 +2,7 @@ use Rattle.std.proofs.Common.{◌∙◌, refl, ap, sym, length, map, arith}
 use Rattle.std.proofs.lemmas.Option.{slice_get_read}
 use Rattle.std.proofs.lemmas.List.{length-map}
 use Rattle.sy_grammar_base.specs.Grown.{nonterminal_of}
-use Rattle.sy_bank_level.specs.Task.{world, state_of}
+use Rattle.sy_bank_level.specs.Task.{world, level_state_of}
 use Rattle.sy_bank_level.proofs.Keeping.{grows-on}
 use Rattle.sy_bank_chains.proofs.Entries.{few-rules, nonterminals-next, nonterminals-all}
 use Rattle.sy_bank_chains.proofs.passing.pass_all.Goals as goal
@@ -19,9 +19,9 @@ pub loop-nonterminal-preserved : goal.loop-nonterminal-preserved
 loop-nonterminal-preserved g c =
     let number = g.T.Theory.denotes in
     let w = world g.T.Theory.owned number c.args.task.now in
-    let start = state_of number c.args.filling.now in
-    let before = state_of number c.loop-nonterminal.filling in
-    let after = state_of number c.pass_rules.new.filling in
+    let start = level_state_of number c.args.filling.now in
+    let before = level_state_of number c.loop-nonterminal.filling in
+    let after = level_state_of number c.pass_rules.new.filling in
     let was = c.loop-nonterminal.invariant in
     let grows = c.in_ok-pass_rules.ensures.grows in
     record {
@@ -36,4 +36,4 @@ returns-clause-done g c same =
     let w = world g.T.Theory.owned number c.args.task.now in
     let nons = ap (λ (all : _). length all) (c.as_slice-item-items.ensures ∙ c.nons.ensures) in
     let mapped = length-map c.args.task.now.grammar.now.nons (nonterminal_of number) in
-    nonterminals-all w (state_of number c.loop-nonterminal.filling) c.args.task.now.size c.loop-nonterminal.nonterminal (omega (arith, nons, mapped, c.loop-nonterminal-test.false)) (c.loop-nonterminal.invariant.done same)
+    nonterminals-all w (level_state_of number c.loop-nonterminal.filling) c.args.task.now.size c.loop-nonterminal.nonterminal (omega (arith, nons, mapped, c.loop-nonterminal-test.false)) (c.loop-nonterminal.invariant.done same)

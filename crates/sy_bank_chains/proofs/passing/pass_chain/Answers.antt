@@ -2,7 +2,7 @@ use Rattle.std.proofs.Common.{◌≡◌, ◌<◌, ◌∙◌, ap, sym, subst, len
 use Rattle.std.proofs.lemmas.List.{length-map}
 use Rattle.sy_bank_rows.specs.Banks.{Entry}
 use Rattle.sy_bank_rows.specs.Stored.{entry_of}
-use Rattle.sy_bank_level.specs.Task.{world, state_of, level_of}
+use Rattle.sy_bank_level.specs.Task.{world, level_state_of, level_of}
 use Rattle.sy_bank_chains.proofs.Entries.{chain-within, below-all}
 use Rattle.sy_bank_chains.proofs.passing.pass_chain.Goals as goal
 
@@ -22,5 +22,5 @@ returns-clause-done g c =
     let whole = ap (λ (entries : List Entry). length entries) c.of.ensures in
     let mapped = length-map c.of.result.now (entry_of number) in
     let was = c.loop-place.invariant in
-    below-all w (state_of number c.args.filling.now) (state_of number c.loop-place.filling) chain.nonterminal chain.to c.args.task.now.size c.loop-place.place was.steady was.grows sized
+    below-all w (level_state_of number c.args.filling.now) (level_state_of number c.loop-place.filling) chain.nonterminal chain.to c.args.task.now.size c.loop-place.place was.steady was.grows sized
     (omega (arith, whole, mapped, c.len-count.ensures, c.loop-place-test.false)) was.done

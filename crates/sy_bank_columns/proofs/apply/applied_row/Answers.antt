@@ -1,7 +1,7 @@
 use Rattle.std.proofs.Common.{[], ◌∷◌, map}
 use Rattle.sy_terms.specs.Denoted.{val_of, vals_of}
 use Rattle.sy_terms_laws.proofs.Steps.{map-both}
-use Rattle.sy_bank_columns.specs.Lent.{values_of}
+use Rattle.sy_bank_columns.specs.Lent.{row_values}
 use Rattle.sy_bank_columns.proofs.ByPoint.{applied-next}
 use Rattle.sy_bank_columns.proofs.apply.applied_row.Goals as goal
 
@@ -16,4 +16,4 @@ loop-number-preserved g c =
     let number = g.T.Theory.denotes in
     let applied = rw (c.as_slice.ensures.value, c.in_ok-fill.ensures) at c.in-Is.ensures in
     rw (c.in_ok-push-in-Is.ensures.items, map-both number c.loop-number.found.items (c.in-Is.value ∷ []))
-    (applied-next c.args.operator.now (map (λ row. vals_of number (values_of row)) c.args.rows.now) c.loop-number.number (vals_of number c.loop-number.found.items) (val_of number c.in-Is.value) c.loop-number.invariant applied)
+    (applied-next c.args.operator.now (map (λ row. vals_of number (row_values row)) c.args.rows.now) c.loop-number.number (vals_of number c.loop-number.found.items) (val_of number c.in-Is.value) c.loop-number.invariant applied)

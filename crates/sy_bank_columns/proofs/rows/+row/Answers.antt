@@ -10,9 +10,9 @@ use Rattle.sy_grammar_base.specs.Written.{patterns_of, pattern_of-Non, pattern_o
 use Rattle.sy_bank_rows.specs.Rows.{IsLostAt}
 use Rattle.sy_bank_rows.specs.Columns.{AreSized, FitsAt, HasRow}
 use Rattle.sy_bank_rows.specs.Covering.{terms}
-use Rattle.sy_bank_columns.specs.Lent.{values_of}
+use Rattle.sy_bank_columns.specs.Lent.{row_values}
 use Rattle.sy_bank_rows.specs.Stored.{chosen_of}
-use Rattle.sy_bank_columns.specs.Found.{IsApplied}
+use Rattle.sy_bank_columns.specs.Found.{IsColumnOf}
 use Rattle.sy_bank_columns.proofs.Pieces.{apply-owned, rows-none, rows-from, part-fits, part-lost, rows-next}
 use Rattle.sy_bank_columns.proofs.Paired.{pair-items, pair-used, pair-rows, pair-sorted, pair-applied, pair-lost, row-long}
 use Rattle.sy_bank_columns.proofs.Weights.{all_weight, app-falls, call-falls, part-falls}
@@ -80,8 +80,8 @@ part_row-applied_row-requires-clause-owned g t c =
 pub part_row-applied_row-requires-clause-sized : goal.part_row-applied_row-requires-clause-sized
 part_row-applied_row-requires-clause-sized g t c =
     let number = g.T.Theory.denotes in
-    let have : AreSized (length (map (vals_of number) c.args.points.now)) (map (λ row. vals_of number (values_of row)) c.as_slice-in-Ok.result.now) = rw c.as_slice-in-Ok.ensures.value c.in-Ok.ensures.ok.sized in
-    subst (λ n. AreSized n (map (λ row. vals_of number (values_of row)) c.as_slice-in-Ok.result.now)) (length-map c.args.points.now (vals_of number)) have
+    let have : AreSized (length (map (vals_of number) c.args.points.now)) (map (λ row. vals_of number (row_values row)) c.as_slice-in-Ok.result.now) = rw c.as_slice-in-Ok.ensures.value c.in-Ok.ensures.ok.sized in
+    subst (λ n. AreSized n (map (λ row. vals_of number (row_values row)) c.as_slice-in-Ok.result.now)) (length-map c.args.points.now (vals_of number)) have
 
 pub part_row-applied_row-requires-clause-sorted : goal.part_row-applied_row-requires-clause-sorted
 part_row-applied_row-requires-clause-sorted g t c =
@@ -92,7 +92,7 @@ part_row-applied_row-requires-clause-sorted g t c =
     let ts = terms (chosen_of number c.args.chosen.now) in
     let arguments = all_filled (patterns_of number c.in-App.parts.items.items) ts in
     let fit = apply-part-fit number scope points c.args.part.now c.in-App.operator c.in-App.parts ts c.in-App.is c.requires.fits in
-    λ k within. rw c.as_slice-in-Ok.ensures.value (apply-sorted scope defined points c.in-App.operator arguments (map (λ row. vals_of number (values_of row)) c.in-Ok.rows.items) fit c.in-Ok.ensures.ok k (omega (arith, within, length-map c.args.points.now (vals_of number))))
+    λ k within. rw c.as_slice-in-Ok.ensures.value (apply-sorted scope defined points c.in-App.operator arguments (map (λ row. vals_of number (row_values row)) c.in-Ok.rows.items) fit c.in-Ok.ensures.ok k (omega (arith, within, length-map c.args.points.now (vals_of number))))
 
 pub part_row-returns-in_ok-row-in-Ok-clause-ok : goal.part_row-returns-in_ok-row-in-Ok-clause-ok
 part_row-returns-in_ok-row-in-Ok-clause-ok g t c =
@@ -102,12 +102,12 @@ part_row-returns-in_ok-row-in-Ok-clause-ok g t c =
     let points = map (vals_of number) c.args.points.now in
     let ts = terms (chosen_of number c.args.chosen.now) in
     let arguments = all_filled (patterns_of number c.in-App.parts.items.items) ts in
-    let rows = map (λ row. vals_of number (values_of row)) c.in-Ok.rows.items in
+    let rows = map (λ row. vals_of number (row_values row)) c.in-Ok.rows.items in
     let fit = apply-part-fit number scope points c.args.part.now c.in-App.operator c.in-App.parts ts c.in-App.is c.requires.fits in
     let found = vals_of number c.in_ok-row-in-Ok.row.items in
     apply-part number c.args.part.now c.in-App.operator c.in-App.parts ts (λ term. HasRow scope defined points term found) c.in-App.is
     (apply-row scope defined points c.in-App.operator arguments rows found fit c.in-Ok.ensures.ok
-    (subst (λ n. IsApplied c.in-App.operator rows n found) (sym (length-map c.args.points.now (vals_of number))) (rw c.as_slice-in-Ok.ensures.value at c.in_ok-row-in-Ok.ensures.ok)))
+    (subst (λ n. IsColumnOf c.in-App.operator rows n found) (sym (length-map c.args.points.now (vals_of number))) (rw c.as_slice-in-Ok.ensures.value at c.in_ok-row-in-Ok.ensures.ok)))
 
 pub part_row-returns-in_err-row-in-Ok-clause-lost : goal.part_row-returns-in_err-row-in-Ok-clause-lost
 part_row-returns-in_err-row-in-Ok-clause-lost g t c =
@@ -117,7 +117,7 @@ part_row-returns-in_err-row-in-Ok-clause-lost g t c =
     let points = map (vals_of number) c.args.points.now in
     let ts = terms (chosen_of number c.args.chosen.now) in
     let arguments = all_filled (patterns_of number c.in-App.parts.items.items) ts in
-    let rows = map (λ row. vals_of number (values_of row)) c.in-Ok.rows.items in
+    let rows = map (λ row. vals_of number (row_values row)) c.in-Ok.rows.items in
     let end = c.in_err-row-in-Ok.field-0.0 in
     handed_on _ c.from_residual-in_err-row-in-Ok.result end c.from_residual-in_err-row-in-Ok.ensures.1
     (lost_then end (rw c.as_slice-in-Ok.ensures.value at c.in_err-row-in-Ok.ensures.lost) (λ k it.
@@ -165,8 +165,8 @@ part_row-part_rows-requires-in-Call g t c κs within =
 pub part_row-called_row-requires-clause-sized : goal.part_row-called_row-requires-clause-sized
 part_row-called_row-requires-clause-sized g t c =
     let number = g.T.Theory.denotes in
-    let have : AreSized (length (map (vals_of number) c.args.points.now)) (map (λ row. vals_of number (values_of row)) c.as_slice-in-Ok-part_rows.result.now) = rw c.as_slice-in-Ok-part_rows.ensures.value c.in-Ok-part_rows.ensures.ok.sized in
-    subst (λ n. AreSized n (map (λ row. vals_of number (values_of row)) c.as_slice-in-Ok-part_rows.result.now)) (length-map c.args.points.now (vals_of number)) have
+    let have : AreSized (length (map (vals_of number) c.args.points.now)) (map (λ row. vals_of number (row_values row)) c.as_slice-in-Ok-part_rows.result.now) = rw c.as_slice-in-Ok-part_rows.ensures.value c.in-Ok-part_rows.ensures.ok.sized in
+    subst (λ n. AreSized n (map (λ row. vals_of number (row_values row)) c.as_slice-in-Ok-part_rows.result.now)) (length-map c.args.points.now (vals_of number)) have
 
 pub part_row-called_row-requires-clause-fit : goal.part_row-called_row-requires-clause-fit
 part_row-called_row-requires-clause-fit g t c =
@@ -176,7 +176,7 @@ part_row-called_row-requires-clause-fit g t c =
     let ts = terms (chosen_of number c.args.chosen.now) in
     let arguments = all_filled (patterns_of number c.in-Call.parts.items.items) ts in
     let fit = call-part-fit number scope points c.args.part.now c.in-Call.definition c.in-Call.parts ts c.in-Call.is c.requires.fits in
-    λ k within. rw c.as_slice-in-Ok-part_rows.ensures.value (call-fits g.T.Theory.owned number c.args.defs.now points (Defined c.in-Call.definition) arguments (map (λ row. vals_of number (values_of row)) c.in-Ok-part_rows.rows.items) fit c.in-Ok-part_rows.ensures.ok k (omega (arith, within, length-map c.args.points.now (vals_of number))))
+    λ k within. rw c.as_slice-in-Ok-part_rows.ensures.value (call-fits g.T.Theory.owned number c.args.defs.now points (Defined c.in-Call.definition) arguments (map (λ row. vals_of number (row_values row)) c.in-Ok-part_rows.rows.items) fit c.in-Ok-part_rows.ensures.ok k (omega (arith, within, length-map c.args.points.now (vals_of number))))
 
 pub part_row-returns-in_ok-row-in-Ok-part_rows-clause-ok : goal.part_row-returns-in_ok-row-in-Ok-part_rows-clause-ok
 part_row-returns-in_ok-row-in-Ok-part_rows-clause-ok g t c =
@@ -186,7 +186,7 @@ part_row-returns-in_ok-row-in-Ok-part_rows-clause-ok g t c =
     let defined = functions (bodies number c.args.defs.now) in
     let ts = terms (chosen_of number c.args.chosen.now) in
     let arguments = all_filled (patterns_of number c.in-Call.parts.items.items) ts in
-    let rows = map (λ row. vals_of number (values_of row)) c.in-Ok-part_rows.rows.items in
+    let rows = map (λ row. vals_of number (row_values row)) c.in-Ok-part_rows.rows.items in
     let fit = call-part-fit number scope points c.args.part.now c.in-Call.definition c.in-Call.parts ts c.in-Call.is c.requires.fits in
     let found = c.in_ok-row-in-Ok-part_rows.row.items in
     let gives = rw c.as_slice-in-Ok-part_rows.ensures.value at c.in_ok-row-in-Ok-part_rows.ensures.ok in
@@ -202,7 +202,7 @@ part_row-returns-in_err-row-in-Ok-part_rows-clause-lost g t c =
     let points = map (vals_of number) c.args.points.now in
     let ts = terms (chosen_of number c.args.chosen.now) in
     let arguments = all_filled (patterns_of number c.in-Call.parts.items.items) ts in
-    let rows = map (λ row. vals_of number (values_of row)) c.in-Ok-part_rows.rows.items in
+    let rows = map (λ row. vals_of number (row_values row)) c.in-Ok-part_rows.rows.items in
     let end = c.in_err-row-in-Ok-part_rows.field-0.0 in
     handed_on _ c.from_residual-in_err-row-in-Ok-part_rows.result end c.from_residual-in_err-row-in-Ok-part_rows.ensures.1
     (lost_then end (rw c.as_slice-in-Ok-part_rows.ensures.value at c.in_err-row-in-Ok-part_rows.ensures.lost) (λ k it.
@@ -288,7 +288,7 @@ part_rows-loop-part-preserved g t c =
     let enough : length (all_occurring (patterns_of number parts)) ≤ length c.args.chosen.now = rw c.as_slice-part-items.ensures c.requires.enough in
     record {
       used_is = omega (arith, c.places-used.ensures, occurring-next number parts i c.part-item.result c.loop-part-test.true c.part-item.is, c.loop-part.invariant.used_is, enough-left number parts i c.part-item.result used (length c.args.chosen.now) c.loop-part-test.true c.part-item.is c.loop-part.invariant.used_is enough);
-      rows = rw c.in_ok-push-in-Ok.ensures.items (rows-next number scope defined points parts i c.part-item.result c.args.chosen.now c.split_at.result.1.now used (λ row. vals_of number (values_of row)) c.loop-part.rows.items c.in-Ok.row
+      rows = rw c.in_ok-push-in-Ok.ensures.items (rows-next number scope defined points parts i c.part-item.result c.args.chosen.now c.split_at.result.1.now used (λ row. vals_of number (row_values row)) c.loop-part.rows.items c.in-Ok.row
           c.loop-part-test.true c.part-item.is c.loop-part.invariant.used_is c.split_at.ensures.back c.loop-part.invariant.rows c.in-Ok.ensures.ok);
     }
 
@@ -438,15 +438,15 @@ part_pair-pair_row-requires-clause-owned g t c =
     let points = map (vals_of number) c.args.points.now in
     let parts = c.args.first.now ∷ c.args.second.now ∷ [] in
     let arguments = all_filled (patterns_of number parts) (terms (chosen_of number c.args.chosen.now)) in
-    let long = row-long number (length points) c.as_slice.result.now (values_of c.in_ok-left.left) c.as_slice.ensures c.in_ok-left.ensures.ok.sized in
+    let long = row-long number (length points) c.as_slice.result.now (row_values c.in_ok-left.left) c.as_slice.ensures c.in_ok-left.ensures.ok.sized in
     λ k within. apply-owned scope points c.args.operator.now arguments c.requires.fits k (omega (arith, within, long))
 
 pub part_pair-pair_row-requires-clause-same : goal.part_pair-pair_row-requires-clause-same
 part_pair-pair_row-requires-clause-same g t c =
     let number = g.T.Theory.denotes in
     let points = map (vals_of number) c.args.points.now in
-    row-long number (length points) c.as_slice-2.result.now (values_of c.in_ok-right.right) c.as_slice-2.ensures c.in_ok-right.ensures.ok.sized
-    ∙ sym (row-long number (length points) c.as_slice.result.now (values_of c.in_ok-left.left) c.as_slice.ensures c.in_ok-left.ensures.ok.sized)
+    row-long number (length points) c.as_slice-2.result.now (row_values c.in_ok-right.right) c.as_slice-2.ensures c.in_ok-right.ensures.ok.sized
+    ∙ sym (row-long number (length points) c.as_slice.result.now (row_values c.in_ok-left.left) c.as_slice.ensures c.in_ok-left.ensures.ok.sized)
 
 pub part_pair-pair_row-requires-clause-sorted : goal.part_pair-pair_row-requires-clause-sorted
 part_pair-pair_row-requires-clause-sorted g t c =
@@ -457,7 +457,7 @@ part_pair-pair_row-requires-clause-sorted g t c =
     let parts = c.args.first.now ∷ c.args.second.now ∷ [] in
     let arguments = all_filled (patterns_of number parts) (terms (chosen_of number c.args.chosen.now)) in
     let used = pair-used number c.args.first.now c.args.second.now c.places.result (length c.args.chosen.now) c.requires.enough c.places.ensures in
-    let rows = pair-rows number scope defined points c.args.first.now c.args.second.now c.args.chosen.now c.split_at.result.1.now c.places.result c.as_slice.result.now c.as_slice-2.result.now (values_of c.in_ok-left.left) (values_of c.in_ok-right.right) used c.split_at.ensures.back c.as_slice.ensures c.as_slice-2.ensures c.in_ok-left.ensures.ok c.in_ok-right.ensures.ok in
+    let rows = pair-rows number scope defined points c.args.first.now c.args.second.now c.args.chosen.now c.split_at.result.1.now c.places.result c.as_slice.result.now c.as_slice-2.result.now (row_values c.in_ok-left.left) (row_values c.in_ok-right.right) used c.split_at.ensures.back c.as_slice.ensures c.as_slice-2.ensures c.in_ok-left.ensures.ok c.in_ok-right.ensures.ok in
     pair-sorted scope defined points c.args.operator.now arguments (vals_of number c.as_slice.result.now) (vals_of number c.as_slice-2.result.now) c.requires.fits rows
 
 pub part_pair-returns-in_err-row-clause-lost : goal.part_pair-returns-in_err-row-clause-lost
@@ -469,7 +469,7 @@ part_pair-returns-in_err-row-clause-lost g t c =
     let parts = c.args.first.now ∷ c.args.second.now ∷ [] in
     let arguments = all_filled (patterns_of number parts) (terms (chosen_of number c.args.chosen.now)) in
     let used = pair-used number c.args.first.now c.args.second.now c.places.result (length c.args.chosen.now) c.requires.enough c.places.ensures in
-    let rows = pair-rows number scope defined points c.args.first.now c.args.second.now c.args.chosen.now c.split_at.result.1.now c.places.result c.as_slice.result.now c.as_slice-2.result.now (values_of c.in_ok-left.left) (values_of c.in_ok-right.right) used c.split_at.ensures.back c.as_slice.ensures c.as_slice-2.ensures c.in_ok-left.ensures.ok c.in_ok-right.ensures.ok in
+    let rows = pair-rows number scope defined points c.args.first.now c.args.second.now c.args.chosen.now c.split_at.result.1.now c.places.result c.as_slice.result.now c.as_slice-2.result.now (row_values c.in_ok-left.left) (row_values c.in_ok-right.right) used c.split_at.ensures.back c.as_slice.ensures c.as_slice-2.ensures c.in_ok-left.ensures.ok c.in_ok-right.ensures.ok in
     let end = c.in_err-row.field-0.0 in
     handed_on _ c.from_residual-in_err-row.result end c.from_residual-in_err-row.ensures.1
     (lost_then end c.in_err-row.ensures.lost (λ k it. pair-lost scope defined points c.args.operator.now arguments (vals_of number c.as_slice.result.now) (vals_of number c.as_slice-2.result.now) k rows it))
@@ -483,5 +483,5 @@ part_pair-returns-clause-ok g t c =
     let parts = c.args.first.now ∷ c.args.second.now ∷ [] in
     let arguments = all_filled (patterns_of number parts) (terms (chosen_of number c.args.chosen.now)) in
     let used = pair-used number c.args.first.now c.args.second.now c.places.result (length c.args.chosen.now) c.requires.enough c.places.ensures in
-    let rows = pair-rows number scope defined points c.args.first.now c.args.second.now c.args.chosen.now c.split_at.result.1.now c.places.result c.as_slice.result.now c.as_slice-2.result.now (values_of c.in_ok-left.left) (values_of c.in_ok-right.right) used c.split_at.ensures.back c.as_slice.ensures c.as_slice-2.ensures c.in_ok-left.ensures.ok c.in_ok-right.ensures.ok in
+    let rows = pair-rows number scope defined points c.args.first.now c.args.second.now c.args.chosen.now c.split_at.result.1.now c.places.result c.as_slice.result.now c.as_slice-2.result.now (row_values c.in_ok-left.left) (row_values c.in_ok-right.right) used c.split_at.ensures.back c.as_slice.ensures c.as_slice-2.ensures c.in_ok-left.ensures.ok c.in_ok-right.ensures.ok in
     pair-applied scope defined points c.args.operator.now arguments (vals_of number c.as_slice.result.now) (vals_of number c.as_slice-2.result.now) (vals_of number c.in_ok-row.row.items) c.requires.fits rows c.in_ok-row.ensures.ok

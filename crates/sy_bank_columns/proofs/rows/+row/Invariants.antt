@@ -6,7 +6,7 @@ use Rattle.sy_grammar_base.specs.Patterns.{all_occurring, all_filled}
 use Rattle.sy_grammar_base.specs.Written.{patterns_of}
 use Rattle.sy_bank_rows.specs.Covering.{terms}
 use Rattle.sy_bank_rows.specs.Columns.{HaveRows}
-use Rattle.sy_bank_columns.specs.Lent.{values_of}
+use Rattle.sy_bank_columns.specs.Lent.{row_values}
 use Rattle.sy_bank_rows.specs.Stored.{chosen_of}
 use Rattle.sy_bank_columns.proofs.Weights.{weight, all_weight}
 use Rattle.sy_grammar_base.specs.Written.{pattern_of}
@@ -24,5 +24,5 @@ decreases-part_pair g l = 2 * all_weight (patterns_of g.T.Theory.denotes (l.firs
 abbrev pub invariant-part_rows-loop-part : goal.invariant-part_rows-loop-part
 invariant-part_rows-loop-part g l = record {
   used_is : l.used ≡ length (all_occurring (patterns_of g.T.Theory.denotes (take l.part-index l.part-items)));
-  rows : HaveRows (scope_of g.T.Theory.owned l.defs) (functions (bodies g.T.Theory.denotes l.defs)) (map (vals_of g.T.Theory.denotes) l.points) (all_filled (patterns_of g.T.Theory.denotes (take l.part-index l.part-items)) (terms (chosen_of g.T.Theory.denotes l.chosen))) (map (λ row. vals_of g.T.Theory.denotes (values_of row)) l.rows.items);
+  rows : HaveRows (scope_of g.T.Theory.owned l.defs) (functions (bodies g.T.Theory.denotes l.defs)) (map (vals_of g.T.Theory.denotes) l.points) (all_filled (patterns_of g.T.Theory.denotes (take l.part-index l.part-items)) (terms (chosen_of g.T.Theory.denotes l.chosen))) (map (λ row. vals_of g.T.Theory.denotes (row_values row)) l.rows.items);
 }

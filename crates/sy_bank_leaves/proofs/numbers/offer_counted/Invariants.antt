@@ -1,8 +1,8 @@
 use Rattle.std.proofs.Common.{◌≤◌, ◌<◌, ◌-◌}
 use Rattle.sy_terms.specs.Values.{Val}
-use Rattle.sy_grammar_base.specs.Trees.{magnitude}
-use Rattle.sy_bank_level.specs.Filling.{IsSteady, Grows}
-use Rattle.sy_bank_level.specs.Task.{world, state_of}
+use Rattle.sy_grammar_base.specs.Trees.{value_magnitude}
+use Rattle.sy_bank_level.specs.Filling.{IsSteady, LevelGrows}
+use Rattle.sy_bank_level.specs.Task.{world, level_state_of}
 use Rattle.sy_bank_leaves.specs.Leaves.{IsDoneFor}
 use Rattle.sy_bank_leaves.proofs.numbers.offer_counted.Given as goal
 
@@ -12,10 +12,10 @@ decreases-loop-magnitude g l = l.end - l.magnitude
 abbrev pub invariant-loop-magnitude : goal.invariant-loop-magnitude
 invariant-loop-magnitude g l =
     let w = world g.T.Theory.owned g.T.Theory.denotes l.task in
-    let s = state_of g.T.Theory.denotes l.filling in
+    let s = level_state_of g.T.Theory.denotes l.filling in
     record {
       steady : IsSteady w s;
-      grows : Grows w (state_of g.T.Theory.denotes l.fn.filling) s;
+      grows : LevelGrows w (level_state_of g.T.Theory.denotes l.fn.filling) s;
       from : l.first ≤ l.magnitude;
-      done : (value : Val) → l.first ≤ magnitude value → magnitude value < l.magnitude → IsDoneFor w s l.rule.nonterminal l.rule.sort l.task.size value;
+      done : (value : Val) → l.first ≤ value_magnitude value → value_magnitude value < l.magnitude → IsDoneFor w s l.rule.nonterminal l.rule.sort l.task.size value;
     }

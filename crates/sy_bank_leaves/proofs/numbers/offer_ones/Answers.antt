@@ -6,7 +6,7 @@ use Rattle.std.proofs.Common.{rules, subst, ◌∙◌, sym, refl, arith, pos}
 use Rattle.std.proofs.lemmas.Option.{slice_get_read}
 use Rattle.sy_terms.specs.Values.{Truth}
 use Rattle.sy_terms.specs.Denoted.{vals_of}
-use Rattle.sy_bank_level.specs.Task.{world, state_of}
+use Rattle.sy_bank_level.specs.Task.{world, level_state_of}
 use Rattle.sy_bank_level.proofs.Keeping.{grows-on}
 use Rattle.sy_bank_leaves.proofs.Offered.{done-for, done-at, pooled-next, ones-done}
 use Rattle.sy_bank_leaves.proofs.numbers.offer_ones.Goals as goal
@@ -18,10 +18,10 @@ loop-value-init g c =
     let n = c.args.rule.now.nonterminal in
     let sort = c.args.rule.now.sort in
     let size = c.args.task.now.size in
-    let start = state_of number c.args.filling.now in
-    let first = state_of number c.offer_truths.new.filling in
-    let second = state_of number c.offer_number.new.filling in
-    let third = state_of number c.offer_number-2.new.filling in
+    let start = level_state_of number c.args.filling.now in
+    let first = level_state_of number c.offer_truths.new.filling in
+    let second = level_state_of number c.offer_number.new.filling in
+    let third = level_state_of number c.offer_number-2.new.filling in
     let onward = grows-on w first second third c.in_ok-offer_number.ensures.grows c.in_ok-offer_number-2.ensures.grows in
     record {
       steady = c.in_ok-offer_number-2.ensures.steady;
@@ -39,9 +39,9 @@ loop-value-preserved g c =
     let n = c.args.rule.now.nonterminal in
     let sort = c.args.rule.now.sort in
     let size = c.args.task.now.size in
-    let start = state_of number c.args.filling.now in
-    let before = state_of number c.loop-value.filling in
-    let after = state_of number c.offer_number-in-loop-value.new.filling in
+    let start = level_state_of number c.args.filling.now in
+    let before = level_state_of number c.loop-value.filling in
+    let after = level_state_of number c.offer_number-in-loop-value.new.filling in
     let grows = c.in_ok-offer_number-3.ensures.grows in
     let was = c.loop-value.invariant in
     let at = slice_get_read c.as_slice-value-items.result.now _ c.loop-value.value-index c.value-item.result refl c.loop-value-test.true c.value-item.is in
@@ -64,5 +64,5 @@ pub returns-clause-done : goal.returns-clause-done
 returns-clause-done g c =
     let number = g.T.Theory.denotes in
     let was = c.loop-value.invariant in
-    ones-done number (world g.T.Theory.owned number c.args.task.now) (state_of number c.loop-value.filling) c.args.rule.now.nonterminal c.args.rule.now.sort c.args.task.now.size c.as_slice-value-items.result.now c.loop-value.value-index
+    ones-done number (world g.T.Theory.owned number c.args.task.now) (level_state_of number c.loop-value.filling) c.args.rule.now.nonterminal c.args.rule.now.sort c.args.task.now.size c.as_slice-value-items.result.now c.loop-value.value-index
     c.requires.one (λ i. vals_of number (sym c.as_slice-value-items.ensures i)) (omega (arith, c.loop-value-test.false)) was.truths was.naught was.unit was.pooled

@@ -3,7 +3,7 @@ use Rattle.std.proofs.lemmas.List.{length-map}
 use Rattle.sy_terms.specs.Denoted.{vals_of, expr_of}
 use Rattle.sy_grammar_base.specs.Grown.{tree_of}
 use Rattle.sy_bank_rows.specs.Shared.{term_from-Leaf, tree_from-Leaf}
-use Rattle.sy_bank_level.specs.Task.{world, state_of, level_of}
+use Rattle.sy_bank_level.specs.Task.{world, level_state_of, level_of}
 use Rattle.sy_bank_offer.proofs.Given.{new-row, found-done}
 use Rattle.sy_bank_offer.proofs.Nodes.{derived-fits}
 use Rattle.sy_bank_leaves.proofs.Offered.{leaf-right}
@@ -25,7 +25,7 @@ returns-then-has_row-clause-done g c =
     let w = world g.T.Theory.owned number c.args.task.now in
     let sized : c.args.task.now.size ≡ length w.levels = c.requires.task.sized ∙ sym (length-map c.args.task.now.levels.now (level_of number)) in
     let found = rw c.as_slice-2.ensures.value at c.if-has_row.ensures in
-    rw sized (found-done w (state_of number c.args.filling.now) c.args.nonterminal (expr_of number c.args.term) (vals_of number c.in-Ok.row.items) c.requires.steady c.in-Ok.ensures.ok found)
+    rw sized (found-done w (level_state_of number c.args.filling.now) c.args.nonterminal (expr_of number c.args.term) (vals_of number c.in-Ok.row.items) c.requires.steady c.in-Ok.ensures.ok found)
 
 pub keep-requires-clause-right : goal.keep-requires-clause-right
 keep-requires-clause-right g c =
@@ -41,7 +41,7 @@ keep-requires-clause-differs g c =
     let hash = rw c.as_slice.ensures.value at c.row_hash-hash.ensures in
     let others = rw c.as_slice-2.ensures.value at c.if-has_row.ensures in
     rw c.from.ensures
-    (new-row (world g.T.Theory.owned number c.args.task.now) (state_of number c.args.filling.now) c.args.nonterminal c.row_hash-hash.result (vals_of number c.in-Ok.row.items) c.requires.steady hash others)
+    (new-row (world g.T.Theory.owned number c.args.task.now) (level_state_of number c.args.filling.now) c.args.nonterminal c.row_hash-hash.result (vals_of number c.in-Ok.row.items) c.requires.steady hash others)
 
 pub returns-clause-done : goal.returns-clause-done
 returns-clause-done g c = rw (c.in_ok-new.ensures.ok, term_from-Leaf) at c.keep.ensures.done

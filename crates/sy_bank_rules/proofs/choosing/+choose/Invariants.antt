@@ -2,8 +2,8 @@ use Rattle.std.proofs.Common.{◌≡◌, ◌*◌, ◌+◌, length, take, [], ◌
 use Rattle.std.specs.Prelude.{All}
 use Rattle.sy_grammar_base.specs.Written.{pattern_of}
 use Rattle.sy_bank_rows.specs.Stored.{entry_of, chosen_of}
-use Rattle.sy_bank_level.specs.Filling.{IsSteady, Grows}
-use Rattle.sy_bank_level.specs.Task.{world, state_of}
+use Rattle.sy_bank_level.specs.Filling.{IsSteady, LevelGrows}
+use Rattle.sy_bank_level.specs.Task.{world, level_state_of}
 use Rattle.sy_bank_rules.specs.Choosing.{AreDoneFrom}
 use Rattle.sy_bank_rules.proofs.Begun.{AreDoneBelow}
 use Rattle.sy_bank_rules.proofs.choosing.+choose.Given as goal
@@ -18,18 +18,18 @@ abbrev pub invariant-choose_rest-loop-size : goal.invariant-choose_rest-loop-siz
 invariant-choose_rest-loop-size g l =
     let w = world g.T.Theory.owned g.T.Theory.denotes l.task in
     record {
-      steady : IsSteady w (state_of g.T.Theory.denotes l.filling);
-      grows : Grows w (state_of g.T.Theory.denotes l.initial.filling) (state_of g.T.Theory.denotes l.filling);
+      steady : IsSteady w (level_state_of g.T.Theory.denotes l.filling);
+      grows : LevelGrows w (level_state_of g.T.Theory.denotes l.initial.filling) (level_state_of g.T.Theory.denotes l.filling);
       chosen : l.chosen.items ≡ l.initial.chosen.items;
-      done : AreDoneBelow w (state_of g.T.Theory.denotes l.filling) l.template.nonterminal (pattern_of g.T.Theory.denotes l.template.part.now.value) (chosen_of g.T.Theory.denotes l.initial.chosen.items) l.first l.others l.left l.least l.size;
+      done : AreDoneBelow w (level_state_of g.T.Theory.denotes l.filling) l.template.nonterminal (pattern_of g.T.Theory.denotes l.template.part.now.value) (chosen_of g.T.Theory.denotes l.initial.chosen.items) l.first l.others l.left l.least l.size;
     }
 
 abbrev pub invariant-choose_first-loop-term : goal.invariant-choose_first-loop-term
 invariant-choose_first-loop-term g l =
     let w = world g.T.Theory.owned g.T.Theory.denotes l.task in
     record {
-      steady : IsSteady w (state_of g.T.Theory.denotes l.filling);
-      grows : Grows w (state_of g.T.Theory.denotes l.initial.filling) (state_of g.T.Theory.denotes l.filling);
+      steady : IsSteady w (level_state_of g.T.Theory.denotes l.filling);
+      grows : LevelGrows w (level_state_of g.T.Theory.denotes l.initial.filling) (level_state_of g.T.Theory.denotes l.filling);
       chosen : l.chosen.items ≡ l.initial.chosen.items;
-      done : All (λ term. AreDoneFrom w (state_of g.T.Theory.denotes l.filling) l.template.nonterminal (pattern_of g.T.Theory.denotes l.template.part.now.value) (chosen_of g.T.Theory.denotes l.initial.chosen.items ++ entry_of g.T.Theory.denotes term ∷ []) l.places l.left) (take l.term-index l.terms);
+      done : All (λ term. AreDoneFrom w (level_state_of g.T.Theory.denotes l.filling) l.template.nonterminal (pattern_of g.T.Theory.denotes l.template.part.now.value) (chosen_of g.T.Theory.denotes l.initial.chosen.items ++ entry_of g.T.Theory.denotes term ∷ []) l.places l.left) (take l.term-index l.terms);
     }

@@ -1,10 +1,10 @@
 use Rattle.std.proofs.Common.{sym, min, subst}
 use Rattle.sy_query_base.specs.Asked.{query_of}
 use Rattle.sy_meaning_words.specs.Vectors.{vector}
-use Rattle.sy_cdcl.specs.Answer.{IsAnswer}
+use Rattle.sy_cdcl.specs.Answer.{AnswersFormula}
 use Rattle.sy_bits.proofs.decider.answer.Goals as goal
 
 pub returns-in_ok-values-in-Model : goal.returns-in_ok-values-in-Model
 returns-in_ok-values-in-Model c =
-    let found = subst (IsAnswer c.args.circuit.clauses (min c.args.limits.now.clauses 2147483647)) c.in-Model.is c.requires.solved in
+    let found = subst (AnswersFormula c.args.circuit.clauses (min c.args.limits.now.clauses 2147483647)) c.in-Model.is c.requires.solved in
     c.in_ok-values-in-Model.ensures.satisfies (query_of vector c.args.query.now) (sym c.requires.variables) c.requires.clauses found.1

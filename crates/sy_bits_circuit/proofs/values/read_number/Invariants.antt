@@ -1,6 +1,6 @@
 use Rattle.std.proofs.Common.{◌≡◌, take}
-use Rattle.sy_bits_laws.specs.Assignments.{number_of}
+use Rattle.sy_bits_laws.specs.Assignments.{number_of_bits}
 use Rattle.sy_bits_circuit.proofs.values.read_number.Given as goal
 
 abbrev pub invariant-loop-i : goal.invariant-loop-i
-invariant-loop-i l = l.number ≡ number_of (take l.i l.bits)
+invariant-loop-i l = l.number ≡ number_of_bits (take l.i l.bits)

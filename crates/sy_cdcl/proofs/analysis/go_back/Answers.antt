@@ -3,7 +3,7 @@ use Rattle.sy_clauses.specs.Clauses.{known_clauses}
 use Rattle.sy_clauses.specs.Marking.{clause_of}
 use Rattle.sy_clauses.specs.New.{IsUnit}
 use Rattle.sy_cdcl.specs.declared.trail.Entry.{Entry}
-use Rattle.sy_cdcl.specs.Trails.{value_in, level_start}
+use Rattle.sy_cdcl.specs.Trails.{entries_values, level_start}
 use Rattle.sy_cdcl.specs.Conflicts.{SomeFalsified, NoneFalsified}
 use Rattle.sy_cdcl.proofs.Learning.{start_within}
 use Rattle.sy_cdcl.proofs.Back.{ready_left, levels_left, unit_left, open_below, back_first, back_more}
@@ -17,7 +17,7 @@ loop-trail-init c =
       ready = ready_left known c.args.trail.now c.leave_level.new.self c.requires.deep c.requires.ready e.assignment e.entries e.starts;
       levels = levels_left known c.args.trail.now c.leave_level.new.self c.requires.deep c.requires.ready c.requires.levels e.entries e.starts;
       vars = e.vars;
-      unit = subst (λ (t : List Entry). IsUnit (value_in t) (clause_of c.args.marks.now) c.args.literal.var c.args.literal.positive) (sym e.entries)
+      unit = subst (λ (t : List Entry). IsUnit (entries_values t) (clause_of c.args.marks.now) c.args.literal.var c.args.literal.positive) (sym e.entries)
           c.requires.unit;
       back = back_first c.args.trail.now c.leave_level.new.self c.requires.deep e.entries e.starts;
     }
@@ -37,7 +37,7 @@ loop-trail-preserved c =
       ready = ready_left known t c.leave_level-in-loop-trail.new.self deep i.ready e.assignment e.entries e.starts;
       levels = levels_left known t c.leave_level-in-loop-trail.new.self deep i.ready i.levels e.entries e.starts;
       vars = e.vars ∙ i.vars;
-      unit = subst (λ (x : List Entry). IsUnit (value_in x) (clause_of c.args.marks.now) c.args.literal.var c.args.literal.positive) (sym e.entries) unit;
+      unit = subst (λ (x : List Entry). IsUnit (entries_values x) (clause_of c.args.marks.now) c.args.literal.var c.args.literal.positive) (sym e.entries) unit;
       back = back_more c.args.trail.now t c.leave_level-in-loop-trail.new.self c.requires.ready.assignment i.back deep e.entries e.starts;
     }
 

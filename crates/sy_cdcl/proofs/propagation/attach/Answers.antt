@@ -2,7 +2,7 @@ use Rattle.std.proofs.Common.{Bool, ◌+◌, arith, subst}
 use Rattle.std.specs.Prelude.{MatchBool}
 use Rattle.sy_clauses.specs.Clauses.{literals, known_clauses}
 use Rattle.sy_clauses.specs.New.{IsFalse}
-use Rattle.sy_cdcl.specs.Trails.{value_of}
+use Rattle.sy_cdcl.specs.Trails.{kept_values}
 use Rattle.sy_cdcl.specs.Watching.{IsAttached}
 use Rattle.sy_cdcl.proofs.Push.{extends_trans, vars_kept}
 use Rattle.sy_cdcl.proofs.Attaching.{attached_all}
@@ -19,7 +19,7 @@ loop-number-preserved c =
       extends = extends_trans c.args.trail.now c.loop-number.trail t i.extends e.extends;
       vars = vars_kept known c.loop-number.trail t e.extends i.vars;
       attached = subst (λ (b : Bool). MatchBool b (IsAttached known t c.attach_clause.new.watches (c.loop-number.number + 1))
-          (IsFalse (value_of t.values.items) (literals c.in-Some.clause.now))) c.if-not-branch.false e.ends;
+          (IsFalse (kept_values t.values.items) (literals c.in-Some.clause.now))) c.if-not-branch.false e.ends;
     }
 
 pub returns-clause-ends : goal.returns-clause-ends

@@ -1,6 +1,6 @@
 use Rattle.std.proofs.Common.{vec_len}
 use Rattle.sy_clauses.specs.Clauses.{known_clauses}
-use Rattle.sy_cdcl.specs.Trails.{IsReady, Extends, VarsBelow}
+use Rattle.sy_cdcl.specs.Trails.{TrailIsReady, TrailExtends, VarsBelow}
 use Rattle.sy_cdcl.specs.Watching.{IsAttached}
 use Rattle.sy_cdcl.proofs.propagation.attach.Given as goal
 
@@ -8,8 +8,8 @@ abbrev pub invariant-loop-number : goal.invariant-loop-number
 invariant-loop-number l =
     let known = known_clauses l.cnf.clauses l.derived in
     record {
-      ready : IsReady known l.trail;
-      extends : Extends l.initial.trail l.trail;
+      ready : TrailIsReady known l.trail;
+      extends : TrailExtends l.initial.trail l.trail;
       vars : VarsBelow (vec_len l.trail.values) known;
       attached : IsAttached known l.trail l.watches l.number;
     }

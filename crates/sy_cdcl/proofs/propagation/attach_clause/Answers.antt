@@ -2,7 +2,7 @@ use Rattle.std.proofs.Common.{Bool, subst}
 use Rattle.std.specs.Prelude.{MatchBool}
 use Rattle.sy_clauses.specs.Clauses.{literals, known_clauses}
 use Rattle.sy_clauses.specs.New.{HasTrue, IsFalse}
-use Rattle.sy_cdcl.specs.Trails.{value_of}
+use Rattle.sy_cdcl.specs.Trails.{kept_values}
 use Rattle.sy_cdcl.proofs.Listing.{list_of-lt}
 use Rattle.sy_cdcl.proofs.Attaching.{attached_paired, attached_skipped}
 use Rattle.sy_cdcl.proofs.propagation.attach_clause.Goals as goal
@@ -34,6 +34,6 @@ pub returns-clause-ends : goal.returns-clause-ends
 returns-clause-ends c =
     attached_skipped (known_clauses c.args.cnf.now.clauses c.args.derived.now) c.args.trail.now c.settle.new.trail c.args.watches.now c.skip.new.self
     c.args.number (literals c.args.clause.now) c.in_ok-settle.ensures.ready c.in_ok-settle.ensures.extends c.requires.attached c.requires.at
-    (subst (λ (b : Bool). MatchBool b (HasTrue (value_of c.settle.new.trail.values.items) (literals c.args.clause.now))
-    (IsFalse (value_of c.settle.new.trail.values.items) (literals c.args.clause.now))) c.if-not-branch.false c.in_ok-settle.ensures.ends)
+    (subst (λ (b : Bool). MatchBool b (HasTrue (kept_values c.settle.new.trail.values.items) (literals c.args.clause.now))
+    (IsFalse (kept_values c.settle.new.trail.values.items) (literals c.args.clause.now))) c.if-not-branch.false c.in_ok-settle.ensures.ends)
     c.skip.ensures.lists c.in_ok-skip.ensures.pairs c.skip.ensures.head

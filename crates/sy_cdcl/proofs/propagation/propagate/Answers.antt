@@ -1,7 +1,7 @@
 use Rattle.std.proofs.Common.{◌≡◌, ◌+◌, ◌<◌, ℕ, arith, refl, subst, Option, length}
 use Rattle.std.specs.Prelude.{MatchOption}
 use Rattle.sy_clauses.specs.Clauses.{known_clauses}
-use Rattle.sy_cdcl.specs.Trails.{value_of}
+use Rattle.sy_cdcl.specs.Trails.{kept_values}
 use Rattle.sy_cdcl.specs.Status.{IsConflict}
 use Rattle.sy_cdcl.specs.Watching.{AllWatched}
 use Rattle.sy_cdcl.proofs.Push.{extends_trans, vars_kept}
@@ -17,7 +17,7 @@ loop-watches-preserved c =
     let w = c.visit.new.watches in
     let all : AllWatched known t (w.head + 1) w.pairs.items =
     subst (λ (o : Option ℕ). MatchOption o (AllWatched known t (w.head + 1) w.pairs.items)
-    (λ number. IsConflict known (value_of t.values.items) number)) c.in_default.is e.ends in
+    (λ number. IsConflict known (kept_values t.values.items) number)) c.in_default.is e.ends in
     let test = c.loop-watches-test.true in
     let len = c.len.ensures in
     let longer = e.extends.longer in

@@ -1,6 +1,6 @@
 use Rattle.std.proofs.Common.{◌+◌, ◌-◌, length, vec_len}
 use Rattle.sy_clauses.specs.Clauses.{known_clauses}
-use Rattle.sy_cdcl.specs.Trails.{IsReady, Extends, VarsBelow, unvalued_count}
+use Rattle.sy_cdcl.specs.Trails.{TrailIsReady, TrailExtends, VarsBelow, unvalued_count}
 use Rattle.sy_cdcl.specs.Watching.{IsWatching}
 use Rattle.sy_cdcl.proofs.propagation.propagate.Given as goal
 
@@ -8,8 +8,8 @@ abbrev pub invariant-loop-watches : goal.invariant-loop-watches
 invariant-loop-watches l =
     let known = known_clauses l.cnf.clauses l.derived in
     record {
-      ready : IsReady known l.trail;
-      extends : Extends l.initial.trail l.trail;
+      ready : TrailIsReady known l.trail;
+      extends : TrailExtends l.initial.trail l.trail;
       vars : VarsBelow (vec_len l.trail.values) known;
       watching : IsWatching known l.trail l.watches;
     }

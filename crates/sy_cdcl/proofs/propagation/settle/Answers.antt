@@ -1,6 +1,6 @@
 use Rattle.std.proofs.Common.{Some}
 use Rattle.sy_clauses.specs.Clauses.{literals}
-use Rattle.sy_cdcl.specs.Trails.{value_of}
+use Rattle.sy_cdcl.specs.Trails.{kept_values}
 use Rattle.sy_cdcl.proofs.Inspect.{only_unit}
 use Rattle.sy_cdcl.proofs.Visiting.{true_last}
 use Rattle.sy_cdcl.proofs.propagation.settle.Goals as goal
@@ -9,7 +9,7 @@ pub force-requires-clause-unit : goal.force-requires-clause-unit
 force-requires-clause-unit c = record {
   clause = literals c.args.clause.now;
   at = c.requires.at;
-  unit = only_unit (value_of c.args.trail.now.values.items) (literals c.args.clause.now) c.args.literal c.requires.has c.requires.only c.in-Open.ensures;
+  unit = only_unit (kept_values c.args.trail.now.values.items) (literals c.args.clause.now) c.args.literal c.requires.has c.requires.only c.in-Open.ensures;
 }
 
 pub returns-in_ok-force-in-Open-clause-ends : goal.returns-in_ok-force-in-Open-clause-ends

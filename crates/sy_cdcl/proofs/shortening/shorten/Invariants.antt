@@ -1,6 +1,6 @@
 use Rattle.std.proofs.Common.{◌≡◌, ◌≤◌, Some}
 use Rattle.sy_clauses.specs.Clauses.{known_clauses, line_clause}
-use Rattle.sy_clauses.specs.Marking.{clause_of, IsListed}
+use Rattle.sy_clauses.specs.Marking.{clause_of, MarksAreListed}
 use Rattle.sy_clauses.specs.New.{IsUnit}
 use Rattle.sy_cdcl.specs.Trails.{level_start}
 use Rattle.sy_cdcl.specs.Conflicts.{value_below}
@@ -16,7 +16,7 @@ invariant-loop-top l =
       unit : IsUnit (value_below l.trail) (clause_of l.marks) l.fn.literal.var l.fn.literal.positive;
       within : IsWithin (clause_of l.marks) (clause_of l.initial.marks);
       short : IsShort known l.trail.entries.items l.top (level_start l.trail.starts.items) (clause_of l.marks);
-      listed : IsListed l.marks;
+      listed : MarksAreListed l.marks;
     }
 
 abbrev pub decreases-loop-top : goal.decreases-loop-top

@@ -3,7 +3,7 @@ use Rattle.std.specs.Prelude.{slice_get, MatchOption}
 use Rattle.sy_clauses.specs.Clauses.{Clause, literals, known_clauses}
 use Rattle.sy_clauses.specs.New.{Partial, IsUnit}
 use Rattle.sy_cdcl.specs.declared.trail.Entry.{Entry}
-use Rattle.sy_cdcl.specs.Trails.{IsReady, LevelsSettled}
+use Rattle.sy_cdcl.specs.Trails.{TrailIsReady, LevelsSettled}
 use Rattle.sy_cdcl.specs.Watching.{IsWatching, IsSkipped, IsPaired}
 use Rattle.sy_cdcl.proofs.Push.{same_values, ready_forced, extends_push}
 use Rattle.sy_cdcl.proofs.Levels.{levels_kept}
@@ -44,7 +44,7 @@ returns-clause-ready c =
     subst (λ (n : ℕ). slice_get (known ++ new ∷ []) n ≡ Some new) c.requires.number (get_end known new) in
     let unit = subst (λ (f : Partial). IsUnit f new c.args.lesson.literal.var c.args.lesson.literal.positive) (sym (same_values t c.requires.ready.assignment.agrees)) c.requires.unit in
     let e : Entry = record { literal = c.args.lesson.literal; reason = Some c.args.number } in
-    subst (λ (ks : List Clause). IsReady ks c.assign.new.self) (sym grown)
+    subst (λ (ks : List Clause). TrailIsReady ks c.assign.new.self) (sym grown)
     (ready_forced (known ++ new ∷ []) t c.assign.new.self e c.args.number new (ready_known known new t c.requires.ready)
     c.in_ok-assign.ensures.entries c.assign.ensures.starts c.in_ok-assign.ensures.agrees refl at unit)
 

@@ -1,6 +1,6 @@
 use Rattle.std.proofs.Common.{◌∙◌, ap, subst, Option, ℕ, length, arith}
 use Rattle.std.specs.Prelude.{MatchOption}
-use Rattle.sy_cdcl.specs.States.{IsSound, IsStuck}
+use Rattle.sy_cdcl.specs.States.{StateIsSound, IsFinalConflict}
 use Rattle.sy_cdcl.proofs.Courses.{end_idle, end_spent}
 use Rattle.sy_cdcl.proofs.solver.learn.Goals as goal
 
@@ -9,7 +9,7 @@ loop-learned-init c =
     let s = c.attach_all.new.state in
     let cnf = c.args.cnf.now in
     record {
-      sound = subst (λ (o : Option ℕ). MatchOption o (IsSound cnf s) (λ n. IsStuck cnf s n)) c.in_default.is c.in_ok-conflict.ensures.ends;
+      sound = subst (λ (o : Option ℕ). MatchOption o (StateIsSound cnf s) (λ n. IsFinalConflict cnf s n)) c.in_default.is c.in_ok-conflict.ensures.ends;
       lines = ap length (c.attach_all.ensures.lines ∙ c.requires.fresh.lines);
     }
 

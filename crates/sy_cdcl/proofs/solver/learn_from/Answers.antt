@@ -3,7 +3,7 @@ use Rattle.sy_clauses.specs.declared.Lit.{Lit}
 use Rattle.sy_clauses.specs.declared.Line.{Line}
 use Rattle.sy_clauses.specs.Clauses.{Clause, known_clauses, literals, all_clauses, line_clause, Refutes}
 use Rattle.sy_clauses.specs.Marking.{clause_of}
-use Rattle.sy_clauses.specs.New.{EachNew, IsNew}
+use Rattle.sy_clauses.specs.New.{EachNew, IsNewClause}
 use Rattle.sy_cdcl.specs.Trails.{VarsBelow}
 use Rattle.sy_cdcl.specs.Conflicts.{IsLearned}
 use Rattle.sy_cdcl.proofs.Ends.{refutes_more}
@@ -36,7 +36,7 @@ returns-clause-ends c =
     c.deref.ensures.value c.in_ok-taught.ensures.line in
     let taught : IsLearned s.trail clause (Some c.in-Some.literal) =
     subst (λ (o : Option Lit). IsLearned s.trail clause o) c.in-Some.is c.in_ok-taught.ensures.learned in
-    let new : IsNew known clause =
+    let new : IsNewClause known clause =
     learned_new known s.trail clause c.in-Some.literal.var c.in-Some.literal.positive taught.0 i.levels taught.1 in
     let grown : known_clauses cnf.clauses c.keep.new.derived.items ≡ known ++ clause ∷ [] =
     ap (known_clauses cnf.clauses) c.in_ok-keep.ensures.derived

@@ -2,7 +2,7 @@ use Rattle.std.proofs.Common.{◌≡◌, ◌∙◌, ℕ, Option, sym, subst, len
 use Rattle.std.specs.Prelude.{MatchOption}
 use Rattle.sy_clauses.specs.Clauses.{known_clauses}
 use Rattle.sy_clauses.specs.New.{AllSettled}
-use Rattle.sy_cdcl.specs.Trails.{VarsBelow, value_of}
+use Rattle.sy_cdcl.specs.Trails.{VarsBelow, kept_values}
 use Rattle.sy_cdcl.specs.Status.{IsConflict}
 use Rattle.sy_cdcl.proofs.Levels.{levels_kept}
 use Rattle.sy_cdcl.proofs.Attaching.{watching_decided}
@@ -34,9 +34,9 @@ loop-conflict-preserved c =
     let t = c.propagate.new.trail in
     let w = c.propagate.new.watches in
     let e = c.in_ok-decide.ensures in
-    let quiet : (w.head ≡ length t.entries.items) × AllSettled (value_of t.values.items) known =
-    subst (λ (o : Option ℕ). MatchOption o ((w.head ≡ length t.entries.items) × AllSettled (value_of t.values.items) known)
-    (λ number. IsConflict known (value_of t.values.items) number)) c.in_default.is c.in_ok-conflict.ensures.ends in
+    let quiet : (w.head ≡ length t.entries.items) × AllSettled (kept_values t.values.items) known =
+    subst (λ (o : Option ℕ). MatchOption o ((w.head ≡ length t.entries.items) × AllSettled (kept_values t.values.items) known)
+    (λ number. IsConflict known (kept_values t.values.items) number)) c.in_default.is c.in_ok-conflict.ensures.ends in
     record {
       ready = e.ready;
       levels = e.levels;

@@ -1,6 +1,6 @@
 use Rattle.std.proofs.Common.{◌≡◌, vec_len}
 use Rattle.sy_clauses.specs.Clauses.{known_clauses}
-use Rattle.sy_cdcl.specs.Trails.{IsReady, LevelsSettled, unvalued_count}
+use Rattle.sy_cdcl.specs.Trails.{TrailIsReady, LevelsSettled, unvalued_count}
 use Rattle.sy_cdcl.specs.Watching.{IsWatching}
 use Rattle.sy_cdcl.proofs.solver.search.Given as goal
 
@@ -8,7 +8,7 @@ abbrev pub invariant-loop-conflict : goal.invariant-loop-conflict
 invariant-loop-conflict l =
     let known = known_clauses l.cnf.clauses l.derived in
     record {
-      ready : IsReady known l.trail;
+      ready : TrailIsReady known l.trail;
       levels : LevelsSettled known l.trail;
       all : vec_len l.trail.values ≡ l.cnf.vars;
       watching : IsWatching known l.trail l.watches;

@@ -1,6 +1,6 @@
 use Rattle.std.proofs.Common.{◌≡◌, ◌+◌, arith, ap, drop}
 use Rattle.sy_forms_phrases.specs.Meant.{phrase_of, phrases_of}
-use Rattle.sy_forms.specs.Terms.{varying, weight}
+use Rattle.sy_forms.specs.Terms.{varying_factors, factor_weight}
 use Rattle.sy_forms_names.proofs.Lookups.{found_at, drop-at}
 use Rattle.sy_forms.proofs.apply.varying.Goals as goal
 
@@ -9,7 +9,7 @@ loop-factor-preserved g c =
     let i = c.loop-factor.factor-index in
     let x = c.factor-item.result in
     let there = found_at i c.args.factors.now x (omega arith) c.factor-item.is in
-    let next : varying c.args.constants.now (phrases_of g.T.Theory.denotes (drop i c.args.factors.now))
-    ≡ weight c.args.constants.now (phrase_of g.T.Theory.denotes x) + varying c.args.constants.now (phrases_of g.T.Theory.denotes (drop (i + 1) c.args.factors.now))
-    = ap (λ fs. varying c.args.constants.now (phrases_of g.T.Theory.denotes fs)) (drop-at i c.args.factors.now x there) in
+    let next : varying_factors c.args.constants.now (phrases_of g.T.Theory.denotes (drop i c.args.factors.now))
+    ≡ factor_weight c.args.constants.now (phrase_of g.T.Theory.denotes x) + varying_factors c.args.constants.now (phrases_of g.T.Theory.denotes (drop (i + 1) c.args.factors.now))
+    = ap (λ fs. varying_factors c.args.constants.now (phrases_of g.T.Theory.denotes fs)) (drop-at i c.args.factors.now x there) in
     (omega (arith, next, c.weight-count.ensures.value, c.loop-factor.invariant.0), omega (arith, c.weight-count.ensures.small, c.loop-factor.invariant.1))

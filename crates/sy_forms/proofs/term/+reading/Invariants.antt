@@ -2,7 +2,7 @@ use Rattle.std.proofs.Common.{◌≡◌, ◌≤◌, ◌+◌, ◌*◌, length}
 use Rattle.sy_text.specs.Items.{item_size, items_size, listed}
 use Rattle.sy_text.specs.Views.{item_of}
 use Rattle.sy_forms.specs.Gathered.{several_of, bounds_of}
-use Rattle.sy_forms_phrases.specs.Phrases.{nothing}
+use Rattle.sy_forms_phrases.specs.Phrases.{no_terms}
 use Rattle.sy_forms_names.specs.Seen.{environment_of}
 use Rattle.sy_forms.specs.Terms as spec
 use Rattle.sy_forms_items.specs.Views.{items_in}
@@ -38,7 +38,7 @@ decreases-read_pair g l = 2 * items_size (items_in l.items) + 1
 abbrev pub invariant-read_terms-loop-item : goal.invariant-read_terms-loop-item
 invariant-read_terms-loop-item g l =
     record {
-      reads : spec.read_terms (environment_of l.env) l.fn.locals (several_of g.T.Theory.denotes l.done) (items_in l.left) ≡ spec.read_terms (environment_of l.env) l.fn.locals nothing (items_in l.fn.items);
+      reads : spec.read_terms (environment_of l.env) l.fn.locals (several_of g.T.Theory.denotes l.done) (items_in l.left) ≡ spec.read_terms (environment_of l.env) l.fn.locals no_terms (items_in l.fn.items);
       kept : l.locals ≡ l.fn.locals;
       size : items_size (items_in l.left) ≤ items_size (items_in l.fn.items);
     }

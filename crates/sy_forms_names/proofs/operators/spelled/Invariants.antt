@@ -3,4 +3,4 @@ use Rattle.sy_forms_names.specs.Operators as spec
 use Rattle.sy_forms_names.proofs.operators.spelled.Given as goal
 
 abbrev pub invariant-loop-op : goal.invariant-loop-op
-invariant-loop-op l = spec.spelled l.name (drop l.op-index l.ops) ≡ spec.spelled l.name l.ops
+invariant-loop-op l = spec.operator_spelled l.name (drop l.op-index l.ops) ≡ spec.operator_spelled l.name l.ops

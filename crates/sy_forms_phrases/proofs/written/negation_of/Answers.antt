@@ -7,7 +7,7 @@ use Rattle.sy_terms.specs.Sorts.{same_sort}
 use Rattle.sy_terms.specs.Theories.{sort_of_value}
 use Rattle.sy_terms.specs.Denoted.{val_of}
 use Rattle.sy_terms.specs.declared.sort.Sort.TheVariants as sorts
-use Rattle.sy_forms_phrases.specs.Measures.{opposite}
+use Rattle.sy_forms_phrases.specs.Measures.{minus_numeral}
 use Rattle.sy_forms_phrases.proofs.Literals.{same_sort_is, int_negation, other_negation}
 use Rattle.sy_forms_phrases.proofs.written.negation_of.Goals as goal
 
@@ -28,7 +28,7 @@ returns-in-Some g c =
     let sorted : same_sort (sort_of_value d) sorts.Int ≡ true = sym (c.same_sort.ensures ∙ ap (λ s. same_sort s sorts.Int) (c.value_sort.ensures ∙ ap (λ v. sort_of_value (val_of number v)) c.in-Num.is)) ∙ c.if-same_sort.true in
     let fits : SFits w128 c.number.result = search rules in
     let whole = to_z-of_z w128 c.number.result fits ∙ c.number.ensures in
-    rw (c.in-Num.is) (sym (ap (option_map number) c.in-Some.is) ∙ c.opposite.ensures ∙ ap opposite whole ∙ sym (int_negation d sorted))
+    rw (c.in-Num.is) (sym (ap (option_map number) c.in-Some.is) ∙ c.opposite.ensures ∙ ap minus_numeral whole ∙ sym (int_negation d sorted))
 
 pub returns-in-None : goal.returns-in-None
 returns-in-None g c =
@@ -37,7 +37,7 @@ returns-in-None g c =
     let sorted : same_sort (sort_of_value d) sorts.Int ≡ true = sym (c.same_sort.ensures ∙ ap (λ s. same_sort s sorts.Int) (c.value_sort.ensures ∙ ap (λ v. sort_of_value (val_of number v)) c.in-Num.is)) ∙ c.if-same_sort.true in
     let fits : SFits w128 c.number.result = search rules in
     let whole = to_z-of_z w128 c.number.result fits ∙ c.number.ensures in
-    rw (c.in-Num.is) (sym (ap (option_map number) c.in-None.is) ∙ c.opposite.ensures ∙ ap opposite whole ∙ sym (int_negation d sorted))
+    rw (c.in-Num.is) (sym (ap (option_map number) c.in-None.is) ∙ c.opposite.ensures ∙ ap minus_numeral whole ∙ sym (int_negation d sorted))
 
 pub returns-else-same_sort : goal.returns-else-same_sort
 returns-else-same_sort g c =

@@ -3,7 +3,7 @@ use Rattle.std.proofs.lemmas.List.{take_more}
 use Rattle.std.proofs.lemmas.Option.{slice_get_read}
 use Rattle.sy_grammar_base.specs.Patterns.{own_sizes, all_occurring}
 use Rattle.sy_grammar_base.specs.Written.{patterns_of, pattern_of-Const, pattern_of-Var, pattern_of-Non, pattern_of-App, pattern_of-Call}
-use Rattle.sy_grammar_chains.specs.Tables.{total}
+use Rattle.sy_grammar_chains.specs.Tables.{entries_total}
 use Rattle.sy_grammar_chains.proofs.PartSizes.{size_alone, size_place, size_none, cut_none, cut_more, parts_more, missing_at}
 use Rattle.sy_grammar_chains.proofs.table.+part_size.Goals as goal
 use Rattle.sy_grammar_chains.proofs.table.+part_size.Goals.{part_size-in-Const, part_size-in-Var, part_size-in-App+in_ok-below-in-App, part_size-in-Call+in_ok-below-in-Call}
@@ -17,13 +17,13 @@ part_size-returns-in-None g t c = rw (c.in-Non.is, pattern_of-Non, size_place c.
 pub part_size-returns-in_err-below-in-App : goal.part_size-returns-in_err-below-in-App
 part_size-returns-in_err-below-in-App g t c =
     let own = own_sizes (patterns_of g.T.Theory.denotes c.in-App.parts.items.items) in
-    let below = total c.args.table.now (all_occurring (patterns_of g.T.Theory.denotes c.in-App.parts.items.items)) in
+    let below = entries_total c.args.table.now (all_occurring (patterns_of g.T.Theory.denotes c.in-App.parts.items.items)) in
     rw (c.from_residual.ensures, c.in-App.is, pattern_of-App) (cut_none c.args.limit own (own + 1) below c.in_err-below-in-App.ensures)
 
 pub part_size-returns-in_err-below-in-Call : goal.part_size-returns-in_err-below-in-Call
 part_size-returns-in_err-below-in-Call g t c =
     let own = own_sizes (patterns_of g.T.Theory.denotes c.in-Call.parts.items.items) in
-    let below = total c.args.table.now (all_occurring (patterns_of g.T.Theory.denotes c.in-Call.parts.items.items)) in
+    let below = entries_total c.args.table.now (all_occurring (patterns_of g.T.Theory.denotes c.in-Call.parts.items.items)) in
     rw (c.from_residual-in_err-below-in-Call.ensures, c.in-Call.is, pattern_of-Call) (cut_none c.args.limit own (own + 1) below c.in_err-below-in-Call.ensures)
 
 pub part_size-returns : goal.part_size-returns
@@ -32,11 +32,11 @@ part_size-returns g t c = elim c.match-part.branch [
   | part_size-in-Var w ↦ rw (w.in-Var.is, pattern_of-Var) (size_alone c.args.limit c.args.table.now c.min-2.result c.match-part.below c.saturating_add.result c.ranges.limit.fits w.below-is c.saturating_add.ensures c.min-2.ensures)
   | part_size-in-App+in_ok-below-in-App w ↦
       let own = own_sizes (patterns_of g.T.Theory.denotes w.in-App.parts.items.items) in
-      let below = total c.args.table.now (all_occurring (patterns_of g.T.Theory.denotes w.in-App.parts.items.items)) in
+      let below = entries_total c.args.table.now (all_occurring (patterns_of g.T.Theory.denotes w.in-App.parts.items.items)) in
       rw (w.in-App.is, pattern_of-App) (cut_more c.args.limit own below c.match-part.below c.saturating_add.result c.min-2.result c.ranges.limit.fits (rw (w.below-is) w.in_ok-below-in-App.ensures) c.saturating_add.ensures c.min-2.ensures)
   | part_size-in-Call+in_ok-below-in-Call w ↦
       let own = own_sizes (patterns_of g.T.Theory.denotes w.in-Call.parts.items.items) in
-      let below = total c.args.table.now (all_occurring (patterns_of g.T.Theory.denotes w.in-Call.parts.items.items)) in
+      let below = entries_total c.args.table.now (all_occurring (patterns_of g.T.Theory.denotes w.in-Call.parts.items.items)) in
       rw (w.in-Call.is, pattern_of-Call) (cut_more c.args.limit own below c.match-part.below c.saturating_add.result c.min-2.result c.ranges.limit.fits (rw (w.below-is) w.in_ok-below-in-Call.ensures) c.saturating_add.ensures c.min-2.ensures)
 ]
 

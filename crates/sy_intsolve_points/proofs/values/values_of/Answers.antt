@@ -1,5 +1,5 @@
 use Rattle.std.proofs.Common.{◌+◌, ap, sym, subst}
-use Rattle.sy_linear_known.specs.Paths.{Meets}
+use Rattle.sy_linear_known.specs.Paths.{MeetsPath}
 use Rattle.sy_linear_known.specs.Right.{Assigns}
 use Rattle.sy_intsolve_points.proofs.Wholes.{values-more, values-end, assigns, meets}
 use Rattle.sy_intsolve_points.proofs.values.values_of.Goals as goal
@@ -14,4 +14,4 @@ pub returns-clause-assigns : goal.returns-clause-assigns
 returns-clause-assigns c = subst (Assigns c.args.vars.now) (sym (values-end c.args.facts.now c.args.point.now c.args.vars.now c.loop-sort.sort-index c.loop-sort.number c.loop-sort.values _ c.loop-sort-test.false c.loop-sort.invariant.kept)) (assigns c.args.facts.now c.args.point.now 0 c.args.vars.now c.requires.sorts)
 
 pub returns-clause-meets : goal.returns-clause-meets
-returns-clause-meets c = subst (λ values. Meets values c.args.facts.now) (sym (values-end c.args.facts.now c.args.point.now c.args.vars.now c.loop-sort.sort-index c.loop-sort.number c.loop-sort.values _ c.loop-sort-test.false c.loop-sort.invariant.kept)) (meets c.args.vars.now c.args.facts.now c.args.point.now c.requires.path c.requires.at c.requires.whole)
+returns-clause-meets c = subst (λ values. MeetsPath values c.args.facts.now) (sym (values-end c.args.facts.now c.args.point.now c.args.vars.now c.loop-sort.sort-index c.loop-sort.number c.loop-sort.values _ c.loop-sort-test.false c.loop-sort.invariant.kept)) (meets c.args.vars.now c.args.facts.now c.args.point.now c.requires.path c.requires.at c.requires.whole)

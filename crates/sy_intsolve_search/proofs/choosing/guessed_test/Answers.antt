@@ -1,7 +1,7 @@
 use Rattle.std.specs.Prelude.{IfSome}
 use Rattle.std.proofs.Common.{sym, subst}
-use Rattle.sy_linear_known.specs.Stored.{query_of}
-use Rattle.sy_intsolve_asked.specs.Asked.{IsPath, IsOpen}
+use Rattle.sy_linear_known.specs.Stored.{linear_query_of}
+use Rattle.sy_intsolve_asked.specs.Asked.{IsPath, TestIsOpen}
 use Rattle.sy_intsolve_search.specs.Ways.{IsSplit}
 use Rattle.sy_intsolve_search.proofs.Ends.{free-splits}
 use Rattle.sy_intsolve_search.proofs.choosing.guessed_test.Goals as goal
@@ -14,6 +14,6 @@ choose-requires c = record {
 
 pub returns-in_ok-found-in-Free : goal.returns-in_ok-found-in-Free
 returns-in_ok-found-in-Free c =
-    subst (λ order. IfSome c.in_ok-found-in-Free.found (IsSplit order (query_of c.args.query.now) c.args.way.now.facts.items)) (sym c.in-Free.is)
-    (free-splits (query_of c.args.query.now) c.args.way.now.facts.items c.in_ok-found-in-Free.found
-    (subst (λ facts. IfSome c.in_ok-found-in-Free.found (IsOpen c.args.query.now.vars facts)) c.as_slice-facts.ensures.value c.in_ok-found-in-Free.ensures))
+    subst (λ order. IfSome c.in_ok-found-in-Free.found (IsSplit order (linear_query_of c.args.query.now) c.args.way.now.facts.items)) (sym c.in-Free.is)
+    (free-splits (linear_query_of c.args.query.now) c.args.way.now.facts.items c.in_ok-found-in-Free.found
+    (subst (λ facts. IfSome c.in_ok-found-in-Free.found (TestIsOpen c.args.query.now.vars facts)) c.as_slice-facts.ensures.value c.in_ok-found-in-Free.ensures))

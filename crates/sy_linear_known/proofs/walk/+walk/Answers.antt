@@ -2,7 +2,7 @@ use Rattle.std.proofs.Common.{◌≡◌, ◌+◌, ◌++◌, drop, arith, sym, ap
 use Rattle.sy_terms.specs.Values.{Whole}
 use Rattle.sy_terms.specs.Expr.{nodes, nodes_of}
 use Rattle.sy_terms.specs.Denoted.{expr_of, exprs_of}
-use Rattle.sy_linear_known.specs.Sights.{applied}
+use Rattle.sy_linear_known.specs.Sights.{operator_applied}
 use Rattle.sy_linear_known.specs.Seen as spec
 use Rattle.sy_linear_known.specs.Fitting.{all_fit}
 use Rattle.sy_linear_known.proofs.Walking as step
@@ -90,7 +90,7 @@ walk-returns-in_ok-node-in-App-clause-seen t c =
     c.noted.ensures
     ∙ step.seen-app c.args.vars.now c.args.path.now c.args.names.now.items c.args.next.now c.args.term.now c.in-App.operator c.in-App.arguments c.in_ok-below-in-App.below c.in_ok-node-in-App.node c.in-App.is
     (c.in_ok-below-in-App.ensures.found ∙ ap (λ choice. spec.all_seen c.args.vars.now c.args.path.now c.args.names.now.items choice (c.args.next.now + 1) spec.nothing_found (exprs_of Whole c.in-App.arguments.items.items)) c.is_choice-choice.ensures)
-    (c.in_ok-node-in-App.ensures.ok ∙ ap (applied c.args.path.now c.in-App.operator) c.as_slice-in-App.ensures)
+    (c.in_ok-node-in-App.ensures.ok ∙ ap (operator_applied c.args.path.now c.in-App.operator) c.as_slice-in-App.ensures)
 
 pub walk-returns-in-Call-clause-seen : goal.walk-returns-in-Call-clause-seen
 walk-returns-in-Call-clause-seen t c =

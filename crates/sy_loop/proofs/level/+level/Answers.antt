@@ -7,7 +7,7 @@ use Rattle.sy_bank_rows.specs.Stored.{entries_of, chosen_of}
 use Rattle.sy_bank.specs.Bank.{merged_of}
 use Rattle.sy_loop_history.specs.Histories.{IsOpenNumber}
 use Rattle.sy_loop_history.specs.Stored.{history_of}
-use Rattle.sy_loop.specs.Levels.{AreHonest, IsBegun, AreChoices, AllAreRefuted}
+use Rattle.sy_loop.specs.Levels.{AreHonest, BodiesAreBegun, AreChoices, AllAreRefuted}
 use Rattle.sy_loop.proofs.Choosing.{next_begun, next_length, kept_choices, chosen_all, chosen_popped}
 use Rattle.sy_loop_join.proofs.Going.{same_room, goes_by, goes_after, refuted_by}
 use Rattle.sy_loop.proofs.Refuting.{one_refuted, none_refuted, next_refuted, kept_refuted, size_refuted, sizes_refuted}
@@ -22,7 +22,7 @@ try_kept-try_rest-requires g t c κs within =
     let long = next_length c.args.chosen.now.items c.loop-choice.chosen.items c.push.new.self.items _ c.loop-choice.invariant.chosen c.in_ok-push.ensures.items in
     let few : length c.push.new.self.items ≤ length c.args.task.now.banks.now = omega (arith, long, c.requires.few) in
     let banks = subst (λ asked. AreHonest scope question asked (map (merged_of g.T.Theory.denotes) c.args.task.now.banks.now)) (sym c.loop-choice.invariant.points) c.requires.banks in
-    let begun = subst (λ asked. IsBegun scope question asked size (chosen_of g.T.Theory.denotes c.push.new.self.items) c.args.left) (sym c.loop-choice.invariant.points)
+    let begun = subst (λ asked. BodiesAreBegun scope question asked size (chosen_of g.T.Theory.denotes c.push.new.self.items) c.args.left) (sym c.loop-choice.invariant.points)
     (next_begun g.T.Theory.denotes scope question c.args.known.now.points size c.args.left c.args.chosen.now.items c.loop-choice.chosen.items c.push.new.self.items c.args.kept.now c.loop-choice.choice-index _ c.requires.choices c.loop-choice.invariant.chosen c.in_ok-push.ensures.items c.loop-choice-test.true c.choice-item.is) in
     let opened = subst (λ history. IsOpenNumber c.args.task.now.reach question c.args.task.now.limits.now.size history size) (sym c.loop-choice.invariant.history) c.requires.opened in
     let room = same_room g.T.Theory.denotes c.args.known.now.stored c.loop-choice.known.stored c.args.task.now.limits.now.rounds c.loop-choice.invariant.history c.requires.room in

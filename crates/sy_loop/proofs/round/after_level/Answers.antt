@@ -5,7 +5,7 @@ use Rattle.sy_bank.specs.Bank.{merged_of}
 use Rattle.sy_loop_history.specs.Stored.{history_of}
 use Rattle.sy_loop_laws.specs.Refuting.{AreDoneBelow}
 use Rattle.sy_loop_laws.proofs.Refuted.{assumes_nothing}
-use Rattle.sy_loop.specs.Dropping.{AreWhole}
+use Rattle.sy_loop.specs.Dropping.{DroppedNothing}
 use Rattle.sy_loop.proofs.Carrying.{carried_on}
 use Rattle.sy_loop.proofs.Completing.{level_open, next_done, nothing_within, trees_done}
 use Rattle.sy_loop.proofs.Rounding.{next_less}
@@ -40,14 +40,14 @@ pub returns-then-level-limits-clause-done : goal.returns-then-level-limits-claus
 returns-then-level-limits-clause-done g c =
     let question = question_of g.T.Theory.denotes c.args.problem.now in
     let banks = map (merged_of g.T.Theory.denotes) c.args.banks.items in
-    let whole : AreWhole banks = rw c.as_slice-all.ensures.value at (rw c.in_default.is at c.in_ok-left.ensures) in
+    let whole : DroppedNothing banks = rw c.as_slice-all.ensures.value at (rw c.in_default.is at c.in_ok-left.ensures) in
     next_done question c.args.limits.now (history_of g.T.Theory.denotes c.args.known.stored) c.args.known.points c.args.level banks c.args.reach (assumes_nothing g.T.Theory.owned question c.requires.problem.assumptions) c.requires.banks whole c.requires.refuted c.requires.trees c.requires.done
 
 pub returns-then-level-limits-clause-follows : goal.returns-then-level-limits-clause-follows
 returns-then-level-limits-clause-follows g c =
     let question = question_of g.T.Theory.denotes c.args.problem.now in
     let banks = map (merged_of g.T.Theory.denotes) c.args.banks.items in
-    let whole : AreWhole banks = rw c.as_slice-all.ensures.value at (rw c.in_default.is at c.in_ok-left.ensures) in
+    let whole : DroppedNothing banks = rw c.as_slice-all.ensures.value at (rw c.in_default.is at c.in_ok-left.ensures) in
     let trees = trees_done question c.args.limits.now (history_of g.T.Theory.denotes c.args.known.stored) c.args.known.points c.args.level banks c.args.reach (assumes_nothing g.T.Theory.owned question c.requires.problem.assumptions) c.requires.banks whole c.requires.refuted c.requires.trees c.requires.done in
     inr (record { one_more = refl; are = c.requires.banks; whole = whole; refuted = c.requires.refuted; trees = trees })
 
@@ -56,7 +56,7 @@ exhausted-requires g c =
     let question = question_of g.T.Theory.denotes c.args.problem.now in
     let history = history_of g.T.Theory.denotes c.args.known.stored in
     let banks = map (merged_of g.T.Theory.denotes) c.args.banks.items in
-    let whole : AreWhole banks = rw c.as_slice-all.ensures.value at (rw c.in_default.is at c.in_ok-left.ensures) in
+    let whole : DroppedNothing banks = rw c.as_slice-all.ensures.value at (rw c.in_default.is at c.in_ok-left.ensures) in
     let size : c.args.level + 1 ≡ c.args.limits.now.size + 1 = omega (arith, c.if-level-limits.false, c.requires.level) in
     nothing_within c.args.reach question c.args.limits.now history c.args.known.points c.requires.strict c.requires.known
     (subst (AreDoneBelow c.args.reach question history c.args.known.points) size

@@ -1,11 +1,11 @@
 use Rattle.std.proofs.Common.{take}
-use Rattle.sy_loop_history.specs.Adding.{Gains, AreAsked}
+use Rattle.sy_loop_history.specs.Adding.{GainsTuples, AreAsked}
 use Rattle.sy_loop_candidate.proofs.Tuples.{Changed}
 use Rattle.sy_loop_candidate.proofs.calls.add_calls.Given as goal
 
 abbrev pub invariant-loop-place : goal.invariant-loop-place
 invariant-loop-place g l = record {
-  gains : Gains l.calls l.fn.points l.points;
+  gains : GainsTuples l.calls l.fn.points l.points;
   there : AreAsked (take l.place l.calls) l.points;
   changed : Changed l.fn.points l.points l.adding;
 }

@@ -8,7 +8,7 @@ use Rattle.sy_bank_rows.specs.declared.kept.Kept.{Kept}
 use Rattle.sy_loop_history.specs.Stored.{history_of}
 use Rattle.sy_loop_trees_laws.specs.Goods.{assignments_of}
 use Rattle.sy_loop_goods.specs.Columns.{row_from}
-use Rattle.sy_loop_goods.specs.Leaves.{IsLeaving}
+use Rattle.sy_loop_goods.specs.Leaves.{LeafLeaves}
 use Rattle.sy_loop_goods.proofs.Columns.{columns_next, goods_all, left_by, tuples_are}
 use Rattle.sy_loop_goods.proofs.goods.good_rows.Goals as goal
 
@@ -19,7 +19,7 @@ loop-point-preserved g c =
     let within : c.loop-point.point < length (of_function c.args.points.now 0) = omega (arith, c.loop-point-test.true, c.len-point-end.ensures, are, length-map c.of-tuples.result.now (vals_of g.T.Theory.denotes)) in
     rw (c.in_ok-push.ensures.items, c.or-leaving.ensures) (record {
       columns = columns_next (question_of g.T.Theory.denotes c.args.problem.now) (assignments_of (history_of g.T.Theory.denotes c.args.stored.now)) (of_function c.args.points.now 0) leaves c.loop-point.point c.loop-point.columns.items c.in_ok-column.column.goods c.in_ok-column.column.leaving c.loop-point.leaving within c.loop-point.invariant.columns c.in_ok-column.ensures.goods;
-      leaving = left_by (IsLeaving (question_of g.T.Theory.denotes c.args.problem.now) (history_of g.T.Theory.denotes c.args.stored.now) leaves) c.in_ok-column.column.leaving c.loop-point.leaving c.in_ok-column.ensures.leaving c.loop-point.invariant.leaving;
+      leaving = left_by (LeafLeaves (question_of g.T.Theory.denotes c.args.problem.now) (history_of g.T.Theory.denotes c.args.stored.now) leaves) c.in_ok-column.column.leaving c.loop-point.leaving c.in_ok-column.ensures.leaving c.loop-point.invariant.leaving;
     })
 
 pub returns-clause-goods : goal.returns-clause-goods

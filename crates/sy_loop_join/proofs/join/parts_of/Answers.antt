@@ -8,7 +8,7 @@ use Rattle.sy_bank.specs.Bank.{merged_of}
 use Rattle.sy_bank_rows.specs.Stored.{chosen_of, entry_of}
 use Rattle.sy_bank_rows.specs.declared.kept.Kept.{Kept}
 use Rattle.sy_loop_history.specs.Stored.{history_of}
-use Rattle.sy_loop_goods.specs.Leaves.{IsLeaving}
+use Rattle.sy_loop_goods.specs.Leaves.{LeafLeaves}
 use Rattle.sy_loop_goods.proofs.Asked.{all_rest_within}
 use Rattle.sy_loop_trees_laws.specs.Goods.{AreGoods, assignments_of}
 use Rattle.sy_loop_trees_laws.specs.Trees.{truths}
@@ -38,7 +38,7 @@ returns-clause-parts g c =
       rows_are = c.in_ok-rows.ensures ∙ ap (λ (kept : List (Bor (Kept g.row.T.Denot g.row.T-Num.Denot))). truths (chosen_of number kept)) c.as_slice-2.ensures.value;
       many = c.in_ok-goods.ensures.many ∙ ap length c.as_slice.ensures.value ∙ sym (length-map c.in_ok-leaves.leaves.items (λ kept. entry_of number kept.now));
       good = λ none. subst (λ (kept : List (Bor (Kept g.row.T.Denot g.row.T-Num.Denot))). AreGoods question (assignments_of history) (of_function asked 0) (chosen_of number kept) goods.rows) c.as_slice.ensures.value (c.in_ok-goods.ensures.goods none);
-      leaving = subst (λ (kept : List (Bor (Kept g.row.T.Denot g.row.T-Num.Denot))). IfSome goods.leaving (IsLeaving question history (chosen_of number kept))) c.as_slice.ensures.value c.in_ok-goods.ensures.leaving;
+      leaving = subst (λ (kept : List (Bor (Kept g.row.T.Denot g.row.T-Num.Denot))). IfSome goods.leaving (LeafLeaves question history (chosen_of number kept))) c.as_slice.ensures.value c.in_ok-goods.ensures.leaving;
       points_are = points_are;
       some = omega (arith, points_are, c.requires.some);
       distinct = subst AreDistinct (sym is) c.of.ensures.distinct;

@@ -5,7 +5,7 @@ use Rattle.sy_loop_bounds.specs.Applications.{applications}
 use Rattle.sy_loop_subterms.specs.Denoted.{shape_of, shapes_of}
 use Rattle.sy_loop_subterms.specs.Shapes.{AreBelow, numbers_of, subterms, term_of}
 use Rattle.sy_loop_subterms.proofs.Shaped.{shape_is}
-use Rattle.sy_loop_pointwise.specs.Asked.{AreAsked, AreKnown}
+use Rattle.sy_loop_pointwise.specs.Asked.{AreApplications, AreKnown}
 use Rattle.sy_loop_pointwise.proofs.Calls.{at_shape}
 use Rattle.sy_loop_pointwise.proofs.Kept.{known_nothing, known_more}
 use Rattle.sy_loop_pointwise.proofs.asks.all_asks.Goals as goal
@@ -37,7 +37,7 @@ loop-shape-preserved g c =
     let terms = subterms (shapes_of g.T.Theory.denotes c.args.shapes.now) in
     let asks = c.loop-shape.asks.items in
     let own = c.asks_of-own.result in
-    let asked = subst (λ all. AreAsked terms (applications (term_of terms (length all))) own) c.as_slice.ensures.value c.asks_of-own.ensures in
+    let asked = subst (λ all. AreApplications terms (applications (term_of terms (length all))) own) c.as_slice.ensures.value c.asks_of-own.ensures in
     rw (c.in_ok-push.ensures.items) (record { many = length_push asks own ∙ omega (arith, c.loop-shape.invariant.many); known = known_more terms asks own c.loop-shape.invariant.known asked })
 
 pub returns-clause-many : goal.returns-clause-many

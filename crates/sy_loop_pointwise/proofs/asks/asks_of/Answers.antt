@@ -4,7 +4,7 @@ use Rattle.sy_terms.specs.Expr.{Invoke}
 use Rattle.sy_loop_bounds.specs.Applications.{applications, all_applications}
 use Rattle.sy_loop_subterms.specs.Denoted.{shape_of, shapes_of}
 use Rattle.sy_loop_subterms.specs.Shapes.{AreBelow, numbers_of, shaped, subterms, term_of, terms_of}
-use Rattle.sy_loop_pointwise.specs.Asked.{AreAsked}
+use Rattle.sy_loop_pointwise.specs.Asked.{AreApplications}
 use Rattle.sy_loop_pointwise.proofs.Kept.{within_constant, within_variable, within_operator, within_defined}
 use Rattle.sy_loop_pointwise.proofs.asks.asks_of.Goals as goal
 
@@ -32,7 +32,7 @@ pub returns-in-App : goal.returns-in-App
 returns-in-App g c =
     let number = g.T.Theory.denotes in
     let terms = subterms (shapes_of number c.args.shapes.now) in
-    let asked = subst (λ ns. AreAsked terms (all_applications (terms_of terms ns)) c.asked_by.result) c.as_slice.ensures c.asked_by.ensures in
+    let asked = subst (λ ns. AreApplications terms (all_applications (terms_of terms ns)) c.asked_by.result) c.as_slice.ensures c.asked_by.ensures in
     within_operator terms (term_of terms (length c.args.asks.now)) c.in-App.field-0 (terms_of terms c.in-App.numbers) c.asked_by.result (c.requires.next ∙ ap (λ s. shaped terms (shape_of number s)) c.in-App.is) asked
 
 pub returns-in-Defined : goal.returns-in-Defined
@@ -40,7 +40,7 @@ returns-in-Defined g c =
     let number = g.T.Theory.denotes in
     let terms = subterms (shapes_of number c.args.shapes.now) in
     let arguments = terms_of terms c.in-Call.numbers in
-    let asked = subst (λ ns. AreAsked terms (all_applications (terms_of terms ns)) c.asked_by-within.result) c.as_slice-in-Call.ensures c.asked_by-within.ensures in
+    let asked = subst (λ ns. AreApplications terms (all_applications (terms_of terms ns)) c.asked_by-within.result) c.as_slice-in-Call.ensures c.asked_by-within.ensures in
     let is = c.requires.next ∙ ap (λ s. shaped terms (shape_of number s)) c.in-Call.is ∙ ap (λ f. Invoke f arguments) c.in-Defined.is in
     within_defined terms (term_of terms (length c.args.asks.now)) c.in-Defined.field-0 arguments c.asked_by-within.result is asked
 
@@ -49,6 +49,6 @@ returns-in-Wanted g c =
     let number = g.T.Theory.denotes in
     let terms = subterms (shapes_of number c.args.shapes.now) in
     let arguments = terms_of terms c.in-Call.numbers in
-    let asked = subst (λ ns. AreAsked terms (all_applications (terms_of terms ns)) c.asked_by-within.result) c.as_slice-in-Call.ensures c.asked_by-within.ensures in
+    let asked = subst (λ ns. AreApplications terms (all_applications (terms_of terms ns)) c.asked_by-within.result) c.as_slice-in-Call.ensures c.asked_by-within.ensures in
     let is = c.requires.next ∙ ap (λ s. shaped terms (shape_of number s)) c.in-Call.is ∙ ap (λ f. Invoke f arguments) c.in-Wanted.is in
-    subst (λ e. AreAsked terms (applications e) c.applied.result) (sym is) (c.applied.ensures c.in-Wanted.field-0 arguments is asked)
+    subst (λ e. AreApplications terms (applications e) c.applied.result) (sym is) (c.applied.ensures c.in-Wanted.field-0 arguments is asked)

@@ -11,13 +11,13 @@ use Rattle.sy_loop_bounds.specs.WrittenOut.{written_out}
 use Rattle.sy_loop_subterms.specs.Denoted.{shape_of, shapes_of}
 use Rattle.sy_loop_subterms.specs.Shapes.{AreSubterms, subterms}
 use Rattle.sy_loop_pointwise.specs.Asked.{IsTheCall}
-use Rattle.sy_loop_pointwise.specs.Posed.{Poses}
+use Rattle.sy_loop_pointwise.specs.Posed.{PosesConstraint}
 use Rattle.sy_loop_pointwise.specs.Valued.{AreValued}
 use Rattle.sy_loop_pointwise.proofs.Rests.{rests_at, leaves_at, valued_arguments}
 use Rattle.sy_loop_pointwise.proofs.rest.rest_of.Goals as goal
 
 pub returns-in-Free : goal.returns-in-Free
-returns-in-Free g c = λ constraint of poses. subst (Poses (question_of g.T.Theory.denotes c.args.problem.now) constraint) c.in-Free.is poses
+returns-in-Free g c = λ constraint of poses. subst (PosesConstraint (question_of g.T.Theory.denotes c.args.problem.now) constraint) c.in-Free.is poses
 
 pub arguments_of-requires : goal.arguments_of-requires
 arguments_of-requires g c = record { subterms = subst AreSubterms (sym c.shapes-shapes.ensures.shapes) c.shapes-shapes.ensures.are }
@@ -26,7 +26,7 @@ pub returns-in_default : goal.returns-in_default
 returns-in_default g c = λ constraint of poses.
     let number = g.T.Theory.denotes in
     let question = question_of number c.args.problem.now in
-    let call = subst (λ shapes. IsTheCall (subterms shapes) (applications (written_out question constraint)) c.in-Applies.call) (sym c.shapes-shapes.ensures.shapes) (subst (Poses question constraint) c.in-Applies.is poses) in
+    let call = subst (λ shapes. IsTheCall (subterms shapes) (applications (written_out question constraint)) c.in-Applies.call) (sym c.shapes-shapes.ensures.shapes) (subst (PosesConstraint question constraint) c.in-Applies.is poses) in
     absurd (c.in_default.ensures (Wanted call.application.0) call.application.1 call.is)
 
 pub first_valued-requires-clause-definitions : goal.first_valued-requires-clause-definitions
@@ -47,7 +47,7 @@ returns-in-Some-2 g c = λ constraint of poses.
     let values = vals_of number c.args.values.now in
     let shapes = shapes_of number c.shapes-shapes.result.now in
     let terms = subterms shapes in
-    let call = subst (λ all. IsTheCall (subterms all) (applications (written_out question constraint)) c.in-Applies.call) (sym c.shapes-shapes.ensures.shapes) (subst (Poses question constraint) c.in-Applies.is poses) in
+    let call = subst (λ all. IsTheCall (subterms all) (applications (written_out question constraint)) c.in-Applies.call) (sym c.shapes-shapes.ensures.shapes) (subst (PosesConstraint question constraint) c.in-Applies.is poses) in
     let scope = scope_of owned problem.defs in
     let defined = functions (bodies number problem.defs) in
     let all = valued_arguments number scope defined values shapes c.in-Applies.call c.in-Some.arguments.now c.as_slice-in-Applies.result.now c.in_ok-found-in-Applies.found.items c.as_slice.result.now
@@ -65,7 +65,7 @@ returns g c = λ constraint of poses.
     let values = vals_of number c.args.values.now in
     let shapes = shapes_of number c.shapes-shapes.result.now in
     let terms = subterms shapes in
-    let call = subst (λ all. IsTheCall (subterms all) (applications (written_out question constraint)) c.in-Applies.call) (sym c.shapes-shapes.ensures.shapes) (subst (Poses question constraint) c.in-Applies.is poses) in
+    let call = subst (λ all. IsTheCall (subterms all) (applications (written_out question constraint)) c.in-Applies.call) (sym c.shapes-shapes.ensures.shapes) (subst (PosesConstraint question constraint) c.in-Applies.is poses) in
     let scope = scope_of owned problem.defs in
     let defined = functions (bodies number problem.defs) in
     let all = valued_arguments number scope defined values shapes c.in-Applies.call c.in-Some.arguments.now c.as_slice-in-Applies.result.now c.in_ok-found-in-Applies.found.items c.as_slice.result.now

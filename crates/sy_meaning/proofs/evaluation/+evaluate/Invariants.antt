@@ -6,7 +6,7 @@ use Rattle.sy_terms.specs.Meaning.{functions}
 use Rattle.sy_terms.specs.Definitions.{bodies}
 use Rattle.sy_terms_laws.specs.Evaluation.{BodiesFit, TermsFit, HaveValues, scope_with, wanted_functions}
 use Rattle.sy_terms_laws.specs.Asking.{all_asks}
-use Rattle.sy_terms_laws.specs.Tracing.{Gains}
+use Rattle.sy_terms_laws.specs.Tracing.{GainsCalls}
 use Rattle.sy_meaning.specs.Calls.{IsCallOf}
 use Rattle.sy_terms_laws.proofs.Lists.{weight}
 use Rattle.sy_terms_laws.proofs.Reached.{weight_of}
@@ -21,5 +21,5 @@ decreases-evaluate_all g l = 2 * (nodes_of (exprs_of g.T.Theory.denotes l.terms.
 abbrev pub invariant-evaluate_all-loop-term : goal.invariant-evaluate_all-loop-term
 invariant-evaluate_all-loop-term g l =
     ((wanted : _) → BodiesFit g.T.Theory.owned g.T.Theory.denotes l.defs l.bodies wanted → TermsFit (scope_with g.T.Theory.owned l.defs wanted) (vals_of g.T.Theory.denotes l.values) (exprs_of g.T.Theory.denotes l.term-items) → HaveValues (scope_with g.T.Theory.owned l.defs wanted) (functions (bodies g.T.Theory.denotes l.defs)) (wanted_functions g.T.Theory.denotes l.defs l.bodies) (vals_of g.T.Theory.denotes l.values) (exprs_of g.T.Theory.denotes (take l.term-index l.term-items)) (vals_of g.T.Theory.denotes l.found.items)) ×
-    Gains l.fn.trace (all_asks g.T.Theory.denotes l.defs l.bodies (vals_of g.T.Theory.denotes l.values) (exprs_of g.T.Theory.denotes (take l.term-index l.term-items))) l.trace ×
+    GainsCalls l.fn.trace (all_asks g.T.Theory.denotes l.defs l.bodies (vals_of g.T.Theory.denotes l.values) (exprs_of g.T.Theory.denotes (take l.term-index l.term-items))) l.trace ×
     ((wanted : _) → BodiesFit g.T.Theory.owned g.T.Theory.denotes l.defs l.bodies wanted → TermsFit (scope_with g.T.Theory.owned l.defs wanted) (vals_of g.T.Theory.denotes l.values) (exprs_of g.T.Theory.denotes l.term-items) → All (IsCallOf wanted) (all_asks g.T.Theory.denotes l.defs l.bodies (vals_of g.T.Theory.denotes l.values) (exprs_of g.T.Theory.denotes (take l.term-index l.term-items))))

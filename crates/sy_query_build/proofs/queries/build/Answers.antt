@@ -3,7 +3,7 @@ use Rattle.sy_terms.specs.Denoted.{expr_of}
 use Rattle.sy_terms.specs.declared.op.Op.TheVariants as ops
 use Rattle.sy_grammar_base.specs.Questions.{question_of}
 use Rattle.sy_grammar_laws.proofs.Problems.{problem_definitions, problem_variables, problem_assumptions, problem_constraints}
-use Rattle.sy_query_base.specs.Asked.{Query, Fits, query_weight}
+use Rattle.sy_query_base.specs.Asked.{Query, QueryFits, query_weight}
 use Rattle.sy_query_base.specs.Queries.{IsViolation}
 use Rattle.sy_query_base.proofs.Violations.{says}
 use Rattle.sy_query_build.proofs.Problem as problem
@@ -69,7 +69,7 @@ returns-clause-query g c =
 
 pub returns-clause-fits : goal.returns-clause-fits
 returns-clause-fits g c =
-    subst (λ (q : Query). Fits g.T.Theory.owned g.T.Theory.numeric q) (sym (returns-clause-query g c))
+    subst (λ (q : Query). QueryFits g.T.Theory.owned g.T.Theory.numeric q) (sym (returns-clause-query g c))
     (problem.query-fits g.T.Theory.owned g.T.Theory.numeric g.T.Theory.denotes c.args.problem.now c.args.bodies.now (g.met.T.Theory.core ops.And refl) (g.met.T.Theory.core ops.Not refl) c.requires.problem c.requires.bodies)
 
 pub returns-clause-violations : goal.returns-clause-violations

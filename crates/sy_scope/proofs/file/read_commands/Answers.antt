@@ -3,7 +3,7 @@ use Rattle.std.specs.Prelude.{IfSome}
 use Rattle.std.proofs.lemmas.Result.{err_from_is_err_and}
 use Rattle.sy_text.specs.Views.{item_of, command_of}
 use Rattle.sy_scope_steps.specs.Files.{file_read}
-use Rattle.sy_scope.specs.Read.{LeadsTo}
+use Rattle.sy_scope.specs.Read.{LeadsToOutcome}
 use Rattle.sy_scope_context.specs.Seen.{context_of}
 use Rattle.sy_scope.proofs.Leading.{leads_on, leads_to_end, ends_unread, ends_fault}
 use Rattle.sy_scope.proofs.Sound.{goals_fit, stays_sound, sound_from}
@@ -11,7 +11,7 @@ use Rattle.sy_scope.proofs.file.read_commands.Goals as goal
 
 pub loop-context-init : goal.loop-context-init
 loop-context-init g c = record {
-  leads = subst (λ context. LeadsTo c.args.bytes.now c.args.opened.at c.args.opened.command context (file_read c.args.bytes.now)) (sym c.new-context.ensures.context) c.requires.opened;
+  leads = subst (λ context. LeadsToOutcome c.args.bytes.now c.args.opened.at c.args.opened.command context (file_read c.args.bytes.now)) (sym c.new-context.ensures.context) c.requires.opened;
   logic = c.new-context.ensures.logic;
   sound = sound_from c.args.opened.logic (context_of g.T.Theory.denotes c.new-context.result) c.new-context.ensures.context;
 }

@@ -1,13 +1,13 @@
 use Rattle.std.proofs.Common.{◌≡◌, ◌-◌, length}
 use Rattle.sy_scope_steps.specs.Files.{file_read}
 use Rattle.sy_scope_laws.specs.Sound.{Sound}
-use Rattle.sy_scope.specs.Read.{LeadsTo}
+use Rattle.sy_scope.specs.Read.{LeadsToOutcome}
 use Rattle.sy_scope_context.specs.Seen.{context_of}
 use Rattle.sy_scope.proofs.file.read_commands.Given as goal
 
 abbrev pub invariant-loop-context : goal.invariant-loop-context
 invariant-loop-context g l = record {
-  leads : LeadsTo l.bytes l.at l.command (context_of g.T.Theory.denotes l.context) (file_read l.bytes);
+  leads : LeadsToOutcome l.bytes l.at l.command (context_of g.T.Theory.denotes l.context) (file_read l.bytes);
   logic : l.context.logic ≡ l.fn.opened.logic;
   sound : Sound (context_of g.T.Theory.denotes l.context);
 }

@@ -7,4 +7,4 @@ use Rattle.sy_scope_context.proofs.check.all_wanted.Given as goal
 abbrev pub invariant-loop-one : goal.invariant-loop-one
 invariant-loop-one g l =
     let number = g.T.Theory.denotes in
-    map (questions.goal_of number) l.wanted ≡ map contexts.goal_of (map (sought_of number l.logic) (take l.one-index l.sought))
+    map (questions.goal_of number) l.wanted ≡ map contexts.goal_sought (map (sought_of number l.logic) (take l.one-index l.sought))

@@ -3,4 +3,4 @@ use Rattle.sy_scope_rules.specs.Lists as spec
 use Rattle.sy_scope_rules.proofs.list.sorts_of.Given as goal
 
 abbrev pub invariant-loop-one : goal.invariant-loop-one
-invariant-loop-one l = l.sorts ≡ spec.sorts_of (take l.one-index l.named)
+invariant-loop-one l = l.sorts ≡ spec.sorts_of_names (take l.one-index l.named)

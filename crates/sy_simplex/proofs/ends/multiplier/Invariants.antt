@@ -1,7 +1,7 @@
 use Rattle.std.proofs.Common.{◌≢◌, ℕ, ◌<◌}
-use Rattle.sy_simplex_tableau.specs.States.{column}
-use Rattle.sy_simplex_tableau.specs.Stated.{state_of}
+use Rattle.sy_simplex_tableau.specs.States.{variable_of_column}
+use Rattle.sy_simplex_tableau.specs.Stated.{tableau_state_of}
 use Rattle.sy_simplex.proofs.ends.multiplier.Given as goal
 
 abbrev pub invariant-loop-column : goal.invariant-loop-column
-invariant-loop-column l = (k : ℕ) → k < l.column → column (state_of l.tableau) k ≢ l.variable
+invariant-loop-column l = (k : ℕ) → k < l.column → variable_of_column (tableau_state_of l.tableau) k ≢ l.variable

@@ -1,10 +1,10 @@
 use Rattle.std.proofs.Common.{◌≤◌, ◌-◌, length}
-use Rattle.sy_simplex_tableau.specs.Stated.{state_of}
+use Rattle.sy_simplex_tableau.specs.Stated.{tableau_state_of}
 use Rattle.sy_simplex.specs.Runs.{Ran}
 use Rattle.sy_simplex.proofs.solve.ended.Given as goal
 
 abbrev pub invariant-loop-steps : goal.invariant-loop-steps
-invariant-loop-steps l = record { ran : Ran l.vars l.bounds l.steps (state_of l.tableau); within : length l.steps ≤ l.pivots }
+invariant-loop-steps l = record { ran : Ran l.vars l.bounds l.steps (tableau_state_of l.tableau); within : length l.steps ≤ l.pivots }
 
 abbrev pub decreases-loop-steps : goal.decreases-loop-steps
 decreases-loop-steps l = l.pivots - length l.steps

@@ -2,7 +2,7 @@ use Rattle.std.proofs.Common.{◌≡◌, ◌<◌, length, arith, refl, sym, ap, 
 use Rattle.std.specs.Prelude.{pos}
 use Rattle.std.proofs.lemmas.List.{get_or_read}
 use Rattle.sy_frac.specs.Fraction.{Fraction}
-use Rattle.sy_simplex_tableau.specs.Operations.{whole, IsPlusProduct, PlusProductUnfit}
+use Rattle.sy_simplex_tableau.specs.Operations.{fraction_of_whole, IsPlusProduct, PlusProductUnfit}
 use Rattle.sy_simplex_tableau.specs.Rows.{at, beside}
 use Rattle.sy_simplex_tableau.proofs.Exact.{zero_back}
 use Rattle.sy_simplex_tableau.proofs.Results.{moved₃}
@@ -14,7 +14,7 @@ pub returns-then-num-eq0 : goal.returns-then-num-eq0
 returns-then-num-eq0 c =
     let items = c.args.coefs.now.items in
     let inside : c.args.column < length items = omega (arith, c.requires.in_bounds, c.requires.same_length) in
-    let read : c.index.result.now ≡ at items c.args.column = get_or_read items c.args.column c.index.result.now inside c.index.ensures (whole (pos 0)) in
+    let read : c.index.result.now ≡ at items c.args.column = get_or_read items c.args.column c.index.result.now inside c.index.ensures (fraction_of_whole (pos 0)) in
     let zero : c.index.result.now.num ≡ pos 0 = zero_back c.num.result c.index.result.now.num c.num.ensures.value c.num.ensures.lowest.num_fits c.if-num-eq0.true in
     put_nothing items c.args.solved.now c.args.column c.requires.same_length inside c.requires.lowest c.requires.solved_lowest (ap (λ (f : Fraction). f.num) (sym read) ∙ zero)
 
@@ -23,9 +23,9 @@ returns-in_default c =
     let items = c.args.coefs.now.items in
     let inside : c.loop-at.at < length c.loop-at.coefs.items = omega (arith, c.loop-at.invariant.len, c.loop-at-test.true) in
     let below : c.loop-at.at < length items = omega (arith, c.requires.same_length, c.loop-at-test.true) in
-    let read : c.index.result.now ≡ at items c.args.column = get_or_read items c.args.column c.index.result.now (omega (arith, c.requires.in_bounds, c.requires.same_length)) c.index.ensures (whole (pos 0)) in
-    let own : c.index-in-loop-at.result.now ≡ beside items c.args.column c.loop-at.at = get_or_read c.loop-at.coefs.items c.loop-at.at c.index-in-loop-at.result.now inside c.index-in-loop-at.ensures (whole (pos 0)) ∙ c.loop-at.invariant.above c.loop-at.at (omega arith) c.loop-at-test.true in
-    let other : c.index-solved-at.result ≡ at c.args.solved.now c.loop-at.at = get_or_read c.args.solved.now c.loop-at.at c.index-solved-at.result c.loop-at-test.true c.index-solved-at.is (whole (pos 0)) in
+    let read : c.index.result.now ≡ at items c.args.column = get_or_read items c.args.column c.index.result.now (omega (arith, c.requires.in_bounds, c.requires.same_length)) c.index.ensures (fraction_of_whole (pos 0)) in
+    let own : c.index-in-loop-at.result.now ≡ beside items c.args.column c.loop-at.at = get_or_read c.loop-at.coefs.items c.loop-at.at c.index-in-loop-at.result.now inside c.index-in-loop-at.ensures (fraction_of_whole (pos 0)) ∙ c.loop-at.invariant.above c.loop-at.at (omega arith) c.loop-at-test.true in
+    let other : c.index-solved-at.result ≡ at c.args.solved.now c.loop-at.at = get_or_read c.args.solved.now c.loop-at.at c.index-solved-at.result c.loop-at-test.true c.index-solved-at.is (fraction_of_whole (pos 0)) in
     record {
       column = c.loop-at.at;
       below = below;
@@ -36,7 +36,7 @@ pub loop-at-preserved : goal.loop-at-preserved
 loop-at-preserved c =
     let items = c.args.coefs.now.items in
     let inside : c.loop-at.at < length c.loop-at.coefs.items = omega (arith, c.loop-at.invariant.len, c.loop-at-test.true) in
-    let own : c.index-in-loop-at.result.now ≡ beside items c.args.column c.loop-at.at = get_or_read c.loop-at.coefs.items c.loop-at.at c.index-in-loop-at.result.now inside c.index-in-loop-at.ensures (whole (pos 0)) ∙ c.loop-at.invariant.above c.loop-at.at (omega arith) c.loop-at-test.true in
-    let other : c.index-solved-at.result ≡ at c.args.solved.now c.loop-at.at = get_or_read c.args.solved.now c.loop-at.at c.index-solved-at.result c.loop-at-test.true c.index-solved-at.is (whole (pos 0)) in
-    written_more (whole (pos 0)) (length c.args.solved.now) (λ j f. IsPlusProduct (beside items c.args.column j) c.index.result.now (at c.args.solved.now j) f) (beside items c.args.column) c.loop-at.coefs.items _ c.loop-at.at c.in-Some.coefficient c.loop-at-test.true c.loop-at.invariant refl
+    let own : c.index-in-loop-at.result.now ≡ beside items c.args.column c.loop-at.at = get_or_read c.loop-at.coefs.items c.loop-at.at c.index-in-loop-at.result.now inside c.index-in-loop-at.ensures (fraction_of_whole (pos 0)) ∙ c.loop-at.invariant.above c.loop-at.at (omega arith) c.loop-at-test.true in
+    let other : c.index-solved-at.result ≡ at c.args.solved.now c.loop-at.at = get_or_read c.args.solved.now c.loop-at.at c.index-solved-at.result c.loop-at-test.true c.index-solved-at.is (fraction_of_whole (pos 0)) in
+    written_more (fraction_of_whole (pos 0)) (length c.args.solved.now) (λ j f. IsPlusProduct (beside items c.args.column j) c.index.result.now (at c.args.solved.now j) f) (beside items c.args.column) c.loop-at.coefs.items _ c.loop-at.at c.in-Some.coefficient c.loop-at-test.true c.loop-at.invariant refl
     (moved₃ (λ a b d. IsPlusProduct a b d c.in-Some.coefficient) c.index-in-loop-at.result.now c.index.result.now c.index-solved-at.result _ _ _ own refl other c.in-Some.ensures)

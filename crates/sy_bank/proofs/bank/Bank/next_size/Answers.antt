@@ -7,7 +7,7 @@ use Rattle.sy_grammar_base.specs.Grown.{syntax_from, nonterminal_of}
 use Rattle.sy_bank_rows.specs.Stored.{entry_of}
 use Rattle.sy_bank_level.specs.Filling.{World}
 use Rattle.sy_bank_level.specs.Places.{places_of}
-use Rattle.sy_bank_level.specs.Task.{level_of, levels_of, state_of}
+use Rattle.sy_bank_level.specs.Task.{level_of, levels_of, level_state_of}
 use Rattle.sy_bank_growth_laws.proofs.Next.{steady-begun}
 use Rattle.sy_bank.specs.Bank.{merged_of}
 use Rattle.sy_bank.proofs.Steps.{IsStep, step-next, step-indexed, step-ready, step-full}
@@ -41,7 +41,7 @@ returns-in_ok-bank-in-Ok-clause-next g c =
     let pool = vals_of number c.args.pool.now in
     let bank = merged_of number c.args.self in
     let w : World = record { scope = scope; syntax = syntax; defined = defined; pool = pool; points = map (vals_of number) c.as_slice.result.now; levels = levels_of number c.as_slice-2.result.now; cap = c.args.cap } in
-    let s = state_of number c.fill.new.filling in
+    let s = level_state_of number c.fill.new.filling in
     let after = merged_of number c.in_ok-bank-in-Ok.bank in
     let step : IsStep scope syntax defined pool bank c.args.cap w s after = record {
       below = omega (arith, c.requires.open, length-map c.args.self.levels.items (level_of number));
@@ -60,7 +60,7 @@ returns-in_ok-bank-in-Ok-clause-built g c =
     let pool = vals_of number c.args.pool.now in
     let bank = merged_of number c.args.self in
     let w : World = record { scope = scope; syntax = syntax; defined = defined; pool = pool; points = map (vals_of number) c.as_slice.result.now; levels = levels_of number c.as_slice-2.result.now; cap = c.args.cap } in
-    let s = state_of number c.fill.new.filling in
+    let s = level_state_of number c.fill.new.filling in
     let after = merged_of number c.in_ok-bank-in-Ok.bank in
     let step : IsStep scope syntax defined pool bank c.args.cap w s after = record {
       below = omega (arith, c.requires.open, length-map c.args.self.levels.items (level_of number));
@@ -83,7 +83,7 @@ returns-in_ok-bank-in-Err-Enough-clause-next g c =
     let pool = vals_of number c.args.pool.now in
     let bank = merged_of number c.args.self in
     let w : World = record { scope = scope; syntax = syntax; defined = defined; pool = pool; points = map (vals_of number) c.as_slice.result.now; levels = levels_of number c.as_slice-2.result.now; cap = c.args.cap } in
-    let s = state_of number c.fill.new.filling in
+    let s = level_state_of number c.fill.new.filling in
     let after = merged_of number c.in_ok-bank-in-Err-Enough.bank in
     let step : IsStep scope syntax defined pool bank c.args.cap w s after = record {
       below = omega (arith, c.requires.open, length-map c.args.self.levels.items (level_of number));
@@ -103,7 +103,7 @@ returns-in_ok-bank-in-Err-Enough-clause-built g c =
     let pool = vals_of number c.args.pool.now in
     let bank = merged_of number c.args.self in
     let w : World = record { scope = scope; syntax = syntax; defined = defined; pool = pool; points = map (vals_of number) c.as_slice.result.now; levels = levels_of number c.as_slice-2.result.now; cap = c.args.cap } in
-    let s = state_of number c.fill.new.filling in
+    let s = level_state_of number c.fill.new.filling in
     let after = merged_of number c.in_ok-bank-in-Err-Enough.bank in
     let step : IsStep scope syntax defined pool bank c.args.cap w s after = record {
       below = omega (arith, c.requires.open, length-map c.args.self.levels.items (level_of number));
@@ -126,7 +126,7 @@ returns-in_ok-bank-in-Err-Full-clause-next g c =
     let pool = vals_of number c.args.pool.now in
     let bank = merged_of number c.args.self in
     let w : World = record { scope = scope; syntax = syntax; defined = defined; pool = pool; points = map (vals_of number) c.as_slice.result.now; levels = levels_of number c.as_slice-2.result.now; cap = c.args.cap } in
-    let s = state_of number c.fill.new.filling in
+    let s = level_state_of number c.fill.new.filling in
     let after = merged_of number c.in_ok-bank-in-Err-Full.bank in
     let step : IsStep scope syntax defined pool bank c.args.cap w s after = record {
       below = omega (arith, c.requires.open, length-map c.args.self.levels.items (level_of number));
@@ -146,7 +146,7 @@ returns-in_ok-bank-in-Err-Full-clause-full g c =
     let pool = vals_of number c.args.pool.now in
     let bank = merged_of number c.args.self in
     let w : World = record { scope = scope; syntax = syntax; defined = defined; pool = pool; points = map (vals_of number) c.as_slice.result.now; levels = levels_of number c.as_slice-2.result.now; cap = c.args.cap } in
-    let s = state_of number c.fill.new.filling in
+    let s = level_state_of number c.fill.new.filling in
     let after = merged_of number c.in_ok-bank-in-Err-Full.bank in
     let step : IsStep scope syntax defined pool bank c.args.cap w s after = record {
       below = omega (arith, c.requires.open, length-map c.args.self.levels.items (level_of number));

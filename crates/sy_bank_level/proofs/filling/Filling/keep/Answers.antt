@@ -2,9 +2,9 @@ use Rattle.std.proofs.Common.{◌≡◌, ◌<◌, length, arith, ap, ◌∙◌, 
 use Rattle.std.proofs.lemmas.List.{length-map}
 use Rattle.sy_grammar_base.specs.Grown.{nonterminal_of}
 use Rattle.sy_bank_rows.specs.Stored.{entry_of}
-use Rattle.sy_bank_level.specs.Filling.{IsRight}
+use Rattle.sy_bank_level.specs.Filling.{EntryIsRight}
 use Rattle.sy_bank_level.specs.Places.{places_of}
-use Rattle.sy_bank_level.specs.Task.{world, state_of, level_of}
+use Rattle.sy_bank_level.specs.Task.{world, level_state_of, level_of}
 use Rattle.sy_bank_level.proofs.Keeping.{keeps, keeps-grows, keeps-done, added-as}
 use Rattle.sy_bank_level.proofs.filling.Filling.keep.Goals as goal
 
@@ -12,10 +12,10 @@ pub returns-clause-steady : goal.returns-clause-steady
 returns-clause-steady g c =
     let number = g.T.Theory.denotes in
     let w = world g.T.Theory.owned number c.args.task.now in
-    let s = state_of number c.args.self.now in
+    let s = level_state_of number c.args.self.now in
     let sized : c.args.task.now.size ≡ length w.levels = c.requires.sized ∙ sym (length-map c.args.task.now.levels.now (level_of number)) in
     let within : c.args.nonterminal < length s.fresh = omega (arith, c.requires.known, c.requires.steady.wide, length-map c.args.task.now.grammar.now.nons (nonterminal_of number)) in
-    let right = subst (λ size. IsRight w c.args.nonterminal size (entry_of number c.args.kept)) sized c.requires.right in
+    let right = subst (λ size. EntryIsRight w c.args.nonterminal size (entry_of number c.args.kept)) sized c.requires.right in
     let index = c.len.ensures ∙ sym (length-map c.of.result.now (entry_of number)) ∙ ap length c.of.ensures in
     let added = added-as w s c.args.nonterminal (entry_of number c.args.kept) c.args.hash _ _ (places_of c.add.new.self) sized index c.requires.hash c.in_ok-add.ensures.ok in
     rw c.in_ok-push.ensures.ok (keeps w s c.args.nonterminal (entry_of number c.args.kept) (places_of c.add.new.self) c.requires.steady right c.requires.differs within added c.if-self-task.false)
@@ -23,14 +23,14 @@ returns-clause-steady g c =
 pub returns-clause-grows : goal.returns-clause-grows
 returns-clause-grows g c =
     let number = g.T.Theory.denotes in
-    rw c.in_ok-push.ensures.ok (keeps-grows (world g.T.Theory.owned number c.args.task.now) (state_of number c.args.self.now) c.args.nonterminal (entry_of number c.args.kept) (places_of c.add.new.self))
+    rw c.in_ok-push.ensures.ok (keeps-grows (world g.T.Theory.owned number c.args.task.now) (level_state_of number c.args.self.now) c.args.nonterminal (entry_of number c.args.kept) (places_of c.add.new.self))
 
 pub returns-clause-done : goal.returns-clause-done
 returns-clause-done g c =
     let number = g.T.Theory.denotes in
     let w = world g.T.Theory.owned number c.args.task.now in
-    let s = state_of number c.args.self.now in
+    let s = level_state_of number c.args.self.now in
     let sized : c.args.task.now.size ≡ length w.levels = c.requires.sized ∙ sym (length-map c.args.task.now.levels.now (level_of number)) in
     let within : c.args.nonterminal < length s.fresh = omega (arith, c.requires.known, c.requires.steady.wide, length-map c.args.task.now.grammar.now.nons (nonterminal_of number)) in
-    let right = subst (λ size. IsRight w c.args.nonterminal size (entry_of number c.args.kept)) sized c.requires.right in
+    let right = subst (λ size. EntryIsRight w c.args.nonterminal size (entry_of number c.args.kept)) sized c.requires.right in
     rw (c.in_ok-push.ensures.ok, sized) (keeps-done w s c.args.nonterminal (entry_of number c.args.kept) (places_of c.add.new.self) right within)

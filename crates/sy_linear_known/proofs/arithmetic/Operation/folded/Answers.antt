@@ -1,12 +1,12 @@
 use Rattle.std.proofs.Common.{ap, ◌∙◌}
 use Rattle.sy_linear_known.specs.Fitting.{sight_fits}
-use Rattle.sy_linear_known.specs.Operations.{operation}
+use Rattle.sy_linear_known.specs.Operations.{operation_result}
 use Rattle.sy_linear_known.proofs.Fitting.{fits-combined}
 use Rattle.sy_linear_known.proofs.Steps.{from_left_next, fits-operation}
 use Rattle.sy_linear_known.proofs.arithmetic.Operation.folded.Goals as goal
 
 pub loop-sight-preserved : goal.loop-sight-preserved
 loop-sight-preserved c = record {
-  kept = from_left_next (operation c.args.self) c.loop-sight.node c.in_ok-node.node _ c.in-Some.rest.now c.loop-sight.sight-index c.sight-item.result c.loop-sight-test.true c.sight-item.is c.in_ok-node.ensures c.loop-sight.invariant.kept;
-  fits = ap (λ n. sight_fits n.sight) c.in_ok-node.ensures ∙ fits-combined (operation c.args.self) (fits-operation c.args.self) c.loop-sight.node c.sight-item.result;
+  kept = from_left_next (operation_result c.args.self) c.loop-sight.node c.in_ok-node.node _ c.in-Some.rest.now c.loop-sight.sight-index c.sight-item.result c.loop-sight-test.true c.sight-item.is c.in_ok-node.ensures c.loop-sight.invariant.kept;
+  fits = ap (λ n. sight_fits n.sight) c.in_ok-node.ensures ∙ fits-combined (operation_result c.args.self) (fits-operation c.args.self) c.loop-sight.node c.sight-item.result;
 }

@@ -1,14 +1,14 @@
 use Rattle.std.proofs.Common.{◌≡◌, ◌<◌, ◌+◌, length, sym, subst, arith}
 use Rattle.std.proofs.lemmas.List.{get_or_read}
 use Rattle.sy_simplex_tableau.specs.States.{basic, FirstUnclear}
-use Rattle.sy_simplex_tableau.specs.Stated.{state_of}
+use Rattle.sy_simplex_tableau.specs.Stated.{tableau_state_of}
 use Rattle.sy_simplex_tableau.proofs.Clear.{FirstSoFar, not_clear, first_kept, first_found, first_replaced, first_stays}
 use Rattle.sy_simplex_tableau.proofs.tableau.Tableau.first_unclear.Goals as goal
 use Rattle.sy_simplex_tableau.proofs.tableau.Tableau.first_unclear.Goals.{then-not-is_clear+in-Some+then-index, then-not-is_clear+in-Some+else-index, then-not-is_clear+in-None, else-not-is_clear}
 
 pub loop-at-preserved : goal.loop-at-preserved
 loop-at-preserved c =
-    let t = state_of c.args.self.now in
+    let t = tableau_state_of c.args.self.now in
     let n = c.loop-at.at in
     let before : FirstSoFar t n c.loop-at.best = c.loop-at.invariant in
     elim c.if-not-is_clear.branch [
