@@ -1,7 +1,7 @@
 #!/usr/bin/env python3
 """Runs `sygus`, and cvc5 where it is installed, on problems, and prints a table of their processor times.
 
-    bench/answers.py [--sygus PROGRAM] [--limit SECONDS] [FILE ..]
+    bench/answers.py [--sygus PROGRAM] [--limit SECONDS] [--cvc5 TIMES] [FILE ..]
 
 Without files it takes those of examples/, with its folders advice and gallery, and of bench/problems/. Without --sygus it
 builds the program by ./sygus. Each run has a limit of processor seconds and 6 GB. A comment line `; words: WORDS` of a file
@@ -9,11 +9,13 @@ holds words for `sygus`, as `--size 15`. Each answer of `sygus` is checked: it i
 in order, with their arguments and sorts; and where z3 is installed, z3 finds no values at which they violate the problem. A
 line `; answer: fail CAUSE` says that no definitions are wanted, and why; so does `; answer: infeasible`. A line `; leaves: N` has the least number of leaves
 that is known of the conditional trees of an answer, beside which that of `sygus` is shown. At the end stand the counts and
-times of each class of problems, and the problems that cvc5 alone answers, with what `sygus` says. The status is 1 where an
+times of each class of problems, and the problems that cvc5 alone answers, with what `sygus` says. With --cvc5 the times of
+cvc5 stand in that file of JSON: those that are there aren't taken again, and the others are added. The status is 1 where an
 answer is wrong.
 """
 import argparse
 import glob
+import json
 import os
 import re
 import resource
@@ -224,6 +226,36 @@ def class_of(file):
     return next(name for start, name in CLASSES if path.startswith(start))
 
 
+class Beside:
+    """cvc5, and the times that it took before, where these are kept."""
+
+    def __init__(self, limit, times):
+        self.program, self.limit, self.times = shutil.which("cvc5"), limit, times
+        self.known = {}
+        if times and os.path.exists(times):
+            with open(times) as opened:
+                self.known = json.load(opened)
+
+    def seconds(self, file):
+        """The seconds in which cvc5 answers the file; None where it doesn't within the limit."""
+        name = f"{os.path.basename(file)} {self.limit}"
+        if name not in self.known:
+            self.known[name] = self.taken(file)
+            self.keep()
+        return self.known[name]
+
+    def taken(self, file):
+        if not self.program:
+            return None
+        seconds, reply, _ = run([self.program, "--lang=sygus2", file], self.limit)
+        return seconds if "define-fun" in reply else None
+
+    def keep(self):
+        if self.times:
+            with open(self.times, "w") as opened:
+                json.dump(self.known, opened, indent=0, sort_keys=True)
+
+
 def asked(file, program, beside, limit):
     """What came of a problem: the row of the table, and what `sums` adds up."""
     with open(file) as opened:
@@ -231,10 +263,7 @@ def asked(file, program, beside, limit):
     seconds, output, errors = run([program, *line_of(text, "words").split(), file], limit)
     answer, is_right = answer_of(text, seconds, output, errors)
     found = answer == "definitions"
-    other = None
-    if beside:
-        other, reply, _ = run([beside, "--lang=sygus2", file], limit)
-        other = other if "define-fun" in reply else None
+    other = beside.seconds(file)
     ratio = seconds / max(other, 0.005) if found and other is not None else None
     least = int(line_of(text, "leaves") or 0)
     leaves = (leaves_in(output), least) if found and least else None
@@ -275,6 +304,7 @@ def main():
     options = argparse.ArgumentParser()
     options.add_argument("--sygus")
     options.add_argument("--limit", type=int, default=20)
+    options.add_argument("--cvc5")
     options.add_argument("files", nargs="*")
     options = options.parse_args()
     program = options.sygus or f"{TOP}/crates/sygus/out/sygus"
@@ -284,7 +314,7 @@ def main():
     files = options.files or [file for folder in folders for file in sorted(glob.glob(f"{TOP}/{folder}/*.sl"))]
     print(f"| {'File':24} | {'Answer':26} | {'sygus s':>8} | {'cvc5 s':>8} | {'ratio':>7} | {'leaves':>7} |")
     print(f"|{'-' * 26}|{'-' * 28}|{'-' * 9}:|{'-' * 9}:|{'-' * 8}:|{'-' * 8}:|")
-    beside = shutil.which("cvc5")
+    beside = Beside(options.limit, options.cvc5)
     rows = [asked(file, program, beside, options.limit) for file in files]
     sums(rows)
     sys.exit(0 if all(row["right"] for row in rows) else 1)
