@@ -1,6 +1,7 @@
 // Assignments that are tried before a query is searched.
 #![tactic(auto)]
 
+mod choices;
 mod constants;
 mod numbers;
 mod places;

@@ -6,6 +6,7 @@ ghost use Rattle.sy_terms.specs.Theories.{sort_of_value, valid};
 ghost use Rattle.sy_grammar_base.specs.Solving.{AreValues};
 ghost use Rattle.sy_query_base.specs.Asked.{query_of, QueryFits, Satisfies};
 
+use crate::choices::has_large_choice;
 use crate::constants::constants_of;
 use crate::numbers::{count, number_in, numbers_at, with_number};
 use crate::places::{Shuffle, stepped};
@@ -24,8 +25,9 @@ const SHUFFLES: usize = 64;
 const MANY: usize = 3;
 
 /// An assignment that satisfies the query, if one is found at once: its variables get 0, 1, the ends of their range and
-/// the like, and the query's constants and their neighbours. Where no variable is a vector, each then gets 0 or false, or the
-/// number of the variable before, if the query stays satisfied. Where none is found the query may be satisfied all the same.
+/// the like, and the query's constants and their neighbours. Where no variable is a vector and the query has no large
+/// conditional tree, each then gets 0 or false, or the number of the variable before, if the query stays satisfied. Where
+/// none is found the query may be satisfied all the same.
 pub fn corner_model<T: Theory>(alloc: Global, query: &Query<T>) -> Result<Option<Values<T>>, Want>
     requires { QueryFits T.owned T.numeric (query_of T.denotes query.now) }
     ensures { IfOk result (λ found. IfSome found (λ values. Satisfies (query_of T.denotes query.now) (vals_of T.denotes values))) }
@@ -70,7 +72,7 @@ fn step_of(round: usize) -> usize {
     }
 }
 
-/// The assignment of these places, if it satisfies the query; made simple where no variable is a vector.
+/// The assignment of these places, if it satisfies the query; made simple where that helps.
 fn model_at<T: Theory>(
     alloc: Global,
     query: &Query<T>,
@@ -84,7 +86,7 @@ fn model_at<T: Theory>(
     let Some(values) = satisfying(alloc, query, numbers.as_slice())? else {
         return Ok(None);
     };
-    if has_vector(query.vars.as_slice()) {
+    if has_vector(query.vars.as_slice()) || has_large_choice(&query.body) {
         return Ok(Some(values));
     }
     let simple = simplified(alloc, query, Model { numbers, values })?;
