@@ -1,4 +1,4 @@
--- The clauses of a query that the same values satisfy.
+-- Queries that the same values satisfy, and their clauses.
 use Rattle.std.specs.Prelude.{◌*◌, ◌≤◌, ◌≡◌, ◌↔◌, true, List, length}
 use Rattle.std.proofs.Common.{subst}
 use Rattle.sy_terms.specs.Values.{Val}
@@ -9,6 +9,10 @@ use Rattle.sy_query_base.specs.Asked.{Query, Satisfies}
 use Rattle.sy_bits_operators.specs.Signals.{total_width}
 use Rattle.sy_bits_laws.specs.Assignments.{assignment}
 use Rattle.sy_bits_laws.specs.Clauses.{HasCircuitClauses, query_size}
+
+-- two such queries, one after the other
+pub alike_after : (query first other : Query) → ((values : List Val) → Satisfies first values ↔ Satisfies query values) → ((values : List Val) → Satisfies other values ↔ Satisfies first values) → (values : List Val) → Satisfies other values ↔ Satisfies query values
+alike_after query first other earlier later values = (λ holds. (earlier values).0 ((later values).0 holds), λ satisfied. (later values).1 ((earlier values).1 satisfied))
 
 -- they say what the query says, where they are as few as its own may be
 pub same_clauses : (query other : Query) (cnf : Cnf) → other.variables ≡ query.variables → ((values : List Val) → Satisfies other values ↔ Satisfies query values) →

@@ -1,6 +1,7 @@
 // The circuit whose clauses are searched: the query's own, or that of a query which is easier to search.
-ghost use Rattle.std.specs.Prelude.{◌≡◌, ◌≤◌, ◌<◌, ◌*◌, ◌^◌, ◌↔◌, length, IfOk, IfSome, IsTrue};
-ghost use Rattle.sy_query_base.specs.Asked.{query_of, QueryFits};
+ghost use Rattle.std.specs.Prelude.{◌≡◌, ◌≤◌, ◌<◌, ◌*◌, ◌^◌, ◌↔◌, List, length, IfOk, IfSome, IsTrue};
+ghost use Rattle.sy_terms.specs.Values.{Val};
+ghost use Rattle.sy_query_base.specs.Asked.{query_of, QueryFits, Satisfies};
 ghost use Rattle.sy_meaning_words.specs.Vectors.{vector, owned, is_bits};
 ghost use Rattle.sy_cdcl.specs.Answer.{VarsFit};
 ghost use Rattle.sy_bits_laws.specs.Clauses.{HasCircuitClauses, query_size};
@@ -12,7 +13,9 @@ use sy_bits_circuit::{Circuit, blast};
 use sy_clauses::Cnf;
 use sy_meaning_words::BvTheory;
 use sy_query_base::Query;
+use sy_query_normal::normal_query;
 use sy_query_orders::ordered;
+use sy_query_sums::settled_query;
 use sy_terms::Want;
 
 /// The most nodes of a query that is written anew.
@@ -24,7 +27,7 @@ const MOST_TIMES: u32 = 8;
 /// The most variables and clauses for each unit of a query's size.
 const MOST_EACH: u64 = 1000;
 
-/// A circuit whose clauses say what the query of this size says: that of the query which `ordered` makes of it, where it
+/// A circuit whose clauses say what the query of this size says: that of the query which `rewritten` makes of it, where it
 /// has no more variables and clauses than the query's own circuit may have, and else the query's own.
 pub(crate) fn circuit_of(alloc: Global, query: &Query<BvTheory>, size: u32) -> Result<Circuit, Want>
     requires fits { QueryFits owned is_bits (query_of vector query.now) }
@@ -35,7 +38,7 @@ pub(crate) fn circuit_of(alloc: Global, query: &Query<BvTheory>, size: u32) -> R
     ensures vars { IfOk result (λ circuit. VarsFit circuit.clauses) }
 {
     if query.body.size(MOST_NODES + 1) <= MOST_NODES {
-        if let Some(circuit) = ordered_circuit(alloc, query, size)? {
+        if let Some(circuit) = rewritten_circuit(alloc, query, size)? {
             return Ok(circuit);
         }
     }
@@ -43,8 +46,8 @@ pub(crate) fn circuit_of(alloc: Global, query: &Query<BvTheory>, size: u32) -> R
     Ok(circuit)
 }
 
-/// The circuit of the query that `ordered` makes of one of this size, where it is small enough.
-fn ordered_circuit(
+/// The circuit of the query that `rewritten` makes of one of this size, where it is small enough.
+fn rewritten_circuit(
     alloc: Global,
     query: &Query<BvTheory>,
     size: u32,
@@ -54,7 +57,7 @@ fn ordered_circuit(
     ensures clauses { IfOk result (λ found. IfSome found (λ circuit. HasCircuitClauses (query_of vector query.now) circuit.clauses)) }
     ensures vars { IfOk result (λ found. IfSome found (λ circuit. VarsFit circuit.clauses)) }
 {
-    let other = ordered(alloc, query)?;
+    let other = rewritten(alloc, query)?;
     if !fits(alloc, &other)? {
         return Ok(None);
     }
@@ -69,6 +72,18 @@ fn ordered_circuit(
         return Ok(None);
     }
     Ok(Some(circuit))
+}
+
+/// A query that the same values satisfy and that is easier to search: what `ordered` makes of it, with equal terms written
+/// alike and the comparisons in it settled that sums decide.
+fn rewritten(alloc: Global, query: &Query<BvTheory>) -> Result<Query<BvTheory>, Want>
+    ensures variables { IfOk result (λ other. other.vars ≡ query.now.vars) }
+    ensures same { IfOk result (λ other. (values : List Val) → Satisfies (query_of vector other) values ↔ Satisfies (query_of vector query.now) values) }
+{
+    let first = ordered(alloc, query)?;
+    let second = normal_query(alloc, &first)?;
+    let other = settled_query(alloc, &second)?;
+    Ok(other)
 }
 
 /// Whether there are at most so many variables and clauses as a query of this size may have.

@@ -1,5 +1,5 @@
 -- Vectors that are polynomials over the numbers of variables.
-use Rattle.std.specs.Prelude.{ℕ, ◌^◌, ◌<◌, ◌≡◌, Bool, nat_eq, List, [], ◌∷◌}
+use Rattle.std.specs.Prelude.{ℕ, ◌^◌, ◌<◌, ◌≡◌, Bool, nat_eq, List, [], ◌∷◌, ◌++◌}
 use Rattle.sy_terms.specs.Values.{Val, Bits, number}
 use Rattle.sy_terms.specs.Expr.{Expr, Exprs}
 use Rattle.sy_terms.specs.Meaning.{meaning, meanings, value_at_position}
@@ -32,10 +32,17 @@ pub record IsComparedAs (equal : Bool) (x y : Val) : Type 0 where
   pub right : y ≡ Bits width (number y)
   pub same : nat_eq (number x) (number y) ≡ equal
 
--- the terms mean the same wherever variables have values of these sorts
+-- the first of the values are of these sorts
+pub record BeginWithSorts (sorts : List Sort) (values : List Val) : Type 0 where
+  pub first : List Val
+  pub rest : List Val
+  pub are : AreValues sorts first
+  pub is : values ≡ first ++ rest
+
+-- the terms mean the same wherever the first values are of these sorts
 abbrev pub IsSameOver : List Sort → Expr → Expr → Type 0
-IsSameOver sorts found term = (values : List Val) → AreValues sorts values → meaning [] [] values found ≡ meaning [] [] values term
+IsSameOver sorts found term = (values : List Val) → BeginWithSorts sorts values → meaning [] [] values found ≡ meaning [] [] values term
 
 -- the same of lists of terms
 abbrev pub AreSameOver : List Sort → Exprs → Exprs → Type 0
-AreSameOver sorts found terms = (values : List Val) → AreValues sorts values → meanings [] [] values found ≡ meanings [] [] values terms
+AreSameOver sorts found terms = (values : List Val) → BeginWithSorts sorts values → meanings [] [] values found ≡ meanings [] [] values terms

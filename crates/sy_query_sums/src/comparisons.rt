@@ -5,8 +5,7 @@ ghost use Rattle.sy_terms.specs.Denoted.{expr_of};
 ghost use Rattle.sy_terms.specs.Meaning.{meaning};
 ghost use Rattle.sy_terms.specs.Operators.{op_value};
 ghost use Rattle.sy_meaning_words.specs.Vectors.{vector};
-ghost use Rattle.sy_grammar_base.specs.Solving.{AreValues};
-ghost use Rattle.sy_query_sums.specs.Sums.{HasSum, IsComparedAs};
+ghost use Rattle.sy_query_sums.specs.Sums.{HasSum, IsComparedAs, BeginWithSorts};
 
 use crate::sums::sum_of;
 use std::alloc::Global;
@@ -67,7 +66,7 @@ fn order_by(operator: Op, equal: bool) -> Option<bool>
     }
 }
 
-/// What the operator says of two terms over variables of these sorts, where they are sums whose difference decides it.
+/// What the operator says of two terms where the first values are of these sorts, if they are sums whose difference decides it.
 pub(crate) fn truth_at(
     alloc: Global,
     sorts: &[Sort],
@@ -75,7 +74,7 @@ pub(crate) fn truth_at(
     left: &Term<BvTheory>,
     right: &Term<BvTheory>,
 ) -> Result<Option<bool>, Want>
-    ensures { IfOk result (λ found. IfSome found (λ truth. (values : List Val) → AreValues sorts.now values → op_value operator (meaning [] [] values (expr_of vector left.now) ∷ meaning [] [] values (expr_of vector right.now) ∷ []) ≡ Truth truth)) }
+    ensures { IfOk result (λ found. IfSome found (λ truth. (values : List Val) → BeginWithSorts sorts.now values → op_value operator (meaning [] [] values (expr_of vector left.now) ∷ meaning [] [] values (expr_of vector right.now) ∷ []) ≡ Truth truth)) }
 {
     let Some(first) = sum_of(alloc, sorts, left)? else {
         return Ok(None);

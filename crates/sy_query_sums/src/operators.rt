@@ -1,8 +1,9 @@
 // What operators do to sums.
-ghost use Rattle.std.specs.Prelude.{◌≡◌, ◌≤◌, ◌<◌, ◌^◌, [], ◌∷◌, List, IfOk, IfSome};
+ghost use Rattle.std.specs.Prelude.{◌≡◌, ◌≤◌, ◌<◌, ◌^◌, [], ◌∷◌, List, true, IfOk, IfSome, IsTrue};
 ghost use Rattle.sy_terms.specs.Values.{Val};
 ghost use Rattle.sy_terms.specs.Operators.{op_value};
 ghost use Rattle.sy_terms.specs.declared.op.Op.TheVariants as ops;
+ghost use Rattle.sy_meaning_words.specs.Vectors as vectors;
 ghost use Rattle.sy_query_sums.specs.Sums.{HasSum, HaveSums};
 
 use std::alloc::Global;
@@ -18,6 +19,14 @@ const MOST_MONOMIALS: usize = 64;
 /// The most factors of a monomial of a product.
 const MOST_FACTORS: usize = 16;
 
+/// Whether the operator's value at vectors that have sums may have one.
+pub(crate) fn makes_sums(operator: Op) -> bool {
+    matches!(
+        operator,
+        Op::BvNeg | Op::BvNot | Op::BvAdd | Op::BvSub | Op::BvMul | Op::BvShl
+    )
+}
+
 /// The sum of the operator's value at vectors that have these sums; `None` where it isn't known.
 pub(crate) fn applied(alloc: Global, operator: Op, sums: &[Sum]) -> Result<Option<Sum>, Want>
     ensures { IfOk result (λ found. IfSome found (λ sum. (values arguments : List Val) → HaveSums values sums.now arguments → HasSum values sum (op_value operator arguments))) }
@@ -29,6 +38,10 @@ pub(crate) fn applied(alloc: Global, operator: Op, sums: &[Sum]) -> Result<Optio
         }
         [left, right] => {
             let found = of_two(alloc, operator, left, right)?;
+            Ok(found)
+        }
+        [first, second, rest @ ..] => {
+            let found = of_many(alloc, operator, first, second, rest)?;
             Ok(found)
         }
         _ => Ok(None),
@@ -86,6 +99,39 @@ fn of_two(alloc: Global, operator: Op, left: &Sum, right: &Sum) -> Result<Option
         }
         _ => Ok(None),
     }
+}
+
+/// The sum of the operator's value at two vectors and the rest, where it takes them from the left.
+fn of_many(
+    alloc: Global,
+    operator: Op,
+    first: &Sum,
+    second: &Sum,
+    rest: &[Sum],
+) -> Result<Option<Sum>, Want>
+    ensures { IfOk result (λ found. IfSome found (λ r. (values arguments : List Val) → HaveSums values (first.now ∷ second.now ∷ rest.now) arguments → HasSum values r (op_value operator arguments))) }
+{
+    if !is_folded(operator) {
+        return Ok(None);
+    }
+    let Some(start) = of_two(alloc, operator, first, second)? else {
+        return Ok(None);
+    };
+    let mut whole = start;
+    for sum in rest {
+        let Some(next) = of_two(alloc, operator, &whole, sum)? else {
+            return Ok(None);
+        };
+        whole = next;
+    }
+    Ok(Some(whole))
+}
+
+/// Whether the operator is the sum or the product of any number of vectors.
+fn is_folded(operator: Op) -> bool
+    ensures { IsTrue result → vectors.is_folded operator ≡ true }
+{
+    matches!(operator, Op::BvAdd | Op::BvMul)
 }
 
 /// The sum of the product of two vectors, where it has few monomials of few factors.

@@ -6,16 +6,15 @@ ghost use Rattle.sy_terms.specs.Expr.{Apply};
 ghost use Rattle.sy_terms.specs.Meaning.{meanings};
 ghost use Rattle.sy_terms.specs.Operators.{op_value};
 ghost use Rattle.sy_meaning_words.specs.Vectors.{vector};
-ghost use Rattle.sy_grammar_base.specs.Solving.{AreValues};
-ghost use Rattle.sy_query_sums.specs.Sums.{IsSameOver, AreSameOver};
+ghost use Rattle.sy_query_sums.specs.Sums.{IsSameOver, AreSameOver, BeginWithSorts};
 
 use crate::comparisons::truth_at;
 use std::alloc::Global;
 use sy_meaning_words::BvTheory;
 use sy_terms::{Op, Sort, Term, Terms, Value, Want};
 
-/// A term that means the same over variables of these sorts, in which comparisons that are decided by normal forms are
-/// truth values. What a `let` binds, and what is under it, stays as it is.
+/// A term that means the same where the first values are of these sorts, in which comparisons that are decided by normal
+/// forms over these values are truth values.
 #[cycle(settled)]
 pub(crate) fn settled(
     alloc: Global,
@@ -29,6 +28,11 @@ pub(crate) fn settled(
             let arguments = all_settled(alloc, sorts, arguments.as_slice())?;
             let found = settled_application(alloc, sorts, *operator, arguments)?;
             Ok(found)
+        }
+        Term::Let(bound, inner) => {
+            let bound = all_settled(alloc, sorts, bound.as_slice())?;
+            let inner = settled(alloc, sorts, inner)?;
+            Ok(Term::Let(bound, Box::new(alloc, inner)?))
         }
         _ => {
             let found = term.copy(alloc)?;
@@ -76,7 +80,7 @@ fn truth_of(
     operator: Op,
     arguments: &Terms<BvTheory>,
 ) -> Result<Option<bool>, Want>
-    ensures { IfOk result (λ found. IfSome found (λ truth. (values : List Val) → AreValues sorts.now values → op_value operator (meanings [] [] values (exprs_of vector arguments.now.items.items)) ≡ Truth truth)) }
+    ensures { IfOk result (λ found. IfSome found (λ truth. (values : List Val) → BeginWithSorts sorts.now values → op_value operator (meanings [] [] values (exprs_of vector arguments.now.items.items)) ≡ Truth truth)) }
 {
     if !compares(operator) || arguments.len() != 2 {
         return Ok(None);

@@ -5,23 +5,22 @@ ghost use Rattle.sy_terms.specs.declared.sort.Sort.TheVariants as bits;
 ghost use Rattle.sy_terms.specs.Denoted.{val_of, expr_of, exprs_of};
 ghost use Rattle.sy_terms.specs.Meaning.{meaning, meanings, value_at_position};
 ghost use Rattle.sy_meaning_words.specs.Vectors.{vector};
-ghost use Rattle.sy_grammar_base.specs.Solving.{AreValues};
-ghost use Rattle.sy_query_sums.specs.Sums.{HasSum, HaveSums};
+ghost use Rattle.sy_query_sums.specs.Sums.{HasSum, HaveSums, BeginWithSorts};
 
-use crate::operators::applied;
+use crate::operators::{applied, makes_sums};
 use std::alloc::Global;
 use sy_bits_sums::Sum;
 use sy_meaning_words::{BvTheory, Word};
 use sy_terms::{Sort, Term, Value, Want};
 
-/// The sum that a term over variables of these sorts is; `None` where that isn't known.
+/// The sum that a term is where the first values are of these sorts; `None` where that isn't known.
 #[cycle(sums)]
 pub(crate) fn sum_of(
     alloc: Global,
     sorts: &[Sort],
     term: &Term<BvTheory>,
 ) -> Result<Option<Sum>, Want>
-    ensures { IfOk result (λ found. IfSome found (λ sum. (values : List Val) → AreValues sorts.now values → HasSum values sum (meaning [] [] values (expr_of vector term.now)))) }
+    ensures { IfOk result (λ found. IfSome found (λ sum. (values : List Val) → BeginWithSorts sorts.now values → HasSum values sum (meaning [] [] values (expr_of vector term.now)))) }
 {
     match term {
         Term::Const(value) => {
@@ -33,6 +32,9 @@ pub(crate) fn sum_of(
             Ok(found)
         }
         Term::App(operator, arguments) => {
+            if !makes_sums(*operator) {
+                return Ok(None);
+            }
             let Some(sums) = sums_of(alloc, sorts, arguments.as_slice())? else {
                 return Ok(None);
             };
@@ -51,7 +53,7 @@ fn sums_of(
     sorts: &[Sort],
     terms: &[Term<BvTheory>],
 ) -> Result<Option<Vec<Sum>>, Want>
-    ensures { IfOk result (λ found. IfSome found (λ sums. (values : List Val) → AreValues sorts.now values → HaveSums values sums.items (meanings [] [] values (exprs_of vector terms.now)))) }
+    ensures { IfOk result (λ found. IfSome found (λ sums. (values : List Val) → BeginWithSorts sorts.now values → HaveSums values sums.items (meanings [] [] values (exprs_of vector terms.now)))) }
 {
     let mut sums = Vec::with_capacity(alloc, terms.len())?;
     for term in terms {
@@ -86,7 +88,7 @@ fn word_sum(alloc: Global, word: Word) -> Result<Sum, Want>
 
 /// The sum of a variable, where it is a vector.
 fn variable_sum(alloc: Global, sorts: &[Sort], position: u32) -> Result<Option<Sum>, Want>
-    ensures { IfOk result (λ found. IfSome found (λ sum. (values : List Val) → AreValues sorts.now values → HasSum values sum (value_at_position values position))) }
+    ensures { IfOk result (λ found. IfSome found (λ sum. (values : List Val) → BeginWithSorts sorts.now values → HasSum values sum (value_at_position values position))) }
 {
     let Some(width) = width_at(sorts, position) else {
         return Ok(None);

@@ -91,6 +91,9 @@ fn is_right(alloc: Global, row: &str) -> Result<bool, Want> {
     if told == "weighs" {
         return has_weight(alloc, &query, number);
     }
+    if told == "settled" {
+        return Ok(answer(alloc, &query, 1, number)?.as_str() == "never");
+    }
     Ok(answer(alloc, &query, number, u32::MAX)?.as_str() == told)
 }
 
@@ -165,12 +168,30 @@ const EQUAL_GATES: &str = "\
 4 AAx0# 1 never
 4 AA~w0# 1 never
 44 ABwBAw# 1 never
+44 AB%1+A*AAB%*A+# 1 never
+44 AB%A+AB%A+*AB%AB%*2AAB%**+AA*+# 1 never
 44 AB<BA>^ 1 never
 44 ABuBA<!^ 1 never
 b44 ABB?B# 1 never
 4 A8%A7w# 1 never
 4 A4/A2g# 1 never
 4 A2g2lAA3w-# 1 never
+";
+
+/// Sums and products of variables that need no gate: how many variables the clauses may have, one beside the variables' bits.
+const SETTLED: &str = "\
+88 ABA+*AB*AA*+# 17 settled
+pp ABA+*AB*AA*+# 129 settled
+88 AB+AB+*AA*AB*AB*++BB*+# 17 settled
+pp AB+AB+*AA*AB*AB*++BB*+# 129 settled
+88 AB+AB-*AA*BB*-# 17 settled
+pp AB+AB-*AA*BB*-# 129 settled
+888 AC*B+C*A+AC*C*BC*+A+# 25 settled
+ppp AC*B+C*A+AC*C*BC*+A+# 193 settled
+pp ABAPAA+B+# 129 settled
+pp ABAMAA*B*# 129 settled
+pp AB+BA+< 129 settled
+pp A~AB*BA*#L 129 settled
 ";
 
 /// What queries weigh: a truth value 1 and a vector its width; a product, quotient, remainder or shift its square; and a
@@ -202,7 +223,7 @@ bb AB# 6 weighs
 
 #[test]
 fn small_queries(rt: HostRuntime) {
-    for table in [ANSWERS, EQUAL_GATES, WEIGHTS] {
+    for table in [ANSWERS, EQUAL_GATES, SETTLED, WEIGHTS] {
         for row in table.lines() {
             assert!(rt; matches!(is_right(rt.alloc(), row), Ok(true)), "{row}");
         }
@@ -222,7 +243,7 @@ fn is_plain(alloc: Global, body: &str) -> Result<bool, Want> {
 }
 
 /// A product, quotients and shifts, each against itself.
-const THEMSELVES: &str = "AB*AB*# AB/AB/# AB%AB%# ABlABl# ABgABg# ABaABa#";
+const THEMSELVES: &str = "ABwB*ABwB*# AB/AB/# AB%AB%# ABlABl# ABgABg# ABaABa#";
 
 #[test]
 fn equal_terms_of_every_width(rt: HostRuntime) {

@@ -4,7 +4,7 @@ use sy_meaning::{BvTheory, Word};
 use sy_query::Query;
 use sy_terms::{Op, Seq, Sort, Term, Terms, Value, Want};
 
-/// The sort of this sign: `b` for truth values, a digit for vectors of so many bits.
+/// The sort of this sign: `b` for truth values, a digit for vectors of so many bits, and `@` and `p` for those of 16 and 64.
 fn sort_of(sign: u8) -> Sort {
     match sign {
         b'b' => Sort::Bool,
@@ -63,6 +63,8 @@ fn operator(sign: u8) -> Option<(Op, usize)> {
         b'+' => Some((Op::BvAdd, 2)),
         b'-' => Some((Op::BvSub, 2)),
         b'*' => Some((Op::BvMul, 2)),
+        b'P' => Some((Op::BvAdd, 3)),
+        b'M' => Some((Op::BvMul, 3)),
         b'/' => Some((Op::BvUdiv, 2)),
         b'%' => Some((Op::BvUrem, 2)),
         b'd' => Some((Op::BvSdiv, 2)),

@@ -3,9 +3,8 @@ use Rattle.sy_terms.specs.Values.{Val}
 use Rattle.sy_terms.specs.Denoted.{exprs_of}
 use Rattle.sy_terms.specs.Meaning.{meanings}
 use Rattle.sy_meaning_words.specs.Vectors.{vector}
-use Rattle.sy_grammar_base.specs.Solving.{AreValues}
-use Rattle.sy_query_sums.specs.Sums.{HaveSums}
+use Rattle.sy_query_sums.specs.Sums.{HaveSums, BeginWithSorts}
 use Rattle.sy_query_sums.proofs.sums.+sums.Given as goal
 
 abbrev pub invariant-sums_of-loop-term : goal.invariant-sums_of-loop-term
-invariant-sums_of-loop-term l = (values : List Val) → AreValues l.sorts values → HaveSums values l.sums.items (meanings [] [] values (exprs_of vector (take l.term-index l.terms)))
+invariant-sums_of-loop-term l = (values : List Val) → BeginWithSorts l.sorts values → HaveSums values l.sums.items (meanings [] [] values (exprs_of vector (take l.term-index l.terms)))

@@ -2,7 +2,7 @@ use Rattle.std.proofs.Common.{◌∙◌, ◌≤◌, ◌*◌, length, subst}
 use Rattle.sy_query_base.specs.Asked.{query_of}
 use Rattle.sy_meaning_words.specs.Vectors.{vector}
 use Rattle.sy_bits.proofs.Alike.{same_clauses}
-use Rattle.sy_bits.proofs.clauses.ordered_circuit.Goals as goal
+use Rattle.sy_bits.proofs.clauses.rewritten_circuit.Goals as goal
 
 pub returns-clause-variables : goal.returns-clause-variables
 returns-clause-variables c = c.in_ok-circuit.ensures.variables ∙ c.in_ok-other.ensures.variables

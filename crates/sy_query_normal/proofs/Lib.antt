@@ -1,0 +1,5 @@
+pub mod Lists
+pub mod Pairs
+pub mod Terms
+pub mod Truths
+pub mod Vectors

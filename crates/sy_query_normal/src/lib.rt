@@ -1,0 +1,13 @@
+// Queries over bit vectors in which equal terms are written alike.
+#![tactic(auto)]
+
+mod choices;
+mod normal;
+mod order;
+mod parts;
+mod query;
+mod sides;
+mod sorts;
+mod unordered;
+
+pub use query::normal_query;

@@ -1,0 +1,35 @@
+// Queries that are satisfied by the same values.
+ghost use Rattle.std.specs.Prelude.{◌≡◌, ◌↔◌, List, IfOk};
+ghost use Rattle.sy_terms.specs.Values.{Val};
+ghost use Rattle.sy_query_base.specs.Asked.{query_of, Satisfies};
+ghost use Rattle.sy_meaning_words.specs.Vectors.{vector};
+
+use crate::normal::normal;
+use std::alloc::Global;
+use sy_meaning_words::BvTheory;
+use sy_query_base::Query;
+use sy_terms::{Seq, Sort, Want};
+
+/// A query that the same values satisfy, written so that equal terms are more often one term: arguments of `and`, `or`,
+/// `bvand`, `bvor` and `bvxor` stand in one order and without doubles, as do two of any operator that may be exchanged,
+/// comparisons say "less", and an `ite` whose branch is known is its branch. What a `let` binds, and what is under it,
+/// stays as it is.
+pub fn normal_query(alloc: Global, query: &Query<BvTheory>) -> Result<Query<BvTheory>, Want>
+    ensures variables { IfOk result (λ found. found.vars ≡ query.now.vars) }
+    ensures same { IfOk result (λ found. (values : List Val) → Satisfies (query_of vector found) values ↔ Satisfies (query_of vector query.now) values) }
+{
+    let vars = copied(alloc, query.vars.as_slice())?;
+    let body = normal(alloc, query.vars.as_slice(), &query.body)?;
+    Ok(Query { vars, body })
+}
+
+/// The same sorts, in memory of their own.
+fn copied(alloc: Global, sorts: &[Sort]) -> Result<Seq<Sort>, Want>
+    ensures { IfOk result (λ copies. copies ≡ sorts.now) }
+{
+    let mut copies = Seq::new(alloc);
+    for sort in sorts {
+        copies.push(*sort)?;
+    }
+    Ok(copies)
+}
