@@ -8,3 +8,4 @@ pub mod Decided
 pub mod Ascending
 pub mod Suiting
 pub mod Asking
+pub mod Keying

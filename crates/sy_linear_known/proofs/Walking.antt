@@ -148,8 +148,9 @@ variables_next path vars names new all number i sort s within is e f kept =
     ∙ kept
 
 -- ---- queries
-pub known_is : (vars sorts : List Sort) (path facts : List Fact) (names : List Sight) (e : Expr) (s : Seen) (k : Known) → k ≡ known_of s → s ≡ seen vars path names 0 e → names ≡ variable_sights path 0 vars → vars ≡ sorts → path ≡ facts → k ≡ known_of (seen sorts facts (variable_sights facts 0 sorts) 0 e)
+pub known_is : (vars sorts : List Sort) (path facts : List Fact) (names : List Sight) (e : Expr) (s : Seen) (k : Known) → k ≡ known_of s → s ≡ seen vars path names 0 e → names ≡ variable_sights facts 0 vars → vars ≡ sorts → path ≡ facts → k ≡ known_of (seen sorts facts (variable_sights facts 0 sorts) 0 e)
 known_is vars sorts path facts names e s k is found named same like =
     is ∙ ap known_of (found
-    ∙ ap (λ ns. seen vars path ns 0 e) named
-    ∙ ap₂ (λ vs fs. seen vs fs (variable_sights fs 0 vs) 0 e) same like)
+    ∙ ap (λ fs. seen vars fs names 0 e) like
+    ∙ ap (λ ns. seen vars facts ns 0 e) named
+    ∙ ap (λ vs. seen vs facts (variable_sights facts 0 vs) 0 e) same)

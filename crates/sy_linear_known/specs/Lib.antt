@@ -7,3 +7,5 @@ pub mod Right
 pub mod Trees
 pub mod Points
 pub mod Stored
+pub mod Keys
+pub mod Keyed

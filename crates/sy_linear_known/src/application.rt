@@ -5,7 +5,7 @@ ghost use Rattle.sy_linear_known.specs.Fitting.{sight_fits, all_fit};
 
 use crate::arithmetic::{Operation, chosen, negated};
 use crate::comparisons::Comparison;
-use crate::path::Fact;
+use crate::facts::Facts;
 use crate::sight::{Node, Sight, all_of, any_of};
 use crate::truths::{by_truths_or, evaluated};
 use std::alloc::Global;
@@ -14,7 +14,7 @@ use sy_terms::Op;
 
 /// What the path tells of the operator's application, by what it tells of the arguments.
 #[tactic(auto, unfolding(crate::specs::Sights::operator_applied))]
-fn value_of(alloc: Global, path: &[Fact], operator: &Op, sights: &[Sight]) -> Result<Node, Want>
+fn value_of(alloc: Global, path: &Facts<'_>, operator: &Op, sights: &[Sight]) -> Result<Node, Want>
     requires { all_fit sights.now ≡ true }
     ensures { IfOk result (λ n. n ≡ operator_applied path.now operator.now sights.now) }
 {
@@ -48,7 +48,7 @@ fn value_of(alloc: Global, path: &[Fact], operator: &Op, sights: &[Sight]) -> Re
 /// What the path tells of the operator's application, by what it tells of the arguments, in forms that fit.
 pub(crate) fn applied(
     alloc: Global,
-    path: &[Fact],
+    path: &Facts<'_>,
     operator: &Op,
     sights: &[Sight],
 ) -> Result<Node, Want>

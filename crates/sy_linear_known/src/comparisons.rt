@@ -6,7 +6,8 @@ ghost use Rattle.sy_linear_known.specs.Fitting.{form_fits, sight_fits, all_fit};
 ghost use Rattle.sy_linear_known.specs.Operations.{comparison};
 
 use crate::arithmetic::{difference, excess, is_constant};
-use crate::path::{Fact, Test, has_form};
+use crate::facts::Facts;
+use crate::path::Test;
 use crate::sight::{Node, Sight};
 use std::alloc::{AllocError, Global};
 use sy_linear_forms::{Form, FormEnd};
@@ -24,21 +25,21 @@ pub(crate) enum Comparison {
 }
 
 /// Whether the path has the form, or it is a constant that isn't negative.
-fn known_true(path: &[Fact], form: &Form) -> bool
+fn known_true(path: &Facts<'_>, form: &Form) -> bool
     ensures { result ≡ spec.known_true path.now form.now }
 {
-    is_constant(form) && form.constant >= 0 || has_form(form, path)
+    is_constant(form) && form.constant >= 0 || path.has_form(form)
 }
 
 /// Whether the path has the form's negation, or it is a constant below 0.
-fn known_false(path: &[Fact], form: &Form, negation: &Form) -> bool
+fn known_false(path: &Facts<'_>, form: &Form, negation: &Form) -> bool
     ensures { result ≡ spec.known_false path.now form.now negation.now }
 {
-    is_constant(form) && form.constant < 0 || has_form(negation, path)
+    is_constant(form) && form.constant < 0 || path.has_form(negation)
 }
 
 /// What the path tells of the form's being at least 0.
-fn answered(path: &[Fact], form: Form, negation: &Form) -> Node
+fn answered(path: &Facts<'_>, form: Form, negation: &Form) -> Node
     ensures { result ≡ spec.answered path.now form negation.now }
 {
     if known_true(path, &form) {
@@ -55,7 +56,7 @@ fn answered(path: &[Fact], form: Form, negation: &Form) -> Node
 }
 
 /// The test whether the form is at least 0, for which its negation is built too.
-fn tested(alloc: Global, path: &[Fact], form: Option<Form>) -> Result<Node, Want>
+fn tested(alloc: Global, path: &Facts<'_>, form: Option<Form>) -> Result<Node, Want>
     requires { form_fits form ≡ true }
     ensures { IfOk result (λ n. n ≡ spec.tested path.now form) }
 {
@@ -70,7 +71,7 @@ fn tested(alloc: Global, path: &[Fact], form: Option<Form>) -> Result<Node, Want
 }
 
 /// Whether the first is at most the second.
-fn at_most(alloc: Global, path: &[Fact], f: &Form, g: &Form) -> Result<Node, Want>
+fn at_most(alloc: Global, path: &Facts<'_>, f: &Form, g: &Form) -> Result<Node, Want>
     requires left { form_is_in_range f.now ≡ true }
     requires right { form_is_in_range g.now ≡ true }
     ensures { IfOk result (λ n. n ≡ spec.at_most path.now f.now g.now) }
@@ -80,7 +81,7 @@ fn at_most(alloc: Global, path: &[Fact], f: &Form, g: &Form) -> Result<Node, Wan
 }
 
 /// Whether the first is less than the second.
-fn less(alloc: Global, path: &[Fact], f: &Form, g: &Form) -> Result<Node, Want>
+fn less(alloc: Global, path: &Facts<'_>, f: &Form, g: &Form) -> Result<Node, Want>
     requires left { form_is_in_range f.now ≡ true }
     requires right { form_is_in_range g.now ≡ true }
     ensures { IfOk result (λ n. n ≡ spec.less path.now f.now g.now) }
@@ -90,7 +91,7 @@ fn less(alloc: Global, path: &[Fact], f: &Form, g: &Form) -> Result<Node, Want>
 }
 
 /// Whether the two are equal.
-fn equal(alloc: Global, path: &[Fact], f: &Form, g: &Form) -> Result<Node, Want>
+fn equal(alloc: Global, path: &Facts<'_>, f: &Form, g: &Form) -> Result<Node, Want>
     requires left { form_is_in_range f.now ≡ true }
     requires right { form_is_in_range g.now ≡ true }
     ensures { IfOk result (λ n. n ≡ spec.forms_equal path.now f.now g.now) }
@@ -101,7 +102,7 @@ fn equal(alloc: Global, path: &[Fact], f: &Form, g: &Form) -> Result<Node, Want>
 }
 
 /// Whether the two differ.
-fn distinct(alloc: Global, path: &[Fact], f: &Form, g: &Form) -> Result<Node, Want>
+fn distinct(alloc: Global, path: &Facts<'_>, f: &Form, g: &Form) -> Result<Node, Want>
     requires left { form_is_in_range f.now ≡ true }
     requires right { form_is_in_range g.now ≡ true }
     ensures { IfOk result (λ n. n ≡ spec.distinct path.now f.now g.now) }
@@ -112,7 +113,7 @@ fn distinct(alloc: Global, path: &[Fact], f: &Form, g: &Form) -> Result<Node, Wa
 
 impl Comparison {
     /// The comparison of two forms.
-    fn compare(self, alloc: Global, path: &[Fact], f: &Form, g: &Form) -> Result<Node, Want>
+    fn compare(self, alloc: Global, path: &Facts<'_>, f: &Form, g: &Form) -> Result<Node, Want>
         requires left { form_is_in_range f.now ≡ true }
         requires right { form_is_in_range g.now ≡ true }
         ensures { IfOk result (λ n. n ≡ comparison self path.now f.now g.now) }
@@ -131,7 +132,7 @@ impl Comparison {
     fn compared(
         self,
         alloc: Global,
-        path: &[Fact],
+        path: &Facts<'_>,
         first: &Sight,
         second: &Sight,
     ) -> Result<Node, Want>
@@ -146,7 +147,12 @@ impl Comparison {
     }
 
     /// The comparison of each term with the one after it.
-    pub(crate) fn in_row(self, alloc: Global, path: &[Fact], sights: &[Sight]) -> Result<Node, Want>
+    pub(crate) fn in_row(
+        self,
+        alloc: Global,
+        path: &Facts<'_>,
+        sights: &[Sight],
+    ) -> Result<Node, Want>
         requires { all_fit sights.now ≡ true }
         ensures { IfOk result (λ n. n ≡ spec.neighbours_in_row (comparison self path.now) spec.none_yet sights.now) }
     {
@@ -164,7 +170,7 @@ impl Comparison {
     fn with_each(
         self,
         alloc: Global,
-        path: &[Fact],
+        path: &Facts<'_>,
         before: Node,
         first: &Sight,
         others: &[Sight],
@@ -185,7 +191,7 @@ impl Comparison {
     pub(crate) fn in_pairs(
         self,
         alloc: Global,
-        path: &[Fact],
+        path: &Facts<'_>,
         sights: &[Sight],
     ) -> Result<Node, Want>
         requires { all_fit sights.now ≡ true }

@@ -5,6 +5,8 @@ mod answer;
 mod application;
 mod arithmetic;
 mod comparisons;
+mod facts;
+mod key;
 mod path;
 mod queries;
 mod sight;

@@ -30,7 +30,7 @@ pub struct Path {
 }
 
 /// Whether the fact is that the form is at least 0.
-fn is_form(form: &Form, fact: &Fact) -> bool
+pub(crate) fn is_form(form: &Form, fact: &Fact) -> bool
     ensures { result ≡ is_form form.now fact.now }
 {
     match fact {

@@ -7,6 +7,7 @@ ghost use Rattle.sy_linear_known.specs.Stored.{linear_query_of};
 ghost use Rattle.sy_linear_known.specs.Fitting.{sight_fits, all_fit};
 
 use crate::answer::Known;
+use crate::facts::Facts;
 use crate::path::{Fact, Path, given};
 use crate::sight::{Seen, Sight};
 use crate::walk::walk;
@@ -97,8 +98,9 @@ pub fn known_under(alloc: Global, q: &Query<IntTheory>, facts: &[Fact]) -> Resul
 {
     let vars = q.vars.as_slice();
     let mut names = variable_sights(alloc, facts, vars)?;
+    let path = Facts::new(alloc, facts)?;
     let mut next = 0u32;
-    let seen = walk(alloc, vars, facts, &mut names, &q.body, &mut next)?;
+    let seen = walk(alloc, vars, &path, &mut names, &q.body, &mut next)?;
     Ok(known_of(seen))
 }
 

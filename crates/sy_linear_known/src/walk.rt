@@ -7,7 +7,8 @@ ghost use Rattle.sy_linear_known.specs.Seen as spec;
 ghost use Rattle.sy_linear_known.specs.Fitting.{sight_fits, all_fit};
 
 use crate::application::applied;
-use crate::path::{Fact, Test};
+use crate::facts::Facts;
+use crate::path::Test;
 use crate::sight::{Found, Seen, Sight};
 use std::alloc::Global;
 use sy_linear_forms::Form;
@@ -110,7 +111,7 @@ fn bind(alloc: Global, names: &mut Vec<Sight>, bound: &[Sight]) -> Result<(), Wa
 pub(crate) fn walk(
     alloc: Global,
     vars: &[Sort],
-    path: &[Fact],
+    path: &Facts<'_>,
     names: &mut Vec<Sight>,
     term: &Term<IntTheory>,
     next: &mut u32,
@@ -165,7 +166,7 @@ pub(crate) fn walk(
 fn walk_if(
     alloc: Global,
     vars: &[Sort],
-    path: &[Fact],
+    path: &Facts<'_>,
     names: &mut Vec<Sight>,
     live: bool,
     term: &Term<IntTheory>,
@@ -192,7 +193,7 @@ fn walk_if(
 fn walk_all(
     alloc: Global,
     vars: &[Sort],
-    path: &[Fact],
+    path: &Facts<'_>,
     names: &mut Vec<Sight>,
     choice: bool,
     terms: &Terms<IntTheory>,
