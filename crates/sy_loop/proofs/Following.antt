@@ -1,22 +1,15 @@
 -- What follows of conditional trees over the kept terms of banks.
-use Rattle.std.specs.Prelude.{ℕ, ◌≡◌, List, MatchOption, Option, slice_get, None, Some}
-use Rattle.std.specs.Option.{option_copied}
-use Rattle.std.proofs.Common.{sym, subst}
-use denote.Ref.{Bor}
+use Rattle.std.specs.Prelude.{ℕ, ◌≡◌, List, slice_get, Some}
 use Rattle.sy_terms.specs.Fitting.{Scope}
-use Rattle.sy_terms.specs.declared.theory.Theory.{Ghosts as TheoryOf}
 use Rattle.sy_grammar_base.specs.Questions.{Question}
-use Rattle.sy_grammar_base.specs.declared.problem.Problem.{Problem}
 use Rattle.sy_points.specs.Asked.{Asked}
 use Rattle.sy_bank_rows.specs.Banks.{Merged}
 use Rattle.sy_loop_bounds.specs.declared.reach.Reach.{Reach}
 use Rattle.sy_loop_bounds.specs.declared.reach.Reach.TheVariants.{Sizes, Joins, Beyond}
 use Rattle.sy_loop_history.specs.Histories.{Counterexample}
 use Rattle.sy_loop_laws.specs.Refuting.{AllTreesViolate}
-use Rattle.sy_loop_join.specs.Clauses.{HasNoTreesFor, IsPlanFor, IsPlannedFor}
 use Rattle.sy_loop_join.specs.Joining.{IsJoinable, TreesFollowFrom}
 use Rattle.sy_loop_join.specs.Plans.{TriesNoTrees}
-use Rattle.sy_loop_join.specs.declared.plan.Plan.{Plan}
 use Rattle.sy_loop.specs.Levels.{AreHonest}
 use Rattle.sy_loop.specs.Trees.{TreesFollow}
 
@@ -37,9 +30,3 @@ first_follow reach question history asked n banks bank at follow covering all = 
 -- the first bank is one that terms can be joined from
 pub first_joinable : (scope : Scope) (question : Question) (asked : Asked) (banks : List Merged) (bank : Merged) → AreHonest scope question asked banks → slice_get banks 0 ≡ Some bank → IsJoinable question asked bank
 first_joinable scope question asked banks bank honest at = let of = honest.each 0 bank at in record { goal = of.goal; at = of.at; over = of.over; honest = of.honest }
-
--- a plan that is lent
-pub planned : {T N : Type 0} (theory : TheoryOf T N) (reach : Reach) (problem : Problem T N) (found : Option (Plan T N)) (lent : Option (Bor (Plan T N))) → option_copied lent ≡ found → MatchOption found (HasNoTreesFor theory reach problem) (IsPlanFor theory reach problem) →
-    IsPlannedFor theory reach problem lent
-planned theory reach problem found None is fits = let none = subst (λ plan. MatchOption plan (HasNoTreesFor theory reach problem) (IsPlanFor theory reach problem)) (sym is) fits in none
-planned theory reach problem found (Some plan) is fits = let some = subst (λ other. MatchOption other (HasNoTreesFor theory reach problem) (IsPlanFor theory reach problem)) (sym is) fits in some

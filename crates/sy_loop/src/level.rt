@@ -17,7 +17,7 @@ use sy_bank_rows::Kept;
 use sy_grammar_base::Problem;
 use sy_loop_bounds::Reach;
 use sy_loop_candidate::{Known, Step, try_candidate};
-use sy_loop_refutation::are_refuted;
+use sy_loop_refutation::{Suspects, are_refuted};
 use sy_query_decide::Decide;
 use sy_query_limits::Limits;
 use sy_terms::{Bodies, Seq, Theory, Want};
@@ -63,7 +63,8 @@ pub(crate) fn try_level<T: Theory, D: Decide<T>>(
         banks,
     };
     let mut chosen = Vec::with_capacity(alloc, banks.len())?;
-    let step = try_rest(&task, decide, &mut chosen, level, known)?;
+    let mut suspects = Suspects::new(alloc);
+    let step = try_rest(&task, decide, &mut suspects, &mut chosen, level, known)?;
     Ok(step)
 }
 
@@ -72,6 +73,7 @@ pub(crate) fn try_level<T: Theory, D: Decide<T>>(
 fn try_rest<'a, T: Theory, D: Decide<T>>(
     task: &Task<'a, T>,
     decide: &mut D,
+    suspects: &mut Suspects,
     chosen: &mut Vec<&'a Kept<T>>,
     left: u32,
     known: &mut Known<T>,
@@ -94,7 +96,7 @@ fn try_rest<'a, T: Theory, D: Decide<T>>(
         if left > 0 {
             return Ok(Step::Next);
         }
-        let step = try_chosen(task, decide, chosen.as_slice(), known)?;
+        let step = try_chosen(task, decide, suspects, chosen.as_slice(), known)?;
         return Ok(step);
     }
     let bank = &task.banks[function];
@@ -106,7 +108,7 @@ fn try_rest<'a, T: Theory, D: Decide<T>>(
     for size in u64::from(least)..u64::from(left) + 1 {
         let size = size as u32;
         let kept = bank.kept(0, size);
-        match try_kept(task, decide, chosen, kept, left - size, known)? {
+        match try_kept(task, decide, suspects, chosen, kept, left - size, known)? {
             Step::Next => {}
             Step::Again => return Ok(Step::Again),
             Step::End(end) => return Ok(Step::End(end)),
@@ -120,6 +122,7 @@ fn try_rest<'a, T: Theory, D: Decide<T>>(
 fn try_kept<'a, T: Theory, D: Decide<T>>(
     task: &Task<'a, T>,
     decide: &mut D,
+    suspects: &mut Suspects,
     chosen: &mut Vec<&'a Kept<T>>,
     kept: &'a [Kept<T>],
     left: u32,
@@ -140,7 +143,7 @@ fn try_kept<'a, T: Theory, D: Decide<T>>(
 {
     for choice in kept {
         chosen.push(choice)?;
-        let step = try_rest(task, decide, chosen, left, known)?;
+        let step = try_rest(task, decide, suspects, chosen, left, known)?;
         chosen.pop();
         match step {
             Step::Next => {}
@@ -156,6 +159,7 @@ fn try_kept<'a, T: Theory, D: Decide<T>>(
 fn try_chosen<T: Theory, D: Decide<T>>(
     task: &Task<T>,
     decide: &mut D,
+    suspects: &mut Suspects,
     chosen: &[&Kept<T>],
     known: &mut Known<T>,
 ) -> Result<Step<T, D::Proof, D::Spent>, Want>
@@ -175,6 +179,7 @@ fn try_chosen<T: Theory, D: Decide<T>>(
         chosen,
         &known.points,
         &known.stored,
+        suspects,
     )?;
     if refuted {
         return Ok(Step::Next);

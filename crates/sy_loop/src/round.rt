@@ -1,5 +1,5 @@
 // One round of a search: the bodies of one size together, up to what ends the round.
-ghost use Rattle.std.specs.Prelude.{◌≡◌, ◌≤◌, ◌<◌, [], length, map, IfOk};
+ghost use Rattle.std.specs.Prelude.{◌≡◌, ◌≤◌, ◌<◌, [], length, map, IfOk, OnOk};
 ghost use Rattle.sy_bank.specs.Bank.{merged_of};
 ghost use Rattle.sy_grammar_base.specs.Fits.{ProblemFits};
 ghost use Rattle.sy_loop_candidate.specs.Clauses.{IsKnownFor};
@@ -42,20 +42,21 @@ pub(crate) fn run_round<T: Theory, D: Decide<T>>(
     reach: Reach,
     functions: u32,
     decide: &mut D,
-    plan: Option<&Plan<T>>,
+    plan: &mut Option<Plan<T>>,
     known: Known<T>,
     carried: Vec<Bank<T>>,
     level: u32,
 ) -> Result<Round<T, D::Proof, D::Spent>, Want>
     requires problem { ProblemFits T.Theory problem.now }
     requires strict { reach ≡ Beyond → ⊥ }
-    requires plan { IsPlannedFor T.Theory reach problem.now plan }
+    requires plan { IsPlannedFor T.Theory reach problem.now plan.old }
     requires functions { functions ≡ length problem.now.wanted }
     requires known { IsKnownFor T.Theory reach problem.now limits.now known }
     requires room { length known.stored.items < limits.now.rounds }
     requires level { level ≤ limits.now.size }
     requires carried { AreCarriedFor T.Theory problem.now limits.now level carried.items }
     requires done { AreDoneBelowFor T.Theory reach problem.now known level }
+    ensures plan { OnOk result (IsPlannedFor T.Theory reach problem.now plan.new) }
     ensures round { IfOk result (RoundsFor T.Theory D.Decide reach problem.now limits.now known level) }
     ensures carries { IfOk result (CarriesFor T.Theory problem.now limits.now) }
     ensures done { IfOk result (AreDoneFor T.Theory reach problem.now) }

@@ -76,13 +76,12 @@ fn search<T: Theory, D: Decide<T>>(
     if limits.rounds == 0 {
         return Ok(Outcome::Fail(FailCause::Rounds(known.stored)));
     }
-    let found = plan_of(alloc, problem, reach)?;
-    let plan = found.as_ref();
+    let mut plan = plan_of(alloc, problem, reach)?;
     let mut banks = Vec::new(alloc);
     let mut level = 0;
     'rounds: loop {
         match run_round(
-            alloc, problem, limits, reach, functions, decide, plan, known, banks, level,
+            alloc, problem, limits, reach, functions, decide, &mut plan, known, banks, level,
         )? {
             Round::Goes(more, carried, next) => {
                 known = more;

@@ -26,17 +26,18 @@ pub(crate) fn try_size<T: Theory, D: Decide<T>>(
     limits: &Limits,
     reach: Reach,
     decide: &mut D,
-    plan: Option<&Plan<T>>,
+    plan: &mut Option<Plan<T>>,
     banks: &[Bank<T>],
     level: u32,
     known: &mut Known<T>,
 ) -> Result<Step<T, D::Proof, D::Spent>, Want>
     requires problem { ProblemFits T.Theory problem.now }
-    requires plan { IsPlannedFor T.Theory reach problem.now plan }
+    requires plan { IsPlannedFor T.Theory reach problem.now plan.old }
     requires banks { AreHonestFor T.Theory problem.now known.old.points banks.now }
     requires opened { IsOpenFor T.Theory reach problem.now limits.now known.old level }
     requires known { IsKnownFor T.Theory reach problem.now limits.now known.old }
     requires room { length known.old.stored.items < limits.now.rounds }
+    ensures plan { OnOk result (IsPlannedFor T.Theory reach problem.now plan.new) }
     ensures known { OnOk result (IsKnownFor T.Theory reach problem.now limits.now known.new) }
     ensures step { IfOk result (GoesFor T.Theory D.Decide reach problem.now limits.now known.old known.new) }
     ensures refuted { IfOk result (OnNext (AllAreRefutedFor T.Theory problem.now known.old [] (map (merged_of T.denotes) banks.now) level)) }
@@ -60,17 +61,18 @@ fn join_kept<T: Theory, D: Decide<T>>(
     limits: &Limits,
     reach: Reach,
     decide: &mut D,
-    plan: Option<&Plan<T>>,
+    plan: &mut Option<Plan<T>>,
     banks: &[Bank<T>],
     level: u32,
     known: &mut Known<T>,
 ) -> Result<Step<T, D::Proof, D::Spent>, Want>
     requires problem { ProblemFits T.Theory problem.now }
-    requires plan { IsPlannedFor T.Theory reach problem.now plan }
+    requires plan { IsPlannedFor T.Theory reach problem.now plan.old }
     requires banks { AreHonestFor T.Theory problem.now known.old.points banks.now }
     requires opened { IsOpenFor T.Theory reach problem.now limits.now known.old level }
     requires known { IsKnownFor T.Theory reach problem.now limits.now known.old }
     requires room { length known.old.stored.items < limits.now.rounds }
+    ensures plan { OnOk result (IsPlannedFor T.Theory reach problem.now plan.new) }
     ensures known { OnOk result (IsKnownFor T.Theory reach problem.now limits.now known.new) }
     ensures step { IfOk result (GoesFor T.Theory D.Decide reach problem.now limits.now known.old known.new) }
     ensures trees { IfOk result (OnNext (TreesFollowFor T.Theory reach problem.now known.old level banks.now)) }

@@ -31,14 +31,14 @@ use Rattle.sy_loop_goods.proofs.Placing.{item_at}
 use Rattle.sy_loop_goods.specs.Columns.{AreColumns, IsColumn, IsSaid, is_on, row_from}
 use Rattle.sy_loop_goods.specs.Judged.{IsCopied, JudgesLeaf, good_of, judged_by, leaving_of}
 use Rattle.sy_loop_goods.specs.Leaves.{AreAssigned, LeafLeaves}
-use Rattle.sy_loop_goods.specs.Judging.{IsOneUntrue, IsTrueAt, IsWithin, JudgesRests}
+use Rattle.sy_loop_goods.specs.Judging.{IsOneUntrue, IsTrueAt, JudgesRests}
 use Rattle.sy_loop_goods.specs.Rests.{AreRests, IsRest}
 use Rattle.sy_loop_goods.specs.declared.goods.Leaving.{Leaving}
 use Rattle.sy_loop_goods.specs.declared.judging.Judged.{Judged}
 use Rattle.sy_loop_goods.specs.declared.judging.Judged.TheVariants.{Good, Bad, Leaves}
 use Rattle.sy_loop_goods.specs.declared.rests.Rest.{Rest}
 
-same_item : {X : Type 0} (xs : List X) (k : ℕ) (x y : X) → slice_get xs k ≡ Some x → slice_get xs k ≡ Some y → x ≡ y
+pub same_item : {X : Type 0} (xs : List X) (k : ℕ) (x y : X) → slice_get xs k ≡ Some x → slice_get xs k ≡ Some y → x ≡ y
 same_item xs k x y one other = let e = sym one ∙ other in cc
 
 -- what is there stands at some place
@@ -109,12 +109,6 @@ module _ (question : Question) (assignments : List (List Val)) where
           stands = refl;
         };
   }
-
-  -- their numbers are in range
-  pub all_within : (tuple : List Val) (rests : List Rest) → AreRestsOn question assignments tuple rests → All (IsWithin question assignments) rests
-  all_within tuple rests are = All-weaker (Contains rests) (IsWithin question assignments)
-      (λ rest of. let is = are.each rest of in record { constraint = slice_get_within question.constraints rest.constraint is.constraint is.is; place = slice_get_within assignments rest.place is.values is.stored })
-      rests (All-contains_itself rests)
 
   -- a body under which all of them are true is good
   pub says_good : (tuple : List Val) (rests : List Rest) (body : Expr) → AreRestsOn question assignments tuple rests → All (IsTrueAt question assignments (body ∷ [])) rests → IsSaid question assignments tuple body true
@@ -200,13 +194,6 @@ module _ {T N : Type 0} (number : N → Val) (leaves : List (Bor (Kept T N))) (k
 pub tuples_are : (asked : Asked) (tuples : List (List Val)) → slice_get asked.tuples 0 ≡ Some tuples → of_function asked 0 ≡ tuples
 tuples_are asked tuples at = get_or_from_slice_get asked.tuples 0 tuples [] at
 
--- the numbers of those that rest on a point are in range
-pub here_within : (question : Question) (assignments points : List (List Val)) (rests here : List Rest) (point : ℕ) → AreDistinct points → AreRests question assignments points rests → here ≡ filter (is_on point) rests → point < length points →
-    All (IsWithin question assignments) here
-here_within question assignments points rests here point distinct are is_here within =
-    let item = item_at points point within in
-    subst (All (IsWithin question assignments)) (sym is_here) (all_within question assignments item.0 (filter (is_on point) rests) (those_on question assignments points rests point item.0 distinct are item.1))
-
 or_none : {X : Type 0} (one other : Option X) → option_or one other ≡ None → (one ≡ None) × (other ≡ None)
 or_none None other is = (refl, is)
 or_none (Some x) other is = absurd (cc)
@@ -221,7 +208,7 @@ all_assigned question [] assigned = All-nil (AreValues question.variables)
 all_assigned question (c ∷ history) assigned = All-cons (AreValues question.variables) c.assignment (assignments_of history) (assigned 0 c refl) (all_assigned question history (λ place k at. assigned (suc place) k at))
 
 -- a row says what its term means
-row_means : (defined : List Function) (points : List (List Val)) (entry : Entry) (point : ℕ) (tuple : List Val) (value : Val) → IsRow defined points entry.term entry.row → slice_get points point ≡ Some tuple → slice_get entry.row point ≡ Some value →
+pub row_means : (defined : List Function) (points : List (List Val)) (entry : Entry) (point : ℕ) (tuple : List Val) (value : Val) → IsRow defined points entry.term entry.row → slice_get points point ≡ Some tuple → slice_get entry.row point ≡ Some value →
     value ≡ meaning defined [] tuple entry.term
 row_means defined points entry point tuple value row at has =
     let f = λ (p : List Val). meaning defined [] p entry.term in

@@ -1,4 +1,5 @@
 mod Placing
 mod Columns
 mod Told
+mod Memos
 pub mod Asked

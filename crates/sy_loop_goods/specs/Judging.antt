@@ -1,5 +1,5 @@
 -- Whether constraints are true under bodies, each at an assignment.
-use Rattle.std.specs.Prelude.{◌≡◌, ◌<◌, List, length, slice_get, Some, All, Contains}
+use Rattle.std.specs.Prelude.{◌≡◌, List, slice_get, Some, All, Contains}
 use Rattle.sy_terms.specs.Values.{Val}
 use Rattle.sy_terms.specs.Expr.{Expr}
 use Rattle.sy_grammar_base.specs.Questions.{Question}
@@ -11,12 +11,7 @@ use Rattle.sy_loop_goods.specs.declared.judging.Judged.{Judged}
 use Rattle.sy_loop_goods.specs.declared.judging.Judged.TheVariants.{Good, Bad, Leaves}
 use Rattle.sy_loop_goods.specs.declared.rests.Rest.{Rest}
 
--- there are a constraint and an assignment of these numbers
-pub record IsWithin (question : Question) (assignments : List (List Val)) (rest : Rest) : Type 0 where
-  pub constraint : rest.constraint < length question.constraints
-  pub place : rest.place < length assignments
-
--- that constraint is true under the bodies at that assignment
+-- the constraint of this number is true under the bodies at the assignment of this number
 abbrev pub IsTrueAt : Question → List (List Val) → List Expr → Rest → Type 0
 IsTrueAt question assignments bodies rest = (constraint : Expr) (values : List Val) → slice_get question.constraints rest.constraint ≡ Some constraint → slice_get assignments rest.place ≡ Some values →
     IsTrueUnder question bodies values constraint

@@ -3,6 +3,7 @@ pub mod Resting
 pub mod Placing
 pub mod Leaves
 pub mod Telling
+pub mod Memos
 pub mod Judging
 pub mod Judged
 pub mod Columns

@@ -1,11 +1,11 @@
 // At which points kept terms are good.
-ghost use Rattle.std.specs.Prelude.{◌≡◌, ◌<◌, length, IfOk, IfSome, None};
+ghost use Rattle.std.specs.Prelude.{◌≡◌, ◌<◌, length, IfOk, IfSome, OnOk, None};
 ghost use Rattle.sy_bank_rows.specs.Stored.{chosen_of};
 ghost use Rattle.sy_grammar_base.specs.Fits.{ProblemFits};
 ghost use Rattle.sy_grammar_base.specs.Questions.{question_of};
 ghost use Rattle.sy_points.specs.Asked.{AreDistinct, of_function};
 ghost use Rattle.sy_loop_bounds.specs.Pointwise.{IsPointwise};
-ghost use Rattle.sy_loop_goods.specs.Clauses.{AreAssignedFor, AreRestsFor, AreLeavesFor, AreGoodsFor, IsColumnFor, IsLeavingFor};
+ghost use Rattle.sy_loop_goods.specs.Clauses.{AreAssignedFor, AreRestsFor, AreLeavesFor, AreGoodsFor, IsColumnFor, IsLeavingFor, IsMemoFor};
 ghost use Rattle.sy_loop_goods.specs.Judged.{good_of, leaving_of};
 
 use crate::judging::Judged;
@@ -16,6 +16,7 @@ use std::alloc::Global;
 use std::collections::HashMap;
 use sy_bank_rows::Kept;
 use sy_grammar_base::Problem;
+use sy_loop_memo::Memo;
 use sy_points::{Points, Stored};
 use sy_terms::{Seq, Theory, Value, Want};
 
@@ -40,7 +41,8 @@ struct Column {
     leaving: Option<Leaving>,
 }
 
-/// At which points the leaves are good: each constraint that rests on the point is true under the leaf.
+/// At which points the leaves are good: each constraint that rests on the point is true under the leaf. Constraints that the
+/// memo tells of aren't evaluated again, and those that are add to it.
 pub fn good_rows<T: Theory>(
     alloc: Global,
     problem: &Problem<T>,
@@ -48,6 +50,7 @@ pub fn good_rows<T: Theory>(
     points: &Points<T>,
     rests: &[Rest],
     leaves: &[&Kept<T>],
+    memo: &mut Memo<T>,
 ) -> Result<Goods, Want>
     requires problem { ProblemFits T.Theory problem.now }
     requires pointwise { IsPointwise (question_of T.denotes problem.now) }
@@ -55,15 +58,18 @@ pub fn good_rows<T: Theory>(
     requires function { 0 < length points.now.tuples }
     requires rests { AreRestsFor T.Theory problem.now stored.now points.now rests.now }
     requires leaves { AreLeavesFor T.Theory problem.now points.now (chosen_of T.denotes leaves.now) }
+    requires memo { IsMemoFor T.Theory problem.now memo.old }
     ensures many { IfOk result (λ goods. length goods.rows ≡ length leaves.now) }
     ensures goods { IfOk result (λ goods. goods.leaving ≡ None → AreGoodsFor T.Theory problem.now stored.now points.now (chosen_of T.denotes leaves.now) goods.rows) }
     ensures leaving { IfOk result (λ goods. IfSome goods.leaving (IsLeavingFor T.Theory problem.now stored.now (chosen_of T.denotes leaves.now))) }
+    ensures memo { OnOk result (IsMemoFor T.Theory problem.now memo.new) }
 {
+    memo.widen(alloc, stored)?;
     let tuples = points.of(0);
     let mut columns = Vec::with_capacity(alloc, tuples.len())?;
     let mut leaving = None;
     for point in 0..tuples.len() {
-        let column = good_column(alloc, problem, stored, points, rests, leaves, point)?;
+        let column = good_column(alloc, problem, stored, points, rests, leaves, point, memo)?;
         columns.push(column.goods)?;
         leaving = column.leaving.or(leaving);
     }
@@ -80,6 +86,7 @@ fn good_column<T: Theory>(
     rests: &[Rest],
     leaves: &[&Kept<T>],
     point: usize,
+    memo: &mut Memo<T>,
 ) -> Result<Column, Want>
     requires problem { ProblemFits T.Theory problem.now }
     requires pointwise { IsPointwise (question_of T.denotes problem.now) }
@@ -88,9 +95,10 @@ fn good_column<T: Theory>(
     requires rests { AreRestsFor T.Theory problem.now stored.now points.now rests.now }
     requires leaves { AreLeavesFor T.Theory problem.now points.now (chosen_of T.denotes leaves.now) }
     requires distinct { AreDistinct (of_function points.now 0) }
-    requires point { point < length (of_function points.now 0) }
+    requires memo { IsMemoFor T.Theory problem.now memo.old }
     ensures goods { IfOk result (λ column. column.leaving ≡ None → IsColumnFor T.Theory problem.now stored.now points.now (chosen_of T.denotes leaves.now) point column.goods) }
     ensures leaving { IfOk result (λ column. IfSome column.leaving (IsLeavingFor T.Theory problem.now stored.now (chosen_of T.denotes leaves.now))) }
+    ensures memo { OnOk result (IsMemoFor T.Theory problem.now memo.new) }
 {
     let here = rests_on(alloc, rests, point)?;
     let mut goods = Seq::new(alloc);
@@ -101,12 +109,14 @@ fn good_column<T: Theory>(
             alloc,
             problem,
             stored,
+            points,
             here.as_slice(),
             leaves,
             leaf,
             point,
             goods.as_slice(),
             &mut firsts,
+            memo,
         )?;
         goods.push(is_good(judged))?;
         leaving = leaving_by(judged, leaf).or(leaving);

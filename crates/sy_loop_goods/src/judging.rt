@@ -1,21 +1,24 @@
 // Whether constraints are true under a leaf.
-ghost use Rattle.std.specs.Prelude.{◌≡◌, ◌↔◌, IsTrue, true, [], ◌∷◌, All, IfOk, map};
+ghost use Rattle.std.specs.Prelude.{◌≡◌, ◌↔◌, IsTrue, true, [], ◌∷◌, All, IfOk, OnOk, map};
 ghost use Rattle.sy_terms.specs.Denoted.{expr_of, val_of, vals_of};
 ghost use Rattle.sy_terms.specs.Values as spec;
 ghost use Rattle.sy_bank_rows.specs.Stored.{entry_of};
 ghost use Rattle.sy_grammar_base.specs.Fits.{IsTruth, ProblemFits};
 ghost use Rattle.sy_grammar_base.specs.Questions.{question_of};
 ghost use Rattle.sy_grammar_base.specs.Solving.{AreValues};
+ghost use Rattle.sy_loop_bounds.specs.Pointwise.{IsPointwise};
 ghost use Rattle.sy_loop_candidate.specs.Clauses.{FitAsBodies};
-ghost use Rattle.sy_loop_goods.specs.Clauses.{AreAssignedFor, IsWithinFor, JudgesFor};
+ghost use Rattle.sy_loop_goods.specs.Clauses.{AreAssignedFor, IsMemoFor, IsRestFor, IsRowFor, JudgesFor};
 ghost use Rattle.sy_loop_goods.specs.Telling.{TellsTruth};
 
+use crate::recall::{judged_by, value_at};
 use crate::rests::Rest;
 use std::alloc::{AllocError, Global};
 use sy_bank_rows::Kept;
 use sy_grammar_base::Problem;
+use sy_loop_memo::Memo;
 use sy_meaning::{Eval, Trace, evaluate_with};
-use sy_points::Stored;
+use sy_points::{Points, Stored};
 use sy_terms::{Bodies, Seq, Term, Theory, Value, Want};
 
 /// Whether constraints are true under bodies, each at a stored assignment.
@@ -39,22 +42,31 @@ pub(crate) fn body_of<T: Theory>(alloc: Global, kept: &Kept<T>) -> Result<Bodies
     Ok(bodies)
 }
 
-/// Whether these constraints are true under the bodies, each at its stored assignment.
+/// Whether these constraints are true under the kept term as the one body, each at its stored assignment. What they tell
+/// is added to the memo.
 pub(crate) fn judge<T: Theory>(
     alloc: Global,
     problem: &Problem<T>,
     stored: &Stored<T>,
+    points: &Points<T>,
     rests: &[Rest],
+    kept: &Kept<T>,
     bodies: &Bodies<T>,
+    memo: &mut Memo<T>,
 ) -> Result<Judged, Want>
     requires problem { ProblemFits T.Theory problem.now }
+    requires pointwise { IsPointwise (question_of T.denotes problem.now) }
     requires assigned { AreAssignedFor T.Theory problem.now stored.now }
     requires bodies { FitAsBodies T.Theory problem.now bodies.now }
-    requires within { All (IsWithinFor T.Theory problem.now stored.now) rests.now }
-    ensures { IfOk result (JudgesFor T.Theory problem.now stored.now (map (expr_of T.denotes) bodies.now) rests.now) }
+    requires body { map (expr_of T.denotes) bodies.now ≡ (entry_of T.denotes kept.now).term ∷ [] }
+    requires rests { All (IsRestFor T.Theory problem.now stored.now points.now) rests.now }
+    requires row { IsRowFor T.Theory problem.now points.now (entry_of T.denotes kept.now) }
+    requires memo { IsMemoFor T.Theory problem.now memo.old }
+    ensures judged { IfOk result (JudgesFor T.Theory problem.now stored.now (map (expr_of T.denotes) bodies.now) rests.now) }
+    ensures memo { OnOk result (IsMemoFor T.Theory problem.now memo.new) }
 {
     for rest in rests {
-        match judge_one(alloc, problem, stored, rest, bodies)? {
+        match judge_one(alloc, problem, stored, points, rest, kept, bodies, memo)? {
             Judged::Good => {}
             Judged::Bad => return Ok(Judged::Bad),
             Judged::Leaves(place) => return Ok(Judged::Leaves(place)),
@@ -63,19 +75,28 @@ pub(crate) fn judge<T: Theory>(
     Ok(Judged::Good)
 }
 
-/// Whether this constraint is true under the bodies, at its stored assignment.
+/// Whether this constraint is true under the kept term as the one body, at its stored assignment. What it tells is added to
+/// the memo.
 fn judge_one<T: Theory>(
     alloc: Global,
     problem: &Problem<T>,
     stored: &Stored<T>,
+    _points: &Points<T>,
     rest: &Rest,
+    kept: &Kept<T>,
     bodies: &Bodies<T>,
+    memo: &mut Memo<T>,
 ) -> Result<Judged, Want>
     requires problem { ProblemFits T.Theory problem.now }
+    requires pointwise { IsPointwise (question_of T.denotes problem.now) }
     requires assigned { AreAssignedFor T.Theory problem.now stored.now }
     requires bodies { FitAsBodies T.Theory problem.now bodies.now }
-    requires within { IsWithinFor T.Theory problem.now stored.now rest.now }
-    ensures { IfOk result (JudgesFor T.Theory problem.now stored.now (map (expr_of T.denotes) bodies.now) (rest.now ∷ [])) }
+    requires body { map (expr_of T.denotes) bodies.now ≡ (entry_of T.denotes kept.now).term ∷ [] }
+    requires rest { IsRestFor T.Theory problem.now stored.now _points.now rest.now }
+    requires row { IsRowFor T.Theory problem.now _points.now (entry_of T.denotes kept.now) }
+    requires memo { IsMemoFor T.Theory problem.now memo.old }
+    ensures judged { IfOk result (JudgesFor T.Theory problem.now stored.now (map (expr_of T.denotes) bodies.now) (rest.now ∷ [])) }
+    ensures memo { OnOk result (IsMemoFor T.Theory problem.now memo.new) }
 {
     let Some(constraint) = problem.constraints.get(rest.constraint) else {
         unreachable!();
@@ -83,11 +104,14 @@ fn judge_one<T: Theory>(
     let Some((assignment, _)) = stored.get(rest.place) else {
         unreachable!();
     };
-    match tell(alloc, problem, bodies, assignment.as_slice(), constraint)? {
-        Some(true) => Ok(Judged::Good),
-        Some(false) => Ok(Judged::Bad),
-        None => Ok(Judged::Leaves(rest.place)),
+    let values = assignment.as_slice();
+    let Some(truth) = tell(alloc, problem, bodies, values, constraint)? else {
+        return Ok(Judged::Leaves(rest.place));
+    };
+    if let Some(value) = value_at::<T>(kept, rest.point) {
+        memo.add(rest.constraint, rest.place, values, value, truth)?;
     }
+    Ok(judged_by(truth))
 }
 
 /// Whether the constraint is true under the bodies at these values; `None` where it leaves the 128 bits.

@@ -1,40 +1,47 @@
 // What is known of a leaf at a point.
-ghost use Rattle.std.specs.Prelude.{◌≡◌, ◌<◌, length, All, IfOk, IfSome, Some, slice_get};
-ghost use Rattle.sy_terms.specs.Denoted.{val_of};
-ghost use Rattle.sy_bank_rows.specs.Stored.{chosen_of, entry_of};
+ghost use Rattle.std.specs.Prelude.{◌<◌, length, All, IfOk, IfSome, OnOk};
+ghost use Rattle.sy_bank_rows.specs.Stored.{chosen_of};
 ghost use Rattle.sy_grammar_base.specs.Fits.{ProblemFits};
-ghost use Rattle.sy_loop_goods.specs.Clauses.{AreAssignedFor, AreMembersFor, IsWithinFor, JudgesLeafFor};
+ghost use Rattle.sy_grammar_base.specs.Questions.{question_of};
+ghost use Rattle.sy_loop_bounds.specs.Pointwise.{IsPointwise};
+ghost use Rattle.sy_loop_goods.specs.Clauses.{AreAssignedFor, AreLeavesFor, IsMemoFor, IsRestFor, JudgesLeafFor};
 ghost use Rattle.sy_loop_goods.specs.Judged.{IsCopied};
-ghost use Rattle.sy_loop_goods.specs.Judged as spec;
 
 use crate::judging::{Judged, body_of, judge};
+use crate::recall::{judged_by, recall, value_at};
 use crate::rests::Rest;
 use std::alloc::Global;
 use std::collections::HashMap;
 use sy_bank_rows::Kept;
 use sy_grammar_base::Problem;
-use sy_points::Stored;
+use sy_loop_memo::Memo;
+use sy_points::{Points, Stored};
 use sy_terms::{Theory, Value, Want, same_value};
 
 /// What is known of the leaf of this number at the point: what the column says of one of the same value there, where
-/// `firsts` leads to it, or what these constraints tell, which rest on the point.
+/// `firsts` leads to it; what the memo says of these constraints, which rest on the point; or what they tell.
 pub(crate) fn judge_leaf<T: Theory>(
     alloc: Global,
     problem: &Problem<T>,
     stored: &Stored<T>,
+    points: &Points<T>,
     here: &[Rest],
     leaves: &[&Kept<T>],
     leaf: usize,
     point: usize,
     goods: &[bool],
     firsts: &mut HashMap<Value<T::Num>, usize>,
+    memo: &mut Memo<T>,
 ) -> Result<Judged, Want>
     requires problem { ProblemFits T.Theory problem.now }
+    requires pointwise { IsPointwise (question_of T.denotes problem.now) }
     requires assigned { AreAssignedFor T.Theory problem.now stored.now }
-    requires within { All (IsWithinFor T.Theory problem.now stored.now) here.now }
-    requires members { AreMembersFor T.Theory problem.now (chosen_of T.denotes leaves.now) }
+    requires rests { All (IsRestFor T.Theory problem.now stored.now points.now) here.now }
+    requires leaves { AreLeavesFor T.Theory problem.now points.now (chosen_of T.denotes leaves.now) }
     requires leaf { leaf < length leaves.now }
-    ensures { IfOk result (JudgesLeafFor T.Theory problem.now stored.now (chosen_of T.denotes leaves.now) leaf point here.now goods.now) }
+    requires memo { IsMemoFor T.Theory problem.now memo.old }
+    ensures judged { IfOk result (JudgesLeafFor T.Theory problem.now stored.now (chosen_of T.denotes leaves.now) leaf point here.now goods.now) }
+    ensures memo { OnOk result (IsMemoFor T.Theory problem.now memo.new) }
 {
     if let Some(good) = copied::<T>(leaves, leaf, point, goods, firsts) {
         return Ok(judged_by(good));
@@ -43,8 +50,11 @@ pub(crate) fn judge_leaf<T: Theory>(
     if let Some(value) = value_at::<T>(kept, point) {
         firsts.insert(value, leaf)?;
     }
+    if let Some(good) = recall(problem, stored, points, here, kept, memo) {
+        return Ok(judged_by(good));
+    }
     let bodies = body_of(alloc, kept)?;
-    let judged = judge(alloc, problem, stored, here, &bodies)?;
+    let judged = judge(alloc, problem, stored, points, here, kept, &bodies, memo)?;
     Ok(judged)
 }
 
@@ -68,18 +78,4 @@ fn copied<T: Theory>(
     } else {
         None
     }
-}
-
-/// The kept term's value at the point.
-fn value_at<T: Theory>(kept: &Kept<T>, point: usize) -> Option<Value<T::Num>>
-    ensures { IfSome result (λ value. slice_get (entry_of T.denotes kept.now).row point ≡ Some (val_of T.denotes value)) }
-{
-    let value = kept.row.get(point)?;
-    Some(*value)
-}
-
-fn judged_by(good: bool) -> Judged
-    ensures { result ≡ spec.judged_by good }
-{
-    if good { Judged::Good } else { Judged::Bad }
 }

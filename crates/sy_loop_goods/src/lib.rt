@@ -4,6 +4,7 @@
 mod goods;
 mod judging;
 mod leaf;
+mod recall;
 mod rests;
 mod rows;
 

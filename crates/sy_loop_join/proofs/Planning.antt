@@ -12,7 +12,7 @@ use Rattle.sy_terms.specs.declared.sort.Sort.{Sort}
 use Rattle.sy_grammar_base.specs.Fits.{GrammarFits, QuestionFits}
 use Rattle.sy_grammar_base.specs.Formed.{is_formed}
 use Rattle.sy_grammar_base.specs.Grown.{syntax_from}
-use Rattle.sy_grammar_base.specs.Questions.{Goal, goal_of, question_of}
+use Rattle.sy_grammar_base.specs.Questions.{Goal, Question, goal_of, question_of}
 use Rattle.sy_grammar_base.specs.declared.problem.Problem.{Problem}
 use Rattle.sy_grammar_base.specs.declared.problem.Wanted.{Wanted}
 use Rattle.sy_grammar_laws.proofs.Problems.{problem_grammars}
@@ -21,7 +21,10 @@ use Rattle.sy_loop_bounds.specs.Pointwise.{IsPointwise}
 use Rattle.sy_loop_bounds.specs.declared.reach.Reach.{Reach}
 use Rattle.sy_loop_candidate.proofs.Items.{has_place}
 use Rattle.sy_loop_trees.specs.Conditions as conditions
-use Rattle.sy_loop_join.specs.Plans.{TriesNoTrees}
+use Rattle.sy_loop_goods.specs.Memos.{IsMemo}
+use Rattle.sy_loop_memo.specs.declared.memo.Memo.{Memo}
+use Rattle.sy_loop_join.specs.Plans.{IsPlan, TriesNoTrees}
+use Rattle.sy_loop_join.specs.declared.plan.Plan.{Plan}
 
 module _ {T N : Type 0} (number : N → Val) (problem : Problem T N) (reach : Reach) where
   -- nothing is to be found
@@ -49,3 +52,7 @@ pub formed_first : {T N : Type 0} (owned : Op → Bool) (numeric : Sort → Bool
     is_formed numeric (scope_of owned problem.defs) (syntax_from number wanted.grammar) ≡ true
 formed_first owned numeric number problem wanted fit at =
     (All-contains (GrammarFits owned numeric number problem) problem.wanted wanted (problem_grammars owned numeric number problem fit) (has_place problem.wanted 0 wanted at)).formed
+
+-- a plan to which more was told
+pub with_memo : {T N : Type 0} (number : N → Val) (reach : Reach) (question : Question) (plan : Plan T N) (memo : Memo T N) → IsPlan number reach question plan → IsMemo number question memo → IsPlan number reach question (record plan { memo = memo })
+with_memo number reach question plan memo is told = record { tries = is.tries; pointwise = is.pointwise; posed = is.posed; memo = told; goal = is.goal; at = is.at; rule = is.rule; chooses = is.chooses }

@@ -1,6 +1,5 @@
 -- What clauses say of a problem, for a theory and a solver.
-use Rattle.std.specs.Prelude.{ℕ, List, Option, Some, None}
-use denote.Ref.{Bor}
+use Rattle.std.specs.Prelude.{ℕ, List, Option, MatchOption}
 use Rattle.sy_terms.specs.Expr.{Expr}
 use Rattle.sy_terms.specs.declared.theory.Theory.{Ghosts as TheoryOf}
 use Rattle.sy_grammar_base.specs.Questions.{question_of}
@@ -39,12 +38,11 @@ module _ {T N : Type 0} (theory : TheoryOf T N) (reach : Reach) (problem : Probl
   HasNoTreesFor = TriesNoTrees reach (question_of theory.denotes problem)
 
   abbrev pub IsPlanFor : Plan T N → Type 0
-  IsPlanFor = IsPlan reach (question_of theory.denotes problem)
+  IsPlanFor = IsPlan theory.denotes reach (question_of theory.denotes problem)
 
   -- there is a plan, or there are no trees to be tried
-  abbrev pub IsPlannedFor : Option (Bor (Plan T N)) → Type 0
-  IsPlannedFor None = HasNoTreesFor
-  IsPlannedFor (Some plan) = IsPlanFor plan.now
+  abbrev pub IsPlannedFor : Option (Plan T N) → Type 0
+  IsPlannedFor plan = MatchOption plan HasNoTreesFor IsPlanFor
 
   abbrev pub TreesFollowFromFor : Known T N → ℕ → Bank T N → Type 0
   TreesFollowFromFor known level bank =

@@ -6,7 +6,7 @@ ghost use Rattle.sy_grammar_base.specs.Questions.{question_of};
 ghost use Rattle.sy_points.specs.Asked.{of_function};
 ghost use Rattle.sy_loop_bounds.specs.Pointwise.{IsPointwise};
 ghost use Rattle.sy_loop_candidate.specs.Clauses.{IsCandidateFor, IsKnownFor};
-ghost use Rattle.sy_loop_goods.specs.Clauses.{AreAssignedFor, AreRestsFor};
+ghost use Rattle.sy_loop_goods.specs.Clauses.{AreAssignedFor, AreRestsFor, IsMemoFor};
 ghost use Rattle.sy_loop_join.specs.Clauses.{ArePartsFor, GoesFor, IsJoinableFor, IsOpenFor, IsPlanFor, IsRefutedFor, TreesFollowFromFor};
 ghost use Rattle.sy_loop_join.specs.Going.{OnNext};
 
@@ -19,6 +19,7 @@ use sy_grammar_base::Problem;
 use sy_loop_bounds::Reach;
 use sy_loop_candidate::{End, Known, Step, try_candidate};
 use sy_loop_goods::{Goods, Rest, good_rows};
+use sy_loop_memo::Memo;
 use sy_loop_trees::{kept_up_to, tree_term, truth_rows};
 use sy_query_decide::Decide;
 use sy_query_limits::Limits;
@@ -49,19 +50,20 @@ pub(crate) fn join<T: Theory, D: Decide<T>>(
     limits: &Limits,
     reach: Reach,
     decide: &mut D,
-    plan: &Plan<T>,
+    plan: &mut Plan<T>,
     bank: &Bank<T>,
     level: u32,
     rests: &[Rest],
     known: &mut Known<T>,
 ) -> Result<Step<T, D::Proof, D::Spent>, Want>
     requires problem { ProblemFits T.Theory problem.now }
-    requires plan { IsPlanFor T.Theory reach problem.now plan.now }
+    requires plan { IsPlanFor T.Theory reach problem.now plan.old }
     requires bank { IsJoinableFor T.Theory problem.now known.old bank.now }
     requires opened { IsOpenFor T.Theory reach problem.now limits.now known.old level }
     requires known { IsKnownFor T.Theory reach problem.now limits.now known.old }
     requires room { length known.old.stored.items < limits.now.rounds }
     requires rests { AreRestsFor T.Theory problem.now known.old.stored known.old.points rests.now }
+    ensures plan { OnOk result (IsPlanFor T.Theory reach problem.now plan.new) }
     ensures known { OnOk result (IsKnownFor T.Theory reach problem.now limits.now known.new) }
     ensures step { IfOk result (GoesFor T.Theory D.Decide reach problem.now limits.now known.old known.new) }
     ensures trees { IfOk result (OnNext (TreesFollowFromFor T.Theory reach problem.now known.old level bank.now)) }
@@ -69,7 +71,16 @@ pub(crate) fn join<T: Theory, D: Decide<T>>(
     if known.points.of(0).len() == 0 {
         return Ok(Step::Next);
     }
-    let parts = parts_of(alloc, problem, plan.condition, bank, level, rests, known)?;
+    let parts = parts_of(
+        alloc,
+        problem,
+        plan.condition,
+        bank,
+        level,
+        rests,
+        known,
+        &mut plan.memo,
+    )?;
     match try_parts(
         alloc, problem, limits, reach, decide, plan, bank, level, &parts, known,
     )? {
@@ -93,6 +104,7 @@ fn parts_of<'a, T: Theory>(
     level: u32,
     rests: &[Rest],
     known: &Known<T>,
+    memo: &mut Memo<T>,
 ) -> Result<Parts<'a, T>, Want>
     requires problem { ProblemFits T.Theory problem.now }
     requires pointwise { IsPointwise (question_of T.denotes problem.now) }
@@ -101,9 +113,11 @@ fn parts_of<'a, T: Theory>(
     requires functions { 0 < length known.now.points.tuples }
     requires some { 0 < length (of_function known.now.points 0) }
     requires rests { AreRestsFor T.Theory problem.now known.now.stored known.now.points rests.now }
+    requires memo { IsMemoFor T.Theory problem.now memo.old }
     ensures parts { IfOk result (ArePartsFor T.Theory problem.now known.now condition level bank.now) }
     ensures few_leaves { IfOk result (λ parts. length parts.goods.rows < 2 ^ 31) }
     ensures few_conditions { IfOk result (λ parts. length parts.rows < 2 ^ 31) }
+    ensures memo { OnOk result (IsMemoFor T.Theory problem.now memo.new) }
 {
     let Ok(points) = u32::try_from(known.points.of(0).len()) else {
         return Err(AllocError);
@@ -120,6 +134,7 @@ fn parts_of<'a, T: Theory>(
         &known.points,
         rests,
         leaves.as_slice(),
+        memo,
     )?;
     let rows = truth_rows(alloc, conditions.as_slice())?;
     Ok(Parts {

@@ -7,17 +7,20 @@ ghost use Rattle.sy_loop_join.specs.Plans.{TriesTrees};
 use std::alloc::Global;
 use sy_grammar_base::Problem;
 use sy_loop_bounds::Reach;
+use sy_loop_memo::Memo;
 use sy_loop_pointwise::{Posed, pose};
 use sy_loop_trees::condition_of;
 use sy_terms::{Theory, Want};
 
-/// What a search has to know of a problem to join terms by conditional trees.
+/// What a search has to know of a problem to join terms by conditional trees, and what it was told so far.
 #[derive(Drop)]
 pub struct Plan<T: Theory> {
     /// The nonterminal of the conditions.
     pub(crate) condition: u32,
     /// The problem's constraints, each with where it applies the function.
     pub(crate) posed: Vec<Posed<T>>,
+    /// What the constraints told of kept terms at stored assignments.
+    pub(crate) memo: Memo<T>,
 }
 
 /// The plan for a problem; `None` exactly where a search of this reach has no conditional trees to try: the reach has
@@ -40,7 +43,14 @@ pub fn plan_of<T: Theory>(
         return Ok(None);
     };
     match pose(alloc, problem)? {
-        Some(posed) => Ok(Some(Plan { condition, posed })),
+        Some(posed) => {
+            let memo = Memo::new(alloc, problem.constraints.len());
+            Ok(Some(Plan {
+                condition,
+                posed,
+                memo,
+            }))
+        }
         None => Ok(None),
     }
 }

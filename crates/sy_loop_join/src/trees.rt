@@ -28,17 +28,18 @@ pub fn try_trees<T: Theory, D: Decide<T>>(
     limits: &Limits,
     reach: Reach,
     decide: &mut D,
-    plan: &Plan<T>,
+    plan: &mut Plan<T>,
     bank: &Bank<T>,
     level: u32,
     known: &mut Known<T>,
 ) -> Result<Step<T, D::Proof, D::Spent>, Want>
     requires problem { ProblemFits T.Theory problem.now }
-    requires plan { IsPlanFor T.Theory reach problem.now plan.now }
+    requires plan { IsPlanFor T.Theory reach problem.now plan.old }
     requires bank { IsJoinableFor T.Theory problem.now known.old bank.now }
     requires opened { IsOpenFor T.Theory reach problem.now limits.now known.old level }
     requires known { IsKnownFor T.Theory reach problem.now limits.now known.old }
     requires room { length known.old.stored.items < limits.now.rounds }
+    ensures plan { OnOk result (IsPlanFor T.Theory reach problem.now plan.new) }
     ensures known { OnOk result (IsKnownFor T.Theory reach problem.now limits.now known.new) }
     ensures step { IfOk result (GoesFor T.Theory D.Decide reach problem.now limits.now known.old known.new) }
     ensures trees { IfOk result (OnNext (TreesFollowFromFor T.Theory reach problem.now known.old level bank.now)) }

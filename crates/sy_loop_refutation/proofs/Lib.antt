@@ -3,3 +3,4 @@ pub mod Reaching
 pub mod Told
 pub mod Untold
 pub mod Telling
+pub mod Places

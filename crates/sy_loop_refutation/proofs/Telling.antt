@@ -1,17 +1,18 @@
 -- What rows tell of a problem's terms.
-use Rattle.std.proofs.Common.{◌≡◌, ◌≤◌, ◌∷◌, refl, sym, subst, ◌∙◌, Bool, true, List, [], length, arith, Some}
+use Rattle.std.proofs.Common.{◌≡◌, ◌≤◌, ◌∷◌, refl, sym, subst, ◌∙◌, ℕ, Bool, true, List, [], length, arith, Some, slice_get}
 use Rattle.std.specs.List.{Contains, All}
 use Rattle.std.proofs.lemmas.List.{length-map}
 use Rattle.std.proofs.lemmas.List.Elements.{All-contains_itself, All-weaker}
 use denote.Ref.{Bor}
 use Rattle.sy_terms.specs.Values.{Val, Truth}
 use Rattle.sy_terms.specs.Expr.{Expr}
-use Rattle.sy_terms.specs.Denoted.{expr_of}
+use Rattle.sy_terms.specs.Denoted.{expr_of, vals_of}
 use Rattle.sy_terms.specs.Definitions.{bodies}
 use Rattle.sy_terms.specs.Fitting.{Signature, sort_in}
 use Rattle.sy_terms.specs.Meaning.{functions, meaning}
 use Rattle.sy_terms.specs.declared.op.Op.{Op}
 use Rattle.sy_terms.specs.declared.sort.Sort.TheVariants as sorts
+use Rattle.sy_terms.specs.declared.sort.Value.{Value}
 use Rattle.sy_terms.specs.declared.term.Def.{Def}
 use Rattle.sy_terms.specs.declared.term.Term.{Term}
 use Rattle.sy_terms_laws.specs.Evaluation.{TermFits, scope_with}
@@ -20,11 +21,16 @@ use Rattle.sy_grammar_base.specs.Questions.{Question, goal_of, question_of, sign
 use Rattle.sy_grammar_base.specs.Solving.{AreValues, IsTrueUnder}
 use Rattle.sy_grammar_base.specs.declared.problem.Problem.{Problem}
 use Rattle.sy_points.specs.Asked.{Asked}
+use Rattle.sy_points.specs.declared.stored.Stored.{Stored}
 use Rattle.sy_bank_rows.specs.declared.kept.Kept.{Kept}
+use Rattle.sy_loop_history.specs.Stored.{counterexample_of, history_of}
+use Rattle.sy_loop_history.specs.Trials.{IsRefuted}
 use Rattle.sy_loop_history.specs.Truths.{asked_by}
+use Rattle.sy_loop_candidate.proofs.Assignments.{place_of}
+use Rattle.sy_loop_candidate.proofs.Items.{has_place}
 use Rattle.sy_loop_refutation.specs.Bodies.{AreBodies, bodies_of, functions_by, FitsUnder}
 use Rattle.sy_loop_refutation.specs.Observing.{IsTold, IsUntold}
-use Rattle.sy_loop_refutation.specs.Refuting.{AreReady, IsHidden, IsShownFalse, IsOne, IsShown}
+use Rattle.sy_loop_refutation.specs.Refuting.{AreAssignments, AreReady, IsHidden, IsShownFalse, IsOne, IsShown}
 use Rattle.sy_loop_refutation.proofs.Told.{bodies-length}
 use Rattle.sy_grammar_base.specs.Fits.{IsTruth, wanted_of}
 
@@ -91,3 +97,17 @@ shown question points all values assumed one = record {
   violated = record { assumed = assumed; constraint = record { term = one.term; of = one.of; is = one.is.is } };
   there = one.is.there;
 }
+
+-- a stored pair at whose assignment a violation is shown
+module _ {T N : Type 0} (number : N → Val) (question : Question) (stored : Stored T N) (place : ℕ) (pair : List (Value N) × List (Term T N)) (at : slice_get stored.items place ≡ Some pair) where
+  pub assigned_at : AreAssignments question (history_of number stored) → AreValues question.variables (vals_of number pair.0)
+  assigned_at assignments = assignments place (counterexample_of number pair) (place_of number stored place pair at)
+
+  pub refuted_at : (points : Asked) (all : List Expr) → IsShown question points all (vals_of number pair.0) → IsRefuted question (history_of number stored) points all
+  refuted_at points all shown = record {
+    counterexample = counterexample_of number pair;
+    stored = has_place (history_of number stored) place (counterexample_of number pair) (place_of number stored place pair at);
+    calls = shown.calls;
+    violated = shown.violated;
+    there = shown.there;
+  }

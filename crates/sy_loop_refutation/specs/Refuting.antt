@@ -1,5 +1,6 @@
 -- What rows of kept terms tell of a candidate at the assignments of a history.
 use Rattle.std.specs.Prelude.{ℕ, Bool, ◌≡◌, ◌⊎◌, List, length, All, Contains, slice_get, Some}
+use Rattle.std.specs.List.{AllWithin}
 use denote.Ref.{Bor}
 use Rattle.sy_terms.specs.Values.{Val}
 use Rattle.sy_terms.specs.Expr.{Expr}
@@ -58,6 +59,10 @@ IsUnassured question asked bodies values term = (IsTrueUnder question bodies val
 abbrev pub IsUnrefuted : Question → Asked → List Expr → List Val → Expr → Type 0
 IsUnrefuted question asked bodies values term = IsTrueUnder question bodies values term ⊎ IsHidden question asked bodies values term
 
+-- nor that one of the constraints from the one place on and before the other is
+abbrev pub AreUnrefuted : Question → Asked → List Expr → List Val → ℕ → ℕ → Type 0
+AreUnrefuted question asked bodies values from to = AllWithin (IsUnrefuted question asked bodies values) question.constraints from to
+
 -- one of the terms is so
 pub record IsOne (P : Expr → Type 0) (terms : List Expr) : Type 0 where
   pub term : Expr
@@ -74,6 +79,10 @@ pub record IsShown (question : Question) (asked : Asked) (bodies : List Expr) (v
 abbrev pub IsOpenAt : Question → Asked → List Expr → List Val → Type 0
 IsOpenAt question asked bodies values =
     IsOne (IsUnassured question asked bodies values) question.assumptions ⊎ All (IsUnrefuted question asked bodies values) question.constraints
+
+-- nor at the assignments of the history from the one place on and before the other
+abbrev pub IsOpenWithin : Question → List Counterexample → Asked → List Expr → ℕ → ℕ → Type 0
+IsOpenWithin question history asked bodies from to = AllWithin (λ (c : Counterexample). IsOpenAt question asked bodies c.assignment) history from to
 
 -- nor at any assignment of the history
 abbrev pub IsOpenCandidate : Question → List Counterexample → Asked → List Expr → Type 0

@@ -4,6 +4,8 @@
 mod observe;
 mod place;
 mod refute;
+mod suspects;
 mod tell;
 
 pub use refute::are_refuted;
+pub use suspects::Suspects;

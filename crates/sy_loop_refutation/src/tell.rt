@@ -1,11 +1,11 @@
 // What rows tell of the problem's terms at an assignment.
-ghost use Rattle.std.specs.Prelude.{◌≡◌, ◌↔◌, IsTrue, true, false, All, IfOk};
+ghost use Rattle.std.specs.Prelude.{◌≡◌, ◌↔◌, ◌≤◌, IsTrue, true, false, length, All, IfOk, MatchOption};
 ghost use Rattle.sy_terms.specs.Values as spec;
 ghost use Rattle.sy_terms.specs.Denoted.{val_of, expr_of, vals_of};
 ghost use Rattle.sy_grammar_base.specs.Questions.{question_of};
 ghost use Rattle.sy_grammar_base.specs.Solving.{AreValues, IsTrueUnder};
 ghost use Rattle.sy_loop_refutation.specs.Bodies.{bodies_of};
-ghost use Rattle.sy_loop_refutation.specs.Refuting.{AreReady, Tells, IsOne, IsUnassured, IsUnrefuted, IsShown, IsOpenAt, IsShownFalse};
+ghost use Rattle.sy_loop_refutation.specs.Refuting.{AreReady, AreUnrefuted, Tells, IsOne, IsUnassured, IsShown, IsOpenAt, IsShownFalse};
 ghost use Rattle.sy_grammar_base.specs.Fits.{ProblemFits, IsTruth};
 
 use crate::observe::observe;
@@ -26,25 +26,58 @@ pub(crate) enum Told {
     Nothing,
 }
 
-/// Whether the rows show that the chosen terms, as bodies, violate the problem at the assignment.
-pub(crate) fn show_violation<T: Theory>(
+/// Whether the rows show that the chosen terms, as bodies, violate the problem at the assignment by the constraint of this
+/// place. The constraint is looked at first, and the assumptions only where it is false.
+pub(crate) fn is_violated_by<T: Theory>(
     alloc: Global,
     problem: &Problem<T>,
     chosen: &[&Kept<T>],
     points: &Points<T>,
     values: &[Value<T::Num>],
+    constraint: usize,
 ) -> Result<bool, Want>
     requires problem { ProblemFits T.Theory problem.now }
     requires ready { AreReady T.owned T.denotes problem.now points.now chosen.now }
     requires values { AreValues problem.now.vars (vals_of T.denotes values.now) }
-    ensures shown { IfOk result (λ shown. shown ≡ true → IsShown (question_of T.denotes problem.now) points.now (bodies_of T.denotes chosen.now) (vals_of T.denotes values.now)) }
-    ensures open { IfOk result (λ shown. shown ≡ false → IsOpenAt (question_of T.denotes problem.now) points.now (bodies_of T.denotes chosen.now) (vals_of T.denotes values.now)) }
+    ensures { IfOk result (λ violated. IsTrue violated → IsShown (question_of T.denotes problem.now) points.now (bodies_of T.denotes chosen.now) (vals_of T.denotes values.now)) }
+{
+    let Some(term) = problem.constraints.get(constraint) else {
+        return Ok(false);
+    };
+    let Told::False = tell(alloc, problem, chosen, points, values, term)? else {
+        return Ok(false);
+    };
+    let assumed = are_assumed(alloc, problem, chosen, points, values)?;
+    Ok(assumed)
+}
+
+/// The place of a constraint by which the rows show that the chosen terms, as bodies, violate the problem at the
+/// assignment; `None` where they show no violation. Constraints are looked at from the place `first` on, and then from the
+/// first one on.
+pub(crate) fn violated_constraint<T: Theory>(
+    alloc: Global,
+    problem: &Problem<T>,
+    chosen: &[&Kept<T>],
+    points: &Points<T>,
+    values: &[Value<T::Num>],
+    first: usize,
+) -> Result<Option<usize>, Want>
+    requires problem { ProblemFits T.Theory problem.now }
+    requires ready { AreReady T.owned T.denotes problem.now points.now chosen.now }
+    requires values { AreValues problem.now.vars (vals_of T.denotes values.now) }
+    ensures { IfOk result (λ found. MatchOption found (IsOpenAt (question_of T.denotes problem.now) points.now (bodies_of T.denotes chosen.now) (vals_of T.denotes values.now))
+        (λ place. IsShown (question_of T.denotes problem.now) points.now (bodies_of T.denotes chosen.now) (vals_of T.denotes values.now))) }
 {
     if !are_assumed(alloc, problem, chosen, points, values)? {
-        return Ok(false);
+        return Ok(None);
     }
-    let shown = is_one_false(alloc, problem, chosen, points, values)?;
-    Ok(shown)
+    let count = problem.constraints.len();
+    let first = first.min(count);
+    if let Some(place) = false_between(alloc, problem, chosen, points, values, first, count)? {
+        return Ok(Some(place));
+    }
+    let found = false_between(alloc, problem, chosen, points, values, 0, first)?;
+    Ok(found)
 }
 
 /// Whether the rows show that every assumption is true.
@@ -71,28 +104,32 @@ fn are_assumed<T: Theory>(
     Ok(true)
 }
 
-/// Whether the rows show that one of the constraints is false.
-fn is_one_false<T: Theory>(
+/// The place of a constraint that the rows show to be false, of those from the place `from` on and before `to`.
+fn false_between<T: Theory>(
     alloc: Global,
     problem: &Problem<T>,
     chosen: &[&Kept<T>],
     points: &Points<T>,
     values: &[Value<T::Num>],
-) -> Result<bool, Want>
+    from: usize,
+    to: usize,
+) -> Result<Option<usize>, Want>
     requires problem { ProblemFits T.Theory problem.now }
     requires ready { AreReady T.owned T.denotes problem.now points.now chosen.now }
     requires values { AreValues problem.now.vars (vals_of T.denotes values.now) }
-    ensures shown { IfOk result (λ shown. shown ≡ true → IsOne (IsShownFalse (question_of T.denotes problem.now) points.now (bodies_of T.denotes chosen.now) (vals_of T.denotes values.now)) (question_of T.denotes problem.now).constraints) }
-    ensures unrefuted { IfOk result (λ shown. shown ≡ false → All (IsUnrefuted (question_of T.denotes problem.now) points.now (bodies_of T.denotes chosen.now) (vals_of T.denotes values.now)) (question_of T.denotes problem.now).constraints) }
+    requires within { to ≤ length problem.now.constraints }
+    ensures { IfOk result (λ found. MatchOption found (AreUnrefuted (question_of T.denotes problem.now) points.now (bodies_of T.denotes chosen.now) (vals_of T.denotes values.now) from to)
+        (λ place. IsOne (IsShownFalse (question_of T.denotes problem.now) points.now (bodies_of T.denotes chosen.now) (vals_of T.denotes values.now)) (question_of T.denotes problem.now).constraints)) }
 {
-    for term in problem.constraints.as_slice() {
-        match tell(alloc, problem, chosen, points, values, term)? {
-            Told::False => return Ok(true),
+    let constraints = problem.constraints.as_slice();
+    for place in from..to {
+        match tell(alloc, problem, chosen, points, values, &constraints[place])? {
+            Told::False => return Ok(Some(place)),
             Told::True => {}
             Told::Nothing => {}
         }
     }
-    Ok(false)
+    Ok(None)
 }
 
 /// What the rows tell of the term.

@@ -9,7 +9,7 @@ use std::alloc::Global;
 use std::test::Fail;
 use sy_bank_rows::Kept;
 use sy_grammar_base::Problem;
-use sy_loop_refutation::are_refuted;
+use sy_loop_refutation::{Suspects, are_refuted};
 use sy_meaning_integers::IntTheory;
 use sy_points::{Points, Stored};
 use sy_terms::{Seq, Term, Theory, Value, Want};
@@ -58,6 +58,7 @@ fn assigned(alloc: Global, is_stored: bool) -> Result<Stored<IntTheory>, Want>
 /// Whether the problem is violated at the assignment of no variables, where that is stored.
 fn is_violated(
     alloc: Global,
+    suspects: &mut Suspects,
     assumption: bool,
     constraint: bool,
     is_stored: bool,
@@ -66,19 +67,28 @@ fn is_violated(
     let points = Points::<IntTheory>::new(alloc, 0, 1)?;
     let stored = assigned(alloc, is_stored)?;
     let chosen: Vec<&Kept<IntTheory>> = Vec::new(alloc);
-    let refuted = are_refuted(alloc, &problem, chosen.as_slice(), &points, &stored)?;
+    let refuted = are_refuted(
+        alloc,
+        &problem,
+        chosen.as_slice(),
+        &points,
+        &stored,
+        suspects,
+    )?;
     Ok(refuted)
 }
 
 #[test]
 fn a_violation_is_shown_where_it_is_stored(rt: HostRuntime) -> Result<(), Fail> {
+    let mut suspects = Suspects::new(rt.alloc());
     for (assumption, constraint, is_stored, shown) in [
         (true, false, true, true),
         (true, true, true, false),
         (false, false, true, false),
         (true, false, false, false),
+        (true, false, true, true),
     ] {
-        let violated = is_violated(rt.alloc(), assumption, constraint, is_stored)?;
+        let violated = is_violated(rt.alloc(), &mut suspects, assumption, constraint, is_stored)?;
         assert_eq!(rt; violated, shown);
     }
     Ok(())

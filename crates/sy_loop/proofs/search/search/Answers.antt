@@ -3,7 +3,6 @@ use Rattle.std.proofs.lemmas.List.{length-map}
 use Rattle.sy_grammar_base.specs.Questions.{question_of, goal_of}
 use Rattle.sy_loop_laws.proofs.Done as done
 use Rattle.sy_loop.proofs.Carrying.{none_carried}
-use Rattle.sy_loop.proofs.Following.{planned}
 use Rattle.sy_loop.proofs.Rounding.{nothing_known, rounds_none}
 use Rattle.sy_loop.proofs.search.search.Goals as goal
 
@@ -14,6 +13,7 @@ rounds-init g c =
       known = rw c.new.ensures (nothing_known c.args.reach (question_of g.T.Theory.denotes c.args.problem.now) c.args.limits.now c.in_ok-new.field-0 c.len-functions.result all c.in_ok-new.ensures.tuples c.in_ok-new.ensures.limit);
       room = rw c.new.ensures (omega (arith, c.if-limits-eq0.false));
       within = omega arith;
+      plan = c.in_ok-plan.ensures;
       carried = rw c.new-banks.ensures.items (none_carried g.T.Theory.owned g.T.Theory.denotes c.args.problem.now c.args.limits.now 0);
       done = done.begins c.args.reach (question_of g.T.Theory.denotes c.args.problem.now) _ _;
     }
@@ -24,7 +24,7 @@ run_round-requires-clause-functions g c = c.len-functions.ensures
 pub rounds-preserved : goal.rounds-preserved
 rounds-preserved g c =
     let goes = rw c.in-Goes.is at c.in_ok-more.ensures.round in
-    record { known = goes.0; room = goes.1; within = goes.2; carried = rw c.in-Goes.is at c.in_ok-more.ensures.carries; done = rw c.in-Goes.is at c.in_ok-more.ensures.done }
+    record { known = goes.0; room = goes.1; within = goes.2; plan = c.in_ok-more.ensures.plan; carried = rw c.in-Goes.is at c.in_ok-more.ensures.carries; done = rw c.in-Goes.is at c.in_ok-more.ensures.done }
 
 pub rounds-smaller : goal.rounds-smaller
 rounds-smaller g c = (rw c.in-Goes.is at c.in_ok-more.ensures.round).3
@@ -41,6 +41,3 @@ returns-then-limits-eq0-clause-right g c =
     rw c.new.ensures
     (rounds_none c.args.reach (question_of g.T.Theory.denotes c.args.problem.now) c.args.limits.now c.in_ok-new.field-0 (nothing_known c.args.reach (question_of g.T.Theory.denotes c.args.problem.now) c.args.limits.now c.in_ok-new.field-0 c.len-functions.result all c.in_ok-new.ensures.tuples c.in_ok-new.ensures.limit)
     (omega (arith, c.if-limits-eq0.true)))
-
-pub run_round-requires-clause-plan : goal.run_round-requires-clause-plan
-run_round-requires-clause-plan g c = planned g.T.Theory c.args.reach c.args.problem.now c.in_ok-found.found c.as_ref-plan.result c.as_ref-plan.ensures.value c.in_ok-found.ensures

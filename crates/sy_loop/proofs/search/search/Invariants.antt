@@ -2,6 +2,7 @@ use Rattle.std.proofs.Common.{◌≤◌, ◌<◌, length}
 use Rattle.sy_grammar_base.specs.Questions.{question_of}
 use Rattle.sy_loop_history.specs.Stored.{history_of}
 use Rattle.sy_loop_candidate.specs.Known.{IsKnown}
+use Rattle.sy_loop_join.specs.Clauses.{IsPlannedFor}
 use Rattle.sy_loop.specs.Banks.{AreCarried}
 use Rattle.sy_loop_laws.specs.Refuting.{AreDoneBelow}
 use Rattle.sy_loop.specs.Rounds.{work}
@@ -16,5 +17,6 @@ invariant-rounds g l = record {
   room : length l.known.stored.items < l.limits.rounds;
   within : l.level ≤ l.limits.size;
   done : AreDoneBelow l.reach (question_of g.T.Theory.denotes l.problem) (history_of g.T.Theory.denotes l.known.stored) l.known.points l.level;
+  plan : IsPlannedFor g.T.Theory l.reach l.problem l.plan;
   carried : AreCarried g.T.Theory.owned g.T.Theory.denotes l.problem l.limits l.level l.banks.items;
 }

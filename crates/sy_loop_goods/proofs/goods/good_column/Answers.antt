@@ -1,17 +1,22 @@
+use Rattle.std.proofs.lemmas.List.Elements.{All-filter}
 use Rattle.sy_grammar_base.specs.Questions.{question_of}
 use Rattle.sy_points.specs.Asked.{of_function}
 use Rattle.sy_loop_history.specs.Stored.{history_of}
 use Rattle.sy_loop_trees_laws.specs.Goods.{assignments_of}
-use Rattle.sy_loop_goods.proofs.Columns.{goods_next, here_within, leaving_next}
+use Rattle.sy_loop_goods.specs.Columns.{is_on}
+use Rattle.sy_loop_goods.specs.Rests.{IsRest}
+use Rattle.sy_loop_goods.proofs.Columns.{goods_next, leaving_next}
 use Rattle.sy_loop_goods.proofs.goods.good_column.Goals as goal
 
-pub judge_leaf-requires-clause-within : goal.judge_leaf-requires-clause-within
-judge_leaf-requires-clause-within g c =
-    rw c.as_slice.ensures.value (here_within (question_of g.T.Theory.denotes c.args.problem.now) (assignments_of (history_of g.T.Theory.denotes c.args.stored.now)) (of_function c.args.points.now 0) c.args.rests.now c.in_ok-here.here.items c.args.point c.requires.distinct c.requires.rests c.in_ok-here.ensures c.requires.point)
+pub judge_leaf-requires-clause-rests : goal.judge_leaf-requires-clause-rests
+judge_leaf-requires-clause-rests g c =
+    let P = IsRest (question_of g.T.Theory.denotes c.args.problem.now) (assignments_of (history_of g.T.Theory.denotes c.args.stored.now)) (of_function c.args.points.now 0) in
+    rw (c.as_slice.ensures.value, c.in_ok-here.ensures) (All-filter (is_on c.args.point) P c.args.rests.now c.requires.rests.each)
 
 pub loop-leaf-preserved : goal.loop-leaf-preserved
 loop-leaf-preserved g c =
     rw (c.in_ok-push.ensures.ok, c.is_good.ensures, c.or-leaving.ensures, c.leaving_by.ensures) (record {
-      goods = goods_next g.T.Theory.denotes (question_of g.T.Theory.denotes c.args.problem.now) (history_of g.T.Theory.denotes c.args.stored.now) (of_function c.args.points.now 0) c.args.rests.now c.in_ok-here.here.items c.args.point c.requires.distinct c.requires.rests c.in_ok-here.ensures c.requires.pointwise c.requires.assigned c.args.leaves.now c.requires.leaves.rows c.loop-leaf.leaf c.loop-leaf.goods c.in_ok-judged.judged (rw (c.as_slice.ensures.value, c.as_slice-in-loop-leaf.ensures) at c.in_ok-judged.ensures) c.loop-leaf.leaving c.loop-leaf.invariant.goods;
-      leaving = leaving_next g.T.Theory.denotes (question_of g.T.Theory.denotes c.args.problem.now) (history_of g.T.Theory.denotes c.args.stored.now) (of_function c.args.points.now 0) c.args.rests.now c.in_ok-here.here.items c.args.point c.requires.distinct c.requires.rests c.in_ok-here.ensures c.requires.pointwise c.requires.assigned c.args.leaves.now c.requires.leaves.rows c.loop-leaf.leaf c.loop-leaf.goods c.in_ok-judged.judged (rw (c.as_slice.ensures.value, c.as_slice-in-loop-leaf.ensures) at c.in_ok-judged.ensures) c.loop-leaf.leaving c.loop-leaf.invariant.leaving;
+      goods = goods_next g.T.Theory.denotes (question_of g.T.Theory.denotes c.args.problem.now) (history_of g.T.Theory.denotes c.args.stored.now) (of_function c.args.points.now 0) c.args.rests.now c.in_ok-here.here.items c.args.point c.requires.distinct c.requires.rests c.in_ok-here.ensures c.requires.pointwise c.requires.assigned c.args.leaves.now c.requires.leaves.rows c.loop-leaf.leaf c.loop-leaf.goods c.in_ok-judged.judged (rw (c.as_slice.ensures.value, c.as_slice-in-loop-leaf.ensures) at c.in_ok-judged.ensures.judged) c.loop-leaf.leaving c.loop-leaf.invariant.goods;
+      leaving = leaving_next g.T.Theory.denotes (question_of g.T.Theory.denotes c.args.problem.now) (history_of g.T.Theory.denotes c.args.stored.now) (of_function c.args.points.now 0) c.args.rests.now c.in_ok-here.here.items c.args.point c.requires.distinct c.requires.rests c.in_ok-here.ensures c.requires.pointwise c.requires.assigned c.args.leaves.now c.requires.leaves.rows c.loop-leaf.leaf c.loop-leaf.goods c.in_ok-judged.judged (rw (c.as_slice.ensures.value, c.as_slice-in-loop-leaf.ensures) at c.in_ok-judged.ensures.judged) c.loop-leaf.leaving c.loop-leaf.invariant.leaving;
+      memo = c.in_ok-judged.ensures.memo;
     })

@@ -8,6 +8,7 @@ use Rattle.sy_loop_history.specs.Stored.{history_of}
 use Rattle.sy_loop_trees_laws.specs.Goods.{assignments_of}
 use Rattle.sy_loop_goods.specs.Columns.{IsColumn}
 use Rattle.sy_loop_goods.specs.Leaves.{LeafLeaves}
+use Rattle.sy_loop_goods.specs.Memos.{IsMemo}
 use Rattle.sy_loop_goods.proofs.goods.good_column.Given as goal
 
 abbrev pub invariant-loop-leaf : goal.invariant-loop-leaf
@@ -15,4 +16,5 @@ invariant-loop-leaf g l = record {
   goods : l.leaving ≡ None → (tuple : List Val) → slice_get (of_function l.points 0) l.point ≡ Some tuple →
       IsColumn (question_of g.T.Theory.denotes l.problem) (assignments_of (history_of g.T.Theory.denotes l.stored)) tuple (chosen_of g.T.Theory.denotes (take l.leaf l.leaves)) l.goods;
   leaving : IfSome l.leaving (LeafLeaves (question_of g.T.Theory.denotes l.problem) (history_of g.T.Theory.denotes l.stored) (chosen_of g.T.Theory.denotes l.leaves));
+  memo : IsMemo g.T.Theory.denotes (question_of g.T.Theory.denotes l.problem) l.memo;
 }

@@ -1,4 +1,4 @@
-use Rattle.std.proofs.Common.{◌≡◌, ◌<◌, ◌≤◌, ◌∙◌, List, Bool, Bor, ap, arith, length, sym}
+use Rattle.std.proofs.Common.{◌≡◌, ◌<◌, ◌≤◌, ◌∙◌, List, Bool, Bor, ap, arith, length, rules, sym}
 use Rattle.std.proofs.lemmas.List.{length-map}
 use Rattle.sy_terms.specs.Denoted.{vals_of}
 use Rattle.sy_grammar_base.specs.Questions.{question_of}
@@ -10,7 +10,15 @@ use Rattle.sy_loop_trees_laws.specs.Goods.{assignments_of}
 use Rattle.sy_loop_goods.specs.Columns.{row_from}
 use Rattle.sy_loop_goods.specs.Leaves.{LeafLeaves}
 use Rattle.sy_loop_goods.proofs.Columns.{columns_next, goods_all, left_by, tuples_are}
+use Rattle.sy_loop_goods.proofs.Memos.{memo_stays}
 use Rattle.sy_loop_goods.proofs.goods.good_rows.Goals as goal
+
+pub loop-point-init : goal.loop-point-init
+loop-point-init g c = record {
+  columns = search rules;
+  leaving = search rules;
+  memo = memo_stays g.T.Theory.denotes (question_of g.T.Theory.denotes c.args.problem.now) c.args.memo.now c.widen.new.self c.requires.memo c.in_ok-widen.ensures;
+}
 
 pub loop-point-preserved : goal.loop-point-preserved
 loop-point-preserved g c =
@@ -20,6 +28,7 @@ loop-point-preserved g c =
     rw (c.in_ok-push.ensures.items, c.or-leaving.ensures) (record {
       columns = columns_next (question_of g.T.Theory.denotes c.args.problem.now) (assignments_of (history_of g.T.Theory.denotes c.args.stored.now)) (of_function c.args.points.now 0) leaves c.loop-point.point c.loop-point.columns.items c.in_ok-column.column.goods c.in_ok-column.column.leaving c.loop-point.leaving within c.loop-point.invariant.columns c.in_ok-column.ensures.goods;
       leaving = left_by (LeafLeaves (question_of g.T.Theory.denotes c.args.problem.now) (history_of g.T.Theory.denotes c.args.stored.now) leaves) c.in_ok-column.column.leaving c.loop-point.leaving c.in_ok-column.ensures.leaving c.loop-point.invariant.leaving;
+      memo = c.in_ok-column.ensures.memo;
     })
 
 pub returns-clause-goods : goal.returns-clause-goods

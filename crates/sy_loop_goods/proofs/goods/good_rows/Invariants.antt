@@ -7,6 +7,7 @@ use Rattle.sy_loop_history.specs.Stored.{history_of}
 use Rattle.sy_loop_trees_laws.specs.Goods.{assignments_of}
 use Rattle.sy_loop_goods.specs.Columns.{AreColumns}
 use Rattle.sy_loop_goods.specs.Leaves.{LeafLeaves}
+use Rattle.sy_loop_goods.specs.Memos.{IsMemo}
 use Rattle.sy_loop_goods.proofs.goods.good_rows.Given as goal
 
 abbrev pub invariant-loop-point : goal.invariant-loop-point
@@ -14,4 +15,5 @@ invariant-loop-point g l = record {
   columns : l.leaving ≡ None → AreColumns (question_of g.T.Theory.denotes l.problem) (assignments_of (history_of g.T.Theory.denotes l.stored)) (chosen_of g.T.Theory.denotes l.leaves)
       (take l.point (of_function l.points 0)) l.columns.items;
   leaving : IfSome l.leaving (LeafLeaves (question_of g.T.Theory.denotes l.problem) (history_of g.T.Theory.denotes l.stored) (chosen_of g.T.Theory.denotes l.leaves));
+  memo : IsMemo g.T.Theory.denotes (question_of g.T.Theory.denotes l.problem) l.memo;
 }

@@ -5,8 +5,11 @@ use Rattle.sy_grammar_base.specs.Questions.{question_of}
 use Rattle.sy_loop_history.specs.Stored.{history_of}
 use Rattle.sy_loop_trees_laws.specs.Goods.{assignments_of}
 use Rattle.sy_loop_goods.specs.Judging.{IsTrueAt}
+use Rattle.sy_loop_goods.specs.Memos.{IsMemo}
 use Rattle.sy_loop_goods.proofs.judging.judge.Given as goal
 
 abbrev pub invariant-loop-rest : goal.invariant-loop-rest
-invariant-loop-rest g l =
-    All (IsTrueAt (question_of g.T.Theory.denotes l.problem) (assignments_of (history_of g.T.Theory.denotes l.stored)) (map (expr_of g.T.Theory.denotes) l.bodies)) (take l.rest-index l.rests)
+invariant-loop-rest g l = record {
+  all : All (IsTrueAt (question_of g.T.Theory.denotes l.problem) (assignments_of (history_of g.T.Theory.denotes l.stored)) (map (expr_of g.T.Theory.denotes) l.bodies)) (take l.rest-index l.rests);
+  memo : IsMemo g.T.Theory.denotes (question_of g.T.Theory.denotes l.problem) l.memo;
+}

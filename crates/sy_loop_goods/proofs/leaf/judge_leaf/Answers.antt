@@ -10,6 +10,16 @@ use Rattle.sy_loop_candidate.proofs.Items.{has_place}
 use Rattle.sy_loop_goods.proofs.Columns.{chosen_at}
 use Rattle.sy_loop_goods.proofs.leaf.judge_leaf.Goals as goal
 
+pub recall-requires-clause-row : goal.recall-requires-clause-row
+recall-requires-clause-row g c =
+    let kept = c.index-leaves-leaf.result in
+    c.requires.leaves.rows c.args.leaf (entry_of g.T.Theory.denotes kept.now) (chosen_at g.T.Theory.denotes c.args.leaves.now c.args.leaf kept (slice_get_read _ _ _ _ refl c.requires.leaf c.index-leaves-leaf.is))
+
+pub judge-requires-clause-row : goal.judge-requires-clause-row
+judge-requires-clause-row g c =
+    let kept = c.index-leaves-leaf.result in
+    c.requires.leaves.rows c.args.leaf (entry_of g.T.Theory.denotes kept.now) (chosen_at g.T.Theory.denotes c.args.leaves.now c.args.leaf kept (slice_get_read _ _ _ _ refl c.requires.leaf c.index-leaves-leaf.is))
+
 pub judge-requires-clause-bodies : goal.judge-requires-clause-bodies
 judge-requires-clause-bodies g c =
     let question = question_of g.T.Theory.denotes c.args.problem.now in
@@ -17,14 +27,23 @@ judge-requires-clause-bodies g c =
     let kept = c.index-leaves-leaf.result in
     let entry = entry_of g.T.Theory.denotes kept.now in
     let at = chosen_at g.T.Theory.denotes c.args.leaves.now c.args.leaf kept (slice_get_read _ _ _ _ refl c.requires.leaf c.index-leaves-leaf.is) in
-    let member = All-contains (λ (e : Entry). AreMembers question.goals (e.term ∷ [])) leaves entry c.requires.members (has_place leaves c.args.leaf entry at) in
+    let member = All-contains (λ (e : Entry). AreMembers question.goals (e.term ∷ [])) leaves entry c.requires.leaves.members (has_place leaves c.args.leaf entry at) in
     bodies_fit g.T.Theory.owned g.T.Theory.numeric g.T.Theory.denotes c.args.problem.now c.in_ok-bodies.bodies c.requires.problem g.met.T.Theory.negation (subst (AreMembers question.goals) (sym c.in_ok-bodies.ensures) member)
 
-pub returns : goal.returns
-returns g c =
+pub returns-in-Some-recall-clause-judged : goal.returns-in-Some-recall-clause-judged
+returns-in-Some-recall-clause-judged g c =
     let kept = c.index-leaves-leaf.result in
     inr (record {
       entry = entry_of g.T.Theory.denotes kept.now;
       at = chosen_at g.T.Theory.denotes c.args.leaves.now c.args.leaf kept (slice_get_read _ _ _ _ refl c.requires.leaf c.index-leaves-leaf.is);
-      judges = rw c.in_ok-bodies.ensures at c.in_ok-judged.ensures;
+      judges = rw c.judged_by-in-Some-recall.ensures c.in-Some-recall.ensures;
+    })
+
+pub returns-clause-judged : goal.returns-clause-judged
+returns-clause-judged g c =
+    let kept = c.index-leaves-leaf.result in
+    inr (record {
+      entry = entry_of g.T.Theory.denotes kept.now;
+      at = chosen_at g.T.Theory.denotes c.args.leaves.now c.args.leaf kept (slice_get_read _ _ _ _ refl c.requires.leaf c.index-leaves-leaf.is);
+      judges = rw c.in_ok-bodies.ensures at c.in_ok-judged.ensures.judged;
     })

@@ -14,6 +14,7 @@ use Rattle.sy_loop_candidate.proofs.Ending.{room_in}
 use Rattle.sy_loop_laws.proofs.Refuted.{assumes_nothing}
 use Rattle.sy_loop_join.proofs.Following.{none_follow}
 use Rattle.sy_loop_join.proofs.Joining.{leaf_leaves, tuples_at}
+use Rattle.sy_loop_join.proofs.Planning.{with_memo}
 use Rattle.sy_loop_join.proofs.join.join.Goals as goal
 
 pub returns-then-len-eq0-clause-trees : goal.returns-then-len-eq0-clause-trees
@@ -52,3 +53,18 @@ returns-clause-step g c =
     (vals_of number c.in_ok-bodies.assignment) c.in_ok-parts.ensures.parts.leaves_are (room_in number c.args.known.now.stored c.args.limits.now.rounds c.requires.room) leaving left.at assigned in
     subst (λ h. CheckedLeaves c.args.reach question c.args.limits.now.size c.args.limits.now.rounds h (map (expr_of number) c.in_ok-bodies.bodies) (vals_of number c.in_ok-bodies.assignment)) (sym goes.0)
     (subst (λ bodies. CheckedLeaves c.args.reach question c.args.limits.now.size c.args.limits.now.rounds history bodies (vals_of number c.in_ok-bodies.assignment)) (sym left.bodies_are) leaves)
+
+pub try_parts-requires-clause-plan : goal.try_parts-requires-clause-plan
+try_parts-requires-clause-plan g c = with_memo g.T.Theory.denotes c.args.reach (question_of g.T.Theory.denotes c.args.problem.now) c.args.plan.now c.parts_of.new.memo c.requires.plan c.in_ok-parts.ensures.memo
+
+pub returns-in-Again-clause-plan : goal.returns-in-Again-clause-plan
+returns-in-Again-clause-plan g c = with_memo g.T.Theory.denotes c.args.reach (question_of g.T.Theory.denotes c.args.problem.now) c.args.plan.now c.parts_of.new.memo c.requires.plan c.in_ok-parts.ensures.memo
+
+pub returns-in-End-clause-plan : goal.returns-in-End-clause-plan
+returns-in-End-clause-plan g c = with_memo g.T.Theory.denotes c.args.reach (question_of g.T.Theory.denotes c.args.problem.now) c.args.plan.now c.parts_of.new.memo c.requires.plan c.in_ok-parts.ensures.memo
+
+pub returns-in_default-clause-plan : goal.returns-in_default-clause-plan
+returns-in_default-clause-plan g c = with_memo g.T.Theory.denotes c.args.reach (question_of g.T.Theory.denotes c.args.problem.now) c.args.plan.now c.parts_of.new.memo c.requires.plan c.in_ok-parts.ensures.memo
+
+pub returns-clause-plan : goal.returns-clause-plan
+returns-clause-plan g c = with_memo g.T.Theory.denotes c.args.reach (question_of g.T.Theory.denotes c.args.problem.now) c.args.plan.now c.parts_of.new.memo c.requires.plan c.in_ok-parts.ensures.memo

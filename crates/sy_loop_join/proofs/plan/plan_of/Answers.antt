@@ -19,6 +19,7 @@ returns-in-Some-2 g c =
       tries = c.tries_trees.ensures.0 c.if-not-tries_trees.false;
       pointwise = posed.0;
       posed = posed.1;
+      memo = record { each = λ telling told. absurd (c.new-memo.ensures telling told) };
       goal = goal_of g.T.Theory.denotes c.in-Some.wanted.now;
       at = first_goal g.T.Theory.denotes c.args.problem.now c.args.reach c.in-Some.wanted.now c.in-Some.ensures;
       rule = c.in-Some-condition_of.ensures.rule;

@@ -1,0 +1,12 @@
+use Rattle.std.proofs.Common.{[], ◌∷◌, take}
+use Rattle.std.specs.List.{All}
+use Rattle.sy_grammar_base.specs.Questions.{question_of}
+use Rattle.sy_bank_rows.specs.Stored.{entry_of}
+use Rattle.sy_loop_history.specs.Stored.{history_of}
+use Rattle.sy_loop_trees_laws.specs.Goods.{assignments_of}
+use Rattle.sy_loop_goods.specs.Judging.{IsTrueAt}
+use Rattle.sy_loop_goods.proofs.recall.recall.Given as goal
+
+abbrev pub invariant-loop-rest : goal.invariant-loop-rest
+invariant-loop-rest g l =
+    All (IsTrueAt (question_of g.T.Theory.denotes l.problem) (assignments_of (history_of g.T.Theory.denotes l.stored)) ((entry_of g.T.Theory.denotes l.kept).term ∷ [])) (take l.rest-index l.rests)
