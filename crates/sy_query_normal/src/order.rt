@@ -3,9 +3,9 @@ use std::cmp::Ordering;
 use sy_meaning_words::{BvTheory, Word};
 use sy_terms::{Op, Term, Value, spell};
 
-/// Whether the first term stands before the second one: constants before variables, these before applications, and
-/// applications by their operators and then by their arguments. A complement stands right behind the term whose it is, so
-/// that gates of the two see each other.
+/// Whether the first term stands before the second one: variables before applications, these by their operators and then by
+/// their arguments, and constants last, as people write sums and comparisons. A complement stands right behind the term whose
+/// it is, so that gates of the two see each other.
 pub(crate) fn is_before(first: &Term<BvTheory>, second: &Term<BvTheory>) -> bool {
     match compare(turned_back(first), turned_back(second)) {
         Ordering::Less => true,
@@ -57,11 +57,11 @@ fn compare_all(first: &[Term<BvTheory>], second: &[Term<BvTheory>]) -> Ordering 
 /// The place of a term's form among the forms.
 fn rank(term: &Term<BvTheory>) -> u8 {
     match term {
-        Term::Const(_) => 0,
-        Term::Var(_) => 1,
-        Term::App(_, _) => 2,
-        Term::Call(_, _) => 3,
-        Term::Let(_, _) => 4,
+        Term::Var(_) => 0,
+        Term::App(_, _) => 1,
+        Term::Call(_, _) => 2,
+        Term::Let(_, _) => 3,
+        Term::Const(_) => 4,
     }
 }
 
