@@ -1,5 +1,6 @@
 ghost use Rattle.std.specs.Prelude.{◌≡◌, ℕ, Bool, true, ◌+◌, ◌*◌, ◌≤◌, ◌<◌, ◌↔◌, ◌&&◌, not, max, length, OnOk, IfOk, List, [], ◌++◌, ◌∷◌, take};
 ghost use Rattle.sy_gates.specs.Circuits.{Plan, variables, FollowsPlan, lit_bound, gate_bound, gate_value, clauses_bound, xor};
+ghost use Rattle.sy_gates.specs.declared.gate.Gate.TheVariants.{And, Xor, Choose};
 ghost use Rattle.sy_gates.specs.Models.{clauses_value, but_last, values_of};
 
 use crate::circuit::Circuit;
@@ -20,6 +21,97 @@ pub fn add_clause(alloc: Global, clauses: &mut Seq<Seq<Lit>>, literals: &[Lit]) 
 }
 
 #[tactic(auto, using(crate::proofs::Encoding::push_steps))]
+// The clauses of `Gate::And`.
+fn add_and(
+    alloc: Global,
+    clauses: &mut Seq<Seq<Lit>>,
+    made: u32,
+    a: Lit,
+    b: Lit,
+) -> Result<(), Want>
+    ensures value { OnOk result ((v : ℕ → Bool) → clauses_value v clauses.new ≡ (clauses_value v clauses.old && not (xor (v made) (gate_value v (And a b))))) }
+    ensures count { OnOk result (length clauses.new ≤ length clauses.old + 4) }
+    ensures bound { OnOk result (clauses_bound clauses.new ≤ max (clauses_bound clauses.old) (max (made + 1) (gate_bound (And a b)))) }
+{
+    let on = Lit {
+        var: made,
+        positive: true,
+    };
+    let off = Lit {
+        var: made,
+        positive: false,
+    };
+    let not_a = negated(a);
+    let not_b = negated(b);
+    add_clause(alloc, clauses, &[off, a])?;
+    add_clause(alloc, clauses, &[off, b])?;
+    add_clause(alloc, clauses, &[on, not_a, not_b])?;
+    Ok(())
+}
+
+#[tactic(auto, using(crate::proofs::Encoding::push_steps))]
+// The clauses of `Gate::Xor`.
+fn add_xor(
+    alloc: Global,
+    clauses: &mut Seq<Seq<Lit>>,
+    made: u32,
+    a: Lit,
+    b: Lit,
+) -> Result<(), Want>
+    ensures value { OnOk result ((v : ℕ → Bool) → clauses_value v clauses.new ≡ (clauses_value v clauses.old && not (xor (v made) (gate_value v (Xor a b))))) }
+    ensures count { OnOk result (length clauses.new ≤ length clauses.old + 4) }
+    ensures bound { OnOk result (clauses_bound clauses.new ≤ max (clauses_bound clauses.old) (max (made + 1) (gate_bound (Xor a b)))) }
+{
+    let on = Lit {
+        var: made,
+        positive: true,
+    };
+    let off = Lit {
+        var: made,
+        positive: false,
+    };
+    let not_a = negated(a);
+    let not_b = negated(b);
+    add_clause(alloc, clauses, &[off, a, b])?;
+    add_clause(alloc, clauses, &[off, not_a, not_b])?;
+    add_clause(alloc, clauses, &[on, not_a, b])?;
+    add_clause(alloc, clauses, &[on, a, not_b])?;
+    Ok(())
+}
+
+#[tactic(auto, using(crate::proofs::Encoding::push_steps))]
+// The clauses of `Gate::Choose`.
+fn add_choose(
+    alloc: Global,
+    clauses: &mut Seq<Seq<Lit>>,
+    made: u32,
+    t: Lit,
+    a: Lit,
+    b: Lit,
+) -> Result<(), Want>
+    ensures value { OnOk result ((v : ℕ → Bool) → clauses_value v clauses.new ≡ (clauses_value v clauses.old && not (xor (v made) (gate_value v (Choose t a b))))) }
+    ensures count { OnOk result (length clauses.new ≤ length clauses.old + 4) }
+    ensures bound { OnOk result (clauses_bound clauses.new ≤ max (clauses_bound clauses.old) (max (made + 1) (gate_bound (Choose t a b)))) }
+{
+    let on = Lit {
+        var: made,
+        positive: true,
+    };
+    let off = Lit {
+        var: made,
+        positive: false,
+    };
+    let not_t = negated(t);
+    let not_a = negated(a);
+    let not_b = negated(b);
+    add_clause(alloc, clauses, &[not_t, not_a, on])?;
+    add_clause(alloc, clauses, &[not_t, a, off])?;
+    add_clause(alloc, clauses, &[t, not_b, on])?;
+    add_clause(alloc, clauses, &[t, b, off])?;
+    Ok(())
+}
+
+#[tactic(auto, using(crate::proofs::Encoding::push_steps))]
 // Adds clauses that hold exactly where the variable `made` has the truth value that the gate makes.
 pub fn add_gate(
     alloc: Global,
@@ -31,42 +123,17 @@ pub fn add_gate(
     ensures count { OnOk result (length clauses.new ≤ length clauses.old + 4) }
     ensures bound { OnOk result (clauses_bound clauses.new ≤ max (clauses_bound clauses.old) (max (made + 1) (gate_bound gate))) }
 {
-    let on = Lit {
-        var: made,
-        positive: true,
-    };
-    let off = Lit {
-        var: made,
-        positive: false,
-    };
     match gate {
         Gate::Constant(b) => {
-            add_clause(alloc, clauses, &[if b { on } else { off }])?;
+            let literal = Lit {
+                var: made,
+                positive: b,
+            };
+            add_clause(alloc, clauses, &[literal])?;
+            Ok(())
         }
-        Gate::And(a, b) => {
-            let not_a = negated(a);
-            let not_b = negated(b);
-            add_clause(alloc, clauses, &[off, a])?;
-            add_clause(alloc, clauses, &[off, b])?;
-            add_clause(alloc, clauses, &[on, not_a, not_b])?;
-        }
-        Gate::Xor(a, b) => {
-            let not_a = negated(a);
-            let not_b = negated(b);
-            add_clause(alloc, clauses, &[off, a, b])?;
-            add_clause(alloc, clauses, &[off, not_a, not_b])?;
-            add_clause(alloc, clauses, &[on, not_a, b])?;
-            add_clause(alloc, clauses, &[on, a, not_b])?;
-        }
-        Gate::Choose(t, a, b) => {
-            let not_t = negated(t);
-            let not_a = negated(a);
-            let not_b = negated(b);
-            add_clause(alloc, clauses, &[not_t, not_a, on])?;
-            add_clause(alloc, clauses, &[not_t, a, off])?;
-            add_clause(alloc, clauses, &[t, not_b, on])?;
-            add_clause(alloc, clauses, &[t, b, off])?;
-        }
+        Gate::And(a, b) => add_and(alloc, clauses, made, a, b),
+        Gate::Xor(a, b) => add_xor(alloc, clauses, made, a, b),
+        Gate::Choose(t, a, b) => add_choose(alloc, clauses, made, t, a, b),
     }
-    Ok(())
 }
