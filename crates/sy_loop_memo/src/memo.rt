@@ -38,7 +38,8 @@ impl<T: Theory> Memo<T> {
         }
     }
 
-    /// Opens pages for the stored assignments that have none.
+    /// Opens pages for the stored assignments that have none. `Want` comes where memory runs out, and nowhere else; nothing is
+    /// promised of the memo then.
     pub fn widen(&mut self, alloc: Global, stored: &Stored<T>) -> Result<(), Want>
         ensures { OnOk result ((telling : Telling) → HasTelling T.denotes self.new telling → HasTelling T.denotes self.old telling) }
     {
@@ -68,7 +69,8 @@ impl<T: Theory> Memo<T> {
     }
 
     /// Adds whether the constraint of this number is true at the stored assignment of this place, where the function has
-    /// this value, unless there is no room or no page.
+    /// this value, unless there is no room or no page. `Want` comes where memory runs out, and nowhere else; nothing is
+    /// promised of the memo then.
     pub fn add(
         &mut self,
         constraint: usize,

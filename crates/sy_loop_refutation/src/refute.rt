@@ -18,7 +18,7 @@ use sy_terms::{Theory, Want};
 
 /// Whether the rows of the chosen terms, one for each function to be found, show that these as bodies violate the problem
 /// at a stored assignment. A row shows nothing of a call at a tuple that isn't among its function's points. What refuted
-/// earlier ones is looked at first.
+/// earlier ones is looked at first. `Want` comes where memory runs out, and nowhere else.
 pub fn are_refuted<T: Theory>(
     alloc: Global,
     problem: &Problem<T>,

@@ -21,7 +21,8 @@ impl Suspects {
         }
     }
 
-    /// Has guesses for so many stored assignments: the first constraint for each new one.
+    /// Has guesses for so many stored assignments: the first constraint for each new one. `Want` comes where memory runs out,
+    /// and nowhere else; then there are guesses for some of them.
     pub(crate) fn cover(&mut self, assignments: usize) -> Result<(), Want> {
         for place in self.order.len()..assignments {
             self.order.push(place)?;

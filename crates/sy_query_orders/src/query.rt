@@ -17,6 +17,9 @@ use sy_terms::{Seq, Sort, Term, Theory, Want};
 /// A query that the same values satisfy. What a `let` gives a name to is written in the name's place where it is a
 /// constant or a variable. Where a small term is compared with a choice, there is a choice between comparisons; and where
 /// variables are compared with each other as unsigned numbers, it says that their order is transitive.
+///
+/// `Want` comes where memory runs out, and where a number of 32 bits doesn't count the values in force somewhere in the
+/// query: its variables, and what is bound by the `let`s around that are kept.
 pub fn ordered<T: Theory>(alloc: Global, query: &Query<T>) -> Result<Query<T>, Want>
     ensures variables { IfOk result (λ found. found.vars ≡ query.now.vars) }
     ensures same { IfOk result (λ found. (values : List Val) → Satisfies (query_of T.denotes found) values ↔ Satisfies (query_of T.denotes query.now) values) }
