@@ -7,7 +7,7 @@ use Rattle.sy_terms.specs.Values.{Val}
 use Rattle.sy_terms.specs.Operators.{op_value}
 use Rattle.sy_terms.specs.Theories.{sort_of_value}
 use Rattle.sy_terms.specs.Sorts.{sort_of}
-use Rattle.sy_terms.specs.Expr.{Expr, Exprs, Constant, Variable, Apply, none, more}
+use Rattle.sy_terms.specs.Expr.{Expr, Exprs, Constant, Variable, Apply}
 use Rattle.sy_terms.specs.Denoted.{expr_of, exprs_of}
 use Rattle.sy_terms.specs.Meaning.{meaning, meanings, value_at_position}
 use Rattle.sy_terms.specs.declared.op.Op.{Op}
@@ -186,16 +186,7 @@ next_sorted number values (y ∷ xs) x (s ∷ found) sort same is =
     let all = next_sorted number values xs x found sort rest is in
     cc
 
--- lists with one term more
-
-pub one_more_same : {T N : Type 0} (number : N → Val) (found others : List (Term T N)) (term other : Term T N) → exprs_of number found ≡ exprs_of number others → expr_of number term ≡ expr_of number other → exprs_of number (found ++ term ∷ []) ≡ exprs_of number (others ++ other ∷ [])
-one_more_same number [] [] term other same is = ap (λ (e : Expr). more e none) is
-one_more_same number [] (y ∷ others) term other same is = cc
-one_more_same number (x ∷ found) [] term other same is = cc
-one_more_same number (x ∷ found) (y ∷ others) term other same is =
-    let first : expr_of number x ≡ expr_of number y = cc in
-    let rest : exprs_of number found ≡ exprs_of number others = cc in
-    ap (λ (e : Expr). more e (exprs_of number (found ++ term ∷ []))) first ∙ ap (more (expr_of number y)) (one_more_same number found others term other rest is)
+-- lists with more
 
 module _ {T N : Type 0} (number : N → Val) (sort : Sort) (operator : Op) (law : IsUnordered sort operator) (values : List Val) where
   pub flat_more : (parts next done : List (Term T N)) (term : Term T N) →

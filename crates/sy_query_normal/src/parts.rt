@@ -17,6 +17,7 @@ use crate::order::is_before;
 use crate::sorts::has_sort;
 use std::alloc::Global;
 use sy_meaning_words::BvTheory;
+use sy_query_copies::copied_terms;
 use sy_terms::{Op, Sort, Term, Terms, Want};
 
 /// Whether each of the terms stands before the next, and none of them is the operator at some.
@@ -69,7 +70,7 @@ fn parts_of(alloc: Global, operator: Op, term: &Term<BvTheory>) -> Result<Vec<Te
 {
     match arguments_under(operator, term) {
         Some(arguments) => {
-            let parts = copies(alloc, arguments.as_slice())?;
+            let parts = copied_terms(alloc, arguments.as_slice())?;
             Ok(parts)
         }
         None => {
@@ -96,18 +97,6 @@ fn arguments_under<'a>(operator: Op, term: &'a Term<BvTheory>) -> Option<&'a Ter
         return None;
     }
     Some(arguments)
-}
-
-/// The same terms, in memory of their own.
-fn copies(alloc: Global, terms: &[Term<BvTheory>]) -> Result<Vec<Term<BvTheory>>, Want>
-    ensures { IfOk result (λ same. exprs_of vector same.items ≡ exprs_of vector terms.now) }
-{
-    let mut same = Vec::with_capacity(alloc, terms.len())?;
-    for term in terms {
-        let copy = term.copy(alloc)?;
-        same.push(copy)?;
-    }
-    Ok(same)
 }
 
 /// The parts in order and without doubles; `None` where one of them isn't known to have the sort.

@@ -8,7 +8,8 @@ use crate::normal::normal;
 use std::alloc::Global;
 use sy_meaning_words::BvTheory;
 use sy_query_base::Query;
-use sy_terms::{Seq, Sort, Want};
+use sy_query_copies::copied_sorts;
+use sy_terms::Want;
 
 /// A query that the same values satisfy, written so that equal terms are more often one term: arguments of `and`, `or`,
 /// `bvand`, `bvor` and `bvxor` stand in one order and without doubles, as do two of any operator that may be exchanged,
@@ -18,18 +19,7 @@ pub fn normal_query(alloc: Global, query: &Query<BvTheory>) -> Result<Query<BvTh
     ensures variables { IfOk result (λ found. found.vars ≡ query.now.vars) }
     ensures same { IfOk result (λ found. (values : List Val) → Satisfies (query_of vector found) values ↔ Satisfies (query_of vector query.now) values) }
 {
-    let vars = copied(alloc, query.vars.as_slice())?;
+    let vars = copied_sorts(alloc, query.vars.as_slice())?;
     let body = normal(alloc, query.vars.as_slice(), &query.body)?;
     Ok(Query { vars, body })
-}
-
-/// The same sorts, in memory of their own.
-fn copied(alloc: Global, sorts: &[Sort]) -> Result<Seq<Sort>, Want>
-    ensures { IfOk result (λ copies. copies ≡ sorts.now) }
-{
-    let mut copies = Seq::new(alloc);
-    for sort in sorts {
-        copies.push(*sort)?;
-    }
-    Ok(copies)
 }

@@ -8,7 +8,8 @@ use crate::settled::settled;
 use std::alloc::Global;
 use sy_meaning_words::BvTheory;
 use sy_query_base::Query;
-use sy_terms::{Seq, Sort, Want};
+use sy_query_copies::copied_sorts;
+use sy_terms::Want;
 
 /// A query that the same values satisfy, in which comparisons of sums and products of the variables are truth values where
 /// the normal form of the difference decides them. `Want` comes where memory runs out, and nowhere else.
@@ -16,18 +17,7 @@ pub fn settled_query(alloc: Global, query: &Query<BvTheory>) -> Result<Query<BvT
     ensures variables { IfOk result (λ found. found.vars ≡ query.now.vars) }
     ensures same { IfOk result (λ found. (values : List Val) → Satisfies (query_of vector found) values ↔ Satisfies (query_of vector query.now) values) }
 {
-    let vars = copied(alloc, query.vars.as_slice())?;
+    let vars = copied_sorts(alloc, query.vars.as_slice())?;
     let body = settled(alloc, query.vars.as_slice(), &query.body)?;
     Ok(Query { vars, body })
-}
-
-/// The same sorts, in memory of their own.
-fn copied(alloc: Global, sorts: &[Sort]) -> Result<Seq<Sort>, Want>
-    ensures { IfOk result (λ copies. copies ≡ sorts.now) }
-{
-    let mut copies = Seq::new(alloc);
-    for sort in sorts {
-        copies.push(*sort)?;
-    }
-    Ok(copies)
 }

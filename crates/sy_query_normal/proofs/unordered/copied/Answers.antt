@@ -1,11 +1,11 @@
 use Rattle.std.proofs.Common.{arith, take}
 use Rattle.std.proofs.lemmas.List.{take_more}
 use Rattle.sy_meaning_words.specs.Vectors.{vector}
-use Rattle.sy_query_normal.proofs.Terms.{one_more_same}
+use Rattle.sy_query_copies.proofs.Lists.{one_more}
 use Rattle.sy_query_normal.proofs.unordered.copied.Goals as goal
 
 pub loop-term-preserved : goal.loop-term-preserved
 loop-term-preserved c =
     let more = take_more c.args.terms.now c.loop-term.term-index c.term-item.result (grind arith) in
     rw (more, ← c.term-item.is, c.in_ok-push.ensures.ok)
-    (one_more_same vector c.loop-term.copies.items.items (take c.loop-term.term-index c.args.terms.now) c.in_ok-copy.copy c.term-item.result c.loop-term.invariant c.in_ok-copy.ensures)
+    (one_more vector c.loop-term.copies.items.items (take c.loop-term.term-index c.args.terms.now) c.in_ok-copy.copy c.term-item.result c.loop-term.invariant c.in_ok-copy.ensures)
