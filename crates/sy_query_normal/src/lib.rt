@@ -2,6 +2,7 @@
 #![tactic(auto)]
 
 mod choices;
+mod itself;
 mod normal;
 mod order;
 mod parts;

@@ -6,6 +6,7 @@ ghost use Rattle.sy_meaning_words.specs.Vectors.{vector};
 ghost use Rattle.sy_query_sums.specs.Sums.{IsSameOver, AreSameOver};
 
 use crate::choices::chosen;
+use crate::itself::by_itself;
 use crate::sides::turned;
 use crate::unordered::gathered;
 use std::alloc::Global;
@@ -82,6 +83,10 @@ fn anew(
         }
         Op::And | Op::Or | Op::BvAnd | Op::BvOr | Op::BvXor => {
             let found = gathered(alloc, sorts, operator, arguments)?;
+            Ok(found)
+        }
+        Op::BvLshr | Op::BvAshr | Op::BvUrem | Op::BvSrem | Op::BvSmod => {
+            let found = by_itself(alloc, sorts, operator, arguments)?;
             Ok(found)
         }
         _ => {

@@ -13,8 +13,9 @@ use sy_terms::Want;
 
 /// A query that the same values satisfy, written so that equal terms are more often one term: arguments of `and`, `or`,
 /// `bvand`, `bvor` and `bvxor` stand in one order and without doubles, as do two of any operator that may be exchanged,
-/// comparisons say "less", and an `ite` whose branch is known is its branch. What a `let` binds, and what is under it,
-/// stays as it is. `Want` comes where memory runs out, and nowhere else.
+/// comparisons say "less", and an `ite` whose branch is known is its branch. A remainder of a vector by itself is zeros, as is
+/// a logical shift to the right by itself; an arithmetic one is the shift by a constant that leaves copies of the top bit.
+/// What a `let` binds, and what is under it, stays as it is. `Want` comes where memory runs out, and nowhere else.
 pub fn normal_query(alloc: Global, query: &Query<BvTheory>) -> Result<Query<BvTheory>, Want>
     ensures variables { IfOk result (λ found. found.vars ≡ query.now.vars) }
     ensures same { IfOk result (λ found. (values : List Val) → Satisfies (query_of vector found) values ↔ Satisfies (query_of vector query.now) values) }

@@ -70,7 +70,7 @@ fn says_greater(operator: Op) -> bool {
 }
 
 /// The operator at two terms.
-fn at_two(
+pub(crate) fn at_two(
     alloc: Global,
     operator: Op,
     first: &Term<BvTheory>,

@@ -5,6 +5,7 @@ ghost use Rattle.sy_terms.specs.Denoted.{val_of, expr_of, exprs_of};
 ghost use Rattle.sy_terms.specs.Meaning.{meaning, meanings};
 ghost use Rattle.sy_terms.specs.Operators.{op_value};
 ghost use Rattle.sy_terms.specs.Theories.{sort_of_value};
+ghost use Rattle.sy_terms.specs.declared.sort.Sort.TheVariants as kinds;
 ghost use Rattle.sy_meaning_words.specs.Vectors.{vector};
 ghost use Rattle.sy_query_normal.specs.Truths as spec;
 ghost use Rattle.sy_query_sums.specs.Sums.{BeginWithSorts};
@@ -96,6 +97,23 @@ fn variable_sort(sorts: &[Sort], position: u32) -> Option<Sort>
 {
     let sort = sorts.get(position as usize)?;
     Some(*sort)
+}
+
+/// The width of a term over variables of these sorts, where it is known to be a vector.
+pub(crate) fn width_of(
+    alloc: Global,
+    sorts: &[Sort],
+    term: &Term<BvTheory>,
+) -> Result<Option<u8>, Want>
+    ensures { IfOk result (λ found. IfSome found (λ width. (values : List Val) → BeginWithSorts sorts.now values → sort_of_value (meaning [] [] values (expr_of vector term.now)) ≡ kinds.Bits width)) }
+{
+    let Some(sort) = sort_of(alloc, sorts, term)? else {
+        return Ok(None);
+    };
+    let Sort::Bits(width) = sort else {
+        return Ok(None);
+    };
+    Ok(Some(width))
 }
 
 /// Whether a term over variables of these sorts is known to have the sort.
