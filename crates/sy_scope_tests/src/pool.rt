@@ -1,12 +1,11 @@
 // What a pool over integers keeps.
-use std::alloc::AllocError;
 use sy_meaning_integers::IntTheory;
 use sy_scope_pool::Pool;
 use sy_terms::Value;
 
 /// Each value stands once, in the order in which it came first.
 #[test]
-fn values_stand_once_in_order(rt: HostRuntime) -> Result<(), AllocError> {
+fn values_stand_once_in_order(rt: HostRuntime) {
     let rows: [(&[Value<i128>], &[Value<i128>]); 4] = [
         (&[], &[]),
         (
@@ -35,9 +34,8 @@ fn values_stand_once_in_order(rt: HostRuntime) -> Result<(), AllocError> {
     ];
     let mut pool = Pool::<IntTheory>::new(rt.alloc());
     for (added, all) in rows {
-        pool.add(added)?;
-        let values = pool.values(rt.alloc())?;
+        pool.add(added).expect(&rt, "room");
+        let values = pool.values(rt.alloc()).expect(&rt, "a list");
         assert!(rt; values.as_slice() == all);
     }
-    Ok(())
 }
