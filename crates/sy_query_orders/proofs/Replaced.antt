@@ -289,8 +289,3 @@ satisfied_alike query other same says values = (
   one_way other query same (λ all many. (says all many).0) values,
   one_way query other (sym same) (λ all many. (says all (many ∙ ap length same)).1) values,
 )
-
--- lists of equal terms, with one more
-pub more_same : {T N : Type 0} (number : N → Val) (same terms : List (Term T N)) (copy term : Term T N) → exprs_of number same ≡ exprs_of number terms → expr_of number copy ≡ expr_of number term →
-    exprs_of number (same ++ copy ∷ []) ≡ exprs_of number (terms ++ term ∷ [])
-more_same number same terms copy term all one = rw (exprs_of_append number same (copy ∷ []), exprs_of_append number terms (term ∷ []), all, one) refl

@@ -51,18 +51,6 @@ pub(crate) fn named<T: Theory>(
     }
 }
 
-/// The same terms, in memory of their own.
-pub(crate) fn copies<T: Theory>(alloc: Global, terms: &[Term<T>]) -> Result<Vec<Term<T>>, Want>
-    ensures { IfOk result (λ same. exprs_of T.denotes same.items ≡ exprs_of T.denotes terms.now) }
-{
-    let mut same = Vec::with_capacity(alloc, terms.len())?;
-    for term in terms {
-        let copy = term.copy(alloc)?;
-        same.push(copy)?;
-    }
-    Ok(same)
-}
-
 /// So many variables, the first of which stands after `count` others.
 pub(crate) fn variables<T: Theory>(
     alloc: Global,

@@ -12,7 +12,8 @@ use crate::triples::triples;
 use crate::written::written;
 use std::alloc::Global;
 use sy_query_base::Query;
-use sy_terms::{Seq, Sort, Term, Theory, Want};
+use sy_query_copies::copied_sorts;
+use sy_terms::{Term, Theory, Want};
 
 /// A query that the same values satisfy. What a `let` gives a name to is written in the name's place where it is a
 /// constant or a variable. Where a small term is compared with a choice, there is a choice between comparisons; and where
@@ -24,7 +25,7 @@ pub fn ordered<T: Theory>(alloc: Global, query: &Query<T>) -> Result<Query<T>, W
     ensures variables { IfOk result (λ found. found.vars ≡ query.now.vars) }
     ensures same { IfOk result (λ found. (values : List Val) → Satisfies (query_of T.denotes found) values ↔ Satisfies (query_of T.denotes query.now) values) }
 {
-    let vars = copied(alloc, query.vars.as_slice())?;
+    let vars = copied_sorts(alloc, query.vars.as_slice())?;
     let body = ordered_body(alloc, vars.len(), &query.body)?;
     Ok(Query { vars, body })
 }
@@ -43,15 +44,4 @@ fn ordered_body<T: Theory>(alloc: Global, many: usize, body: &Term<T>) -> Result
     }
     let body = with_facts(alloc, body, triples.as_slice())?;
     Ok(body)
-}
-
-/// The same sorts, in memory of their own.
-fn copied(alloc: Global, sorts: &[Sort]) -> Result<Seq<Sort>, Want>
-    ensures { IfOk result (λ copies. copies ≡ sorts.now) }
-{
-    let mut copies = Seq::new(alloc);
-    for sort in sorts {
-        copies.push(*sort)?;
-    }
-    Ok(copies)
 }

@@ -4,8 +4,9 @@ ghost use Rattle.sy_terms.specs.Denoted.{expr_of, exprs_of};
 ghost use Rattle.sy_query_orders.specs.Replaced as spec;
 ghost use Rattle.sy_query_orders.specs.Replaced.{IsReplaced, AreReplaced};
 
-use crate::names::{are_atomic, copies, counted, named, variables};
+use crate::names::{are_atomic, counted, named, variables};
 use std::alloc::Global;
+use sy_query_copies::copied_terms;
 use sy_terms::{Term, Terms, Theory, Want};
 
 /// The term with each name replaced by what it stands for, where `count` values are in force in what is written. A `let`
@@ -39,7 +40,7 @@ pub(crate) fn written<T: Theory>(
             let bound = all_written(alloc, count, names, bound.as_slice())?;
             let outer = names.len();
             if are_atomic(count, bound.as_slice()) {
-                let mut stands = copies(alloc, bound.as_slice())?;
+                let mut stands = copied_terms(alloc, bound.as_slice())?;
                 names.append(&mut stands)?;
                 let found = written(alloc, count, names, inner)?;
                 names.truncate(outer);
