@@ -1,70 +1,7 @@
-// Values from outside: the tables are what z3 4.8.12 answers (tools/integer_vectors.py).
-ghost use Rattle.std.specs.Prelude.{◌≡◌, map, IfOk};
-ghost use Rattle.sy_terms.specs.Values.{Whole};
-ghost use Rattle.sy_terms.specs.Denoted.{val_of};
-ghost use Rattle.sy_terms.specs.Theories.{sort_of_value};
+// Values from outside: the table is what z3 4.8.12 answers (tools/integer_vectors.py).
 
-use crate::operators::parts_of;
-use std::alloc::{AllocError, Global};
-use sy_meaning::IntTheory;
-use sy_terms::{Applied, Op, Sort, Sorted, Theory, Value};
-
-/// The sorts of the values.
-fn sorts_of(alloc: Global, values: &[Value<i128>]) -> Result<Vec<Sort>, AllocError>
-    ensures { IfOk result (λ sorts. sorts.items ≡ map (λ v. sort_of_value (val_of Whole v)) values.now) }
-{
-    values
-        .iter()
-        .map(|v| IntTheory::value_sort(v))
-        .collect(alloc)
-}
-
-/// What the theory answers; `None` where the operator isn't its own or doesn't take the values.
-fn answer(
-    alloc: Global,
-    op: &Op,
-    values: &[Value<i128>],
-) -> Result<Option<Applied<i128>>, AllocError> {
-    let sorts = sorts_of(alloc, values)?;
-    if !IntTheory::owns(op) {
-        return Ok(None);
-    }
-    match IntTheory::sort_of(op, &sorts) {
-        Sorted::Is(_) => Ok(Some(IntTheory::apply(op, values))),
-        _ => Ok(None),
-    }
-}
-
-/// A truth value or a number.
-fn value(text: &str) -> Option<Value<i128>> {
-    match text {
-        "true" => Some(Value::Truth(true)),
-        "false" => Some(Value::Truth(false)),
-        _ => Some(Value::Num(text.parse().ok()?)),
-    }
-}
-
-/// Whether the operator's value is the row's last word, `none` where it is out of range.
-fn is_right(alloc: Global, row: &str) -> Result<bool, AllocError> {
-    let Some((op, arguments, told)) = parts_of(row) else {
-        return Ok(false);
-    };
-    let mut values = Vec::new(alloc);
-    for argument in arguments.split(' ') {
-        match value(argument) {
-            Some(value) => values.push(value)?,
-            None => return Ok(false),
-        }
-    }
-    Ok(match answer(alloc, &op, &values)? {
-        Some(Applied::Is(found)) => value(told) == Some(found),
-        Some(Applied::OutOfRange) => told == "none",
-        None => false,
-    })
-}
-
-/// An operator, what it is applied to, and its value.
-const ROWS: &str = "\
+/// An operator, what it is applied to, and its value, `none` where it is out of range.
+pub const ROWS: &str = "\
 neg 0 0
 neg 5 -5
 neg -5 5
@@ -234,10 +171,3 @@ ite false true false false
 ite true false true false
 ite false false true true
 ";
-
-#[test]
-fn answers_as_z3_does(rt: HostRuntime) {
-    for row in ROWS.lines() {
-        assert!(rt; matches!(is_right(rt.alloc(), row), Ok(true)), "{row}");
-    }
-}

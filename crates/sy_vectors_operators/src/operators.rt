@@ -79,9 +79,15 @@ fn plain(word: &str) -> Option<Op> {
     None
 }
 
-/// The operator with this index.
-fn indexed(word: &str, index: u8) -> Option<Op> {
+/// The operator of a word and its indices, as `extract,3,0`.
+pub fn operator(text: &str) -> Option<Op> {
+    let Some((word, indices)) = text.split_once(',') else {
+        return plain(text);
+    };
+    let (first, second) = indices.split_once(',').unwrap_or((indices, "0"));
+    let index = first.parse().unwrap_or(0);
     match word {
+        "extract" => Some(Op::Extract(index, second.parse().unwrap_or(0))),
         "repeat" => Some(Op::Repeat(index)),
         "zero_extend" => Some(Op::ZeroExtend(index)),
         "sign_extend" => Some(Op::SignExtend(index)),
@@ -89,22 +95,4 @@ fn indexed(word: &str, index: u8) -> Option<Op> {
         "rotate_right" => Some(Op::RotateRight(index)),
         _ => None,
     }
-}
-
-/// The operator of a word and its indices, as `extract,3,0`.
-pub fn operator(text: &str) -> Option<Op> {
-    let Some((word, indices)) = text.split_once(',') else {
-        return plain(text);
-    };
-    match indices.split_once(',') {
-        Some((high, low)) => Some(Op::Extract(high.parse().ok()?, low.parse().ok()?)),
-        None => indexed(word, indices.parse().ok()?),
-    }
-}
-
-/// A row's operator, its arguments, and its last word.
-pub fn parts_of(row: &str) -> Option<(Op, &str, &str)> {
-    let (word, rest) = row.split_once(' ')?;
-    let (arguments, told) = rest.rsplit_once(' ')?;
-    Some((operator(word)?, arguments, told))
 }

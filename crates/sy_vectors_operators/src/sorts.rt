@@ -1,5 +1,5 @@
 // The sorts that operators take and give.
-use crate::operators::parts_of;
+use crate::operators::operator;
 use std::alloc::{AllocError, Global};
 use sy_terms::{Fun, Op, Sort, Sorted, operator_sort};
 
@@ -14,7 +14,9 @@ fn sort(text: &str) -> Option<Sort> {
 
 /// Whether the operator's sort is the row's last word.
 fn is_right(alloc: Global, row: &str) -> Result<bool, AllocError> {
-    let Some((op, arguments, told)) = parts_of(row) else {
+    let (word, rest) = row.split_once(' ').unwrap_or((row, ""));
+    let (arguments, told) = rest.rsplit_once(' ').unwrap_or((rest, ""));
+    let Some(op) = operator(word) else {
         return Ok(false);
     };
     let mut sorts = Vec::new(alloc);

@@ -1,12 +1,11 @@
-// Equal gates are made once.
+// Equal gates are made once: how many variables circuits have.
 ghost use Rattle.std.specs.Prelude.{◌≤◌, ◌≡◌, true};
 ghost use Rattle.sy_gates.specs.Circuits.{variables};
 
 use std::alloc::Global;
-use std::test::Fail;
 use sy_clauses::Lit;
 use sy_gates::{Bit, Circuit, repeated};
-use sy_seq::Want;
+use sy_terms::Want;
 
 fn input(var: u32) -> Bit
     ensures { result ≡ Bit.Of (record { var = var; positive = true }) }
@@ -17,7 +16,7 @@ fn input(var: u32) -> Bit
     })
 }
 
-// How many variables a circuit has.
+/// How many variables a circuit has.
 fn size(alloc: Global, circuit: &Circuit) -> Result<u32, Want>
     requires { 1 ≤ variables circuit.now }
 {
@@ -29,9 +28,9 @@ fn size(alloc: Global, circuit: &Circuit) -> Result<u32, Want>
     Ok(cnf.vars)
 }
 
-#[test]
-fn equal_gates(rt: HostRuntime) -> Result<(), Fail> {
-    let mut circuit = Circuit::new(rt.alloc(), 3);
+/// Each gate twice, in another order or negated.
+fn equal_gates(alloc: Global) -> Result<u32, Want> {
+    let mut circuit = Circuit::new(alloc, 3);
     let (x, y, z) = (input(0), input(1), input(2));
     circuit.and(x, y)?;
     circuit.and(y, x)?;
@@ -39,35 +38,39 @@ fn equal_gates(rt: HostRuntime) -> Result<(), Fail> {
     circuit.xor(y.negated(), x)?;
     circuit.choose(x, y, z)?;
     circuit.choose(x.negated(), z, y)?;
-    assert_eq!(rt; size(rt.alloc(), &circuit)?, 6);
-    Ok(())
+    size(alloc, &circuit)
 }
 
-#[test]
-fn gates_of_one_variable(rt: HostRuntime) -> Result<(), Fail> {
-    let mut circuit = Circuit::new(rt.alloc(), 2);
+/// Gates that are bits, and then one more.
+fn gates_of_one_variable(alloc: Global) -> Result<[u32; 2], Want> {
+    let mut circuit = Circuit::new(alloc, 2);
     let (x, y) = (input(0), input(1));
     circuit.and(x, x)?;
     circuit.and(x, x.negated())?;
     circuit.xor(x, x.negated())?;
     circuit.choose(y, x, x)?;
-    assert_eq!(rt; size(rt.alloc(), &circuit)?, 2);
+    let few = size(alloc, &circuit)?;
     circuit.choose(y, x, x.negated())?;
-    assert_eq!(rt; size(rt.alloc(), &circuit)?, 3);
-    Ok(())
+    Ok([few, size(alloc, &circuit)?])
 }
 
-// More gates than a table of the first size holds, made twice.
-#[test]
-fn equal_products(rt: HostRuntime) -> Result<(), Fail> {
-    let alloc = rt.alloc();
+/// More gates than a table of the first size holds, made twice.
+fn equal_products(alloc: Global) -> Result<[u32; 2], Want> {
     let mut circuit = Circuit::new(alloc, 3);
     let a = repeated(alloc, &[input(0), input(1), input(2)], 4)?;
     let b = repeated(alloc, &[input(1), input(2)], 6)?;
     circuit.mul(alloc, a.as_slice(), b.as_slice())?;
     let made = size(alloc, &circuit)?;
     circuit.mul(alloc, a.as_slice(), b.as_slice())?;
-    assert!(rt; 100 < made);
-    assert_eq!(rt; size(alloc, &circuit)?, made);
-    Ok(())
+    Ok([made, size(alloc, &circuit)?])
+}
+
+#[test]
+fn equal_gates_are_made_once(rt: HostRuntime) {
+    let size = equal_gates(rt.alloc()).expect(&rt, "memory");
+    assert!(rt; size == 6);
+    let [few, more] = gates_of_one_variable(rt.alloc()).expect(&rt, "memory");
+    assert!(rt; few == 2 && more == 3);
+    let [made, again] = equal_products(rt.alloc()).expect(&rt, "memory");
+    assert!(rt; 100 < made && again == made);
 }
