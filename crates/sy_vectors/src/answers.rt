@@ -178,7 +178,9 @@ b44 ABB?B# 1 never
 4 A2g2lAA3w-# 1 never
 ";
 
-/// Sums and products of variables that need no gate: how many variables the clauses may have, one beside the variables' bits.
+/// Sums and products of variables that need no gate, and remainders and shifts of a vector by itself: how many variables the
+/// clauses may have, one beside the variables' bits. A shift by itself, against a choice by the sign, has a gate more for each
+/// bit but one, which both sides share.
 const SETTLED: &str = "\
 88 ABA+*AB*AA*+# 17 settled
 pp ABA+*AB*AA*+# 129 settled
@@ -192,6 +194,17 @@ pp ABAPAA+B+# 129 settled
 pp ABAMAA*B*# 129 settled
 pp AB+BA+< 129 settled
 pp A~AB*BA*#L 129 settled
+1 AAaAAAxsAAx~AAx?# 2 settled
+8 AAaAAAxsAAx~AAx?# 16 settled
+p AAaAAAxsAAx~AAx?# 128 settled
+8 AAgAAx# 9 settled
+p AAgAAx# 65 settled
+8 AA%AAx# 9 settled
+p AA%AAx# 65 settled
+8 AArAAx# 9 settled
+p AArAAx# 65 settled
+8 AAmAAx# 9 settled
+p AAmAAx# 65 settled
 ";
 
 /// What queries weigh: a truth value 1 and a vector its width; a product, quotient, remainder or shift its square; and a
