@@ -1,37 +1,36 @@
 // The cut at the corner of a path.
 use std::alloc::Global;
-use std::test::Fail;
 use sy_intsolve_cuts::best;
 use sy_linear_known::{Fact, Form};
 use sy_seq::{Seq, Want};
 use sy_simplex::{Feasible, are_forms, ended};
 use sy_terms::Sort;
 
-/// A form of two variables.
-type Pair = (i128, i128, i128);
-
-/// The form with these coefficients and this constant.
-fn form(alloc: Global, pair: Pair) -> Result<Form, Want> {
+/// The form of coefficients with their variables, and its constant, as `2:0 -2:1 -1`.
+fn form(alloc: Global, text: &str) -> Result<Form, Want> {
     let mut coefs = Seq::new(alloc);
-    if pair.0 != 0 {
-        coefs.push((0, pair.0))?;
+    let mut constant = 0;
+    for word in text.split(' ') {
+        match word.split_once(':') {
+            Some((coefficient, variable)) => {
+                coefs.push((
+                    variable.parse().unwrap_or(0),
+                    coefficient.parse().unwrap_or(0),
+                ))?;
+            }
+            None => constant = word.parse().unwrap_or(0),
+        }
     }
-    if pair.1 != 0 {
-        coefs.push((1, pair.1))?;
-    }
-    Ok(Form {
-        coefs,
-        constant: pair.2,
-    })
+    Ok(Form { coefs, constant })
 }
 
-/// The form of the cut at the corner of these forms; none where there is no cut or no corner.
-fn cut_of(alloc: Global, pairs: &[Pair]) -> Result<Option<Form>, Want> {
+/// The form of the cut at the corner of these forms, with semicolons between them; none where there is no cut or no corner.
+fn cut_of(alloc: Global, text: &str) -> Result<Option<Form>, Want> {
     let mut forms = Seq::new(alloc);
     let mut facts = Vec::new(alloc);
-    for pair in pairs {
-        forms.push(form(alloc, *pair)?)?;
-        facts.push(Fact::AtLeast(form(alloc, *pair)?))?;
+    for part in text.split(';') {
+        forms.push(form(alloc, part)?)?;
+        facts.push(Fact::AtLeast(form(alloc, part)?))?;
     }
     if !are_forms(2, forms.as_slice()) {
         return Ok(None);
@@ -45,27 +44,26 @@ fn cut_of(alloc: Global, pairs: &[Pair]) -> Result<Option<Form>, Want> {
     Ok(found.map(|rounding| rounding.form))
 }
 
+/// Whether the row's forms have its cut.
+fn is_right(alloc: Global, row: &str) -> Result<bool, Want> {
+    let (forms, wanted) = row.split_once('|').unwrap_or((row, ""));
+    Ok(match cut_of(alloc, forms)? {
+        Some(found) => found.is_same(&form(alloc, wanted)?),
+        None => wanted == "none",
+    })
+}
+
+/// Forms and the cut: `2 x = 2 y + 1`, `3 x + 6 y = 1`, a corner that is whole, and no point at all.
+const ROWS: &str = "\
+2:0 -2:1 -1;-2:0 2:1 1|1:0 -1:1 -1
+3:0 6:1 -1;-3:0 -6:1 1|1:0 2:1 -1
+1:0 -2;1:1 -3|none
+1:0 -2;-1:0 1|none
+";
+
 #[test]
-fn cuts_at_corners(rt: HostRuntime) -> Result<(), Fail> {
-    let alloc = rt.alloc();
-    // forms, and the coefficients and the constant of the cut
-    let cases: [(&[Pair], Option<Pair>); 4] = [
-        // 2 x = 2 y + 1
-        (&[(2, -2, -1), (-2, 2, 1)], Some((1, -1, -1))),
-        // 3 x + 6 y = 1
-        (&[(3, 6, -1), (-3, -6, 1)], Some((1, 2, -1))),
-        // the corner is whole
-        (&[(1, 0, -2), (0, 1, -3)], None),
-        // no point meets both
-        (&[(1, 0, -2), (-1, 0, 1)], None),
-    ];
-    for (pairs, wanted) in cases {
-        let is_wanted = match (cut_of(alloc, pairs)?, wanted) {
-            (Some(found), Some(pair)) => found.is_same(&form(alloc, pair)?),
-            (None, None) => true,
-            _ => false,
-        };
-        assert!(rt; is_wanted, "{:?}", pairs);
+fn cuts_at_corners(rt: HostRuntime) {
+    for row in ROWS.lines() {
+        assert!(rt; matches!(is_right(rt.alloc(), row), Ok(true)), "{row}");
     }
-    Ok(())
 }

@@ -1,9 +1,5 @@
-// Tests of `sy_intsolve` and of the crates below it, in a crate of their own, so that the libraries are proved once.
+// Tests of the crates below `sy_intsolve`, in a crate of their own, so that the libraries are proved once.
 #![tactic(auto)]
 
 #[cfg(test)]
-mod answers;
-#[cfg(test)]
 mod cuts;
-#[cfg(test)]
-mod queries;

@@ -1,72 +1,97 @@
 // Exact arithmetic.
+use crate::rows::field;
+use std::alloc::Global;
 use std::cmp::Ordering;
-use std::test::Fail;
 use sy_frac::Frac;
+use sy_terms::{Seq, Want};
 
-fn parts(fraction: Option<Frac>) -> Option<(i128, i128)> {
-    let fraction = fraction?;
-    Some((fraction.num(), fraction.den()))
+/// The fraction of this text, as `1/2` or `3`.
+fn fraction(text: &str) -> Option<Frac> {
+    let (num, den) = text.split_once('/').unwrap_or((text, "1"));
+    Frac::new(num.parse().unwrap_or(0), den.parse().unwrap_or(0))
 }
 
-#[test]
-fn fractions_are_in_lowest_terms(rt: HostRuntime) {
-    for (num, den, want) in [
-        (6, 4, Some((3, 2))),
-        (6, -4, Some((-3, 2))),
-        (-6, -4, Some((3, 2))),
-        (0, -5, Some((0, 1))),
-        (1, 0, None),
-        (i128::MIN, 1, None),
-        (1, i128::MIN, None),
-        (i128::MAX, -i128::MAX, Some((-1, 1))),
-    ] {
-        assert_eq!(rt; parts(Frac::new(num, den)), want, "{num} over {den}");
-    }
-}
-
-#[test]
-fn sums_and_products_are_exact(rt: HostRuntime) -> Result<(), Fail> {
-    let half = Frac::new(1, 2).unwrap();
-    let third = Frac::new(-1, 3).unwrap();
-    assert_eq!(rt; parts(half.add(&Frac::new(1, 3).unwrap())), Some((5, 6)));
-    assert_eq!(rt; parts(half.add(&third)), Some((1, 6)));
-    assert_eq!(rt; parts(half.sub(&third)), Some((5, 6)));
-    assert_eq!(rt; parts(half.mul(&third)), Some((-1, 6)));
-    assert_eq!(rt; parts(half.div(&third)), Some((-3, 2)));
-    assert_eq!(rt; half.compare(&third), Some(Ordering::Greater));
-    assert_eq!(rt; third.compare(&half), Some(Ordering::Less));
-    assert_eq!(rt; half.compare(&half), Some(Ordering::Equal));
-    Ok(())
-}
-
-#[test]
-fn what_does_not_fit_is_none(rt: HostRuntime) {
-    let most = Frac::new(i128::MAX, 1).unwrap();
-    let least = Frac::new(-i128::MAX, 1).unwrap();
-    let one = Frac::new(1, 1).unwrap();
-    let tiny = Frac::new(1, i128::MAX).unwrap();
-    let half = Frac::new(1, 2).unwrap();
-    assert!(rt; most.add(&one).is_none());
-    assert!(rt; least.sub(&one).is_none());
-    assert!(rt; most.mul(&most).is_none());
-    assert!(rt; tiny.div(&most).is_none());
-    assert!(rt; most.compare(&half).is_none());
-    assert_eq!(rt; parts(most.mul(&tiny)), Some((1, 1)));
-}
-
-#[test]
-fn floors_and_ceilings(rt: HostRuntime) {
-    for (num, den, floor, ceil) in [
-        (7, 2, 3, 4),
-        (-7, 2, -4, -3),
-        (6, 2, 3, 3),
-        (-6, 2, -3, -3),
-        (0, 1, 0, 0),
-        (-1, 3, -1, 0),
-    ] {
-        if let Some(fraction) = Frac::new(num, den) {
-            assert_eq!(rt; fraction.floor(), floor, "{num} over {den}");
-            assert_eq!(rt; fraction.ceil(), ceil, "{num} over {den}");
+/// The fractions of this text, with spaces between them.
+pub fn fractions(alloc: Global, text: &str) -> Result<Seq<Frac>, Want> {
+    let mut all = Seq::new(alloc);
+    for word in text.split(' ') {
+        if let Some(fraction) = fraction(word) {
+            all.push(fraction)?;
         }
     }
+    Ok(all)
 }
+
+/// The quotient; none where the divisor is 0.
+fn quotient(first: &Frac, second: &Frac) -> Option<Frac> {
+    if second.num() == 0 {
+        return None;
+    }
+    first.div(second)
+}
+
+/// What the comparison of two fractions tells.
+fn order(first: &Frac, second: &Frac) -> &'static str {
+    match first.compare(second) {
+        Some(Ordering::Less) => "less",
+        Some(Ordering::Equal) => "equal",
+        Some(Ordering::Greater) => "greater",
+        None => "none",
+    }
+}
+
+/// What a row asks of two fractions: `is` for the first of them in lowest terms.
+pub fn told(alloc: Global, row: &str) -> Result<String, Want> {
+    let (Some(first), Some(second)) = (fraction(field(row, 0)), fraction(field(row, 2))) else {
+        return String::from_str(alloc, "none");
+    };
+    let found = match field(row, 1) {
+        "+" => first.add(&second),
+        "-" => first.sub(&second),
+        "*" => first.mul(&second),
+        "/" => quotient(&first, &second),
+        "is" => Some(first),
+        "floor and ceiling" => {
+            let (floor, ceil) = (first.floor(), first.ceil());
+            return format!(in alloc; "{floor} {ceil}");
+        }
+        _ => return String::from_str(alloc, order(&first, &second)),
+    };
+    let Some(found) = found else {
+        return String::from_str(alloc, "none");
+    };
+    let (num, den) = (found.num(), found.den());
+    format!(in alloc; "{num}/{den}")
+}
+
+/// A fraction, what is done, another fraction, and what comes of it.
+pub const ROWS: &str = "\
+6/4|is|1|3/2
+6/-4|is|1|-3/2
+-6/-4|is|1|3/2
+0/-5|is|1|0/1
+1/0|is|1|none
+-170141183460469231731687303715884105728/1|is|1|none
+1/-170141183460469231731687303715884105728|is|1|none
+170141183460469231731687303715884105727/-170141183460469231731687303715884105727|is|1|-1/1
+1/2|+|1/3|5/6
+1/2|+|-1/3|1/6
+1/2|-|-1/3|5/6
+1/2|*|-1/3|-1/6
+1/2|/|-1/3|-3/2
+1/2|to|-1/3|greater
+-1/3|to|1/2|less
+1/2|to|1/2|equal
+170141183460469231731687303715884105727|+|1|none
+-170141183460469231731687303715884105727|-|1|none
+170141183460469231731687303715884105727|*|170141183460469231731687303715884105727|none
+1/170141183460469231731687303715884105727|/|170141183460469231731687303715884105727|none
+170141183460469231731687303715884105727|to|1/2|none
+170141183460469231731687303715884105727|*|1/170141183460469231731687303715884105727|1/1
+7/2|floor and ceiling|1|3 4
+-7/2|floor and ceiling|1|-4 -3
+6/2|floor and ceiling|1|3 3
+-6/2|floor and ceiling|1|-3 -3
+0/1|floor and ceiling|1|0 0
+-1/3|floor and ceiling|1|-1 0
+";

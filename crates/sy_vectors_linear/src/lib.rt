@@ -1,6 +1,8 @@
-// Fractions, systems of linear forms, and queries over integers with facts and refutation trees.
+// Fractions, systems of linear forms, and queries over integers with facts, refutation trees and the solver's answers.
 #![tactic(auto)]
 
+#[cfg(test)]
+mod answers;
 #[cfg(test)]
 mod facts;
 #[cfg(test)]
@@ -10,6 +12,8 @@ mod fractions;
 #[cfg(test)]
 mod queries;
 #[cfg(test)]
-mod simplex;
+mod rows;
+#[cfg(test)]
+mod tables;
 #[cfg(test)]
 mod trees;

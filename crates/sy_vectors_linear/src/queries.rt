@@ -1,17 +1,26 @@
-// Queries over an integer `x` and a truth value `b` as texts, in postfix.
+// Queries over integers as texts, a character for each node, in postfix.
 use std::alloc::Global;
 use sy_meaning::IntTheory;
 use sy_query::Query;
 use sy_terms::{Op, Seq, Sort, Term, Terms, Value, Want};
 
-/// The operator of this word, and how many arguments it takes.
-fn operator(word: &str) -> Option<(Op, usize)> {
-    match word {
-        "+" => Some((Op::Add, 2)),
-        "*" => Some((Op::Mul, 2)),
-        "<=" => Some((Op::Le, 2)),
-        "and" => Some((Op::And, 2)),
-        "ite" => Some((Op::Ite, 3)),
+/// The operator of this sign, and how many arguments it takes.
+fn operator(sign: u8) -> Option<(Op, usize)> {
+    match sign {
+        b'!' => Some((Op::Not, 1)),
+        b'&' => Some((Op::And, 2)),
+        b'v' => Some((Op::Or, 2)),
+        b'^' => Some((Op::Xor, 2)),
+        b'i' => Some((Op::Implies, 2)),
+        b'?' => Some((Op::Ite, 3)),
+        b'=' => Some((Op::Equal, 2)),
+        b'+' => Some((Op::Add, 2)),
+        b'-' => Some((Op::Sub, 2)),
+        b'*' => Some((Op::Mul, 2)),
+        b'<' => Some((Op::Lt, 2)),
+        b'L' => Some((Op::Le, 2)),
+        b'>' => Some((Op::Gt, 2)),
+        b'G' => Some((Op::Ge, 2)),
         _ => None,
     }
 }
@@ -22,53 +31,76 @@ fn last(
     stack: &mut Vec<Term<IntTheory>>,
     count: usize,
 ) -> Result<Terms<IntTheory>, Want> {
-    let mut turned = Vec::new(alloc);
-    for _ in 0..count {
-        if let Some(term) = stack.pop() {
-            turned.push(term)?;
-        }
-    }
+    let first = stack.len().saturating_sub(count);
     let mut terms = Terms::new(alloc);
     for _ in 0..count {
-        if let Some(term) = turned.pop() {
-            terms.push(term)?;
+        if first < stack.len() {
+            terms.push(stack.remove(first))?;
         }
     }
     Ok(terms)
 }
 
-/// The term that ends with this word: `let` binds `y`, the term before the last, in the last.
-fn term(
-    alloc: Global,
-    word: &str,
-    stack: &mut Vec<Term<IntTheory>>,
-) -> Result<Term<IntTheory>, Want> {
-    if let Some((op, count)) = operator(word) {
-        return Ok(Term::App(op, last(alloc, stack, count)?));
-    }
-    match word {
-        "x" => Ok(Term::Var(0)),
-        "b" => Ok(Term::Var(1)),
-        "y" => Ok(Term::Var(2)),
-        "let" => {
-            let inner = stack.pop().unwrap_or(Term::Var(0));
-            let bound = last(alloc, stack, 1)?;
-            Ok(Term::Let(bound, Box::new(alloc, inner)?))
-        }
-        number => Ok(Term::Const(Value::Num(number.parse().unwrap_or(0)))),
+/// The term of this sign, if it isn't an operator: a variable for `A` to `C`, `T` for true, `M` for the greatest number of
+/// 128 bits and `N` for the least, `m` for -1, else a digit.
+fn leaf(sign: u8) -> Term<IntTheory> {
+    match sign {
+        b'A' => Term::Var(0),
+        b'B' => Term::Var(1),
+        b'C' => Term::Var(2),
+        b'M' => Term::Const(Value::Num(i128::MAX)),
+        b'N' => Term::Const(Value::Num(i128::MIN)),
+        b'm' => Term::Const(Value::Num(-1)),
+        b'T' => Term::Const(Value::Truth(true)),
+        digit => Term::Const(Value::Num(i128::from(digit.wrapping_sub(b'0')))),
     }
 }
 
-/// The query of this body.
-pub fn query(alloc: Global, body: &str) -> Result<Query<IntTheory>, Want> {
+/// The term of this text; `l` binds the term before the last in the last.
+fn term(alloc: Global, text: &str) -> Result<Term<IntTheory>, Want> {
     let mut stack = Vec::new(alloc);
-    for word in body.split(' ') {
-        let term = term(alloc, word, &mut stack)?;
+    for sign in text.as_bytes() {
+        let term = match operator(*sign) {
+            Some((operator, count)) => Term::App(operator, last(alloc, &mut stack, count)?),
+            None if *sign == b'l' => {
+                let inner = stack.pop().unwrap_or(Term::Var(0));
+                let bound = last(alloc, &mut stack, 1)?;
+                Term::Let(bound, Box::new(alloc, inner)?)
+            }
+            None => leaf(*sign),
+        };
         stack.push(term)?;
     }
+    Ok(stack.pop().unwrap_or(Term::Var(0)))
+}
+
+/// The query whose variables have these sorts, `b` for truth values and `i` for integers, and whose body is this.
+pub fn query(alloc: Global, sorts: &str, body: &str) -> Result<Query<IntTheory>, Want> {
+    let mut vars = Seq::new(alloc);
+    for sign in sorts.as_bytes() {
+        vars.push(if *sign == b'b' { Sort::Bool } else { Sort::Int })?;
+    }
+    let body = term(alloc, body)?;
+    Ok(Query { vars, body })
+}
+
+/// The query whether an integer is above each number below this one, and at most this one.
+pub fn deep(alloc: Global, count: u32) -> Result<Query<IntTheory>, Want> {
+    let mut terms = Terms::new(alloc);
+    for number in 0..count {
+        terms.push(compared(alloc, Op::Gt, number)?)?;
+    }
+    terms.push(compared(alloc, Op::Le, count)?)?;
     let mut vars = Seq::new(alloc);
     vars.push(Sort::Int)?;
-    vars.push(Sort::Bool)?;
-    let body = stack.pop().unwrap_or(Term::Var(0));
+    let body = Term::App(Op::And, terms);
     Ok(Query { vars, body })
+}
+
+/// The first variable compared with a number.
+fn compared(alloc: Global, operator: Op, number: u32) -> Result<Term<IntTheory>, Want> {
+    let mut sides = Terms::new(alloc);
+    sides.push(Term::Var(0))?;
+    sides.push(Term::Const(Value::Num(i128::from(number))))?;
+    Ok(Term::App(operator, sides))
 }

@@ -1,66 +1,67 @@
 // Refutation trees of small queries, with what the checker says of each.
+use crate::forms::form;
+use crate::fractions::fractions;
 use crate::queries::query;
+use crate::rows::field;
 use std::alloc::Global;
-use sy_frac::Frac;
-use sy_linear::{CheckEnd, Form, Test, Tree, check_tree};
-use sy_terms::{Seq, Want};
+use sy_linear::{CheckEnd, Test, Tree, check_tree};
+use sy_terms::Want;
 
-/// `(and (<= x 0) (<= 1 x))`
-const APART: &str = "x 0 <= 1 x <= and";
-
-/// `(and (<= 1 (* 2 x)) (<= (* 2 x) 1))`
-const BETWEEN: &str = "1 2 x * <= 2 x * 1 <= and";
-
-/// `(and (<= (+ largest largest) x) b)`
-const LARGE: &str =
-    "170141183460469231731687303715884105727 170141183460469231731687303715884105727 + x <= b and";
-
-/// The form of a multiple of a variable and a constant.
-fn form(alloc: Global, coefficient: i128, variable: u32, constant: i128) -> Result<Form, Want> {
-    let mut coefs = Seq::new(alloc);
-    coefs.push((variable, coefficient))?;
-    Ok(Form { coefs, constant })
+/// The last tree.
+fn last(alloc: Global, stack: &mut Vec<Tree>) -> Result<Box<Tree>, Want> {
+    let tree = stack.pop().unwrap_or(Tree::Unfinished);
+    Ok(Box::new(alloc, tree)?)
 }
 
-/// Whole numbers as fractions.
-fn wholes(alloc: Global, numbers: &str) -> Result<Seq<Frac>, Want> {
-    let mut fractions = Seq::new(alloc);
-    for number in numbers.split(' ') {
-        if let Some(fraction) = Frac::new(number.parse().unwrap_or(0), 1) {
-            fractions.push(fraction)?;
-        }
-    }
-    Ok(fractions)
-}
-
-/// The point at which the variable is a half.
-fn half(alloc: Global) -> Result<Seq<Frac>, Want> {
-    let mut point = Seq::new(alloc);
-    if let Some(fraction) = Frac::new(1, 2) {
-        point.push(fraction)?;
-    }
-    point.push(Frac::new(0, 1).unwrap())?;
-    Ok(point)
-}
-
-/// A split, under whose negated test the query is known false.
-fn split(alloc: Global, test: Test, left: Tree) -> Result<Tree, Want> {
-    let left = Box::new(alloc, left)?;
+/// A split of the last tree, under whose negated test the query is known false.
+fn split(alloc: Global, test: Test, stack: &mut Vec<Tree>) -> Result<Tree, Want> {
+    let left = last(alloc, stack)?;
     let right = Box::new(alloc, Tree::Shown)?;
-    Ok(Tree::Split(test, half(alloc)?, left, right))
+    Ok(Tree::Split(test, fractions(alloc, "1/2 0")?, left, right))
 }
 
-/// The tree below a split on `2 x - 1` and one on `1 - 2 x`.
-fn below_between(alloc: Global, inner: Tree) -> Result<Tree, Want> {
-    let high = Test::AtLeast(form(alloc, -2, 0, 1)?);
-    let low = Test::AtLeast(form(alloc, 2, 0, -1)?);
-    split(alloc, low, split(alloc, high, inner)?)
+/// The cut of the last tree by a divisor and multipliers.
+fn cut(alloc: Global, numbers: &str, stack: &mut Vec<Tree>) -> Result<Tree, Want> {
+    let (divisor, multipliers) = numbers.split_once(' ').unwrap_or((numbers, ""));
+    let below = last(alloc, stack)?;
+    let multipliers = fractions(alloc, multipliers)?;
+    let point = fractions(alloc, "1/2 0")?;
+    Ok(Tree::Cut(multipliers, divisor.parse().unwrap_or(0), point, below))
 }
 
-/// The checker's answer on a tree of a query.
-fn answer(alloc: Global, body: &str, tree: &Tree) -> Result<String, Want> {
-    let query = query(alloc, body)?;
-    match check_tree(alloc, &query, tree) {
+/// The branch of the last two trees at a variable and a bound.
+fn branch(alloc: Global, numbers: &str, stack: &mut Vec<Tree>) -> Result<Tree, Want> {
+    let (variable, bound) = numbers.split_once(' ').unwrap_or((numbers, ""));
+    let right = last(alloc, stack)?;
+    let left = last(alloc, stack)?;
+    let point = fractions(alloc, "1/2 0")?;
+    let (variable, bound) = (variable.parse().unwrap_or(0), bound.parse().unwrap_or(0));
+    Ok(Tree::Branch(variable, bound, point, left, right))
+}
+
+/// The tree of this text, its inner nodes after what is below them.
+fn tree(alloc: Global, text: &str) -> Result<Tree, Want> {
+    let mut stack = Vec::new(alloc);
+    for part in text.split(';') {
+        let (word, rest) = part.split_once(' ').unwrap_or((part, ""));
+        let tree = match word {
+            "shown" => Tree::Shown,
+            "farkas" => Tree::Farkas(fractions(alloc, rest)?),
+            "cut" => cut(alloc, rest, &mut stack)?,
+            "branch" => branch(alloc, rest, &mut stack)?,
+            "truth" => split(alloc, Test::Holds(rest.parse().unwrap_or(0)), &mut stack)?,
+            "split" => split(alloc, Test::AtLeast(form(alloc, rest)?), &mut stack)?,
+            _ => Tree::Unfinished,
+        };
+        stack.push(tree)?;
+    }
+    Ok(stack.pop().unwrap_or(Tree::Unfinished))
+}
+
+/// The checker's answer on the row's tree of its query over an integer and a truth value.
+pub fn told(alloc: Global, row: &str) -> Result<String, Want> {
+    let query = query(alloc, "ib", field(row, 0))?;
+    match check_tree(alloc, &query, &tree(alloc, field(row, 1))?) {
         Ok(true) => String::from_str(alloc, "true"),
         Ok(false) => String::from_str(alloc, "false"),
         Err(CheckEnd::Range(at)) => format!(in alloc; "range {at}"),
@@ -68,152 +69,35 @@ fn answer(alloc: Global, body: &str, tree: &Tree) -> Result<String, Want> {
     }
 }
 
-/// Whether that is the answer.
-fn answers(alloc: Global, body: &str, tree: &Tree, wanted: &str) -> Result<bool, Want> {
-    Ok(answer(alloc, body, tree)?.as_str() == wanted)
-}
-
-/// Whether the multipliers contradict both tests.
-fn contradiction(alloc: Global, multipliers: &str, wanted: &str) -> Result<bool, Want> {
-    let leaf = Tree::Farkas(wholes(alloc, multipliers)?);
-    let high = Test::AtLeast(form(alloc, 1, 0, -1)?);
-    let low = Test::AtLeast(form(alloc, -1, 0, 0)?);
-    let tree = split(alloc, low, split(alloc, high, leaf)?)?;
-    answers(alloc, APART, &tree, wanted)
-}
-
-#[test]
-fn contradictions(rt: HostRuntime) {
-    let rows = [
-        ("1 1", "true"),
-        ("1 0", "false"),
-        ("2 2", "true"),
-        (
-            "170141183460469231731687303715884105727 170141183460469231731687303715884105727",
-            "true",
-        ),
-        ("1", "false"),
-        ("1 1 1", "false"),
-        ("-1 -1", "false"),
-    ];
-    for (multipliers, wanted) in rows {
-        assert!(rt;
-            matches!(contradiction(rt.alloc(), multipliers, wanted), Ok(true)),
-            "{multipliers}"
-        );
-    }
-}
-
-/// Whether a cut by these multipliers and this divisor, and then the last ones, are answered so.
-fn cut(
-    alloc: Global,
-    multipliers: &str,
-    divisor: i128,
-    last: &str,
-    wanted: &str,
-) -> Result<bool, Want> {
-    let leaf = Box::new(alloc, Tree::Farkas(wholes(alloc, last)?))?;
-    let inner = Tree::Cut(wholes(alloc, multipliers)?, divisor, half(alloc)?, leaf);
-    let tree = below_between(alloc, inner)?;
-    answers(alloc, BETWEEN, &tree, wanted)
-}
-
-#[test]
-fn cuts(rt: HostRuntime) {
-    let rows = [
-        ("1 0", 2, "0 1 2", "true"),
-        ("1 0", 1, "0 1 2", "false"),
-        ("1 0", 0, "0 1 2", "false"),
-        ("1 0", 3, "0 1 2", "false"),
-        ("1", 2, "0 1 2", "false"),
-        ("1 0", 2, "0 1 1", "false"),
-        (
-            "1 0",
-            2,
-            "0 170141183460469231731687303715884105727 2",
-            "range 3",
-        ),
-        (
-            "170141183460469231731687303715884105727 0",
-            2,
-            "0 1 2",
-            "range 2",
-        ),
-        (
-            "170141183460469231731687303715884105727 0",
-            0,
-            "0 1 2",
-            "false",
-        ),
-    ];
-    for (multipliers, divisor, last, wanted) in rows {
-        let is_right = cut(rt.alloc(), multipliers, divisor, last, wanted);
-        assert!(rt;
-            matches!(is_right, Ok(true)),
-            "{multipliers} {divisor} {last}"
-        );
-    }
-}
-
-/// Whether a branch at this bound is answered so.
-fn branch(alloc: Global, variable: u32, bound: i128, wanted: &str) -> Result<bool, Want> {
-    let left = Box::new(alloc, Tree::Farkas(wholes(alloc, "1 0 2")?))?;
-    let right = Box::new(alloc, Tree::Farkas(wholes(alloc, "0 1 2")?))?;
-    let inner = Tree::Branch(variable, bound, half(alloc)?, left, right);
-    let tree = below_between(alloc, inner)?;
-    answers(alloc, BETWEEN, &tree, wanted)
-}
-
-#[test]
-fn branches(rt: HostRuntime) {
-    let rows = [
-        (0, 0, "true"),
-        (0, 1, "false"),
-        (0, -1, "false"),
-        (1, 0, "false"),
-        (2, 0, "false"),
-    ];
-    for (variable, bound, wanted) in rows {
-        assert!(rt;
-            matches!(branch(rt.alloc(), variable, bound, wanted), Ok(true)),
-            "{variable} {bound}"
-        );
-    }
-}
-
-/// Whether a split on a multiple of a variable is answered so.
-fn split_on(alloc: Global, coefficient: i128, variable: u32, wanted: &str) -> Result<bool, Want> {
-    let test = Test::AtLeast(form(alloc, coefficient, variable, 0)?);
-    let tree = split(alloc, test, Tree::Shown)?;
-    answers(alloc, LARGE, &tree, wanted)
-}
-
-/// Whether a split on a truth value is answered so.
-fn split_on_truth(alloc: Global, variable: u32, wanted: &str) -> Result<bool, Want> {
-    let tree = split(alloc, Test::Holds(variable), Tree::Shown)?;
-    answers(alloc, LARGE, &tree, wanted)
-}
-
-#[test]
-fn splits(rt: HostRuntime) {
-    let alloc = rt.alloc();
-    let rows = [
-        (1, 0, "range 1"),
-        (i128::MIN, 0, "range 0"),
-        (1, 1, "false"),
-        (i128::MIN, 2, "false"),
-    ];
-    for (coefficient, variable, wanted) in rows {
-        let is_right = split_on(alloc, coefficient, variable, wanted);
-        assert!(rt; matches!(is_right, Ok(true)), "{coefficient} {variable}");
-    }
-    assert!(rt; matches!(split_on_truth(alloc, 1, "range 1"), Ok(true)));
-    assert!(rt; matches!(split_on_truth(alloc, 0, "false"), Ok(true)));
-    assert!(rt; matches!(answers(alloc, BETWEEN, &Tree::Shown, "false"), Ok(true)));
-    assert!(rt;
-        matches!(
-            answers(alloc, BETWEEN, &Tree::Unfinished, "false"),
-            Ok(true)
-        )
-    );
-}
+/// A body, a tree, and whether it refutes the body: contradictions, cuts, branches, splits, and no tree at all.
+pub const ROWS: &str = "\
+A0L1AL&|farkas 1 1;split 1:0 -1;split -1:0 0|true
+A0L1AL&|farkas 1 0;split 1:0 -1;split -1:0 0|false
+A0L1AL&|farkas 2 2;split 1:0 -1;split -1:0 0|true
+A0L1AL&|farkas 170141183460469231731687303715884105727 170141183460469231731687303715884105727;split 1:0 -1;split -1:0 0|true
+A0L1AL&|farkas 1;split 1:0 -1;split -1:0 0|false
+A0L1AL&|farkas 1 1 1;split 1:0 -1;split -1:0 0|false
+A0L1AL&|farkas -1 -1;split 1:0 -1;split -1:0 0|false
+12A*L2A*1L&|farkas 0 1 2;cut 2 1 0;split -2:0 1;split 2:0 -1|true
+12A*L2A*1L&|farkas 0 1 2;cut 1 1 0;split -2:0 1;split 2:0 -1|false
+12A*L2A*1L&|farkas 0 1 2;cut 0 1 0;split -2:0 1;split 2:0 -1|false
+12A*L2A*1L&|farkas 0 1 2;cut 3 1 0;split -2:0 1;split 2:0 -1|false
+12A*L2A*1L&|farkas 0 1 2;cut 2 1;split -2:0 1;split 2:0 -1|false
+12A*L2A*1L&|farkas 0 1 1;cut 2 1 0;split -2:0 1;split 2:0 -1|false
+12A*L2A*1L&|farkas 0 170141183460469231731687303715884105727 2;cut 2 1 0;split -2:0 1;split 2:0 -1|range 3
+12A*L2A*1L&|farkas 0 1 2;cut 2 170141183460469231731687303715884105727 0;split -2:0 1;split 2:0 -1|range 2
+12A*L2A*1L&|farkas 0 1 2;cut 0 170141183460469231731687303715884105727 0;split -2:0 1;split 2:0 -1|false
+12A*L2A*1L&|farkas 1 0 2;farkas 0 1 2;branch 0 0;split -2:0 1;split 2:0 -1|true
+12A*L2A*1L&|farkas 1 0 2;farkas 0 1 2;branch 0 1;split -2:0 1;split 2:0 -1|false
+12A*L2A*1L&|farkas 1 0 2;farkas 0 1 2;branch 0 -1;split -2:0 1;split 2:0 -1|false
+12A*L2A*1L&|farkas 1 0 2;farkas 0 1 2;branch 1 0;split -2:0 1;split 2:0 -1|false
+12A*L2A*1L&|farkas 1 0 2;farkas 0 1 2;branch 2 0;split -2:0 1;split 2:0 -1|false
+MM+ALB&|shown;split 1:0 0|range 1
+MM+ALB&|shown;split -170141183460469231731687303715884105728:0 0|range 0
+MM+ALB&|shown;split 1:1 0|false
+MM+ALB&|shown;split -170141183460469231731687303715884105728:2 0|false
+MM+ALB&|shown;truth 1|range 1
+MM+ALB&|shown;truth 0|false
+12A*L2A*1L&|shown|false
+12A*L2A*1L&|unfinished|false
+";
