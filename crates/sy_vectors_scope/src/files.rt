@@ -1,47 +1,8 @@
-// One-line files, and large ones, with what is read of them.
-use std::alloc::{AllocError, Global};
-use sy_scope::{Job, ScopeEnd, read_file};
-
-/// What is read: so many problems in a logic, or the first fault, by its command, its offset behind the head, and its
-/// cause.
-fn reading_of(alloc: Global, head: usize, text: &[u8]) -> Result<String, AllocError> {
-    if text.len() > 4_194_304 {
-        return String::from_str(alloc, "TooLong");
-    }
-    match read_file(alloc, text) {
-        Ok(Job::Idle) => String::from_str(alloc, "Idle"),
-        Ok(Job::Ints(problems, _)) => {
-            let count = problems.len();
-            format!(in alloc; "Ints({count})")
-        }
-        Ok(Job::Bits(problems, _)) => {
-            let count = problems.len();
-            format!(in alloc; "Bits({count})")
-        }
-        Err(ScopeEnd::Refused(refused)) => {
-            let at = refused.place.at.wrapping_sub(head);
-            let command = refused.command;
-            let cause = refused.cause;
-            format!(in alloc; "Refused({command}, {at}, {cause:?})")
-        }
-        Err(ScopeEnd::Want) => Err(AllocError {}),
-    }
-}
-
-/// Whether the line's text is read as it tells, where a file is the head, the text and the tail.
-pub fn reads_as(alloc: Global, head: &str, tail: &str, line: &str) -> Result<bool, AllocError> {
-    let Some((outcome, text)) = line.split_once(": ") else {
-        return Ok(false);
-    };
-    let mut file = String::new(alloc);
-    file.push_str(head)?;
-    file.push_str(text)?;
-    file.push_str(tail)?;
-    Ok(reading_of(alloc, head.len(), file.as_bytes())?.as_str() == outcome)
-}
+// One-line files, and large ones, each behind what is read of it: so many problems in a logic, or the first fault, by its
+// command, its offset and its cause.
 
 /// Commands without a logic, behind what becomes of each file.
-const COMMANDS: &str = "\
+pub const COMMANDS: &str = "\
 Refused(1, 0, Shape): 5
 Refused(1, 0, Shape): ()
 Refused(1, 0, Shape): (5 x)
@@ -79,7 +40,7 @@ Refused(1, 0, Shape): (define-sort A 5 Int)
 ";
 
 /// New names, and sorts.
-const NAMES: &str = "\
+pub const NAMES: &str = "\
 Refused(2, 27, NameTaken): (set-logic BV)(declare-var ite Bool)
 Refused(2, 27, NameTaken): (set-logic BV)(declare-var bvadd Bool)
 Refused(2, 27, NameTaken): (set-logic BV)(declare-var Constant Bool)
@@ -105,7 +66,7 @@ Refused(3, 47, NameTaken): (set-logic BV)(define-sort A Bool)(define-sort A Bool
 ";
 
 /// Bodies of definitions, and terms of constraints and assumptions.
-const TERMS: &str = "\
+pub const TERMS: &str = "\
 Refused(2, 14, Shape): (set-logic BV)(define-fun f () Bool)
 Refused(2, 14, Shape): (set-logic BV)(define-fun f x Bool true)
 Refused(2, 29, Shape): (set-logic BV)(define-fun f (x) Bool true)
@@ -144,7 +105,7 @@ Refused(3, 43, FunctionNotHere): (set-logic BV)(synth-fun g () Bool)(assume g)
 ";
 
 /// Functions to be found, with and without grammars.
-const FUNCTIONS: &str = "\
+pub const FUNCTIONS: &str = "\
 Refused(2, 14, Shape): (set-logic BV)(synth-fun f ())
 Refused(2, 14, Shape): (set-logic BV)(synth-fun f () Bool ())
 Refused(2, 14, Shape): (set-logic BV)(synth-fun f () Bool x ())
@@ -169,7 +130,7 @@ Refused(3, 46, NameTaken): (set-logic BV)(synth-fun a () Bool)(synth-fun a () Bo
 ";
 
 /// Conditions of invariants, and whole files.
-const FILES: &str = "\
+pub const FILES: &str = "\
 Refused(5, 111, Shape): (set-logic BV)(synth-inv i ((x Bool)))(define-fun p ((x Bool)) Bool x)(define-fun t ((x Bool) (y Bool)) Bool x)(inv-constraint i p t)
 Refused(5, 127, UnknownName): (set-logic BV)(synth-inv i ((x Bool)))(define-fun p ((x Bool)) Bool x)(define-fun t ((x Bool) (y Bool)) Bool x)(inv-constraint z p t p)
 Refused(5, 133, UnknownName): (set-logic BV)(synth-inv i ((x Bool)))(define-fun p ((x Bool)) Bool x)(define-fun t ((x Bool) (y Bool)) Bool x)(inv-constraint i p t z)
@@ -196,88 +157,25 @@ Refused(2, 15, Text(Stray(15))): (set-logic BV) )
 Refused(2, 17, Text(Unclosed(17))): (set-logic BV)(5 (
 ";
 
-#[test]
-fn files_of_one_line(rt: HostRuntime) {
-    for table in [COMMANDS, NAMES, TERMS, FUNCTIONS, FILES] {
-        for line in table.lines() {
-            assert!(rt;
-                matches!(reads_as(rt.alloc(), "", "", line), Ok(true)),
-                "{line}"
-            );
-        }
-    }
-}
-
-/// Files of many equal pieces, a line each: what becomes of the file; how many pieces; and its parts, of which each
-/// second one is a piece. In a piece `#` is its number from 0, and `@` its number from 1.
-const LARGE: &str = "\
-Idle|0|||||
-Ints(0)|4096|(set-logic LIA)|(declare-var v# Int)|||
-Refused(4098, 93126, TooMany)|4097|(set-logic LIA)|(declare-var v# Int)|||
-Ints(0)|1199|(set-logic LIA)(define-fun g () Bool |(not |true|)|)
-Refused(3, 7248, TooMany)|1199|(set-logic LIA)(define-fun g () Bool |(not |true|)|)(constraint g)
-Ints(0)|17|(set-logic LIA)(define-fun d0 () Bool true)|(define-fun d@ () Bool (and d# d#))|||
-Refused(20, 684, TooMany)|18|(set-logic LIA)(define-fun d0 () Bool true)|(define-fun d@ () Bool (and d# d#))|||
-Ints(0)|64|(set-logic LIA)(synth-fun f (|(x# Int)|) Int)||
-Refused(2, 595, TooMany)|65|(set-logic LIA)(synth-fun f (|(x# Int)|) Int)||
-Refused(2, 602, TooMany)|65|(set-logic LIA)(synth-fun f () Int (|(N# Int)|) ((N0 Int (0))))||
-Ints(0)|1024|(set-logic LIA)(synth-fun f () Int ((S Int)) ((S Int (|0 |))))||
-Refused(2, 2102, TooMany)|1025|(set-logic LIA)(synth-fun f () Int ((S Int)) ((S Int (|0 |))))||
-Idle|131072||                                |||
-TooLong|131072| |                                |||
-Refused(1, 1199, Text(Unclosed(1199)))|1200||(|||
-Refused(1, 1200, Text(TooDeep(1200)))|1201||(|||
-Refused(22, 710, TooMany)|17|(set-logic LIA)(define-fun d0 () Int 1)|(define-fun d@ () Int (+ d# d#))|(define-fun big () Int (+ d17 d16 d15 d14 d12 d7 d4 d1 d1))(define-fun p () Int big)(define-fun q () Int (+ big 1))||
-Refused(4, 7276, TooMany)|1198|(set-logic LIA)(define-fun deep () Int |(+ 1 |1|)|)(define-fun p () Int deep)(define-fun q () Int (+ deep 1))
+/// Files with many equal pieces: `{12|piece}` stands for twelve. In a piece `#` is its number from 0, and `@` its number
+/// from 1.
+pub const LARGE: &str = "\
+Idle: {0| }
+Ints(0): (set-logic LIA){4096|(declare-var v# Int)}
+Refused(4098, 93126, TooMany): (set-logic LIA){4097|(declare-var v# Int)}
+Ints(0): (set-logic LIA)(define-fun g () Bool {1199|(not }true{1199|)})
+Refused(3, 7248, TooMany): (set-logic LIA)(define-fun g () Bool {1199|(not }true{1199|)})(constraint g)
+Ints(0): (set-logic LIA)(define-fun d0 () Bool true){17|(define-fun d@ () Bool (and d# d#))}
+Refused(20, 684, TooMany): (set-logic LIA)(define-fun d0 () Bool true){18|(define-fun d@ () Bool (and d# d#))}
+Ints(0): (set-logic LIA)(synth-fun f ({64|(x# Int)}) Int)
+Refused(2, 595, TooMany): (set-logic LIA)(synth-fun f ({65|(x# Int)}) Int)
+Refused(2, 602, TooMany): (set-logic LIA)(synth-fun f () Int ({65|(N# Int)}) ((N0 Int (0))))
+Ints(0): (set-logic LIA)(synth-fun f () Int ((S Int)) ((S Int ({1024|0 }))))
+Refused(2, 2102, TooMany): (set-logic LIA)(synth-fun f () Int ((S Int)) ((S Int ({1025|0 }))))
+Idle: {131072|                                }
+TooLong:  {131072|                                }
+Refused(1, 1199, Text(Unclosed(1199))): {1200|(}
+Refused(1, 1200, Text(TooDeep(1200))): {1201|(}
+Refused(22, 710, TooMany): (set-logic LIA)(define-fun d0 () Int 1){17|(define-fun d@ () Int (+ d# d#))}(define-fun big () Int (+ d17 d16 d15 d14 d12 d7 d4 d1 d1))(define-fun p () Int big)(define-fun q () Int (+ big 1))
+Refused(4, 7276, TooMany): (set-logic LIA)(define-fun deep () Int {1198|(+ 1 }1{1198|)})(define-fun p () Int deep)(define-fun q () Int (+ deep 1))
 ";
-
-/// Appends the piece of this number.
-fn append_piece(text: &mut String, piece: &str, number: u32) -> Result<(), AllocError> {
-    for letter in piece.chars() {
-        match letter {
-            '#' => write!(text, "{number}")?,
-            '@' => {
-                let next = number.saturating_add(1);
-                write!(text, "{next}")?
-            }
-            _ => text.push(letter)?,
-        }
-    }
-    Ok(())
-}
-
-/// The file of these parts.
-fn text_of(alloc: Global, count: u32, parts: &str) -> Result<String, AllocError> {
-    let mut text = String::new(alloc);
-    let mut is_piece = false;
-    for part in parts.split('|') {
-        let times = if is_piece { count } else { 1 };
-        for number in 0..times {
-            append_piece(&mut text, part, number)?;
-        }
-        is_piece = !is_piece;
-    }
-    Ok(text)
-}
-
-/// Whether the line's file is read as it tells.
-fn is_read(alloc: Global, line: &str) -> Result<bool, AllocError> {
-    let Some((outcome, rest)) = line.split_once('|') else {
-        return Ok(false);
-    };
-    let Some((count, parts)) = rest.split_once('|') else {
-        return Ok(false);
-    };
-    let Ok(count) = count.parse() else {
-        return Ok(false);
-    };
-    let text = text_of(alloc, count, parts)?;
-    Ok(reading_of(alloc, 0, text.as_bytes())?.as_str() == outcome)
-}
-
-#[test]
-fn the_largest_files(rt: HostRuntime) {
-    for line in LARGE.lines() {
-        assert!(rt; matches!(is_read(rt.alloc(), line), Ok(true)), "{line}");
-    }
-}

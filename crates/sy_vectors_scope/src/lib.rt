@@ -9,4 +9,6 @@ mod files;
 #[cfg(test)]
 mod lines;
 #[cfg(test)]
+mod readings;
+#[cfg(test)]
 mod terms;

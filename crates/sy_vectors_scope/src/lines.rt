@@ -1,34 +1,31 @@
 // Lines as they are written out by hand.
 use std::alloc::Global;
-use sy_io::Bytes;
 use sy_query::FailName;
 use sy_reply::{fail_line, refusal_text};
 use sy_scope::{Cause, Refused};
 use sy_text::{Place, TextFault};
 
-/// Whether the bytes are those of the text.
-fn is_text(bytes: Option<Bytes>, text: &str) -> bool {
-    bytes.is_some_and(|bytes| bytes.as_slice() == text.as_bytes())
-}
-
-/// The line of the command 2, refused at an offset.
-fn refusal(alloc: Global, bytes: &[u8], at: usize, cause: Cause) -> Option<Bytes> {
+/// Whether the line of command 2, refused at an offset, is this.
+fn is_refusal(alloc: Global, bytes: &[u8], at: usize, cause: Cause, line: &str) -> bool {
     if at > bytes.len() {
-        return None;
+        return false;
     }
     let refused = Refused {
         command: 2,
         place: Place { at },
         cause,
     };
-    refusal_text(alloc, bytes, &refused).ok()
+    match refusal_text(alloc, bytes, &refused) {
+        Ok(text) => text.as_slice() == line.as_bytes(),
+        Err(_) => false,
+    }
 }
 
 #[test]
-fn refusals(rt: HostRuntime) {
+fn refusals_and_failures(rt: HostRuntime) {
     let file =
         b"(set-logic LIA)\n(synth-fun f () Int ((S Int)) ((S Int (170141183460469231731687303715884105728))))";
-    let rows = [
+    let refusals = [
         (
             55,
             Cause::Text(TextFault::LiteralRange(55)),
@@ -55,19 +52,16 @@ fn refusals(rt: HostRuntime) {
             "refused: command 2 line 2 column 1 cause 16 TooMany\n",
         ),
     ];
-    for (at, cause, line) in rows {
-        assert!(rt; is_text(refusal(rt.alloc(), file, at, cause), line));
+    for (at, cause, line) in refusals {
+        assert!(rt; is_refusal(rt.alloc(), file, at, cause, line));
     }
-}
-
-#[test]
-fn failures(rt: HostRuntime) {
-    let rows = [
+    let failures = [
         (1, FailName::Size, "fail: check-synth 1 Size\n"),
         (2, FailName::Range, "fail: check-synth 2 Range\n"),
         (16, FailName::Pivots, "fail: check-synth 16 Pivots\n"),
     ];
-    for (check, name, line) in rows {
-        assert!(rt; is_text(fail_line(rt.alloc(), check, name).ok(), line));
+    for (check, name, line) in failures {
+        let text = fail_line(rt.alloc(), check, name).expect(&rt, "a line");
+        assert!(rt; text.as_slice() == line.as_bytes());
     }
 }

@@ -1,9 +1,8 @@
-// Terms, sorts and rules, each as an item of a file: it is read, or refused with its cause and the place from the
-// item's beginning.
-use crate::files::reads_as;
+// Terms, sorts and rules, each as an item of a file behind what becomes of it: it is read, or refused with its cause and the
+// place from the item's beginning.
 
 /// Terms over integers in a constraint.
-const INTEGER_TERMS: &str = "\
+pub const INTEGER_TERMS: &str = "\
 Ints(0): x
 Ints(0): 5
 Ints(0): (- 5)
@@ -51,7 +50,7 @@ Refused(8, 14, SortMismatch): (let ((z x)) (z))
 ";
 
 /// Terms over vectors of four bits in an assumption.
-const VECTOR_TERMS: &str = "\
+pub const VECTOR_TERMS: &str = "\
 Bits(0): x
 Bits(0): #b0101
 Bits(0): #x5
@@ -79,7 +78,7 @@ Refused(4, 9, SortMismatch): (bvadd x 1)
 ";
 
 /// Terms over integers in a body with the arguments `u` and `b`.
-const BODIES: &str = "\
+pub const BODIES: &str = "\
 Ints(0): (+ u (g c))
 Refused(8, 0, UnknownName): x
 Refused(8, 1, UnknownName): (x u)
@@ -90,19 +89,19 @@ Refused(8, 0, SortMismatch): #b01
 ";
 
 /// Terms over vectors of four bits in a body.
-const VECTOR_BODIES: &str = "\
+pub const VECTOR_BODIES: &str = "\
 Refused(2, 0, SortMismatch): 5
 Refused(2, 0, SortMismatch): (bvult x y)
 ";
 
 /// Terms over integers in an assumption.
-const ASSUMPTIONS: &str = "\
+pub const ASSUMPTIONS: &str = "\
 Ints(0): (+ x 1)
 Refused(8, 1, FunctionNotHere): (f x 1)
 ";
 
 /// Sorts where the logic is of integers.
-const INTEGER_SORTS: &str = "\
+pub const INTEGER_SORTS: &str = "\
 Ints(0): Bool
 Ints(0): Int
 Ints(0): N
@@ -112,7 +111,7 @@ Refused(3, 0, Shape): 5
 ";
 
 /// Sorts where the logic is of vectors.
-const VECTOR_SORTS: &str = "\
+pub const VECTOR_SORTS: &str = "\
 Bits(0): (_ BitVec 64)
 Bits(0): N
 Refused(3, 0, UnknownSort): Int
@@ -125,7 +124,7 @@ Refused(3, 0, UnknownSort): ()
 ";
 
 /// Rules of a nonterminal `I` beside one of constants.
-const RULES: &str = "\
+pub const RULES: &str = "\
 Ints(0): I
 Ints(0): (+ I u 1)
 Ints(0): (* I C)
@@ -143,63 +142,3 @@ Refused(6, 10, UnknownSort): (Variable Real)
 Refused(6, 1, UnknownName): (Constant)
 Refused(6, 6, UnknownName): (+ I (Constant Int))
 ";
-
-/// Items of one place: what stands before and behind each in its file, and what becomes of each.
-struct Items {
-    head: &'static str,
-    tail: &'static str,
-    table: &'static str,
-}
-
-const ITEMS: [Items; 8] = [
-    Items {
-        head: "(set-logic LIA)(declare-var x Int)(declare-var y Int)(declare-var b Bool)(define-fun g ((a Int)) Int a)(define-fun c () Int 1)(synth-fun f ((a Int) (e Int)) Int)(constraint (= x ",
-        tail: "))",
-        table: INTEGER_TERMS,
-    },
-    Items {
-        head: "(set-logic BV)(declare-var x (_ BitVec 4))(declare-var y (_ BitVec 4))(assume (= x ",
-        tail: "))",
-        table: VECTOR_TERMS,
-    },
-    Items {
-        head: "(set-logic LIA)(declare-var x Int)(declare-var y Int)(declare-var b Bool)(define-fun g ((a Int)) Int a)(define-fun c () Int 1)(synth-fun f ((a Int) (e Int)) Int)(define-fun h ((u Int) (b Bool)) Int ",
-        tail: ")",
-        table: BODIES,
-    },
-    Items {
-        head: "(set-logic BV)(define-fun h ((x (_ BitVec 4)) (y (_ BitVec 4))) (_ BitVec 4) ",
-        tail: ")",
-        table: VECTOR_BODIES,
-    },
-    Items {
-        head: "(set-logic LIA)(declare-var x Int)(declare-var y Int)(declare-var b Bool)(define-fun g ((a Int)) Int a)(define-fun c () Int 1)(synth-fun f ((a Int) (e Int)) Int)(assume (= x ",
-        tail: "))",
-        table: ASSUMPTIONS,
-    },
-    Items {
-        head: "(set-logic LIA)(define-sort N Bool)(declare-var v ",
-        tail: ")",
-        table: INTEGER_SORTS,
-    },
-    Items {
-        head: "(set-logic BV)(define-sort N Bool)(declare-var v ",
-        tail: ")",
-        table: VECTOR_SORTS,
-    },
-    Items {
-        head: "(set-logic LIA)(define-sort N Int)(declare-var x Int)(define-fun g ((a Int)) Int a)(synth-fun f ((a Int) (e Int)) Int)(synth-fun h ((u Int)) Int ((I Int) (C Int)) ((I Int (u ",
-        tail: ")) (C Int ((Constant Int)))))",
-        table: RULES,
-    },
-];
-
-#[test]
-fn terms_sorts_and_rules(rt: HostRuntime) {
-    for items in &ITEMS {
-        for line in items.table.lines() {
-            let read = reads_as(rt.alloc(), items.head, items.tail, line);
-            assert!(rt; matches!(read, Ok(true)), "{line}");
-        }
-    }
-}
