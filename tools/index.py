@@ -62,7 +62,7 @@ def rows():
                 yield f"| {linked(name)} | {opening(name)} | {definitions(name)} |"
         tests = [f"`{name}`" for name in names if name.endswith("_tests")]
         if tests:
-            yield f"| {', '.join(tests)} | Tests of the {'crates' if len(tests) > 1 else 'crate'} of that name. | |"
+            yield f"| {', '.join(tests)} | Tests. | |"
 
 
 def main():
