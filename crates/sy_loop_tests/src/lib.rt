@@ -1,5 +1,25 @@
-// Tests of `sy_loop`, in a crate of their own, so that the library is proved once.
+// Tests of queries and of the search, in a crate of their own, so that what they stand on is read and proved once.
 #![tactic(auto)]
 
+#[cfg(test)]
+mod candidates;
+#[cfg(test)]
+mod combinations;
+#[cfg(test)]
+mod outcomes;
+#[cfg(test)]
+mod pointwise;
+#[cfg(test)]
+mod posed;
+#[cfg(test)]
+mod queries;
+#[cfg(test)]
+mod refutations;
+#[cfg(test)]
+mod rows;
+#[cfg(test)]
+mod solver;
+#[cfg(test)]
+mod terms;
 #[cfg(test)]
 mod tests;

@@ -1,50 +1,43 @@
-// What the search answers over integers, with a solver whose budget runs out at once.
-use std::alloc::{AllocError, Global};
-use std::test::Fail;
-use sy_grammar_base::Problem;
-use sy_loop::synthesise;
-use sy_loop_outcome::{Outcome, fail_name};
-use sy_meaning_integers::IntTheory;
-use sy_query_fixtures::Tired;
-use sy_query_limits::{FailName, Limits};
-use sy_terms::Seq;
+// The rows of all tables.
+use crate::rows::parts_of;
+use crate::{candidates, combinations, outcomes, pointwise, queries, refutations};
+use std::alloc::Global;
+use sy_terms::Want;
 
-/// The name of what ends the search for no functions at all, where there may be so many rounds.
-fn end_of(alloc: Global, rounds: u32) -> Result<Option<FailName>, AllocError> {
-    let problem: Problem<IntTheory> = Problem {
-        defs: Seq::new(alloc),
-        vars: Seq::new(alloc),
-        wanted: Seq::new(alloc),
-        assumptions: Seq::new(alloc),
-        constraints: Seq::new(alloc),
-        pool: Seq::new(alloc),
-    };
-    let limits = Limits {
-        size: 2,
-        rounds,
-        points: 1,
-        bank: 1,
-        weight: 10,
-        clauses: 1,
-        nodes: 1,
-        pivots: 1,
-    };
-    let mut tired = Tired {};
-    let outcome = synthesise(alloc, &problem, &limits, &mut tired)?;
-    match outcome {
-        Outcome::Found(_, _) | Outcome::Infeasible => Ok(None),
-        Outcome::Fail(cause) => Ok(Some(fail_name::<IntTheory, Tired>(&cause))),
+/// All tables. The first part of a row says what it is about.
+const TABLES: [&str; 8] = [
+    candidates::ROWS,
+    combinations::ROWS,
+    outcomes::CAUSES,
+    outcomes::SEARCHES,
+    pointwise::ROWS,
+    queries::CONSTANTS,
+    queries::WEIGHTS,
+    refutations::ROWS,
+];
+
+/// Whether the row is right.
+fn is_right(alloc: Global, row: &str) -> Result<bool, Want> {
+    let parts = parts_of(row);
+    match parts[0] {
+        "candidate" => candidates::is_right(alloc, &parts),
+        "cause" => Ok(outcomes::is_named(alloc, &parts)),
+        "combination" => combinations::is_right(alloc, &parts),
+        "constant" => queries::is_decided(alloc, &parts),
+        "pointwise" => pointwise::is_right(alloc, &parts),
+        "refutation" => refutations::is_right(alloc, &parts),
+        "search" => outcomes::is_ended(alloc, &parts),
+        "weight" => queries::is_weighed(alloc, &parts),
+        _ => Ok(false),
     }
 }
 
 #[test]
-fn the_empty_tuple_is_decided(rt: HostRuntime) -> Result<(), Fail> {
-    assert_eq!(rt; end_of(rt.alloc(), 1)?, Some(FailName::Pivots));
-    Ok(())
-}
-
-#[test]
-fn no_round_is_left(rt: HostRuntime) -> Result<(), Fail> {
-    assert_eq!(rt; end_of(rt.alloc(), 0)?, Some(FailName::Rounds));
-    Ok(())
+fn each_row_is_right(rt: HostRuntime) {
+    for table in TABLES {
+        for row in table.lines() {
+            let is_right = is_right(rt.alloc(), row).expect(&rt, "memory");
+            assert!(rt; is_right, "{row}");
+        }
+    }
 }

@@ -1,3 +1,0 @@
-pub mod Posing
-pub mod Deciding
-pub mod Trying

@@ -1,0 +1,4 @@
+pub mod Deciding
+pub mod Posing
+pub mod Refuting
+pub mod Trying

@@ -1,0 +1,100 @@
+// How a search ends where nothing is to be found and the solver gives up, and the names of causes.
+use crate::candidates::AMPLE;
+use crate::rows::number;
+use crate::solver::{Both, Nothing};
+use std::alloc::Global;
+use sy_grammar_base::Problem;
+use sy_loop::synthesise;
+use sy_loop_outcome::{FailCause, LoopRange, Outcome, fail_name};
+use sy_meaning_integers::IntTheory;
+use sy_points::Stored;
+use sy_query_limits::{FailName, Limits};
+use sy_terms::{Seq, Term, Want};
+
+/// The name of a cause that has one here.
+fn named(text: &str) -> Option<FailName> {
+    match text {
+        "size" => Some(FailName::Size),
+        "rounds" => Some(FailName::Rounds),
+        "points" => Some(FailName::Points),
+        "weight" => Some(FailName::Weight),
+        "pivots" => Some(FailName::Pivots),
+        "range" => Some(FailName::Range),
+        _ => None,
+    }
+}
+
+/// A cause of this name, with nothing that shows it; `None` where that takes more than lists, or the solver has no such
+/// budget.
+fn cause(alloc: Global, name: FailName) -> Option<FailCause<IntTheory, Nothing>> {
+    let stored = Stored::new(alloc);
+    let (bodies, values) = (Seq::new(alloc), Seq::new(alloc));
+    match name {
+        FailName::Size => Some(FailCause::Size),
+        FailName::Rounds => Some(FailCause::Rounds(stored)),
+        FailName::Points => {
+            let tuples = Seq::new(alloc);
+            Some(FailCause::Points(stored, 0, bodies, values, tuples))
+        }
+        FailName::Weight => Some(FailCause::Weight(stored, bodies)),
+        FailName::Pivots => Some(FailCause::Decide(stored, bodies, Nothing {})),
+        FailName::Range => {
+            let left = LoopRange::Member(0, Term::Var(0), values);
+            Some(FailCause::Range(stored, left))
+        }
+        _ => None,
+    }
+}
+
+/// The causes that have a name here.
+pub(crate) const CAUSES: &str = "\
+cause|size
+cause|rounds
+cause|points
+cause|weight
+cause|pivots
+cause|range";
+
+/// Whether the cause of a row has its name.
+pub(crate) fn is_named(alloc: Global, parts: &[&str; 9]) -> bool {
+    let Some(name) = named(parts[1]) else {
+        return false;
+    };
+    match cause(alloc, name) {
+        Some(cause) => fail_name::<IntTheory, Both>(&cause) == name,
+        None => false,
+    }
+}
+
+/// How many rounds there may be, and what ends the search: without functions the empty tuple of bodies is decided, where a
+/// round is left.
+pub(crate) const SEARCHES: &str = "\
+search|1|pivots
+search|0|rounds";
+
+/// Whether the search of a row ends as it says.
+pub(crate) fn is_ended(alloc: Global, parts: &[&str; 9]) -> Result<bool, Want> {
+    let problem: Problem<IntTheory> = Problem {
+        defs: Seq::new(alloc),
+        vars: Seq::new(alloc),
+        wanted: Seq::new(alloc),
+        assumptions: Seq::new(alloc),
+        constraints: Seq::new(alloc),
+        pool: Seq::new(alloc),
+    };
+    let limits = Limits {
+        size: 2,
+        rounds: number(parts[1]),
+        points: 1,
+        weight: 10,
+        ..AMPLE
+    };
+    let mut solver = Both { left: 0 };
+    match synthesise(alloc, &problem, &limits, &mut solver)? {
+        Outcome::Found(_, _) | Outcome::Infeasible => Ok(false),
+        Outcome::Fail(cause) => {
+            let name = fail_name::<IntTheory, Both>(&cause);
+            Ok(named(parts[2]) == Some(name))
+        }
+    }
+}

@@ -1,0 +1,141 @@
+// Which problems are pointwise.
+use crate::terms::{operator, term};
+use std::alloc::Global;
+use sy_grammar_base::{Grammar, Non, Part, Parts, Problem, Rule, Wanted, well_formed};
+use sy_loop_pointwise::pointwise;
+use sy_meaning_integers::IntTheory;
+use sy_meaning_words::BvTheory;
+use sy_terms::{Seq, Sort, Theory, Want};
+
+/// The sort, so many times.
+fn sorts(alloc: Global, sort: Sort, count: usize) -> Result<Seq<Sort>, Want> {
+    let mut sorts = Seq::new(alloc);
+    for _ in 0..count {
+        sorts.push(sort)?;
+    }
+    Ok(sorts)
+}
+
+/// An argument, or a nonterminal: `S` is the start symbol, `C` the other one.
+fn leaf<T: Theory>(sign: u8) -> Part<T> {
+    match sign {
+        b'x' => Part::Var(0),
+        b'y' => Part::Var(1),
+        b'C' => Part::Non(1),
+        _ => Part::Non(0),
+    }
+}
+
+/// A leaf, or an operator at leaves.
+fn part<T: Theory>(alloc: Global, text: &str) -> Result<Part<T>, Want> {
+    let Some((sign, others)) = text.as_bytes().split_first() else {
+        return Ok(Part::Non(0));
+    };
+    let Some((operator, _)) = operator(*sign) else {
+        return Ok(leaf::<T>(*sign));
+    };
+    let mut parts = Parts::new(alloc);
+    for other in others {
+        parts.push(leaf::<T>(*other))?;
+    }
+    Ok(Part::App(operator, parts))
+}
+
+/// The nonterminals of these rules: those of the start symbol, of this sort, and after `;` those of a truth value.
+fn nonterminals<T: Theory>(alloc: Global, sort: Sort, text: &str) -> Result<Seq<Non<T>>, Want> {
+    let mut nons = Seq::new(alloc);
+    let mut sort = sort;
+    for texts in text.split(';') {
+        let mut rules = Seq::new(alloc);
+        for text in texts.split(' ') {
+            let part = part::<T>(alloc, text)?;
+            rules.push(Rule::Term(part))?;
+        }
+        nons.push(Non { sort, rules })?;
+        sort = Sort::Bool;
+    }
+    Ok(nons)
+}
+
+/// A function of so many arguments of the sort to that sort, whose grammar has these rules.
+fn function<T: Theory>(
+    alloc: Global,
+    sort: Sort,
+    arguments: usize,
+    rules: &str,
+) -> Result<Option<Wanted<T>>, Want> {
+    let nons = nonterminals::<T>(alloc, sort, rules)?;
+    let args = sorts(alloc, sort, arguments)?;
+    let defs = Seq::new(alloc);
+    if !well_formed(&args, &nons, &defs) {
+        return Ok(None);
+    }
+    let grammar = Grammar::new(args, nons, &defs);
+    let args = sorts(alloc, sort, arguments)?;
+    Ok(Some(Wanted {
+        args,
+        sort,
+        grammar,
+    }))
+}
+
+/// Whether the problem of a row is pointwise; `None` where its grammar isn't well formed.
+fn is_pointwise<T: Theory>(
+    alloc: Global,
+    sort: Sort,
+    parts: &[&str; 9],
+) -> Result<Option<bool>, Want> {
+    let arguments = parts[3].len();
+    let mut wanted = Seq::new(alloc);
+    for _ in 0..parts[2].len() {
+        match function::<T>(alloc, sort, arguments, parts[5])? {
+            Some(function) => wanted.push(function)?,
+            None => return Ok(None),
+        }
+    }
+    let mut constraints = Seq::new(alloc);
+    for text in parts[6].split(' ') {
+        let constraint = term::<T>(alloc, arguments, text)?;
+        constraints.push(constraint)?;
+    }
+    let (defs, assumptions, pool) = (Seq::new(alloc), Seq::new(alloc), Seq::new(alloc));
+    let vars = sorts(alloc, sort, parts[4].len())?;
+    let problem = Problem {
+        defs,
+        vars,
+        wanted,
+        assumptions,
+        constraints,
+        pool,
+    };
+    let answer = pointwise(alloc, &problem)?;
+    Ok(Some(answer))
+}
+
+/// The sort; the functions to be found; the arguments of each, and the variables; the rules of the grammar; constraints; and
+/// whether the problem is pointwise.
+///
+/// It is where one function is to be found and each constraint applies it to one list of arguments, in which it isn't
+/// applied. A name of a `let` counts as what it stands for. The last two are the greater of two integers, and a
+/// function over vectors that undoes itself.
+pub(crate) const ROWS: &str = "\
+pointwise|Bool|f|x|xy|x|=fxfx|yes
+pointwise|Bool|f|x|xy|x|=fxfy|no
+pointwise|Bool|f|x|xy|x|=ffxx|no
+pointwise|Bool|f|x|xy|x|Bx=fzfx|yes
+pointwise|Bool|f|x|xy|x|Bfy=fxx|yes
+pointwise|Bool|f|x|xy|x|=xy|yes
+pointwise|Bool||x|xy|x|=xy|no
+pointwise|Bool|fg|x|xy|x|=fxfx|no
+pointwise|Int|f|xy|xy|x y ?CSS;Lxy|Gfxyx Gfxyy O=fxyx=fxyy|yes
+pointwise|Bits|f|x|x|x -x ~x|=ffxx Dfxx|no";
+
+/// Whether the row is right.
+pub(crate) fn is_right(alloc: Global, parts: &[&str; 9]) -> Result<bool, Want> {
+    let found = match parts[1] {
+        "Bool" => is_pointwise::<IntTheory>(alloc, Sort::Bool, parts)?,
+        "Int" => is_pointwise::<IntTheory>(alloc, Sort::Int, parts)?,
+        _ => is_pointwise::<BvTheory>(alloc, Sort::Bits(8), parts)?,
+    };
+    Ok(found == Some(parts[7] == "yes"))
+}

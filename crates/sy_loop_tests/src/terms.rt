@@ -1,0 +1,96 @@
+// Terms over the variables `x`, `y` and `z`, as texts: a character for each node, which stands before its arguments.
+use std::alloc::Global;
+use sy_terms::{Fun, Op, Sort, Term, Terms, Theory, Value, Want};
+
+/// The operator of this sign, and how many arguments it has here.
+pub(crate) fn operator(sign: u8) -> Option<(Op, usize)> {
+    match sign {
+        b'=' => Some((Op::Equal, 2)),
+        b'D' => Some((Op::Distinct, 2)),
+        b'O' => Some((Op::Or, 2)),
+        b'?' => Some((Op::Ite, 3)),
+        b'+' => Some((Op::Add, 2)),
+        b'<' => Some((Op::Lt, 2)),
+        b'>' => Some((Op::Gt, 2)),
+        b'L' => Some((Op::Le, 2)),
+        b'G' => Some((Op::Ge, 2)),
+        b'-' => Some((Op::BvNeg, 1)),
+        b'~' => Some((Op::BvNot, 1)),
+        b'&' => Some((Op::BvAnd, 2)),
+        b'o' => Some((Op::BvOr, 2)),
+        b'^' => Some((Op::BvXor, 2)),
+        b'a' => Some((Op::BvAdd, 2)),
+        b's' => Some((Op::BvSub, 2)),
+        b'*' => Some((Op::BvMul, 2)),
+        b'/' => Some((Op::BvUdiv, 2)),
+        b'r' => Some((Op::BvLshr, 2)),
+        _ => None,
+    }
+}
+
+/// Takes so many terms, of which the last is the first argument.
+fn arguments<T: Theory>(
+    alloc: Global,
+    stack: &mut Vec<Term<T>>,
+    count: usize,
+) -> Result<Terms<T>, Want> {
+    let mut terms = Terms::new(alloc);
+    for _ in 0..count {
+        if let Some(term) = stack.pop() {
+            terms.push(term)?;
+        }
+    }
+    Ok(terms)
+}
+
+/// The integer; `x` over vectors.
+fn integer<T: Theory>(number: i128) -> Term<T> {
+    match T::of_number(Sort::Int, number) {
+        Some(number) => Term::Const(Value::Num(number)),
+        None => Term::Var(0),
+    }
+}
+
+/// The node of a sign, whose arguments are the last terms: `t` and `n` are true and false, a digit is itself, `M` is the
+/// greatest integer of 128 bits; `f` calls the function to be found, at so many arguments; `B` binds one term, and the
+/// others are operators.
+fn node<T: Theory>(
+    alloc: Global,
+    arguments_of_call: usize,
+    stack: &mut Vec<Term<T>>,
+    sign: u8,
+) -> Result<Term<T>, Want> {
+    match sign {
+        b'x'..=b'z' => Ok(Term::Var(u32::from(sign - b'x'))),
+        b't' | b'n' => Ok(Term::Const(Value::Truth(sign == b't'))),
+        b'0'..=b'9' => Ok(integer::<T>(i128::from(sign - b'0'))),
+        b'M' => Ok(integer::<T>(i128::MAX)),
+        b'f' => {
+            let terms = arguments(alloc, stack, arguments_of_call)?;
+            Ok(Term::Call(Fun::Wanted(0), terms))
+        }
+        b'B' => {
+            let bound = arguments(alloc, stack, 1)?;
+            let inner = stack.pop().unwrap_or(Term::Var(0));
+            Ok(Term::Let(bound, Box::new(alloc, inner)?))
+        }
+        _ => {
+            let (operator, count) = operator(sign).unwrap_or((Op::And, 0));
+            Ok(Term::App(operator, arguments(alloc, stack, count)?))
+        }
+    }
+}
+
+/// The term of this text, in which calls of the function to be found have so many arguments.
+pub(crate) fn term<T: Theory>(
+    alloc: Global,
+    arguments_of_call: usize,
+    text: &str,
+) -> Result<Term<T>, Want> {
+    let mut stack = Vec::new(alloc);
+    for sign in text.as_bytes().iter().rev() {
+        let term = node(alloc, arguments_of_call, &mut stack, *sign)?;
+        stack.push(term)?;
+    }
+    Ok(stack.pop().unwrap_or(Term::Var(0)))
+}
