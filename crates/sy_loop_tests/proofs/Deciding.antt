@@ -17,19 +17,24 @@ use Rattle.sy_grammar_base.specs.Solving.{AreValues}
 use Rattle.sy_query_base.specs.Asked.{Query, QueryFits}
 use Rattle.sy_loop_tests.specs.Small.{IsSmall, values_for}
 
--- the query may be evaluated at values of its variables
-pub fits-at : {T : Type 0} (defs : List (Def T ℤ)) (query : Query) (values : List Val) → defs ≡ [] → QueryFits lia.owned lia.numeric query → AreValues query.variables values → FitsWith lia.owned Whole defs [] values query.body
-fits-at defs query values none fits are = record {
+-- the query may be evaluated at values of its variables, in a list of their own
+pub valid-at : (query : Query) (values slice : List Val) → slice ≡ values → AreValues query.variables values → All (λ v. valid v ≡ true) slice
+valid-at query values slice same are = subst (All (λ v. valid v ≡ true)) (sym same) are.valid
+
+pub fits-at : {T : Type 0} (defs : List (Def T ℤ)) (query : Query) (values slice : List Val) → defs ≡ [] → slice ≡ values → QueryFits lia.owned lia.numeric query → AreValues query.variables values
+    → FitsWith lia.owned Whole defs [] slice query.body
+fits-at defs query values slice none same fits are = record {
   wanted = [];
   bodies = tt;
-  fits = record { sort = sorts.Bool; is = rw (none, are.sorted) fits.body };
+  fits = record { sort = sorts.Bool; is = rw (none, same, are.sorted) fits.body };
 }
 
 -- the value that evaluation gives
-pub given : {T : Type 0} (defs : List (Def T ℤ)) (query : Query) (values : List Val) (value : Val) → defs ≡ [] → QueryFits lia.owned lia.numeric query → AreValues query.variables values
-    → GivesValue lia.owned Whole defs [] values query.body value → value ≡ meaning [] [] values query.body
-given {T} defs query values value none fits are gives =
-    let now : GivesValue {T = T} lia.owned Whole [] [] values query.body value = subst (λ (ds : List (Def T ℤ)). GivesValue lia.owned Whole ds [] values query.body value) none gives in
+pub given : {T : Type 0} (defs : List (Def T ℤ)) (query : Query) (values slice : List Val) (value : Val) → defs ≡ [] → slice ≡ values → QueryFits lia.owned lia.numeric query → AreValues query.variables values
+    → GivesValue lia.owned Whole defs [] slice query.body value → value ≡ meaning [] [] values query.body
+given {T} defs query values slice value none same fits are gives =
+    let here : GivesValue {T = T} lia.owned Whole defs [] values query.body value = subst (λ (vs : List Val). GivesValue {T = T} lia.owned Whole defs [] vs query.body value) same gives in
+    let now : GivesValue {T = T} lia.owned Whole [] [] values query.body value = subst (λ (ds : List (Def T ℤ)). GivesValue lia.owned Whole ds [] values query.body value) none here in
     let has = now [] tt (record { sort = sorts.Bool; is = rw are.sorted fits.body }) in
     has.meaning
 

@@ -59,6 +59,11 @@ module _ {T : Type 0} (sort : Sort) (problem : Problem T ℤ) (f : Wanted T ℤ)
 pub one-is : {T : Type 0} (terms nothing : List (Term T ℤ)) (term : Term T ℤ) (is : Expr) → nothing ≡ [] → terms ≡ nothing ++ term ∷ [] → expr_of Whole term ≡ is → map (expr_of Whole) terms ≡ is ∷ []
 one-is terms nothing term is empty are e = rw (are, empty) (ap (λ (x : Expr). x ∷ []) e)
 
+-- a term of one sort fits
+fits-as : (defs : List Signature) (takes : List Sort) (gives sort : Sort) (term body : Expr) → defs ≡ [] → takes ≡ sort ∷ [] → gives ≡ sort → term ≡ body → posed.FitsOver [] sort sort body
+    → sort_in (record { owned = lia.owned; defined = defs; wanted = [] }) takes term ≡ Some gives
+fits-as defs takes gives sort term body d t g b fits = rw (d, t, g, b) fits
+
 -- one body, where the question asks for one function
 one-fits : {T : Type 0} (sort : Sort) (defs : List (Def T ℤ)) (terms : List (Term T ℤ)) (wanted : List (Wanted T ℤ)) (body : Expr) → map signature defs ≡ [] → map (expr_of Whole) terms ≡ body ∷ []
     → map (goal_of Whole) wanted ≡ posed.goal sort ∷ [] → posed.FitsOver [] sort sort body → BodiesFit lia.owned Whole defs terms (map wanted_signature wanted)
@@ -71,7 +76,7 @@ one-fits sort defs (term ∷ []) (f ∷ []) body d b w fits =
     let takes : f.args ≡ sort ∷ [] = ap (λ (g : Goal). g.signature.takes) is in
     let gives : f.sort ≡ sort = ap (λ (g : Goal). g.signature.gives) is in
     let term-is : expr_of Whole term ≡ body = cc in
-    (rw (d, takes, gives, term-is) fits, tt)
+    (fits-as (map signature defs) f.args f.sort sort (expr_of Whole term) body d takes gives term-is fits, tt)
 
 pub body-fits : {T : Type 0} (sort : Sort) (problem : Problem T ℤ) (bodies : List (Term T ℤ)) (body : Expr) → posed.AsksForOne sort (question_of Whole problem) → map (expr_of Whole) bodies ≡ body ∷ []
     → posed.FitsOver [] sort sort body → BodiesFit lia.owned Whole problem.defs bodies (signatures problem)
