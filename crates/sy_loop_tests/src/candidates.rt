@@ -118,13 +118,14 @@ pub(crate) fn is_right(alloc: Global, parts: &[&str; 9]) -> Result<bool, Want> {
         left: number(parts[5]),
     };
     let mut known = nothing_known(alloc, &problem, &limits)?;
-    let mut came = "";
+    let mut has_come = false;
     for sign in parts[6].as_bytes() {
         let constant = match *sign {
             b'x' => None,
             sign => Some(sign == b't'),
         };
-        came = tried(alloc, &problem, &limits, &mut solver, constant, &mut known)?;
+        let came = tried(alloc, &problem, &limits, &mut solver, constant, &mut known)?;
+        has_come = came == parts[7];
     }
-    Ok(came == parts[7] && known.stored.len() == number(parts[8]) as usize)
+    Ok(has_come && known.stored.len() == number(parts[8]) as usize)
 }
