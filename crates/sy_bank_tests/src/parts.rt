@@ -1,7 +1,12 @@
-// Parts and grammars as texts, a character for each node, in postfix.
+// Parts and grammars as texts, a character for each node, which stands before those that it takes.
 use std::alloc::Global;
 use sy_grammar_base::{Non, Part, Parts, Rule};
 use sy_terms::{Op, Seq, Sort, Theory, Value, Want};
+
+/// What stands before the first `|`, and what stands after it.
+pub fn cut(line: &str) -> (&str, &str) {
+    line.split_once('|').unwrap_or((line, ""))
+}
 
 /// The number as a part; the argument where the sort has no such number.
 fn number<T: Theory>(sort: Sort, number: i128) -> Part<T> {
@@ -11,21 +16,15 @@ fn number<T: Theory>(sort: Sort, number: i128) -> Part<T> {
     }
 }
 
-/// Takes so many of the last parts.
+/// Takes so many of the last parts, the last one first.
 fn last<T: Theory>(
     alloc: Global,
     stack: &mut Vec<Part<T>>,
     count: usize,
 ) -> Result<Parts<T>, Want> {
-    let mut turned = Vec::new(alloc);
-    for _ in 0..count {
-        if let Some(part) = stack.pop() {
-            turned.push(part)?;
-        }
-    }
     let mut parts = Parts::new(alloc);
     for _ in 0..count {
-        if let Some(part) = turned.pop() {
+        if let Some(part) = stack.pop() {
             parts.push(part)?;
         }
     }
@@ -46,9 +45,10 @@ fn operator(sign: u8) -> Option<(Op, usize)> {
     }
 }
 
-/// The part that ends with this sign: `A`, `B` and `C` are the nonterminals, `x` is the argument, `D` calls the first
-/// definition, `M` is the greatest number of 128 bits, and a digit is itself.
-fn ended<T: Theory>(
+/// The part that begins with this sign, where the stack has those after it, the next one last: `A`, `B` and `C` are the
+/// nonterminals, `x` is the argument, `D` calls the first definition, and `E` the fourth at two arguments, `M` is the
+/// greatest number of 128 bits, and a digit is itself.
+fn begun<T: Theory>(
     alloc: Global,
     sort: Sort,
     sign: u8,
@@ -62,6 +62,7 @@ fn ended<T: Theory>(
         b'B' => Ok(Part::Non(1)),
         b'C' => Ok(Part::Non(2)),
         b'D' => Ok(Part::Call(0, last(alloc, stack, 1)?)),
+        b'E' => Ok(Part::Call(3, last(alloc, stack, 2)?)),
         b'x' => Ok(Part::Var(0)),
         b'M' => Ok(number(sort, i128::MAX)),
         digit => Ok(number(sort, i128::from(digit.wrapping_sub(b'0')))),
@@ -71,42 +72,33 @@ fn ended<T: Theory>(
 /// The part of this text.
 pub fn part<T: Theory>(alloc: Global, sort: Sort, text: &str) -> Result<Part<T>, Want> {
     let mut stack = Vec::new(alloc);
-    for sign in text.as_bytes() {
-        let part = ended(alloc, sort, *sign, &mut stack)?;
+    for sign in text.as_bytes().iter().rev() {
+        let part = begun(alloc, sort, *sign, &mut stack)?;
         stack.push(part)?;
     }
     Ok(stack.pop().unwrap_or(Part::Var(0)))
 }
 
-/// The nonterminals of this text, all of one sort: a semicolon ends each, spaces stand between its rules, `k` is the rule
-/// for all constants and `v` that for all arguments.
-pub fn nonterminals<T: Theory>(alloc: Global, sort: Sort, text: &str) -> Result<Seq<Non<T>>, Want> {
-    let mut nons = Seq::new(alloc);
+/// The rules of this text, between spaces: `k` is the rule for all constants and `v` that for all arguments.
+fn rules<T: Theory>(alloc: Global, sort: Sort, text: &str) -> Result<Seq<Rule<T>>, Want> {
     let mut rules = Seq::new(alloc);
-    let mut stack = Vec::new(alloc);
-    for sign in text.as_bytes() {
-        match *sign {
-            b'k' => rules.push(Rule::AnyConstant(sort))?,
-            b'v' => rules.push(Rule::AnyVariable(sort))?,
-            b' ' => end_rule(&mut stack, &mut rules)?,
-            b';' => {
-                end_rule(&mut stack, &mut rules)?;
-                nons.push(Non { sort, rules })?;
-                rules = Seq::new(alloc);
-            }
-            other => {
-                let part = ended(alloc, sort, other, &mut stack)?;
-                stack.push(part)?;
-            }
-        }
+    for word in text.split(' ') {
+        let rule = match word {
+            "k" => Rule::AnyConstant(sort),
+            "v" => Rule::AnyVariable(sort),
+            _ => Rule::Term(part(alloc, sort, word)?),
+        };
+        rules.push(rule)?;
     }
-    Ok(nons)
+    Ok(rules)
 }
 
-/// Makes a rule of the last part, if there is one.
-fn end_rule<T: Theory>(stack: &mut Vec<Part<T>>, rules: &mut Seq<Rule<T>>) -> Result<(), Want> {
-    if let Some(part) = stack.pop() {
-        rules.push(Rule::Term(part))?;
+/// The nonterminals of this text, all of one sort, with a semicolon between the rules of two.
+pub fn nonterminals<T: Theory>(alloc: Global, sort: Sort, text: &str) -> Result<Seq<Non<T>>, Want> {
+    let mut nons = Seq::new(alloc);
+    for text in text.split(';') {
+        let rules = rules::<T>(alloc, sort, text)?;
+        nons.push(Non { sort, rules })?;
     }
-    Ok(())
+    Ok(nons)
 }

@@ -10,17 +10,15 @@ ghost use Rattle.sy_bank.specs.Stored.{entry_of, chosen_of};
 ghost use Rattle.sy_bank_columns.specs.Chosen.{AreRows};
 ghost use Rattle.sy_bank_tests.specs.Integers.{IsInteger};
 
-use crate::parts::part;
+use crate::parts::{cut, part};
 use crate::points::points;
 use std::alloc::Global;
 use std::rc::Rc;
-use std::test::Fail;
 use sy_bank_columns::{RowEnd, chosen_part, grown, part_row, term_row};
-use sy_bank_rows::{Grown, Kept};
+use sy_bank_rows::{Grown, Kept, filled_part};
 use sy_grammar_base::{Derivation, Part};
-use sy_meaning::{Signature, term_sort};
-use sy_meaning_integers::IntTheory;
-use sy_terms::{Def, Defs, Op, Seq, Sort, Term, Terms, Theory, Value, Values, Want};
+use sy_meaning::{IntTheory, Signature, term_sort};
+use sy_terms::{Def, Defs, Seq, Sort, Term, Theory, Value, Values, Want};
 
 /// Whether the sort is that of integers.
 fn is_int(found: Option<Sort>) -> bool
@@ -39,19 +37,14 @@ fn is_integer<T: Theory>(alloc: Global, defs: &Defs<T>, term: &Term<T>) -> Resul
     Ok(is_int(found))
 }
 
-/// The argument's next number.
-fn next<T: Theory>(alloc: Global, one: Value<T::Num>) -> Result<Term<T>, Want> {
-    let mut terms = Terms::new(alloc);
-    terms.push(Term::Var(0))?;
-    terms.push(Term::Const(one))?;
-    Ok(Term::App(Op::Add, terms))
-}
-
-/// The definition of this term over one integer.
-fn definition<T: Theory>(alloc: Global, body: Term<T>) -> Result<Option<Defs<T>>, Want>
+/// The definition of the next number.
+fn definition<T: Theory>(alloc: Global) -> Result<Option<Defs<T>>, Want>
     ensures { IfOk result (λ found. IfSome found (λ defs. DefinitionsFit T.owned T.denotes defs)) }
 {
     let mut defs: Defs<T> = Seq::new(alloc);
+    let part = part::<T>(alloc, Sort::Int, "+x1")?;
+    let nothing = Vec::new(alloc);
+    let body = filled_part(alloc, &part, nothing.as_slice())?;
     if !is_integer(alloc, &defs, &body)? {
         return Ok(None);
     }
@@ -85,14 +78,14 @@ fn kept<T: Theory>(
     }))
 }
 
-/// Whether the part has this row where these terms are chosen, or is lost at this point.
+/// Whether the part has this row where these terms are chosen, or is `lost` at the second point.
 fn has_row<T: Theory>(
     alloc: Global,
     defs: &Defs<T>,
     points: &[Values<T>],
     part: &Part<T>,
     chosen: &[&Kept<T>],
-    expected: Result<[i128; 2], u32>,
+    told: &str,
 ) -> Result<bool, Want>
     requires definitions { DefinitionsFit T.owned T.denotes defs.now }
     requires points { ArePointsOf (sorts.Int ∷ []) (map (vals_of T.denotes) points.now) }
@@ -106,28 +99,25 @@ fn has_row<T: Theory>(
         return Ok(false);
     }
     match part_row(alloc, defs, points, part, chosen) {
-        Ok(row) => Ok(are_numbers::<T>(row.as_slice(), expected)),
-        Err(RowEnd::Lost(point)) => Ok(expected == Err(point)),
+        Ok(row) => Ok(are_numbers::<T>(row.as_slice(), told)),
+        Err(RowEnd::Lost(point)) => Ok(told == "lost" && point == 1),
         Err(RowEnd::Want) => Err(Want {}),
     }
 }
 
-/// Whether the values are these two numbers.
-fn are_numbers<T: Theory>(values: &[Value<T::Num>], expected: Result<[i128; 2], u32>) -> bool {
-    let Ok(numbers) = expected else {
-        return false;
-    };
-    if values.len() != 2 {
-        return false;
+/// Whether the values are the numbers between spaces.
+fn are_numbers<T: Theory>(values: &[Value<T::Num>], told: &str) -> bool {
+    let mut count = 0usize;
+    for word in told.split(' ') {
+        let Some(Value::Num(number)) = values.get(count) else {
+            return false;
+        };
+        if T::number(*number) != word.parse().unwrap_or(0) {
+            return false;
+        }
+        count = count.saturating_add(1);
     }
-    is_number::<T>(&values[0], numbers[0]) && is_number::<T>(&values[1], numbers[1])
-}
-
-fn is_number<T: Theory>(value: &Value<T::Num>, number: i128) -> bool {
-    match value {
-        Value::Truth(_) => false,
-        Value::Num(found) => T::number(*found) == number,
-    }
+    values.len() == count
 }
 
 /// Whether what is grown of the chosen terms by rule 4 is the part's term, with a derivation for each of them.
@@ -151,27 +141,23 @@ fn is_grown(
     Ok(derived && same)
 }
 
-/// Parts with their rows, or the point where they are lost, where the argument, 1 and 5 are chosen.
-fn cases() -> [(&'static str, Result<[i128; 2], u32>); 13] {
-    let most = i128::MAX;
-    [
-        ("7", Ok([7, 7])),
-        ("x", Ok([3, most])),
-        ("A", Ok([3, most])),
-        ("A!", Ok([-3, -most])),
-        ("AA-", Ok([2, most - 1])),
-        ("AA+", Err(1)),
-        ("A7-A+", Ok([-3, most - 6])),
-        ("7AD-", Err(1)),
-        ("ADA-", Err(1)),
-        ("A!AA#", Ok([3, 6 - most])),
-        ("AAA#", Err(1)),
-        ("A!D", Ok([-2, 1 - most])),
-        ("AD", Err(1)),
-    ]
-}
+/// Parts with their rows, where the argument, 1 and 5 are chosen, and the argument is 3 or the greatest number.
+const ROWS: &str = "\
+7|7 7
+x|3 170141183460469231731687303715884105727
+A|3 170141183460469231731687303715884105727
+!A|-3 -170141183460469231731687303715884105727
+-AA|2 170141183460469231731687303715884105726
++AA|lost
++-A7A|-3 170141183460469231731687303715884105721
+-7DA|lost
+-DAA|lost
+#!AAA|3 -170141183460469231731687303715884105721
+#AAA|lost
+D!A|-2 -170141183460469231731687303715884105726
+DA|lost";
 
-/// The first part that doesn't have its row, or isn't grown.
+/// The first row whose part doesn't have it, or isn't grown.
 fn first_wrong(
     alloc: Global,
     defs: &Defs<IntTheory>,
@@ -182,36 +168,40 @@ fn first_wrong(
     requires points { ArePointsOf (sorts.Int ∷ []) (map (vals_of ⟦<IntTheory as Theory>⟧.denotes) points.now) }
     requires rows { AreRows (scope_of ⟦<IntTheory as Theory>⟧.owned defs.now) (functions (bodies ⟦<IntTheory as Theory>⟧.denotes defs.now)) (map (vals_of ⟦<IntTheory as Theory>⟧.denotes) points.now) (chosen_of ⟦<IntTheory as Theory>⟧.denotes chosen.now) }
 {
-    for (text, expected) in cases() {
+    for row in ROWS.lines() {
+        let (text, told) = cut(row);
         let part = part::<IntTheory>(alloc, Sort::Int, text)?;
-        let found = has_row::<IntTheory>(alloc, defs, points, &part, chosen, expected)?;
+        let found = has_row::<IntTheory>(alloc, defs, points, &part, chosen, told)?;
         if !found || !is_grown(alloc, part, chosen)? {
-            return Ok(Some(text));
+            return Ok(Some(row));
         }
     }
     Ok(None)
 }
 
-/// At the points 3 and the greatest number, where the definition gives the next number.
-#[test]
-fn finds_rows_of_parts(rt: HostRuntime) -> Result<(), Fail> {
-    let alloc = rt.alloc();
-    let points = points::<IntTheory>(alloc, Sort::Int, &[3, i128::MAX])?;
+/// The first row that is wrong at the points 3 and the greatest number, where the definition gives the next number.
+fn found(alloc: Global) -> Result<Option<&'static str>, RowEnd> {
+    let numbers = "3 170141183460469231731687303715884105727";
+    let points = points::<IntTheory>(alloc, Sort::Int, numbers)?;
     let points = points.as_slice();
-    let Some(defs) = definition::<IntTheory>(alloc, next::<IntTheory>(alloc, Value::Num(1))?)?
-    else {
-        panic!(&rt; "no definition");
+    let Some(defs) = definition::<IntTheory>(alloc)? else {
+        return Ok(Some("the definition"));
     };
     let Some(argument) = kept::<IntTheory>(alloc, &defs, points, Term::Var(0))? else {
-        panic!(&rt; "no argument");
+        return Ok(Some("the argument"));
     };
     let Some(one) = kept::<IntTheory>(alloc, &defs, points, Term::Const(Value::Num(1)))? else {
-        panic!(&rt; "no number");
+        return Ok(Some("1"));
     };
     let Some(five) = kept::<IntTheory>(alloc, &defs, points, Term::Const(Value::Num(5)))? else {
-        panic!(&rt; "no number");
+        return Ok(Some("5"));
     };
     let wrong = first_wrong(alloc, &defs, points, &[&argument, &one, &five])?;
-    assert_eq!(rt; wrong, None);
-    Ok(())
+    Ok(wrong)
+}
+
+#[test]
+fn finds_rows_of_parts(rt: HostRuntime) {
+    let wrong = found(rt.alloc());
+    assert_eq!(rt; wrong.expect(&rt, "no memory"), None);
 }

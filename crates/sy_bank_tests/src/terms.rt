@@ -1,65 +1,11 @@
-// Terms that share others, and parts that are filled.
-use std::alloc::Global;
+// Terms that share others, and parts that are filled, written as text: each node before those that it takes.
+use crate::parts::part;
+use std::alloc::{AllocError, Global};
 use std::rc::Rc;
-use std::test::Fail;
 use sy_bank_rows::{Grown, Growns, Kept, copied_part, filled_part};
-use sy_grammar_base::{Derivation, Part, Parts};
-use sy_meaning_integers::IntTheory;
-use sy_terms::{Fun, Op, Seq, Term, Terms, Value, Want};
-
-fn number(n: i128) -> Term<IntTheory> {
-    Term::Const(Value::Num(n))
-}
-
-/// Both as a list.
-fn two(
-    alloc: Global,
-    first: Term<IntTheory>,
-    second: Term<IntTheory>,
-) -> Result<Terms<IntTheory>, Want> {
-    let mut terms = Terms::new(alloc);
-    terms.push(first)?;
-    terms.push(second)?;
-    Ok(terms)
-}
-
-fn sum(
-    alloc: Global,
-    first: Term<IntTheory>,
-    second: Term<IntTheory>,
-) -> Result<Term<IntTheory>, Want> {
-    Ok(Term::App(Op::Add, two(alloc, first, second)?))
-}
-
-/// Both as a list.
-fn both(
-    alloc: Global,
-    first: Part<IntTheory>,
-    second: Part<IntTheory>,
-) -> Result<Parts<IntTheory>, Want> {
-    let mut parts = Parts::new(alloc);
-    parts.push(first)?;
-    parts.push(second)?;
-    Ok(parts)
-}
-
-/// The sum of two nonterminals.
-fn sum_part(alloc: Global) -> Result<Part<IntTheory>, Want> {
-    Ok(Part::App(Op::Add, both(alloc, Part::Non(0), Part::Non(0))?))
-}
-
-/// Definition 3 at the sum of two nonterminals, and at a third nonterminal.
-fn call_part(alloc: Global) -> Result<Part<IntTheory>, Want> {
-    Ok(Part::Call(3, both(alloc, sum_part(alloc)?, Part::Non(0))?))
-}
-
-fn call(
-    alloc: Global,
-    first: Term<IntTheory>,
-    second: Term<IntTheory>,
-) -> Result<Term<IntTheory>, Want> {
-    Ok(Term::Call(Fun::Defined(3), two(alloc, first, second)?))
-}
+use sy_grammar_base::{Derivation, Part};
+use sy_meaning::IntTheory;
+use sy_terms::{Fun, Seq, Sort, Term, Value, Want, spell};
 
 /// What the part becomes of the first and second term.
 fn filled(
@@ -76,11 +22,14 @@ fn filled(
 
 /// `x + (x + 1)`, in which one `x` and one sum are shared.
 fn shared(alloc: Global) -> Result<Kept<IntTheory>, Want> {
-    let part = Rc::new(alloc, sum_part(alloc)?)?;
+    let part = Rc::new(alloc, part::<IntTheory>(alloc, Sort::Int, "+AA")?)?;
     let x = Rc::new(alloc, Grown::Leaf(Term::Var(0), Derivation::Variable(1, 0)))?;
     let one = Rc::new(
         alloc,
-        Grown::Leaf(number(1), Derivation::Constant(2, Value::Num(1))),
+        Grown::Leaf(
+            Term::Const(Value::Num(1)),
+            Derivation::Constant(2, Value::Num(1)),
+        ),
     )?;
     let inner = filled(alloc, &part, &x, &one)?;
     let grown = filled(alloc, &part, &x, &inner)?;
@@ -91,56 +40,70 @@ fn shared(alloc: Global) -> Result<Kept<IntTheory>, Want> {
     })
 }
 
-/// The rules of the derivation, each before those of its children.
-fn write_rules(derivation: &Derivation<IntTheory>, rules: &mut Seq<u32>) -> Result<(), Want> {
+/// Writes a term: `x` and the number of a variable, an integer, an operator, or `D` and the number of a definition.
+fn write_term(text: &mut String, term: &Term<IntTheory>) -> Result<(), AllocError> {
+    let below = match term {
+        Term::Const(Value::Num(number)) => return write!(text, "{number} "),
+        Term::Var(position) => return write!(text, "x{position} "),
+        Term::App(op, below) => {
+            let op = spell(op);
+            write!(text, "{op} ")?;
+            below
+        }
+        Term::Call(Fun::Defined(number), below) => {
+            write!(text, "D{number} ")?;
+            below
+        }
+        _ => return text.push_str("? "),
+    };
+    for term in below.as_slice() {
+        write_term(text, term)?;
+    }
+    Ok(())
+}
+
+/// Writes the rules of a derivation, each before those of its children.
+fn write_rules(text: &mut String, derivation: &Derivation<IntTheory>) -> Result<(), AllocError> {
     match derivation {
         Derivation::Node(rule, children) => {
-            rules.push(*rule)?;
+            write!(text, "{rule} ")?;
             for child in children.as_slice() {
-                write_rules(child, rules)?;
+                write_rules(text, child)?;
             }
             Ok(())
         }
-        Derivation::Constant(rule, _) => rules.push(*rule),
-        Derivation::Variable(rule, _) => rules.push(*rule),
+        Derivation::Constant(rule, _) => write!(text, "{rule} "),
+        Derivation::Variable(rule, _) => write!(text, "{rule} "),
     }
 }
 
-/// Terms with those that they must be.
-fn table(
-    alloc: Global,
-    kept: &Kept<IntTheory>,
-) -> Result<[(Term<IntTheory>, Term<IntTheory>); 4], Want> {
-    let part = call_part(alloc)?;
+/// A term that shares others, with its derivation.
+fn written_shared(alloc: Global) -> Result<String, Want> {
+    let kept = shared(alloc)?;
+    let mut text = String::new(alloc);
+    write_term(&mut text, &kept.term(alloc)?)?;
+    text.push_str("by ")?;
+    write_rules(&mut text, &kept.derivation(alloc)?)?;
+    Ok(text)
+}
+
+/// A part that is filled with three terms, its copy with two of them, and a part that is filled with none.
+fn written_filled(alloc: Global) -> Result<String, Want> {
+    let part = part::<IntTheory>(alloc, Sort::Int, "E+AAA")?;
     let copy = copied_part(alloc, &part)?;
-    let terms = [Term::Var(5), number(1), Term::Var(6)];
+    let terms = [Term::Var(5), Term::Const(Value::Num(1)), Term::Var(6)];
     let (few, none) = terms.split_at(2);
-    let inner = sum(alloc, Term::Var(0), number(1))?;
-    let inside = sum(alloc, Term::Var(5), number(1))?;
-    let same = sum(alloc, Term::Var(5), number(1))?;
-    Ok([
-        (kept.term(alloc)?, sum(alloc, Term::Var(0), inner)?),
-        (
-            filled_part(alloc, &part, &terms)?,
-            call(alloc, inside, Term::Var(6))?,
-        ),
-        (
-            filled_part(alloc, &copy, few)?,
-            call(alloc, same, Term::Var(0))?,
-        ),
-        (filled_part(alloc, &Part::Var(7), none)?, Term::Var(7)),
-    ])
+    let mut text = String::new(alloc);
+    write_term(&mut text, &filled_part(alloc, &part, &terms)?)?;
+    write_term(&mut text, &filled_part(alloc, &copy, few)?)?;
+    write_term(&mut text, &filled_part(alloc, &Part::Var(7), none)?)?;
+    Ok(text)
 }
 
 #[test]
-fn builds_terms_and_derivations(rt: HostRuntime) -> Result<(), Fail> {
-    let alloc = rt.alloc();
-    let kept = shared(alloc)?;
-    for (term, wanted) in &table(alloc, &kept)? {
-        assert!(rt; term.equals(wanted));
-    }
-    let mut rules = Seq::new(alloc);
-    write_rules(&kept.derivation(alloc)?, &mut rules)?;
-    assert_eq!(rt; rules.as_slice(), [4, 1, 4, 1, 2].as_slice());
-    Ok(())
+fn builds_terms_and_derivations(rt: HostRuntime) {
+    let shared = written_shared(rt.alloc()).expect(&rt, "memory");
+    assert_eq!(rt; shared.as_str(), "+ x0 + x0 1 by 4 1 4 1 2 ");
+    let filled = written_filled(rt.alloc()).expect(&rt, "memory");
+    assert_eq!(rt; filled.as_str(), "D3 + x5 1 x6 D3 + x5 1 x0 x7 ");
 }

@@ -6,9 +6,9 @@ use Rattle.sy_terms.specs.Theories.{valid}
 use Rattle.sy_bank.proofs.Points.{points-more}
 use Rattle.sy_bank_tests.proofs.points.points.Goals as goal
 
-pub loop-number-preserved : goal.loop-number-preserved
-loop-number-preserved g c =
+pub loop-word-preserved : goal.loop-word-preserved
+loop-word-preserved g c =
     let number = g.T.Theory.denotes in
     rw (c.in_ok-push.ensures.ok, map-append, c.in_ok-point.ensures)
-    (points-more (c.args.sort ∷ []) (map (vals_of number) c.loop-number.points) (val_of number c.in-Some.value ∷ [])
-    (All-cons (λ v. valid v ≡ true) (val_of number c.in-Some.value) [] c.in-Some.ensures.valid (All-nil (λ v. valid v ≡ true))) (ap (λ sort. sort ∷ []) c.in-Some.ensures.sort) c.loop-number.invariant)
+    (points-more (c.args.sort ∷ []) (map (vals_of number) c.loop-word.points) (val_of number c.in-Some-value.value ∷ [])
+    (All-cons (λ v. valid v ≡ true) (val_of number c.in-Some-value.value) [] c.in-Some-value.ensures.valid (All-nil (λ v. valid v ≡ true))) (ap (λ sort. sort ∷ []) c.in-Some-value.ensures.sort) c.loop-word.invariant)

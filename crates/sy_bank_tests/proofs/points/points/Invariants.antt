@@ -3,5 +3,5 @@ use Rattle.sy_terms.specs.Denoted.{vals_of}
 use Rattle.sy_bank.specs.Rows.{ArePointsOf}
 use Rattle.sy_bank_tests.proofs.points.points.Given as goal
 
-abbrev pub invariant-loop-number : goal.invariant-loop-number
-invariant-loop-number g l = ArePointsOf (l.sort ∷ []) (map (vals_of g.T.Theory.denotes) l.points)
+abbrev pub invariant-loop-word : goal.invariant-loop-word
+invariant-loop-word g l = ArePointsOf (l.sort ∷ []) (map (vals_of g.T.Theory.denotes) l.points)
