@@ -15,8 +15,8 @@ import tempfile
 import time
 
 HERE = os.path.dirname(os.path.abspath(__file__))
-CRATE = os.path.join(HERE, "..", "crates", "bench_identities")
-PROGRAM = os.path.join(CRATE, "out", "bench_identities")
+CRATE = os.path.join(HERE, "..", "crates", "bench_problems")
+PROGRAM = os.path.join(CRATE, "out", "bench_problems")
 RUNS = 3
 LIMIT = 30
 WIDTHS = (8, 16, 32, 64)
@@ -145,7 +145,7 @@ def main():
                 continue
             for width in WIDTHS:
                 problem, question = write_files(folder, identity, width)
-                own = measure([PROGRAM, problem, LEARNED], "holds true accepted")
+                own = measure([PROGRAM, "identities", problem, LEARNED], "holds true accepted")
                 their = [measure(words + [question], "unsat") for words in others.values()]
                 sizes = ["", "", ""] if own is None else own[0].split()[3:8:2]
                 cells = [identity[0], str(width)] + sizes + [milliseconds(own)]

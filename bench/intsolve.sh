@@ -4,12 +4,12 @@
 # Its words, where it has some, are a family and a number.
 set -eu
 cd "$(dirname "$0")/.."
-(cd crates/bench_intsolve && rt run) >/dev/null 2>&1 || true
+(cd crates/bench_problems && rt run) >/dev/null 2>&1 || true
 scratch=$(mktemp -d)
 trap 'rm -rf "$scratch"' EXIT
 . bench/measure.sh
 row() {
-    printf '%s %s: %s s\n' "$1" "$2" "$(measure crates/bench_intsolve/out/bench_intsolve "$1" "$2" 8000 10000)"
+    printf '%s %s: %s s\n' "$1" "$2" "$(measure crates/bench_problems/out/bench_problems intsolve "$1" "$2" 8000 10000)"
 }
 if [ $# -eq 2 ]; then
     row "$@"

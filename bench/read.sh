@@ -4,11 +4,11 @@
 # worst.py, whose status is that of the script.
 set -eu
 cd "$(dirname "$0")/.."
-(cd crates/bench_read && rt run -- file 3 5) >/dev/null 2>&1 || true
+(cd crates/bench_problems && rt run) >/dev/null 2>&1 || true
 TIMEFORMAT='%U s'
 for part in text file; do
     printf '%s of %s variables and %s constraints: ' "$part" "${1:-4000}" "${2:-100000}"
-    { time crates/bench_read/out/bench_read "$part" "${1:-4000}" "${2:-100000}"; } 2>&1 | paste -sd' '
+    { time crates/bench_problems/out/bench_problems read "$part" "${1:-4000}" "${2:-100000}"; } 2>&1 | paste -sd' '
 done
 if [ $# -eq 0 ]; then
     ./sygus examples/first.sl >/dev/null

@@ -15,8 +15,8 @@ import sys
 import tempfile
 
 HERE = os.path.dirname(os.path.abspath(__file__))
-CRATE = os.path.join(HERE, "..", "crates", "bench_cdcl")
-PROGRAM = os.path.join(CRATE, "out", "bench_cdcl")
+CRATE = os.path.join(HERE, "..", "crates", "bench_parts")
+PROGRAM = os.path.join(CRATE, "out", "bench_parts")
 RUNS = 3
 LIMIT = 600
 
@@ -25,7 +25,8 @@ def solve(path):
     """The verdict, the microseconds of solving and of checking, and the learned clauses, which a model doesn't tell."""
     best = None
     for _ in range(RUNS):
-        text = subprocess.run([PROGRAM, path, "100000000", "times"], capture_output=True, text=True, timeout=LIMIT).stdout
+        words = [PROGRAM, "cdcl", path, "100000000", "times"]
+        text = subprocess.run(words, capture_output=True, text=True, timeout=LIMIT).stdout
         count = {name: int(number) for number, name in re.findall(r"(\d+) (\w+)", text)}
         if "accepted" in text and "true accepted" not in text:
             sys.exit(f"{path}: the log is refused")

@@ -1,9 +1,9 @@
-// What programs of measurements share: their words, numbers that look random, and how they print their figures and end.
+// What programs of measurements share: their words, the measurements that these name one after the other, and numbers
+// that look random.
 #![tactic(auto)]
 
 ghost use Rattle.std.specs.Prelude.{◌≡◌, ◌≤◌, ◌⊎◌, length, [], IfErr};
 
-use std::alloc::AllocError;
 use std::env::{self, Env};
 use std::process::ExitCode;
 
@@ -14,7 +14,7 @@ pub const REFUSED: u8 = 3;
 pub const WANT: u8 = 6;
 
 /// The words of the run, the program's name first; the status that it ends with where they can't be read.
-pub fn words<R: Env + AllocGlobal>(rt: &R) -> Result<Vec<String>, u8>
+fn words<R: Env + AllocGlobal>(rt: &R) -> Result<Vec<String>, u8>
     ensures { IfErr result (λ status. (status ≡ 3) ⊎ (status ≡ 6)) }
 {
     let Ok(words) = env::args(rt) else {
@@ -24,6 +24,25 @@ pub fn words<R: Env + AllocGlobal>(rt: &R) -> Result<Vec<String>, u8>
         Ok(words) => Ok(words),
         Err(_) => Err(WANT),
     }
+}
+
+/// Takes the measurements that the words of the run name, of which each but the first stands after the word `then`, and
+/// ends by the greatest of their statuses.
+pub fn each<R: Env + AllocGlobal, F: FnMut(&[String]) -> u8>(rt: &R, mut measure: F) -> ExitCode
+    requires { F.IsAlwaysCallable measure }
+{
+    let words = match words(rt) {
+        Ok(words) => words,
+        Err(status) => return ExitCode::from(status),
+    };
+    let Some((_, named)) = words.as_slice().split_first() else {
+        return ExitCode::from(REFUSED);
+    };
+    let mut status = 0u8;
+    for row in named.split(|word| word.as_str() == "then") {
+        status = status.max(measure(row));
+    }
+    ExitCode::from(status)
 }
 
 /// The number that the word at a place is, or 0 where it is none or too large.
@@ -51,17 +70,4 @@ pub fn next(state: u64) -> u64 {
     state
         .wrapping_mul(6364136223846793005)
         .wrapping_add(1442695040888963407)
-}
-
-/// Prints the line of the figures, and ends by the status 0; where there are none, because the words were refused or
-/// memory ran out, by theirs.
-pub fn end(rt: &impl Print, figures: Result<Option<String>, AllocError>) -> ExitCode {
-    match figures {
-        Ok(Some(line)) => {
-            let _ = println!(rt; "{line}");
-            ExitCode::from(0)
-        }
-        Ok(None) => ExitCode::from(REFUSED),
-        Err(_) => ExitCode::from(WANT),
-    }
 }
