@@ -40,7 +40,7 @@ fn shared(alloc: Global) -> Result<Kept<IntTheory>, Want> {
     })
 }
 
-/// Writes a term: `x` and the number of a variable, an integer, an operator, or `D` and the number of a definition.
+/// Writes a term: `x` and the number of a variable, an integer, an operator, or `d` and the number of a definition.
 fn write_term(text: &mut String, term: &Term<IntTheory>) -> Result<(), AllocError> {
     let below = match term {
         Term::Const(Value::Num(number)) => return write!(text, "{number} "),
@@ -51,7 +51,7 @@ fn write_term(text: &mut String, term: &Term<IntTheory>) -> Result<(), AllocErro
             below
         }
         Term::Call(Fun::Defined(number), below) => {
-            write!(text, "D{number} ")?;
+            write!(text, "d{number} ")?;
             below
         }
         _ => return text.push_str("? "),
@@ -105,5 +105,5 @@ fn builds_terms_and_derivations(rt: HostRuntime) {
     let shared = written_shared(rt.alloc()).expect(&rt, "memory");
     assert_eq!(rt; shared.as_str(), "+ x0 + x0 1 by 4 1 4 1 2 ");
     let filled = written_filled(rt.alloc()).expect(&rt, "memory");
-    assert_eq!(rt; filled.as_str(), "D3 + x5 1 x6 D3 + x5 1 x0 x7 ");
+    assert_eq!(rt; filled.as_str(), "d3 + x5 1 x6 d3 + x5 1 x0 x7 ");
 }
