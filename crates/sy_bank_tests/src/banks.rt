@@ -125,18 +125,22 @@ B x;A|0|2|2|9|0 2|whole
 B B;C A;v B||1|2|9|0 3|whole
 B B;C A;v B||1|2|2|0 2|full 1";
 
-/// The same over vectors of four bits: all constants and arguments, as far as the width goes; terms that points tell apart,
-/// also where the bank is full at once or when it is grown; and each function of two truth values once, with a bit for each
-/// pair of them.
+/// The same over vectors of four bits: all constants and arguments, as far as the width goes; and each function of two truth
+/// values once, with a bit for each pair of them.
 const VECTORS: &str = "\
 k v|3 5|99|99|50|0 3 0 2 4 8|whole
-x *xx|0 1|3|3|9|0 1|whole
-x *xx|0 1 2|3|3|9|0 1 0 1|whole
-x *xx|0 1 2|1|3|9|0 1 0 1|whole
-x *xx|0 1|3|3|1|0 1|whole
-x *xx|0 1 2|3|3|1|0 1|full 3
-x *xx|0 1 2|1|3|1|0 1|full 3
 3 5 ~A &AA|0|13|13|99|0 2 2 1 4 4 1 0 0 0 0 2|whole";
+
+/// The same over vectors of eight bits: an argument and its square, which 2 tells apart and 0 and 1 don't, also where the bank
+/// is full at once or when it is grown.
+const BYTES: &str = "\
+x *xx|0 1|3|3|10|0 1|whole
+x *xx|0 1|3|3|1|0 1|whole
+x *xx|0 1 2|3|3|10|0 1 0 1|whole
+x *xx|0 1 2|3|3|1|0 1|full 3
+x *xx|0 1 2|1|1|10|0 1|whole
+x *xx|0 1 2|1|3|10|0 1 0 1|whole
+x *xx|0 1 2|1|3|1|0 1|full 3";
 
 #[test]
 fn banks_by_the_tables(rt: HostRuntime) {
@@ -144,4 +148,6 @@ fn banks_by_the_tables(rt: HostRuntime) {
     assert_eq!(rt; integers.expect(&rt, "memory"), None);
     let vectors = first_wrong::<BvTheory>(rt.alloc(), Sort::Bits(4), "", VECTORS);
     assert_eq!(rt; vectors.expect(&rt, "memory"), None);
+    let bytes = first_wrong::<BvTheory>(rt.alloc(), Sort::Bits(8), "", BYTES);
+    assert_eq!(rt; bytes.expect(&rt, "memory"), None);
 }

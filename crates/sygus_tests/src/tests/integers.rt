@@ -1,8 +1,8 @@
 // Problems over integers, and their answers.
 use super::runs::all_leave;
 
-/// Problems and their answers; then conditional trees, which are in bound by the sizes of their parts, but in mode `least`
-/// by their own; then budgets that are named.
+/// Problems and their answers, two of which are evaluated as definitions; then conditional trees, which are in bound by the
+/// sizes of their parts, but in mode `least` by their own; then budgets that are named.
 const INTEGERS: &str = "sygus f.sl^0^(
 (define-fun f ((x Int)) Int (+ x 1))
 )
@@ -133,6 +133,20 @@ infeasible
 (constraint (>= (max2 x y) y))
 (constraint (or (= (max2 x y) x) (= (max2 x y) y)))
 (check-synth)
+~sygus f.sl^0^(
+)
+^^(set-logic LIA)
+(define-fun max2 ((x Int) (y Int)) Int (ite (<= x y) y x))
+(constraint (= (max2 (- 1) (- 1)) (- 1)))
+(constraint (= (max2 (- 1) 0) 0))
+(constraint (= (max2 (- 1) 1) 1))
+(constraint (= (max2 0 (- 1)) 0))
+(constraint (= (max2 0 0) 0))
+(constraint (= (max2 0 1) 1))
+(constraint (= (max2 1 (- 1)) 1))
+(constraint (= (max2 1 0) 1))
+(constraint (= (max2 1 1) 1))
+(check-synth)
 ~sygus --size 47 f.sl^0^(
 (define-fun f ((x Int) (y Int)) Int (+ x (+ x (+ x (+ x (+ x (+ x (+ x (+ x (+ x (+ x (+ x (+ x (+ y (+ y (+ y (+ y (+ y (+ y (+ y (+ y (+ y (+ y (+ y y))))))))))))))))))))))))
 )
@@ -141,6 +155,13 @@ infeasible
 (declare-var x Int)
 (declare-var y Int)
 (constraint (= (f x y) (+ (* 12 x) (* 12 y))))
+(check-synth)
+~sygus f.sl^0^(
+)
+^^(set-logic LIA)
+(define-fun f ((x Int) (y Int)) Int (+ x (+ x (+ x (+ x (+ x (+ x (+ x (+ x (+ x (+ x (+ x (+ x (+ y (+ y (+ y (+ y (+ y (+ y (+ y (+ y (+ y (+ y (+ y y))))))))))))))))))))))))
+(constraint (= (f 1 0) 12))
+(constraint (= (f 0 1) 12))
 (check-synth)
 ~sygus --size 46 f.sl^1^fail
 ^fail: check-synth 1 Size
@@ -251,7 +272,7 @@ infeasible
 (declare-var x Int)
 (constraint (> (f x) x))
 (check-synth)
-~sygus --bank 1 f.sl^1^fail
+~sygus --size 15 --bank 1 f.sl^1^fail
 ^fail: check-synth 1 Bank
 ^(set-logic LIA)
 (synth-fun f () Int ((S Int)) ((S Int (1 (+ 1 S)))))

@@ -1,7 +1,7 @@
 // Problems over bit vectors: their answers, and those whose search meets a budget.
 use super::runs::all_leave;
 
-/// Problems and their answers, then budgets that are named.
+/// Problems and their answers, then budgets that are named; last a product in the other order, which takes no clause.
 const VECTORS: &str = "sygus f.sl^0^^^~sygus f.sl^0^infeasible
 ^^(set-logic BV)
 (synth-fun f ((x (_ BitVec 8))) (_ BitVec 8)
@@ -204,6 +204,15 @@ infeasible
 (declare-var x (_ BitVec 8))
 (declare-var y (_ BitVec 8))
 (constraint (= (f x y) (bvadd (bvmul (bvand x #x0f) y) (bvmul (bvand x #xf0) y))))
+(check-synth)
+~sygus --clauses 1 f.sl^0^(
+(define-fun f ((x (_ BitVec 8)) (y (_ BitVec 8))) (_ BitVec 8) (bvmul x y))
+)
+^^(set-logic BV)
+(synth-fun f ((x (_ BitVec 8)) (y (_ BitVec 8))) (_ BitVec 8) ((S (_ BitVec 8))) ((S (_ BitVec 8) ((bvmul x y)))))
+(declare-var x (_ BitVec 8))
+(declare-var y (_ BitVec 8))
+(constraint (= (f x y) (bvmul y x)))
 (check-synth)
 ";
 
