@@ -23,8 +23,8 @@ const ANSWERED: [(&str, &[u8], &[u8]); 2] = [
     ("sygus --size 3 f.sl", GREATER, GREATER_REPLY),
 ];
 
-/// Runs where a write that fails has the last word, whatever the status would have been. Behind the file stand the calls of
-/// the source and of both sinks.
+/// Runs where a write that fails has the last word, whatever the status would have been; in the last one a read fails. Behind
+/// the file stand the calls of the source and of both sinks.
 const FAILING: &str = "sygus f.sl^0^(
 (define-fun f ((x (_ BitVec 8))) (_ BitVec 8) (bvadd x #x01))
 )
@@ -97,7 +97,13 @@ const FAILING: &str = "sygus f.sl^0^(
 (declare-var x Int)
 (constraint (> (f x) x))
 (check-synth)
-^all^second^all";
+^all^second^all~sygus f.sl^4^^fault: read
+^(set-logic LIA)
+(synth-fun f ((x Int)) Int ((A Int) (B Int)) ((A Int (B)) (B Int (A x))))
+(declare-var x Int)
+(constraint (= (f x) x))
+(check-synth)
+^third^all^all";
 
 /// Whether the file is refused as cut off inside a list or a symbol, or has no more than whole commands without a
 /// `check-synth`.
@@ -144,12 +150,19 @@ const SECOND: Calls = Calls {
     piece: 3,
 };
 
+/// The third call fails, which of a source is the second read.
+const THIRD: Calls = Calls {
+    failing: &[3],
+    piece: 4096,
+};
+
 /// The calls of this name.
 fn calls_of(name: &str) -> Calls<'static> {
     match name {
         "slow" => SLOW,
         "none" => NONE,
         "second" => SECOND,
+        "third" => THIRD,
         _ => ALL,
     }
 }

@@ -1,8 +1,9 @@
 // Problems over integers, and their answers.
 use super::runs::all_leave;
 
-/// Problems and their answers, two of which are evaluated as definitions; then conditional trees, which are in bound by the
-/// sizes of their parts, but in mode `least` by their own; then budgets that are named.
+/// Problems and their answers, two of which would be others where sums wrapped at 128 bits, and two of which are evaluated as
+/// definitions; then conditional trees, which are in bound by the sizes of their parts, but in mode `least` by their own; then
+/// budgets that are named.
 const INTEGERS: &str = "sygus f.sl^0^(
 (define-fun f ((x Int)) Int (+ x 1))
 )
@@ -63,6 +64,21 @@ const INTEGERS: &str = "sygus f.sl^0^(
 ^(set-logic LIA)
 (synth-fun f () Int ((S Int)) ((S Int (170141183460469231731687303715884105727 (+ S S)))))
 (constraint (= f 1))
+(check-synth)
+~sygus f.sl^0^(
+(define-fun f ((x Int)) Int x)
+)
+^^(set-logic LIA)
+(synth-fun f ((x Int)) Int ((S Int)) ((S Int (x))))
+(declare-var x Int)
+(constraint (< (f x) (+ x 170141183460469231731687303715884105727)))
+(check-synth)
+~sygus f.sl^1^fail
+^fail: check-synth 1 Range
+^(set-logic LIA)
+(synth-fun f ((x Int)) Int ((S Int)) ((S Int (x))))
+(declare-var x Int)
+(constraint (=> (> x 0) (< (+ (f x) 170141183460469231731687303715884105727) 0)))
 (check-synth)
 ~sygus f.sl^0^(
 (define-fun f ((x Int)) Int x)
