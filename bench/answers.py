@@ -315,6 +315,8 @@ def main():
     print(f"| {'File':24} | {'Answer':26} | {'sygus s':>8} | {'cvc5 s':>8} | {'ratio':>7} | {'leaves':>7} |")
     print(f"|{'-' * 26}|{'-' * 28}|{'-' * 9}:|{'-' * 9}:|{'-' * 8}:|{'-' * 8}:|")
     beside = Beside(options.limit, options.cvc5)
+    if not shutil.which("z3"):
+        print("z3 isn't installed: of definitions only names, arguments and sorts are checked", file=sys.stderr)
     rows = [asked(file, program, beside, options.limit) for file in files]
     sums(rows)
     sys.exit(0 if all(row["right"] for row in rows) else 1)
