@@ -97,7 +97,8 @@ fn is_right(alloc: Global, row: &str) -> Result<bool, Want> {
     Ok(answer(alloc, &query, number, u32::MAX)?.as_str() == told)
 }
 
-/// What the solver answers: the sorts of the variables, the body, how many clauses may be learned, and the answer.
+/// What the solver answers: the sorts of the variables, the body, how many clauses may be learned, and the answer. Where
+/// none may be, no search is made: the model is an assignment that is tried before.
 const ANSWERS: &str = "\
 4 A 9 unfit
 0 T 9 unfit
@@ -112,6 +113,9 @@ b44 AB3=C2=?A&C7=& 99 model 1 3 7
 4 AA*B9=A5<&L 99 model 3
 4 A0sA9<& 99 model 8
 4 AAzz=A0#&AF#&A7<& 99 model 5
+4 A9= 0 model 9
+4 A5>A7<& 0 model 6
+44 ABgA1Bl/# 0 model 1 15
 44 AB+BA+# 9999 never
 33 AB*BA*# 9999 never
 44 AB-B+A# 9999 never
@@ -176,6 +180,12 @@ b44 ABB?B# 1 never
 4 A8%A7w# 1 never
 4 A4/A2g# 1 never
 4 A2g2lAA3w-# 1 never
+444 ABCwwCAwBw# 1 never
+444 ABCooCAoBo# 1 never
+444 ABCxxCAxBx# 1 never
+44 ABwAwABw# 1 never
+44 ABxAxB# 1 never
+44 ABwA~w0# 1 never
 ";
 
 /// Sums and products of variables that need no gate, and remainders and shifts of a vector by itself: how many variables the

@@ -77,7 +77,8 @@ pub fn told(alloc: Global, row: &str) -> Result<String, Want> {
 }
 
 /// The variables' sorts, the body, how many inner nodes and steps at a leaf may be, and the answer: what isn't a query;
-/// truth values; each test of a conjunction, which takes an inner node; one cut each; an odd sum and an even difference; cuts
+/// truth values; each test of a conjunction, which takes an inner node; assignments that are
+/// tried before any search; one cut each; an odd sum and an even difference; cuts
 /// and branches; conditions of chosen terms; premises of a step that always follows; steps at a leaf; what isn't linear; and a
 /// conjunction of 201 comparisons.
 pub const ROWS: &str = "\
@@ -94,6 +95,9 @@ ii|AB<BA<&|1|9|spent Nodes
 i|A2*8=|9|9|model 4
 i|A0>A1<&|2|9|never
 i|A7GA7L&|9|9|model 7
+ii|AB<|0|0|any|some
+i|A5=|0|0|model 5
+i|A5>A7<&|0|0|model 6
 ib|A7GA7LB&&|9|9|model 7 1
 ii|2A*2B*1+=|3|9|never
 ii|2A*2B*1+=|2|9|spent Nodes
