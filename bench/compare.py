@@ -33,11 +33,11 @@ LONG = 2.0
 FEW = 3
 
 
-def run(program, file, limit):
-    """The processor seconds of a run on a file, and its output; None where it met the limit."""
+def run(program, file, limit, more=()):
+    """The processor seconds of a run on a file, with more words, and its output; None where it met the limit."""
     with open(file) as opened:
         words = re.search(r"^; words: (.*)$", opened.read(), re.MULTILINE)
-    command = [program, *(words.group(1).split() if words else []), file]
+    command = [program, *(words.group(1).split() if words else []), *more, file]
     with tempfile.TemporaryFile("w+") as out:
         child = subprocess.Popen(command, stdin=subprocess.DEVNULL, stdout=out, stderr=subprocess.DEVNULL)
         resource.prlimit(child.pid, resource.RLIMIT_CPU, (limit, limit + 1))
