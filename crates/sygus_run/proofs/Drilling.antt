@@ -38,7 +38,7 @@ use Rattle.sygus_words.specs.declared.settings.Settings.{Settings}
 use Rattle.sygus_words.proofs.Readings.{one_reading}
 use Rattle.sygus_run.proofs.Named.{bits_named}
 use Rattle.sygus_run.specs.Answers.{AreNamedFor}
-use Rattle.sygus_run.specs.Drills.{AskDrill, Drilled, EndsDrill, IsAskedBy}
+use Rattle.sygus_run.specs.Drills.{AskDrill, Drilled, EndsDrill, IsProblemOf}
 use Rattle.sygus_run.specs.declared.answers.Answers.{Answers}
 use Rattle.sygus_run.specs.declared.answers.Answers.TheVariants.{Idle, Bits}
 
@@ -69,7 +69,7 @@ not_integers number problems titles reads =
     cc
 
 pub is_asked : (number : ℕ) (problems : List (Problem BvTheory Word)) (titles : Titles) → wished (file_read (drill_file number)) ≡ Ok (wish_in (jobs.Bits problems titles)) → ProblemsFit vectors.owned vectors.is_bits vectors.vector problems
-    → IsAskedBy number problems
+    → IsProblemOf number problems
 is_asked number problems titles reads fit = record {
   wish = wish_in (jobs.Bits problems titles);
   reads = reads;
@@ -80,7 +80,7 @@ is_asked number problems titles reads fit = record {
 
 -- ---- the one problem
 
-module _ (number : ℕ) (problems : List (Problem BvTheory Word)) (asked : IsAskedBy number problems) where
+module _ (number : ℕ) (problems : List (Problem BvTheory Word)) (asked : IsProblemOf number problems) where
   asked_alone : map (question_of vectors.vector) problems ≡ asked.asks.question ∷ []
   asked_alone = sym asked.questions ∙ asked.asks.one
 

@@ -33,7 +33,7 @@ abbrev pub AskNoDrill : List (List ℕ) → Type 0
 AskNoDrill words = (number : ℕ) (limits : Limits) → AskDrill words number limits → ⊥
 
 -- the number's file is in the profile, and what it asks are these problems
-pub record IsAskedBy {T : Type 0} (number : ℕ) (problems : List (Problem T Word)) : Type 0 where
+pub record IsProblemOf {T : Type 0} (number : ℕ) (problems : List (Problem T Word)) : Type 0 where
   pub wish : Wish
   pub reads : wished (file_read (drill_file number)) ≡ Ok wish
   pub questions : wish.questions ≡ map (question_of vectors.vector) problems

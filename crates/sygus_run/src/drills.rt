@@ -5,7 +5,7 @@ ghost use Rattle.sy_io.specs.Causes.{Rose};
 ghost use Rattle.sygus_replies.specs.Replies.{IsSettled, IsFail};
 ghost use Rattle.sygus_replies.specs.Texts.{answer_lines, memory_line};
 ghost use Rattle.sygus_run.specs.Answers.{replies_of, AreNamedFor};
-ghost use Rattle.sygus_run.specs.Drills.{Drilled, EndsDrill, IsAskedBy};
+ghost use Rattle.sygus_run.specs.Drills.{Drilled, EndsDrill, IsProblemOf};
 
 use crate::answers::{Answers, Ended, unanswered};
 use std::alloc::Global;
@@ -67,7 +67,7 @@ fn drilled<O: Sink>(alloc: Global, number: u32, limits: &Limits, out: &mut O) ->
 
 /// The problem of a number's file.
 fn read_drill(alloc: Global, number: u32) -> Result<Seq<Problem<BvTheory>>, Want>
-    ensures { IfOk result (IsAskedBy number) }
+    ensures { IfOk result (IsProblemOf number) }
 {
     let file = drill_file(alloc, number)?;
     match read_file(alloc, file.as_slice()) {
