@@ -4,3 +4,5 @@ pub mod Tables
 pub mod Laws
 pub mod Equalities
 pub mod Joining
+pub mod Finding
+pub mod Contents

@@ -1,1 +1,5 @@
 pub mod Standing
+pub mod Mixing
+pub mod Sums
+pub mod Places
+pub mod Finding

@@ -1,10 +1,12 @@
 // Words, and the sums that they stand for.
-ghost use Rattle.std.specs.Prelude.{◌≡◌, ◌≤◌, ℕ, Bool, cond, length, IsTrue, IfOk, IfSome};
+ghost use Rattle.std.specs.Prelude.{◌≡◌, ◌≤◌, ◌↔◌, ℕ, Bool, cond, length, IsTrue, IfOk, IfSome};
 ghost use Rattle.sy_bits_sums.specs.Polynomials.{total, Agree};
 ghost use Rattle.sy_gates.specs.declared.gate.Bit.TheVariants as bits;
 ghost use Rattle.sy_gates.specs.Circuits.{word_number, word_bound};
 ghost use Rattle.sy_bits_words.specs.Standing.{turned_number};
+ghost use Rattle.sy_bits_words.specs.Finding as keys;
 
+use crate::mixing::mixed;
 use std::alloc::Global;
 use sy_bits_sums::Sum;
 use sy_gates::{Bit, inverted, joined};
@@ -21,7 +23,7 @@ pub struct Known {
 
 /// Whether the two are the same bit.
 fn same_bit(a: Bit, b: Bit) -> bool
-    ensures { IsTrue result → a ≡ b }
+    ensures { IsTrue result ↔ a ≡ b }
 {
     match (a, b) {
         (Bit::Fixed(x), Bit::Fixed(y)) => x == y,
@@ -32,7 +34,7 @@ fn same_bit(a: Bit, b: Bit) -> bool
 
 /// Whether the two are the same word.
 pub(crate) fn same_word(a: &[Bit], b: &[Bit]) -> bool
-    ensures { IsTrue result → a.now ≡ b.now }
+    ensures { IsTrue result ↔ a.now ≡ b.now }
 {
     if a.len() != b.len() {
         return false;
@@ -129,36 +131,42 @@ pub(crate) fn own_sum(alloc: Global, word: &[Bit], place: u32) -> Result<Sum, Wa
     }
 }
 
-/// A number by which a word is looked up; two words may have one.
-pub(crate) fn word_key(word: &[Bit]) -> u64 {
-    let mut key = 0;
-    for bit in word {
-        let code = match bit {
-            Bit::Fixed(value) => u64::from(*value),
-            Bit::Of(literal) => 2 + 2 * u64::from(literal.var) + u64::from(literal.positive),
-        };
-        key = mixed(key, code);
-    }
-    key
-}
-
-/// A number by which the bits that are true in two words are looked up.
-pub(crate) fn pair_key(a: &[Bit], b: &[Bit]) -> u64 {
-    mixed(mixed(1, word_key(a)), word_key(b))
-}
-
-/// A number by which a sum is looked up; two sums may have one.
-pub(crate) fn sum_key(sum: &Sum) -> u64 {
-    let mut key = u64::from(sum.width);
-    for monomial in sum.monomials.as_slice() {
-        key = mixed(key, monomial.coefficient);
-        for place in monomial.factors.as_slice() {
-            key = mixed(key, u64::from(*place));
+/// Whether the first word is to stand first, of two words of one length: the same order, whichever is asked first.
+pub(crate) fn is_first(a: &[Bit], b: &[Bit]) -> bool {
+    for (x, y) in a.iter().zip(b) {
+        let left = bit_code(x);
+        let right = bit_code(y);
+        if left != right {
+            return left < right;
         }
     }
+    true
+}
+
+/// A number for the bit, and for no other one.
+fn bit_code(bit: &Bit) -> u64
+    ensures { result ≡ keys.bit_code bit.now }
+{
+    match bit {
+        Bit::Fixed(value) => digit(*value),
+        Bit::Of(literal) => 2 + 2 * u64::from(literal.var) + digit(literal.positive),
+    }
+}
+
+/// A number for a number and a word; two words may have one.
+fn word_key(seed: u64, word: &[Bit]) -> u64
+    ensures { result ≡ keys.key_of_word seed word.now }
+{
+    let mut key = mixed(seed, word.len() as u64);
+    for bit in word {
+        key = mixed(key, bit_code(bit));
+    }
     key
 }
 
-fn mixed(key: u64, code: u64) -> u64 {
-    key.wrapping_mul(11400714819323198485).wrapping_add(code)
+/// A number by which two words are looked up; others may have it too.
+pub(crate) fn pair_key(a: &[Bit], b: &[Bit]) -> u64
+    ensures { result ≡ keys.key_of_pair a.now b.now }
+{
+    word_key(word_key(0, a), b)
 }

@@ -4,8 +4,11 @@
 mod equality;
 mod known;
 mod meets;
+mod mixing;
 mod operations;
 mod sharing;
+mod sums;
+mod table;
 mod words;
 
 pub use known::Known;

@@ -1,12 +1,14 @@
 // The table of words whose sums are known.
-ghost use Rattle.std.specs.Prelude.{◌≡◌, ◌≤◌, ◌<◌, ◌^◌, ℕ, Bool, bit_and, [], ◌++◌, ◌∷◌, length, get_or, IsTrue, IfOk, OnOk, IfSome};
+ghost use Rattle.std.specs.Prelude.{◌≡◌, ◌≤◌, ◌<◌, ◌^◌, ℕ, Bool, bit_and, [], ◌++◌, ◌∷◌, length, get_or, slice_get, Some, IsSome, IsTrue, IfOk, OnOk, IfSome};
 ghost use Rattle.sy_gates.specs.Circuits.{Plan, variables, word_bound, word_number};
 ghost use Rattle.sy_bits_sums.specs.Polynomials.{total};
 ghost use Rattle.sy_bits_words.specs.Standing.{StandsFor, AllStand, place_number};
+ghost use Rattle.sy_bits_words.specs.Sums.{sum_content};
 
-use crate::known::{Known, is_fixed, own_sum, pair_key, same_word, sum_key, word_key};
+use crate::known::{Known, is_first, is_fixed, own_sum, pair_key, same_word};
+use crate::sums::{same_sum, sum_key};
+use crate::table::Table;
 use std::alloc::Global;
-use std::collections::HashMap;
 use std::marker::Model;
 use sy_bits_sums::Sum;
 use sy_gates::{Bit, constant, joined};
@@ -20,24 +22,28 @@ const MOST_WORDS: usize = 1 << 20;
 #[derive(Drop)]
 pub struct Words {
     known: Vec<Known>,
-    by_word: HashMap<u64, u32>,
-    by_pair: HashMap<u64, u32>,
-    by_sum: HashMap<u64, u32>,
+    by_words: Table,
+    by_sum: Table,
 }
 
 impl Model for Words {
     ghost use Rattle.std.specs.Prelude.{List};
     ghost use Rattle.sy_bits_words.specs.declared.known.Known.{Known};
+    ghost use Rattle.sy_bits_words.specs.Places.{places_of};
+    ghost use Rattle.sy_bits_words.specs.Finding.{WordsAreFound, SumsAreFound};
 
     ghost Value = { List Known };
 
     ghost view = { λ w. w.known.items };
+
+    ghost invariant = { λ w. WordsAreFound (places_of w.by_words) w.known.items × SumsAreFound (places_of w.by_sum) w.known.items };
 }
 
 impl Words {
     ghost use Rattle.sy_gates.specs.Circuits.{Plan, variables, word_bound, word_number};
     ghost use Rattle.sy_bits_words.specs.declared.known.Known.{Known};
     ghost use Rattle.sy_bits_words.specs.Standing.{StandsFor, AllStand, place_number};
+    ghost use Rattle.sy_bits_words.specs.Sums.{sum_content};
 
     /// The table of no words. It takes no memory.
     pub fn new(alloc: Global) -> Words
@@ -46,9 +52,8 @@ impl Words {
     {
         Words {
             known: Vec::new(alloc),
-            by_word: HashMap::new(alloc),
-            by_pair: HashMap::new(alloc),
-            by_sum: HashMap::new(alloc),
+            by_words: Table::new(alloc),
+            by_sum: Table::new(alloc),
         }
     }
 
@@ -65,6 +70,7 @@ impl Words {
         ensures within { IsTrue result → place < length self.now }
         ensures word { IsTrue result → (d : Known) → (get_or self.now place d).word ≡ word.now }
         ensures other { IsTrue result → (d : Known) → (get_or self.now place d).other ≡ other.now }
+        ensures found { (known : Known) → slice_get self.now place ≡ Some known → known.word ≡ word.now → known.other ≡ other.now → IsTrue result }
     {
         if place >= self.known.len() {
             return false;
@@ -78,82 +84,68 @@ impl Words {
         ensures within { IsTrue result → place < length self.now }
         ensures width { IsTrue result → (d : Known) → (get_or self.now place d).sum.width ≡ sum.now.width }
         ensures value { IsTrue result → (d : Known) (values : ℕ → ℕ) → total values (get_or self.now place d).sum.monomials.items ≡ total values sum.now.monomials.items }
+        ensures found { (known : Known) → slice_get self.now place ≡ Some known → sum_content known.sum ≡ sum_content sum.now → IsTrue result }
     {
         if place >= self.known.len() {
             return false;
         }
-        let known = &self.known[place];
-        known.sum.equals(sum)
+        same_sum(&self.known[place].sum, sum)
     }
 
-    /// The place of a word; `None` where it isn't found.
-    fn place_of(&self, word: &[Bit]) -> Option<usize>
-        ensures within { IfSome result (λ place. place < length self.now) }
-        ensures word { IfSome result (λ place. (d : Known) → (get_or self.now place d).word ≡ word.now) }
-        ensures other { IfSome result (λ place. (d : Known) → (get_or self.now place d).other ≡ word.now) }
-    {
-        let place = *self.by_word.get(&word_key(word))? as usize;
-        if self.has_pair(place, word, word) {
-            Some(place)
-        } else {
-            None
-        }
-    }
-
-    /// The place of two words; `None` where it isn't found.
-    fn place_of_pair(&self, word: &[Bit], other: &[Bit]) -> Option<u32>
+    /// The place of two words; `None` exactly where they have none.
+    fn place_of(&self, word: &[Bit], other: &[Bit]) -> Option<u32>
         ensures within { IfSome result (λ place. place < length self.now) }
         ensures word { IfSome result (λ place. (d : Known) → (get_or self.now place d).word ≡ word.now) }
         ensures other { IfSome result (λ place. (d : Known) → (get_or self.now place d).other ≡ other.now) }
+        ensures found { (place : ℕ) (known : Known) → slice_get self.now place ≡ Some known → known.word ≡ word.now → known.other ≡ other.now → IsSome result }
     {
-        let place = *self.by_pair.get(&pair_key(word, other))?;
-        if self.has_pair(place as usize, word, other) {
-            Some(place)
-        } else {
-            None
+        let key = pair_key(word, other);
+        let Some(first) = self.by_words.first(key) else {
+            return None;
+        };
+        if self.has_pair(first as usize, word, other) {
+            return Some(first);
         }
+        for place in self.by_words.others(key) {
+            if self.has_pair(*place as usize, word, other) {
+                return Some(*place);
+            }
+        }
+        None
     }
 
-    /// The place of a word with this sum; `None` where none is found.
+    /// The place of a word with this sum; `None` exactly where none has it.
     fn place_of_sum(&self, sum: &Sum) -> Option<usize>
         ensures within { IfSome result (λ place. place < length self.now) }
         ensures width { IfSome result (λ place. (d : Known) → (get_or self.now place d).sum.width ≡ sum.now.width) }
         ensures value { IfSome result (λ place. (d : Known) (values : ℕ → ℕ) → total values (get_or self.now place d).sum.monomials.items ≡ total values sum.now.monomials.items) }
+        ensures found { (place : ℕ) (known : Known) → slice_get self.now place ≡ Some known → sum_content known.sum ≡ sum_content sum.now → IsSome result }
     {
-        let place = *self.by_sum.get(&sum_key(sum))? as usize;
-        if self.has_sum(place, sum) {
-            Some(place)
-        } else {
-            None
+        let key = sum_key(sum);
+        let Some(first) = self.by_sum.first(key) else {
+            return None;
+        };
+        if self.has_sum(first as usize, sum) {
+            return Some(first as usize);
         }
+        for place in self.by_sum.others(key) {
+            if self.has_sum(*place as usize, sum) {
+                return Some(*place as usize);
+            }
+        }
+        None
     }
 
-    /// Puts a word and its sum last. Of equal words, and of words with equal sums, the first is found.
-    fn push(&mut self, known: Known) -> Result<(), Want>
+    /// Puts words and a sum last. Of equal words, and of words with equal sums, the first is found.
+    fn push(&mut self, alloc: Global, known: Known) -> Result<(), Want>
         requires { length self.old < 2 ^ 32 }
         ensures { OnOk result (self.new ≡ self.old ++ known ∷ []) }
     {
         let place = self.known.len() as u32;
-        let word = word_key(known.word.as_slice());
-        if self.by_word.get(&word).is_none() {
-            self.by_word.insert(word, place)?;
-        }
+        let words = pair_key(known.word.as_slice(), known.other.as_slice());
         let sum = sum_key(&known.sum);
-        if self.by_sum.get(&sum).is_none() {
-            self.by_sum.insert(sum, place)?;
-        }
-        self.known.push(known)?;
-        Ok(())
-    }
-
-    /// Puts two words last.
-    fn push_pair(&mut self, known: Known) -> Result<(), Want>
-        requires { length self.old < 2 ^ 32 }
-        ensures { OnOk result (self.new ≡ self.old ++ known ∷ []) }
-    {
-        let place = self.known.len() as u32;
-        let pair = pair_key(known.word.as_slice(), known.other.as_slice());
-        self.by_pair.insert(pair, place)?;
+        self.by_words.add(alloc, words, place)?;
+        self.by_sum.add(alloc, sum, place)?;
         self.known.push(known)?;
         Ok(())
     }
@@ -168,9 +160,10 @@ impl Words {
         ensures within { IfOk result (λ found. IfSome found (λ place. place < length self.new)) }
         ensures same { IfOk result (λ found. IfSome found (λ place. (d : Known) → (get_or self.new place d).word ≡ word.now)) }
         ensures other { IfOk result (λ found. IfSome found (λ place. (d : Known) → (get_or self.new place d).other ≡ word.now)) }
+        ensures again { (place : ℕ) (known : Known) → slice_get self.old place ≡ Some known → known.word ≡ word.now → known.other ≡ word.now → (self.new ≡ self.old) × IfOk result (λ found. IsSome found) }
     {
-        if let Some(place) = self.place_of(word) {
-            return Ok(Some(place));
+        if let Some(place) = self.place_of(word, word) {
+            return Ok(Some(place as usize));
         }
         let place = self.known.len();
         if place >= MOST_WORDS {
@@ -179,7 +172,7 @@ impl Words {
         let sum = own_sum(alloc, word, place as u32)?;
         let other = joined(alloc, word, &[])?;
         let word = joined(alloc, word, &[])?;
-        self.push(Known { word, other, sum })?;
+        self.push(alloc, Known { word, other, sum })?;
         Ok(Some(place))
     }
 
@@ -198,8 +191,9 @@ impl Words {
         ensures within { IfOk result (λ found. IfSome found (λ place. place < length self.new)) }
         ensures word { IfOk result (λ found. IfSome found (λ place. (d : Known) → (get_or self.new place d).word ≡ word.now)) }
         ensures other { IfOk result (λ found. IfSome found (λ place. (d : Known) → (get_or self.new place d).other ≡ other.now)) }
+        ensures again { (place : ℕ) (known : Known) → slice_get self.old place ≡ Some known → known.word ≡ word.now → known.other ≡ other.now → (self.new ≡ self.old) × IfOk result (λ found. IsSome found) }
     {
-        if let Some(place) = self.place_of_pair(word, other) {
+        if let Some(place) = self.place_of(word, other) {
             return Ok(Some(place));
         }
         let Some(own) = self.enter(alloc, word)? else {
@@ -212,7 +206,7 @@ impl Words {
         let sum = Sum::value(alloc, word.len() as u32, own as u32)?;
         let other = joined(alloc, other, &[])?;
         let word = joined(alloc, word, &[])?;
-        self.push_pair(Known { word, other, sum })?;
+        self.push(alloc, Known { word, other, sum })?;
         Ok(Some(place as u32))
     }
 
@@ -232,7 +226,7 @@ impl Words {
         ensures within { IfOk result (λ found. IfSome found (λ place. place < length self.new)) }
         ensures number { IfOk result (λ found. IfSome found (λ place. (d : Known) (v : ℕ → Bool) → place_number v (get_or self.new place d) ≡ bit_and (word_number v a.now) (word_number v b.now))) }
     {
-        if word_key(a) <= word_key(b) {
+        if is_first(a, b) {
             let Some(place) = self.enter_pair(alloc, a, b)? else {
                 return Ok(None);
             };
@@ -246,7 +240,8 @@ impl Words {
 
     /// The word of a sum, in memory of its own: a constant's, or one of the table; `None` where neither is.
     pub(crate) fn word_of(&self, alloc: Global, sum: &Sum) -> Result<Option<Seq<Bit>>, Want>
-        ensures { IfOk result (λ found. IfSome found (λ word. (circuit : Plan) → AllStand circuit self.now → StandsFor circuit self.now word sum.now)) }
+        ensures stands { IfOk result (λ found. IfSome found (λ word. (circuit : Plan) → AllStand circuit self.now → StandsFor circuit self.now word sum.now)) }
+        ensures found { (place : ℕ) (known : Known) → slice_get self.now place ≡ Some known → sum_content known.sum ≡ sum_content sum.now → IfOk result (λ found. IsSome found) }
     {
         if let Some(number) = sum.fixed() {
             let word = constant(alloc, sum.width as usize, number)?;
@@ -270,7 +265,7 @@ impl Words {
         }
         let other = joined(alloc, word, &[])?;
         let word = joined(alloc, word, &[])?;
-        self.push(Known { word, other, sum })?;
+        self.push(alloc, Known { word, other, sum })?;
         Ok(())
     }
 }

@@ -10,14 +10,14 @@ pub returns-in-Some-2-clause-sort : goal.returns-in-Some-2-clause-sort
 returns-in-Some-2-clause-sort c =
     let all : AllStand c.args.circuit.now c.sum_of.new.words = c.in_ok-sum.ensures.stand c.args.circuit.now c.requires.inside c.requires.stand in
     let is : IsSumOf c.args.circuit.now c.sum_of.new.words c.args.op.now c.args.args.now c.in-Some.sum = (rw c.in-Some.is at c.in_ok-sum.ensures.sum) c.args.circuit.now all in
-    let stands : StandsFor c.args.circuit.now c.sum_of.new.words c.in-Some-2.word c.in-Some.sum = (rw c.in-Some-2.is at c.in_ok-word.ensures) c.args.circuit.now all in
+    let stands : StandsFor c.args.circuit.now c.sum_of.new.words c.in-Some-2.word c.in-Some.sum = (rw c.in-Some-2.is at c.in_ok-word.ensures.stands) c.args.circuit.now all in
     (serves c.args.circuit.now c.sum_of.new.words c.args.op.now c.args.args.now c.in-Some.sum c.in-Some-2.word is stands).sort
 
 pub returns-in-Some-2-clause-value : goal.returns-in-Some-2-clause-value
 returns-in-Some-2-clause-value c =
     let all : AllStand c.args.circuit.now c.sum_of.new.words = c.in_ok-sum.ensures.stand c.args.circuit.now c.requires.inside c.requires.stand in
     let is : IsSumOf c.args.circuit.now c.sum_of.new.words c.args.op.now c.args.args.now c.in-Some.sum = (rw c.in-Some.is at c.in_ok-sum.ensures.sum) c.args.circuit.now all in
-    let stands : StandsFor c.args.circuit.now c.sum_of.new.words c.in-Some-2.word c.in-Some.sum = (rw c.in-Some-2.is at c.in_ok-word.ensures) c.args.circuit.now all in
+    let stands : StandsFor c.args.circuit.now c.sum_of.new.words c.in-Some-2.word c.in-Some.sum = (rw c.in-Some-2.is at c.in_ok-word.ensures.stands) c.args.circuit.now all in
     (serves c.args.circuit.now c.sum_of.new.words c.args.op.now c.args.args.now c.in-Some.sum c.in-Some-2.word is stands).value
 
 pub returns-clause-stand : goal.returns-clause-stand

@@ -1,0 +1,6 @@
+use Rattle.std.proofs.Common.{◌≡◌, take}
+use Rattle.sy_bits_words.proofs.Finding.{AreOther}
+use Rattle.sy_bits_words.proofs.words.Words.place_of.Given as goal
+
+abbrev pub invariant-loop-place : goal.invariant-loop-place
+invariant-loop-place l = AreOther l.self (take l.place-index l.place-items) (λ known. (known.word ≡ l.word) × (known.other ≡ l.other))
