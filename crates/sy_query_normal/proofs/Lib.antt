@@ -1,3 +1,4 @@
+pub mod Folds
 pub mod Lists
 pub mod Pairs
 pub mod Terms

@@ -1,6 +1,7 @@
 // Queries over bit vectors in which equal terms are written alike.
 #![tactic(auto)]
 
+mod chains;
 mod choices;
 mod itself;
 mod normal;

@@ -14,6 +14,35 @@ pub(crate) fn is_before(first: &Term<BvTheory>, second: &Term<BvTheory>) -> bool
     }
 }
 
+/// The same, but for terms that have complements among the given ones: these stand before the others, so that an operator which
+/// goes from the left meets a term and its complement before anything else.
+pub(crate) fn is_before_among(
+    terms: &[Term<BvTheory>],
+    first: &Term<BvTheory>,
+    second: &Term<BvTheory>,
+) -> bool {
+    match (has_complement(terms, first), has_complement(terms, second)) {
+        (true, false) => true,
+        (false, true) => false,
+        _ => is_before(first, second),
+    }
+}
+
+/// Whether one of the terms is the complement of the given one, or has it as its complement.
+fn has_complement(terms: &[Term<BvTheory>], term: &Term<BvTheory>) -> bool {
+    for other in terms {
+        if is_complement_of(term, other) || is_complement_of(other, term) {
+            return true;
+        }
+    }
+    false
+}
+
+/// Whether the term is the complement of the other one.
+fn is_complement_of(term: &Term<BvTheory>, other: &Term<BvTheory>) -> bool {
+    is_complement(term) && turned_back(term).equals(other)
+}
+
 /// Whether the term is the complement of another one.
 fn is_complement(term: &Term<BvTheory>) -> bool {
     matches!(term, Term::App(Op::Not | Op::BvNot, _))

@@ -13,17 +13,17 @@ ghost use Rattle.sy_query_normal.specs.Unordered as spec;
 ghost use Rattle.sy_query_normal.specs.Unordered.{GiveTheSame, IsUnordered};
 ghost use Rattle.sy_query_sums.specs.Sums.{BeginWithSorts};
 
-use crate::order::is_before;
+use crate::order::is_before_among;
 use crate::sorts::has_sort;
 use std::alloc::Global;
 use sy_meaning_words::BvTheory;
 use sy_query_copies::copied_terms;
 use sy_terms::{Op, Sort, Term, Terms, Want};
 
-/// Whether each of the terms stands before the next, and none of them is the operator at some.
+/// Whether each of the terms stands before the next among them, and none of them is the operator at some.
 pub(crate) fn are_in_order(operator: Op, terms: &[Term<BvTheory>]) -> bool {
     for place in 1..terms.len() {
-        if !is_before(&terms[place - 1], &terms[place]) {
+        if !is_before_among(terms, &terms[place - 1], &terms[place]) {
             return false;
         }
     }
@@ -114,21 +114,23 @@ pub(crate) fn in_order(
         if !has_sort(alloc, sorts, sort, part)? {
             return Ok(None);
         }
-        insert(alloc, operator, &mut ordered, part)?;
+        insert(alloc, operator, parts, &mut ordered, part)?;
     }
     Ok(Some(ordered))
 }
 
-/// Puts the part in its place among parts in order. Where it is there already, the two are one part or cancel each other.
+/// Puts the part in its place among parts in order, of all these. Where it is there already, the two are one part or cancel
+/// each other.
 fn insert(
     alloc: Global,
     operator: Op,
+    all: &[Term<BvTheory>],
     parts: &mut Vec<Term<BvTheory>>,
     part: &Term<BvTheory>,
 ) -> Result<(), Want>
     ensures { OnOk result ((sort : Sort) → IsUnordered sort operator → (values : List Val) → sort_of_value (meaning [] [] values (expr_of vector part.now)) ≡ sort → GiveTheSame sort operator (meanings [] [] values (exprs_of vector parts.new.items)) (meaning [] [] values (expr_of vector part.now) ∷ meanings [] [] values (exprs_of vector parts.old.items))) }
 {
-    let place = place_of(parts.as_slice(), part);
+    let place = place_of(all, parts.as_slice(), part);
     if !is_at(parts.as_slice(), place, part) {
         let copy = part.copy(alloc)?;
         parts.insert(place, copy)?;
@@ -148,12 +150,12 @@ fn cancels(operator: Op) -> bool
     matches!(operator, Op::BvXor)
 }
 
-/// The place of the first part that doesn't stand before the given one.
-fn place_of(parts: &[Term<BvTheory>], part: &Term<BvTheory>) -> usize
+/// The place of the first part that doesn't stand before the given one among all.
+fn place_of(all: &[Term<BvTheory>], parts: &[Term<BvTheory>], part: &Term<BvTheory>) -> usize
     ensures { result ≤ length parts.now }
 {
     for place in 0..parts.len() {
-        if !is_before(&parts[place], part) {
+        if !is_before_among(all, &parts[place], part) {
             return place;
         }
     }

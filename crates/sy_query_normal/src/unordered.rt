@@ -18,8 +18,9 @@ use sy_terms::{Op, Sort, Term, Terms, Value, Want};
 /// The most arguments that are put in order.
 const MOST_PARTS: usize = 64;
 
-/// The operator at the terms, in which the arguments of an argument under the same operator are its own, stand in order and
-/// are freed of doubles; `None` where the operator isn't one of these or the sorts of the terms aren't known.
+/// The operator at the terms, in which the arguments of an argument under the same operator are its own, stand in order, those
+/// beside their complements first, and are freed of doubles; `None` where the operator isn't one of these or the sorts of the
+/// terms aren't known.
 pub(crate) fn gathered(
     alloc: Global,
     sorts: &[Sort],
@@ -32,7 +33,7 @@ pub(crate) fn gathered(
     if terms.len() < 2 {
         return Ok(None);
     }
-    if are_in_order(operator, terms) || count(operator, terms) > MOST_PARTS {
+    if count(operator, terms) > MOST_PARTS || are_in_order(operator, terms) {
         return Ok(None);
     }
     let Some(sort) = application_sort(alloc, sorts, operator, terms)? else {

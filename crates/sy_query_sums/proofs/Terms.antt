@@ -151,7 +151,7 @@ fold_step ops.BvMul x y rest folded = refl
 fold_step _ x y rest folded = absurd cc
 
 -- and at the others and the last
-last-folded : (operator : Op) (x y z : Val) (between : List Val) → is_folded operator ≡ true → op_value operator (x ∷ y ∷ (between ++ z ∷ [])) ≡ op_value operator (op_value operator (x ∷ y ∷ between) ∷ z ∷ [])
+pub last-folded : (operator : Op) (x y z : Val) (between : List Val) → is_folded operator ≡ true → op_value operator (x ∷ y ∷ (between ++ z ∷ [])) ≡ op_value operator (op_value operator (x ∷ y ∷ between) ∷ z ∷ [])
 last-folded operator x y z [] folded = fold_step operator x y (z ∷ []) folded
 last-folded operator x y z (u ∷ between) folded =
     fold_step operator x y (u ∷ (between ++ z ∷ [])) folded ∙ last-folded operator (op_value operator (x ∷ y ∷ [])) u z between folded

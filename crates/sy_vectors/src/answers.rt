@@ -188,6 +188,10 @@ b44 ABB?B# 1 never
 44 ABwA~w0# 1 never
 448 AB+0cC*AB+0c+AB+0cC1Z+*# 1 never
 444 A3+C>AB*C/AB+A*AA*-C/#& 1 never
+444 ABwCwABwCo+ABwC+# 1 never
+44 ABwABxABwPAB+# 1 never
+44 ABwB~w0# 1 never
+44 ABxB~xA~# 1 never
 ";
 
 /// Sums and products of variables that need no gate, and remainders and shifts of a vector by itself: how many variables the

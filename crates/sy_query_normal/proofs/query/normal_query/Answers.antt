@@ -9,5 +9,6 @@ use Rattle.sy_query_normal.proofs.query.normal_query.Goals as goal
 pub returns-clause-same : goal.returns-clause-same
 returns-clause-same c =
     let same = c.in_ok-vars.ensures ∙ c.as_slice.ensures in
-    let is = subst (λ sorts. IsSameOver sorts (expr_of vector c.in_ok-body.body) (expr_of vector c.args.query.now.body)) c.as_slice-2.ensures c.in_ok-body.ensures in
-    satisfied-same (query_of vector c.args.query.now) (query_of vector (record { vars = c.in_ok-vars.vars; body = c.in_ok-body.body })) same is
+    let is = subst (λ sorts. IsSameOver sorts (expr_of vector c.in_ok-written.written) (expr_of vector c.args.query.now.body)) c.as_slice-2.ensures c.in_ok-written.ensures in
+    satisfied-same (query_of vector c.args.query.now) (query_of vector (record { vars = c.in_ok-vars.vars; body = c.in_ok-body.body })) same
+    (λ values begin. c.in_ok-body.ensures values ∙ is values begin)

@@ -1,0 +1,16 @@
+use Rattle.std.proofs.Common.{arith, take}
+use Rattle.std.proofs.lemmas.List.{take_more}
+use Rattle.sy_terms.specs.Denoted.{expr_of-App}
+use Rattle.sy_meaning_words.specs.Vectors.{vector}
+use Rattle.sy_query_normal.proofs.Folds.{applied_paired, next_paired}
+use Rattle.sy_query_normal.proofs.chains.+chains.Goals as goal
+
+pub paired-returns-in_ok-found-in-App : goal.paired-returns-in_ok-found-in-App
+paired-returns-in_ok-found-in-App t c =
+    rw (c.in-App.is, expr_of-App) (applied_paired c.in-App.operator _ _ _ c.in_ok-found-in-App.ensures (rw c.as_slice.ensures at c.in_ok-arguments-in-App.ensures))
+
+pub all_paired-loop-term-preserved : goal.all_paired-loop-term-preserved
+all_paired-loop-term-preserved t c =
+    let more = take_more c.args.terms.now c.loop-term.term-index c.term-item.result (grind arith) in
+    rw (more, ← c.term-item.is, c.in_ok-push.ensures.ok)
+    (next_paired vector c.loop-term.all.items.items (take c.loop-term.term-index c.args.terms.now) c.in_ok-found.found c.term-item.result c.loop-term.invariant c.in_ok-found.ensures)
