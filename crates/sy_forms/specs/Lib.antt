@@ -3,3 +3,4 @@ pub mod Terms
 pub mod Rules
 pub mod Heads
 pub mod Rulings
+pub mod Parts

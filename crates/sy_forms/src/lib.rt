@@ -4,6 +4,7 @@
 mod apply;
 mod head;
 mod literal;
+mod parts;
 mod rule;
 mod term;
 

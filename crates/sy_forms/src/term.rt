@@ -1,9 +1,8 @@
 // Terms.
-ghost use Rattle.std.specs.Prelude.{◌≡◌, OnOk, IfOk};
+ghost use Rattle.std.specs.Prelude.{◌≡◌, Ok, OnOk, take};
 ghost use Rattle.sy_text.specs.Views.{item_of};
 ghost use Rattle.sy_forms.specs.Gathered.{several_of, bounds_of, bound_of};
-ghost use Rattle.sy_forms_phrases.specs.Meant.{phrase_of, typed_of};
-ghost use Rattle.sy_forms_items.specs.Parts as parts;
+ghost use Rattle.sy_forms_phrases.specs.Meant.{phrase_of, phrases_of, typed_of};
 ghost use Rattle.sy_forms_phrases.specs.Phrases as phrases;
 ghost use Rattle.sy_forms_items.specs.Readings.{ReadingGives};
 ghost use Rattle.sy_forms_names.specs.Seen.{environment_of};
@@ -14,12 +13,13 @@ ghost use Rattle.sy_forms_items.specs.Views.{items_in};
 use crate::apply::{Several, applied};
 use crate::head::{atom_term, read_head};
 use crate::literal::indexed_term;
+use crate::parts::{binding_parts, let_parts};
 use std::alloc::Global;
-use sy_forms_items::{ReadEnd, Rest, copied, indexed_name, is_symbol, place_of, symbol};
-use sy_forms_names::{Environment, Locals, Named, Role, is_reserved};
+use sy_forms_items::{ReadEnd, Rest, copied, indexed_name, is_symbol};
+use sy_forms_names::{Environment, Locals, Named, Role};
 use sy_forms_phrases::{Phrase, Phrases, Typed, binding};
 use sy_scope_causes::Cause;
-use sy_terms::{Logic, Seq, Theory, Want};
+use sy_terms::{Theory, Want};
 use sy_text::{Name, Place, Sexp};
 
 /// A binding: the name with its term's sort, and the term.
@@ -69,25 +69,34 @@ fn let_may_stand(role: Role) -> bool
     }
 }
 
-/// The name of the binding that stands at a place: it isn't reserved and is none of the names that are taken.
-fn new_name<'a>(
-    logic: Logic,
-    taken: &Locals,
-    place: Place,
-    item: &'a Sexp,
-) -> Result<&'a Name, ReadEnd>
-    ensures { ReadingGives (λ name. name.now) result (spec.new_binding_name logic taken.now place (item_of item.now)) }
+/// A `let` with its inner term. The names outside it are in force again.
+fn closed<T: Theory>(
+    alloc: Global,
+    locals: &mut Locals,
+    outside: usize,
+    terms: Phrases<T>,
+    inner: Typed<T>,
+) -> Result<Typed<T>, ReadEnd>
+    ensures read { ReadingGives (typed_of T.denotes) result (spec.typed (phrases.Let (phrases_of T.denotes terms.items.items) (phrase_of T.denotes inner.phrase)) inner.sort) }
+    ensures locals { OnOk result (locals.new ≡ take outside locals.old) }
 {
-    let Some(name) = symbol(item) else {
-        return Err(ReadEnd::Refused(place, Cause::Shape));
-    };
-    if is_reserved(logic, name.as_slice()) {
-        return Err(ReadEnd::Refused(place_of(item), Cause::NameTaken));
-    }
-    match taken.find(name.as_slice()) {
-        Some(_) => Err(ReadEnd::Refused(place_of(item), Cause::NameTaken)),
-        None => Ok(name),
-    }
+    locals.truncate(outside)?;
+    let term = binding(alloc, terms, inner)?;
+    Ok(term)
+}
+
+/// The binding of a name to a term.
+fn bound_to<T: Theory>(alloc: Global, name: &Name, term: Typed<T>) -> Result<Bound<T>, ReadEnd>
+    ensures { ReadingGives (bound_of T.denotes) result (Ok (spec.bound_to name.now (typed_of T.denotes term))) }
+{
+    let name = copied(alloc, name)?;
+    Ok(Bound {
+        named: Named {
+            name,
+            sort: term.sort,
+        },
+        phrase: term.phrase,
+    })
 }
 
 /// The term that the item is, where these `let` names are in force, from the outermost.
@@ -177,16 +186,8 @@ fn read_let<T: Theory>(
     ensures read { ReadingGives (typed_of T.denotes) result (spec.read_let (environment_of env.now) locals.old place (items_in items.entry)) }
     ensures locals { OnOk result (locals.new ≡ locals.old) }
 {
-    let Some((bindings, rest)) = items.split() else {
-        return Err(ReadEnd::Refused(place, Cause::Shape));
-    };
-    let Some((inner, rest)) = rest.split() else {
-        return Err(ReadEnd::Refused(place, Cause::Shape));
-    };
-    if !rest.is_empty() {
-        return Err(ReadEnd::Refused(place, Cause::Shape));
-    }
-    let bound = read_binding_list(alloc, env, locals, place, bindings)?;
+    let (bindings, inner) = let_parts(place, items)?;
+    let bound = read_bindings(alloc, env, locals, bindings)?;
     read_inner(alloc, env, locals, bound, inner)
 }
 
@@ -208,35 +209,7 @@ fn read_inner<T: Theory>(
     let Bounds { names, terms } = bound;
     locals.append(names)?;
     let inner = read_term(alloc, env, locals, inner)?;
-    locals.truncate(outside)?;
-    let term = binding(alloc, terms, inner)?;
-    Ok(term)
-}
-
-/// A list of one binding or more.
-#[tactic(none)]
-#[cycle(reading)]
-fn read_binding_list<T: Theory>(
-    alloc: Global,
-    env: &Environment<'_>,
-    locals: &mut Locals,
-    place: Place,
-    item: &Sexp,
-) -> Result<Bounds<T>, ReadEnd>
-    requires { Serves T.numeric env.now.logic }
-    ensures read { ReadingGives (bounds_of T.denotes) result (spec.read_binding_list (environment_of env.now) locals.old place (item_of item.now)) }
-    ensures locals { OnOk result (locals.new ≡ locals.old) }
-{
-    match item {
-        Sexp::Atom(_, _) => Err(ReadEnd::Refused(place, Cause::Shape)),
-        Sexp::List(bindings, _) => {
-            let bindings = Rest::all(bindings);
-            if bindings.is_empty() {
-                return Err(ReadEnd::Refused(place, Cause::Shape));
-            }
-            read_bindings(alloc, env, locals, bindings)
-        }
-    }
+    closed(alloc, locals, outside, terms, inner)
 }
 
 /// Bindings from left to right.
@@ -276,46 +249,7 @@ fn read_binding<T: Theory>(
     ensures read { ReadingGives (bound_of T.denotes) result (spec.read_binding (environment_of env.now) locals.old taken.now (item_of item.now)) }
     ensures locals { OnOk result (locals.new ≡ locals.old) }
 {
-    match item {
-        Sexp::Atom(_, place) => Err(ReadEnd::Refused(*place, Cause::Shape)),
-        Sexp::List(items, place) => {
-            read_pair(alloc, env, locals, taken, *place, Rest::all(items))
-        }
-    }
-}
-
-/// The name and the term of a binding.
-#[tactic(none)]
-#[cycle(reading)]
-fn read_pair<T: Theory>(
-    alloc: Global,
-    env: &Environment<'_>,
-    locals: &mut Locals,
-    taken: &Locals,
-    place: Place,
-    items: Rest<'_>,
-) -> Result<Bound<T>, ReadEnd>
-    requires { Serves T.numeric env.now.logic }
-    ensures read { ReadingGives (bound_of T.denotes) result (spec.read_pair (environment_of env.now) locals.old taken.now place (items_in items.entry)) }
-    ensures locals { OnOk result (locals.new ≡ locals.old) }
-{
-    let Some((name, rest)) = items.split() else {
-        return Err(ReadEnd::Refused(place, Cause::Shape));
-    };
-    let Some((term, rest)) = rest.split() else {
-        return Err(ReadEnd::Refused(place, Cause::Shape));
-    };
-    if !rest.is_empty() {
-        return Err(ReadEnd::Refused(place, Cause::Shape));
-    }
-    let name = new_name(env.logic, taken, place, name)?;
+    let (name, term) = binding_parts(env.logic, taken, item)?;
     let term = read_term(alloc, env, locals, term)?;
-    let name = copied(alloc, name)?;
-    Ok(Bound {
-        named: Named {
-            name,
-            sort: term.sort,
-        },
-        phrase: term.phrase,
-    })
+    bound_to(alloc, name, term)
 }

@@ -1,17 +1,16 @@
-use Rattle.std.proofs.Common.{◌≡◌, ◌<◌, ◌≤◌, ◌+◌, ◌*◌, ◌∙◌, refl, sym, ap, arith, length, take, List, [], ◌∷◌, ◌++◌}
-use Rattle.std.specs.Prelude.{Ok}
+use Rattle.std.proofs.Common.{◌∙◌, refl, sym, ap, arith, length, take, ◌++◌}
 use Rattle.std.proofs.lemmas.Result.{err_from_is_err_and}
-use Rattle.sy_text.specs.Items.{Items, item_size, items_size, listed}
+use Rattle.sy_text.specs.Items.{Items, listed}
 use Rattle.sy_text.specs.Views.{item_of}
 use Rattle.sy_forms.specs.Gathered.{several_of, bounds_of, bound_of}
-use Rattle.sy_forms_phrases.specs.Meant.{phrase_of, typed_of}
-use Rattle.sy_forms_phrases.specs.Phrases.{no_terms, behind, Typed}
+use Rattle.sy_forms_phrases.specs.Meant.{typed_of}
+use Rattle.sy_forms_phrases.specs.Phrases.{behind}
 use Rattle.sy_forms_names.specs.Seen.{environment_of}
 use Rattle.sy_forms.specs.Heads.{head_in}
 use Rattle.sy_forms.specs.Terms as spec
 use Rattle.sy_forms_items.specs.Views.{items_in}
 use Rattle.sy_forms.proofs.Forms as form
-use Rattle.sy_forms.proofs.Sizes.{item_size-pos, split_size, inside}
+use Rattle.sy_forms.proofs.Sizes.{item_size-pos, split_size, inside, parts_size, let_parts-size, binding_size, binding_parts-size}
 use Rattle.sy_forms.proofs.term.+reading.Goals as goal
 
 pub read_term-atom_term-requires : goal.read_term-atom_term-requires
@@ -157,39 +156,41 @@ pub read_terms-returns-clause-locals : goal.read_terms-returns-clause-locals
 read_terms-returns-clause-locals g t c =
     c.loop-item.invariant.kept
 
-pub read_let-returns-in_default-clause-read : goal.read_let-returns-in_default-clause-read
-read_let-returns-in_default-clause-read g t c =
-    form.let_none (environment_of c.args.env.now) c.args.locals.now c.args.place (items_in c.args.items) c.in_default.ensures
+pub read_let-returns-in_err-bindings-clause-read : goal.read_let-returns-in_err-bindings-clause-read
+read_let-returns-in_err-bindings-clause-read g t c =
+    let p = err_from_is_err_and c.from_residual.result c.from_residual.ensures.1 in
+    rw (p.1, p.2) (form.fails_same c.in_err-bindings.field-0.0 _ _ (form.let_parted (environment_of c.args.env.now) c.args.locals.now c.args.place (items_in c.args.items)) (form.fails_bind c.in_err-bindings.field-0.0 _ _ c.in_err-bindings.ensures))
 
-pub read_let-returns-in_default-split-clause-read : goal.read_let-returns-in_default-split-clause-read
-read_let-returns-in_default-split-clause-read g t c =
-    form.let_one (environment_of c.args.env.now) c.args.locals.now c.args.place (items_in c.args.items) (item_of c.in-Some.bindings.now) (items_in c.in-Some.rest) c.in-Some.ensures c.in_default-split.ensures
+pub read_let-returns-in_err-bindings-clause-locals : goal.read_let-returns-in_err-bindings-clause-locals
+read_let-returns-in_err-bindings-clause-locals g t c =
+    let p = err_from_is_err_and c.from_residual.result c.from_residual.ensures.1 in
+    rw (p.1) tt
 
-pub read_let-returns-then-not-is_empty-clause-read : goal.read_let-returns-then-not-is_empty-clause-read
-read_let-returns-then-not-is_empty-clause-read g t c =
-    form.let_many (environment_of c.args.env.now) c.args.locals.now c.args.place (items_in c.args.items) (item_of c.in-Some.bindings.now) (items_in c.in-Some.rest) (item_of c.in-Some-split.inner.now) (items_in c.in-Some-split.rest) c.in-Some.ensures c.in-Some-split.ensures (sym c.is_empty.ensures ∙ c.if-not-is_empty.true)
-
-pub read_let-read_binding_list-requires : goal.read_let-read_binding_list-requires
-read_let-read_binding_list-requires g t c κs within =
-    (omega (arith, split_size (items_in c.args.items) (item_of c.in-Some.bindings.now) (items_in c.in-Some.rest) c.in-Some.ensures, c.decreases), (within.0, (within.1, c.requires)))
+pub read_let-read_bindings-requires : goal.read_let-read_bindings-requires
+read_let-read_bindings-requires g t c κs within =
+    (omega (arith, ap parts_size c.in_ok-bindings.ensures, let_parts-size c.args.place (items_in c.args.items), c.decreases), (within.0, (within.1, c.requires)))
 
 pub read_let-returns-in_err-bound-clause-read : goal.read_let-returns-in_err-bound-clause-read
 read_let-returns-in_err-bound-clause-read g t c =
-    let p = err_from_is_err_and c.from_residual.result c.from_residual.ensures.1 in
-    rw (p.1, p.2) (form.fails_same c.in_err-bound.field-0.0 _ _ (form.let_two (environment_of c.args.env.now) c.args.locals.now c.args.place (items_in c.args.items) (item_of c.in-Some.bindings.now) (items_in c.in-Some.rest) (item_of c.in-Some-split.inner.now) (items_in c.in-Some-split.rest) c.in-Some.ensures c.in-Some-split.ensures (sym c.is_empty.ensures ∙ c.if-not-is_empty.false)) (form.fails_bind c.in_err-bound.field-0.0 _ _ c.in_err-bound.ensures.read))
+    let p = err_from_is_err_and c.from_residual-in_err-bound.result c.from_residual-in_err-bound.ensures.1 in
+    rw (p.1, p.2) (form.fails_same c.in_err-bound.field-0.0 _ _ (form.let_parted (environment_of c.args.env.now) c.args.locals.now c.args.place (items_in c.args.items)) (form.fails_next c.in_err-bound.field-0.0 _ (items_in c.in_ok-bindings.bindings, item_of c.in_ok-bindings.inner.now) _ c.in_ok-bindings.ensures (form.fails_bind c.in_err-bound.field-0.0 _ _ c.in_err-bound.ensures.read)))
 
 pub read_let-returns-in_err-bound-clause-locals : goal.read_let-returns-in_err-bound-clause-locals
 read_let-returns-in_err-bound-clause-locals g t c =
-    let p = err_from_is_err_and c.from_residual.result c.from_residual.ensures.1 in
+    let p = err_from_is_err_and c.from_residual-in_err-bound.result c.from_residual-in_err-bound.ensures.1 in
     rw (p.1) tt
 
 pub read_let-read_inner-requires : goal.read_let-read_inner-requires
 read_let-read_inner-requires g t c κs within =
-    (omega (arith, split_size (items_in c.args.items) (item_of c.in-Some.bindings.now) (items_in c.in-Some.rest) c.in-Some.ensures, split_size (items_in c.in-Some.rest) (item_of c.in-Some-split.inner.now) (items_in c.in-Some-split.rest) c.in-Some-split.ensures, item_size-pos (item_of c.in-Some.bindings.now), c.decreases), (within.0, (within.1, c.requires)))
+    (omega (arith, ap parts_size c.in_ok-bindings.ensures, let_parts-size c.args.place (items_in c.args.items), c.decreases), (within.0, (within.1, c.requires)))
 
 pub read_let-returns-clause-read : goal.read_let-returns-clause-read
 read_let-returns-clause-read g t c =
-    form.gives_same _ _ _ _ (form.let_two (environment_of c.args.env.now) c.args.locals.now c.args.place (items_in c.args.items) (item_of c.in-Some.bindings.now) (items_in c.in-Some.rest) (item_of c.in-Some-split.inner.now) (items_in c.in-Some-split.rest) c.in-Some.ensures c.in-Some-split.ensures (sym c.is_empty.ensures ∙ c.if-not-is_empty.false) ∙ form.bound _ (bounds_of g.T.Theory.denotes c.in_ok-bound.bound) (λ bs. spec.read_inner (environment_of c.args.env.now) c.args.locals.now bs (item_of c.in-Some-split.inner.now)) c.in_ok-bound.ensures.read ∙ ap (λ l. spec.read_inner (environment_of c.args.env.now) l (bounds_of g.T.Theory.denotes c.in_ok-bound.bound) (item_of c.in-Some-split.inner.now)) (sym c.in_ok-bound.ensures.locals)) c.read_inner.ensures.read
+    form.gives_same _ _ _ _
+    (form.let_parted (environment_of c.args.env.now) c.args.locals.now c.args.place (items_in c.args.items) ∙ form.bound _ (items_in c.in_ok-bindings.bindings, item_of c.in_ok-bindings.inner.now) _ c.in_ok-bindings.ensures
+    ∙ form.bound _ (bounds_of g.T.Theory.denotes c.in_ok-bound.bound) (λ bs. spec.read_inner (environment_of c.args.env.now) c.args.locals.now bs (item_of c.in_ok-bindings.inner.now)) c.in_ok-bound.ensures.read
+    ∙ ap (λ l. spec.read_inner (environment_of c.args.env.now) l (bounds_of g.T.Theory.denotes c.in_ok-bound.bound) (item_of c.in_ok-bindings.inner.now)) (sym c.in_ok-bound.ensures.locals))
+    c.read_inner.ensures.read
 
 pub read_let-returns-clause-locals : goal.read_let-returns-clause-locals
 read_let-returns-clause-locals g t c =
@@ -219,53 +220,17 @@ read_inner-returns-in_err-inner-clause-locals g t c =
     let p = err_from_is_err_and c.from_residual-in_err-inner.result c.from_residual-in_err-inner.ensures.1 in
     rw (p.1) tt
 
-pub read_inner-returns-in_err-truncate-clause-read : goal.read_inner-returns-in_err-truncate-clause-read
-read_inner-returns-in_err-truncate-clause-read g t c =
-    let p = err_from_is_err_and c.from_residual-in_err-truncate.result c.from_residual-in_err-truncate.ensures.1 in
-    rw (p.1, p.2) (tt)
-
-pub read_inner-returns-in_err-truncate-clause-locals : goal.read_inner-returns-in_err-truncate-clause-locals
-read_inner-returns-in_err-truncate-clause-locals g t c =
-    let p = err_from_is_err_and c.from_residual-in_err-truncate.result c.from_residual-in_err-truncate.ensures.1 in
-    rw (p.1) tt
-
-pub read_inner-returns-in_err-term-clause-read : goal.read_inner-returns-in_err-term-clause-read
-read_inner-returns-in_err-term-clause-read g t c =
-    let p = err_from_is_err_and c.from_residual-in_err-term.result c.from_residual-in_err-term.ensures.1 in
-    rw (p.1, p.2) (tt)
-
-pub read_inner-returns-in_err-term-clause-locals : goal.read_inner-returns-in_err-term-clause-locals
-read_inner-returns-in_err-term-clause-locals g t c =
-    let p = err_from_is_err_and c.from_residual-in_err-term.result c.from_residual-in_err-term.ensures.1 in
-    rw (p.1) tt
-
 pub read_inner-returns-clause-read : goal.read_inner-returns-clause-read
 read_inner-returns-clause-read g t c =
-    form.bound (spec.read_term (environment_of c.args.env.now) (c.args.locals.now ++ c.args.bound.names) (item_of c.args.inner.now)) (typed_of g.T.Theory.denotes c.in_ok-inner.inner) (λ y. spec.let_term (bounds_of g.T.Theory.denotes c.args.bound) y) (ap (λ l. spec.read_term (environment_of c.args.env.now) l (item_of c.args.inner.now)) (sym c.in_ok-append.ensures) ∙ c.in_ok-inner.ensures.read) ∙ ap Ok (sym c.in_ok-term.ensures)
+    form.gives_same _ _ _ _
+    (form.bound (spec.read_term (environment_of c.args.env.now) (c.args.locals.now ++ c.args.bound.names) (item_of c.args.inner.now)) (typed_of g.T.Theory.denotes c.in_ok-inner.inner) (λ y. spec.let_term (bounds_of g.T.Theory.denotes c.args.bound) y)
+    (ap (λ l. spec.read_term (environment_of c.args.env.now) l (item_of c.args.inner.now)) (sym c.in_ok-append.ensures) ∙ c.in_ok-inner.ensures.read))
+    c.closed.ensures.read
 
 pub read_inner-returns-clause-locals : goal.read_inner-returns-clause-locals
 read_inner-returns-clause-locals g t c =
-    c.in_ok-truncate.ensures ∙ ap (take c.len-outside.result) (c.in_ok-inner.ensures.locals ∙ c.in_ok-append.ensures) ∙ ap (λ n. take n (c.args.locals.now ++ c.args.bound.names)) c.len-outside.ensures ∙ form.take_front c.args.locals.now c.args.bound.names
-
-pub read_binding_list-returns-in-Atom-clause-read : goal.read_binding_list-returns-in-Atom-clause-read
-read_binding_list-returns-in-Atom-clause-read g t c =
-    form.bindings_leaf (environment_of c.args.env.now) c.args.locals.now c.args.place (item_of c.args.item.now) _ _ (ap item_of c.in-Atom.is)
-
-pub read_binding_list-returns-then-is_empty-clause-read : goal.read_binding_list-returns-then-is_empty-clause-read
-read_binding_list-returns-then-is_empty-clause-read g t c =
-    form.bindings_empty (environment_of c.args.env.now) c.args.locals.now c.args.place (item_of c.args.item.now) c.in-List.bindings c.in-List.field-1 (items_in c.all-bindings.result) (ap item_of c.in-List.is) c.all-bindings.ensures (sym c.is_empty.ensures ∙ c.if-is_empty.true)
-
-pub read_binding_list-read_bindings-requires : goal.read_binding_list-read_bindings-requires
-read_binding_list-read_bindings-requires g t c κs within =
-    (omega (arith, inside (item_of c.args.item.now) c.in-List.bindings c.in-List.field-1 (items_in c.all-bindings.result) (ap item_of c.in-List.is) c.all-bindings.ensures, c.decreases), (within.0, (within.1, c.requires)))
-
-pub read_binding_list-returns-else-is_empty-clause-read : goal.read_binding_list-returns-else-is_empty-clause-read
-read_binding_list-returns-else-is_empty-clause-read g t c =
-    form.gives_same _ _ _ _ (form.bindings_group (environment_of c.args.env.now) c.args.locals.now c.args.place (item_of c.args.item.now) c.in-List.bindings c.in-List.field-1 (items_in c.all-bindings.result) (ap item_of c.in-List.is) c.all-bindings.ensures (sym c.is_empty.ensures ∙ c.if-is_empty.false)) c.read_bindings.ensures.read
-
-pub read_binding_list-returns-else-is_empty-clause-locals : goal.read_binding_list-returns-else-is_empty-clause-locals
-read_binding_list-returns-else-is_empty-clause-locals g t c =
-    c.read_bindings.ensures.locals
+    form.on_ok_then c.closed.result c.closed.ensures.locals (λ after.
+    after ∙ ap (take c.len-outside.result) (c.in_ok-inner.ensures.locals ∙ c.in_ok-append.ensures) ∙ ap (λ n. take n (c.args.locals.now ++ c.args.bound.names)) c.len-outside.ensures ∙ form.take_front c.args.locals.now c.args.bound.names)
 
 pub read_bindings-loop-item-init : goal.read_bindings-loop-item-init
 read_bindings-loop-item-init g t c =
@@ -322,74 +287,36 @@ pub read_bindings-returns-clause-locals : goal.read_bindings-returns-clause-loca
 read_bindings-returns-clause-locals g t c =
     c.loop-item.invariant.kept
 
-pub read_binding-returns-in-Atom-clause-read : goal.read_binding-returns-in-Atom-clause-read
-read_binding-returns-in-Atom-clause-read g t c =
-    form.binding_leaf (environment_of c.args.env.now) c.args.locals.now c.args.taken.now (item_of c.args.item.now) _ c.in-Atom.place (ap item_of c.in-Atom.is)
-
-pub read_binding-read_pair-requires : goal.read_binding-read_pair-requires
-read_binding-read_pair-requires g t c κs within =
-    (omega (arith, inside (item_of c.args.item.now) c.in-List.items c.in-List.place (items_in c.all.result) (ap item_of c.in-List.is) c.all.ensures, c.decreases), (within.0, (within.1, c.requires)))
-
-pub read_binding-returns-in-List-clause-read : goal.read_binding-returns-in-List-clause-read
-read_binding-returns-in-List-clause-read g t c =
-    form.gives_same _ _ _ _ (form.binding_group (environment_of c.args.env.now) c.args.locals.now c.args.taken.now (item_of c.args.item.now) c.in-List.items c.in-List.place (items_in c.all.result) (ap item_of c.in-List.is) c.all.ensures) c.read_pair.ensures.read
-
-pub read_binding-returns-in-List-clause-locals : goal.read_binding-returns-in-List-clause-locals
-read_binding-returns-in-List-clause-locals g t c =
-    c.read_pair.ensures.locals
-
-pub read_pair-returns-in_default-clause-read : goal.read_pair-returns-in_default-clause-read
-read_pair-returns-in_default-clause-read g t c =
-    form.pair_none (environment_of c.args.env.now) c.args.locals.now c.args.taken.now c.args.place (items_in c.args.items) c.in_default.ensures
-
-pub read_pair-returns-in_default-split-clause-read : goal.read_pair-returns-in_default-split-clause-read
-read_pair-returns-in_default-split-clause-read g t c =
-    form.pair_one (environment_of c.args.env.now) c.args.locals.now c.args.taken.now c.args.place (items_in c.args.items) (item_of c.in-Some.name.now) (items_in c.in-Some.rest) c.in-Some.ensures c.in_default-split.ensures
-
-pub read_pair-returns-then-not-is_empty-clause-read : goal.read_pair-returns-then-not-is_empty-clause-read
-read_pair-returns-then-not-is_empty-clause-read g t c =
-    form.pair_many (environment_of c.args.env.now) c.args.locals.now c.args.taken.now c.args.place (items_in c.args.items) (item_of c.in-Some.name.now) (items_in c.in-Some.rest) (item_of c.in-Some-split.term.now) (items_in c.in-Some-split.rest) c.in-Some.ensures c.in-Some-split.ensures (sym c.is_empty.ensures ∙ c.if-not-is_empty.true)
-
-pub read_pair-returns-in_err-name-clause-read : goal.read_pair-returns-in_err-name-clause-read
-read_pair-returns-in_err-name-clause-read g t c =
+pub read_binding-returns-in_err-name-clause-read : goal.read_binding-returns-in_err-name-clause-read
+read_binding-returns-in_err-name-clause-read g t c =
     let p = err_from_is_err_and c.from_residual.result c.from_residual.ensures.1 in
-    rw (p.1, p.2) (form.fails_same c.in_err-name.field-0.0 _ _ (form.pair_two (environment_of c.args.env.now) c.args.locals.now c.args.taken.now c.args.place (items_in c.args.items) (item_of c.in-Some.name.now) (items_in c.in-Some.rest) (item_of c.in-Some-split.term.now) (items_in c.in-Some-split.rest) c.in-Some.ensures c.in-Some-split.ensures (sym c.is_empty.ensures ∙ c.if-not-is_empty.false)) (form.fails_bind c.in_err-name.field-0.0 _ _ c.in_err-name.ensures))
+    rw (p.1, p.2) (form.fails_same c.in_err-name.field-0.0 _ _ (form.binding_parted (environment_of c.args.env.now) c.args.locals.now c.args.taken.now (item_of c.args.item.now)) (form.fails_bind c.in_err-name.field-0.0 _ _ c.in_err-name.ensures))
 
-pub read_pair-returns-in_err-name-clause-locals : goal.read_pair-returns-in_err-name-clause-locals
-read_pair-returns-in_err-name-clause-locals g t c =
+pub read_binding-returns-in_err-name-clause-locals : goal.read_binding-returns-in_err-name-clause-locals
+read_binding-returns-in_err-name-clause-locals g t c =
     let p = err_from_is_err_and c.from_residual.result c.from_residual.ensures.1 in
     rw (p.1) tt
 
-pub read_pair-read_term-requires : goal.read_pair-read_term-requires
-read_pair-read_term-requires g t c κs within =
-    (omega (arith, split_size (items_in c.args.items) (item_of c.in-Some.name.now) (items_in c.in-Some.rest) c.in-Some.ensures, split_size (items_in c.in-Some.rest) (item_of c.in-Some-split.term.now) (items_in c.in-Some-split.rest) c.in-Some-split.ensures, c.decreases), (within.0, (within.1, c.requires)))
+pub read_binding-read_term-requires : goal.read_binding-read_term-requires
+read_binding-read_term-requires g t c κs within =
+    (omega (arith, ap binding_size c.in_ok-name.ensures, binding_parts-size c.args.env.now.logic c.args.taken.now (item_of c.args.item.now), c.decreases), (within.0, (within.1, c.requires)))
 
-pub read_pair-returns-in_err-term-clause-read : goal.read_pair-returns-in_err-term-clause-read
-read_pair-returns-in_err-term-clause-read g t c =
+pub read_binding-returns-in_err-term-clause-read : goal.read_binding-returns-in_err-term-clause-read
+read_binding-returns-in_err-term-clause-read g t c =
     let p = err_from_is_err_and c.from_residual-in_err-term.result c.from_residual-in_err-term.ensures.1 in
-    rw (p.1, p.2) (form.fails_same c.in_err-term.field-0.0 _ _ (form.pair_two (environment_of c.args.env.now) c.args.locals.now c.args.taken.now c.args.place (items_in c.args.items) (item_of c.in-Some.name.now) (items_in c.in-Some.rest) (item_of c.in-Some-split.term.now) (items_in c.in-Some-split.rest) c.in-Some.ensures c.in-Some-split.ensures (sym c.is_empty.ensures ∙ c.if-not-is_empty.false)) (form.fails_next c.in_err-term.field-0.0 _ c.in_ok-name.name.now _ c.in_ok-name.ensures (form.fails_bind c.in_err-term.field-0.0 _ _ c.in_err-term.ensures.read)))
+    rw (p.1, p.2) (form.fails_same c.in_err-term.field-0.0 _ _ (form.binding_parted (environment_of c.args.env.now) c.args.locals.now c.args.taken.now (item_of c.args.item.now)) (form.fails_next c.in_err-term.field-0.0 _ (c.in_ok-name.name.now, item_of c.in_ok-name.term.now) _ c.in_ok-name.ensures (form.fails_bind c.in_err-term.field-0.0 _ _ c.in_err-term.ensures.read)))
 
-pub read_pair-returns-in_err-term-clause-locals : goal.read_pair-returns-in_err-term-clause-locals
-read_pair-returns-in_err-term-clause-locals g t c =
+pub read_binding-returns-in_err-term-clause-locals : goal.read_binding-returns-in_err-term-clause-locals
+read_binding-returns-in_err-term-clause-locals g t c =
     let p = err_from_is_err_and c.from_residual-in_err-term.result c.from_residual-in_err-term.ensures.1 in
     rw (p.1) tt
 
-pub read_pair-returns-in_err-name-2-clause-read : goal.read_pair-returns-in_err-name-2-clause-read
-read_pair-returns-in_err-name-2-clause-read g t c =
-    let p = err_from_is_err_and c.from_residual-in_err-name-2.result c.from_residual-in_err-name-2.ensures.1 in
-    rw (p.1, p.2) (tt)
+pub read_binding-returns-clause-read : goal.read_binding-returns-clause-read
+read_binding-returns-clause-read g t c =
+    form.gives_same _ _ _ _
+    (form.binding_parted (environment_of c.args.env.now) c.args.locals.now c.args.taken.now (item_of c.args.item.now) ∙ form.bound _ (c.in_ok-name.name.now, item_of c.in_ok-name.term.now) _ c.in_ok-name.ensures ∙ form.bound _ (typed_of g.T.Theory.denotes c.in_ok-term.term) _ c.in_ok-term.ensures.read)
+    c.bound_to.ensures
 
-pub read_pair-returns-in_err-name-2-clause-locals : goal.read_pair-returns-in_err-name-2-clause-locals
-read_pair-returns-in_err-name-2-clause-locals g t c =
-    let p = err_from_is_err_and c.from_residual-in_err-name-2.result c.from_residual-in_err-name-2.ensures.1 in
-    rw (p.1) tt
-
-pub read_pair-returns-clause-read : goal.read_pair-returns-clause-read
-read_pair-returns-clause-read g t c =
-    form.pair_two (environment_of c.args.env.now) c.args.locals.now c.args.taken.now c.args.place (items_in c.args.items) (item_of c.in-Some.name.now) (items_in c.in-Some.rest) (item_of c.in-Some-split.term.now) (items_in c.in-Some-split.rest) c.in-Some.ensures c.in-Some-split.ensures (sym c.is_empty.ensures ∙ c.if-not-is_empty.false)
-    ∙ form.bound _ c.in_ok-name.name.now _ c.in_ok-name.ensures ∙ form.bound _ (typed_of g.T.Theory.denotes c.in_ok-term.term) _ c.in_ok-term.ensures.read
-    ∙ ap (λ n. Ok (spec.bound_to n (typed_of g.T.Theory.denotes c.in_ok-term.term))) (sym c.in_ok-name-2.ensures)
-
-pub read_pair-returns-clause-locals : goal.read_pair-returns-clause-locals
-read_pair-returns-clause-locals g t c =
-    c.in_ok-term.ensures.locals
+pub read_binding-returns-clause-locals : goal.read_binding-returns-clause-locals
+read_binding-returns-clause-locals g t c =
+    form.on_ok _ _ c.in_ok-term.ensures.locals

@@ -23,17 +23,11 @@ decreases-read_let g l = 2 * items_size (items_in l.items) + 1
 abbrev pub decreases-read_inner : goal.decreases-read_inner
 decreases-read_inner g l = 2 * item_size (item_of l.inner.now) + 1
 
-abbrev pub decreases-read_binding_list : goal.decreases-read_binding_list
-decreases-read_binding_list g l = 2 * item_size (item_of l.item.now)
-
 abbrev pub decreases-read_bindings : goal.decreases-read_bindings
 decreases-read_bindings g l = 2 * items_size (items_in l.items) + 1
 
 abbrev pub decreases-read_binding : goal.decreases-read_binding
 decreases-read_binding g l = 2 * item_size (item_of l.item.now)
-
-abbrev pub decreases-read_pair : goal.decreases-read_pair
-decreases-read_pair g l = 2 * items_size (items_in l.items) + 1
 
 abbrev pub invariant-read_terms-loop-item : goal.invariant-read_terms-loop-item
 invariant-read_terms-loop-item g l =
