@@ -34,9 +34,9 @@ use Rattle.sy_loop_history.specs.Solutions.{IsSolution}
 use Rattle.sy_loop_history.specs.Stored.{counterexample_of, history_of}
 use Rattle.sy_loop_history.specs.Adding.{room}
 use Rattle.sy_loop_candidate.specs.Known.{IsKnown}
-use Rattle.sy_loop_candidate.specs.Traces.{AsksMore, LeavesRangeAt, IsTraced, IsTracedAt}
+use Rattle.sy_loop_candidate.specs.Traces.{AreTraced, AsksMore, LeavesRangeAt, IsTraced, IsTracedAt}
 use Rattle.sy_loop_history.specs.Truths.{OneLeaves}
-use Rattle.sy_loop_candidate.specs.Steps.{Steps, StepFollows, IsFollowed, IsTracedOrLeaves}
+use Rattle.sy_loop_candidate.specs.Steps.{Decides, Steps, StepFollows, IsFollowed, IsTracedOrLeaves}
 use Rattle.sy_terms_laws.specs.Evaluation.{BodiesFit}
 use Rattle.sy_grammar_base.specs.declared.problem.Problem.{Problem}
 use Rattle.sy_loop_candidate.specs.declared.step.Step.{Step}
@@ -213,7 +213,7 @@ module _ {T P S N : Type 0} (owned : Op → Bool) (number : N → Val) (accepted
     (bodies : List Expr) (history history' : List Counterexample) (asked asked' : Asked) where
   -- what comes of a candidate that was stored
   pub followed : (place : ℕ) (step : Step T P S N) → HasMore reach question limits bodies history history' → place ≡ length history → length history' < limits.rounds → StepFollows owned number accepted budget shows reach question limits place history' asked asked' step →
-      Steps owned number accepted budget shows reach question limits bodies history asked history' asked' step
+      Decides owned number accepted budget shows reach question limits bodies history asked history' asked' step
   followed place Next more last few follows = absurd follows
   followed place Again more last few follows =
       let long : length history' ≡ length history + 1 = ap length more.is ∙ length-append history (more.counterexample ∷ []) in
@@ -221,8 +221,15 @@ module _ {T P S N : Type 0} (owned : Op → Bool) (number : N → Val) (accepted
       let found : Some more.counterexample ≡ Some it.counterexample =
       sym (at_last history more.counterexample) ∙ ap (λ k. slice_get (history ++ more.counterexample ∷ []) k) (sym last) ∙ ap (λ h. slice_get h place) (sym more.is) ∙ it.at in
       let same : more.counterexample ≡ it.counterexample = cc in
-      (omega (arith, long, few, follows.1), inr (record { counterexample = it.counterexample; is = more.is ∙ ap (λ c. history ++ c ∷ []) same; refutes = ap (λ (c : Counterexample). c.bodies) (sym same) ∙ more.refutes; followed = subst (λ b. IsTracedOrLeaves question asked' b it.counterexample.assignment) (ap (λ (c : Counterexample). c.bodies) (sym same) ∙ more.refutes) it.followed }), few)
-  followed place (steps.End end) more last few follows = follows
+      (omega (arith, long, few, follows.1), record { counterexample = it.counterexample; is = more.is ∙ ap (λ c. history ++ c ∷ []) same; refutes = ap (λ (c : Counterexample). c.bodies) (sym same) ∙ more.refutes; followed = subst (λ b. IsTracedOrLeaves question asked' b it.counterexample.assignment) (ap (λ (c : Counterexample). c.bodies) (sym same) ∙ more.refutes) it.followed }, few)
+  followed place (steps.End end) more last few follows = (follows.0, λ traced. follows.1)
+
+  -- the same of one that is due, where what it asks is known
+  pub traced_step : (step : Step T P S N) → Decides owned number accepted budget shows reach question limits bodies history asked history' asked' step → AreTraced question history asked bodies →
+      Steps owned number accepted budget shows reach question limits bodies history asked history' asked' step
+  traced_step Next came traced = absurd came
+  traced_step Again came traced = (came.0, inr came.1, came.2)
+  traced_step (steps.End end) came traced = (came.0, came.1 traced)
 
 -- what a function has
 bounded_at : (limit : ℕ) (lists : List (List (List Val))) (function : ℕ) → All (λ tuples. AreDistinct tuples × (length tuples ≤ limit)) lists → AreDistinct (slice_index_or lists function []) × (length (slice_index_or lists function []) ≤ limit)

@@ -14,7 +14,7 @@ use Rattle.sy_loop_bounds.specs.declared.reach.Reach.{Reach}
 use Rattle.sy_loop_history.specs.Histories.{IsCandidate, IsDue}
 use Rattle.sy_loop_history.specs.Stored.{history_of}
 use Rattle.sy_loop_candidate.specs.Known.{IsHeld, IsKnown}
-use Rattle.sy_loop_candidate.specs.Steps.{IsCandidateEnd, Steps, StepFollows}
+use Rattle.sy_loop_candidate.specs.Steps.{Decides, IsCandidateEnd, Steps, StepFollows}
 use Rattle.sy_loop_candidate.specs.Traces.{MeetAll, Widens}
 use Rattle.sy_loop_candidate.specs.declared.step.End.{End}
 use Rattle.sy_loop_candidate.specs.declared.step.Known.{Known}
@@ -52,6 +52,11 @@ module _ {T N D P S : Type 0} (theory : TheoryOf T N) (solver : DecideOf D T P S
   abbrev pub StepsFor : List Expr → Known T N → Known T N → Step T P S N → Type 0
   StepsFor bodies before after =
       Steps theory.owned theory.denotes solver.accepted solver.budget solver.shows reach (question_of theory.denotes problem) limits bodies
+      (history_of theory.denotes before.stored) before.points (history_of theory.denotes after.stored) after.points
+
+  abbrev pub DecidesFor : List Expr → Known T N → Known T N → Step T P S N → Type 0
+  DecidesFor bodies before after =
+      Decides theory.owned theory.denotes solver.accepted solver.budget solver.shows reach (question_of theory.denotes problem) limits bodies
       (history_of theory.denotes before.stored) before.points (history_of theory.denotes after.stored) after.points
 
   abbrev pub StepFollowsFor : ℕ → Asked → Known T N → Step T P S N → Type 0

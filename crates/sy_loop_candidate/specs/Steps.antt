@@ -78,6 +78,14 @@ Steps owned number accepted budget shows reach question limits bodies history as
 Steps owned number accepted budget shows reach question limits bodies history asked history' asked' (steps.End end) =
     IsCandidateEnd owned number accepted budget shows reach question limits history' asked' end × IsTracedEnd number question history' asked' end
 
+-- what comes of bodies that are due. What they ask at the history's assignments needn't be known; where it is, it is at the end
+abbrev pub Decides : {T P S N : Type 0} → (Op → Bool) → (N → Val) → (Query → P → Type 0) → (S → FailName) → (Query → Limits → FailName → S → Type 0) → Reach → Question → Limits → List Expr → List Counterexample → Asked → List Counterexample → Asked → Step T P S N → Type 0
+Decides owned number accepted budget shows reach question limits bodies history asked history' asked' Next = ⊥
+Decides owned number accepted budget shows reach question limits bodies history asked history' asked' Again =
+    (left limits history' asked' < left limits history asked) × IsStored question bodies history history' asked' × (length history' < limits.rounds)
+Decides owned number accepted budget shows reach question limits bodies history asked history' asked' (steps.End end) =
+    IsCandidateEnd owned number accepted budget shows reach question limits history' asked' end × (AreTraced question history asked bodies → IsTracedEnd number question history' asked' end)
+
 -- the same of the stored bodies of a place, at their assignment
 pub record IsFollowed (question : Question) (history : List Counterexample) (asked : Asked) (place : ℕ) : Type 0 where
   pub counterexample : Counterexample

@@ -23,7 +23,7 @@ pub(crate) fn assignment_at<T: Theory>(
 }
 
 /// Copies of the bodies.
-pub(crate) fn copied_bodies<T: Theory>(alloc: Global, bodies: &Bodies<T>) -> Result<Bodies<T>, Want>
+pub fn copied_bodies<T: Theory>(alloc: Global, bodies: &Bodies<T>) -> Result<Bodies<T>, Want>
     ensures { IfOk result (λ copies. map (expr_of T.denotes) copies ≡ map (expr_of T.denotes) bodies.now) }
 {
     let mut copies = Seq::new(alloc);

@@ -1,11 +1,9 @@
-// Candidates that meet the problem at every stored assignment, where all that they ask is among the points.
+// Candidates that meet the problem at every stored assignment.
 ghost use Rattle.std.specs.Prelude.{◌≡◌, ◌<◌, length, map, IfOk, OnOk, slice_get, Some};
 ghost use Rattle.sy_terms.specs.Denoted.{expr_of};
-ghost use Rattle.sy_grammar_base.specs.Questions.{question_of};
-ghost use Rattle.sy_loop_history.specs.Stored.{history_of};
-ghost use Rattle.sy_loop_candidate.specs.Traces.{AreTraced, TuplesGrow};
+ghost use Rattle.sy_loop_candidate.specs.Traces.{TuplesGrow};
 ghost use Rattle.sy_grammar_base.specs.Fits.{ProblemFits};
-ghost use Rattle.sy_loop_candidate.specs.Clauses.{FitAsBodies, IsKnownFor, StepsFor, StepFollowsFor, IsDueFor};
+ghost use Rattle.sy_loop_candidate.specs.Clauses.{DecidesFor, FitAsBodies, IsKnownFor, StepFollowsFor, IsDueFor};
 
 use crate::asks::ask_at;
 use crate::calls::Adding;
@@ -19,9 +17,9 @@ use sy_query_build::{Built, build};
 use sy_query_decide::{Decide, Verdict};
 use sy_terms::{Bodies, Theory, Want};
 
-/// Decides the query of the bodies. An assignment that violates the problem is stored. Where there may be more of them,
-/// what the bodies ask there is added to the points.
-pub(crate) fn decide_due<T: Theory, D: Decide<T>>(
+/// Decides the query of bodies that are due, without a look at the stored assignments. An assignment that violates the
+/// problem is stored. Where there may be more of them, what the bodies ask there is added to the points.
+pub fn decide_due<T: Theory, D: Decide<T>>(
     alloc: Global,
     problem: &Problem<T>,
     limits: &Limits,
@@ -35,10 +33,9 @@ pub(crate) fn decide_due<T: Theory, D: Decide<T>>(
     requires known { IsKnownFor T.Theory reach problem.now limits.now known.old }
     requires room { length known.old.stored.items < limits.now.rounds }
     requires due { IsDueFor T.Theory reach problem.now limits.now known.old (map (expr_of T.denotes) bodies) }
-    requires traced { AreTraced (question_of T.denotes problem.now) (history_of T.denotes known.old.stored) known.old.points (map (expr_of T.denotes) bodies) }
     ensures known { OnOk result (IsKnownFor T.Theory reach problem.now limits.now known.new) }
     ensures grows { OnOk result (TuplesGrow known.old.points known.new.points) }
-    ensures step { IfOk result (StepsFor T.Theory D.Decide reach problem.now limits.now (map (expr_of T.denotes) bodies) known.old known.new) }
+    ensures step { IfOk result (DecidesFor T.Theory D.Decide reach problem.now limits.now (map (expr_of T.denotes) bodies) known.old known.new) }
 {
     let query = match build(alloc, problem, &bodies, limits.weight) {
         Ok(query) => query,

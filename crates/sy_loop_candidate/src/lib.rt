@@ -9,4 +9,7 @@ mod step;
 mod trial;
 mod truth;
 
+pub use copies::copied_bodies;
+pub use due::decide_due;
 pub use step::{End, Known, Step, try_candidate};
+pub use truth::{Truth, all_true, is_true, truth_of};

@@ -15,7 +15,8 @@ use sy_terms::{Bodies, Term, Theory, Value, Want};
 
 /// Whether something is true under bodies at an assignment.
 #[derive(Drop)]
-pub(crate) enum Truth<T: Theory> {
+pub enum Truth<T: Theory> {
+    /// It is true.
     True,
     /// It is false, by a term that asks for these calls.
     False(Trace<T>),
@@ -57,7 +58,7 @@ pub(crate) fn judge<T: Theory>(
 }
 
 /// Whether all of the terms are true.
-fn all_true<T: Theory>(
+pub fn all_true<T: Theory>(
     alloc: Global,
     problem: &Problem<T>,
     bodies: &Bodies<T>,
@@ -71,7 +72,7 @@ fn all_true<T: Theory>(
     ensures { IfOk result (SaysOfAll (question_of T.denotes problem.now) (map (expr_of T.denotes) bodies.now) (vals_of T.denotes values.now) (map (expr_of T.denotes) terms.now)) }
 {
     for term in terms {
-        match decide_term(alloc, problem, bodies, values, term)? {
+        match truth_of(alloc, problem, bodies, values, term)? {
             Truth::True => {}
             Truth::False(calls) => return Ok(Truth::False(calls)),
             Truth::Leaves => return Ok(Truth::Leaves),
@@ -81,7 +82,7 @@ fn all_true<T: Theory>(
 }
 
 /// Whether the term is true.
-fn decide_term<T: Theory>(
+pub fn truth_of<T: Theory>(
     alloc: Global,
     problem: &Problem<T>,
     bodies: &Bodies<T>,
@@ -114,7 +115,7 @@ fn decided<T: Theory>(value: &Value<T::Num>, calls: Trace<T>) -> Truth<T>
 }
 
 /// Whether the value is true.
-fn is_true<T: Theory>(value: &Value<T::Num>) -> bool
+pub fn is_true<T: Theory>(value: &Value<T::Num>) -> bool
     ensures { IsTrue result ↔ val_of T.denotes value.now ≡ spec.Truth true }
 {
     match value {

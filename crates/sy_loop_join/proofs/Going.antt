@@ -1,5 +1,5 @@
 -- What comes of bodies that are tried one after the other.
-use Rattle.std.proofs.Common.{◌≡◌, ◌<◌, ⊎_elim, ap, sym, subst, ◌∙◌, ℕ, Bool, List, [], ◌∷◌, length, arith}
+use Rattle.std.proofs.Common.{◌≡◌, ◌<◌, ⊎_elim, inr, ap, sym, subst, ◌∙◌, ℕ, Bool, List, [], ◌∷◌, length, arith}
 use Rattle.std.specs.Prelude.{◌⊎◌}
 use Rattle.std.specs.List.{Contains}
 use Rattle.std.proofs.lemmas.List.Elements.{Contains-append_left}
@@ -17,7 +17,7 @@ use Rattle.sy_loop_bounds.specs.declared.reach.Reach.{Reach}
 use Rattle.sy_loop_history.specs.Histories.{Counterexample}
 use Rattle.sy_loop_history.specs.Stored.{counterexample_of, history_of}
 use Rattle.sy_loop_candidate.specs.Known.{left}
-use Rattle.sy_loop_candidate.specs.Steps.{IsStored, Steps}
+use Rattle.sy_loop_candidate.specs.Steps.{Decides, IsStored, Steps}
 use Rattle.sy_loop_candidate.specs.Traces as traces
 use Rattle.sy_loop_candidate.specs.declared.step.Step.{Step}
 use Rattle.sy_loop_candidate.specs.declared.step.Step.TheVariants.{Next, Again}
@@ -59,6 +59,19 @@ module _ {T P S N : Type 0} (owned : Op → Bool) (number : N → Val) (accepted
   goes_by bodies history history' asked asked' Next came grows = (came.1, came.2)
   goes_by bodies history history' asked asked' Again came grows = (came.0, grown question bodies history history' asked asked' came.1 grows, came.2)
   goes_by bodies history history' asked asked' (steps.End end) came grows = came.0
+
+  -- one that was due
+  pub decided_goes : (bodies : List Expr) (history history' : List Counterexample) (asked asked' : Asked) (step : Step T P S N) → Decides owned number accepted budget shows reach question limits bodies history asked history' asked' step → traces.TuplesGrow asked asked' →
+      Goes owned number accepted budget shows reach question limits history asked history' asked' step
+  decided_goes bodies history history' asked asked' Next came grows = absurd came
+  decided_goes bodies history history' asked asked' Again came grows = (came.0, grown question bodies history history' asked asked' (inr came.1) grows, came.2)
+  decided_goes bodies history history' asked asked' (steps.End end) came grows = came.0
+
+  -- by which something new is learned
+  pub never_next : (A : Type 0) (bodies : List Expr) (history history' : List Counterexample) (asked asked' : Asked) (step : Step T P S N) → Decides owned number accepted budget shows reach question limits bodies history asked history' asked' step → OnNext A step
+  never_next A bodies history history' asked asked' Next came = absurd came
+  never_next A bodies history history' asked asked' Again came = tt
+  never_next A bodies history history' asked asked' (steps.End end) came = tt
 
   -- after others by which nothing changed
   pub goes_after : (first history history' : List Counterexample) (initial asked asked' : Asked) (step : Step T P S N) → history ≡ first → asked ≡ initial → Goes owned number accepted budget shows reach question limits history asked history' asked' step →

@@ -2,4 +2,5 @@ pub mod Going
 pub mod Resting
 pub mod Joining
 pub mod Following
+pub mod Meeting
 pub mod Planning

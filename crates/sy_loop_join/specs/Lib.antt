@@ -1,3 +1,4 @@
+pub mod Applying
 pub mod Clauses
 pub mod Copies
 pub mod Going

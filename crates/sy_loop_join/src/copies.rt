@@ -1,11 +1,11 @@
 // Copies of stored pairs, and of a leaf with where it leaves the 128 bits.
-ghost use Rattle.std.specs.Prelude.{◌≡◌, ◌<◌, length, map, IfOk};
-ghost use Rattle.sy_terms.specs.Denoted.{expr_of};
+ghost use Rattle.std.specs.Prelude.{◌<◌, length, IfOk};
 ghost use Rattle.sy_bank_rows.specs.Stored.{chosen_of};
 ghost use Rattle.sy_loop_join.specs.Copies.{AreStored, AreLeft};
 
 use std::alloc::Global;
 use sy_bank_rows::Kept;
+use sy_loop_candidate::copied_bodies;
 use sy_loop_goods::Leaving;
 use sy_points::Stored;
 use sy_terms::{Bodies, Seq, Theory, Values, Want, copied_values};
@@ -46,16 +46,4 @@ pub(crate) fn copied_leaf<T: Theory>(
     };
     let assignment = copied_values::<T>(alloc, assignment.as_slice())?;
     Ok((bodies, assignment))
-}
-
-/// Copies of the bodies.
-fn copied_bodies<T: Theory>(alloc: Global, bodies: &Bodies<T>) -> Result<Bodies<T>, Want>
-    ensures { IfOk result (λ copies. map (expr_of T.denotes) copies ≡ map (expr_of T.denotes) bodies.now) }
-{
-    let mut copies = Seq::new(alloc);
-    for body in bodies.as_slice() {
-        let copy = body.copy(alloc)?;
-        copies.push(copy)?;
-    }
-    Ok(copies)
 }

@@ -1,23 +1,24 @@
 // Conditional trees over kept terms of sizes up to one, at points on which all constraints rest.
-ghost use Rattle.std.specs.Prelude.{ℕ, ◌≡◌, ◌<◌, ◌≤◌, ◌^◌, ◌∷◌, [], None, length, IfOk, OnOk};
+ghost use Rattle.std.specs.Prelude.{ℕ, ◌≡◌, ◌<◌, ◌≤◌, ◌^◌, ◌∷◌, [], None, length, IfOk, IsTrue, OnOk};
 ghost use Rattle.sy_terms.specs.Denoted.{expr_of};
 ghost use Rattle.sy_grammar_base.specs.Fits.{ProblemFits};
 ghost use Rattle.sy_grammar_base.specs.Questions.{question_of};
 ghost use Rattle.sy_points.specs.Asked.{of_function};
 ghost use Rattle.sy_loop_bounds.specs.Pointwise.{IsPointwise};
-ghost use Rattle.sy_loop_candidate.specs.Clauses.{IsCandidateFor, IsKnownFor};
+ghost use Rattle.sy_loop_candidate.specs.Clauses.{IsCandidateFor, IsKnownFor, MeetAllFor};
 ghost use Rattle.sy_loop_goods.specs.Clauses.{AreAssignedFor, AreRestsFor, IsMemoFor};
 ghost use Rattle.sy_loop_join.specs.Clauses.{ArePartsFor, GoesFor, IsJoinableFor, IsOpenFor, IsPlanFor, IsRefutedFor, TreesFollowFromFor};
 ghost use Rattle.sy_loop_join.specs.Going.{OnNext};
 
 use crate::copies::copied_leaf;
 use crate::plan::Plan;
+use crate::served::is_served;
 use std::alloc::{AllocError, Global};
 use sy_bank::Bank;
 use sy_bank_rows::Kept;
 use sy_grammar_base::Problem;
 use sy_loop_bounds::Reach;
-use sy_loop_candidate::{End, Known, Step, try_candidate};
+use sy_loop_candidate::{End, Known, Step, decide_due, try_candidate};
 use sy_loop_goods::{Goods, Rest, good_rows};
 use sy_loop_memo::Memo;
 use sy_loop_trees::{kept_up_to, tree_term, truth_rows};
@@ -154,19 +155,19 @@ fn try_parts<'a, T: Theory, D: Decide<T>>(
     limits: &Limits,
     reach: Reach,
     decide: &mut D,
-    _plan: &Plan<T>,
+    plan: &Plan<T>,
     _bank: &Bank<T>,
     _level: u32,
     parts: &Parts<'a, T>,
     known: &mut Known<T>,
 ) -> Result<Step<T, D::Proof, D::Spent>, Want>
     requires problem { ProblemFits T.Theory problem.now }
-    requires plan { IsPlanFor T.Theory reach problem.now _plan.now }
+    requires plan { IsPlanFor T.Theory reach problem.now plan.now }
     requires bank { IsJoinableFor T.Theory problem.now known.old _bank.now }
     requires opened { IsOpenFor T.Theory reach problem.now limits.now known.old _level }
     requires known { IsKnownFor T.Theory reach problem.now limits.now known.old }
     requires room { length known.old.stored.items < limits.now.rounds }
-    requires parts { ArePartsFor T.Theory problem.now known.old _plan.now.condition _level _bank.now parts.now }
+    requires parts { ArePartsFor T.Theory problem.now known.old plan.now.condition _level _bank.now parts.now }
     requires few_leaves { length parts.now.goods.rows < 2 ^ 31 }
     requires few_conditions { length parts.now.rows < 2 ^ 31 }
     ensures known { OnOk result (IsKnownFor T.Theory reach problem.now limits.now known.new) }
@@ -178,10 +179,63 @@ fn try_parts<'a, T: Theory, D: Decide<T>>(
         Joined::Tree(choice) => {
             let leaves = parts.leaves.as_slice();
             let term = tree_term(alloc, &choice, leaves, parts.conditions.as_slice())?;
-            let step = try_term(alloc, problem, limits, reach, decide, term, known)?;
+            let posed = plan.posed.as_slice();
+            let served = is_served(posed, &parts.goods);
+            let step = try_tree(alloc, problem, limits, reach, decide, term, served, known)?;
             Ok(step)
         }
     }
+}
+
+/// Tries the term as the one body. Where it is known to meet the problem at each stored assignment, it is decided at once.
+fn try_tree<T: Theory, D: Decide<T>>(
+    alloc: Global,
+    problem: &Problem<T>,
+    limits: &Limits,
+    reach: Reach,
+    decide: &mut D,
+    term: Term<T>,
+    served: bool,
+    known: &mut Known<T>,
+) -> Result<Step<T, D::Proof, D::Spent>, Want>
+    requires problem { ProblemFits T.Theory problem.now }
+    requires candidate { IsCandidateFor T.Theory reach problem.now limits.now known.old (expr_of T.denotes term ∷ []) }
+    requires meets { IsTrue served → MeetAllFor T.Theory problem.now known.old.stored (expr_of T.denotes term ∷ []) }
+    requires known { IsKnownFor T.Theory reach problem.now limits.now known.old }
+    requires room { length known.old.stored.items < limits.now.rounds }
+    ensures known { OnOk result (IsKnownFor T.Theory reach problem.now limits.now known.new) }
+    ensures step { IfOk result (GoesFor T.Theory D.Decide reach problem.now limits.now known.old known.new) }
+    ensures refuted { IfOk result (OnNext (IsRefutedFor T.Theory problem.now known.old (expr_of T.denotes term ∷ []))) }
+{
+    if served {
+        return decide_term(alloc, problem, limits, reach, decide, term, known);
+    }
+    try_term(alloc, problem, limits, reach, decide, term, known)
+}
+
+/// Decides the term as the one body, which meets the problem at each stored assignment.
+fn decide_term<T: Theory, D: Decide<T>>(
+    alloc: Global,
+    problem: &Problem<T>,
+    limits: &Limits,
+    reach: Reach,
+    decide: &mut D,
+    term: Term<T>,
+    known: &mut Known<T>,
+) -> Result<Step<T, D::Proof, D::Spent>, Want>
+    requires problem { ProblemFits T.Theory problem.now }
+    requires candidate { IsCandidateFor T.Theory reach problem.now limits.now known.old (expr_of T.denotes term ∷ []) }
+    requires meets { MeetAllFor T.Theory problem.now known.old.stored (expr_of T.denotes term ∷ []) }
+    requires known { IsKnownFor T.Theory reach problem.now limits.now known.old }
+    requires room { length known.old.stored.items < limits.now.rounds }
+    ensures known { OnOk result (IsKnownFor T.Theory reach problem.now limits.now known.new) }
+    ensures step { IfOk result (GoesFor T.Theory D.Decide reach problem.now limits.now known.old known.new) }
+    ensures refuted { IfOk result (OnNext (IsRefutedFor T.Theory problem.now known.old (expr_of T.denotes term ∷ []))) }
+{
+    let mut bodies = Seq::new(alloc);
+    bodies.push(term)?;
+    let step = decide_due(alloc, problem, limits, reach, decide, bodies, known)?;
+    Ok(step)
 }
 
 /// Tries the term as the one body.

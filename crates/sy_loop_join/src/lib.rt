@@ -4,6 +4,7 @@
 mod copies;
 mod join;
 mod plan;
+mod served;
 mod trees;
 
 pub use plan::{Plan, plan_of};

@@ -1,4 +1,4 @@
-use Rattle.std.proofs.Common.{map, arith, sym, subst}
+use Rattle.std.proofs.Common.{map, arith, ap, sym, subst, Err}
 use Rattle.std.proofs.lemmas.List.{length-map}
 use Rattle.sy_terms.specs.Denoted.{expr_of}
 use Rattle.sy_grammar_base.specs.Questions.{question_of}
@@ -14,7 +14,7 @@ returns-in-Never-clause-step g c =
     let members = candidate_members c.args.reach (question_of g.T.Theory.denotes c.args.problem.now) c.args.limits.now.size (history_of g.T.Theory.denotes c.args.known.now.stored) (map (expr_of g.T.Theory.denotes) c.args.bodies) c.requires.due.candidate in
     let solves = solved g.D.Decide.accepted (question_of g.T.Theory.denotes c.args.problem.now) (map (expr_of g.T.Theory.denotes) c.args.bodies) query c.in-Never.proof c.in-Ok.ensures.query c.in-Ok.ensures.violations
     (g.met.D.Decide.sound query c.in-Never.proof c.in-Ok.ensures.fits accepts) accepts members in
-    ((solves, c.requires.due.candidate), c.requires.traced)
+    ((solves, c.requires.due.candidate), λ traced. traced)
 
 pub follow-requires-clause-bodies : goal.follow-requires-clause-bodies
 follow-requires-clause-bodies g c pair at =
@@ -36,7 +36,7 @@ pub returns-then-len-limits-clause-step : goal.returns-then-len-limits-clause-st
 returns-then-len-limits-clause-step g c =
     let more = stored_more g.T.Theory.denotes c.args.reach (question_of g.T.Theory.denotes c.args.problem.now) c.args.limits.now c.args.known.now.stored c.push.new.self c.in-Model.values c.args.bodies (query_of g.T.Theory.denotes c.in-Ok.query) c.in_ok-push-in-Model.ensures.ok
     c.in-Ok.ensures.query c.in-Ok.ensures.violations (rw c.in-Model.is at c.in_ok-proof.ensures) c.requires.known.honest c.requires.room c.requires.due in
-    (rounds_more c.args.reach (question_of g.T.Theory.denotes c.args.problem.now) c.args.limits.now (map (expr_of g.T.Theory.denotes) c.args.bodies) (history_of g.T.Theory.denotes c.args.known.now.stored) (history_of g.T.Theory.denotes c.push.new.self) c.len.result more (omega (arith, c.len.ensures, length-map c.push.new.self.items (counterexample_of g.T.Theory.denotes))) (omega (arith, c.if-len-limits.true)), tt)
+    (rounds_more c.args.reach (question_of g.T.Theory.denotes c.args.problem.now) c.args.limits.now (map (expr_of g.T.Theory.denotes) c.args.bodies) (history_of g.T.Theory.denotes c.args.known.now.stored) (history_of g.T.Theory.denotes c.push.new.self) c.len.result more (omega (arith, c.len.ensures, length-map c.push.new.self.items (counterexample_of g.T.Theory.denotes))) (omega (arith, c.if-len-limits.true)), λ traced. tt)
 
 pub returns-in-Model-clause-step : goal.returns-in-Model-clause-step
 returns-in-Model-clause-step g c =
@@ -46,6 +46,17 @@ returns-in-Model-clause-step g c =
     c.args.known.now.points c.follow.new.known.points c.len-place.result c.in_ok-step-in-Model.step (rw (sym c.in_ok-step-in-Model.ensures.stored) at more)
     (omega (arith, c.len-place.ensures, length-map c.args.known.now.stored.items (counterexample_of g.T.Theory.denotes)))
     (rw c.in_ok-step-in-Model.ensures.stored (omega (arith, c.if-len-limits.false, c.len.ensures, length-map c.push.new.self.items (counterexample_of g.T.Theory.denotes)))) c.in_ok-step-in-Model.ensures.step
+
+pub returns-in-Err-Heavy-clause-step : goal.returns-in-Err-Heavy-clause-step
+returns-in-Err-Heavy-clause-step g c = (
+  record {
+    honest = c.requires.known.honest;
+    room = room_in g.T.Theory.denotes c.args.known.now.stored c.args.limits.now.rounds c.requires.room;
+    due = c.requires.due;
+    heavy = c.in-Err-Heavy.ensures.heavy (ap Err c.in-Err-Heavy.field-0-is);
+  },
+  λ traced. traced,
+)
 
 pub follow-requires-clause-room : goal.follow-requires-clause-room
 follow-requires-clause-room g c = omega (arith, c.if-len-limits.false, c.len.ensures)
@@ -58,5 +69,5 @@ returns-clause-step g c = (
     due = c.requires.due;
     shown = subst (λ query. g.D.Decide.shows query c.args.limits.now (g.D.Decide.budget c.in-Spent.spent) c.in-Spent.spent) c.in-Ok.ensures.query (rw c.in-Spent.is at c.in_ok-proof.ensures);
   },
-  c.requires.traced,
+  λ traced. traced,
 )

@@ -1,9 +1,10 @@
-use Rattle.std.proofs.Common.{map}
+use Rattle.std.proofs.Common.{map, subst}
 use Rattle.sy_terms.specs.Denoted.{expr_of, vals_of}
 use Rattle.sy_grammar_base.specs.Questions.{question_of}
 use Rattle.sy_loop_history.specs.Stored.{history_of}
 use Rattle.sy_loop_candidate.proofs.Asking.{grows_by, grows_then, known_wider}
-use Rattle.sy_loop_candidate.proofs.Ending.{points_met, checked_leaves, room_in}
+use Rattle.sy_loop_candidate.specs.Steps.{Steps}
+use Rattle.sy_loop_candidate.proofs.Ending.{points_met, checked_leaves, room_in, traced_step}
 use Rattle.sy_loop_candidate.proofs.step.try_candidate.Goals as goal
 
 pub try_bodies-requires-clause-held : goal.try_bodies-requires-clause-held
@@ -18,14 +19,16 @@ decide_due-requires-clause-due g c =
     let answer = rw c.in-Due.is at c.in_ok-try_bodies.ensures.answer in
     record { candidate = c.requires.candidate; meets = answer.0 }
 
-pub decide_due-requires-clause-traced : goal.decide_due-requires-clause-traced
-decide_due-requires-clause-traced g c =
-    let answer = rw c.in-Due.is at c.in_ok-try_bodies.ensures.answer in answer.1
-
 pub returns-in_ok-step-in-Due-clause-step : goal.returns-in_ok-step-in-Due-clause-step
 returns-in_ok-step-in-Due-clause-step g c =
     let answer = rw c.in-Due.is at c.in_ok-try_bodies.ensures.answer in
-    rw answer.2 at c.in_ok-step-in-Due.ensures.step
+    let number = g.T.Theory.denotes in
+    let question = question_of number c.args.problem.now in
+    let bodies = map (expr_of number) c.args.bodies in
+    let before = history_of number c.args.known.now.stored in
+    let after = history_of number c.decide_due.new.known.stored in
+    subst (λ asked. Steps g.T.Theory.owned number g.D.Decide.accepted g.D.Decide.budget g.D.Decide.shows c.args.reach question c.args.limits.now bodies before asked after c.decide_due.new.known.points c.in_ok-step-in-Due.step) answer.2
+    (traced_step g.T.Theory.owned number g.D.Decide.accepted g.D.Decide.budget g.D.Decide.shows c.args.reach question c.args.limits.now bodies before after c.try_bodies.new.points c.decide_due.new.known.points c.in_ok-step-in-Due.step c.in_ok-step-in-Due.ensures.step answer.1)
 
 pub returns-in_ok-assignment-in-Full-clause-step : goal.returns-in_ok-assignment-in-Full-clause-step
 returns-in_ok-assignment-in-Full-clause-step g c =

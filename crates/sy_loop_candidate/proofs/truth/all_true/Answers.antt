@@ -14,18 +14,18 @@ pub returns-in-False : goal.returns-in-False
 returns-in-False g c =
     one_false (question_of g.T.Theory.denotes c.args.problem.now) (map (expr_of g.T.Theory.denotes) c.args.bodies.now) (vals_of g.T.Theory.denotes c.args.values.now) (map (expr_of g.T.Theory.denotes) c.args.terms.now) (expr_of g.T.Theory.denotes c.term-item.result) c.in-False.calls
     (has_at (expr_of g.T.Theory.denotes) c.args.terms.now c.loop-term.term-index c.term-item.result c.loop-term-test.true c.term-item.is)
-    (rw c.in-False.is at c.in_ok-decide_term.ensures)
+    (rw c.in-False.is at c.in_ok-truth_of.ensures)
 
 pub returns-in-Leaves : goal.returns-in-Leaves
 returns-in-Leaves g c =
     one_leaves (question_of g.T.Theory.denotes c.args.problem.now) (map (expr_of g.T.Theory.denotes) c.args.bodies.now) (vals_of g.T.Theory.denotes c.args.values.now) (map (expr_of g.T.Theory.denotes) c.args.terms.now) (expr_of g.T.Theory.denotes c.term-item.result)
     (has_at (expr_of g.T.Theory.denotes) c.args.terms.now c.loop-term.term-index c.term-item.result c.loop-term-test.true c.term-item.is)
-    (rw c.in-Leaves.is at c.in_ok-decide_term.ensures)
+    (rw c.in-Leaves.is at c.in_ok-truth_of.ensures)
 
 pub loop-term-preserved : goal.loop-term-preserved
 loop-term-preserved g c =
     all_more (IsTrueUnder (question_of g.T.Theory.denotes c.args.problem.now) (map (expr_of g.T.Theory.denotes) c.args.bodies.now) (vals_of g.T.Theory.denotes c.args.values.now)) (expr_of g.T.Theory.denotes) c.args.terms.now c.loop-term.term-index c.term-item.result c.loop-term-test.true c.term-item.is c.loop-term.invariant
-    (rw c.in-True.is at c.in_ok-decide_term.ensures)
+    (rw c.in-True.is at c.in_ok-truth_of.ensures)
 
 pub returns : goal.returns
 returns g c =

@@ -2,7 +2,7 @@ use Rattle.std.proofs.Common.{ap, Err}
 use Rattle.sy_terms.specs.Denoted.{val_of, vals_of}
 use Rattle.sy_grammar_laws.proofs.Problems.{problem_definitions}
 use Rattle.sy_loop_candidate.proofs.Saying.{says, says_leaves}
-use Rattle.sy_loop_candidate.proofs.truth.decide_term.Goals as goal
+use Rattle.sy_loop_candidate.proofs.truth.truth_of.Goals as goal
 
 pub returns-in-Ok : goal.returns-in-Ok
 returns-in-Ok g c =
