@@ -9,6 +9,7 @@ ghost use Rattle.sy_forms_phrases.specs.Measures as spec;
 use crate::phrase::{Phrase, Phrases};
 use sy_terms::{Op, Sort, Theory, Value, Values, Want, same_sort};
 
+/// Whether the operator is minus at one integer.
 pub fn is_neg(operator: &Op) -> bool
     ensures { result ≡ spec.is_neg operator.now }
 {

@@ -17,7 +17,7 @@ pub enum Joint {
 }
 
 impl Circuit {
-    // The two bits, joined.
+    /// The two bits, joined.
     pub(crate) fn join_bits(&mut self, joint: Joint, a: Bit, b: Bit) -> Result<Bit, Want>
         requires left { bit_bound a ≤ variables self.old }
         requires right { bit_bound b ≤ variables self.old }

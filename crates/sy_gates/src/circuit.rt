@@ -43,7 +43,7 @@ impl Circuit {
         }
     }
 
-    // The place of a gate that was made; `None` exactly where it wasn't.
+    /// The place of a gate that was made; `None` exactly where it wasn't.
     fn place_of(&self, gate: Gate) -> Option<u32>
         ensures place { IfSome result (λ place. slice_get self.now.gates place ≡ Some gate) }
         ensures found { (place : ℕ) → slice_get self.now.gates place ≡ Some gate → result ≡ Some place }
@@ -57,7 +57,7 @@ impl Circuit {
         }
     }
 
-    // The literal of the variable of a gate that was made; `None` exactly where it wasn't.
+    /// The literal of the variable of a gate that was made; `None` exactly where it wasn't.
     fn found(&self, gate: Gate) -> Option<Lit>
         ensures inside { IfSome result (λ l. lit_bound l ≤ variables self.now) }
         ensures value { IfSome result (λ l. (v : ℕ → Bool) → FollowsPlan v self.now → lit_value v l ≡ gate_value v gate) }
@@ -67,7 +67,7 @@ impl Circuit {
         Some(variable(self.inputs + place))
     }
 
-    // Adds a gate and gives the literal of its variable.
+    /// Adds a gate and gives the literal of its variable.
     fn push_gate(&mut self, gate: Gate) -> Result<Lit, Want>
         requires new { (place : ℕ) → slice_get self.old.gates place ≡ Some gate → ⊥ }
         requires inside { gate_bound gate ≤ variables self.old }
@@ -83,7 +83,7 @@ impl Circuit {
         Ok(variable(self.inputs + made as u32))
     }
 
-    // The literal of a gate's variable. A gate that was made before is not added again.
+    /// The literal of a gate's variable. A gate that was made before is not added again.
     fn make(&mut self, gate: Gate) -> Result<Lit, Want>
         requires inside { gate_bound gate ≤ variables self.old }
         requires room { variables self.old + 1 < 2 ^ 31 }
@@ -100,7 +100,7 @@ impl Circuit {
         Ok(literal)
     }
 
-    // Adds a gate and gives the bit of its variable.
+    /// Adds a gate and gives the bit of its variable.
     fn gate(&mut self, gate: Gate) -> Result<Bit, Want>
         requires inside { gate_bound gate ≤ variables self.old }
         requires room { variables self.old + 1 < 2 ^ 31 }
@@ -113,7 +113,7 @@ impl Circuit {
         Ok(Bit::Of(literal))
     }
 
-    // The bit that is true where both literals are. The gate's literals stand in the order of their variables.
+    /// The bit that is true where both literals are. The gate's literals stand in the order of their variables.
     fn both(&mut self, x: Lit, y: Lit) -> Result<Bit, Want>
         requires left { lit_bound x ≤ variables self.old }
         requires right { lit_bound y ≤ variables self.old }
@@ -137,7 +137,7 @@ impl Circuit {
         }
     }
 
-    // The bit that is true where exactly one of the literals is. The gate's literals are variables, in their order.
+    /// The bit that is true where exactly one of the literals is. The gate's literals are variables, in their order.
     fn differ(&mut self, x: Lit, y: Lit) -> Result<Bit, Want>
         requires left { lit_bound x ≤ variables self.old }
         requires right { lit_bound y ≤ variables self.old }
@@ -157,7 +157,7 @@ impl Circuit {
         Ok(if turned { bit.negated() } else { bit })
     }
 
-    // The bit of `x` where the test is true, and of `y` elsewhere. The gate's test is a variable.
+    /// The bit of `x` where the test is true, and of `y` elsewhere. The gate's test is a variable.
     fn chosen(&mut self, test: Lit, x: Lit, y: Lit) -> Result<Bit, Want>
         requires test { lit_bound test ≤ variables self.old }
         requires left { lit_bound x ≤ variables self.old }

@@ -9,7 +9,7 @@ use std::alloc::Global;
 use sy_clauses::{Cnf, Lit};
 use sy_seq::{Seq, Want};
 
-// Adds the clause of the literals.
+/// Adds the clause of the literals.
 pub fn add_clause(alloc: Global, clauses: &mut Seq<Seq<Lit>>, literals: &[Lit]) -> Result<(), Want>
     ensures { OnOk result (clauses.new ≡ clauses.old ++ literals.now ∷ []) }
 {
@@ -20,8 +20,8 @@ pub fn add_clause(alloc: Global, clauses: &mut Seq<Seq<Lit>>, literals: &[Lit]) 
     clauses.push(clause)
 }
 
+/// The clauses of `Gate::And`.
 #[tactic(auto, using(crate::proofs::Encoding::push_steps))]
-// The clauses of `Gate::And`.
 fn add_and(
     alloc: Global,
     clauses: &mut Seq<Seq<Lit>>,
@@ -49,8 +49,8 @@ fn add_and(
     Ok(())
 }
 
+/// The clauses of `Gate::Xor`.
 #[tactic(auto, using(crate::proofs::Encoding::push_steps))]
-// The clauses of `Gate::Xor`.
 fn add_xor(
     alloc: Global,
     clauses: &mut Seq<Seq<Lit>>,
@@ -79,8 +79,8 @@ fn add_xor(
     Ok(())
 }
 
+/// The clauses of `Gate::Choose`.
 #[tactic(auto, using(crate::proofs::Encoding::push_steps))]
-// The clauses of `Gate::Choose`.
 fn add_choose(
     alloc: Global,
     clauses: &mut Seq<Seq<Lit>>,
@@ -111,8 +111,8 @@ fn add_choose(
     Ok(())
 }
 
+/// Adds clauses that hold exactly where the variable `made` has the truth value that the gate makes.
 #[tactic(auto, using(crate::proofs::Encoding::push_steps))]
-// Adds clauses that hold exactly where the variable `made` has the truth value that the gate makes.
 pub fn add_gate(
     alloc: Global,
     clauses: &mut Seq<Seq<Lit>>,

@@ -9,7 +9,7 @@ use std::alloc::Global;
 use sy_seq::{Seq, Want};
 
 impl Circuit {
-    // The sum, where `bit` is true with `a` moved up by `by` places.
+    /// The sum, where `bit` is true with `a` moved up by `by` places.
     fn add_row(
         &mut self,
         alloc: Global,

@@ -16,7 +16,7 @@ pub struct Division {
     pub remainder: Seq<Bit>,
 }
 
-// One digit of a quotient, and what is left.
+/// One digit of a quotient, and what is left.
 #[derive(Drop)]
 struct Digit {
     digit: Bit,
@@ -24,7 +24,7 @@ struct Digit {
 }
 
 impl Circuit {
-    // Brings down the bit `next` to what is left, and takes `b` away where it is not larger.
+    /// Brings down the bit `next` to what is left, and takes `b` away where it is not larger.
     #[tactic(auto, using(crate::proofs::Places::wire_steps))]
     fn divide_digit(
         &mut self,

@@ -20,7 +20,7 @@ pub fn top(a: &[Bit]) -> Bit
 }
 
 impl Circuit {
-    // Minus `a` where `test` is true, and `a` elsewhere.
+    /// Minus `a` where `test` is true, and `a` elsewhere.
     fn negate_where(&mut self, alloc: Global, test: Bit, a: &[Bit]) -> Result<Seq<Bit>, Want>
         requires test { bit_bound test ≤ variables self.old }
         requires word { word_bound a.now ≤ variables self.old }
@@ -54,7 +54,7 @@ impl Circuit {
         Ok(answer)
     }
 
-    // The quotient and the remainder of the magnitudes of two words in two's complement.
+    /// The quotient and the remainder of the magnitudes of two words in two's complement.
     fn divide_magnitudes(&mut self, alloc: Global, a: &[Bit], b: &[Bit]) -> Result<Division, Want>
         requires same { length b.now ≡ length a.now }
         requires wide { 0 < length a.now }
@@ -140,7 +140,7 @@ impl Circuit {
         Ok(word)
     }
 
-    // The remainder `rest` of the magnitudes, moved to the sign of `b`.
+    /// The remainder `rest` of the magnitudes, moved to the sign of `b`.
     fn signed_choice(
         &mut self,
         alloc: Global,
@@ -168,7 +168,7 @@ impl Circuit {
         Ok(word)
     }
 
-    // The remainder `rest` of the magnitudes by the two signs, where it isn't 0.
+    /// The remainder `rest` of the magnitudes by the two signs, where it isn't 0.
     fn choice_by_signs(
         &mut self,
         alloc: Global,
@@ -221,7 +221,7 @@ impl Circuit {
         Ok(word)
     }
 
-    // The word with each bit turned where `test` is true, and `a` elsewhere.
+    /// The word with each bit turned where `test` is true, and `a` elsewhere.
     fn turn_where(&mut self, alloc: Global, test: Bit, a: &[Bit]) -> Result<Seq<Bit>, Want>
         requires test { bit_bound test ≤ variables self.old }
         requires word { word_bound a.now ≤ variables self.old }

@@ -49,7 +49,7 @@ impl Table {
     }
 }
 
-// A number for the literal: twice its variable, and 1 more for its negation.
+/// A number for the literal: twice its variable, and 1 more for its negation.
 fn literal_key(literal: Lit) -> u128
     ensures value { result ≡ keys.literal_key literal }
     ensures bound { result < 2 ^ 33 }
@@ -57,7 +57,7 @@ fn literal_key(literal: Lit) -> u128
     2 * u128::from(literal.var) + if literal.positive { 0 } else { 1 }
 }
 
-// A number for the gate, and for no other one.
+/// A number for the gate, and for no other one.
 fn key(gate: Gate) -> u128
     ensures { result ≡ keys.gate_key gate }
 {

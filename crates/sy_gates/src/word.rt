@@ -64,7 +64,7 @@ impl Circuit {
         Ok(total.word)
     }
 
-    // The sum of `a`, of the word whose bits are those of `b` turned, and of 1.
+    /// The sum of `a`, of the word whose bits are those of `b` turned, and of 1.
     #[tactic(auto, using(crate::proofs::Words::mod_steps))]
     pub(crate) fn subtract(&mut self, alloc: Global, a: &[Bit], b: &[Bit]) -> Result<Total, Want>
         requires same { length b.now ≡ length a.now }

@@ -19,11 +19,11 @@ use Rattle.sy_loop_history.specs.Stored.{counterexample_of, history_of}
 use Rattle.sy_loop_outcome.specs.declared.outcome.LoopRange.{LoopRange}
 use Rattle.sy_loop_outcome.specs.declared.outcome.LoopRange.TheVariants.{Member, Checked}
 use Rattle.sy_loop_outcome.specs.Right.{HasLeftRange}
-use Rattle.sy_loop_beyond.specs.Exceeding.{IsMet}
+use Rattle.sy_loop_beyond.specs.Exceeding.{MeetsFullBank}
 use Rattle.sy_loop_samples.proofs.One.{one_goal}
 
 -- the bank of the one function
-pub one_bank : (question : Question) (limits : Limits) (history : List Counterexample) (function : ℕ) (bank : Merged) → length question.goals ≡ 1 → function ≡ 0 → IsMet question limits history function bank → IsOneBank question bank
+pub one_bank : (question : Question) (limits : Limits) (history : List Counterexample) (function : ℕ) (bank : Merged) → length question.goals ≡ 1 → function ≡ 0 → MeetsFullBank question limits history function bank → IsOneBank question bank
 one_bank question limits history function bank one first is = record {
   goal = is.met.goal;
   one = one_goal question.goals is.met.goal one (subst (λ n. slice_get question.goals n ≡ Some is.met.goal) first is.met.at);
@@ -37,7 +37,7 @@ honest_assigned number problem size rounds stored honest place pair at =
     (honest.each place (counterexample_of number pair) (slice_get-map (counterexample_of number) stored.items place ∙ ap (option_map (counterexample_of number)) at)).values
 
 -- so are those after which a bank is full
-pub stored_assigned : {T N : Type 0} (number : N → Val) (problem : Problem T N) (limits : Limits) (stored : Stored T N) (function : ℕ) (bank : Merged) → IsMet (question_of number problem) limits (history_of number stored) function bank →
+pub stored_assigned : {T N : Type 0} (number : N → Val) (problem : Problem T N) (limits : Limits) (stored : Stored T N) (function : ℕ) (bank : Merged) → MeetsFullBank (question_of number problem) limits (history_of number stored) function bank →
     (place : ℕ) (pair : List (Value N) × List (Term T N)) → slice_get stored.items place ≡ Some pair → AreValues problem.vars (vals_of number pair.0)
 stored_assigned number problem limits stored function bank is = honest_assigned number problem limits.size limits.rounds stored is.met.honest
 

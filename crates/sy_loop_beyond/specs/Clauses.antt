@@ -17,7 +17,7 @@ use Rattle.sy_bank.specs.declared.bank.Bank.{Bank}
 use Rattle.sy_loop_history.specs.Solutions.{IsSolution}
 use Rattle.sy_loop_history.specs.Stored.{history_of}
 use Rattle.sy_loop_samples.specs.Banked.{IsOneBank}
-use Rattle.sy_loop_beyond.specs.Exceeding.{IsMet}
+use Rattle.sy_loop_beyond.specs.Exceeding.{MeetsFullBank}
 use Rattle.sy_loop_beyond.specs.declared.body.Tried.{Tried}
 use Rattle.sy_loop_beyond.specs.declared.body.Tried.TheVariants.{Solves, Passed, Spent}
 
@@ -44,8 +44,8 @@ module _ {T N : Type 0} (theory : TheoryOf T N) (problem : Problem T N) where
 
 module _ {T N : Type 0} (theory : TheoryOf T N) (problem : Problem T N) (limits : Limits) where
   -- after these stored pairs the function's bank is full
-  abbrev pub IsMetFor : Stored T N → ℕ → Bank T N → Type 0
-  IsMetFor stored function bank = IsMet (question_of theory.denotes problem) limits (history_of theory.denotes stored) function (merged_of theory.denotes bank)
+  abbrev pub MeetsFullBankFor : Stored T N → ℕ → Bank T N → Type 0
+  MeetsFullBankFor stored function bank = MeetsFullBank (question_of theory.denotes problem) limits (history_of theory.denotes stored) function (merged_of theory.denotes bank)
 
 module _ {T N D P S : Type 0} (theory : TheoryOf T N) (solver : DecideOf D T P S N) (problem : Problem T N) (bound : ℕ) where
   -- the bodies are members of sizes within the bound and solve the problem, and the proof is accepted for their query

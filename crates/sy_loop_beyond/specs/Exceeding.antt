@@ -8,7 +8,7 @@ use Rattle.sy_loop_history.specs.Budgets.{BankMet}
 use Rattle.sy_loop_history.specs.Histories.{Counterexample}
 
 -- after the history, the bank of the function is full
-pub record IsMet (question : Question) (limits : Limits) (history : List Counterexample) (function : ℕ) (bank : Merged) : Type 0 where
+pub record MeetsFullBank (question : Question) (limits : Limits) (history : List Counterexample) (function : ℕ) (bank : Merged) : Type 0 where
   pub nonterminal : ℕ
   pub next : Entry
   pub met : BankMet Joins question limits.size limits.rounds limits.bank history function bank nonterminal next

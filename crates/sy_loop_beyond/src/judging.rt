@@ -8,7 +8,7 @@ ghost use Rattle.sy_loop_beyond.specs.Clauses.{AreAssignedFor};
 
 use std::alloc::Global;
 use sy_grammar_base::Problem;
-use sy_meaning::{Eval, Trace, evaluate_with};
+use sy_loop_candidate::{Truth, all_true};
 use sy_terms::{Bodies, Term, Theory, Value, Values, Want};
 
 /// Whether the bodies meet the problem at each of the assignments, the last first. It is a guess: nothing is decided by
@@ -43,16 +43,16 @@ fn meet<T: Theory>(
     requires values { AreValues problem.now.vars (vals_of T.denotes values.now) }
 {
     let constraints = problem.constraints.as_slice();
-    if all_true(alloc, problem, bodies, values, constraints)? {
+    if are_true(alloc, problem, bodies, values, constraints)? {
         return Ok(true);
     }
     let assumptions = problem.assumptions.as_slice();
-    let assumed = all_true(alloc, problem, bodies, values, assumptions)?;
+    let assumed = are_true(alloc, problem, bodies, values, assumptions)?;
     Ok(!assumed)
 }
 
 /// Whether all of the terms are true; what leaves the 128 bits isn't.
-fn all_true<T: Theory>(
+fn are_true<T: Theory>(
     alloc: Global,
     problem: &Problem<T>,
     bodies: &Bodies<T>,
@@ -64,32 +64,9 @@ fn all_true<T: Theory>(
     requires values { AreValues problem.now.vars (vals_of T.denotes values.now) }
     requires terms { All (IsTruth T.owned T.denotes problem.now) terms.now }
 {
-    for term in terms {
-        if !is_true(alloc, problem, bodies, values, term)? {
-            return Ok(false);
-        }
-    }
-    Ok(true)
-}
-
-/// Whether the term is true.
-fn is_true<T: Theory>(
-    alloc: Global,
-    problem: &Problem<T>,
-    bodies: &Bodies<T>,
-    values: &[Value<T::Num>],
-    term: &Term<T>,
-) -> Result<bool, Want>
-    requires problem { ProblemFits T.Theory problem.now }
-    requires bodies { FitAsBodies T.Theory problem.now bodies.now }
-    requires values { AreValues problem.now.vars (vals_of T.denotes values.now) }
-    requires term { IsTruth T.owned T.denotes problem.now term.now }
-{
-    let mut calls = Trace::new(alloc);
-    match evaluate_with(alloc, &problem.defs, bodies, values, term, &mut calls) {
-        Ok(Value::Truth(truth)) => Ok(truth),
-        Ok(Value::Num(_)) => Ok(false),
-        Err(Eval::Range) => Ok(false),
-        Err(Eval::Want) => Err(Want {}),
+    match all_true(alloc, problem, bodies, values, terms)? {
+        Truth::True => Ok(true),
+        Truth::False(_) => Ok(false),
+        Truth::Leaves => Ok(false),
     }
 }

@@ -1,4 +1,4 @@
-// The search for solutions alone where a bank is full: kept terms, and what rules give of them, each decided for itself.
+// The search for solutions alone where a bank is full or a number left the 128 bits: kept terms, and what rules give of them, each decided for itself.
 #![tactic(auto)]
 
 mod again;

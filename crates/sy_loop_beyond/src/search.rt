@@ -64,8 +64,7 @@ pub fn solve_beyond<T: Theory, D: Decide<T>>(
     Ok(found)
 }
 
-/// The same where no bank is full: bodies over banks that are built anew, of kept terms alone, without those that left the 128
-/// bits.
+/// The same where no bank is full: bodies over banks that are built anew, without terms that leave the 128 bits.
 pub fn solve_anew<T: Theory, D: Decide<T>>(
     alloc: Global,
     problem: &Problem<T>,

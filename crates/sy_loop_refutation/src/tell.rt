@@ -1,7 +1,6 @@
 // What rows tell of the problem's terms at an assignment.
-ghost use Rattle.std.specs.Prelude.{◌≡◌, ◌↔◌, ◌≤◌, IsTrue, true, false, length, All, IfOk, MatchOption};
-ghost use Rattle.sy_terms.specs.Values as spec;
-ghost use Rattle.sy_terms.specs.Denoted.{val_of, expr_of, vals_of};
+ghost use Rattle.std.specs.Prelude.{◌≡◌, ◌≤◌, IsTrue, true, false, length, All, IfOk, MatchOption};
+ghost use Rattle.sy_terms.specs.Denoted.{expr_of, vals_of};
 ghost use Rattle.sy_grammar_base.specs.Questions.{question_of};
 ghost use Rattle.sy_grammar_base.specs.Solving.{AreValues, IsTrueUnder};
 ghost use Rattle.sy_loop_refutation.specs.Bodies.{bodies_of};
@@ -12,6 +11,7 @@ use crate::observe::observe;
 use std::alloc::Global;
 use sy_bank_rows::Kept;
 use sy_grammar_base::Problem;
+use sy_loop_candidate::is_true;
 use sy_points::Points;
 use sy_terms::{Term, Theory, Value, Want};
 
@@ -155,15 +155,5 @@ fn tell<T: Theory>(
         Ok(Told::True)
     } else {
         Ok(Told::False)
-    }
-}
-
-/// Whether the value is true.
-fn is_true<T: Theory>(value: &Value<T::Num>) -> bool
-    ensures { IsTrue result ↔ val_of T.denotes value.now ≡ spec.Truth true }
-{
-    match value {
-        Value::Truth(truth) => *truth,
-        Value::Num(_) => false,
     }
 }

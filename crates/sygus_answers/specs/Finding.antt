@@ -15,13 +15,13 @@ use Rattle.sy_loop.specs.Least.{AreLeast}
 use Rattle.sy_terms.specs.declared.theory.Theory.{Ghosts as TheoryOf}
 use Rattle.sy_grammar_base.specs.Questions.{Question, question_of}
 use Rattle.sy_grammar_base.specs.declared.problem.Problem.{Problem}
-use Rattle.sy_loop_beyond.specs.Exceeding.{IsMet}
+use Rattle.sy_loop_beyond.specs.Exceeding.{MeetsFullBank}
 
 -- after the history the search had met a full bank
 pub record IsFull (question : Question) (limits : Limits) (history : List Counterexample) : Type 0 where
   pub function : ℕ
   pub bank : Merged
-  pub full : IsMet question limits history function bank
+  pub full : MeetsFullBank question limits history function bank
 
 -- after the history a term or a constraint had left the 128 bits
 abbrev pub HasLeft : Question → Limits → List Counterexample → Type 0

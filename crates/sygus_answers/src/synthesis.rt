@@ -1,7 +1,7 @@
 // The search that goes on for solutions alone where a bank is full, or a number left the 128 bits.
 ghost use Rattle.std.specs.Prelude.{IfOk};
 ghost use Rattle.sy_grammar_base.specs.Fits.{ProblemFits};
-ghost use Rattle.sy_loop_beyond.specs.Clauses.{IsFoundFor, IsMetFor};
+ghost use Rattle.sy_loop_beyond.specs.Clauses.{IsFoundFor, MeetsFullBankFor};
 ghost use Rattle.sy_loop_bounds.specs.declared.reach.Reach.TheVariants.{Joins};
 ghost use Rattle.sy_loop_outcome.specs.Right.{IsRightFor, LeavesFor};
 ghost use Rattle.sygus_answers.specs.Finding.{FindsBeyondFor};
@@ -66,7 +66,7 @@ fn solved<T: Theory, D: Decide<T>>(
     bank: &Bank<T>,
 ) -> Result<Option<(Bodies<T>, D::Proof)>, Want>
     requires problem { ProblemFits T.Theory problem.now }
-    requires met { IsMetFor T.Theory problem.now limits.now stored.now function bank.now }
+    requires met { MeetsFullBankFor T.Theory problem.now limits.now stored.now function bank.now }
     ensures { IfOk result (IsFoundFor T.Theory D.Decide problem.now limits.now.size) }
 {
     if problem.wanted.len() != 1 || function != 0 {
