@@ -7,7 +7,8 @@ Without files it takes those of examples/, with its folders advice and gallery, 
 both answer it within so many processor seconds, 10 without --limit: by definitions, or that there are none. Then the least
 `--rounds` and the least `--points` are sought with which the answer is the same; for the number of counterexamples that a
 search stores is one less than the former, and the most tuples of a function are the latter. Files whose words have one of
-these options are left out. Last stand the sums of both, and in how many files each is greater, equal or less by NEW.
+these options are left out. Last stand the sums of both, in how many files each is less or equal by NEW, the files in
+which it is greater, and those that one of them alone answers.
 
 To see what the assignments do that are tried before a search, let `corner_model` of crates/sy_query_corners answer nothing
 in a clone, which its contract allows, and take the program of that clone as OLD.
@@ -31,22 +32,34 @@ def is_answered(program, file, limit, option=None, number=None):
     return found if found in ("definitions", "infeasible") else None
 
 
-def least(program, file, limit, option):
-    """The least number for the option with which the file is answered."""
-    low, high = 0, MOST[option]
-    while low < high:
-        middle = (low + high) // 2
-        if is_answered(program, file, limit, option, middle):
-            high = middle
+def least(program, file, limit, option, guess):
+    """The least number for the option with which the file is answered; a good guess takes two runs."""
+    fails, works = -1, MOST[option]
+    place, step = guess, 1
+    while works - fails > 1:
+        if not fails < place < works:
+            place = (fails + works) // 2
+        if is_answered(program, file, limit, option, place):
+            works, place = place, place - step
         else:
-            low = middle + 1
-    return low
+            fails, place = place, place + step
+        step *= 2
+    return works
 
 
 def has_option(file):
     with open(file) as opened:
         words = re.search(r"^; words: (.*)$", opened.read(), re.MULTILINE)
     return words is not None and any(f"--{option}" in words.group(1) for option in MOST)
+
+
+def show_sums(option, pairs):
+    """Prints the sums for an option, and the files in which it grows."""
+    old, new = (sum(pair[place] for pair in pairs.values()) for place in (0, 1))
+    more = [f"{name} {pair[0]} to {pair[1]}" for name, pair in pairs.items() if pair[1] > pair[0]]
+    less = sum(pair[1] < pair[0] for pair in pairs.values())
+    equal = len(pairs) - len(more) - less
+    print(f"\n{option}: {old}, then {new}; less in {less} files, equal in {equal}, greater in {len(more)}: {', '.join(more)}")
 
 
 def main():
@@ -59,21 +72,30 @@ def main():
     files = options.files or [file for folder in FOLDERS for file in sorted(glob.glob(f"{TOP}/{folder}/*.sl"))]
     programs = [os.path.abspath(options.old), os.path.abspath(options.new)]
     print("| File | rounds | by the new one | points | by the new one |\n|---|---|---|---|---|")
-    found = {option: [] for option in MOST}
+    found = {option: {} for option in MOST}
+    alone = []
     for file in files:
-        if has_option(file) or not all(is_answered(program, file, options.limit) for program in programs):
+        if has_option(file):
             continue
-        cells = [os.path.basename(file)[:-3]]
-        for option in MOST:
-            pair = [least(program, file, options.limit, option) for program in programs]
-            found[option].append(pair)
+        name = os.path.basename(file)[:-3]
+        answered = [is_answered(program, file, options.limit) for program in programs]
+        if not all(answered):
+            alone += [f"{name} by {which}" for which, yes in zip(("OLD", "NEW"), answered) if yes]
+            continue
+        cells = [name]
+        guess = 2
+        for option, pairs in found.items():
+            pair = []
+            for program in programs:
+                guess = least(program, file, options.limit, option, guess)
+                pair.append(guess)
+            pairs[name] = pair
             cells += map(str, pair)
+            guess = max(pair[0] - 1, 0)
         print("| " + " | ".join(cells) + " |", flush=True)
     for option, pairs in found.items():
-        old, new = (sum(pair[place] for pair in pairs) for place in (0, 1))
-        more = sum(pair[1] > pair[0] for pair in pairs)
-        less = sum(pair[1] < pair[0] for pair in pairs)
-        print(f"{option}: {old}, then {new}; greater in {more} files, less in {less}, equal in {len(pairs) - more - less}")
+        show_sums(option, pairs)
+    print(f"\nanswered by one alone: {', '.join(alone) or 'none'}")
 
 
 if __name__ == "__main__":

@@ -2,30 +2,40 @@
 """Runs `sy_cdcl` beside minisat without preprocessing and restarts, and beside CaDiCaL without these and without deletion
 of clauses, on the same files in turn.
 
-    bench/solver.py [FOLDER]
+    bench/solver.py [--program PROGRAM] [FOLDER]
 
-With no folder it makes the files of bench/make_cnf.py. Each program runs three times a file, and the least processor time
-counts. `sy_cdcl` measures its time in `solve` and in `check`; the others' is that of the whole process. The last columns
-are the time of `sy_cdcl` by that of the other, for a conflict and in all; a model doesn't tell its conflicts.
+With no folder it makes the files of bench/make_cnf.py. With `--program` nothing is proved or built, and PROGRAM is run in
+place of `bench_parts`. Each program runs three times a file, and the least processor time counts. `sy_cdcl` measures its
+time in `solve` and in `check`; the others' is that of the whole process. How many clauses `sy_cdcl` learns and how often it
+propagates is counted by bench/propagations.py, which needs rustc; the others learn a clause by each conflict. The last
+columns are the time of `sy_cdcl` by that of the other, for a learned clause, for a propagation and in all. Last stands how
+much longer a propagation takes than minisat's where `sy_cdcl` learns fewer than 10,000 clauses. A solver that isn't
+installed is left out.
 """
+import argparse
 import os
 import re
+import shutil
+import statistics
 import subprocess
 import sys
 import tempfile
+
+import propagations
 
 HERE = os.path.dirname(os.path.abspath(__file__))
 CRATE = os.path.join(HERE, "..", "crates", "bench_parts")
 PROGRAM = os.path.join(CRATE, "out", "bench_parts")
 RUNS = 3
 LIMIT = 600
+FEW = 10_000
 
 
-def solve(path):
+def solve(program, path):
     """The verdict, the microseconds of solving and of checking, and the learned clauses, which a model doesn't tell."""
     best = None
     for _ in range(RUNS):
-        words = [PROGRAM, "cdcl", path, "100000000", "times"]
+        words = [program, "cdcl", path, "100000000", "times"]
         text = subprocess.run(words, capture_output=True, text=True, timeout=LIMIT).stdout
         count = {name: int(number) for number, name in re.findall(r"(\d+) (\w+)", text)}
         if "accepted" in text and "true accepted" not in text:
@@ -58,31 +68,74 @@ OTHERS = {
 }
 
 
+def numbers(time, learned, propagated):
+    """A solver's milliseconds, its learned clauses, its propagations, and the nanoseconds that one of these takes."""
+    return f"{time / 1000:.1f}", f"{learned:.0f}", f"{propagated:.0f}", f"{1000 * time / max(propagated, 1):.0f}"
+
+
+def show(cells):
+    print("| " + " | ".join(cells) + " |", flush=True)
+
+
+def measure(program, counter, path, others):
+    """Prints the row of a file; how many clauses were learned, and by solver how much longer a propagation takes."""
+    name = os.path.basename(path)[:-4]
+    verdict, time, checking, learned = solve(program, path)
+    counted, lessons, propagated, _ = propagations.counts(counter, path)
+    if counted != verdict or learned not in (None, lessons):
+        sys.exit(f"{name}: {verdict} with {learned} learned clauses, and the counting copy says {counted} with {lessons}")
+    cells = [name, verdict, *numbers(time, lessons, propagated)]
+    cells.insert(3, "" if checking is None else f"{checking / 1000:.1f}")
+    ratios = {}
+    for solver, words in others.items():
+        answer, other_time, conflicts, other_propagated = other(words, path)
+        if verdict != answer:
+            sys.exit(f"{name}: {verdict}, and {solver} says {answer}")
+        ratios[solver] = (time / max(propagated, 1)) / (other_time / max(other_propagated, 1))
+        each = (time / max(lessons, 1)) / (other_time / max(conflicts, 1))
+        cells += numbers(other_time, conflicts, other_propagated)
+        cells += f"{each:.1f}" if conflicts else "", f"{ratios[solver]:.1f}", f"{time / max(other_time, 1):.1f}"
+    show(cells)
+    return lessons, ratios
+
+
+def show_sums(ratios, solver):
+    """Says how much longer a propagation takes; the ratios are by file."""
+    if not ratios:
+        return
+    most = max(ratios, key=ratios.get)
+    over = [f"{name} {ratio:.1f}" for name, ratio in ratios.items() if ratio > 3]
+    print(f"\n{len(ratios)} files with fewer than {FEW} learned clauses: a propagation takes at most {ratios[most]:.2f} times as "
+          f"long as {solver}'s ({most}), the middle is {statistics.median(ratios.values()):.2f}; over 3 times: "
+          f"{', '.join(over) or 'none'}")
+
+
 def main():
-    # proves and builds the program, where that wasn't done
-    subprocess.run(["rt", "run"], cwd=CRATE, stdin=subprocess.DEVNULL, capture_output=True)
-    folder = sys.argv[1] if len(sys.argv) > 1 else tempfile.mkdtemp()
-    if len(sys.argv) < 2:
-        subprocess.run([sys.executable, os.path.join(HERE, "make_cnf.py"), folder], check=True)
-    print(f"{'file':12} {'answer':6}|{'sy_cdcl ms':>10} {'check ms':>8} {'conflicts':>9} {'us each':>7}", end="")
-    for name in OTHERS:
-        print(f"|{name + ' ms':>10} {'conflicts':>9} {'us each':>7} {'ns a prop.':>10}: {'each':>5} {'in all':>6}", end="")
-    print()
-    for name in sorted(os.listdir(folder), key=lambda n: [int(p) if p.isdigit() else p for p in re.split(r"(\d+)", n)]):
-        path = os.path.join(folder, name)
-        verdict, time, checking, learned = solve(path)
-        each = time / learned if learned else None
-        counts = f"{checking / 1000:8.1f} {learned:9} {each:7.1f}" if learned else f"{'':8} {'':9} {'':7}"
-        print(f"{name[:-4]:12} {verdict:6}|{time / 1000:10.1f} {counts}", end="")
-        for words in OTHERS.values():
-            answer, other_time, conflicts, propagations = other(words, path)
-            if verdict != answer:
-                sys.exit(f"{name}: {verdict}, and {words[0]} says {answer}")
-            other_each = other_time / max(conflicts, 1)
-            ratio = f"{each / other_each:5.1f}" if each and conflicts else f"{'':5}"
-            print(f"|{other_time / 1000:10.1f} {conflicts:9.0f} {other_each:7.1f} {1000 * other_time / max(propagations, 1):10.0f}: "
-                  f"{ratio} {time / max(other_time, 1):6.1f}", end="")
-        print(flush=True)
+    options = argparse.ArgumentParser()
+    options.add_argument("--program")
+    options.add_argument("folder", nargs="?")
+    options = options.parse_args()
+    if options.program is None:
+        # proves and builds the program, where that wasn't done
+        subprocess.run(["rt", "run"], cwd=CRATE, stdin=subprocess.DEVNULL, capture_output=True)
+    others = {name: words for name, words in OTHERS.items() if shutil.which(words[0])}
+    with tempfile.TemporaryDirectory() as scratch:
+        counter = propagations.build(scratch)
+        folder = options.folder
+        if folder is None:
+            folder = os.path.join(scratch, "formulas")
+            os.mkdir(folder)
+            subprocess.run([sys.executable, os.path.join(HERE, "make_cnf.py"), folder], check=True)
+        heads = ["Formula", "answer", "`sy_cdcl` ms", "`check` ms", "learned", "propagations", "ns each"]
+        for name in others:
+            heads += [f"{name} ms", "learned", "propagations", "ns each", "a clause", "a propagation", "in all"]
+        show(heads)
+        print("|" + "---|" * len(heads))
+        found = {}
+        for name in sorted(os.listdir(folder), key=lambda n: [int(p) if p.isdigit() else p for p in re.split(r"(\d+)", n)]):
+            found[name[:-4]] = measure(options.program or PROGRAM, counter, os.path.join(folder, name), others)
+    for solver in others:
+        show_sums({name: ratios[solver] for name, (learned, ratios) in found.items() if learned < FEW}, solver)
 
 
 main()
