@@ -21,7 +21,7 @@ use Rattle.sy_linear.specs.Judging.{NodeOutcome, AnswersAt, Adds, Fails, added_f
 use Rattle.sy_linear.proofs.Lowest.{left_true, right_true}
 use Rattle.sy_linear.proofs.Accepting.{cut}
 use Rattle.sy_simplex.specs.Problems.{numbers}
-use Rattle.sy_intsolve_asked.specs.Asked.{Suit}
+use Rattle.sy_intsolve_paths_laws.specs.Paths.{Suit}
 use Rattle.sy_intsolve_cuts.specs.Cuts.{is_below_one, AreBelowDivisor, IsRoundingForm}
 
 -- the added form is that of a cut

@@ -9,7 +9,7 @@ use Rattle.sy_linear_known.specs.declared.path.Fact.TheVariants.{AtLeast}
 use Rattle.sy_linear_known.specs.Points.{form_value_at}
 use Rattle.sy_linear_known.specs.Trees.{forms, IsCut}
 use Rattle.sy_simplex.specs.Problems.{numbers}
-use Rattle.sy_intsolve_asked.specs.Asked.{Suit}
+use Rattle.sy_intsolve_paths_laws.specs.Paths.{Suit}
 use Rattle.sy_intsolve_cuts.specs.declared.choosing.Rounding.{Rounding}
 
 abbrev pub is_below_one : Fraction → Bool

@@ -5,7 +5,7 @@ ghost use Rattle.sy_frac.specs.Rational.{is_negative_rational};
 ghost use Rattle.sy_linear_known.specs.declared.path.Fact.TheVariants.{AtLeast};
 ghost use Rattle.sy_linear_known.specs.Points.{form_value_at};
 ghost use Rattle.sy_simplex.specs.Problems.{numbers};
-ghost use Rattle.sy_intsolve_asked.specs.Asked.{Suit};
+ghost use Rattle.sy_intsolve_paths_laws.specs.Paths.{Suit};
 ghost use Rattle.sy_intsolve_cuts.specs.Cuts.{IsRoundingForm};
 ghost use Rattle.sy_intsolve_cuts.specs.Cuts as spec;
 

@@ -18,9 +18,9 @@ use Rattle.sy_linear_known.specs.Trees.{OverIntegers, TestSuits, IsOf}
 use Rattle.sy_linear_known.proofs.Ascending.{AscendFrom, Ascends, ascends-negation}
 use Rattle.sy_linear.specs.Judging.{is_int, is_bool, has_int, suits, opposite_fits, split_outcome, Adds, Leaves, Fails}
 use Rattle.sy_simplex.specs.Problems.{IsForm, variable_at}
-use Rattle.sy_intsolve_asked.specs.Asked.{Suit, AgreesWithPath, IsPath, TestIsOpen}
-use Rattle.sy_intsolve_asked.proofs.Ascending.{ascends-is_form, ascends-over}
-use Rattle.sy_intsolve_asked.proofs.Paths.{path-form}
+use Rattle.sy_intsolve_paths_laws.specs.Paths.{Suit, AgreesWithPath, IsPath, TestIsOpen}
+use Rattle.sy_intsolve_paths_laws.proofs.Ascending.{ascends-is_form, ascends-over}
+use Rattle.sy_intsolve_paths_laws.proofs.Paths.{path-form}
 
 -- ---- sorts of variables
 and_parts : (a b : Bool) → (a && b) ≡ true → (a ≡ true) × (b ≡ true)

@@ -1,6 +1,6 @@
 // The guide of a search.
 ghost use Rattle.std.specs.Prelude.{◌<◌, ◌^◌, length, IfOk, IfSome};
-ghost use Rattle.sy_intsolve_asked.specs.Asked.{IsPath, TestIsOpen};
+ghost use Rattle.sy_intsolve_paths_laws.specs.Paths.{IsPath, TestIsOpen};
 
 use crate::choice::Tally;
 use crate::marks::{Mark, mark_all};

@@ -1,6 +1,6 @@
 // Whether a path can be split on a test.
 ghost use Rattle.std.specs.Prelude.{◌≡◌, ◌<◌, ◌^◌, true, length, IfOk};
-ghost use Rattle.sy_intsolve_asked.specs.Asked.{IsPath, TestIsOpen};
+ghost use Rattle.sy_intsolve_paths_laws.specs.Paths.{IsPath, TestIsOpen};
 
 use std::alloc::{AllocError, Global};
 use sy_linear::split;

@@ -17,7 +17,7 @@ use Rattle.sy_linear_known.specs.Trees.{forms, whole_ℚ, Weight, plus_multiple,
 use Rattle.sy_linear_known.proofs.Refutation.{weights_at, combination_at, combination-plus_form}
 use Rattle.sy_simplex.specs.Problems.{form, IsForm, AreForms, system_of, numbers}
 use Rattle.sy_simplex_tableau.specs.Rows.{at}
-use Rattle.sy_intsolve_asked.specs.Asked.{Suit, IsPath}
+use Rattle.sy_intsolve_paths_laws.specs.Paths.{Suit, IsPath}
 use Rattle.sy_intsolve_points.specs.Points.{IsPointOf, IsCornerOf}
 use Rattle.sy_intsolve_points.proofs.Dense.{From, from-is_form, form_at-value_at, met-system, path-forms}
 

@@ -16,7 +16,7 @@ use Rattle.sy_linear_known.specs.Points.{combined_at, form_value_at}
 use Rattle.sy_linear_known.specs.Trees.{forms, whole_ℚ}
 use Rattle.sy_linear_known.proofs.Refutation.{whole_zero}
 use Rattle.sy_simplex.specs.Problems.{coefficient, form, variable_at, IsForm, AreForms, system_of}
-use Rattle.sy_intsolve_asked.specs.Asked.{Suit, IsPath}
+use Rattle.sy_intsolve_paths_laws.specs.Paths.{Suit, IsPath}
 use Rattle.sy_intsolve_points.specs.Points.{AreMet}
 
 -- ---- coefficients in ascending order

@@ -10,7 +10,7 @@ use Rattle.sy_simplex.specs.declared.answer.Feasible.{Feasible}
 use Rattle.sy_simplex.specs.declared.answer.Feasible.TheVariants.{Point, Conflict, Pivots, Range}
 use Rattle.sy_simplex.specs.Problems.{AreForms}
 use Rattle.sy_simplex.specs.Answers.{AnswerIsSound}
-use Rattle.sy_intsolve_asked.specs.Asked.{IsPath}
+use Rattle.sy_intsolve_paths_laws.specs.Paths.{IsPath}
 use Rattle.sy_intsolve_points.specs.Points.{IsSoundFor}
 use Rattle.sy_intsolve_points.proofs.Dense.{path-forms}
 use Rattle.sy_intsolve_points.proofs.Corners.{point-corner}

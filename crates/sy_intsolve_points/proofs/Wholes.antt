@@ -24,7 +24,7 @@ use Rattle.sy_linear_known.specs.Trees.{forms, whole_ℚ, IsOf, OverIntegers}
 use Rattle.sy_linear_known.proofs.Refutation.{whole-value_at}
 use Rattle.sy_simplex.specs.Problems.{numbers}
 use Rattle.sy_simplex_tableau.specs.Rows.{at}
-use Rattle.sy_intsolve_asked.specs.Asked.{Suit, AgreesWithPath, IsPath}
+use Rattle.sy_intsolve_paths_laws.specs.Paths.{Suit, AgreesWithPath, IsPath}
 use Rattle.sy_intsolve_points.specs.Points.{AreMet, IsPointOf, IsMetBy, ValuesAreWhole, given_or, value_at_point}
 
 -- ---- one fact more

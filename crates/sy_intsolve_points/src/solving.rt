@@ -2,7 +2,7 @@
 ghost use Rattle.std.specs.Prelude.{◌<◌, ◌^◌, length, IfOk};
 ghost use Rattle.sy_linear_known.specs.Trees.{forms};
 ghost use Rattle.sy_simplex.specs.Answers.{TellsFeasible};
-ghost use Rattle.sy_intsolve_asked.specs.Asked.{IsPath};
+ghost use Rattle.sy_intsolve_paths_laws.specs.Paths.{IsPath};
 ghost use Rattle.sy_intsolve_points.specs.Points.{IsSoundFor};
 
 use crate::forms::forms_of;

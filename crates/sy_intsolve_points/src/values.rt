@@ -5,7 +5,7 @@ ghost use Rattle.sy_terms.specs.Values.{Whole};
 ghost use Rattle.sy_terms.specs.Denoted.{val_of, vals_of};
 ghost use Rattle.sy_linear_known.specs.Paths.{MeetsPath};
 ghost use Rattle.sy_linear_known.specs.Right.{Assigns, is_linear_sort};
-ghost use Rattle.sy_intsolve_asked.specs.Asked.{IsPath};
+ghost use Rattle.sy_intsolve_paths_laws.specs.Paths.{IsPath};
 ghost use Rattle.sy_intsolve_points.specs.Points.{IsPointOf, ValuesAreWhole};
 ghost use Rattle.sy_intsolve_points.specs.Points as spec;
 

@@ -24,8 +24,8 @@ use Rattle.sy_simplex.specs.Runs.{RunIsSpent, IsOutOfRange}
 use Rattle.sy_simplex.specs.declared.answer.Run.{Run}
 use Rattle.sy_simplex_tableau.specs.Operations.{fraction_of_whole}
 use Rattle.sy_simplex_tableau.specs.Rows.{at}
-use Rattle.sy_intsolve_asked.specs.Asked.{IsPath, TestIsOpen}
-use Rattle.sy_intsolve_asked.proofs.Paths.{asked}
+use Rattle.sy_intsolve_paths_laws.specs.Paths.{IsPath, TestIsOpen}
+use Rattle.sy_intsolve_paths_laws.proofs.Paths.{asked}
 use Rattle.sy_intsolve_order.proofs.Openings.{suits_is}
 use Rattle.sy_intsolve_points.specs.Points.{IsPointOf, IsFirstBroken}
 use Rattle.sy_intsolve_trees.specs.declared.fork.Fork.TheVariants as forks

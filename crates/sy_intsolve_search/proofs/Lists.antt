@@ -6,8 +6,8 @@ use Rattle.sy_frac.specs.Fraction.{Fraction}
 use Rattle.sy_terms.specs.declared.sort.Sort.{Sort}
 use Rattle.sy_linear_known.specs.declared.path.Fact.{Fact}
 use Rattle.sy_linear_known.specs.Seen.{LinearQuery}
-use Rattle.sy_intsolve_asked.specs.Asked.{IsPath}
-use Rattle.sy_intsolve_asked.proofs.Paths.{path-at_most, path-above}
+use Rattle.sy_intsolve_paths_laws.specs.Paths.{IsPath}
+use Rattle.sy_intsolve_paths_laws.proofs.Paths.{path-at_most, path-above}
 use Rattle.sy_intsolve_trees.specs.declared.fork.Fork.{Fork}
 use Rattle.sy_intsolve_trees.specs.declared.fork.Fork.TheVariants as forks
 use Rattle.sy_intsolve_trees.specs.declared.step.Order.{Order}

@@ -1,7 +1,7 @@
 // The test of a split.
 ghost use Rattle.std.specs.Prelude.{IfOk, IfSome};
 ghost use Rattle.sy_linear_known.specs.Stored.{linear_query_of};
-ghost use Rattle.sy_intsolve_asked.specs.Asked.{IsPath};
+ghost use Rattle.sy_intsolve_paths_laws.specs.Paths.{IsPath};
 ghost use Rattle.sy_intsolve_search.specs.Ways.{IsNumberedQuery, IsSplit};
 
 use crate::plan::Plan;

@@ -3,7 +3,7 @@ ghost use Rattle.std.specs.Prelude.{◌≡◌, IfOk, IfSome};
 ghost use Rattle.sy_linear_known.specs.Right.{KnownIsRight, IsMisfit};
 ghost use Rattle.sy_linear_known.specs.Seen.{query_known};
 ghost use Rattle.sy_linear_known.specs.Stored.{linear_query_of};
-ghost use Rattle.sy_intsolve_asked.specs.Asked.{IsPath};
+ghost use Rattle.sy_intsolve_paths_laws.specs.Paths.{IsPath};
 ghost use Rattle.sy_intsolve_points.specs.Points.{IsPointOf};
 ghost use Rattle.sy_intsolve_subsets.specs.Telling.{IsNear};
 ghost use Rattle.sy_intsolve_search.specs.Ways.{IsNumberedQuery, IsBrokenIn, TellsCorner, TellsPoint};

@@ -7,7 +7,7 @@ ghost use Rattle.sy_linear_known.specs.Seen.{LinearQuery as QueryOf, query_seen}
 ghost use Rattle.sy_linear_known.specs.Stored.{linear_query_of};
 ghost use Rattle.sy_linear_known.specs.Trees.{forms};
 ghost use Rattle.sy_simplex.specs.Runs.{RunIsSpent, IsOutOfRange};
-ghost use Rattle.sy_intsolve_asked.specs.Asked.{IsPath};
+ghost use Rattle.sy_intsolve_paths_laws.specs.Paths.{IsPath};
 ghost use Rattle.sy_intsolve_points.specs.Points.{IsPointOf, ValuesAreWhole};
 ghost use Rattle.sy_intsolve_trees.specs.declared.step.Order.{Order};
 ghost use Rattle.sy_intsolve_trees.specs.Growing.{Unfinished};

@@ -2,7 +2,7 @@
 ghost use Rattle.std.specs.Prelude.{◌≡◌, List, [], All, true, IfOk, IfSome};
 ghost use Rattle.sy_terms.specs.declared.sort.Sort.{Sort};
 ghost use Rattle.sy_linear_known.specs.declared.path.Fact.TheVariants.{AtLeast};
-ghost use Rattle.sy_intsolve_asked.specs.Asked.{Suit, IsPath};
+ghost use Rattle.sy_intsolve_paths_laws.specs.Paths.{Suit, IsPath};
 ghost use Rattle.sy_intsolve_points.specs.Points.{IsPointOf};
 
 use std::alloc::Global;

@@ -1,7 +1,7 @@
 // The simplex method over few facts of a path, and one more as long as a fact isn't met.
 ghost use Rattle.std.specs.Prelude.{◌<◌, ◌^◌, [], List, length, IfOk};
 ghost use Rattle.sy_terms.specs.declared.sort.Sort.{Sort};
-ghost use Rattle.sy_intsolve_asked.specs.Asked.{IsPath};
+ghost use Rattle.sy_intsolve_paths_laws.specs.Paths.{IsPath};
 ghost use Rattle.sy_intsolve_points.specs.Points.{IsPointOf};
 ghost use Rattle.sy_intsolve_subsets.specs.Telling.{IsNear, IsToldBy};
 

@@ -2,7 +2,7 @@ use Rattle.std.specs.Prelude.{◌≡◌, Ok}
 use Rattle.std.proofs.Common.{sym, ◌∙◌, ap, subst}
 use Rattle.sy_linear_known.specs.declared.path.Fact.{Fact}
 use Rattle.sy_linear.specs.Judging.{AnswersAt, Adds, split_outcome}
-use Rattle.sy_intsolve_asked.specs.Asked.{TestIsOpen}
+use Rattle.sy_intsolve_paths_laws.specs.Paths.{TestIsOpen}
 use Rattle.sy_intsolve_order.proofs.Openings.{form_opens, truth_opens, not_given}
 use Rattle.sy_intsolve_order.proofs.splitting.can_split.Goals as goal
 

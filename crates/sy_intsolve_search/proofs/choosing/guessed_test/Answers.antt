@@ -1,7 +1,7 @@
 use Rattle.std.specs.Prelude.{IfSome}
 use Rattle.std.proofs.Common.{sym, subst}
 use Rattle.sy_linear_known.specs.Stored.{linear_query_of}
-use Rattle.sy_intsolve_asked.specs.Asked.{IsPath, TestIsOpen}
+use Rattle.sy_intsolve_paths_laws.specs.Paths.{IsPath, TestIsOpen}
 use Rattle.sy_intsolve_search.specs.Ways.{IsSplit}
 use Rattle.sy_intsolve_search.proofs.Ends.{free-splits}
 use Rattle.sy_intsolve_search.proofs.choosing.guessed_test.Goals as goal

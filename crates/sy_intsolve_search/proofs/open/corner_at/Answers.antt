@@ -1,5 +1,5 @@
 use Rattle.std.proofs.Common.{◌<◌, ◌^◌, length, sym, subst}
-use Rattle.sy_intsolve_asked.specs.Asked.{IsPath}
+use Rattle.sy_intsolve_paths_laws.specs.Paths.{IsPath}
 use Rattle.sy_intsolve_search.proofs.Points.{tells-corner}
 use Rattle.sy_intsolve_search.proofs.open.corner_at.Goals as goal
 

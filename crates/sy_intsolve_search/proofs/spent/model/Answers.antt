@@ -4,7 +4,7 @@ use Rattle.sy_terms.specs.Values.{Whole}
 use Rattle.sy_terms.specs.Denoted.{vals_of}
 use Rattle.sy_linear_known.specs.Paths.{MeetsPath}
 use Rattle.sy_linear_known.specs.Right.{Assigns, is_linear_sort}
-use Rattle.sy_intsolve_asked.specs.Asked.{IsPath}
+use Rattle.sy_intsolve_paths_laws.specs.Paths.{IsPath}
 use Rattle.sy_intsolve_points.specs.Points.{IsPointOf}
 use Rattle.sy_intsolve_search.proofs.spent.model.Goals as goal
 

@@ -1,7 +1,7 @@
 use Rattle.std.proofs.Common.{◌∷◌, ◌++◌, [], sym, subst}
 use Rattle.sy_linear_known.specs.declared.path.Fact.TheVariants.{AtLeast}
-use Rattle.sy_intsolve_asked.specs.Asked.{IsPath}
-use Rattle.sy_intsolve_asked.proofs.Paths.{path-form}
+use Rattle.sy_intsolve_paths_laws.specs.Paths.{IsPath}
+use Rattle.sy_intsolve_paths_laws.proofs.Paths.{path-form}
 use Rattle.sy_intsolve_subsets.proofs.choosing.with_fact.Goals as goal
 
 pub returns : goal.returns

@@ -1,5 +1,5 @@
 use Rattle.std.proofs.Common.{sym, subst}
-use Rattle.sy_intsolve_asked.specs.Asked.{IsPath}
+use Rattle.sy_intsolve_paths_laws.specs.Paths.{IsPath}
 use Rattle.sy_intsolve_subsets.proofs.rounds.by_few_facts.Goals as goal
 
 pub by_chosen-requires-clause-chosen : goal.by_chosen-requires-clause-chosen

@@ -1,4 +1,4 @@
-use Rattle.sy_intsolve_asked.specs.Asked.{IsPath}
+use Rattle.sy_intsolve_paths_laws.specs.Paths.{IsPath}
 use Rattle.sy_intsolve_subsets.proofs.rounds.by_few_facts.Given as goal
 
 abbrev pub invariant-loop-round : goal.invariant-loop-round

@@ -17,11 +17,11 @@ use Rattle.sy_linear_known.specs.Paths.{given}
 use Rattle.sy_linear_known.specs.Seen.{LinearQuery, query_known}
 use Rattle.sy_linear_known.specs.Trees.{at_or_below, IsOf}
 use Rattle.sy_linear.specs.Judging.{is_bool}
-use Rattle.sy_intsolve_asked.specs.Asked.{Suit, AgreesWithPath, IsPath, TestIsOpen}
+use Rattle.sy_intsolve_paths_laws.specs.Paths.{Suit, AgreesWithPath, IsPath, TestIsOpen}
 use Rattle.sy_linear_known.proofs.Ascending.{Ascends, ascends-variable, ascends-minus, ascends-negation}
 use Rattle.sy_linear_known.proofs.Suiting.{IsOpenTest}
 use Rattle.sy_linear_known.proofs.Asking.{open_test}
-use Rattle.sy_intsolve_asked.proofs.Ascending.{ascends-is_form, ascends-over, ascends-all}
+use Rattle.sy_intsolve_paths_laws.proofs.Ascending.{ascends-is_form, ascends-over, ascends-all}
 
 -- ---- what a longer path gives
 given-more : (path : List Fact) (u : ℕ) (b : Bool) (fact : Fact) → given u path ≡ Some b → given u (path ++ fact ∷ []) ≡ Some b

@@ -10,7 +10,7 @@ ghost use Rattle.sy_linear_known.specs.declared.path.Fact.{Fact};
 ghost use Rattle.sy_linear_known.specs.declared.path.Test.{Test};
 ghost use Rattle.sy_linear_known.specs.declared.answer.Known.TheVariants.{Undecided};
 ghost use Rattle.sy_linear_known.specs.Seen.{LinearQuery, query_known};
-ghost use Rattle.sy_intsolve_asked.specs.Asked.{IsPath, TestIsOpen, Suit};
+ghost use Rattle.sy_intsolve_paths_laws.specs.Paths.{IsPath, TestIsOpen, Suit};
 
 /// The test that a query leaves open under a path is on variables of the query, its negation fits 128 bits, and the
 /// path stays one on these variables with either of the two.

@@ -1,5 +1,5 @@
-use Rattle.sy_intsolve_asked.proofs.Paths.{path-none, path-form, path-at_most, path-above}
-use Rattle.sy_intsolve_asked.proofs.law.paths_grow.Goals as goal
+use Rattle.sy_intsolve_paths_laws.proofs.Paths.{path-none, path-form, path-at_most, path-above}
+use Rattle.sy_intsolve_paths_laws.proofs.law.paths_grow.Goals as goal
 
 pub returns-clause-none : goal.returns-clause-none
 returns-clause-none c vars = path-none vars

@@ -1,5 +1,0 @@
-use Rattle.sy_intsolve_asked.proofs.Paths.{asked}
-use Rattle.sy_intsolve_asked.proofs.law.open_tests_suit.Goals as goal
-
-pub returns : goal.returns
-returns c query path test = asked query path test
