@@ -2,14 +2,15 @@
 """Measures a run of the gate: the processor minutes of each crate's proof, of its tests and of its must-fail edits.
 
 With no words it clones what is committed into a temporary folder and runs `rt ci --anew` there, so that all is proved
-from nothing; it ends with rt's status, and rt's own output is kept in a file that the first line names. With names of
-crates it does so for these and those below them alone (`rt ci --anew NAME..`). `--watch PID` measures a run of `rt ci`
-that goes on already, from now to its end, and leaves it alone: PID is its process or one above it, and what runs at
-that moment counts whole. Ctrl-C prints what is known so far (and stops a run of its own). The table is sorted by the
-sum of a row, and ends with the seconds of a must-fail edit, with its share of the check that all begin with, and their
-number; below it stand the sums, what was spent on linking and on running programs and tests, the wall time, and the
-longest chain of crates, each of which stands on the one before, by the seconds of their proofs. Times are those of this
-machine under its load. It reads /proc, so it runs on Linux alone.
+from nothing (plain `rt ci` with a kit that knows no `--anew`: it keeps nothing between runs); it ends with rt's status,
+and rt's own output is kept in a file that the first line names. With names of crates it does so for these and those
+below them alone (`rt ci --anew NAME..`). `--watch PID` measures a run of `rt ci` that goes on already, from now to its
+end, and leaves it alone: PID is its process or one above it, and what runs at that moment counts whole. Ctrl-C prints
+what is known so far (and stops a run of its own). The table is sorted by the sum of a row, and ends with the seconds of
+a must-fail edit, with its share of the check that all begin with, and their number; then those of the dearest check
+behind that first one. Below it stand the sums, what was spent on linking and on running programs and tests, the wall
+time, and the longest chain of crates, each of which stands on the one before, by the seconds of their proofs. Times are
+those of this machine under its load. It reads /proc, so it runs on Linux alone.
 """
 import argparse
 import collections
@@ -167,6 +168,12 @@ def libraries(folder):
     return {name: [it for it in rest if it in listed] for name, rest in listed.items()}
 
 
+def dearest_later(watch, crate):
+    """The most seconds that a check of an edit of the crate took behind the first one, from which the later ones take what it proved."""
+    checks = sorted((it.first, it.spent) for it in watch.tasks.values() if (it.crate, it.kind) == (crate, "edits"))
+    return max((spent for _, spent in checks[1:]), default=0)
+
+
 def edits_of(folder, crates):
     """How many must-fail edits each crate has."""
     return {it: len(glob.glob(f"{folder}/crates/{it}/must-fail/*.edit")) for it in crates}
@@ -192,7 +199,9 @@ def print_table(watch, below, edits):
     print(f"{'processor minutes':34}" + "".join(f"{it:>9}" for it in (*KINDS, "sum")) + "   seconds an edit")
     for total, crate in rows:
         line = f"{crate:34}" + "".join(f"{it / 60:9.2f}" for it in (*(sums[crate, kind] for kind in KINDS), total))
-        print(line + (f"{sums[crate, 'edits'] / edits[crate]:9.0f} x {edits[crate]}" if edits.get(crate) else ""))
+        if edits.get(crate):
+            line += f"{sums[crate, 'edits'] / edits[crate]:9.0f} x {edits[crate]}, later ones {dearest_later(watch, crate):.0f}"
+        print(line)
     totals = [sum(sums[it, kind] for it in crates) for kind in KINDS]
     print(f"{f'{len(crates)} crates':34}" + "".join(f"{it / 60:9.2f}" for it in (*totals, sum(totals))))
     for kind, name in (("links", "linking"), ("runs", "running programs and tests")):
@@ -227,6 +236,12 @@ def follow(pid, every, is_over=lambda: False):
     print_table(watch, below, edits)
 
 
+def from_nothing():
+    """The words for rt with which it proves all from nothing, where it might keep something between runs."""
+    told = subprocess.run(["rt", "help"], capture_output=True, text=True)
+    return ["--anew"] if "--anew" in told.stdout + told.stderr else []
+
+
 def run(names, every):
     """Runs the gate from nothing on a clone of what is committed, and returns its status."""
     top = subprocess.check_output(["git", "rev-parse", "--show-toplevel"], text=True).strip()
@@ -235,7 +250,7 @@ def run(names, every):
         print(f"rt's output: {log}", flush=True)
         subprocess.check_call(["git", "clone", "-q", top, f"{room}/repository"])
         how = {"cwd": f"{room}/repository", "stdin": subprocess.DEVNULL, "stdout": out, "stderr": subprocess.STDOUT}
-        with subprocess.Popen(["rt", "ci", "--anew", *names], **how) as started:
+        with subprocess.Popen(["rt", "ci", *from_nothing(), *names], **how) as started:
             try:
                 follow(started.pid, every, lambda: started.poll() is not None)
             finally:
