@@ -1,4 +1,5 @@
 pub mod Answer
+pub mod Codes
 pub mod Conflicts
 pub mod Status
 pub mod Trails

@@ -116,10 +116,6 @@ fn inspect(trail: &Trail, clause: &[Lit], other: Lit, from: usize) -> Outcome
     requires { literals clause.now other.var other.positive ≡ true }
     ensures { Suits (kept_values trail.now.values.items) (literals clause.now) other result }
 {
-    let truth = trail.truth(other);
-    if let Truth::True = truth {
-        return Outcome::Stay;
-    }
     if let Some(found) = find_other(trail, clause, other, from) {
         let pair = Pair {
             first: other,
@@ -127,10 +123,11 @@ fn inspect(trail: &Trail, clause: &[Lit], other: Lit, from: usize) -> Outcome
         };
         return Outcome::Move(pair, found.place);
     }
-    if let Truth::Open = truth {
-        return Outcome::Force(other);
+    match trail.truth(other) {
+        Truth::True => Outcome::Stay,
+        Truth::Open => Outcome::Force(other),
+        Truth::False => Outcome::Conflict,
     }
-    Outcome::Conflict
 }
 
 /// What becomes of the clause of this number, which watches this pair, where the literal has become false.

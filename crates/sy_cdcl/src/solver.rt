@@ -143,7 +143,7 @@ fn all_values(alloc: Global, trail: &Trail) -> Result<Seq<bool>, Want>
 {
     let mut values = Seq::new(alloc);
     for value in &trail.values {
-        values.push(value.unwrap_or(false))?;
+        values.push(value.get().unwrap_or(false))?;
     }
     Ok(values)
 }
@@ -233,13 +233,16 @@ fn keep(
     Ok(())
 }
 
-/// Makes the variables that the analysis used more active.
+/// Makes the variables that the analysis used more active, those of the learned clause twice as much
+/// as those that it resolved away.
 fn reward(order: &mut Order, line: &Line, clause: &[Lit]) {
     for step in line.steps.as_slice() {
         order.bump(step.var);
     }
-    for literal in clause {
-        order.bump(literal.var);
+    for _ in 0..2 {
+        for literal in clause {
+            order.bump(literal.var);
+        }
     }
     order.age();
 }

@@ -2,9 +2,11 @@
 ghost use Rattle.std.specs.Prelude.{◌≡◌, ℕ, Option, Some, None, [], ◌∷◌, ◌++◌, ◌<◌, ◌≤◌, ◌-◌, ◌+◌, length, vec_len, take, IfOk, OnOk, slice_index_or, slice_get, MatchBool, ◌≢◌, not};
 ghost use Rattle.sy_cdcl.specs.Trails.{kept_values, entries_values, IsTrail, ValuesAgree, level_start, unvalued_count, EachOnce};
 ghost use Rattle.sy_cdcl.specs.Truths.{IsTruthOf};
+ghost use Rattle.sy_cdcl.specs.Codes.{value_of};
 
 use crate::order::Order;
 use std::alloc::{AllocError, Global};
+use std::marker::Model;
 use sy_clauses::Lit;
 use sy_seq::Want;
 
@@ -23,11 +25,74 @@ pub enum Truth {
     Open,
 }
 
+/// A variable's value, or none, in one byte, so that it is compared at once.
+#[derive(Drop)]
+pub struct Held {
+    code: u8,
+}
+
+/// The code of no value.
+const OPEN: u8 = 2;
+
+impl Model for Held {
+    ghost use Rattle.std.specs.Prelude.{Option, Bool};
+    ghost use Rattle.sy_cdcl.specs.Codes.{value_of};
+
+    ghost Value = { Option Bool };
+
+    ghost view = { λ held. value_of held.code };
+}
+
+/// The code of a value.
+fn code_of(value: bool) -> u8
+    ensures { value_of result ≡ Some value }
+{
+    if value { 1 } else { 0 }
+}
+
+impl Held {
+    /// No value.
+    fn open() -> Self
+        ensures { result ≡ None }
+    {
+        Held { code: OPEN }
+    }
+
+    /// This value.
+    fn of(value: bool) -> Self
+        ensures { result ≡ Some value }
+    {
+        Held {
+            code: code_of(value),
+        }
+    }
+
+    /// The value.
+    pub fn get(&self) -> Option<bool>
+        ensures { result ≡ self.now }
+    {
+        if self.code == 0 {
+            return Some(false);
+        }
+        if self.code == 1 {
+            return Some(true);
+        }
+        None
+    }
+
+    /// Whether it is this value.
+    fn is(&self, value: bool) -> bool
+        ensures { MatchBool result (self.now ≡ Some value) (self.now ≢ Some value) }
+    {
+        self.code == code_of(value)
+    }
+}
+
 /// The values by variable, the literals that are true in order, and where each level above the
 /// lowest begins among them.
 #[derive(Drop)]
 pub struct Trail {
-    pub values: Vec<Option<bool>>,
+    pub values: Vec<Held>,
     pub entries: Vec<Entry>,
     pub starts: Vec<usize>,
 }
@@ -42,7 +107,7 @@ impl Trail {
     {
         let mut values = Vec::new(alloc);
         for _ in 0..vars {
-            values.push(None)?;
+            values.push(Held::open())?;
         }
         Ok(Trail {
             values,
@@ -56,7 +121,7 @@ impl Trail {
         ensures { result ≡ kept_values self.now.values.items var }
     {
         match self.values.get(var as usize) {
-            Some(value) => *value,
+            Some(held) => held.get(),
             None => None,
         }
     }
@@ -86,8 +151,8 @@ impl Trail {
             (kept_values self.now.values.items literal.var ≡ Some literal.positive)
             (kept_values self.now.values.items literal.var ≢ Some literal.positive) }
     {
-        match self.value(literal.var) {
-            Some(value) => value == literal.positive,
+        match self.values.get(literal.var as usize) {
+            Some(held) => held.is(literal.positive),
             None => false,
         }
     }
@@ -98,8 +163,8 @@ impl Trail {
             (kept_values self.now.values.items literal.var ≡ Some (not literal.positive))
             (kept_values self.now.values.items literal.var ≢ Some (not literal.positive)) }
     {
-        match self.value(literal.var) {
-            Some(value) => value != literal.positive,
+        match self.values.get(literal.var as usize) {
+            Some(held) => held.is(!literal.positive),
             None => false,
         }
     }
@@ -127,7 +192,7 @@ impl Trail {
     {
         let index = literal.var as usize;
         self.entries.push(Entry { literal, reason })?;
-        self.values[index] = Some(literal.positive);
+        self.values[index] = Held::of(literal.positive);
         Ok(())
     }
 
@@ -155,7 +220,7 @@ impl Trail {
             let index = entry.literal.var as usize;
             order.restore(entry.literal.var, entry.literal.positive);
             if index < self.values.len() {
-                self.values[index] = None;
+                self.values[index] = Held::open();
             }
         }
     }

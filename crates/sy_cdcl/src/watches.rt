@@ -68,18 +68,89 @@ pub struct Pair {
     pub second: Lit,
 }
 
+/// The pair that a clause watches, where it has one, beside the place in the clause at which the last
+/// literal to be watched was found. A search that begins there passes over the false literals before it.
+/// No contract speaks of the place, since any one is right.
+#[derive(Drop)]
+pub struct Watched {
+    first_var: u32,
+    second_var: u32,
+    hint: u32,
+    first_positive: bool,
+    second_positive: bool,
+    is_paired: bool,
+}
+
+impl Model for Watched {
+    ghost use Rattle.std.specs.Prelude.{Option};
+    ghost use Rattle.sy_cdcl.specs.declared.watches.Pair.{Pair};
+    ghost use Rattle.sy_cdcl.specs.Codes.{pair_if};
+
+    ghost Value = { Option Pair };
+
+    ghost view = { λ w. pair_if w.is_paired w.first_var w.first_positive w.second_var w.second_positive };
+}
+
+impl Watched {
+    /// No pair.
+    fn unwatched() -> Self
+        ensures { result ≡ None }
+    {
+        Watched {
+            first_var: 0,
+            second_var: 0,
+            hint: 0,
+            first_positive: false,
+            second_positive: false,
+            is_paired: false,
+        }
+    }
+
+    /// The pair, where there is one.
+    fn pair(&self) -> Option<Pair>
+        ensures { result ≡ self.now }
+    {
+        if !self.is_paired {
+            return None;
+        }
+        let first = Lit {
+            var: self.first_var,
+            positive: self.first_positive,
+        };
+        let second = Lit {
+            var: self.second_var,
+            positive: self.second_positive,
+        };
+        Some(Pair { first, second })
+    }
+
+    /// The pair and the place at which its second literal was found, if it is small.
+    fn found_at(pair: Pair, place: usize) -> Self
+        ensures { result ≡ Some pair }
+    {
+        let hint = if place <= 0xffff_ffff {
+            place as u32
+        } else {
+            0
+        };
+        Watched {
+            first_var: pair.first.var,
+            second_var: pair.second.var,
+            hint,
+            first_positive: pair.first.positive,
+            second_positive: pair.second.positive,
+            is_paired: true,
+        }
+    }
+}
+
 /// The pair that each clause watches, the clauses that watch each literal, and how many entries of the
 /// trail were visited. A clause without a pair has a literal that is true at the lowest level.
-///
-/// `hints` has the place in each clause at which the last literal to be watched was found. A search
-/// that begins there passes over the false literals before it. No contract speaks of it, since any
-/// place is right.
 #[derive(Drop)]
 pub struct Watches {
-    pub pairs: Vec<Option<Pair>>,
+    pub pairs: Vec<Watched>,
     pub lists: Vec<Watchers>,
     pub head: usize,
-    pub hints: Vec<u32>,
 }
 
 /// Where the clauses that watch the literal are listed.
@@ -106,7 +177,6 @@ impl Watches {
             pairs: Vec::new(alloc),
             lists,
             head: 0,
-            hints: Vec::new(alloc),
         })
     }
 
@@ -115,28 +185,16 @@ impl Watches {
         ensures { result ≡ pair_of self.now.pairs.items number }
     {
         match self.pairs.get(number as usize) {
-            Some(pair) => *pair,
+            Some(watched) => watched.pair(),
             None => None,
         }
     }
 
     /// Where a search for another literal to watch is to begin.
     pub fn hint(&self, number: u32) -> usize {
-        match self.hints.get(number as usize) {
-            Some(place) => *place as usize,
+        match self.pairs.get(number as usize) {
+            Some(watched) => watched.hint as usize,
             None => 0,
-        }
-    }
-
-    /// Keeps the place at which a literal to watch was found.
-    fn set_hint(&mut self, number: u32, place: usize)
-        ensures lists { self.new.lists.items ≡ self.old.lists.items }
-        ensures pairs { self.new.pairs.items ≡ self.old.pairs.items }
-        ensures head { self.new.head ≡ self.old.head }
-    {
-        let index = number as usize;
-        if index < self.hints.len() && place <= 0xffff_ffff {
-            self.hints[index] = place as u32;
         }
     }
 
@@ -182,8 +240,7 @@ impl Watches {
         ensures pairs { OnOk result (self.new.pairs.items ≡ self.old.pairs.items ++ Some pair ∷ []) }
         ensures head { self.new.head ≡ self.old.head }
     {
-        self.pairs.push(Some(pair))?;
-        self.hints.push(0)?;
+        self.pairs.push(Watched::found_at(pair, 0))?;
         self.enlist(list_index(pair.first), number)?;
         self.enlist(list_index(pair.second), number)?;
         Ok(())
@@ -195,8 +252,7 @@ impl Watches {
         ensures pairs { OnOk result (self.new.pairs.items ≡ self.old.pairs.items ++ None ∷ []) }
         ensures head { self.new.head ≡ self.old.head }
     {
-        self.pairs.push(None)?;
-        self.hints.push(0)?;
+        self.pairs.push(Watched::unwatched())?;
         Ok(())
     }
 
@@ -220,8 +276,7 @@ impl Watches {
         ensures head { self.new.head ≡ self.old.head }
     {
         self.delist(list, place);
-        self.pairs[number as usize] = Some(pair);
-        self.set_hint(number, found);
+        self.pairs[number as usize] = Watched::found_at(pair, found);
         self.enlist(list_index(pair.second), number)?;
         Ok(())
     }

@@ -27,7 +27,7 @@ loop-watches-preserved c =
       ready = e.ready;
       extends = extends_trans c.args.trail.now c.loop-watches.trail t i.extends e.extends;
       vars = vars_kept known c.loop-watches.trail t e.extends i.vars;
-      watching = watching_next known t w record { pairs = w.pairs; lists = w.lists; head = w.head + 1; hints = w.hints } e.watching more all refl refl refl;
+      watching = watching_next known t w record { pairs = w.pairs; lists = w.lists; head = w.head + 1 } e.watching more all refl refl refl;
     }
 
 pub returns-clause-ends : goal.returns-clause-ends

@@ -9,5 +9,5 @@ returns-clause-watching c =
     let w = c.args.watches.now in
     let len : c.len-watches.result ≡ length t.entries.items = omega (arith, c.len-watches.ensures, t.entries.ok.0) in
     watching_back (known_clauses c.args.cnf.now.clauses c.args.derived.now) c.args.trail.now t w
-    record { pairs = w.pairs; lists = w.lists; head = c.len-watches.result; hints = w.hints } c.requires.ready c.requires.watching c.go_back.ensures.back c.go_back.ensures.vars
+    record { pairs = w.pairs; lists = w.lists; head = c.len-watches.result } c.requires.ready c.requires.watching c.go_back.ensures.back c.go_back.ensures.vars
     refl refl len
