@@ -6,16 +6,16 @@ use Rattle.std.proofs.lemmas.List.{take_all}
 use Rattle.sy_clauses.specs.declared.Lit.{Lit}
 use Rattle.sy_clauses.specs.Clauses.{Clause, same_literal}
 use Rattle.sy_clauses.specs.New.{HasTrue, ClauseIsSettled}
-use Rattle.sy_clauses.proofs.Sets.{literal_is, same_self}
+use Rattle.sy_clauses.proofs.Sets.{same_self}
 use Rattle.sy_cdcl.specs.declared.trail.Entry.{Entry}
 use Rattle.sy_cdcl.specs.declared.watches.Pair.{Pair}
 use Rattle.sy_cdcl.specs.Trails.{entries_values, EachOnce}
 use Rattle.sy_cdcl.specs.Watching.{Falsifies, IsBacked, IsGuarded, IsWatched}
-use Rattle.sy_cdcl.specs.Visits.{IsApart, IsOther, IsWatchedPair}
+use Rattle.sy_cdcl.specs.Visits.{IsApart, IsOther, StaysWatched}
 use Rattle.sy_cdcl.proofs.Back.{get_taken, get_in_taken}
 use Rattle.sy_cdcl.proofs.Push.{some_is, push_cases, WasThere, IsLast}
 use Rattle.sy_cdcl.proofs.Places.{source, value_at}
-use Rattle.sy_cdcl.proofs.Learning.{not_not, never}
+use Rattle.sy_cdcl.proofs.Learning.{not_not}
 
 get_old : {X : Type 0} → (xs : List X) (x y : X) (k : ℕ) → slice_get xs k ≡ Some y → slice_get (xs ++ x ∷ []) k ≡ Some y
 get_old [] x y k h = cc
@@ -194,62 +194,30 @@ falsified es p e l o at f =
 -- the next entry is visited, and another literal is watched in the place of the one that it makes false
 pub watched_moved : (es : List Entry) (starts : List ℕ) (head : ℕ) (c : Clause) (old new : Pair) (e : Entry) (a : Lit) →
     EachOnce es → slice_get es head ≡ Some e → a.var ≡ e.literal.var → a.positive ≡ not e.literal.positive →
-    IsWatchedPair old a new.first → IsOther (entries_values es) c new.first new.second →
+    StaysWatched old a new.first → IsOther (entries_values es) c new.first new.second →
     IsGuarded es starts head c old → IsGuarded es starts (head + 1) c new
-watched_moved es starts head c old new e a once at v s (inl b) other w =
-    let q : new.first ≡ old.second = b.1 in
-    record {
-      has_first = subst (λ (l : Lit). c l.var l.positive ≡ true) (sym q) w.has_second;
-      has_second = other.has;
-      different = other.different;
-      backed = λ p x k here g.
-          ⊎_elim
-          (λ (t : Falsifies x new.first).
-          let u = subst (λ (l : Lit). Falsifies x l) q t in
-          ⊎_elim (λ (r : p < head). w.backed p x r here (inr u))
-          (λ (r : p ≡ head).
-          let same : x ≡ e = some_is (sym here ∙ ap (slice_get es) r ∙ at) in
-          let d = literal_is old.first.var old.first.positive a.var a.positive b.0 in
-          let apart : same_literal old.second.var old.second.positive a.var a.positive ≡ false =
-          never (same_literal old.second.var old.second.positive a.var a.positive) (λ h.
-          let y = literal_is old.second.var old.second.positive a.var a.positive h in
-          let i : old.second.var ≡ old.first.var = sym y.0 ∙ d.0 in
-          let j : old.second.positive ≡ old.first.positive = sym y.1 ∙ d.1 in
-          let own : same_literal old.first.var old.first.positive old.second.var old.second.positive ≡ true =
-          rw (i, j) (same_self old.first.var old.first.positive) in
-          let z : true ≡ false = sym own ∙ w.different in cc) in
-          absurd (not_apart e a old.second v s (subst (λ (y : Entry). Falsifies y old.second) same u) apart))
-          (last_or p head k))
-          (λ (t : Falsifies x new.second). absurd (other.not_false (falsified es p x new.second once here t)))
-          g;
-    }
-watched_moved es starts head c old new e a once at v s (inr b) other w =
-    let q : new.first ≡ old.first = b.1 in
-    record {
-      has_first = subst (λ (l : Lit). c l.var l.positive ≡ true) (sym q) w.has_first;
-      has_second = other.has;
-      different = other.different;
-      backed = λ p x k here g.
-          ⊎_elim
-          (λ (t : Falsifies x new.first).
-          let u = subst (λ (l : Lit). Falsifies x l) q t in
-          ⊎_elim (λ (r : p < head). w.backed p x r here (inl u))
-          (λ (r : p ≡ head).
-          let same : x ≡ e = some_is (sym here ∙ ap (slice_get es) r ∙ at) in
-          let d = literal_is old.second.var old.second.positive a.var a.positive b.0 in
-          let apart : same_literal old.first.var old.first.positive a.var a.positive ≡ false =
-          never (same_literal old.first.var old.first.positive a.var a.positive) (λ h.
-          let y = literal_is old.first.var old.first.positive a.var a.positive h in
-          let i : old.second.var ≡ old.first.var = sym d.0 ∙ y.0 in
-          let j : old.second.positive ≡ old.first.positive = sym d.1 ∙ y.1 in
-          let own : same_literal old.first.var old.first.positive old.second.var old.second.positive ≡ true =
-          rw (i, j) (same_self old.first.var old.first.positive) in
-          let z : true ≡ false = sym own ∙ w.different in cc) in
-          absurd (not_apart e a old.first v s (subst (λ (y : Entry). Falsifies y old.first) same u) apart))
-          (last_or p head k))
-          (λ (t : Falsifies x new.second). absurd (other.not_false (falsified es p x new.second once here t)))
-          g;
-    }
+watched_moved es starts head c old new e a once at v s stays other w = record {
+  has_first =
+      ⊎_elim (λ (q : new.first ≡ old.first). subst (λ (l : Lit). c l.var l.positive ≡ true) (sym q) w.has_first)
+      (λ (q : new.first ≡ old.second). subst (λ (l : Lit). c l.var l.positive ≡ true) (sym q) w.has_second)
+      stays.one;
+  has_second = other.has;
+  different = other.different;
+  backed = λ p x k here g.
+      ⊎_elim
+      (λ (t : Falsifies x new.first).
+      ⊎_elim
+      (λ (r : p < head). w.backed p x r here
+      (⊎_elim (λ (q : new.first ≡ old.first). inl (subst (λ (l : Lit). Falsifies x l) q t))
+      (λ (q : new.first ≡ old.second). inr (subst (λ (l : Lit). Falsifies x l) q t))
+      stays.one))
+      (λ (r : p ≡ head).
+      let same : x ≡ e = some_is (sym here ∙ ap (slice_get es) r ∙ at) in
+      absurd (not_apart e a new.first v s (subst (λ (y : Entry). Falsifies y new.first) same t) stays.apart))
+      (last_or p head k))
+      (λ (t : Falsifies x new.second). absurd (other.not_false (falsified es p x new.second once here t)))
+      g;
+}
 
 option_cases : (o : Option Bool) → (o ≡ None) ⊎ ((b : Bool) × (o ≡ Some b))
 option_cases None = inl refl

@@ -9,6 +9,7 @@ pub mod Values
 mod Bound
 mod Pigeons
 pub mod Inspect
+pub mod Judging
 pub mod Listing
 pub mod Guards
 pub mod Visiting

@@ -11,14 +11,14 @@ use Rattle.sy_cdcl.proofs.Learning.{not_not}
 use Rattle.sy_clauses.specs.declared.Lit.{Lit}
 use Rattle.sy_clauses.specs.Clauses.{Clause, same_literal}
 use Rattle.sy_clauses.specs.New.{Partial, HasTrue, AllSettled, ClauseIsSettled}
-use Rattle.sy_clauses.proofs.Sets.{literal_is, same_self}
+use Rattle.sy_clauses.proofs.Sets.{literal_is}
 use Rattle.sy_cdcl.specs.declared.trail.Entry.{Entry}
 use Rattle.sy_cdcl.specs.declared.trail.Trail.{Trail}
 use Rattle.sy_cdcl.specs.declared.watches.Pair.{Pair}
 use Rattle.sy_cdcl.specs.declared.watches.Watches.{Watches}
 use Rattle.sy_cdcl.specs.Trails.{entries_values, kept_values, TrailIsReady, TrailExtends, VarsBelow}
 use Rattle.sy_cdcl.specs.Watching.{list_of, pair_of, IsIn, list_at, enlisted, delisted, IsWatched, IsGuarded, AllWatched, IsWatching}
-use Rattle.sy_cdcl.specs.Visits.{IsApart, IsWatchedPair, MayStay, MayMove, MayForce}
+use Rattle.sy_cdcl.specs.Visits.{IsApart, StaysWatched, MayStay, MayMove, MayForce}
 use Rattle.sy_cdcl.proofs.Push.{some_is, same_values, extends_refl, extends_trans, vars_kept}
 use Rattle.sy_cdcl.proofs.Listing.{in_enlisted, in_enlisted_new, in_delisted, in_delisted_other, list_of-injective, list_within}
 use Rattle.sy_cdcl.proofs.Guards.{watched_more, watched_weaker, watched_next, watched_moved, watched_settled, falsified}
@@ -194,17 +194,6 @@ visiting_forced clauses old t new w head list place n e a l reason f i here m r 
     get_old (z ∷ zs) x y zero h = h
     get_old (z ∷ zs) x y (suc k) h = get_old zs x y k h
 
--- two literals that are one literal
-both_are : (x y a : Lit) → same_literal x.var x.positive a.var a.positive ≡ true → same_literal y.var y.positive a.var a.positive ≡ true →
-    same_literal x.var x.positive y.var y.positive ≡ false → ⊥
-both_are x y a p q d =
-    let g = literal_is x.var x.positive a.var a.positive p in
-    let h = literal_is y.var y.positive a.var a.positive q in
-    let i : y.var ≡ x.var = sym h.0 ∙ g.0 in
-    let j : y.positive ≡ x.positive = sym h.1 ∙ g.1 in
-    let own : same_literal x.var x.positive y.var y.positive ≡ true = rw (i, j) (same_self x.var x.positive) in
-    let z : true ≡ false = sym own ∙ d in cc
-
 -- the clause watches another literal
 pub visiting_moved : (clauses : List Clause) (old t : Trail) (w new : Watches) (head list place n : ℕ) (e : Entry) (a : Lit) (pair : Pair) →
     IsNegated e a → list ≡ list_of a → IsVisiting clauses old t w head list place e → slice_get (list_at w.lists.items list) place ≡ Some n →
@@ -222,7 +211,7 @@ visiting_moved clauses old t w new head list place n e a pair f la i here inside
     let others : (k : ℕ) → k ≢ n → pair_of new.pairs.items k ≡ pair_of w.pairs.items k =
     λ k d. ap (λ (xs : List (Option Pair)). pair_of xs k) ps ∙ get_or-set_other w.pairs.items n k (Some pair) None d in
     let guarded : IsGuarded t.entries.items t.starts.items (head + 1) m.clause pair =
-    watched_moved t.entries.items t.starts.items head m.clause m.old pair e a i.ready.assignment.once i.at f.var f.sign m.beside m'.other
+    watched_moved t.entries.items t.starts.items head m.clause m.old pair e a i.ready.assignment.once i.at f.var f.sign m.stays m'.other
     (subst (λ (k : ℕ). IsWatched t.entries.items t.starts.items k m.clause (Some m.old)) i.unmoved
     (subst (λ (o : Option Pair). IsWatched t.entries.items t.starts.items w.head m.clause o) m.had (i.watching.watched n m.clause m.at))) in
     let visited : (c : Clause) → slice_get clauses n ≡ Some c → IsWatched t.entries.items t.starts.items (head + 1) c (pair_of new.pairs.items n) =
@@ -259,16 +248,14 @@ visiting_moved clauses old t w new head list place n e a pair f la i here inside
             let x = i.watching.listed n m.old m.had in
             let was : IsIn (list_at w.lists.items (list_of pair.first)) 0 n =
             ⊎_elim
-            (λ (b : (same_literal m.old.first.var m.old.first.positive a.var a.positive ≡ true) × (pair.first ≡ m.old.second)).
-            subst (λ (l : Lit). IsIn (list_at w.lists.items (list_of l)) 0 n) (sym b.1) x.1)
-            (λ (b : (same_literal m.old.second.var m.old.second.positive a.var a.positive ≡ true) × (pair.first ≡ m.old.first)).
-            subst (λ (l : Lit). IsIn (list_at w.lists.items (list_of l)) 0 n) (sym b.1) x.0)
-            m.beside in
+            (λ (b : pair.first ≡ m.old.first). subst (λ (l : Lit). IsIn (list_at w.lists.items (list_of l)) 0 n) (sym b) x.0)
+            (λ (b : pair.first ≡ m.old.second). subst (λ (l : Lit). IsIn (list_at w.lists.items (list_of l)) 0 n) (sym b) x.1)
+            m.stays.one in
             let both : IsIn (list_at new.lists.items (list_of pair.first)) 0 n × IsIn (list_at new.lists.items (list_of pair.second)) 0 n = (
               subst (λ (xs : List (List ℕ)). IsIn (list_at xs (list_of pair.first)) 0 n) (sym ls)
                   (in_enlisted thin (list_of pair.second) (list_of pair.first) n 0 n long
                   (in_delisted_other w.lists.items list (list_of pair.first) place 0 n
-                  (λ y. first_other clauses t w m.old a pair e f i.watching n m.clause m.at m.had m.beside (y ∙ la)) was)),
+                  (λ y. first_other m.old a pair m.stays (y ∙ la)) was)),
               subst (λ (xs : List (List ℕ)). IsIn (list_at xs (list_of pair.second)) 0 n) (sym ls)
                   (in_enlisted_new thin (list_of pair.second) n long),
             ) in
@@ -295,17 +282,8 @@ visiting_moved clauses old t w new head list place n e a pair f la i here inside
     }
   where
     -- the other literal is another one
-    first_other : (clauses : List Clause) (t : Trail) (w : Watches) (had : Pair) (a : Lit) (pair : Pair) (e : Entry) → IsNegated e a → IsWatching clauses t w →
-        (n : ℕ) (c : Clause) → slice_get clauses n ≡ Some c → pair_of w.pairs.items n ≡ Some had → IsWatchedPair had a pair.first →
-        list_of pair.first ≡ list_of a → ⊥
-    first_other clauses t w had a pair e f i n c at is (inl b) l =
-        let x = list_of-injective pair.first a l in
-        let y = subst (λ (z : Lit). same_literal z.var z.positive a.var a.positive ≡ true) b.1 x in
-        both_are had.first had.second a b.0 y (subst (λ (o : Option Pair). IsWatched t.entries.items t.starts.items w.head c o) is (i.watched n c at)).different
-    first_other clauses t w had a pair e f i n c at is (inr b) l =
-        let x = list_of-injective pair.first a l in
-        let y = subst (λ (z : Lit). same_literal z.var z.positive a.var a.positive ≡ true) b.1 x in
-        both_are had.first had.second a y b.0 (subst (λ (o : Option Pair). IsWatched t.entries.items t.starts.items w.head c o) is (i.watched n c at)).different
+    first_other : (had : Pair) (a : Lit) (pair : Pair) → StaysWatched had a pair.first → list_of pair.first ≡ list_of a → ⊥
+    first_other had a pair stays l = let z : true ≡ false = sym (list_of-injective pair.first a l) ∙ stays.apart in cc
 
 -- the list that is visited is shorter by the clause
 pub visiting_shorter : (clauses : List Clause) (old t : Trail) (w new : Watches) (head list place n : ℕ) (e : Entry) (a : Lit) (pair : Pair) →

@@ -29,11 +29,10 @@ pub record IsApart (pair : Pair) (l : Lit) : Type 0 where
   pub first : same_literal pair.first.var pair.first.positive l.var l.positive ≡ false
   pub second : same_literal pair.second.var pair.second.positive l.var l.positive ≡ false
 
--- the pair is this literal and the other one
-abbrev pub IsWatchedPair : Pair → Lit → Lit → Type 0
-IsWatchedPair pair l other =
-    ((same_literal pair.first.var pair.first.positive l.var l.positive ≡ true) × (other ≡ pair.second))
-    ⊎ ((same_literal pair.second.var pair.second.positive l.var l.positive ≡ true) × (other ≡ pair.first))
+-- one of the pair, and not this literal
+pub record StaysWatched (pair : Pair) (l other : Lit) : Type 0 where
+  pub one : (other ≡ pair.first) ⊎ (other ≡ pair.second)
+  pub apart : same_literal other.var other.positive l.var l.positive ≡ false
 
 -- by the clause's literals and the other one that it watches
 abbrev pub Suits : Partial → Clause → Lit → Outcome → Type 0
@@ -53,7 +52,7 @@ pub record MayMove (clauses : List Clause) (values : Partial) (pairs : List (Opt
   pub at : slice_get clauses n ≡ Some clause
   pub old : Pair
   pub had : pair_of pairs n ≡ Some old
-  pub beside : IsWatchedPair old l new.first
+  pub stays : StaysWatched old l new.first
   pub other : IsOther values clause new.first new.second
 
 -- all literals but this one are false

@@ -5,7 +5,7 @@ ghost use Rattle.sy_clauses.specs.Clauses.{literals, same_literal, known_clauses
 ghost use Rattle.sy_cdcl.specs.Trails.{kept_values, TrailIsReady, TrailExtends, VarsBelow, LevelsSettled};
 ghost use Rattle.sy_cdcl.specs.Status.{IsConflict};
 ghost use Rattle.sy_cdcl.specs.Watching.{AllWatched, IsWatching, IsAttached, pair_of};
-ghost use Rattle.sy_cdcl.specs.Visits.{IsFalseBut, IsOther, IsApart, IsWatchedPair, Suits, SuitsAt, MayForce, IsOnly, IsAnother, AreFalseBut};
+ghost use Rattle.sy_cdcl.specs.Visits.{IsFalseBut, IsOther, Suits, SuitsAt, MayForce, IsOnly, IsAnother, AreFalseBut};
 
 use crate::trail::{Entry, Trail, Truth};
 use crate::watches::{Pair, Watches, list_index};
@@ -31,25 +31,14 @@ fn negated(literal: Lit) -> Lit
     }
 }
 
-/// The literal of the pair beside this one, where this is one of them.
-fn beside(pair: Pair, literal: Lit) -> Option<Lit>
-    ensures { MatchOption result (IsApart pair literal) (λ other. IsWatchedPair pair literal other) }
+/// The literal of the pair beside this one, where this is one of them. It reads the sign only once it
+/// is chosen, and takes no branch where the processor can choose.
+fn other_of(pair: Pair, literal: Lit) -> Lit
+    ensures one { (result ≡ pair.first) ⊎ (result ≡ pair.second) }
+    ensures apart { same_literal pair.first.var pair.first.positive pair.second.var pair.second.positive ≡ false →
+        same_literal result.var result.positive literal.var literal.positive ≡ false }
 {
     if is_same(pair.first, literal) {
-        return Some(pair.second);
-    }
-    if is_same(pair.second, literal) {
-        return Some(pair.first);
-    }
-    None
-}
-
-/// The literal of the pair that is likely not this one: it looks at the variables alone, and takes no
-/// branch where the processor can choose.
-fn likely_other(pair: Pair, literal: Lit) -> Lit
-    ensures { (result ≡ pair.first) ⊎ (result ≡ pair.second) }
-{
-    if pair.first.var == literal.var {
         pair.second
     } else {
         pair.first
@@ -130,30 +119,6 @@ fn inspect(trail: &Trail, clause: &[Lit], other: Lit, from: usize) -> Outcome
     }
 }
 
-/// What becomes of the clause of this number, which watches this pair, where the literal has become false.
-fn examine(
-    watches: &Watches,
-    trail: &Trail,
-    cnf: &Cnf,
-    derived: &[Seq<Lit>],
-    number: u32,
-    pair: Pair,
-    falsified: Lit,
-) -> Outcome
-    requires agrees { TrailIsReady (known_clauses cnf.now.clauses derived.now) trail.now }
-    requires watched { AllWatched (known_clauses cnf.now.clauses derived.now) trail.now watches.now.head watches.now.pairs.items }
-    requires pair { pair_of watches.now.pairs.items number ≡ Some pair }
-    ensures { SuitsAt (known_clauses cnf.now.clauses derived.now) (kept_values trail.now.values.items) watches.now.pairs.items falsified number result }
-{
-    let Some(other) = beside(pair, falsified) else {
-        return Outcome::Stay;
-    };
-    let Some(clause) = clause_at(cnf, derived, number) else {
-        return Outcome::Stay;
-    };
-    inspect(trail, clause, other, watches.hint(number))
-}
-
 /// What becomes of the clause of this number, where the literal has become false.
 fn judge(
     watches: &Watches,
@@ -170,10 +135,14 @@ fn judge(
     let Some(pair) = watches.pair(number) else {
         return Outcome::Stay;
     };
-    if trail.is_true(likely_other(pair, falsified)) {
+    let other = other_of(pair, falsified);
+    if trail.is_true(other) {
         return Outcome::Stay;
     }
-    examine(watches, trail, cnf, derived, number, pair, falsified)
+    let Some(clause) = clause_at(cnf, derived, number) else {
+        return Outcome::Stay;
+    };
+    inspect(trail, clause, other, watches.hint(number))
 }
 
 /// Makes the last literal of a unit clause true, with the clause's number as the reason.
