@@ -402,3 +402,30 @@ pub bind-returns-clause-kept : goal.bind-returns-clause-kept
 bind-returns-clause-kept g t c =
     let longer = c.in_ok-extend_from_slice.ensures.items ∙ ap (λ rest. c.args.room.now.sorts.items ++ rest) c.as_slice.ensures.value in
     (λ k. (c.in_ok-take.ensures.kept k).items) ∙ (c.truncate.ensures.items ∙ (ap (take c.len-long.result) (c.in_ok-term.ensures.kept ∙ longer) ∙ (ap (λ n. take n (c.args.room.now.sorts.items ++ c.args.found.sorts.items)) c.len-long.ensures ∙ take-append_seam c.args.room.now.sorts.items c.args.found.sorts.items)))
+
+pub place_all-returns-in_err-sorts-clause-heavy : goal.place_all-returns-in_err-sorts-clause-heavy
+place_all-returns-in_err-sorts-clause-heavy g t c h = walk.not-error c.from_residual.result _ _ c.from_residual.ensures.1 (λ same. cc) h
+
+pub place_all-returns-in_err-push-clause-heavy : goal.place_all-returns-in_err-push-clause-heavy
+place_all-returns-in_err-push-clause-heavy g t c h = walk.not-error c.from_residual-in_err-push.result _ _ c.from_residual-in_err-push.ensures.1 (λ same. cc) h
+
+pub place_all-returns-in_err-push-2-clause-heavy : goal.place_all-returns-in_err-push-2-clause-heavy
+place_all-returns-in_err-push-2-clause-heavy g t c h = walk.not-error c.from_residual-in_err-push-2.result _ _ c.from_residual-in_err-push-2.ensures.1 (λ same. cc) h
+
+pub place_all-returns-clause-heavy : goal.place_all-returns-clause-heavy
+place_all-returns-clause-heavy g t c h = absurd cc
+
+pub bind-returns-in_err-extend_from_slice-clause-heavy : goal.bind-returns-in_err-extend_from_slice-clause-heavy
+bind-returns-in_err-extend_from_slice-clause-heavy g t c h = walk.not-error c.from_residual.result _ _ c.from_residual.ensures.1 (λ same. cc) h
+
+pub bind-returns-in_err-new-clause-heavy : goal.bind-returns-in_err-new-clause-heavy
+bind-returns-in_err-new-clause-heavy g t c h = walk.not-error c.from_residual-in_err-new.result _ _ c.from_residual-in_err-new.ensures.1 (λ same. cc) h
+
+pub bind-returns-clause-heavy : goal.bind-returns-clause-heavy
+bind-returns-clause-heavy g t c h = absurd cc
+
+pub bind-returns-in_err-term-clause-heavy : goal.bind-returns-in_err-term-clause-heavy
+bind-returns-in_err-term-clause-heavy g t c h =
+    let longer = c.in_ok-extend_from_slice.ensures.items ∙ ap (λ rest. c.args.room.now.sorts.items ++ rest) c.as_slice.ensures.value in
+    let heavy = rw longer at (c.in_err-term.ensures.heavy (ap Err (walk.kept-error c.from_residual-in_err-term.result _ _ c.from_residual-in_err-term.ensures.1 h))) in
+    omega (arith, heavy)

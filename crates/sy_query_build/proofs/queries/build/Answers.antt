@@ -7,7 +7,7 @@ use Rattle.sy_query_base.specs.Asked.{Query, QueryFits, query_weight}
 use Rattle.sy_query_base.specs.Queries.{IsViolation}
 use Rattle.sy_query_base.proofs.Violations.{says}
 use Rattle.sy_query_build.proofs.Problem as problem
-use Rattle.sy_query_build.proofs.Walking.{kept-error}
+use Rattle.sy_query_build.proofs.Walking.{kept-error, not-error}
 use Rattle.sy_query_build.proofs.queries.build.Goals as goal
 
 pub place_all-requires-clause-definitions : goal.place_all-requires-clause-definitions
@@ -86,3 +86,31 @@ returns-clause-light g c =
     let last = c.in_ok-take.ensures.ok in
     let whole = ap (query_weight g.T.Theory.owned) (returns-clause-query g c) ∙ problem.query-weight g.T.Theory.owned g.T.Theory.numeric g.T.Theory.denotes c.args.problem.now c.args.bodies.now (g.met.T.Theory.core ops.And refl) (g.met.T.Theory.core ops.Not refl) c.requires.problem c.requires.bodies in
     omega (arith, whole, before, after, last, c.new-room.ensures.weight)
+
+pub returns-in_err-to_vec-clause-heavy : goal.returns-in_err-to_vec-clause-heavy
+returns-in_err-to_vec-clause-heavy g c h = not-error c.from_residual.result _ _ c.from_residual.ensures.1 (λ same. cc) h
+
+pub returns-in_err-body-clause-heavy : goal.returns-in_err-body-clause-heavy
+returns-in_err-body-clause-heavy g c h = not-error c.from_residual-in_err-body.result _ _ c.from_residual-in_err-body.ensures.1 (λ same. cc) h
+
+pub returns-in_err-vars-clause-heavy : goal.returns-in_err-vars-clause-heavy
+returns-in_err-vars-clause-heavy g c h = not-error c.from_residual-in_err-vars.result _ _ c.from_residual-in_err-vars.ensures.1 (λ same. cc) h
+
+pub returns-then-not-room-clause-heavy : goal.returns-then-not-room-clause-heavy
+returns-then-not-room-clause-heavy g c h = absurd cc
+
+pub returns-clause-heavy : goal.returns-clause-heavy
+returns-clause-heavy g c h = absurd cc
+
+pub place_all-requires-clause-sized : goal.place_all-requires-clause-sized
+place_all-requires-clause-sized g c =
+    let same = (λ k. (c.new-room.ensures.sorts k).items) ∙ (c.in_ok-to_vec.ensures.items_if_clones_equal (λ x y h. h) ∙ c.as_slice-vars.ensures) in
+    rw same (problem.variables-sized g.T.Theory.numeric c.args.problem.now.vars (problem_variables g.T.Theory.owned g.T.Theory.numeric g.T.Theory.denotes c.args.problem.now c.requires.problem))
+
+pub place_all-requires-clause-small : goal.place_all-requires-clause-small
+place_all-requires-clause-small g c = omega (arith, c.new-room.ensures.weight, c.ranges.limit)
+
+pub place_all-requires-2-clause-small : goal.place_all-requires-2-clause-small
+place_all-requires-2-clause-small g c =
+    let taken = c.in_ok-assumptions.ensures.ok.weight in
+    omega (arith, taken, c.new-room.ensures.weight, c.ranges.limit)

@@ -1,6 +1,6 @@
 use Rattle.std.proofs.Common.{arith, ap, ◌∙◌, Err}
 use Rattle.sy_query_build.proofs.Itself as itself
-use Rattle.sy_query_build.proofs.Walking.{kept-error}
+use Rattle.sy_query_build.proofs.Walking.{kept-error, not-error}
 use Rattle.sy_query_build.proofs.queries.weigh.Goals as goal
 
 pub place-requires-clause-term : goal.place-requires-clause-term
@@ -21,3 +21,25 @@ returns-clause-weight g c =
     let weight = itself.body-weight g.T.Theory.owned g.T.Theory.denotes _ _ _ _ c.args.query.now.body (c.as_slice-2.ensures ∙ c.new-defs.ensures) (c.as_slice-3.ensures ∙ c.new-bodies.ensures) same c.requires.body in
     let taken = c.in_ok-_placed.ensures.ok.weight in
     omega (arith, weight, taken, c.new-room.ensures.weight)
+
+pub returns-in_err-to_vec-clause-heavy : goal.returns-in_err-to_vec-clause-heavy
+returns-in_err-to_vec-clause-heavy g c h = not-error c.from_residual.result _ _ c.from_residual.ensures.1 (λ same. cc) h
+
+pub place-requires-clause-small : goal.place-requires-clause-small
+place-requires-clause-small g c = omega (arith, c.new-room.ensures.weight, c.ranges.cap)
+
+pub overflow_cast-result : goal.overflow_cast-result
+overflow_cast-result g c =
+    let taken = c.in_ok-_placed.ensures.ok.weight in
+    omega (arith, taken, c.new-room.ensures.weight, c.ranges.cap)
+
+pub overflow_sub-result : goal.overflow_sub-result
+overflow_sub-result g c =
+    let taken = c.in_ok-_placed.ensures.ok.weight in
+    omega (arith, taken, c.new-room.ensures.weight)
+
+pub returns-clause-light : goal.returns-clause-light
+returns-clause-light g c = omega arith
+
+pub returns-clause-heavy : goal.returns-clause-heavy
+returns-clause-heavy g c h = absurd cc
