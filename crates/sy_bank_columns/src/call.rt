@@ -1,6 +1,6 @@
 // Rows of definitions at rows.
-ghost use Rattle.std.specs.Prelude.{◌≡◌, ℕ, ◌<◌, false, [], IfOk, IfErr, length, map};
-ghost use Rattle.sy_terms.specs.Denoted.{vals_of, expr_of};
+ghost use Rattle.std.specs.Prelude.{◌≡◌, ℕ, ◌<◌, false, [], IfOk, IfErr, IsErrOf, length, map};
+ghost use Rattle.sy_terms.specs.Denoted.{val_of, vals_of, expr_of};
 ghost use Rattle.sy_terms.specs.Definitions.{DefinitionsFit};
 ghost use Rattle.sy_terms.specs.Expr.{Invoke};
 ghost use Rattle.sy_terms.specs.Meaning.{value_at_position};
@@ -35,6 +35,27 @@ fn call_at<T: Theory>(
     Ok(Term::Call(Fun::Defined(definition), arguments))
 }
 
+/// The definition's value at constants, which are what the rows have at the place of this number.
+fn called_value<T: Theory>(
+    alloc: Global,
+    defs: &Defs<T>,
+    definition: u32,
+    rows: &[Row<'_, Value<T::Num>>],
+    number: usize,
+    count: usize,
+) -> Result<Value<T::Num>, Eval>
+    requires definitions { DefinitionsFit T.owned T.denotes defs.now }
+    requires sized { AreSized count (map (λ row. vals_of T.denotes (row_values row)) rows.now) }
+    requires within { number < count }
+    requires fit { FitsWith T.owned T.denotes defs.now [] [] (Invoke (Defined definition) (constants (column (map (λ row. vals_of T.denotes (row_values row)) rows.now) number))) }
+    ensures ok { IfOk result (λ value. GivesValue T.owned T.denotes defs.now [] [] (Invoke (Defined definition) (constants (column (map (λ row. vals_of T.denotes (row_values row)) rows.now) number))) (val_of T.denotes value)) }
+    ensures range { IsErrOf result Eval.Range → can_compute T.denotes defs.now [] [] (Invoke (Defined definition) (constants (column (map (λ row. vals_of T.denotes (row_values row)) rows.now) number))) ≡ false }
+{
+    let term = call_at::<T>(alloc, definition, rows, number, count)?;
+    let nothing = Vec::new(alloc);
+    evaluate(alloc, defs, nothing.as_slice(), &term)
+}
+
 /// The definition's values at the columns of the rows, of which each has `count` values.
 pub fn called_row<T: Theory>(
     alloc: Global,
@@ -51,10 +72,8 @@ pub fn called_row<T: Theory>(
     ensures lost { IfErr result (λ end. WhereLost end (λ k. (k < count) × (can_compute T.denotes defs.now [] [] (Invoke (Defined definition) (constants (column (map (λ row. vals_of T.denotes (row_values row)) rows.now) k))) ≡ false))) }
 {
     let mut found = Vec::with_capacity(alloc, count)?;
-    let nothing = Vec::new(alloc);
     for number in 0..count {
-        let term = call_at::<T>(alloc, definition, rows, number, count)?;
-        match evaluate(alloc, defs, nothing.as_slice(), &term) {
+        match called_value(alloc, defs, definition, rows, number, count) {
             Ok(value) => found.push(value)?,
             Err(Eval::Range) => return Err(lost_at(number)),
             Err(Eval::Want) => return Err(RowEnd::Want),

@@ -11,19 +11,22 @@ use Rattle.sy_bank_columns.proofs.ByPoint.{values-next}
 use Rattle.sy_bank_columns.proofs.Forms.{loss-at}
 use Rattle.sy_bank_columns.proofs.call.called_row.Goals as goal
 
-pub evaluate-requires-clause-term : goal.evaluate-requires-clause-term
-evaluate-requires-clause-term g c = rw (c.as_slice.ensures.value, c.new-nothing.ensures.items, c.in_ok-term.ensures) (c.requires.fit c.loop-number.number c.loop-number-test.true)
+pub called_value-requires-clause-fit : goal.called_value-requires-clause-fit
+called_value-requires-clause-fit g c = c.requires.fit c.loop-number.number c.loop-number-test.true
+
+pub called_value-requires-clause-within : goal.called_value-requires-clause-within
+called_value-requires-clause-within g c = c.loop-number-test.true
 
 pub returns-in-Err-Range-clause-lost : goal.returns-in-Err-Range-clause-lost
 returns-in-Err-Range-clause-lost g c =
     let number = g.T.Theory.denotes in
-    let can = rw (c.as_slice.ensures.value, c.new-nothing.ensures.items, c.in_ok-term.ensures) at (c.evaluate.ensures.range (c.in-Err-Range.is ∙ ap Err c.in-Err-Range.field-0-is)) in
+    let can = c.called_value.ensures.range (c.in-Err-Range.is ∙ ap Err c.in-Err-Range.field-0-is) in
     loss-at c.lost_at.result c.loop-number.number (λ k. (k < c.args.count) × (can_compute number c.args.defs.now [] [] (Invoke (Defined c.args.definition) (constants (column (map (λ row. vals_of number (row_values row)) c.args.rows.now) k))) ≡ false)) c.lost_at.ensures (c.loop-number-test.true, can)
 
 pub loop-number-preserved : goal.loop-number-preserved
 loop-number-preserved g c =
     let number = g.T.Theory.denotes in
-    let gives = rw (c.as_slice.ensures.value, c.new-nothing.ensures.items, c.in_ok-term.ensures) at c.in-Ok.ensures.ok in
+    let gives = c.in-Ok.ensures.ok in
     record {
       sized = rw c.in_ok-push-in-Ok.ensures.items (omega (arith, length-append c.loop-number.found.items (c.in-Ok.value ∷ []), c.loop-number.invariant.sized));
       each =

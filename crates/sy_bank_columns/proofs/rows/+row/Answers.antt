@@ -1,5 +1,5 @@
 use Rattle.std.proofs.Common.{◌≤◌, ◌∙◌, [], ◌∷◌, ap, sym, arith, length, map, subst, refl}
-use Rattle.std.proofs.lemmas.List.{length-map}
+use Rattle.std.proofs.lemmas.List.{length-map, take_all}
 use Rattle.sy_terms.specs.Expr.{Apply}
 use Rattle.sy_terms.specs.Denoted.{val_of, vals_of}
 use Rattle.sy_terms.specs.Meaning.{functions}
@@ -8,9 +8,10 @@ use Rattle.sy_terms.specs.declared.term.Fun.TheVariants.{Defined}
 use Rattle.sy_grammar_base.specs.Patterns.{all_occurring, all_filled}
 use Rattle.sy_grammar_base.specs.Written.{patterns_of, pattern_of-Non, pattern_of-App, pattern_of-Call}
 use Rattle.sy_bank_rows.specs.Rows.{IsLostAt}
-use Rattle.sy_bank_rows.specs.Columns.{AreSized, FitsAt, HasRow}
+use Rattle.sy_bank_rows.specs.Columns.{AreSized, FitsAt, HasRow, HaveRows}
 use Rattle.sy_bank_rows.specs.Covering.{terms}
 use Rattle.sy_bank_columns.specs.Lent.{row_values}
+use Rattle.sy_bank_columns.specs.declared.ends.RowEnd.TheVariants.{Want}
 use Rattle.sy_bank_rows.specs.Stored.{chosen_of}
 use Rattle.sy_bank_columns.specs.Found.{IsColumnOf}
 use Rattle.sy_bank_columns.proofs.Pieces.{apply-owned, rows-none, rows-from, part-fits, part-lost, rows-next}
@@ -485,3 +486,25 @@ part_pair-returns-clause-ok g t c =
     let used = pair-used number c.args.first.now c.args.second.now c.places.result (length c.args.chosen.now) c.requires.enough c.places.ensures in
     let rows = pair-rows number scope defined points c.args.first.now c.args.second.now c.args.chosen.now c.split_at.result.1.now c.places.result c.as_slice.result.now c.as_slice-2.result.now (row_values c.in_ok-left.left) (row_values c.in_ok-right.right) used c.split_at.ensures.back c.as_slice.ensures c.as_slice-2.ensures c.in_ok-left.ensures.ok c.in_ok-right.ensures.ok in
     pair-applied scope defined points c.args.operator.now arguments (vals_of number c.as_slice.result.now) (vals_of number c.as_slice-2.result.now) (vals_of number c.in_ok-row.row.items) c.requires.fits rows c.in_ok-row.ensures.ok
+
+pub part_row-returns-in_err-row-in-Const-clause-lost : goal.part_row-returns-in_err-row-in-Const-clause-lost
+part_row-returns-in_err-row-in-Const-clause-lost g t c = handed_on _ c.from_residual.result Want c.from_residual.ensures.1 tt
+
+pub part_row-returns-in_err-row-in-Var-clause-lost : goal.part_row-returns-in_err-row-in-Var-clause-lost
+part_row-returns-in_err-row-in-Var-clause-lost g t c = handed_on _ c.from_residual-in_err-row-in-Var.result Want c.from_residual-in_err-row-in-Var.ensures.1 tt
+
+pub part_rows-returns-in_err-rows-clause-lost : goal.part_rows-returns-in_err-rows-clause-lost
+part_rows-returns-in_err-rows-clause-lost g t c = handed_on _ c.from_residual.result Want c.from_residual.ensures.1 tt
+
+pub part_rows-returns-in_err-push-in-Ok-clause-lost : goal.part_rows-returns-in_err-push-in-Ok-clause-lost
+part_rows-returns-in_err-push-in-Ok-clause-lost g t c = handed_on _ c.from_residual-in_err-push-in-Ok.result Want c.from_residual-in_err-push-in-Ok.ensures.1 tt
+
+pub part_rows-returns-clause-ok : goal.part_rows-returns-clause-ok
+part_rows-returns-clause-ok g t c =
+    let number = g.T.Theory.denotes in
+    let scope = scope_of g.T.Theory.owned c.args.defs.now in
+    let defined = functions (bodies number c.args.defs.now) in
+    let points = map (vals_of number) c.args.points.now in
+    let ts = terms (chosen_of number c.args.chosen.now) in
+    let all = take_all c.loop-part.part-index c.as_slice-part-items.result.now c.loop-part-test.false ∙ c.as_slice-part-items.ensures in
+    subst (λ items. HaveRows scope defined points (all_filled (patterns_of number items) ts) (map (λ row. vals_of number (row_values row)) c.loop-part.rows.items)) all c.loop-part.invariant.rows

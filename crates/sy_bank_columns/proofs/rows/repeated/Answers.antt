@@ -1,0 +1,6 @@
+use Rattle.std.proofs.Common.{◌∙◌, ◌++◌, ◌∷◌, [], ap}
+use Rattle.std.proofs.lemmas.List.{replicate_more}
+use Rattle.sy_bank_columns.proofs.rows.repeated.Goals as goal
+
+pub loop-preserved : goal.loop-preserved
+loop-preserved g c = c.in_ok-push.ensures.items ∙ ap (λ front. front ++ c.args.value ∷ []) c.loop.invariant ∙ replicate_more c.loop.counter c.args.value
