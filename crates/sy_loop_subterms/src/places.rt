@@ -32,7 +32,7 @@ impl Places {
         }
     }
 
-    /// Adds the place for the key. On `Want` nothing changes.
+    /// Adds the place for the key. `Want` comes where memory runs out, and nowhere else; nothing changes then.
     pub fn add(&mut self, alloc: Global, key: u64, place: u32) -> Result<(), Want>
         ensures ok { OnOk result (KeyIsAdded (key_places self.old) key place (key_places self.new)) }
         ensures err { OnErr result ((other : ℕ) → key_places self.new other ≡ key_places self.old other) }

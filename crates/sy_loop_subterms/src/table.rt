@@ -93,7 +93,8 @@ impl<T: Theory> Table<T> {
         place_of(self.shapes.as_slice(), places, shape)
     }
 
-    /// The number of the shape, which is added where it isn't there yet. Want of memory also where 32 bits don't count it.
+    /// The number of the shape, which is added where it isn't there yet. `Want` comes where memory runs out, and where 32
+    /// bits don't count it; nothing is promised of the table then.
     pub fn number(&mut self, alloc: Global, shape: Shape<T>) -> Result<u32, Want>
         requires below { AreBelow (length self.old) (numbers_of (shape_of T.denotes shape)) }
         ensures at { IfOk result (λ number. slice_get self.new number ≡ Some (shape_of T.denotes shape)) }

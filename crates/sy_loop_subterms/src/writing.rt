@@ -11,7 +11,8 @@ use crate::table::Table;
 use std::alloc::{AllocError, Global};
 use sy_terms::{Seq, Term, Terms, Theory, Value, Want};
 
-/// The subterms of the term with its bindings written out, over so many variables, and the term's own number.
+/// The subterms of the term with its bindings written out, over so many variables, and the term's own number. `Want` comes
+/// where memory runs out, and where 32 bits don't count the variables and other subterms.
 pub fn written<T: Theory>(
     alloc: Global,
     variables: usize,
