@@ -37,22 +37,10 @@ impl Circuit {
         ensures value { IfOk result (λ r. (v : ℕ → Bool) → FollowsPlan v self.new → bit_value v r ≡ order_value order (word_number v a.now) (word_number v b.now)) }
     {
         match order {
-            Order::Less => {
-                let below = self.less(alloc, a, b)?;
-                Ok(below)
-            }
-            Order::AtMost => {
-                let above = self.less(alloc, b, a)?;
-                Ok(above.negated())
-            }
-            Order::Greater => {
-                let above = self.less(alloc, b, a)?;
-                Ok(above)
-            }
-            Order::AtLeast => {
-                let below = self.less(alloc, a, b)?;
-                Ok(below.negated())
-            }
+            Order::Less => self.less(alloc, a, b),
+            Order::AtMost => Ok(self.less(alloc, b, a)?.negated()),
+            Order::Greater => self.less(alloc, b, a),
+            Order::AtLeast => Ok(self.less(alloc, a, b)?.negated()),
         }
     }
 
@@ -75,22 +63,10 @@ impl Circuit {
         ensures value { IfOk result (λ r. (v : ℕ → Bool) → FollowsPlan v self.new → (bit_value v r ≡ true ↔ Stands order (signed_number (length a.now) (word_number v a.now)) (signed_number (length a.now) (word_number v b.now)))) }
     {
         match order {
-            Order::Less => {
-                let below = self.signed_less(alloc, a, b)?;
-                Ok(below)
-            }
-            Order::AtMost => {
-                let above = self.signed_less(alloc, b, a)?;
-                Ok(above.negated())
-            }
-            Order::Greater => {
-                let above = self.signed_less(alloc, b, a)?;
-                Ok(above)
-            }
-            Order::AtLeast => {
-                let below = self.signed_less(alloc, a, b)?;
-                Ok(below.negated())
-            }
+            Order::Less => self.signed_less(alloc, a, b),
+            Order::AtMost => Ok(self.signed_less(alloc, b, a)?.negated()),
+            Order::Greater => self.signed_less(alloc, b, a),
+            Order::AtLeast => Ok(self.signed_less(alloc, a, b)?.negated()),
         }
     }
 

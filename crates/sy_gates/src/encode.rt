@@ -4,7 +4,7 @@ ghost use Rattle.sy_gates.specs.declared.gate.Gate.TheVariants.{And, Xor, Choose
 ghost use Rattle.sy_gates.specs.Models.{clauses_value, but_last, values_of};
 
 use crate::circuit::Circuit;
-use crate::gate::{Gate, negated};
+use crate::gate::{Gate, negated, variable};
 use std::alloc::Global;
 use sy_clauses::{Cnf, Lit};
 use sy_seq::{Seq, Want};
@@ -33,14 +33,8 @@ fn add_and(
     ensures count { OnOk result (length clauses.new ≤ length clauses.old + 4) }
     ensures bound { OnOk result (clauses_bound clauses.new ≤ max (clauses_bound clauses.old) (max (made + 1) (gate_bound (And a b)))) }
 {
-    let on = Lit {
-        var: made,
-        positive: true,
-    };
-    let off = Lit {
-        var: made,
-        positive: false,
-    };
+    let on = variable(made);
+    let off = negated(on);
     let not_a = negated(a);
     let not_b = negated(b);
     add_clause(alloc, clauses, &[off, a])?;
@@ -62,14 +56,8 @@ fn add_xor(
     ensures count { OnOk result (length clauses.new ≤ length clauses.old + 4) }
     ensures bound { OnOk result (clauses_bound clauses.new ≤ max (clauses_bound clauses.old) (max (made + 1) (gate_bound (Xor a b)))) }
 {
-    let on = Lit {
-        var: made,
-        positive: true,
-    };
-    let off = Lit {
-        var: made,
-        positive: false,
-    };
+    let on = variable(made);
+    let off = negated(on);
     let not_a = negated(a);
     let not_b = negated(b);
     add_clause(alloc, clauses, &[off, a, b])?;
@@ -93,14 +81,8 @@ fn add_choose(
     ensures count { OnOk result (length clauses.new ≤ length clauses.old + 4) }
     ensures bound { OnOk result (clauses_bound clauses.new ≤ max (clauses_bound clauses.old) (max (made + 1) (gate_bound (Choose t a b)))) }
 {
-    let on = Lit {
-        var: made,
-        positive: true,
-    };
-    let off = Lit {
-        var: made,
-        positive: false,
-    };
+    let on = variable(made);
+    let off = negated(on);
     let not_t = negated(t);
     let not_a = negated(a);
     let not_b = negated(b);

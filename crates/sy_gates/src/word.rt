@@ -3,6 +3,7 @@ ghost use Rattle.sy_gates.specs.Circuits.{variables, FollowsPlan, GrownCircuit, 
 
 use crate::circuit::Circuit;
 use crate::gate::{Added, Bit};
+use crate::wires::filled;
 use std::alloc::Global;
 use sy_seq::{Seq, Want};
 
@@ -190,11 +191,7 @@ pub fn zeros(alloc: Global, width: usize) -> Result<Seq<Bit>, Want>
     ensures bound { IfOk result (λ r. word_bound r ≡ 0) }
     ensures value { IfOk result (λ r. (v : ℕ → Bool) → word_number v r ≡ 0) }
 {
-    let mut word = Seq::new(alloc);
-    for i in 0..width {
-        word.push(Bit::Fixed(false))?;
-    }
-    Ok(word)
+    filled(alloc, Bit::Fixed(false), width)
 }
 
 /// The word whose bits are those of `a`, each turned.

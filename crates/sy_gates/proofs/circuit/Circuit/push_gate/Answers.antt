@@ -1,4 +1,3 @@
-use Rattle.std.proofs.Common.{◌≡◌, ap}
 use Rattle.sy_gates.proofs.Gates.{kept-push, grown-push, follows-last}
 use Rattle.sy_gates.proofs.Keys.{still-found, found-push}
 use Rattle.sy_gates.proofs.circuit.Circuit.push_gate.Goals as goal
