@@ -22,7 +22,7 @@ fn is_sort(sort: Sort) -> bool
 }
 
 /// Whether the query fits: its variables are truth values and integers, and its body is a truth value's term over them,
-/// which calls nothing.
+/// which calls nothing. `Want` comes where memory runs out, and nowhere else.
 pub fn fits(alloc: Global, query: &Query<IntTheory>) -> Result<bool, Want>
     ensures { IfOk result (λ yes. IsTrue yes ↔ QueryFits owned numeric (query_of Whole query.now)) }
 {

@@ -99,7 +99,7 @@ fn by_row(
 }
 
 /// The cut of the least magnitude among those that the tableau's rows suggest: each that has a free variable whose value
-/// isn't whole, and its opposite. None where no row gives one.
+/// isn't whole, and its opposite. `None` where no row gives one. `Want` comes where memory runs out, and nowhere else.
 pub fn best(
     alloc: Global,
     vars: &[Sort],

@@ -66,8 +66,8 @@ fn search(
 /// steps of the simplex method at one leaf. `Never` has a tree that refutes the query, `Model` an assignment that satisfies
 /// it, and `Spent` an unfinished tree, each split of which is on the first open test, that shows which budget was met.
 ///
-/// Splits are on tests that are likely to settle much; only where that search meets a budget, another one splits on the first
-/// open test.
+/// Splits are on tests that are likely to settle much; only where that search meets a budget, another one splits on the
+/// first open test. `Want` comes where memory runs out, and where a path has 2^31 forms.
 pub fn solve_query(
     alloc: Global,
     query: &Query<IntTheory>,

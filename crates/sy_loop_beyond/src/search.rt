@@ -26,7 +26,8 @@ const MOST_NODES: u32 = 500;
 /// Bodies that solve the problem, with the solver's proof, of sizes up to `bound`: a kept term of the bank's greatest size,
 /// or what a rule of the start symbol gives of kept terms. Each is judged at the stored assignments and at those that
 /// refuted others before it, and then decided. `None` where none was found to solve the problem, or too many weren't
-/// decided; nothing follows from it.
+/// decided; nothing follows from it. `Want` comes where memory runs out, where 32 bits don't count the positions of a
+/// query, the points of a bank or the function's arguments, and where `decide` answers it.
 pub fn solve_beyond<T: Theory, D: Decide<T>>(
     alloc: Global,
     problem: &Problem<T>,
@@ -64,7 +65,8 @@ pub fn solve_beyond<T: Theory, D: Decide<T>>(
     Ok(found)
 }
 
-/// The same where no bank is full: bodies over banks that are built anew, without terms that leave the 128 bits.
+/// The same where no bank is full: bodies over banks that are built anew, without terms that leave the 128 bits. `None`
+/// and `Want` come as there.
 pub fn solve_anew<T: Theory, D: Decide<T>>(
     alloc: Global,
     problem: &Problem<T>,

@@ -19,7 +19,8 @@ use sy_grammar_base::{Problem, Wanted};
 use sy_terms::{Seq, Theory, Values, Want};
 
 /// A bank of the one function to be found over these tuples, of terms up to the size `upto` and of at most `cap` terms: all
-/// of them, or as many as there was room for. `None` where a tuple isn't of the function's arguments.
+/// of them, or as many as there was room for. `None` where a tuple isn't of the function's arguments. `Want` comes where
+/// memory runs out, and where 32 bits don't count the tuples or the arguments.
 pub fn bank_over<T: Theory>(
     alloc: Global,
     problem: &Problem<T>,

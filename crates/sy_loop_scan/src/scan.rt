@@ -17,7 +17,8 @@ pub struct Scan {
 }
 
 impl Scan {
-    /// A scan of combinations of up to the size. Nothing is wanted yet.
+    /// A scan of combinations of up to the size. Nothing is wanted yet. `Want` comes where memory runs out, and nowhere
+    /// else.
     pub fn new(
         alloc: Global,
         shapes: Vec<Shape>,
@@ -38,7 +39,8 @@ impl Scan {
     }
 
     /// One point more: the value that is wanted there, and for each pool the values of its kept terms. A vector is the number
-    /// of its bits, a truth value 0 or 1. Where a value isn't given, no combination of the kept term is named.
+    /// of its bits, a truth value 0 or 1. Where a value isn't given, no combination of the kept term is named. `Want`
+    /// comes where memory runs out, and nowhere else.
     pub fn add_point(&mut self, wanted: i128, columns: Vec<Vec<i128>>) -> Result<(), Want>
         ensures shapes { self.new.shapes ≡ self.old.shapes }
         ensures pools { self.new.pools ≡ self.old.pools }
@@ -47,8 +49,8 @@ impl Scan {
         self.progress.add_point(wanted, columns.as_slice())
     }
 
-    /// The next combination that has the wanted values; `None` where nothing is wanted, all are passed, or the stated work is
-    /// done.
+    /// The next combination that has the wanted values; `None` where nothing is wanted, all are passed, or the stated work
+    /// is done. `Want` comes where memory runs out, and nowhere else.
     pub fn next_guess(&mut self) -> Result<Option<Guess>, Want>
         ensures shapes { self.new.shapes ≡ self.old.shapes }
         ensures pools { self.new.pools ≡ self.old.pools }

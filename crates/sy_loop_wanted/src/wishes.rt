@@ -18,7 +18,8 @@ pub struct Wish<T: Theory> {
 /// What the constraints want of the one function to be found at these values of the variables, where they name it outright.
 /// `(= (f ..) t)` wants a value, where no call is in `t` and the arguments; `(f ..)` wants to be true, and `(not (f ..))` to
 /// be false; so does a part of `and`, `or` and `=>`, where the others leave it no choice. Nothing is wanted where an assumption
-/// is false. What is wanted is a guide to a search: a solution is proved by its query.
+/// is false. What is wanted is a guide to a search: a solution is proved by its query. `Want` comes where memory runs out,
+/// and nowhere else.
 pub fn wishes_at<T: Theory>(
     alloc: Global,
     problem: &Problem<T>,
