@@ -22,7 +22,7 @@ pub(crate) fn assignment_at<T: Theory>(
     copied_values::<T>(alloc, assignment.as_slice())
 }
 
-/// Copies of the bodies.
+/// Copies of the bodies. `Want` comes where memory runs out, and nowhere else.
 pub fn copied_bodies<T: Theory>(alloc: Global, bodies: &Bodies<T>) -> Result<Bodies<T>, Want>
     ensures { IfOk result (λ copies. map (expr_of T.denotes) copies ≡ map (expr_of T.denotes) bodies.now) }
 {

@@ -18,7 +18,9 @@ use sy_query_decide::{Decide, Verdict};
 use sy_terms::{Bodies, Theory, Want};
 
 /// Decides the query of bodies that are due, without a look at the stored assignments. An assignment that violates the
-/// problem is stored. Where there may be more of them, what the bodies ask there is added to the points.
+/// problem is stored. Where there may be more of them, what the bodies ask there is added to the points. `Want` comes where
+/// memory runs out, where 32 bits don't count a position of the query, and where `decide` answers it; nothing is promised of
+/// what is known then.
 pub fn decide_due<T: Theory, D: Decide<T>>(
     alloc: Global,
     problem: &Problem<T>,

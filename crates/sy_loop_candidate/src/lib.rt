@@ -12,4 +12,4 @@ mod truth;
 pub use copies::copied_bodies;
 pub use due::decide_due;
 pub use step::{End, Known, Step, try_candidate};
-pub use truth::{Truth, all_true, is_true, truth_of};
+pub use truth::{Truth, all_true, is_true};

@@ -52,7 +52,9 @@ pub enum Step<T: Theory, P: Drop, S: Drop> {
 }
 
 /// Tries the bodies at the stored assignments. Where they meet the problem at each of them, and all that they ask there is
-/// among the points, their query is decided. `reach` says which bodies count as candidates.
+/// among the points, their query is decided. `reach` says which bodies count as candidates. `Want` comes where memory runs
+/// out, where 32 bits don't count a position of the query, and where `decide` answers it; nothing is promised of what is
+/// known then.
 pub fn try_candidate<T: Theory, D: Decide<T>>(
     alloc: Global,
     problem: &Problem<T>,

@@ -57,7 +57,7 @@ pub(crate) fn judge<T: Theory>(
     Ok(judged)
 }
 
-/// Whether all of the terms are true.
+/// Whether all of the terms are true. `Want` comes where memory runs out, and nowhere else.
 pub fn all_true<T: Theory>(
     alloc: Global,
     problem: &Problem<T>,
@@ -82,7 +82,7 @@ pub fn all_true<T: Theory>(
 }
 
 /// Whether the term is true.
-pub fn truth_of<T: Theory>(
+fn truth_of<T: Theory>(
     alloc: Global,
     problem: &Problem<T>,
     bodies: &Bodies<T>,
