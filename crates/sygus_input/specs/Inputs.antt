@@ -1,0 +1,73 @@
+-- What words ask a run for, and the file under their name.
+use Rattle.std.specs.Prelude.{ℕ, ◌≡◌, ◌<◌, ◌≤◌, List, length, Option, IfSome}
+use Rattle.sy_io.specs.Causes.{Rose}
+use Rattle.sy_io.specs.Source.{Holding, bytes_under}
+use Rattle.sy_query_limits.specs.declared.Limits.{Limits}
+use Rattle.sygus_words.specs.CommandLine.{IsReading}
+use Rattle.sygus_words.specs.declared.settings.Mode.TheVariants.{Drill}
+use Rattle.sygus_words.specs.declared.settings.Settings.{Settings}
+use Rattle.sygus_input.specs.declared.input.Input.{Input}
+use Rattle.sygus_input.specs.declared.input.Input.TheVariants as inputs
+use Rattle.sygus_input.specs.declared.input.InputFault.{InputFault}
+use Rattle.sygus_input.specs.declared.input.InputFault.TheVariants as faults
+
+-- the most bytes that a file may have
+abbrev pub longest : ℕ
+longest = 4194304
+
+-- words that are no command line of the program
+abbrev pub HaveNoReading : List (List ℕ) → Type 0
+HaveNoReading words = (settings : Settings) → IsReading words settings → ⊥
+
+-- the words ask for the drill of this number, within these limits
+pub record AskDrill (words : List (List ℕ)) (number : ℕ) (limits : Limits) : Type 0 where
+  pub settings : Settings
+  pub accepted : IsReading words settings
+  pub mode : settings.mode ≡ Drill number
+  pub within : settings.limits ≡ limits
+
+-- they ask for none
+abbrev pub AskNoDrill : List (List ℕ) → Type 0
+AskNoDrill words = (number : ℕ) (limits : Limits) → AskDrill words number limits → ⊥
+
+-- the words are accepted, and this is the file under their name, as far as the source tells
+pub record Names (words : List (List ℕ)) (held : Option Holding) (settings : Settings) (file : List ℕ) : Type 0 where
+  pub accepted : IsReading words settings
+  pub told : IfSome held (λ h. file ≡ bytes_under h settings.file)
+
+-- they ask for the problems of this file, which isn't too long
+pub record AskFile (words : List (List ℕ)) (held : Option Holding) (settings : Settings) (file : List ℕ) : Type 0 where
+  pub no_drill : AskNoDrill words
+  pub named : Names words held settings file
+  pub short : length file ≤ longest
+
+-- they ask for this
+abbrev pub IsInput : List (List ℕ) → Option Holding → Input → Type 0
+IsInput words held (inputs.Drill number limits) = AskDrill words number limits
+IsInput words held (inputs.File settings file) = AskFile words held settings file
+
+-- the file under their name is too long
+pub record NameTooLong (words : List (List ℕ)) (held : Option Holding) : Type 0 where
+  pub settings : Settings
+  pub file : List ℕ
+  pub named : Names words held settings file
+  pub long : longest < length file
+
+-- why there is no input, with the source's counts of faults: only words that ask for no drill have a file
+abbrev pub HasNoInput : List (List ℕ) → Option Holding → ℕ → ℕ → InputFault → Type 0
+HasNoInput words held before now faults.Words = HaveNoReading words
+HasNoInput words held before now faults.Read = AskNoDrill words × Rose before now
+HasNoInput words held before now faults.TooLong = AskNoDrill words × NameTooLong words held
+HasNoInput words held before now faults.Want = Unit {0}
+
+-- the file under the name of the settings, which isn't too long
+pub record IsFileOf (held : Option Holding) (settings : Settings) (file : List ℕ) : Type 0 where
+  pub told : IfSome held (λ h. file ≡ bytes_under h settings.file)
+  pub short : length file ≤ longest
+
+-- why it isn't read
+abbrev pub HasNoFile : Option Holding → Settings → ℕ → ℕ → InputFault → Type 0
+HasNoFile held settings before now faults.Words = ⊥
+HasNoFile held settings before now faults.Read = Rose before now
+HasNoFile held settings before now faults.TooLong = IfSome held (λ h. longest < length (bytes_under h settings.file))
+HasNoFile held settings before now faults.Want = Unit {0}
