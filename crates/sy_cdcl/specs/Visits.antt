@@ -1,5 +1,5 @@
 -- What becomes of a clause where a literal that it watches has become false.
-use Rattle.std.specs.Prelude.{◌≡◌, ◌≢◌, ℕ, Bool, true, false, not, Option, Some, List, slice_get, ◌⊎◌, ◌≤◌, ◌<◌}
+use Rattle.std.specs.Prelude.{◌≡◌, ◌≢◌, ℕ, Bool, true, false, not, Option, Some, List, slice_get, ◌⊎◌}
 use Rattle.sy_clauses.specs.declared.Lit.{Lit}
 use Rattle.sy_clauses.specs.Clauses.{Clause, same_literal}
 use Rattle.sy_clauses.specs.New.{Partial, IsFalse, IsUnit, HasTrue}
@@ -12,11 +12,6 @@ use Rattle.sy_cdcl.specs.Watching.{pair_of}
 -- all literals are false but, perhaps, this one
 abbrev pub IsFalseBut : Partial → Clause → Lit → Type 0
 IsFalseBut values c l = (v : ℕ) (s : Bool) → c v s ≡ true → same_literal l.var l.positive v s ≡ false → values v ≡ Some (not s)
-
--- the literals between the two places are false but, perhaps, this one
-abbrev pub AreFalseBut : Partial → List Lit → ℕ → ℕ → Lit → Type 0
-AreFalseBut values ls start end other = (k : ℕ) (l : Lit) → start ≤ k → k < end → slice_get ls k ≡ Some l →
-    same_literal other.var other.positive l.var l.positive ≡ false → values l.var ≡ Some (not l.positive)
 
 -- a literal of the clause that isn't false, other than this one
 pub record IsOther (values : Partial) (c : Clause) (l other : Lit) : Type 0 where

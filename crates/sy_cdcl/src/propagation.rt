@@ -5,7 +5,7 @@ ghost use Rattle.sy_clauses.specs.Clauses.{literals, same_literal, known_clauses
 ghost use Rattle.sy_cdcl.specs.Trails.{kept_values, TrailIsReady, TrailExtends, VarsBelow, LevelsSettled};
 ghost use Rattle.sy_cdcl.specs.Status.{IsConflict};
 ghost use Rattle.sy_cdcl.specs.Watching.{AllWatched, IsWatching, IsAttached, pair_of};
-ghost use Rattle.sy_cdcl.specs.Visits.{IsFalseBut, IsOther, Suits, SuitsAt, MayForce, IsOnly, IsAnother, AreFalseBut};
+ghost use Rattle.sy_cdcl.specs.Visits.{IsFalseBut, IsOther, Suits, SuitsAt, MayForce, IsOnly, IsAnother};
 
 use crate::trail::{Entry, Trail, Truth};
 use crate::watches::{Pair, Watches, list_index};
@@ -31,14 +31,14 @@ fn negated(literal: Lit) -> Lit
     }
 }
 
-/// The literal of the pair beside this one, where this is one of them. It reads the sign only once it
-/// is chosen, and takes no branch where the processor can choose.
+/// The literal of the pair beside this one, where this is one of them. The two are compared by one
+/// number each, so that the processor can choose without a branch.
 fn other_of(pair: Pair, literal: Lit) -> Lit
     ensures one { (result ≡ pair.first) ⊎ (result ≡ pair.second) }
     ensures apart { same_literal pair.first.var pair.first.positive pair.second.var pair.second.positive ≡ false →
         same_literal result.var result.positive literal.var literal.positive ≡ false }
 {
-    if is_same(pair.first, literal) {
+    if list_index(pair.first) == list_index(literal) {
         pair.second
     } else {
         pair.first
@@ -52,30 +52,6 @@ pub struct Found {
     pub place: usize,
 }
 
-/// A literal of the clause between the two places that isn't false, other than this one.
-fn find_between(
-    trail: &Trail,
-    clause: &[Lit],
-    other: Lit,
-    start: usize,
-    end: usize,
-) -> Option<Found>
-    requires { end ≤ length clause.now }
-    ensures { MatchOption result
-        (AreFalseBut (kept_values trail.now.values.items) clause.now start end other)
-        (λ f. IsOther (kept_values trail.now.values.items) (literals clause.now) other f.literal) }
-{
-    let mut place = start;
-    while place < end {
-        let literal = clause[place];
-        if !trail.is_false(literal) && !is_same(other, literal) {
-            return Some(Found { literal, place });
-        }
-        place += 1;
-    }
-    None
-}
-
 /// A literal of the clause that isn't false, other than this one. The search begins at a place, and
 /// goes on from the clause's beginning.
 fn find_other(trail: &Trail, clause: &[Lit], other: Lit, from: usize) -> Option<Found>
@@ -83,11 +59,19 @@ fn find_other(trail: &Trail, clause: &[Lit], other: Lit, from: usize) -> Option<
         (IsFalseBut (kept_values trail.now.values.items) (literals clause.now) other)
         (λ f. IsOther (kept_values trail.now.values.items) (literals clause.now) other f.literal) }
 {
-    let middle = from.min(clause.len());
-    if let Some(found) = find_between(trail, clause, other, middle, clause.len()) {
-        return Some(found);
+    let start = if from < clause.len() { from } else { 0 };
+    let mut place = start;
+    for _ in 0..clause.len() {
+        let literal = clause[place];
+        if !trail.is_false(literal) && !is_same(other, literal) {
+            return Some(Found { literal, place });
+        }
+        place += 1;
+        if place >= clause.len() {
+            place = 0;
+        }
     }
-    find_between(trail, clause, other, 0, middle)
+    None
 }
 
 /// What becomes of a clause where a literal that it watches has become false. A clause that is to watch

@@ -68,9 +68,10 @@ pub struct Pair {
     pub second: Lit,
 }
 
-/// The pair that a clause watches, where it has one, beside the place in the clause at which the last
-/// literal to be watched was found. A search that begins there passes over the false literals before it.
-/// No contract speaks of the place, since any one is right.
+/// The pair that a clause watches, where it has one, and the place in the clause behind the last literal
+/// that it came to watch. A search that begins there passes over that literal, and the false ones before
+/// it. No contract speaks of the place, since any one is right. It takes 16 bytes, as a record with a
+/// `Pair` would not.
 #[derive(Drop)]
 pub struct Watched {
     first_var: u32,
@@ -124,12 +125,12 @@ impl Watched {
         Some(Pair { first, second })
     }
 
-    /// The pair and the place at which its second literal was found, if it is small.
+    /// The pair, whose second literal was found at this place.
     fn found_at(pair: Pair, place: usize) -> Self
         ensures { result ≡ Some pair }
     {
-        let hint = if place <= 0xffff_ffff {
-            place as u32
+        let hint = if place < 0xffff_ffff {
+            place as u32 + 1
         } else {
             0
         };
@@ -240,7 +241,7 @@ impl Watches {
         ensures pairs { OnOk result (self.new.pairs.items ≡ self.old.pairs.items ++ Some pair ∷ []) }
         ensures head { self.new.head ≡ self.old.head }
     {
-        self.pairs.push(Watched::found_at(pair, 0))?;
+        self.pairs.push(Watched::found_at(pair, 1))?;
         self.enlist(list_index(pair.first), number)?;
         self.enlist(list_index(pair.second), number)?;
         Ok(())
