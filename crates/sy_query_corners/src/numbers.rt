@@ -60,12 +60,13 @@ fn number_at(sort: Sort, constants: &[i128], place: usize) -> i128 {
     }
 }
 
-/// A number of the sort's own: an integer far from others and then around zero, or one at a vector's ends and middle.
+/// A number of the sort's own. Those at which most terms differ stand in front: integers that lie far apart, and vectors without
+/// a pattern. Then come small integers, and a vector's ends, its middle and single bits.
 fn own(sort: Sort, place: usize) -> i128 {
     match sort {
         Sort::Bool => place as i128,
         Sort::Int => of_integers(place),
-        Sort::Bits(width) => of_vector(1 << width.min(64), place),
+        Sort::Bits(width) => within(sort, of_vector(1 << width.min(64), place)),
     }
 }
 
@@ -86,20 +87,22 @@ fn of_integers(place: usize) -> i128 {
     }
 }
 
-/// A number below `end`, a power of two.
+/// A number of vectors, modulo `end`, a power of two. The least signed number comes first, at which nested calls ask for few
+/// tuples. Two without a pattern follow, at which terms that differ mostly do: one is positive and ends in ones, the other is
+/// negative and ends in zeros, at widths of 8, 16, 32 and 64.
 fn of_vector(end: i128, place: usize) -> i128 {
     match place {
-        0 => 0,
-        1 => 1,
-        2 => end.saturating_sub(1),
-        3 => end / 2,
-        4 => (end / 2).saturating_sub(1),
+        0 => end / 2,
+        1 => 0x506f_8a09_5c62_6927,
+        2 => 0xe35c_15a5_9adb_8cdc,
+        3 => -1,
+        4 => 0,
+        5 => (end / 2).saturating_sub(1),
+        6 => 1,
+        7 => 2,
         // alternating bits
-        5 => end / 3,
-        6 => (end / 3).saturating_mul(2),
-        7 => 2.min(end.saturating_sub(1)),
-        8 => end.saturating_sub(2),
-        _ => 3.min(end.saturating_sub(1)),
+        8 => end / 3,
+        _ => (end / 3).saturating_mul(2),
     }
 }
 

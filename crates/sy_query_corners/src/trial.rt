@@ -24,10 +24,10 @@ const SHUFFLES: usize = 64;
 /// The least number of variables that are many: two numbers stand in few orders, and the steps have come to each.
 const MANY: usize = 3;
 
-/// An assignment that satisfies the query, if one is found at once: its variables get 0, 1, the ends of their range and
-/// the like, and the query's constants and their neighbours. Where no variable is a vector and the query has no large
-/// conditional tree, each then gets 0 or false, or the number of the variable before, if the query stays satisfied. Where
-/// none is found the query may be satisfied all the same.
+/// An assignment that satisfies the query, if one is found at once: its variables get numbers that lie far apart or have no
+/// pattern, 0, 1, the ends of their range and the like, and the query's constants and their neighbours. Where no variable is a
+/// vector and the query has no large conditional tree, each then gets 0 or false, or the number of the variable before, if the
+/// query stays satisfied. Where none is found the query may be satisfied all the same.
 pub fn corner_model<T: Theory>(alloc: Global, query: &Query<T>) -> Result<Option<Values<T>>, Want>
     requires { QueryFits T.owned T.numeric (query_of T.denotes query.now) }
     ensures { IfOk result (λ found. IfSome found (λ values. Satisfies (query_of T.denotes query.now) (vals_of T.denotes values))) }

@@ -115,7 +115,7 @@ b44 AB3=C2=?A&C7=& 99 model 1 3 7
 4 AAzz=A0#&AF#&A7<& 99 model 5
 4 A9= 0 model 9
 4 A5>A7<& 0 model 6
-44 ABgA1Bl/# 0 model 1 15
+44 ABgA1Bl/# 0 model 8 7
 44 AB+BA+# 9999 never
 33 AB*BA*# 9999 never
 44 AB-B+A# 9999 never

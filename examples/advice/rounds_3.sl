@@ -1,5 +1,5 @@
-; The mean of two bytes takes more than four counterexamples.
-; words: --rounds 4
+; The mean of two bytes takes three counterexamples, as many as end the search.
+; words: --rounds 3
 ; answer: fail Rounds
 (set-logic BV)
 (define-fun wide ((x (_ BitVec 8))) (_ BitVec 9) ((_ zero_extend 1) x))

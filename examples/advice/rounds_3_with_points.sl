@@ -1,5 +1,5 @@
 ; The same with as few counterexamples, and constraints at single points.
-; words: --rounds 4
+; words: --rounds 3
 (set-logic BV)
 (define-fun wide ((x (_ BitVec 8))) (_ BitVec 9) ((_ zero_extend 1) x))
 (synth-fun mean ((x (_ BitVec 8)) (y (_ BitVec 8))) (_ BitVec 8)
