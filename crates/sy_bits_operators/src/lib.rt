@@ -1,6 +1,7 @@
 // Signals of a circuit, which stand for values, and the circuits of the operators on them.
 #![tactic(auto)]
 
+mod alike;
 mod equality;
 mod operators;
 mod signal;

@@ -1,20 +1,19 @@
 // The circuits of the operators on vectors, at arguments that they take.
-ghost use Rattle.std.specs.Prelude.{◌≡◌, ◌≢◌, ◌≤◌, ◌<◌, ◌+◌, ◌*◌, ◌^◌, ℕ, Bool, true, [], ◌∷◌, length, OnOk, IfOk};
+ghost use Rattle.std.specs.Prelude.{◌≡◌, ◌≤◌, ◌<◌, ◌+◌, ◌*◌, ◌^◌, ℕ, Bool, true, [], ◌∷◌, length, OnOk, IfOk};
 ghost use Rattle.sy_terms.specs.Values.{Bits};
 ghost use Rattle.sy_terms.specs.Operators.{op_value};
 ghost use Rattle.sy_terms.specs.Theories.{sort_of_value};
-ghost use Rattle.sy_terms.specs.declared.op.Op.TheVariants as ops;
 ghost use Rattle.sy_terms.specs.declared.sort.Sort.TheVariants as sorts;
 ghost use Rattle.sy_meaning_words.specs.Vectors.{in_vectors, TakesSorts, TakesMany};
 ghost use Rattle.sy_gates.specs.Circuits.{variables, FollowsPlan, GrownCircuit, word_bound, word_number};
 ghost use Rattle.sy_bits_operators.specs.Signals.{signal_value, signal_values, signal_sort, signal_sorts, signal_bound, signals_bound, AllHaveSignals};
 ghost use Rattle.sy_bits_operators.specs.Costs.{single_gates, pair_gates, vector_gates};
 
+use crate::alike::same_width;
 use crate::signal::Signal;
 use std::alloc::Global;
 use sy_gates::{
-    Bit, Circuit, Joint, Order, extended, inverted, joined, part, repeated, rotated_down,
-    rotated_up, top,
+    Bit, Circuit, extended, inverted, joined, part, repeated, rotated_down, rotated_up, top,
 };
 use sy_seq::{Seq, Want};
 use sy_terms::Op;
@@ -43,61 +42,6 @@ fn single(circuit: &mut Circuit, alloc: Global, op: &Op, s: &[Bit]) -> Result<Se
         Op::SignExtend(by) => Ok(extended(alloc, s, usize::from(by), top(s))?),
         Op::RotateLeft(by) => Ok(rotated_up(alloc, s, usize::from(by) % s.len())?),
         Op::RotateRight(by) => Ok(rotated_down(alloc, s, usize::from(by) % s.len())?),
-        _ => unreachable!(),
-    }
-}
-
-/// The circuit of an operator on two vectors of one width.
-#[tactic(auto, unfolding(sy_terms::specs::Operators::op_value, sy_terms::specs::Sorts::sort_of))]
-fn same_width(
-    circuit: &mut Circuit,
-    alloc: Global,
-    op: &Op,
-    s: &[Bit],
-    t: &[Bit],
-) -> Result<Signal, Want>
-    requires ours { in_vectors op.now ≡ true }
-    requires apart { op.now ≢ ops.Concat }
-    requires same { length t.now ≡ length s.now }
-    requires takes { TakesSorts op.now (sorts.Bits (length s.now) ∷ sorts.Bits (length t.now) ∷ []) }
-    requires least { 1 ≤ length s.now }
-    requires most { length s.now ≤ 64 }
-    requires left { word_bound s.now ≤ variables circuit.old }
-    requires right { word_bound t.now ≤ variables circuit.old }
-    requires room { variables circuit.old + pair_gates op.now (length s.now) < 2 ^ 31 }
-    ensures grown { GrownCircuit circuit.old circuit.new }
-    ensures cost { OnOk result (variables circuit.new ≤ variables circuit.old + pair_gates op.now (length s.now)) }
-    ensures inside { IfOk result (λ r. signal_bound r ≤ variables circuit.new) }
-    ensures sort { IfOk result (λ r. (v : ℕ → Bool) → signal_sort r ≡ sort_of_value (op_value op.now (Bits (length s.now) (word_number v s.now) ∷ Bits (length t.now) (word_number v t.now) ∷ []))) }
-    ensures value { IfOk result (λ r. (v : ℕ → Bool) → FollowsPlan v circuit.new → signal_value v r ≡ op_value op.now (Bits (length s.now) (word_number v s.now) ∷ Bits (length t.now) (word_number v t.now) ∷ [])) }
-{
-    match op {
-        Op::BvAnd => Ok(Signal::Vector(circuit.bitwise(alloc, Joint::And, s, t)?)),
-        Op::BvOr => Ok(Signal::Vector(circuit.bitwise(alloc, Joint::Or, s, t)?)),
-        Op::BvXor => Ok(Signal::Vector(circuit.bitwise(alloc, Joint::Xor, s, t)?)),
-        Op::BvNand => Ok(Signal::Vector(circuit.bitwise_inverted(alloc, Joint::And, s, t)?)),
-        Op::BvNor => Ok(Signal::Vector(circuit.bitwise_inverted(alloc, Joint::Or, s, t)?)),
-        Op::BvXnor => Ok(Signal::Vector(circuit.bitwise_inverted(alloc, Joint::Xor, s, t)?)),
-        Op::BvAdd => Ok(Signal::Vector(circuit.add(alloc, s, t)?)),
-        Op::BvSub => Ok(Signal::Vector(circuit.sub(alloc, s, t)?)),
-        Op::BvMul => Ok(Signal::Vector(circuit.mul(alloc, s, t)?)),
-        Op::BvUdiv => Ok(Signal::Vector(circuit.divide(alloc, s, t)?.quotient)),
-        Op::BvUrem => Ok(Signal::Vector(circuit.divide(alloc, s, t)?.remainder)),
-        Op::BvSdiv => Ok(Signal::Vector(circuit.signed_quotient(alloc, s, t)?)),
-        Op::BvSrem => Ok(Signal::Vector(circuit.signed_remainder(alloc, s, t)?)),
-        Op::BvSmod => Ok(Signal::Vector(circuit.signed_modulo(alloc, s, t)?)),
-        Op::BvShl => Ok(Signal::Vector(circuit.shift_up(alloc, s, t)?)),
-        Op::BvLshr => Ok(Signal::Vector(circuit.shift_down(alloc, s, t)?)),
-        Op::BvAshr => Ok(Signal::Vector(circuit.signed_shift_down(alloc, s, t)?)),
-        Op::BvComp => Ok(Signal::Vector(circuit.comp(alloc, s, t)?)),
-        Op::BvUlt => Ok(Signal::Truth(circuit.compare(alloc, Order::Less, s, t)?)),
-        Op::BvUle => Ok(Signal::Truth(circuit.compare(alloc, Order::AtMost, s, t)?)),
-        Op::BvUgt => Ok(Signal::Truth(circuit.compare(alloc, Order::Greater, s, t)?)),
-        Op::BvUge => Ok(Signal::Truth(circuit.compare(alloc, Order::AtLeast, s, t)?)),
-        Op::BvSlt => Ok(Signal::Truth(circuit.signed_compare(alloc, Order::Less, s, t)?)),
-        Op::BvSle => Ok(Signal::Truth(circuit.signed_compare(alloc, Order::AtMost, s, t)?)),
-        Op::BvSgt => Ok(Signal::Truth(circuit.signed_compare(alloc, Order::Greater, s, t)?)),
-        Op::BvSge => Ok(Signal::Truth(circuit.signed_compare(alloc, Order::AtLeast, s, t)?)),
         _ => unreachable!(),
     }
 }
