@@ -1,7 +1,7 @@
 -- Numbers that are the same modulo a power of two, and products of values.
-use Rattle.std.proofs.Common.{◌≡◌, ℕ, ◌+◌, ◌*◌, ◌^◌, ◌<◌, ◌≤◌, ◌%◌, List, [], ◌∷◌, ◌++◌, length, take, drop, get_or, arith, ap, sym, ◌∙◌}
-use Rattle.std.proofs.Math.Nat.{add-mod, mod-mod}
-use Rattle.std.proofs.lemmas.Nat.{mul-mod}
+use Rattle.std.proofs.Common.{◌≡◌, ℕ, ◌+◌, ◌-◌, ◌*◌, ◌^◌, ◌<◌, ◌≤◌, ◌%◌, List, [], ◌∷◌, ◌++◌, length, take, drop, get_or, arith, refl, ap, sym, ◌∙◌}
+use Rattle.std.proofs.Math.Nat.{add-mod, mod-mod, add-mul-mod_self_right}
+use Rattle.std.proofs.lemmas.Nat.{mul-mod, pow_pos}
 use Rattle.std.proofs.lemmas.List.{take_more, take_all, take-append-drop}
 use Rattle.std.specs.List.{insert}
 use Rattle.sy_bits_sums.specs.Polynomials.{product, Agree}
@@ -25,6 +25,25 @@ agree-add w a b c d e f = record { is = add-mod a c (2 ^ w) ∙ ap (λ n. (n + c
 
 pub agree-mul : (w a b c d : ℕ) → Agree w a b → Agree w c d → Agree w (a * c) (b * d)
 agree-mul w a b c d e f = record { is = mul-mod a c (2 ^ w) ∙ ap (λ n. (n * (c % 2 ^ w)) % 2 ^ w) e.is ∙ ap (λ n. (b % 2 ^ w * n) % 2 ^ w) f.is ∙ sym (mul-mod b d (2 ^ w)) }
+
+-- differences, by the greatest number of the width in place of minus 1
+
+pub less-multiple : (w a b r ones : ℕ) → ones ≡ 2 ^ w - 1 → Agree w r (a + b * ones) → Agree w (r + b) a
+less-multiple w a b r ones most e =
+    let more : 2 ^ w ≡ ones + 1 = omega (arith, pow_pos w, most) in
+    let around : (a + b * ones) + b ≡ a + b * (ones + 1) = omega arith in
+    agree-trans w (r + b) ((a + b * ones) + b) a
+    (agree-add w r (a + b * ones) b b e (agree-same w b b refl))
+    (record { is = ap (λ n. n % 2 ^ w) (around ∙ ap (λ n. a + b * n) (sym more)) ∙ add-mul-mod_self_right a b (2 ^ w) })
+
+pub multiple-less : (w a b r ones : ℕ) → ones ≡ 2 ^ w - 1 → Agree w (r + b) a → Agree w r (a + b * ones)
+multiple-less w a b r ones most e =
+    let more : 2 ^ w ≡ ones + 1 = omega (arith, pow_pos w, most) in
+    let around : (r + b) + b * ones ≡ r + b * (ones + 1) = omega arith in
+    agree-sym w (a + b * ones) r
+    (agree-trans w (a + b * ones) ((r + b) + b * ones) r
+    (agree-add w a (r + b) (b * ones) (b * ones) (agree-sym w (r + b) a e) (agree-same w (b * ones) (b * ones) refl))
+    (record { is = ap (λ n. n % 2 ^ w) (around ∙ ap (λ n. r + b * n) (sym more)) ∙ add-mul-mod_self_right r b (2 ^ w) }))
 
 -- products of values
 

@@ -2,7 +2,7 @@
 ghost use Rattle.std.specs.Prelude.{◌≡◌, ◌≤◌, ◌<◌, ◌+◌, ◌*◌, ◌^◌, ℕ, length, get_or, IsTrue, IfOk, OnOk, IfSome};
 ghost use Rattle.sy_bits_sums.specs.Polynomials.{total, monomial_value, Agree};
 
-use crate::modular::sum_modulo;
+use crate::modular::{greatest, sum_modulo};
 use crate::monomial::{Monomial, place_of, same_places};
 use std::alloc::Global;
 use sy_seq::Want;
@@ -116,6 +116,16 @@ impl Sum {
         let by = Monomial::number(alloc, multiple);
         sum.add_multiple(alloc, other, &by)?;
         Ok(sum)
+    }
+
+    /// The sum of this one less the other one, modulo 2 to the power of the width.
+    pub fn minus(&self, alloc: Global, width: u32, other: &Sum) -> Result<Sum, Want>
+        requires { width ≤ 64 }
+        ensures width { IfOk result (λ r. r.width ≡ width) }
+        ensures value { IfOk result (λ r. (values : ℕ → ℕ) → Agree width (total values r.monomials.items + total values other.now.monomials.items) (total values self.now.monomials.items)) }
+    {
+        let difference = self.plus(alloc, width, other, greatest(width))?;
+        Ok(difference)
     }
 
     /// The product of the two, multiplied out, modulo 2 to the power of the width.

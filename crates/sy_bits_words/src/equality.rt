@@ -9,7 +9,6 @@ use crate::operations::are_few;
 use crate::words::Words;
 use std::alloc::Global;
 use sy_bits_operators::Signal;
-use sy_bits_sums::greatest;
 use sy_gates::Bit;
 use sy_seq::{Seq, Want};
 use sy_terms::Op;
@@ -49,7 +48,7 @@ fn word_sides(
         return Ok(None);
     }
     let width = s.len() as u32;
-    let difference = left.plus(alloc, width, right, greatest(width))?;
+    let difference = left.minus(alloc, width, right)?;
     let sides = difference.sides(alloc, width)?;
     let Some(positive) = words.word_of(alloc, &sides.left)? else {
         return Ok(None);

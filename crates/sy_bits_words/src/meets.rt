@@ -70,7 +70,7 @@ fn without(alloc: Global, width: u32, whole: &Sum, part: Sum, taken: bool) -> Re
     ensures value { IfOk result (λ r. (values : ℕ → ℕ) (x y z : ℕ) → Agree width (total values whole.now.monomials.items) z → Agree width (total values part.monomials.items) y → cond taken (x + y) x ≡ cond taken z y → Agree width (total values r.monomials.items) x) }
 {
     if taken {
-        let rest = whole.plus(alloc, width, &part, greatest(width))?;
+        let rest = whole.minus(alloc, width, &part)?;
         return Ok(rest);
     }
     Ok(part)
@@ -96,7 +96,7 @@ fn either_sum(alloc: Global, width: u32, left: &Sum, right: &Sum, both: &Sum) ->
     ensures value { IfOk result (λ r. (values : ℕ → ℕ) (x y m n : ℕ) → Agree width (total values left.now.monomials.items) m → Agree width (total values right.now.monomials.items) n → Agree width (total values both.now.monomials.items) y → x + y ≡ m + n → Agree width (total values r.monomials.items) x) }
 {
     let added = left.plus(alloc, width, right, 1)?;
-    let either = added.plus(alloc, width, both, greatest(width))?;
+    let either = added.minus(alloc, width, both)?;
     Ok(either)
 }
 
@@ -134,7 +134,7 @@ pub(crate) fn joined_sum(
         Op::BvAnd => Ok(Some(both)),
         Op::BvOr => Ok(Some(either)),
         Op::BvXor => {
-            let differ = either.plus(alloc, width, &both, greatest(width))?;
+            let differ = either.minus(alloc, width, &both)?;
             Ok(Some(differ))
         }
         _ => Ok(None),

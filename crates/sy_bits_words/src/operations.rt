@@ -131,7 +131,7 @@ fn pair_sum(
             Ok(Some(sum))
         }
         Op::BvSub => {
-            let difference = left.plus(alloc, width, right, greatest(width))?;
+            let difference = left.minus(alloc, width, right)?;
             Ok(Some(difference))
         }
         Op::BvMul => {

@@ -1,4 +1,5 @@
-use Rattle.std.proofs.Common.{◌<◌, length, arith}
+use Rattle.std.proofs.Common.{◌<◌, ◌-◌, ◌^◌, length, arith, refl}
+use Rattle.sy_bits_sums.proofs.Agreeing.{multiple-less}
 use Rattle.sy_bits_words.proofs.Laws.{stands-at, kept-at}
 use Rattle.sy_bits_words.proofs.Joining.{both-is, either-is, differ-is, and-sum, or-sum, xor-sum}
 use Rattle.sy_bits_words.proofs.meets.joined_sum.Goals as goal
@@ -37,4 +38,4 @@ returns-in_ok-differ-in-BvXor-clause-sum c = λ circuit all.
     let meets = both-is circuit c.meeting.new.words c.args.s.now c.args.t.now c.at.result.now.sum c.at-2.result.now.sum c.in_ok-both.both c.requires.same left right c.in-Some-3.meet.place c.in-Some-3.meet.left c.in-Some-3.meet.right c.at.result.now (rw c.in-Some-3.is at c.in_ok-meet.ensures.within) (rw c.in-Some-3.is at c.in_ok-meet.ensures.number) c.in_ok-both.ensures.value in
     let joins = either-is circuit c.meeting.new.words c.args.s.now c.args.t.now c.at.result.now.sum c.at-2.result.now.sum c.in_ok-both.both c.requires.same left right c.in_ok-either.either meets c.in_ok-either.ensures.value in
     rw c.in-BvXor.is (xor-sum circuit c.meeting.new.words c.args.s.now c.args.t.now c.in_ok-differ-in-BvXor.differ c.in_ok-differ-in-BvXor.ensures.width c.requires.same
-    (differ-is circuit c.meeting.new.words c.args.s.now c.args.t.now c.at.result.now.sum c.at-2.result.now.sum c.in_ok-both.both c.requires.same left right c.in_ok-either.either c.in_ok-differ-in-BvXor.differ c.greatest.result c.greatest.ensures meets joins c.in_ok-differ-in-BvXor.ensures.value))
+    (differ-is circuit c.meeting.new.words c.args.s.now c.args.t.now c.at.result.now.sum c.at-2.result.now.sum c.in_ok-both.both c.requires.same left right c.in_ok-either.either c.in_ok-differ-in-BvXor.differ (2 ^ length c.args.s.now - 1) refl meets joins (λ values. multiple-less (length c.args.s.now) _ _ _ _ refl (c.in_ok-differ-in-BvXor.ensures.value values))))

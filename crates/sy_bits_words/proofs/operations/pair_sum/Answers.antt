@@ -1,4 +1,5 @@
-use Rattle.std.proofs.Common.{◌<◌, length, arith}
+use Rattle.std.proofs.Common.{◌<◌, ◌-◌, ◌^◌, length, arith, refl}
+use Rattle.sy_bits_sums.proofs.Agreeing.{multiple-less}
 use Rattle.sy_bits_words.proofs.Laws.{stands-at, kept-at, add-sum, sub-sum, mul-sum}
 use Rattle.sy_bits_words.proofs.operations.pair_sum.Goals as goal
 
@@ -14,7 +15,7 @@ returns-in_ok-difference-in-BvSub-clause-sum c = λ circuit all.
     let h : c.in-Some.first < length c.enter.new.self = rw c.in-Some.is at c.in_ok-first.ensures.within in
     let left = stands-at circuit c.enter-2.new.self c.in-Some.first c.args.s.now c.at.result.now all (omega (arith, h, c.in_ok-second.ensures.longer)) (kept-at c.enter.new.self c.enter-2.new.self c.in-Some.first c.args.s.now c.in_ok-second.ensures.kept h (rw c.in-Some.is at c.in_ok-first.ensures.same)) c.at.ensures in
     let right = stands-at circuit c.enter-2.new.self c.in-Some-2.second c.args.t.now c.at-2.result.now all (rw c.in-Some-2.is at c.in_ok-second.ensures.within) (rw c.in-Some-2.is at c.in_ok-second.ensures.same) c.at-2.ensures in
-    rw c.in-BvSub.is (sub-sum circuit c.enter-2.new.self c.args.s.now c.args.t.now c.at.result.now.sum c.at-2.result.now.sum c.in_ok-difference-in-BvSub.difference c.requires.same left right c.in_ok-difference-in-BvSub.ensures.width c.greatest.result c.greatest.ensures c.in_ok-difference-in-BvSub.ensures.value)
+    rw c.in-BvSub.is (sub-sum circuit c.enter-2.new.self c.args.s.now c.args.t.now c.at.result.now.sum c.at-2.result.now.sum c.in_ok-difference-in-BvSub.difference c.requires.same left right c.in_ok-difference-in-BvSub.ensures.width (2 ^ length c.args.s.now - 1) refl (λ values. multiple-less (length c.args.s.now) _ _ _ _ refl (c.in_ok-difference-in-BvSub.ensures.value values)))
 
 pub returns-in_ok-product-in-BvMul-clause-sum : goal.returns-in_ok-product-in-BvMul-clause-sum
 returns-in_ok-product-in-BvMul-clause-sum c = λ circuit all.
