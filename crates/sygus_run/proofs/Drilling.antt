@@ -32,13 +32,12 @@ use Rattle.sygus_drill_laws.proofs.Files.{files_are_read}
 use Rattle.sygus_replies.specs.Answered.{AreRight}
 use Rattle.sygus_replies.specs.Replies.{reply_of}
 use Rattle.sygus_replies.proofs.Steps.{right-more, right-none}
-use Rattle.sygus_words.specs.CommandLine.{IsReading}
 use Rattle.sygus_words.specs.declared.settings.Mode.TheVariants.{Drill}
-use Rattle.sygus_words.specs.declared.settings.Settings.{Settings}
-use Rattle.sygus_words.proofs.Readings.{one_reading}
+use Rattle.sygus_input.specs.Inputs.{AskDrill}
+use Rattle.sygus_input.proofs.Asking.{one_drill_asked}
 use Rattle.sygus_run.proofs.Named.{bits_named}
 use Rattle.sygus_run.specs.Answers.{AreNamedFor}
-use Rattle.sygus_run.specs.Drills.{AskDrill, Drilled, EndsDrill, IsProblemOf}
+use Rattle.sygus_run.specs.Drills.{Drilled, EndsDrill, IsProblemOf}
 use Rattle.sygus_run.specs.declared.answers.Answers.{Answers}
 use Rattle.sygus_run.specs.declared.answers.Answers.TheVariants.{Idle, Bits}
 
@@ -148,28 +147,13 @@ module _ (number : ℕ) (problems : List (Problem BvTheory Word)) (asked : IsPro
   named_either limits problem outcomes status Written Begun at (inl small) answered cut_off = named_by limits problem outcomes Written at (answered small)
   named_either limits problem outcomes status Written Begun at (inr five) answered cut_off = named_by limits problem outcomes Begun at (cut_off five)
 
--- ---- words that ask for another mode, or for this number
+-- ---- words that ask for this number
 
-pub asks_other : (words : List (List ℕ)) (settings : Settings) (number : ℕ) (limits : Limits) → IsReading words settings → ((n : ℕ) → settings.mode ≡ Drill n → ⊥) → AskDrill words number limits → ⊥
-asks_other words settings number limits accepted other asked =
-    let one = one_reading words settings asked.settings accepted asked.accepted in
-    other number (one.0 ∙ asked.mode)
-
-pub asks_this : (words : List (List ℕ)) (settings : Settings) (n number : ℕ) (limits : Limits) (status : ℕ) (answers : Answers) (out out' err err' : _) → IsReading words settings → settings.mode ≡ Drill n → AskDrill words number limits
-    → EndsDrill n settings.limits status answers out out' err err' → EndsDrill number limits status answers out out' err err'
-asks_this words settings n number limits status answers out out' err err' accepted mode asked ends =
-    let one = one_reading words settings asked.settings accepted asked.accepted in
-    let same : n ≡ number = let both = sym mode ∙ one.0 ∙ asked.mode in cc in
-    let within : settings.limits ≡ limits = one.1 ∙ asked.within in
-    rw (← same, ← within) ends
-
-pub asks_for : (words : List (List ℕ)) (settings : Settings) (n : ℕ) → IsReading words settings → settings.mode ≡ Drill n → AskDrill words n settings.limits
-asks_for words settings n accepted mode = record {
-  settings = settings;
-  accepted = accepted;
-  mode = mode;
-  within = refl;
-}
+pub ends_that : (words : List (List ℕ)) (n number : ℕ) (within limits : Limits) (status : ℕ) (answers : Answers) (out out' err err' : _) → AskDrill words n within → AskDrill words number limits
+    → EndsDrill n within status answers out out' err err' → EndsDrill number limits status answers out out' err err'
+ends_that words n number within limits status answers out out' err err' first asked ends =
+    let one = one_drill_asked words n number within limits first asked in
+    rw (← one.same_number, ← one.same_limits) ends
 
 -- ---- an end without an answer
 

@@ -1,74 +1,114 @@
 -- How a run ends.
-use Rattle.std.proofs.Common.{inl, inr, ◌≡◌, ◌≤◌, ◌<◌, ◌+◌, ◌++◌, ◌∙◌, sym, ap, List, [], ℕ, length, Some, None, arith}
-use Rattle.std.specs.Prelude.{Option, IfSome, replicate, Ok, Err}
+use Rattle.std.proofs.Common.{inl, inr, ◌≡◌, ◌≢◌, ◌++◌, List, ℕ, arith}
+use Rattle.std.specs.Prelude.{Option, Ok}
 use Rattle.std.specs.Io.KnownBytes.{Appends}
-use Rattle.std.proofs.lemmas.List.{length-replicate}
-use Rattle.sy_io.specs.Source.{Holding, bytes_under}
-use Rattle.sygus_replies.specs.Texts.{answer_lines, too_long_line}
-use Rattle.sygus_replies.proofs.Steps.{lines-none}
-use Rattle.sygus_run.specs.declared.answers.Answers.{Answers}
-use Rattle.sygus_run.specs.declared.answers.Answers.TheVariants.{Idle}
-use Rattle.sygus_run.specs.Answers.{replies_of}
-use Rattle.sygus_words.specs.CommandLine.{IsReading}
-use Rattle.sygus_words.specs.declared.settings.Settings.{Settings}
-use Rattle.sy_scope_causes.specs.declared.cause.Refused.{Refused}
-use Rattle.sy_reply_lines.specs.Lines.{refusal_line}
+use Rattle.sy_io.specs.Causes.{Rose}
+use Rattle.sy_io.specs.Source.{Holding}
+use Rattle.sy_query_limits.specs.declared.Limits.{Limits}
 use Rattle.sy_scope_steps.specs.Files.{file_read}
 use Rattle.sy_scope_steps.specs.Jobs.{Wish, wished}
-use Rattle.sygus_run.specs.Runs.{PosesFile, FileIsRefused, longest}
+use Rattle.sygus_input.specs.Inputs.{AskDrill, AskFile, HasNoInput, HaveNoReading}
+use Rattle.sygus_input.specs.declared.input.InputFault.{InputFault}
+use Rattle.sygus_input.specs.declared.input.InputFault.TheVariants as faults
+use Rattle.sygus_replies.specs.Texts.{answer_lines, words_line, read_line, memory_line}
+use Rattle.sygus_replies.proofs.Steps.{lines-none}
+use Rattle.sygus_words.specs.declared.settings.Settings.{Settings}
+use Rattle.sygus_run.proofs.Drilling.{ends_idle}
+use Rattle.sygus_run.specs.Answers.{replies_of}
+use Rattle.sygus_run.specs.Drills.{EndsDrill}
+use Rattle.sygus_run.specs.Files.{AnswersFile, RefusesFile, Stops, WritesAll, WritesCut, WritesTexts}
+use Rattle.sygus_run.specs.Runs.{Answered, FileIsRefused, IsCutOff, Midway, PosesFile, WantsMemory, fault_line, fault_status}
+use Rattle.sygus_run.specs.declared.answers.Answers.{Answers}
+use Rattle.sygus_run.specs.declared.answers.Answers.TheVariants.{Idle}
 
 -- the line that memory was wanted, where nothing was answered
 pub idle_line : (answers : Answers) (before after : Option (List ℕ)) (text : List ℕ) → answers ≡ Idle → Appends before after text → Appends before after (answer_lines 1 (replies_of answers) ++ text)
 idle_line answers before after text is written = rw (is, lines-none) written
 
--- there are lists of any length
-pub some_longer : (n : ℕ) → (xs : List ℕ) × (n < length xs)
-some_longer n = (replicate (n + 1) 0, omega (arith, length-replicate {A = ℕ} (n + 1) 0))
+-- ---- of the file that words name
 
--- a file that is too long is refused
-pub too_long : (words : List (List ℕ)) (held : Option Holding) (settings : Settings) (name : List ℕ) (before after : Option (List ℕ)) → IsReading words settings → name ≡ settings.file
-    → IfSome held (λ h. longest < length (bytes_under h name)) → Appends before after too_long_line → FileIsRefused words held before after
-too_long words None settings name before after accepted same long written = record {
-  settings = settings;
-  file = (some_longer longest).0;
-  named = record { accepted = accepted; told = tt };
-  why = inl ((some_longer longest).1, written);
-}
-too_long words (Some h) settings name before after accepted same long written = record {
-  settings = settings;
-  file = bytes_under h name;
-  named = record { accepted = accepted; told = ap (λ (n : List ℕ). bytes_under h n) same };
-  why = inl (long, written);
-}
+module _ (words : List (List ℕ)) (held : Option Holding) (settings : Settings) (file : List ℕ) (asked : AskFile words held settings file) where
+  poses : (wish : Wish) → wished (file_read file) ≡ Ok wish → PosesFile words held settings wish
+  poses wish reads = record {
+    file = file;
+    named = asked.named;
+    short = asked.short;
+    reads = reads;
+  }
 
--- a file with a fault is refused
-pub refused_file : (words : List (List ℕ)) (held : Option Holding) (settings : Settings) (file name : List ℕ) (refused : Refused) (before after : Option (List ℕ)) → IsReading words settings → name ≡ settings.file
-    → IfSome held (λ h. file ≡ bytes_under h name) → length file ≤ longest → wished (file_read file) ≡ Err refused → Appends before after (refusal_line file refused) → FileIsRefused words held before after
-refused_file words None settings file name refused before after accepted same whole short reads written = record {
-  settings = settings;
-  file = file;
-  named = record { accepted = accepted; told = tt };
-  why = inr (short, (refused, reads, written));
-}
-refused_file words (Some h) settings file name refused before after accepted same whole short reads written = record {
-  settings = settings;
-  file = file;
-  named = record { accepted = accepted; told = whole ∙ ap (λ (n : List ℕ). bytes_under h n) same };
-  why = inr (short, (refused, reads, written));
-}
+  pub all_answered : (answers : Answers) (out out' err err' : Option (List ℕ)) → AnswersFile settings file answers (WritesAll answers out out' err err') → Answered words held answers out out' err err'
+  all_answered answers out out' err err' at = record {
+    settings = settings;
+    wish = at.wish;
+    posed = poses at.wish at.reads;
+    right = at.right;
+    every = at.written.every;
+    replied = at.written.replied;
+    lines = at.written.lines;
+  }
 
--- a file that was read is the one that the words name
-pub poses : (words : List (List ℕ)) (held : Option Holding) (settings : Settings) (wish : Wish) (file name : List ℕ) → IsReading words settings → name ≡ settings.file → IfSome held (λ h. file ≡ bytes_under h name)
-    → length file ≤ longest → wished (file_read file) ≡ Ok wish → PosesFile words held settings wish
-poses words None settings wish file name accepted same whole short reads = record {
-  file = file;
-  named = record { accepted = accepted; told = tt };
-  short = short;
-  reads = reads;
-}
-poses words (Some h) settings wish file name accepted same whole short reads = record {
-  file = file;
-  named = record { accepted = accepted; told = whole ∙ ap (λ (n : List ℕ). bytes_under h n) same };
-  short = short;
-  reads = reads;
-}
+  midway : (answers : Answers) (Written : Wish → Type 0) → AnswersFile settings file answers Written → Midway words held answers Written
+  midway answers Written at = record {
+    settings = settings;
+    wish = at.wish;
+    posed = poses at.wish at.reads;
+    right = at.right;
+    written = at.written;
+  }
+
+  pub cut_off : (answers : Answers) (out out' : Option (List ℕ)) → Stops settings file answers out out' (WritesCut answers out out') → IsCutOff words held answers out out'
+  cut_off answers out out' (inl nothing) = inl nothing
+  cut_off answers out out' (inr at) = inr (midway answers (WritesCut answers out out') at)
+
+  pub wants_memory : (answers : Answers) (out out' : Option (List ℕ)) → Stops settings file answers out out' (WritesTexts answers out out') → WantsMemory words held answers out out'
+  wants_memory answers out out' (inl nothing) = inl nothing
+  wants_memory answers out out' (inr at) = inr (midway answers (WritesTexts answers out out') at)
+
+  pub refuses : (err err' : Option (List ℕ)) → RefusesFile file err err' → FileIsRefused words held err err'
+  refuses err err' at = record {
+    settings = settings;
+    file = file;
+    named = asked.named;
+    why = inr (asked.short, (at.refused, at.reads, at.line));
+  }
+
+-- ---- without input
+
+module _ (words : List (List ℕ)) (held : Option Holding) (before now : ℕ) (status : ℕ) (err err' : Option (List ℕ)) where
+  pub refuses_long : (fault : InputFault) → HasNoInput words held before now fault → (status ≢ 5 → (status ≡ fault_status fault) × Appends err err' (fault_line fault)) → status ≡ 2 → FileIsRefused words held err err'
+  refuses_long faults.TooLong why ends is = record {
+    settings = why.1.settings;
+    file = why.1.file;
+    named = why.1.named;
+    why = inl (why.1.long, (ends (λ e. omega (arith, e, is))).1);
+  }
+  refuses_long faults.Words why ends is = absurd (omega (arith, (ends (λ e. omega (arith, e, is))).0, is))
+  refuses_long faults.Read why ends is = absurd (omega (arith, (ends (λ e. omega (arith, e, is))).0, is))
+  refuses_long faults.Want why ends is = absurd (omega (arith, (ends (λ e. omega (arith, e, is))).0, is))
+
+  pub refuses_words : (fault : InputFault) → HasNoInput words held before now fault → (status ≢ 5 → (status ≡ fault_status fault) × Appends err err' (fault_line fault)) → status ≡ 3 → HaveNoReading words × Appends err err' words_line
+  refuses_words faults.Words why ends is = (why, (ends (λ e. omega (arith, e, is))).1)
+  refuses_words faults.Read why ends is = absurd (omega (arith, (ends (λ e. omega (arith, e, is))).0, is))
+  refuses_words faults.TooLong why ends is = absurd (omega (arith, (ends (λ e. omega (arith, e, is))).0, is))
+  refuses_words faults.Want why ends is = absurd (omega (arith, (ends (λ e. omega (arith, e, is))).0, is))
+
+  pub fails_to_read : (fault : InputFault) → HasNoInput words held before now fault → (status ≢ 5 → (status ≡ fault_status fault) × Appends err err' (fault_line fault)) → status ≡ 4 → Rose before now × Appends err err' read_line
+  fails_to_read faults.Read why ends is = (why.1, (ends (λ e. omega (arith, e, is))).1)
+  fails_to_read faults.Words why ends is = absurd (omega (arith, (ends (λ e. omega (arith, e, is))).0, is))
+  fails_to_read faults.TooLong why ends is = absurd (omega (arith, (ends (λ e. omega (arith, e, is))).0, is))
+  fails_to_read faults.Want why ends is = absurd (omega (arith, (ends (λ e. omega (arith, e, is))).0, is))
+
+  -- a drill has input, unless memory is wanted
+  pub ends_no_drill : (fault : InputFault) (number : ℕ) (limits : Limits) (answers : Answers) (out out' : Option (List ℕ)) → HasNoInput words held before now fault → (status ≢ 5 → (status ≡ fault_status fault) × Appends err err' (fault_line fault))
+      → AskDrill words number limits → answers ≡ Idle → out' ≡ out → EndsDrill number limits status answers out out' err err'
+  ends_no_drill faults.Words number limits answers out out' why ends asked idle same = absurd (why asked.settings asked.accepted)
+  ends_no_drill faults.Read number limits answers out out' why ends asked idle same = absurd (why.0 number limits asked)
+  ends_no_drill faults.TooLong number limits answers out out' why ends asked idle same = absurd (why.0 number limits asked)
+  ends_no_drill faults.Want number limits answers out out' why ends asked idle same = ends_idle number limits status answers out out' err err' (λ other. (ends other).0) idle same
+
+pub wants_line : (status : ℕ) (fault : InputFault) (answers : Answers) (err err' : Option (List ℕ)) → (status ≢ 5 → (status ≡ fault_status fault) × Appends err err' (fault_line fault)) → answers ≡ Idle → status ≡ 6
+    → Appends err err' (answer_lines 1 (replies_of answers) ++ memory_line)
+wants_line status faults.Want answers err err' ends idle is = idle_line answers err err' memory_line idle (ends (λ e. omega (arith, e, is))).1
+wants_line status faults.Words answers err err' ends idle is = absurd (omega (arith, (ends (λ e. omega (arith, e, is))).0, is))
+wants_line status faults.Read answers err err' ends idle is = absurd (omega (arith, (ends (λ e. omega (arith, e, is))).0, is))
+wants_line status faults.TooLong answers err err' ends idle is = absurd (omega (arith, (ends (λ e. omega (arith, e, is))).0, is))

@@ -13,24 +13,11 @@ use Rattle.sygus_drill.specs.Files.{drill_file}
 use Rattle.sygus_drill.specs.Lines.{drill_line}
 use Rattle.sygus_drill_laws.specs.Asked.{Asks}
 use Rattle.sygus_replies.specs.Replies.{Reply}
-use Rattle.sygus_words.specs.CommandLine.{IsReading}
 use Rattle.sygus_words.specs.declared.settings.Mode.TheVariants.{Drill}
-use Rattle.sygus_words.specs.declared.settings.Settings.{Settings}
 use Rattle.sygus_answers.specs.Drills.{drill_end}
 use Rattle.sygus_run.specs.declared.answers.Answers.{Answers}
 use Rattle.sygus_run.specs.declared.answers.Answers.TheVariants.{Idle}
 use Rattle.sygus_run.specs.Answers.{replies_of, AreRightAnswers}
-
--- the words ask for the drill of this number, within these limits
-pub record AskDrill (words : List (List ℕ)) (number : ℕ) (limits : Limits) : Type 0 where
-  pub settings : Settings
-  pub accepted : IsReading words settings
-  pub mode : settings.mode ≡ Drill number
-  pub within : settings.limits ≡ limits
-
--- they ask for none
-abbrev pub AskNoDrill : List (List ℕ) → Type 0
-AskNoDrill words = (number : ℕ) (limits : Limits) → AskDrill words number limits → ⊥
 
 -- the number's file is in the profile, and what it asks are these problems
 pub record IsProblemOf {T : Type 0} (number : ℕ) (problems : List (Problem T Word)) : Type 0 where

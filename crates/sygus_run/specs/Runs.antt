@@ -1,31 +1,20 @@
 -- How a run may end.
-use Rattle.std.specs.Prelude.{ℕ, ◌≡◌, ◌<◌, ◌≤◌, ◌⊎◌, List, length, Option, IfSome, Ok, Err}
+use Rattle.std.specs.Prelude.{ℕ, ◌≡◌, ◌<◌, ◌≤◌, ◌⊎◌, List, length, Option, Ok, Err}
 use Rattle.std.specs.Io.KnownBytes.{Appends}
-use Rattle.sy_io.specs.Source.{Holding, bytes_under}
-use Rattle.sygus_words.specs.CommandLine.{IsReading}
+use Rattle.sy_io.specs.Source.{Holding}
+use Rattle.sygus_input.specs.Inputs.{Names, longest}
+use Rattle.sygus_input.specs.declared.input.InputFault.{InputFault}
+use Rattle.sygus_input.specs.declared.input.InputFault.TheVariants as faults
 use Rattle.sygus_words.specs.declared.settings.Settings.{Settings}
 use Rattle.sy_scope_causes.specs.declared.cause.Refused.{Refused}
 use Rattle.sy_reply_lines.specs.Lines.{refusal_line}
 use Rattle.sy_scope_steps.specs.Files.{file_read}
 use Rattle.sy_scope_steps.specs.Jobs.{Wish, wished}
-use Rattle.sygus_replies.specs.Texts.{texts, answer_lines, too_long_line}
+use Rattle.sygus_replies.specs.Texts.{texts, answer_lines, words_line, read_line, too_long_line, memory_line}
 use Rattle.sygus_replies.specs.Answered.{WritesMost}
 use Rattle.sygus_run.specs.declared.answers.Answers.{Answers}
 use Rattle.sygus_run.specs.declared.answers.Answers.TheVariants.{Idle}
 use Rattle.sygus_run.specs.Answers.{replies_of, AreRightAnswers}
-
--- the most bytes that a file may have
-abbrev pub longest : ℕ
-longest = 4194304
-
--- words that are no command line of the program
-abbrev pub HaveNoReading : List (List ℕ) → Type 0
-HaveNoReading words = (settings : Settings) → IsReading words settings → ⊥
-
--- the words are accepted, and this is the file under their name, as far as the source tells
-pub record Names (words : List (List ℕ)) (held : Option Holding) (settings : Settings) (file : List ℕ) : Type 0 where
-  pub accepted : IsReading words settings
-  pub told : IfSome held (λ h. file ≡ bytes_under h settings.file)
 
 -- the file of these words is in the profile, and this is what it asks for
 pub record PosesFile (words : List (List ℕ)) (held : Option Holding) (settings : Settings) (wish : Wish) : Type 0 where
@@ -69,3 +58,16 @@ IsCutOff words held answers out out' = ((answers ≡ Idle) × (out' ≡ out))
 abbrev pub WantsMemory : List (List ℕ) → Option Holding → Answers → Option (List ℕ) → Option (List ℕ) → Type 0
 WantsMemory words held answers out out' = ((answers ≡ Idle) × (out' ≡ out))
     ⊎ Midway words held answers (λ wish. Appends out out' (texts wish.titles wish.questions (replies_of answers)))
+
+-- the status of a run without input, and its line
+abbrev pub fault_status : InputFault → ℕ
+fault_status faults.Words = 3
+fault_status faults.Read = 4
+fault_status faults.TooLong = 2
+fault_status faults.Want = 6
+
+abbrev pub fault_line : InputFault → List ℕ
+fault_line faults.Words = words_line
+fault_line faults.Read = read_line
+fault_line faults.TooLong = too_long_line
+fault_line faults.Want = memory_line

@@ -3,6 +3,7 @@
 
 mod answers;
 mod drills;
+mod file;
 mod job;
 mod program;
 

@@ -1,25 +1,21 @@
 // The run over words, a source and two sinks.
-ghost use Rattle.std.specs.Prelude.{ℕ, ◌≡◌, ◌≤◌, ◌⊎◌, ◌++◌, map, string_bytes, All, Any};
+ghost use Rattle.std.specs.Prelude.{ℕ, ◌≡◌, ◌≢◌, ◌≤◌, ◌⊎◌, ◌++◌, map, string_bytes, All, Any};
 ghost use Rattle.std.specs.Io.KnownBytes.{Appends};
 ghost use Rattle.sy_io.specs.Causes.{Rose};
 ghost use Rattle.sygus_replies.specs.Replies.{IsSettled, IsFail};
 ghost use Rattle.sygus_replies.specs.Texts.{answer_lines, words_line, read_line, memory_line};
 ghost use Rattle.sygus_run.specs.Answers.{replies_of, AreNamedFor};
-ghost use Rattle.sygus_run.specs.Runs.{HaveNoReading, Answered, FileIsRefused, IsCutOff, WantsMemory};
-ghost use Rattle.sygus_run.specs.Drills.{AskDrill, AskNoDrill, EndsDrill};
+ghost use Rattle.sygus_input.specs.Inputs.{AskDrill, AskNoDrill, HaveNoReading};
+ghost use Rattle.sygus_run.specs.Runs.{Answered, FileIsRefused, IsCutOff, WantsMemory, fault_status, fault_line};
+ghost use Rattle.sygus_run.specs.Drills.{EndsDrill};
 ghost use Rattle.sy_query_limits.specs.declared.Limits.{Limits};
 
 use crate::answers::{Answers, Ended, unanswered};
 use crate::drills::drill;
-use crate::job::answer;
+use crate::file::answer_file;
 use std::alloc::Global;
-use sy_io::{ReadEnd, Sink, Source, read_whole};
-use sy_reply_lines::refusal_text;
-use sy_scope::{ScopeEnd, read_file};
-use sygus_words::{Mode, WordFault, read_words};
-
-/// The most bytes that a file may have.
-const LONGEST: usize = 4194304;
+use sy_io::{Sink, Source};
+use sygus_input::{Input, InputFault, read_input};
 
 /// Reads the words, then the input, checks the whole file, and answers its problems in order.
 /// Each reply goes out before the next problem is sought. In mode `drill` the file is made from a number, and one line
@@ -74,28 +70,26 @@ pub fn run<S: Source, O: Sink, E: Sink>(
         (O.written out.old) (O.written out.new) }
     ensures memory_line { result.status ≡ 6 → Appends (E.written err.old) (E.written err.new) (answer_lines 1 (replies_of result.answers) ++ memory_line) }
 {
-    let settings = match read_words(alloc, words) {
-        Ok(settings) => settings,
-        Err(WordFault::Refused) => return unanswered(err, b"refused: words\n", 3),
-        Err(WordFault::Want) => return unanswered(err, b"want of memory\n", 6),
-    };
-    if let Mode::Drill(number) = settings.mode {
-        return drill(alloc, number, &settings.limits, out, err);
-    }
-    let bytes = match read_whole(alloc, source, settings.file.as_str(), LONGEST) {
-        Ok(bytes) => bytes,
-        Err(ReadEnd::Fault) => return unanswered(err, b"fault: read\n", 4),
-        Err(ReadEnd::TooLong) => {
-            return unanswered(err, b"refused: input longer than 4194304 bytes\n", 2);
+    match read_input(alloc, words, source) {
+        Ok(Input::Drill(number, limits)) => drill(alloc, number, &limits, out, err),
+        Ok(Input::File(settings, file)) => {
+            answer_file(alloc, &settings, file.as_slice(), out, err)
         }
-        Err(ReadEnd::Want) => return unanswered(err, b"want of memory\n", 6),
-    };
-    match read_file(alloc, bytes.as_slice()) {
-        Ok(job) => answer(alloc, job, settings.mode, &settings.limits, out, err),
-        Err(ScopeEnd::Refused(refused)) => match refusal_text(alloc, bytes.as_slice(), &refused) {
-            Ok(line) => unanswered(err, line.as_slice(), 2),
-            Err(_) => unanswered(err, b"want of memory\n", 6),
-        },
-        Err(ScopeEnd::Want) => unanswered(err, b"want of memory\n", 6),
+        Err(fault) => without_input(err, fault),
+    }
+}
+
+/// The end of a run without input, and the line that says why.
+fn without_input<E: Sink>(err: &mut E, fault: InputFault) -> Ended
+    ensures status { (2 ≤ result.status) × (result.status ≤ 6) }
+    ensures answers { result.answers ≡ Answers.Idle }
+    ensures written { result.status ≢ 5 → (result.status ≡ fault_status fault) × Appends (E.written err.old) (E.written err.new) (fault_line fault) }
+    ensures write { result.status ≡ 5 → Rose (E.faults err.old) (E.faults err.new) }
+{
+    match fault {
+        InputFault::Words => unanswered(err, b"refused: words\n", 3),
+        InputFault::Read => unanswered(err, b"fault: read\n", 4),
+        InputFault::TooLong => unanswered(err, b"refused: input longer than 4194304 bytes\n", 2),
+        InputFault::Want => unanswered(err, b"want of memory\n", 6),
     }
 }
