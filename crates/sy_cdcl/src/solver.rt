@@ -239,10 +239,9 @@ fn reward(order: &mut Order, line: &Line, clause: &[Lit]) {
     for step in line.steps.as_slice() {
         order.bump(step.var);
     }
-    for _ in 0..2 {
-        for literal in clause {
-            order.bump(literal.var);
-        }
+    for literal in clause {
+        order.bump(literal.var);
+        order.bump(literal.var);
     }
     order.age();
 }
