@@ -239,9 +239,10 @@ fn reward(order: &mut Order, line: &Line, clause: &[Lit]) {
     for step in line.steps.as_slice() {
         order.bump(step.var);
     }
-    for literal in clause {
-        order.bump(literal.var);
-        order.bump(literal.var);
+    for _ in 0..2 {
+        for literal in clause {
+            order.bump(literal.var);
+        }
     }
     order.age();
 }
