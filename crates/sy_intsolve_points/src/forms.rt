@@ -7,7 +7,7 @@ use sy_linear_forms::Form;
 use sy_linear_known::Fact;
 use sy_seq::{Seq, Want};
 
-/// Copies of the forms among the facts, in order.
+/// Copies of the forms among the facts, in order. `Want` comes where memory runs out, and nowhere else.
 pub fn forms_of(alloc: Global, facts: &[Fact]) -> Result<Seq<Form>, Want>
     ensures { IfOk result (λ all. all ≡ forms facts.now) }
 {

@@ -57,7 +57,8 @@ fn term_at(coefficient: &(u32, i128), point: &[Frac]) -> Option<Frac>
     factor.mul(&number)
 }
 
-/// The form's value at the point, where each number that its operations form fits.
+/// The form's value at the point, where each number that its operations form fits; `None` where one doesn't, or the point
+/// has no number for a variable.
 pub fn number_at(form: &Form, point: &[Frac]) -> Option<Frac>
     ensures { IfSome result (λ number. value number ≡ form_value_at form.now (numbers point.now)) }
 {
@@ -83,7 +84,7 @@ pub fn meets(fact: &Fact, point: &[Frac]) -> bool
     }
 }
 
-/// The same point.
+/// The same point, in memory of its own. `Want` comes where memory runs out, and nowhere else.
 pub fn copied(alloc: Global, point: &[Frac]) -> Result<Seq<Frac>, Want>
     ensures { IfOk result (λ copy. copy ≡ point.now) }
 {
@@ -94,7 +95,8 @@ pub fn copied(alloc: Global, point: &[Frac]) -> Result<Seq<Frac>, Want>
     Ok(copy)
 }
 
-/// A copy of the point, where it is known to meet the fact: of a point of a path, one of the path with this fact.
+/// A copy of the point, where it is known to meet the fact: of a point of a path, one of the path with this fact. `None`
+/// where that isn't known. `Want` comes where memory runs out, and nowhere else.
 pub fn kept(alloc: Global, point: &[Frac], fact: &Fact) -> Result<Option<Seq<Frac>>, Want>
     ensures { (vars : List Sort) (path : List FactOf) → IsPointOf vars path point.now → IfOk result (λ found. IfSome found (IsPointOf vars (path ++ fact.now ∷ []))) }
 {
