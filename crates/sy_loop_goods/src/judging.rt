@@ -1,7 +1,6 @@
 // Whether constraints are true under a leaf.
-ghost use Rattle.std.specs.Prelude.{◌≡◌, ◌↔◌, IsTrue, true, [], ◌∷◌, All, IfOk, OnOk, map};
-ghost use Rattle.sy_terms.specs.Denoted.{expr_of, val_of, vals_of};
-ghost use Rattle.sy_terms.specs.Values as spec;
+ghost use Rattle.std.specs.Prelude.{◌≡◌, [], ◌∷◌, All, IfOk, OnOk, map};
+ghost use Rattle.sy_terms.specs.Denoted.{expr_of, vals_of};
 ghost use Rattle.sy_bank_rows.specs.Stored.{entry_of};
 ghost use Rattle.sy_grammar_base.specs.Fits.{IsTruth, ProblemFits};
 ghost use Rattle.sy_grammar_base.specs.Questions.{question_of};
@@ -16,6 +15,7 @@ use crate::rests::Rest;
 use std::alloc::{AllocError, Global};
 use sy_bank_rows::Kept;
 use sy_grammar_base::Problem;
+use sy_loop_candidate::is_true;
 use sy_loop_memo::Memo;
 use sy_meaning::{Eval, Trace, evaluate_with};
 use sy_points::{Points, Stored};
@@ -133,15 +133,5 @@ fn tell<T: Theory>(
         Ok(value) => Ok(Some(is_true::<T>(&value))),
         Err(Eval::Range) => Ok(None),
         Err(Eval::Want) => Err(AllocError),
-    }
-}
-
-/// Whether the value is true.
-fn is_true<T: Theory>(value: &Value<T::Num>) -> bool
-    ensures { IsTrue result ↔ val_of T.denotes value.now ≡ spec.Truth true }
-{
-    match value {
-        Value::Truth(truth) => *truth,
-        Value::Num(_) => false,
     }
 }
