@@ -1,10 +1,1 @@
-pub mod Choosing
-pub mod Refuting
-pub mod Summing
-pub mod Building
-pub mod Rounding
-pub mod Carrying
-pub mod Observed
-pub mod Completing
-pub mod Least
-pub mod Following
+pub mod Beginning

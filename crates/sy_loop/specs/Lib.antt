@@ -1,7 +1,1 @@
-pub mod Banks
-pub mod Clauses
-pub mod Dropping
-pub mod Least
-pub mod Levels
-pub mod Rounds
-pub mod Trees
+pub use Rattle.sy_loop_ends.specs.Least

@@ -3,15 +3,16 @@ ghost use Rattle.std.specs.Prelude.{◌≡◌, IfOk};
 ghost use Rattle.sy_grammar_base.specs.Fits.{ProblemFits};
 ghost use Rattle.sy_loop_outcome.specs.Right.{IsRightFor};
 ghost use Rattle.sy_loop_bounds.specs.declared.reach.Reach.TheVariants.{Sizes, Joins, Beyond};
-ghost use Rattle.sy_loop.specs.Clauses.{FindsLeastFor};
+ghost use Rattle.sy_loop_ends.specs.Clauses.{FindsLeastFor};
 
-use crate::round::{Round, run_round};
 use std::alloc::{AllocError, Global};
 use sy_grammar_base::Problem;
 use sy_loop_bounds::Reach;
 use sy_loop_candidate::Known;
+use sy_loop_ends::unbegun;
 use sy_loop_join::plan_of;
-use sy_loop_outcome::{FailCause, Outcome};
+use sy_loop_outcome::Outcome;
+use sy_loop_round::{Round, run_round};
 use sy_points::{Points, Stored};
 use sy_query_decide::Decide;
 use sy_query_limits::Limits;
@@ -68,14 +69,14 @@ fn search<T: Theory, D: Decide<T>>(
     if problem.wanted.len() > u32::MAX as usize {
         return Err(AllocError);
     }
+    if limits.rounds == 0 {
+        return Ok(unbegun::<T, D>(alloc, problem, limits, reach));
+    }
     let functions = problem.wanted.len() as u32;
     let mut known = Known {
         stored: Stored::new(alloc),
         points: Points::new(alloc, functions, limits.points)?,
     };
-    if limits.rounds == 0 {
-        return Ok(Outcome::Fail(FailCause::Rounds(known.stored)));
-    }
     let mut plan = plan_of(alloc, problem, reach)?;
     let mut banks = Vec::new(alloc);
     let mut level = 0;

@@ -2,8 +2,8 @@ use Rattle.std.proofs.Common.{arith, length, ◌≡◌}
 use Rattle.std.proofs.lemmas.List.{length-map}
 use Rattle.sy_grammar_base.specs.Questions.{question_of, goal_of}
 use Rattle.sy_loop_laws.proofs.Done as done
-use Rattle.sy_loop.proofs.Carrying.{none_carried}
-use Rattle.sy_loop.proofs.Rounding.{nothing_known, rounds_none}
+use Rattle.sy_loop_banks.proofs.Carrying.{none_carried}
+use Rattle.sy_loop.proofs.Beginning.{nothing_known}
 use Rattle.sy_loop.proofs.search.search.Goals as goal
 
 pub rounds-init : goal.rounds-init
@@ -34,10 +34,3 @@ returns-in-Ends-clause-right g c = rw c.in-Ends.is at c.in_ok-more.ensures.round
 
 pub returns-in-Ends-clause-least : goal.returns-in-Ends-clause-least
 returns-in-Ends-clause-least g c = rw c.in-Ends.is at c.in_ok-more.ensures.least
-
-pub returns-then-limits-eq0-clause-right : goal.returns-then-limits-eq0-clause-right
-returns-then-limits-eq0-clause-right g c =
-    let all : c.len-functions.result ≡ length (question_of g.T.Theory.denotes c.args.problem.now).goals = omega (arith, c.len-functions.ensures, length-map c.args.problem.now.wanted (goal_of g.T.Theory.denotes)) in
-    rw c.new.ensures
-    (rounds_none c.args.reach (question_of g.T.Theory.denotes c.args.problem.now) c.args.limits.now c.in_ok-new.field-0 (nothing_known c.args.reach (question_of g.T.Theory.denotes c.args.problem.now) c.args.limits.now c.in_ok-new.field-0 c.len-functions.result all c.in_ok-new.ensures.tuples c.in_ok-new.ensures.limit)
-    (omega (arith, c.if-limits-eq0.true)))

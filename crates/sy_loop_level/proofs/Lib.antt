@@ -1,0 +1,3 @@
+pub mod Choosing
+pub mod Observed
+pub mod Refuting

@@ -1,0 +1,4 @@
+pub mod Completing
+pub mod Following
+pub mod Honest
+pub mod Rounding
