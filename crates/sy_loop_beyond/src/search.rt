@@ -18,7 +18,7 @@ use sy_query_limits::Limits;
 use sy_terms::{Bodies, Theory, Values, Want};
 
 /// How many clauses the solver may learn of one body's query: what is hard to decide is passed over.
-const MOST_CLAUSES: u32 = 2_000;
+const MOST_CLAUSES: u32 = 10_000;
 
 /// How many inner nodes its tree may have, over integers.
 const MOST_NODES: u32 = 500;
