@@ -184,7 +184,7 @@ impl Order {
 
     /// A conflict has passed: later ones count for more.
     pub fn age(&mut self) {
-        self.step = self.step.saturating_add(self.step / 12);
+        self.step = self.step.saturating_add(self.step / 17);
         if self.step > LIMIT {
             self.scale();
         }
