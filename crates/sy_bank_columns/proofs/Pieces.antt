@@ -4,7 +4,7 @@ use Rattle.std.proofs.lemmas.Option.{none-some, slice_get-get_or}
 use denote.Ref.{Bor}
 use Rattle.sy_terms.specs.Values.{Val}
 use Rattle.sy_terms.specs.Expr as expr
-use Rattle.sy_terms.specs.Expr.{Expr, Exprs, Apply}
+use Rattle.sy_terms.specs.Expr.{Exprs, Apply}
 use Rattle.sy_terms.specs.Theories.{sort_of_value}
 use Rattle.sy_terms.specs.Meaning.{Function, computable}
 use Rattle.sy_terms.specs.Fitting.{Scope}

@@ -9,7 +9,7 @@ use Rattle.sy_terms.specs.Expr.{Expr, Exprs}
 use Rattle.sy_terms.specs.Meaning.{Function, meaning, meanings, computable, all_computable, called, can_call, function_of}
 use Rattle.sy_terms.specs.declared.term.Fun.TheVariants.{Defined}
 use Rattle.sy_grammar_base.specs.Patterns as patterns
-use Rattle.sy_grammar_base.specs.Patterns.{Pattern, Patterns, Constant, Variable, Occurrence, Apply, Invoke, occurring, all_occurring, filled, all_filled}
+use Rattle.sy_grammar_base.specs.Patterns.{Pattern, Patterns, Constant, Variable, Occurrence, Apply, Invoke, occurring, filled, all_filled}
 use Rattle.sy_bank_rows.specs.Rows.{IsRow}
 
 -- both terms have the same value at the point, and both or neither are computable there

@@ -6,7 +6,7 @@ use Rattle.sy_terms.specs.Expr.{Expr}
 use Rattle.sy_terms.specs.Meaning.{Function}
 use Rattle.sy_grammar_base.specs.Patterns.{Pattern, occurring, filled, own_size}
 use Rattle.sy_grammar_base.specs.Trees as trees
-use Rattle.sy_grammar_base.specs.Trees.{Syntax, Production, Template, EachConstant, EachVariable, Tree, Trees, Node, ConstantLeaf, VariableLeaf, Derives, rule_at, node_yield, constant_yield, variable_yield, terms_joined, yield_from, yields_from, tree_size, tree_sizes, node_size, constant_size}
+use Rattle.sy_grammar_base.specs.Trees.{Syntax, Production, Template, EachConstant, EachVariable, Tree, Trees, Node, ConstantLeaf, VariableLeaf, rule_at, node_yield, constant_yield, variable_yield, terms_joined, yield_from, yields_from, tree_size, tree_sizes, node_size, constant_size}
 use Rattle.sy_bank_rows.specs.Rows.{IsRow}
 use Rattle.sy_bank_rows.specs.Banks.{Entry, Merged, IsKept, IsHonestBank}
 use Rattle.sy_bank_rows.specs.Covering.{IsCovered, Covers, AreKept, sizes, terms, Offers, IsSaturated}

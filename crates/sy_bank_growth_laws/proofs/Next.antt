@@ -7,7 +7,7 @@ use Rattle.sy_terms.specs.Expr.{Expr}
 use Rattle.sy_terms.specs.Meaning.{Function}
 use Rattle.sy_terms.specs.Fitting.{Scope}
 use Rattle.sy_grammar_base.specs.Trees.{Syntax, rule_at}
-use Rattle.sy_bank_rows.specs.Banks.{Entry, Lost, Merged, kept_at, kept_count, IsHonestBank, IsDropped, IsNewEntry}
+use Rattle.sy_bank_rows.specs.Banks.{Entry, Lost, Merged, kept_at, IsHonestBank, IsDropped, IsNewEntry}
 use Rattle.sy_bank_rows.specs.Covering.{IsCovered, Covers, Offers}
 use Rattle.sy_bank_level.specs.Filling.{World, LevelState, all_levels, IsSteady, IsBeyond}
 use Rattle.sy_bank_level.specs.declared.table.Place.{Place}

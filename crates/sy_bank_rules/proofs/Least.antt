@@ -8,7 +8,7 @@ use Rattle.sy_terms.specs.Expr.{Expr}
 use Rattle.sy_grammar_base.specs.Patterns as pattern
 use Rattle.sy_grammar_base.specs.Patterns.{Pattern, occurring, filled, own_size}
 use Rattle.sy_grammar_base.specs.Trees as trees
-use Rattle.sy_grammar_base.specs.Trees.{Syntax, Production, Template, EachConstant, EachVariable, Tree, Trees, Node, ConstantLeaf, VariableLeaf, Derives, rule_at, yield_from, yields_from, node_yield, node_size, terms_joined, tree_size, tree_sizes, constant_size, is_small, digits, value_magnitude}
+use Rattle.sy_grammar_base.specs.Trees.{Syntax, Production, Template, EachConstant, EachVariable, Tree, Trees, Node, ConstantLeaf, VariableLeaf, rule_at, yield_from, yields_from, node_yield, node_size, terms_joined, tree_size, tree_sizes, constant_size, is_small, digits, value_magnitude}
 use Rattle.sy_bank_rows.specs.Banks.{Entry, kept_at}
 use Rattle.sy_bank_rows.specs.Covering.{AreKept, sizes}
 use Rattle.sy_bank_level.specs.Filling.{World, LevelState, IsSteady, EntryIsRight}

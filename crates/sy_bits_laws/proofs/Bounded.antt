@@ -1,13 +1,13 @@
 -- The circuits of operators have few gates, measured by their weight and the widths of their arguments.
-use Rattle.std.specs.Prelude.{ℕ, ◌+◌, ◌*◌, ◌-◌, ◌≤◌, ◌<◌, ◌≡◌, Bool, true, false, ◌&&◌, nat_le, nat_lt, nat_eq, List, [], ◌∷◌, refl, Some, None, Option, length, if◌then◌else◌, All}
+use Rattle.std.specs.Prelude.{ℕ, ◌+◌, ◌*◌, ◌-◌, ◌≤◌, ◌≡◌, Bool, true, false, ◌&&◌, nat_le, nat_lt, nat_eq, List, [], ◌∷◌, refl, Some, None, length, if◌then◌else◌, All}
 use Rattle.std.specs.List.{list_all}
-use Rattle.std.proofs.Common.{arith, zero, suc, ap, sym, ◌∙◌, subst}
+use Rattle.std.proofs.Common.{arith, zero, suc, ap, sym, subst}
 use Rattle.std.proofs.Math.Nat.{mul-le-mul_left, mul-le-mul_right}
 use Rattle.std.proofs.lemmas.List.Elements.{All-head, All-tail}
 use Rattle.std.proofs.lemmas.Bool.{eqb-true}
 use Rattle.std.proofs.lemmas.Bool.Decides.{nat_tests}
 use Rattle.sy_terms.specs.Theories.{in_core}
-use Rattle.sy_terms.specs.Sorts.{sort_of, same_sort, each_is, all_alike, choice, by_width, one_vector, two_vectors, vectors, up_to_64, two_joined, as_before, extracted, repeated, extended}
+use Rattle.sy_terms.specs.Sorts.{sort_of, same_sort, each_is, all_alike, choice, by_width, one_vector, two_vectors, vectors, up_to_64, two_joined, as_before}
 use Rattle.sy_terms.specs.declared.op.Op.{Op}
 use Rattle.sy_terms.specs.declared.op.Op.TheVariants as ops
 use Rattle.sy_terms.specs.declared.sort.Sort.{Sort}
@@ -17,7 +17,7 @@ use Rattle.sy_terms.specs.declared.sorts.Sorted.TheVariants.{Is, Mismatch, BadWi
 use Rattle.sy_meaning_words.specs.Vectors.{owned}
 use Rattle.sy_query_base.specs.Weights.{operator_weight, sort_weight}
 use Rattle.sy_bits_operators.specs.Signals.{has_signals, AllHaveSignals, sort_width, total_width}
-use Rattle.sy_bits_operators.specs.Costs.{gates, core_gates, vector_gates, single_gates, pair_gates, same_gates, first_width}
+use Rattle.sy_bits_operators.specs.Costs.{gates, pair_gates}
 
 abbrev Few : Op → List Sort → Sort → Type 0
 Few op ss s = gates op ss ≤ 140 * operator_weight op (length ss) (sort_weight (Some s)) + 5 * total_width ss

@@ -1,5 +1,5 @@
 -- What circuit clauses say: their models are the assignments that satisfy the query.
-use Rattle.std.specs.Prelude.{ℕ, ◌+◌, ◌*◌, ◌≤◌, ◌<◌, ◌≡◌, ◌≢◌, ◌↔◌, Bool, true, false, not, cond, ◌||◌, List, [], ◌∷◌, ◌++◌, refl, length, take, All}
+use Rattle.std.specs.Prelude.{ℕ, ◌+◌, ◌≡◌, Bool, true, false, ◌||◌, List, [], ◌∷◌, ◌++◌, refl, length, take, All}
 use Rattle.std.proofs.Common.{arith, ap, sym, ◌∙◌, subst}
 use Rattle.std.proofs.lemmas.List.Elements.{All-nil, All-cons, All-head, All-tail, All-append}
 use Rattle.sy_terms.specs.Values.{Val, Truth}
@@ -9,7 +9,7 @@ use Rattle.sy_clauses.specs.declared.Lit.{Lit}
 use Rattle.sy_clauses.specs.declared.Cnf.{Cnf}
 use Rattle.sy_clauses.specs.Clauses.{IsModel, ClauseIsTrueUnder, HasNoModel, literals}
 use Rattle.sy_gates.specs.Circuits.{lit_value}
-use Rattle.sy_gates.specs.Models.{values_of, but_last, clause_value}
+use Rattle.sy_gates.specs.Models.{values_of, but_last}
 use Rattle.sy_gates.proofs.Holding.{value-true, true-value}
 use Rattle.sy_grammar_base.specs.Formed.{is_known}
 use Rattle.sy_query_base.specs.Asked.{Query, QueryFits, Satisfies, IsNever}

@@ -1,9 +1,9 @@
 -- Values and their bits.
-use Rattle.std.specs.Prelude.{ℕ, ◌+◌, ◌-◌, ◌*◌, ◌/◌, ◌%◌, ◌^◌, ◌≤◌, ◌<◌, ◌≡◌, Bool, true, false, ◌&&◌, cond, nat_le, nat_lt, eqb, List, [], ◌∷◌, ◌++◌, refl, length, take, drop, map, All}
+use Rattle.std.specs.Prelude.{ℕ, ◌+◌, ◌-◌, ◌*◌, ◌/◌, ◌%◌, ◌^◌, ◌≤◌, ◌<◌, ◌≡◌, Bool, true, false, cond, eqb, List, [], ◌∷◌, ◌++◌, refl, length, take, drop, map, All}
 use Rattle.std.proofs.Common.{arith, ap, sym, ◌∙◌, subst, get_or, zero, suc, add-one, length-append, length-take}
 use Rattle.std.proofs.Math.Nat.{pow-succ', pow-le-pow_right, mod-lt, mod-add-div}
 use Rattle.std.proofs.Math.Seq.{take-append_seam, drop-append_seam}
-use Rattle.std.proofs.lemmas.List.{get_or-drop, drop-take}
+use Rattle.std.proofs.lemmas.List.{drop-take}
 use Rattle.std.proofs.lemmas.List.Elements.{All-nil, All-cons, All-head, All-tail}
 use Rattle.std.proofs.lemmas.Bool.Decides.{nat_tests}
 use Rattle.std.proofs.lemmas.Grind.{common_steps}
@@ -13,7 +13,7 @@ use Rattle.sy_terms.specs.declared.sort.Sort.{Sort}
 use Rattle.sy_terms.specs.declared.sort.Sort.TheVariants as sorts
 use Rattle.sy_grammar_base.specs.Solving.{AreValues}
 use Rattle.sy_bits_operators.specs.Signals.{has_signals, AllHaveSignals, sort_width, total_width}
-use Rattle.sy_bits_laws.specs.Assignments.{number_of_bits, first_bit, value_of_bits, assignment}
+use Rattle.sy_bits_laws.specs.Assignments.{number_of_bits, value_of_bits, assignment}
 
 pub double-pow : (n : ℕ) → 2 ^ (n + 1) ≡ 2 * 2 ^ n
 double-pow n = rw (add-one, pow-succ' 2 n) refl

@@ -1,9 +1,9 @@
 -- What is known of a list of terms, term by term.
-use Rattle.std.specs.Prelude.{ℕ, ◌+◌, ◌*◌, ◌≤◌, ◌<◌, ◌≡◌, List, [], ◌∷◌, ◌++◌, refl, Some, length, slice_get}
-use Rattle.std.proofs.Common.{arith, ap, sym, ◌∙◌, subst, get_or, take, zero, suc, add-one}
+use Rattle.std.specs.Prelude.{ℕ, ◌+◌, ◌≤◌, ◌<◌, ◌≡◌, List, [], ◌∷◌, ◌++◌, refl, Some, length}
+use Rattle.std.proofs.Common.{arith, ap, sym, ◌∙◌, subst, get_or, take, zero, suc}
 use Rattle.std.proofs.lemmas.List.{take_more}
 use Rattle.sy_terms.specs.Values.{Val}
-use Rattle.sy_terms.specs.Expr.{Expr, Exprs, none, more}
+use Rattle.sy_terms.specs.Expr.{none, more}
 use Rattle.sy_terms.specs.Denoted.{expr_of, exprs_of}
 use Rattle.sy_terms.specs.Fitting.{sort_in, sorts_in}
 use Rattle.sy_terms.specs.Meaning.{meaning, meanings}

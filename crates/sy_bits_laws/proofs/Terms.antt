@@ -1,16 +1,15 @@
 -- What is known of a term's parts where the term fits, and what the circuits of its parts cost.
-use Rattle.std.specs.Prelude.{ℕ, ◌+◌, ◌*◌, ◌^◌, ◌≤◌, ◌<◌, ◌≡◌, Bool, true, false, List, [], ◌∷◌, ◌++◌, refl, Some, None, Option, length, map, slice_get, All}
-use Rattle.std.proofs.Common.{arith, ap, sym, ◌∙◌, subst, get_or, zero, suc}
-use Rattle.sy_terms.specs.Values.{Val, Truth}
+use Rattle.std.specs.Prelude.{ℕ, ◌+◌, ◌*◌, ◌≤◌, ◌<◌, ◌≡◌, true, List, [], ◌∷◌, ◌++◌, refl, Some, length, slice_get}
+use Rattle.std.proofs.Common.{arith, ap, sym, ◌∙◌, get_or, zero, suc}
+use Rattle.sy_terms.specs.Values.{Val}
 use Rattle.sy_terms.specs.Expr.{Expr, Exprs, Constant, Variable, Apply, Invoke, Bind, none, more}
-use Rattle.sy_terms.specs.Fitting.{Scope, Signature, signature_of, sort_in, sorts_in, applied_sort, after, with_sort}
+use Rattle.sy_terms.specs.Fitting.{Signature, signature_of, sort_in, sorts_in, after}
 use Rattle.sy_terms.specs.Meaning.{meaning, meanings, value_at_position}
 use Rattle.sy_terms.specs.Operators.{op_value}
 use Rattle.sy_terms.specs.Sorts.{sort_of}
 use Rattle.sy_terms.specs.Theories.{sort_of_value, valid}
 use Rattle.sy_terms.specs.declared.op.Op.{Op}
 use Rattle.sy_terms.specs.declared.sort.Sort.{Sort}
-use Rattle.sy_terms.specs.declared.sorts.Sorted.{Sorted}
 use Rattle.sy_terms.specs.declared.sorts.Sorted.TheVariants.{Is}
 use Rattle.sy_terms.specs.declared.term.Fun.{Fun}
 use Rattle.sy_terms.specs.declared.term.Fun.TheVariants.{Defined, Wanted}

@@ -1,6 +1,6 @@
 -- Choices by a truth value.
 use Rattle.std.specs.Prelude.{ℕ, ◌≤◌, ◌<◌, ◌≡◌, Bool, true, false, cond, List, [], ◌∷◌, refl, length, map, if◌then◌else◌}
-use Rattle.std.proofs.Common.{arith, subst, ap, sym, ◌∙◌, get_or, zero, suc}
+use Rattle.std.proofs.Common.{arith, subst, ap, sym, ◌∙◌, get_or}
 use Rattle.std.proofs.lemmas.List.{length-map}
 use Rattle.sy_terms.specs.Values.{Val, truth}
 use Rattle.sy_terms.specs.Operators.{op_value}

@@ -16,15 +16,15 @@ use Rattle.sy_terms.specs.declared.sort.Sort.{Sort}
 use Rattle.sy_terms.specs.declared.sort.Sort.TheVariants as sorts
 use Rattle.sy_terms.specs.declared.sorts.Sorted.TheVariants.{Is, Mismatch}
 use Rattle.sy_terms_laws.proofs.OperatorSorts.{op_value-sort}
-use Rattle.sy_meaning_words.specs.Vectors.{is_folded, in_vectors, is_bits, TakesSorts, TakesMany}
+use Rattle.sy_meaning_words.specs.Vectors.{is_folded, is_bits, TakesMany}
 use Rattle.sy_bits_operators.proofs.Taken.{fold_step, fold_end}
 use Rattle.sy_gates.specs.declared.gate.Bit.{Bit}
-use Rattle.sy_gates.specs.Circuits.{word_bound, word_number}
+use Rattle.sy_gates.specs.Circuits.{word_bound}
 use Rattle.sy_bits_operators.specs.declared.signal.Signal.{Signal}
 use Rattle.sy_bits_operators.specs.declared.signal.Signal.TheVariants as signals
-use Rattle.sy_bits_operators.specs.Signals.{signal_value, signal_values, signal_sort, signal_sorts, signal_bound, signals_bound, has_signals, AllHaveSignals, sort_width}
-use Rattle.sy_bits_operators.specs.Costs.{pair_gates, single_gates, vector_gates}
-use Rattle.sy_bits_operators.proofs.Rows.{sort-of, sorts-are, taken-sort}
+use Rattle.sy_bits_operators.specs.Signals.{signal_value, signal_values, signal_sort, signal_sorts, signal_bound}
+use Rattle.sy_bits_operators.specs.Costs.{pair_gates}
+use Rattle.sy_bits_operators.proofs.Rows.{sort-of, sorts-are}
 use Rattle.sy_bits_operators.proofs.Pairs.{word_value}
 
 -- the word of a signal

@@ -1,10 +1,10 @@
 -- An operator's value has a sort with signals where its arguments have.
-use Rattle.std.specs.Prelude.{ℕ, ◌+◌, ◌*◌, ◌-◌, ◌≤◌, ◌<◌, ◌≡◌, Bool, true, false, ◌&&◌, nat_le, nat_lt, nat_eq, List, [], ◌∷◌, refl, Some, None, Option, length, if◌then◌else◌, All}
+use Rattle.std.specs.Prelude.{ℕ, ◌+◌, ◌*◌, ◌-◌, ◌≤◌, ◌≡◌, Bool, true, false, ◌&&◌, nat_le, nat_lt, nat_eq, List, [], ◌∷◌, refl, Some, None, length, if◌then◌else◌, All}
 use Rattle.std.specs.List.{list_all}
 use Rattle.std.proofs.Common.{arith, zero, suc}
 use Rattle.std.proofs.lemmas.List.Elements.{All-head, All-tail}
 use Rattle.std.proofs.lemmas.Bool.Decides.{nat_tests}
-use Rattle.sy_terms.specs.Sorts.{sort_of, same_sort, each_is, all_alike, choice, one_width, two_widths, by_width, one_vector, two_vectors, vectors, up_to_64, two_joined, as_before, extracted, repeated, extended}
+use Rattle.sy_terms.specs.Sorts.{sort_of, same_sort, each_is, all_alike, choice, by_width, one_vector, two_vectors, vectors, up_to_64, two_joined, as_before}
 use Rattle.sy_terms.specs.declared.op.Op.{Op}
 use Rattle.sy_terms.specs.declared.op.Op.TheVariants as ops
 use Rattle.sy_terms.specs.declared.sort.Sort.{Sort}

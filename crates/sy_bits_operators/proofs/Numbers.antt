@@ -1,5 +1,5 @@
 -- The circuits' numbers are those of the operators.
-use Rattle.std.specs.Prelude.{nat_le, nat_eq, nat_lt, if◌then◌else◌}
+use Rattle.std.specs.Prelude.{nat_le, nat_eq, if◌then◌else◌}
 use Rattle.std.proofs.Common.{◌≡◌, ◌<◌, ◌≤◌, ◌^◌, ◌%◌, ◌*◌, ◌/◌, ◌+◌, ◌-◌, ℕ, zero, suc, Bool, true, false, cond, eqb, leb, not, ◌&&◌, ltb, arith, refl, ap, sym, subst, ◌∙◌, pos, ◌-ℤ◌, ◌+ℤ◌, ◌<ℤ◌, ◌≤ℤ◌, ℤ}
 use Rattle.std.proofs.lemmas.Int.{ints}
 use Rattle.std.proofs.lemmas.Nat.{pow_pos, pow-add, mod-pow-add, shl-shr}

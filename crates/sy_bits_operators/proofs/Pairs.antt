@@ -1,14 +1,13 @@
 -- The words of circuits stand for the operators' values.
-use Rattle.std.specs.Prelude.{ℕ, ◌+◌, ◌-◌, ◌*◌, ◌/◌, ◌%◌, ◌^◌, ◌≤◌, ◌<◌, ◌≡◌, ◌≤ℤ◌, ◌<ℤ◌, ◌↔◌, Bool, true, false, not, cond, eqb, ◌&&◌, List, [], ◌∷◌, refl, length}
-use Rattle.std.proofs.Common.{arith, ap, sym, ◌∙◌}
+use Rattle.std.specs.Prelude.{ℕ, ◌+◌, ◌-◌, ◌*◌, ◌/◌, ◌%◌, ◌^◌, ◌≤◌, ◌<◌, ◌≡◌, ◌≤ℤ◌, ◌<ℤ◌, ◌↔◌, Bool, true, false, cond, eqb, ◌&&◌, List, [], ◌∷◌, refl, length}
+use Rattle.std.proofs.Common.{ap, sym, ◌∙◌}
 use Rattle.sy_terms.specs.Values.{Val, Truth, Bits}
 use Rattle.sy_terms.specs.Operators.{op_value}
 use Rattle.sy_terms.specs.BitVectors as bv
-use Rattle.sy_terms.specs.declared.op.Op.{Op}
 use Rattle.sy_terms.specs.declared.op.Op.TheVariants as ops
 use Rattle.sy_gates.specs.declared.gate.Bit.{Bit}
 use Rattle.sy_gates.specs.Arithmetic as gates
-use Rattle.sy_gates.specs.Circuits.{bit_value, word_number}
+use Rattle.sy_gates.specs.Circuits.{word_number}
 use Rattle.sy_gates.proofs.Words.{word_number-below, below_at}
 use Rattle.sy_bits_operators.proofs.Numbers as numbers
 

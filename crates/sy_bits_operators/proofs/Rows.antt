@@ -1,10 +1,10 @@
 -- Lists of signals and of their values, one by one.
-use Rattle.std.specs.Prelude.{ℕ, ◌+◌, ◌*◌, ◌-◌, ◌≤◌, ◌<◌, ◌≡◌, Bool, true, false, not, cond, ◌&&◌, ◌||◌, max, List, [], ◌∷◌, ◌++◌, refl, length, map, take, drop, All}
+use Rattle.std.specs.Prelude.{ℕ, ◌+◌, ◌*◌, ◌-◌, ◌≤◌, ◌<◌, ◌≡◌, Bool, true, false, not, cond, ◌&&◌, ◌||◌, max, List, [], ◌∷◌, ◌++◌, refl, length, map, take, drop}
 use Rattle.std.specs.List.{list_all, list_any}
-use Rattle.std.proofs.Common.{arith, ap, sym, ◌∙◌, subst, get_or, zero, suc, add-one}
+use Rattle.std.proofs.Common.{arith, ap, sym, ◌∙◌, subst, get_or, zero, suc}
 use Rattle.std.proofs.Math.Nat.{mul-le-mul_right}
 use Rattle.std.proofs.lemmas.List.{take_more, at_drop_more, take_all, length-drop}
-use Rattle.sy_terms.specs.Values.{Val, Truth, truth, same, neighbours, to_all, all_pairs}
+use Rattle.sy_terms.specs.Values.{Val, Truth, truth, same, to_all, all_pairs}
 use Rattle.sy_terms.specs.Operators.{op_value, implied}
 use Rattle.sy_terms.specs.Sorts.{sort_of, same_sort}
 use Rattle.sy_terms.specs.Theories.{sort_of_value}
@@ -12,14 +12,13 @@ use Rattle.sy_terms.specs.declared.op.Op.TheVariants as ops
 use Rattle.sy_terms.specs.declared.sort.Sort.{Sort}
 use Rattle.sy_terms.specs.declared.sorts.Sorted.{Sorted}
 use Rattle.sy_terms.specs.declared.sorts.Sorted.TheVariants.{Is}
-use Rattle.sy_meaning_core.proofs.Lists.{odd_from, xor-odd, map-last, implied-last, neighbours-same}
+use Rattle.sy_meaning_core.proofs.Lists.{odd_from, xor-odd, map-last, implied-last}
 use Rattle.sy_terms_laws.proofs.Equations.{same_sort_is}
 use Rattle.sy_meaning_words.specs.Vectors.{TakesSorts, has_a_sort}
 use Rattle.sy_gates.specs.declared.bitwise.Joint.TheVariants.{And, Or, Xor}
 use Rattle.sy_gates.specs.declared.gate.Bit.{Bit}
 use Rattle.sy_gates.specs.Bitwise.{all_joined}
-use Rattle.sy_gates.specs.Circuits.{xor, bit_value, bit_bound, word_bound}
-use Rattle.sy_gates.proofs.Words.{word_bound-push}
+use Rattle.sy_gates.specs.Circuits.{xor, bit_value}
 use Rattle.sy_bits_operators.specs.declared.signal.Signal.{Signal}
 use Rattle.sy_bits_operators.specs.declared.signal.Signal.TheVariants as signals
 use Rattle.sy_bits_operators.specs.Signals.{signal_value, signal_values, signal_sort, signal_sorts, signal_bound, signals_bound, sort_width, are_alike}

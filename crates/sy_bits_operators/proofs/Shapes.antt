@@ -1,11 +1,10 @@
 -- What is known of an operator's arguments by their number.
-use Rattle.std.specs.Prelude.{ℕ, ◌+◌, ◌*◌, ◌≤◌, ◌<◌, ◌≡◌, Bool, true, false, ◌&&◌, nat_eq, nat_le, max, List, [], ◌∷◌, refl, length, map, All, if◌then◌else◌}
+use Rattle.std.specs.Prelude.{ℕ, ◌*◌, ◌≤◌, ◌<◌, ◌≡◌, Bool, true, false, ◌&&◌, nat_le, List, [], ◌∷◌, refl, length, map, All, if◌then◌else◌}
 use Rattle.std.specs.List.{list_all}
 use Rattle.std.proofs.Common.{arith, ap, sym, ◌∙◌, subst}
 use Rattle.std.proofs.lemmas.List.{length-map}
 use Rattle.std.proofs.lemmas.List.Elements.{All-head}
 use Rattle.std.proofs.lemmas.Bool.Decides.{nat_tests}
-use Rattle.sy_terms.specs.Values.{Val}
 use Rattle.sy_terms.specs.Operators.{op_value}
 use Rattle.sy_terms.specs.Sorts.{sort_of, same_sort}
 use Rattle.sy_terms.specs.Theories.{sort_of_value}

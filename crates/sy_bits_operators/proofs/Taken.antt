@@ -1,5 +1,5 @@
 -- Which arguments the operators on vectors take, and how many there are.
-use Rattle.std.specs.Prelude.{ℕ, ◌+◌, ◌-◌, ◌≡◌, ◌≤◌, ◌<◌, ◌≢◌, Bool, true, false, ◌&&◌, nat_eq, nat_le, List, [], ◌∷◌, refl, Some, None, length, map, slice_index_or, if◌then◌else◌}
+use Rattle.std.specs.Prelude.{ℕ, ◌+◌, ◌-◌, ◌≡◌, ◌≤◌, ◌<◌, ◌≢◌, Bool, true, false, ◌&&◌, nat_eq, nat_le, List, [], ◌∷◌, refl, Some, None, length, slice_index_or, if◌then◌else◌}
 use Rattle.std.specs.List.{list_all}
 use Rattle.std.proofs.Common.{arith, ap, sym, take, drop}
 use Rattle.std.proofs.lemmas.Bool.{eqb-true}

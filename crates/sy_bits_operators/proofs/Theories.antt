@@ -1,10 +1,9 @@
 -- The gates of an operator by its theory.
-use Rattle.std.specs.Prelude.{ℕ, ◌≡◌, Bool, true, false, List, refl, length, map}
-use Rattle.std.proofs.Common.{ap, ◌∙◌}
+use Rattle.std.specs.Prelude.{◌≡◌, true, false, List, refl, length, map}
+use Rattle.std.proofs.Common.{ap}
 use Rattle.std.proofs.lemmas.List.{length-map}
 use Rattle.sy_terms.specs.Theories.{in_core}
 use Rattle.sy_terms.specs.declared.op.Op.{Op}
-use Rattle.sy_terms.specs.declared.sort.Sort.{Sort}
 use Rattle.sy_meaning_words.specs.Vectors.{owned, in_vectors}
 use Rattle.sy_bits_operators.specs.declared.signal.Signal.{Signal}
 use Rattle.sy_bits_operators.specs.Signals.{signal_sort, signal_sorts}

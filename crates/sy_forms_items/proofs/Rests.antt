@@ -1,5 +1,5 @@
 -- The items of a list from a place on.
-use Rattle.std.proofs.Common.{◌≡◌, ◌≤◌, ◌+◌, ◌∙◌, ℕ, zero, suc, refl, ap, sym, arith, length, Some, List, [], ◌∷◌}
+use Rattle.std.proofs.Common.{◌≡◌, ◌≤◌, ◌+◌, ℕ, zero, suc, refl, arith, length, Some}
 use Rattle.std.specs.Prelude.{slice_get}
 use Rattle.sy_text.specs.Items.{Item, Items, none, more, listed}
 use Rattle.sy_forms_items.specs.Parts.{items_from}

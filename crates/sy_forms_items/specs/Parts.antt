@@ -1,5 +1,5 @@
 -- What single items are.
-use Rattle.std.specs.Prelude.{ℕ, zero, suc, List, [], ◌∷◌, Bool, true, false, ◌&&◌, Option, Some, None, is_some, bytes_eq, if◌then◌else◌}
+use Rattle.std.specs.Prelude.{ℕ, zero, suc, List, Bool, true, false, ◌&&◌, Option, Some, None, is_some, bytes_eq, if◌then◌else◌}
 use Rattle.std.specs.Option.{option_map}
 use Rattle.sy_text.specs.Items.{Item, leaf, group, Items, none, more}
 use Rattle.sy_text.specs.declared.atom.Atom.{Atom}

@@ -1,5 +1,5 @@
 -- Look-ups.
-use Rattle.std.proofs.Common.{◌≡◌, ◌∙◌, ◌+◌, ◌<◌, ℕ, zero, suc, refl, ap, sym, arith, Bool, true, false, cond, List, [], ◌∷◌, length, drop, get_or, Some, None}
+use Rattle.std.proofs.Common.{◌≡◌, ◌+◌, ◌<◌, ℕ, zero, suc, refl, ap, sym, arith, Bool, true, false, cond, List, [], ◌∷◌, length, drop, get_or, Some, None}
 use Rattle.std.specs.Prelude.{Option, bytes_eq, codes, is_some, slice_get, ◌++◌}
 use Rattle.std.specs.Option.{option_map, option_copied}
 use Rattle.std.specs.Borrow.{Bor}

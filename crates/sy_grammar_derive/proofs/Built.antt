@@ -5,7 +5,7 @@ use Rattle.sy_terms.specs.Values.{Val}
 use Rattle.sy_terms.specs.Expr as expr
 use Rattle.sy_terms.specs.Expr.{Expr, Exprs}
 use Rattle.sy_grammar_base.specs.Trees as trees
-use Rattle.sy_grammar_base.specs.Trees.{Syntax, Tree, Trees, Derives}
+use Rattle.sy_grammar_base.specs.Trees.{Syntax, Tree, Derives}
 use Rattle.sy_grammar_base.specs.Grown.{tree_of, trees_of}
 use Rattle.sy_grammar_base.specs.declared.derivation.Derivation.{Derivation}
 use Rattle.sy_grammar_derive.specs.Notes as notes

@@ -3,10 +3,10 @@ use Rattle.std.proofs.Common.{◌≡◌, ℕ, zero, suc, ◌<◌, List, [], ◌�
 use Rattle.std.proofs.lemmas.Option.{slice_get_within}
 use Rattle.sy_terms.specs.Values.{Val}
 use Rattle.sy_terms.specs.Expr as expr
-use Rattle.sy_terms.specs.Expr.{Expr, Exprs}
+use Rattle.sy_terms.specs.Expr.{Expr}
 use Rattle.sy_grammar_base.specs.Patterns.{occurring, filled}
 use Rattle.sy_grammar_base.specs.Trees as trees
-use Rattle.sy_grammar_base.specs.Trees.{Syntax, Tree, Trees, Production, Nonterminal, Template, EachConstant, EachVariable, Derives, rule_at, rule_of, node_yield, constant_yield, variable_yield, yield_from, yields_from}
+use Rattle.sy_grammar_base.specs.Trees.{Syntax, Tree, Trees, Production, Template, EachConstant, EachVariable, Derives, rule_at, node_yield, constant_yield, variable_yield, yield_from, yields_from}
 use Rattle.sy_grammar_derive.specs.Notes.{Notes, Note, Noted}
 use Rattle.sy_grammar_derive.specs.Steps.{tree_at, picked, tree_by, step_trees, IsAfter, AreInOrder}
 use Rattle.sy_grammar_derive.specs.Rows.{Makes, IsMade, RowIsClosed, RowIsSound, NoteIsRight, NotesAreRight, IsGrown, IsBlank, IsFilling, IsRowOfSteps, IsNoted, AreNoted, missing_steps, arguments_of}

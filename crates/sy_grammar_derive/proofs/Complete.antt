@@ -8,7 +8,7 @@ use Rattle.sy_grammar_base.specs.Patterns.{Pattern, Patterns, Constant, Variable
 use Rattle.sy_grammar_base.specs.Trees as trees
 use Rattle.sy_grammar_base.specs.Trees.{Syntax, Tree, Trees, Production, Template, EachConstant, EachVariable, Derives, rule_at, rule_of, constant_yield, variable_yield, yield_from, yields_from, none, more}
 use Rattle.sy_grammar_derive.specs.Notes as notes
-use Rattle.sy_grammar_derive.specs.Notes.{Notes, Note, Noted}
+use Rattle.sy_grammar_derive.specs.Notes.{Notes, Noted}
 use Rattle.sy_grammar_derive.specs.Filled.{Filled, AllFilled}
 use Rattle.sy_grammar_derive.specs.Rows.{HasStep, RowIsWhole, NoteIsRight, NotesAreRight, RowIsClosed, MakesNone, arguments_of}
 use Rattle.sy_grammar_derive.proofs.Pieces.{take_front, drop_front, joined_Some, yields_length, yields_split, node_yield_Some}

@@ -9,11 +9,11 @@ use Rattle.sy_terms.specs.declared.op.Op.{Op}
 use Rattle.sy_terms.specs.declared.term.Term.{Term}
 use Rattle.sy_terms.specs.declared.term.Fun.TheVariants.{Defined}
 use Rattle.sy_grammar_base.specs.Patterns as patterns
-use Rattle.sy_grammar_base.specs.Patterns.{Pattern, Patterns, Constant, Variable, Occurrence, Apply, Invoke}
+use Rattle.sy_grammar_base.specs.Patterns.{Patterns, Constant, Variable, Occurrence, Apply, Invoke}
 use Rattle.sy_grammar_base.specs.Written.{pattern_of, patterns_of}
 use Rattle.sy_grammar_base.specs.declared.part.Part.{Part}
 use Rattle.sy_grammar_derive.specs.Notes as notes
-use Rattle.sy_grammar_derive.specs.Notes.{Notes, Noted}
+use Rattle.sy_grammar_derive.specs.Notes.{Notes}
 use Rattle.sy_grammar_derive.specs.Noted.{note_of, notes_of}
 use Rattle.sy_grammar_derive.specs.Filled.{Filled, AllFilled, Appends, IsTaken}
 use Rattle.sy_grammar_derive.specs.declared.note.Note.{Note}

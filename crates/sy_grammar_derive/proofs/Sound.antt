@@ -6,7 +6,7 @@ use Rattle.sy_grammar_base.specs.Patterns as patterns
 use Rattle.sy_grammar_base.specs.Patterns.{Pattern, Patterns, Constant, Variable, Occurrence, Apply, Invoke, occurring, all_occurring, filled, all_filled}
 use Rattle.sy_grammar_base.specs.Trees.{Syntax, Tree, yield_from, yields_from}
 use Rattle.sy_grammar_derive.specs.Notes as notes
-use Rattle.sy_grammar_derive.specs.Notes.{Notes, Note, Noted}
+use Rattle.sy_grammar_derive.specs.Notes.{Notes, Noted}
 use Rattle.sy_grammar_derive.specs.Filled.{Filled, AllFilled}
 use Rattle.sy_grammar_derive.specs.Steps.{tree_at, picked, AreBelow}
 use Rattle.sy_grammar_derive.specs.Rows.{RowIsSound, NoteIsRight, NotesAreRight, arguments_of}

@@ -6,7 +6,7 @@ use Rattle.sy_terms.specs.declared.term.Fun.TheVariants.{Defined}
 use Rattle.sy_grammar_base.specs.Patterns.{Pattern, Patterns, Constant, Variable, Occurrence, Apply, Invoke}
 use Rattle.sy_grammar_base.specs.Patterns as patterns
 use Rattle.sy_grammar_derive.specs.Notes as notes
-use Rattle.sy_grammar_derive.specs.Notes.{Notes, Noted}
+use Rattle.sy_grammar_derive.specs.Notes.{Notes}
 
 -- the row's step for the nonterminal
 abbrev pub IsTaken : List (Option ℕ) → ℕ → List ℕ → Type 0

@@ -1,19 +1,17 @@
 -- Multipliers by which the simplex method refutes the forms of a path combine them to a negative constant.
-use Rattle.std.specs.Prelude.{◌≡◌, ◌≢◌, ℕ, zero, suc, ◌<◌, ◌≤◌, ◌+◌, Bool, true, false, cond, List, [], ◌∷◌, length, get_or, map, nat_lt, ℤ, pos}
-use Rattle.std.proofs.Common.{refl, sym, ◌∙◌, ap, ap₂, subst, arith, ltb-true, ltb-false}
+use Rattle.std.specs.Prelude.{◌≡◌, ℕ, zero, suc, ◌<◌, ◌≤◌, ◌+◌, Bool, true, false, cond, List, [], ◌∷◌, length, nat_lt}
+use Rattle.std.proofs.Common.{refl, sym, ◌∙◌, ap, ap₂, arith, ltb-true, ltb-false}
 use Rattle.sy_frac.specs.Fraction.{Fraction, IsLowest}
-use Rattle.sy_frac.specs.Rational.{ℚ, 0ℚ, 1ℚ, ◌+ℚ◌, ◌*ℚ◌, over, value, is_negative_rational, +ℚ_cancel, +ℚ_comm, +ℚ_assoc, +ℚ_left_comm, +ℚ_zero, zero-+ℚ, *ℚ_zero, zero-*ℚ, *ℚ_one}
-use Rattle.sy_terms.specs.declared.sort.Sort.{Sort}
+use Rattle.sy_frac.specs.Rational.{ℚ, 0ℚ, 1ℚ, ◌+ℚ◌, ◌*ℚ◌, value, is_negative_rational, +ℚ_cancel, +ℚ_comm, +ℚ_assoc, +ℚ_left_comm, +ℚ_zero, zero-+ℚ, *ℚ_zero, zero-*ℚ, *ℚ_one}
 use Rattle.sy_linear_forms.specs.declared.form.Form.{Form}
 use Rattle.sy_linear_forms.specs.Forms.{Coefficient}
 use Rattle.sy_linear_forms.specs.Systems.{form_at_point, IsRefutation}
 use Rattle.sy_linear_forms.specs.Total.{total, total-same, replaced, replaced_same, replaced_other}
-use Rattle.sy_linear_known.specs.declared.path.Fact.{Fact}
-use Rattle.sy_linear_known.specs.Points.{combined_at, form_value_at}
-use Rattle.sy_linear_known.specs.Trees.{forms, whole_ℚ, Weight, plus_multiple, Combination, plus_form, combined_with, combination, rationals, AreMultipliers, AllZero, IsContradiction}
+use Rattle.sy_linear_known.specs.Points.{form_value_at}
+use Rattle.sy_linear_known.specs.Trees.{whole_ℚ, Weight, plus_multiple, Combination, plus_form, combined_with, combination, rationals, AreMultipliers, AllZero, IsContradiction}
 use Rattle.sy_linear_known.proofs.Refutation.{weights_at, combination_at, combination-plus_form}
-use Rattle.sy_simplex.specs.Problems.{form, IsForm, AreForms, system_of, numbers}
-use Rattle.sy_simplex_tableau.specs.Rows.{at, AreLowest}
+use Rattle.sy_simplex.specs.Problems.{form, AreForms, system_of, numbers}
+use Rattle.sy_simplex_tableau.specs.Rows.{AreLowest}
 use Rattle.sy_intsolve_points.proofs.Dense.{From, from-is_form, form_at-value_at}
 
 -- ---- the value of a combination

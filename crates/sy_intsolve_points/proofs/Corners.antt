@@ -1,25 +1,24 @@
 -- What the simplex method answers is so of the path.
-use Rattle.std.specs.Prelude.{◌≡◌, ◌≢◌, ℕ, zero, suc, ◌<◌, ◌≤◌, ◌+◌, Bool, true, false, cond, List, [], ◌∷◌, length, get_or, All, nat_lt, ℤ, pos, negsuc, Some, slice_get}
-use Rattle.std.proofs.Common.{refl, sym, ◌∙◌, ap, ap₂, subst, arith, ltb-true, ltb-false}
+use Rattle.std.specs.Prelude.{◌≡◌, ◌≢◌, ℕ, zero, suc, ◌<◌, ◌+◌, Bool, true, false, List, [], ◌∷◌, length, get_or, All, pos, negsuc, Some, slice_get}
+use Rattle.std.proofs.Common.{refl, sym, ◌∙◌, ap, ap₂, arith}
 use Rattle.std.proofs.lemmas.List.Elements.{All-nil, All-cons, All-head, All-tail, All-get_or}
 use Rattle.sy_frac.specs.Fraction.{Fraction}
-use Rattle.sy_frac.specs.Rational.{ℚ, 0ℚ, 1ℚ, ◌+ℚ◌, ◌*ℚ◌, over, value, is_negative_rational, +ℚ_cancel, +ℚ_comm, +ℚ_assoc, +ℚ_left_comm, +ℚ_zero, zero-+ℚ, *ℚ_zero, zero-*ℚ, *ℚ_one, over_negative, zero_not_negative}
+use Rattle.sy_frac.specs.Rational.{ℚ, 0ℚ, 1ℚ, ◌+ℚ◌, ◌*ℚ◌, over, value, is_negative_rational, +ℚ_cancel, +ℚ_comm, zero-+ℚ, *ℚ_zero, *ℚ_one, over_negative, zero_not_negative}
 use Rattle.sy_terms.specs.declared.sort.Sort.{Sort}
 use Rattle.sy_terms.specs.declared.sort.Sort.TheVariants as sorts
 use Rattle.sy_linear_forms.specs.declared.form.Form.{Form}
 use Rattle.sy_linear_forms.specs.Forms.{Coefficient, constant_form}
-use Rattle.sy_linear_forms.specs.Systems.{System, form_at_point, MeetsSystem, IsCorner, IsRefutation}
-use Rattle.sy_linear_forms.specs.Total.{total, total-same, replaced, replaced_same, replaced_other}
+use Rattle.sy_linear_forms.specs.Systems.{form_at_point, MeetsSystem, IsCorner}
+use Rattle.sy_linear_forms.specs.Total.{replaced, replaced_same, replaced_other}
 use Rattle.sy_linear_known.specs.declared.path.Fact.{Fact}
 use Rattle.sy_linear_known.specs.declared.path.Fact.TheVariants.{AtLeast, Is}
 use Rattle.sy_linear_known.specs.Points.{combined_at, form_value_at}
-use Rattle.sy_linear_known.specs.Trees.{forms, whole_ℚ, Weight, plus_multiple, Combination, plus_form, combined_with, combination, rationals, AreMultipliers, AllZero, IsOf, OverIntegers, IsContradiction}
-use Rattle.sy_linear_known.proofs.Refutation.{weights_at, combination_at, combination-plus_form}
-use Rattle.sy_simplex.specs.Problems.{form, IsForm, AreForms, system_of, numbers}
+use Rattle.sy_linear_known.specs.Trees.{forms, whole_ℚ, IsOf, OverIntegers}
+use Rattle.sy_simplex.specs.Problems.{form, system_of, numbers}
 use Rattle.sy_simplex_tableau.specs.Rows.{at}
 use Rattle.sy_intsolve_paths_laws.specs.Paths.{Suit, IsPath}
-use Rattle.sy_intsolve_points.specs.Points.{IsPointOf, IsCornerOf}
-use Rattle.sy_intsolve_points.proofs.Dense.{From, from-is_form, form_at-value_at, met-system, path-forms}
+use Rattle.sy_intsolve_points.specs.Points.{IsCornerOf}
+use Rattle.sy_intsolve_points.proofs.Dense.{form_at-value_at, met-system, path-forms}
 
 disagree : true ≡ false → ⊥
 disagree e = cc

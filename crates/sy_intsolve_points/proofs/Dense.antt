@@ -1,14 +1,14 @@
 -- The forms of a path as the simplex method sees them, with a coefficient for each variable, have the values that they have.
-use Rattle.std.specs.Prelude.{◌≡◌, ◌≢◌, ℕ, zero, suc, ◌<◌, ◌≤◌, ◌+◌, Bool, true, false, cond, List, [], ◌∷◌, length, get_or, All, nat_eq, ℤ, pos}
+use Rattle.std.specs.Prelude.{◌≡◌, ◌≢◌, ℕ, zero, suc, ◌<◌, ◌≤◌, ◌+◌, true, false, cond, List, [], ◌∷◌, length, get_or, All, pos}
 use Rattle.std.proofs.Common.{refl, sym, ◌∙◌, ap, ap₂, subst, arith, inl, inr, ◌⊎◌, ◌==◌}
 use Rattle.std.proofs.Math.Dec.{eqb}
 use Rattle.std.proofs.lemmas.Bool.Decides.{eqb_tells}
 use Rattle.std.proofs.lemmas.List.Elements.{All-nil, All-cons, All-head, All-tail, All-get_or, All-from_get_or}
-use Rattle.sy_frac.specs.Rational.{ℚ, 0ℚ, ◌+ℚ◌, ◌*ℚ◌, over, is_negative_rational, zero-*ℚ, +ℚ_zero, zero-+ℚ, +ℚ_comm}
+use Rattle.sy_frac.specs.Rational.{ℚ, 0ℚ, ◌+ℚ◌, ◌*ℚ◌, over, is_negative_rational, zero-*ℚ, zero-+ℚ}
 use Rattle.sy_terms.specs.declared.sort.Sort.{Sort}
 use Rattle.sy_linear_forms.specs.declared.form.Form.{Form}
 use Rattle.sy_linear_forms.specs.Forms.{Coefficient, constant_form}
-use Rattle.sy_linear_forms.specs.Systems.{System, form_at_point, MeetsSystem}
+use Rattle.sy_linear_forms.specs.Systems.{form_at_point, MeetsSystem}
 use Rattle.sy_linear_forms.specs.Total.{total, total_zero, total-same, total_split, zero_at, rest_same, combined_total}
 use Rattle.sy_linear_known.specs.declared.path.Fact.{Fact}
 use Rattle.sy_linear_known.specs.declared.path.Fact.TheVariants.{AtLeast, Is}

@@ -1,5 +1,5 @@
 -- The value of a form at a point, term by term.
-use Rattle.std.specs.Prelude.{◌≡◌, ℕ, ◌<◌, ◌≤◌, ◌+◌, Bool, true, false, not, List, [], ◌∷◌, length, get_or, drop, int_lt, ℤ, pos, ◌*ℤ◌, Option, Some, None, IfSome}
+use Rattle.std.specs.Prelude.{◌≡◌, ℕ, ◌<◌, ◌≤◌, ◌+◌, Bool, true, false, not, List, length, get_or, drop, int_lt, ℤ, pos, ◌*ℤ◌, Option, Some, None, IfSome}
 use Rattle.std.proofs.Common.{refl, sym, ◌∙◌, ap, ap₂, subst}
 use Rattle.std.proofs.lemmas.List.{drop_more, drop_all}
 use Rattle.sy_frac.specs.Fraction.{Fraction, QuotientIff, sum_over}

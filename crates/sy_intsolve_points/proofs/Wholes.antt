@@ -1,12 +1,12 @@
 -- A whole point of a path is an assignment that meets it.
-use Rattle.std.specs.Prelude.{◌≡◌, ◌≢◌, ℕ, zero, suc, ◌<◌, ◌≤◌, ◌+◌, ◌≤ℤ◌, Bool, true, false, cond, List, [], ◌∷◌, ◌++◌, length, get_or, drop, map, slice_get, All, int_lt, ℤ, pos, negsuc, Option, Some, None}
+use Rattle.std.specs.Prelude.{◌≡◌, ℕ, zero, suc, ◌<◌, ◌≤◌, ◌+◌, ◌≤ℤ◌, Bool, true, false, List, [], ◌∷◌, ◌++◌, length, get_or, drop, map, slice_get, All, int_lt, ℤ, pos, negsuc, Some}
 use Rattle.std.specs.List.{list_all}
 use Rattle.std.proofs.Common.{refl, sym, ◌∙◌, ap, ap₂, subst, arith}
-use borrow.Author.Differences.{ints, at_most_in}
+use borrow.Author.Differences.{at_most_in}
 use Rattle.std.proofs.lemmas.List.{append_assoc, append-nil, drop_more, drop_all, map-append}
-use Rattle.std.proofs.lemmas.List.Elements.{All-nil, All-cons, All-head, All-tail, All-append, All-push}
+use Rattle.std.proofs.lemmas.List.Elements.{All-nil, All-cons, All-head, All-tail, All-append}
 use Rattle.sy_frac.specs.Fraction.{Fraction}
-use Rattle.sy_frac.specs.Rational.{ℚ, 0ℚ, ◌+ℚ◌, ◌*ℚ◌, over, value, is_negative_rational, over_negative}
+use Rattle.sy_frac.specs.Rational.{ℚ, ◌+ℚ◌, ◌*ℚ◌, over, value, is_negative_rational, over_negative}
 use Rattle.sy_terms.specs.Values.{Val, Truth, Whole, Bits, whole}
 use Rattle.sy_terms.specs.Denoted.{val_of, vals_of}
 use Rattle.sy_terms.specs.Meaning.{value_at_position}
@@ -14,10 +14,10 @@ use Rattle.sy_terms.specs.declared.sort.Value.{Value}
 use Rattle.sy_terms.specs.declared.sort.Sort.{Sort}
 use Rattle.sy_terms.specs.declared.sort.Sort.TheVariants as sorts
 use Rattle.sy_linear_forms.specs.declared.form.Form.{Form}
-use Rattle.sy_linear_forms.specs.Forms.{Coefficient, form_value}
+use Rattle.sy_linear_forms.specs.Forms.{Coefficient}
 use Rattle.sy_linear_known.specs.declared.path.Fact.{Fact}
 use Rattle.sy_linear_known.specs.declared.path.Fact.TheVariants.{AtLeast, Is}
-use Rattle.sy_linear_known.specs.Paths.{number_in, form_at, FactHolds, MeetsPath, given}
+use Rattle.sy_linear_known.specs.Paths.{number_in, form_at, MeetsPath}
 use Rattle.sy_linear_known.specs.Points.{combined_at, form_value_at}
 use Rattle.sy_linear_known.specs.Right.{Assigns, is_linear_sort}
 use Rattle.sy_linear_known.specs.Trees.{forms, whole_ℚ, IsOf, OverIntegers}

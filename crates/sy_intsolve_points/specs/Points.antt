@@ -1,5 +1,5 @@
 -- Rational points at which the forms of a path are at least 0.
-use Rattle.std.specs.Prelude.{◌≡◌, ◌≢◌, ℕ, ◌<◌, Bool, false, List, [], ◌∷◌, length, All, ℤ, Option, Some, None}
+use Rattle.std.specs.Prelude.{◌≡◌, ◌≢◌, ℕ, ◌<◌, Bool, false, List, length, All, ℤ, Option, Some, None}
 use Rattle.sy_frac.specs.Fraction.{Fraction, IsFloor}
 use Rattle.sy_frac.specs.Rational.{ℚ, 0ℚ, is_negative_rational}
 use Rattle.sy_terms.specs.Values.{Val, Truth, Whole}

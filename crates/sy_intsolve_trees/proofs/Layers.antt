@@ -1,15 +1,11 @@
 -- What holds of the whole tree, by its layers and what stands at their end.
-use Rattle.std.specs.Prelude.{◌≡◌, ℕ, suc, ◌+◌, ◌⊎◌, true, false, List, [], ◌∷◌, ◌++◌, ℤ}
+use Rattle.std.specs.Prelude.{◌≡◌, ◌+◌, true, false, List, [], ◌∷◌, ◌++◌}
 use Rattle.std.proofs.Common.{refl, sym, ◌∙◌, ap, subst, arith, inl, inr}
 use Rattle.std.proofs.lemmas.List.{append_assoc, append-nil}
-use Rattle.sy_frac.specs.Fraction.{Fraction}
-use Rattle.sy_linear_forms.specs.declared.form.Form.{Form}
 use Rattle.sy_linear_known.specs.declared.path.Fact.{Fact}
-use Rattle.sy_linear_known.specs.declared.path.Fact.TheVariants.{AtLeast}
 use Rattle.sy_linear_known.specs.Seen.{LinearQuery}
-use Rattle.sy_intsolve_trees.specs.declared.fork.Fork.{Fork}
 use Rattle.sy_intsolve_trees.specs.declared.step.Order.{Order}
-use Rattle.sy_intsolve_trees.specs.Growing.{GrownTree, Forked, Cut, Farkas, Shown, Unfinished, fork_fact, IsGrowing, LeadsTo, inner}
+use Rattle.sy_intsolve_trees.specs.Growing.{GrownTree, fork_fact, IsGrowing, LeadsTo, inner}
 use Rattle.sy_intsolve_trees.specs.Steps.{Layer, Left, Right, Under, wrapped, plugged, layer_inner, inner_of, layer_waiting, waiting, IsOtherSide, IsLayer, AreLayers}
 
 -- ---- one layer more at the end

@@ -1,5 +1,5 @@
 -- Layers with an unfinished leaf at their end show that a budget was met.
-use Rattle.std.specs.Prelude.{◌≡◌, ℕ, ◌≤◌, ◌+◌, List, []}
+use Rattle.std.specs.Prelude.{◌≡◌, ℕ, ◌≤◌, List, []}
 use Rattle.std.proofs.Common.{refl, ◌∙◌, arith}
 use Rattle.sy_linear_known.specs.declared.path.Fact.{Fact}
 use Rattle.sy_linear_known.specs.Seen.{LinearQuery}

@@ -9,7 +9,7 @@ use Rattle.std.proofs.lemmas.Bool.{lt-ltb, le-leb}
 use Rattle.std.proofs.lemmas.Nat.Gcd.{dvd_refl}
 use Rattle.std.proofs.Math.Nat.{dvd-mul_right, eq-one_of_dvd-one}
 use Rattle.std.proofs.Math.IntN.{*ℤ-zero, *ℤ_comm}
-use borrow.Author.Differences.{ints, same_in, at_most_in, product_is}
+use borrow.Author.Differences.{ints, same_in, at_most_in}
 use Rattle.sy_frac.specs.Fraction.{Fraction, IsLowest}
 use Rattle.sy_frac.specs.Rational.{ℚ, 0ℚ, ◌+ℚ◌, ◌*ℚ◌, over, value, is_negative_rational, over_negative, sum_over_is, product_over_is, zero_not_negative, not_negative_plus, whole_not_negative, +ℚ_assoc, zero-*ℚ, one-*ℚ, *ℚ_assoc, over_same, one_over}
 use Rattle.sy_frac.proofs.Quotients.{product_nonzero, abs-product}
@@ -33,9 +33,7 @@ use Rattle.sy_linear.specs.declared.combination.Combination.{Combination}
 use Rattle.sy_linear.specs.Exact.{over_whole, is_whole, floor}
 use Rattle.sy_linear.specs.Combining.{is_multiplier, are_multipliers, share_before, checked_combination, is_zero, is_negative_constant, of_parts, divided_shares, divided, has_whole_weight, numerators, rounded}
 use Rattle.sy_linear.specs.Judging.{Judgement, Accepted, Broken, Unfit, Adds, Fails, Leaves, judged_in_turn, after_node, size, is_int, is_bool, has_int, suits, opposite_fits, rounded_outcome, added_form, divided_combination, of_combination, shown_judged, judged}
-use Rattle.sy_linear.proofs.Lowest.{left_true, right_true}
 use Rattle.sy_linear.proofs.Accepting.{Means, MeansIf, combination_means, weights_of, AllPositive, Divides, over_whole_divides, some_same, whole_times, negative_times, times_neg, cut}
-use Rattle.sy_linear.proofs.Refuting.{accepted}
 
 disagree : true ≡ false → ⊥
 disagree e = cc

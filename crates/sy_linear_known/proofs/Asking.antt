@@ -16,7 +16,7 @@ use Rattle.sy_linear_known.specs.declared.sight.Found.{Found}
 use Rattle.sy_linear_known.specs.Paths.{given}
 use Rattle.sy_linear_known.specs.Trees.{IsOf}
 use Rattle.sy_linear_known.specs.Sights.{is_open, operator_applied}
-use Rattle.sy_linear_known.specs.Seen.{of_given, variable_sights, or_open, sight_at, is_truths, variable_test, is_ite, live, seen_as, value_seen, nothing_found, with_next, variable_seen, seen, all_seen, LinearQuery, query_seen, of_misfit, of_sight, of_open, query_known}
+use Rattle.sy_linear_known.specs.Seen.{of_given, variable_sights, or_open, sight_at, is_truths, variable_test, is_ite, live, seen_as, value_seen, nothing_found, with_next, seen, all_seen, LinearQuery, query_seen, of_misfit, of_sight, of_open, query_known}
 use Rattle.sy_linear_known.proofs.Ascending.{ascends-variable}
 use Rattle.sy_linear_known.proofs.Suiting.{SightSuits, AllSuit, IsOpenTest, MaybeOpen, open-or_else, suits-applied}
 

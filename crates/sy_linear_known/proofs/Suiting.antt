@@ -1,5 +1,5 @@
 -- What an application is told is on the variables of the query, and so is its open test.
-use Rattle.std.specs.Prelude.{◌≡◌, ℕ, Bool, true, false, cond, not, ◌&&◌, List, [], ◌∷◌, ◌++◌, negsuc, Option, Some, None, map}
+use Rattle.std.specs.Prelude.{◌≡◌, Bool, true, false, cond, List, [], ◌∷◌, negsuc, Option, Some, None, map}
 use Rattle.std.specs.List.{list_all, list_any}
 use Rattle.std.proofs.Common.{refl}
 use Rattle.sy_terms.specs.Values.{Val, Truth, Whole, Bits}

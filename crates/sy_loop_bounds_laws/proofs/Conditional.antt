@@ -10,7 +10,7 @@ use Rattle.sy_terms.specs.declared.op.Op.TheVariants as ops
 use Rattle.sy_grammar_base.specs.Patterns as patterns
 use Rattle.sy_grammar_base.specs.Patterns.{filled, all_filled, Pattern}
 use Rattle.sy_grammar_base.specs.Trees as trees
-use Rattle.sy_grammar_base.specs.Trees.{Syntax, Tree, Node, Derives, IsDerived, IsMember, Production, Template, EachConstant, EachVariable, rule_at, template, template_at, node_yield, terms_joined, yield_from, yields_from}
+use Rattle.sy_grammar_base.specs.Trees.{Syntax, Tree, Node, Derives, IsMember, Production, Template, EachConstant, EachVariable, rule_at, template, node_yield, yield_from, yields_from}
 use Rattle.sy_loop_bounds.specs.Conditional.{Conditional, Leaf, Test, yield, leaf_reached, ArePartsWithin, IsTreeRule}
 
 -- the leaf that a conditional tree reaches has its value

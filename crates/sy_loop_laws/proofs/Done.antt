@@ -1,7 +1,6 @@
 -- What a search that ascends by sizes has done.
 use Rattle.std.specs.Prelude.{ℕ, zero, suc, ◌+◌, ◌≡◌, ◌<◌, ◌≤◌, ◌⊎◌, List, refl}
 use Rattle.std.proofs.Common.{ap, subst, arith, ⊎_elim, inl, inr}
-use Rattle.sy_terms.specs.Expr.{Expr}
 use Rattle.sy_grammar_base.specs.Questions.{Question}
 use Rattle.sy_grammar_base.specs.Solving.{AreWithin}
 use Rattle.sy_points.specs.Asked.{Asked}

@@ -1,14 +1,13 @@
 -- Where every value of a theory's operators fits, each value on the way to a term does.
-use Rattle.std.specs.Prelude.{ℕ, zero, suc, Bool, true, false, ◌&&◌, List, [], ◌∷◌, ◌++◌, map, slice_get, Option, Some, None, ◌≡◌, refl}
-use Rattle.std.proofs.Common.{sym, subst}
+use Rattle.std.specs.Prelude.{ℕ, zero, suc, Bool, true, ◌&&◌, List, [], ◌∷◌, ◌++◌, slice_get, Option, Some, None, ◌≡◌, refl}
+use Rattle.std.proofs.Common.{subst}
 use Rattle.sy_terms.specs.Values.{Val}
 use Rattle.sy_terms.specs.Theories.{fits}
 use Rattle.sy_terms.specs.Expr.{Expr, Exprs, Constant, Variable, Apply, Invoke, Bind, none, more}
-use Rattle.sy_terms.specs.Meaning.{Function, can_call, function_of, function_from, functions, functions_after, meaning, meanings, computable, all_computable}
+use Rattle.sy_terms.specs.Meaning.{Function, can_call, function_from, functions, functions_after, meanings, computable, all_computable}
 use Rattle.sy_terms.specs.Fitting.{Scope, Signature, signature_of, sort_in, sorts_in}
 use Rattle.sy_terms.specs.declared.op.Op.{Op}
 use Rattle.sy_terms.specs.declared.sort.Sort.{Sort}
-use Rattle.sy_terms.specs.declared.term.Fun.{Fun}
 use Rattle.sy_terms.specs.declared.term.Fun.TheVariants.{Defined, Wanted}
 use Rattle.sy_terms_laws.proofs.Equations.{applied_sort_Some, called_sort_Some, after_Some, with_sort_Some}
 use Rattle.sy_grammar_base.specs.Fits.{with_functions, FitInTurn}

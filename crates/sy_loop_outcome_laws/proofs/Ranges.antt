@@ -1,6 +1,6 @@
 -- Where every value of a theory's operators fits, no right answer says that a number left its range.
-use Rattle.std.specs.Prelude.{ℕ, zero, suc, Bool, true, false, List, [], ◌∷◌, ◌++◌, map, Option, Some, None, slice_get, ◌≡◌, refl, All}
-use Rattle.std.proofs.Common.{ap, sym, subst, inl, inr}
+use Rattle.std.specs.Prelude.{ℕ, zero, suc, Bool, true, false, List, [], ◌∷◌, map, Option, Some, None, slice_get, ◌≡◌, refl, All}
+use Rattle.std.proofs.Common.{subst, inl, inr}
 use Rattle.std.proofs.lemmas.List.Elements.{All-head, All-tail, All-contains, Contains-append_cases}
 use Rattle.std.specs.Option.{option_map}
 use Rattle.sy_terms.specs.Values.{Val}
@@ -15,7 +15,7 @@ use Rattle.sy_terms.specs.declared.sort.Sort.TheVariants as sorts
 use Rattle.sy_grammar_base.specs.Fits.{with_functions, wanted_of, GoalFits, QuestionFits}
 use Rattle.sy_grammar_base.specs.Questions.{Goal, Question}
 use Rattle.sy_grammar_base.specs.Solving.{AreMembers}
-use Rattle.sy_grammar_base.specs.Trees.{Syntax, Nonterminal, Production, Tree, Node, ConstantLeaf, VariableLeaf, Derives, rule_of, node_yield, constant_yield, variable_yield, yield_from, yields_from}
+use Rattle.sy_grammar_base.specs.Trees.{Syntax, Nonterminal, Tree, Node, ConstantLeaf, VariableLeaf, Derives, rule_of, node_yield, constant_yield, variable_yield, yield_from, yields_from}
 use Rattle.sy_grammar_laws.proofs.Filling.{sort_at}
 use Rattle.sy_grammar_laws.proofs.Members.{member_fits, derived_fits}
 use Rattle.sy_loop_bounds.specs.declared.reach.Reach.{Reach}

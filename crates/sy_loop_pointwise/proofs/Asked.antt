@@ -1,8 +1,8 @@
 -- Which applications stand within lists of terms, by those of their parts.
-use Rattle.std.specs.Prelude.{ℕ, List, [], ◌∷◌, ◌++◌, ◌≡◌, refl, length, All, Contains}
-use Rattle.std.proofs.Common.{ap, sym, ◌∙◌, subst, arith}
+use Rattle.std.specs.Prelude.{ℕ, List, [], ◌∷◌, ◌++◌, ◌≡◌, refl, All, Contains}
+use Rattle.std.proofs.Common.{ap, sym, ◌∙◌, subst}
 use Rattle.std.proofs.lemmas.List.{append-nil}
-use Rattle.std.proofs.lemmas.List.Elements.{All-nil, All-cons, All-head, All-tail, All-append, All-weaker, All-contains, Contains-append_left, Contains-append_right, Contains-push}
+use Rattle.std.proofs.lemmas.List.Elements.{All-nil, All-cons, All-head, All-tail, All-append, All-weaker, All-contains, Contains-append_left, Contains-push}
 use Rattle.sy_terms.specs.Expr.{Expr, Exprs, Invoke, none}
 use Rattle.sy_terms.specs.declared.term.Fun.TheVariants.{Wanted}
 use Rattle.sy_loop_bounds.specs.Applications.{applications, all_applications}

@@ -1,5 +1,5 @@
 -- Calls among subterms, and their arguments.
-use Rattle.std.proofs.Common.{◌≡◌, ℕ, zero, suc, ◌<◌, ◌≤◌, List, [], ◌∷◌, length, refl, ap, sym, ◌∙◌, subst, Some, None, slice_get, arith}
+use Rattle.std.proofs.Common.{◌≡◌, ℕ, zero, suc, ◌<◌, ◌≤◌, List, [], ◌∷◌, length, refl, ap, sym, ◌∙◌, Some, slice_get, arith}
 use Rattle.std.specs.Prelude.{false}
 use Rattle.std.specs.Option.{option_map}
 use Rattle.std.proofs.lemmas.Option.{slice_get_within, slice_get-map}
@@ -7,7 +7,7 @@ use Rattle.std.proofs.lemmas.List.Elements.{All-weaker}
 use Rattle.sy_terms.specs.Values.{Val, Truth}
 use Rattle.sy_terms.specs.Expr.{Expr, Exprs, Constant, Invoke}
 use Rattle.sy_terms.specs.declared.term.Fun.{Fun}
-use Rattle.sy_loop_subterms.specs.Shapes.{Shape, Fixed, Argument, Applied, Called, AreBelow, AreSubterms, subterms, shaped, term_of, terms_of}
+use Rattle.sy_loop_subterms.specs.Shapes.{Shape, Called, AreBelow, AreSubterms, subterms, shaped, term_of, terms_of}
 use Rattle.sy_loop_subterms.specs.Denoted.{shape_of, shapes_of}
 use Rattle.sy_loop_subterms.specs.declared.shape.Shape as kept
 use Rattle.sy_loop_subterms.specs.declared.shape.Shape.TheVariants.{Const, Var, App, Call}

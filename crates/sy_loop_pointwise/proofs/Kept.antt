@@ -1,6 +1,6 @@
 -- What is known of the applications within more subterms.
 use Rattle.std.specs.Prelude.{ℕ, ◌+◌, ◌<◌, List, [], ◌∷◌, ◌++◌, ◌≡◌, refl, length}
-use Rattle.std.proofs.Common.{ap, sym, ◌∙◌, subst, get_or, take, inl, inr, slice_get, Some}
+use Rattle.std.proofs.Common.{ap, sym, ◌∙◌, subst, get_or, take, inl, inr, slice_get}
 use Rattle.std.proofs.lemmas.Option.{none-some, slice_get-get_or}
 use Rattle.std.proofs.lemmas.List.{append-nil, take_more}
 use Rattle.sy_terms.specs.Values.{Val}

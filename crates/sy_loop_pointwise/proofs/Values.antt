@@ -8,7 +8,7 @@ use Rattle.std.specs.Option.{is_some, option_map}
 use Rattle.std.proofs.lemmas.Option.{none-some, slice_get-map, slice_get_within, get_or_from_slice_get}
 use Rattle.std.proofs.lemmas.List.Elements.{All-nil, All-cons, All-head, All-tail, All-get_or, All-contains, Contains-push}
 use Rattle.sy_terms.specs.Values.{Val, Truth}
-use Rattle.sy_terms.specs.Expr.{Expr, Exprs, Constant, Variable, Apply, Invoke, none, more}
+use Rattle.sy_terms.specs.Expr.{Expr, Exprs, Constant, Variable, Apply, Invoke, none}
 use Rattle.sy_terms.specs.Denoted.{val_of, vals_of, expr_of, exprs_of, expr_of-Const}
 use Rattle.sy_terms.specs.Fitting.{Scope, applied_sort, called_sort, signature_of, sort_in, sorts_in, with_sort}
 use Rattle.sy_terms.specs.Meaning.{Function, called, can_call, function_of, meaning, meanings, computable, all_computable, functions}

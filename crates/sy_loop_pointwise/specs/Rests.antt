@@ -1,5 +1,5 @@
 -- Where a constraint of a pointwise problem rests.
-use Rattle.std.specs.Prelude.{ℕ, List, [], ◌≡◌, false}
+use Rattle.std.specs.Prelude.{List, [], ◌≡◌, false}
 use Rattle.sy_terms.specs.Values.{Val}
 use Rattle.sy_terms.specs.Expr.{Expr}
 use Rattle.sy_terms.specs.Denoted.{vals_of}

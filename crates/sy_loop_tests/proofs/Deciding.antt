@@ -1,10 +1,9 @@
 -- Queries over at most one truth value.
-use Rattle.std.specs.Prelude.{◌≡◌, ◌<◌, refl, Bool, true, false, List, [], ◌∷◌, ◌++◌, ℤ, map, length, Option, Some, IfSome, IsTrue, ◌↔◌, All}
-use Rattle.std.proofs.Common.{arith, ap, subst, sym, ◌∙◌}
+use Rattle.std.specs.Prelude.{◌≡◌, refl, Bool, true, false, List, [], ◌∷◌, ℤ, map, length, Option, Some, IfSome, IsTrue, ◌↔◌, All}
+use Rattle.std.proofs.Common.{arith, subst, sym}
 use Rattle.std.proofs.lemmas.List.Elements.{All-nil, All-cons}
 use Rattle.sy_terms.specs.Values.{Val, Truth, Whole, Bits}
 use Rattle.sy_terms.specs.Expr.{Expr}
-use Rattle.sy_terms.specs.Denoted.{val_of}
 use Rattle.sy_terms.specs.Theories.{sort_of_value, valid}
 use Rattle.sy_terms.specs.Meaning.{meaning}
 use Rattle.sy_terms.specs.declared.sort.Sort.{Sort}

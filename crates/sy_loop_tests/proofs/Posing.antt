@@ -1,7 +1,7 @@
 -- The problem fits, and so do the members of its grammar.
 use Rattle.std.specs.Prelude.{ℕ, ℤ, Bool, true, List, [], ◌∷◌, ◌++◌, ◌≡◌, ◌≤◌, refl, map, Option, Some, None}
 use Rattle.std.specs.List.{list_all}
-use Rattle.std.proofs.Common.{ap, arith, inl, ◌∙◌, subst, sym}
+use Rattle.std.proofs.Common.{ap, ◌∙◌, subst, sym}
 use Rattle.std.proofs.lemmas.List.Elements.{All-nil, All-cons}
 use Rattle.sy_terms.specs.Values.{Whole, Truth}
 use Rattle.sy_terms.specs.Expr.{Expr}
@@ -17,7 +17,7 @@ use Rattle.sy_terms_laws.specs.Evaluation.{BodiesFit}
 use Rattle.sy_grammar_base.specs.Formed.{is_known}
 use Rattle.sy_grammar_base.specs.Trees.{VariableLeaf, ConstantLeaf, yield_from, tree_size}
 use Rattle.sy_grammar_base.specs.Solving.{AreWithin}
-use Rattle.sy_grammar_base.specs.Questions.{Goal, Question, goal_of, question_of, signatures, wanted_signature}
+use Rattle.sy_grammar_base.specs.Questions.{Goal, goal_of, question_of, signatures, wanted_signature}
 use Rattle.sy_grammar_base.specs.declared.problem.Problem.{Problem}
 use Rattle.sy_grammar_base.specs.declared.problem.Wanted.{Wanted}
 use Rattle.sy_grammar_base.specs.Fits.{GoalFits, QuestionFits, with_functions}

@@ -1,21 +1,14 @@
 -- Contexts that are read are sound, and what a sound context asks fits.
-use Rattle.std.specs.Prelude.{ℕ, zero, suc, ◌+◌, ◌<◌, Bool, true, ◌&&◌, nat_le, nat_lt, ◌^◌, List, [], ◌∷◌, ◌++◌, map, length, slice_get, Some, Ok, ◌≡◌, refl, All, IfOk}
-use Rattle.std.specs.Option.{option_map}
-use Rattle.std.specs.List.{list_all}
-use Rattle.std.proofs.Common.{arith, ap, sym, ◌∙◌, subst, get_or, take}
-use Rattle.std.proofs.lemmas.List.{take_more}
-use Rattle.std.proofs.lemmas.List.Elements.{All-head, All-tail, All-map}
+use Rattle.std.specs.Prelude.{Bool, List, map, Some, Ok, ◌≡◌, All, IfOk}
+use Rattle.std.proofs.Common.{sym, subst}
+use Rattle.std.proofs.lemmas.List.Elements.{All-map}
 use Rattle.sy_text.specs.Items.{Item}
-use Rattle.sy_terms.specs.Fitting.{Scope, Signature}
+use Rattle.sy_terms.specs.Fitting.{Signature}
 use Rattle.sy_terms.specs.declared.op.Op.{Op}
 use Rattle.sy_terms.specs.declared.sort.Logic.{Logic}
 use Rattle.sy_terms.specs.declared.sort.Sort.{Sort}
-use Rattle.sy_terms_laws.proofs.Equations.{both_true}
-use Rattle.sy_grammar_base.specs.Formed.{is_known, nonterminal_fits}
-use Rattle.sy_grammar_base.specs.Questions.{Goal}
-use Rattle.sy_grammar_base.specs.Trees.{Nonterminal, Syntax}
 use Rattle.sy_terms.specs.Logics.{IsTheoryOf, number_sorts, operators_of}
-use Rattle.sy_grammar_base.specs.Fits.{with_functions, GoalFits}
+use Rattle.sy_grammar_base.specs.Fits.{GoalFits}
 use Rattle.sy_forms_items.specs.Readings.{Reading}
 use Rattle.sy_scope_steps.specs.Contexts.{Context, beginning, with_logic, goal_sought}
 use Rattle.sy_scope_steps.specs.Steps.{step}

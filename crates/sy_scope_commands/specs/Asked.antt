@@ -1,5 +1,4 @@
 -- Requests apart from memory.
-use Rattle.std.specs.Prelude.{Option, Some, None}
 use Rattle.std.specs.Option.{option_map}
 use Rattle.std.specs.Borrow.{Bor}
 use Rattle.sy_text.specs.Items.{Item}

@@ -12,7 +12,7 @@ use Rattle.sy_forms_names.specs.declared.names.Entity.TheVariants as entity
 use Rattle.sy_forms_names.specs.declared.names.Named.{Named}
 use Rattle.sy_forms_names.specs.declared.names.Role.TheVariants as role
 use Rattle.sy_forms_names.specs.Environments as env
-use Rattle.sy_forms_names.specs.Environments.{Sense, entry_under, or_else, place_among, sense_as, declared_in, sense_of}
+use Rattle.sy_forms_names.specs.Environments.{Sense, entry_under, or_else, place_among, sense_as, declared_in}
 use Rattle.sy_forms_laws.specs.Right.{SenseIsThere, EnvironmentIsRight}
 use Rattle.sy_forms_laws.proofs.Names.{place_among_at}
 use Rattle.sy_forms_laws.proofs.Sorts.{entry_has}

@@ -1,6 +1,6 @@
 -- A set of values, compared by a machine, and what they stand for.
 use Rattle.std.proofs.Common.{◌≡◌, ℕ, ◌∙◌, sym, List, [], ◌∷◌, ◌++◌, map, refl, ap, arith, Bool, true, false, cond, ◌≢◌}
-use Rattle.std.specs.Prelude.{◌||◌, ◌==◌, ◌&&◌, if◌then◌else◌}
+use Rattle.std.specs.Prelude.{◌||◌, ◌==◌, ◌&&◌}
 use mathlib.Core.Bool.{true≢false}
 use Rattle.std.specs.List.{list_any}
 use Rattle.std.proofs.lemmas.Bool.{eqb-true}

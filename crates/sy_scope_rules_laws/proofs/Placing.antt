@@ -10,7 +10,7 @@ use Rattle.sy_terms.specs.declared.sort.Sort.{Sort}
 use Rattle.sy_forms_names.specs.declared.names.Entity.{Entity}
 use Rattle.sy_forms_names.specs.declared.names.Named.{Named}
 use Rattle.sy_forms_names.specs.Environments as env
-use Rattle.sy_forms_names.specs.Environments.{Environment, Sense, or_else, place_from, place_among, sense_as, sense_of}
+use Rattle.sy_forms_names.specs.Environments.{Sense, or_else, place_from, place_among, sense_as, sense_of}
 use Rattle.sy_forms_names.specs.Operators.{is_reserved}
 use Rattle.sy_forms.specs.Rules.{constant_groups}
 use Rattle.sy_scope_rules.specs.Lists.{sorts_of_names}

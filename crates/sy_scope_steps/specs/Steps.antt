@@ -29,11 +29,11 @@ use Rattle.sy_scope_rules.specs.Grammars.{Written, read_rulebook}
 use Rattle.sy_grammar_defaults.specs.Defaults.{default_syntax}
 use Rattle.sy_scope_pool.specs.Pools.{pooled}
 use Rattle.sy_inv.specs.Conditions.{starts, keeps, ends}
-use Rattle.sy_scope_steps.specs.Contexts.{Context, Definition, Sought, Condition, Expanded, names_used, has_room, new_name, new_sought, new_sort_name, with_logic, question_at}
+use Rattle.sy_scope_steps.specs.Contexts.{Context, Definition, Sought, Expanded, has_room, new_name, new_sought, new_sort_name, with_logic, question_at}
 use Rattle.sy_scope_steps.specs.Contexts as contexts
 use Rattle.sy_scope_commands.specs.declared.commands.Command.{Command}
 use Rattle.sy_scope_commands.specs.Requests as requests
-use Rattle.sy_scope_commands.specs.Requests.{Request, Spelled, Listed, Rulebook, command_named, request_of}
+use Rattle.sy_scope_commands.specs.Requests.{Request, Spelled, Rulebook, command_named, request_of}
 
 -- `set-logic`
 

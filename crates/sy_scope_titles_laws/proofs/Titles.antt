@@ -1,17 +1,13 @@
 -- Titles go on as functions are declared.
-use Rattle.std.specs.Prelude.{ℕ, zero, suc, ◌+◌, ◌≤◌, List, [], ◌∷◌, ◌++◌, length, map, ◌≡◌, refl, All}
-use Rattle.std.specs.List.{AllZip}
-use Rattle.std.proofs.Common.{arith, ap, sym, ◌∙◌, subst, take}
-use Rattle.std.proofs.lemmas.List.{length-map, length-append, map-append}
-use Rattle.std.proofs.lemmas.List.Elements.{All-weaker, All-push}
+use Rattle.std.specs.Prelude.{ℕ, suc, ◌+◌, ◌≤◌, List, [], ◌∷◌, ◌++◌, length, map, ◌≡◌, refl}
+use Rattle.std.proofs.Common.{arith, ap, sym, subst}
+use Rattle.std.proofs.lemmas.List.{length-map}
 use Rattle.sy_scope_titles.specs.declared.Title.{Title}
-use Rattle.sy_scope_titles.specs.declared.Titles.{Titles}
 use Rattle.sy_grammar_base.specs.Questions.{Goal, Question}
 use Rattle.sy_forms_names.specs.declared.names.Named.{Named}
 use Rattle.sy_reply.specs.Writable.{AreTitled}
 use Rattle.sy_scope_steps.specs.Contexts.{Context, Definition, Sought, goal_sought, body_of, question_at}
 use Rattle.sy_scope_steps.specs.Jobs.{title_of, titles_of}
-use Rattle.sy_scope_titles_laws.specs.Titled.{AreNamed}
 use Rattle.sy_reply.specs.Writable.{IsTitled}
 
 abbrev Names : Title → Goal → Type 0

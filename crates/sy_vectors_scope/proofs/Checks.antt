@@ -1,5 +1,5 @@
 -- What can be written, from its parts.
-use Rattle.std.proofs.Common.{◌≡◌, ◌<◌, refl, ℕ, List, [], ◌∷◌, length, true, arith}
+use Rattle.std.proofs.Common.{◌≡◌, ◌<◌, ℕ, List, [], ◌∷◌, length, true, arith}
 use Rattle.sy_terms.specs.Values.{Val}
 use Rattle.sy_terms.specs.Denoted.{expr_of, exprs_of, val_of, expr_of-Const, expr_of-Var, expr_of-App, expr_of-Call}
 use Rattle.sy_terms.specs.declared.op.Op.{Op}

@@ -1,5 +1,5 @@
 -- What a right answer to a drill says.
-use Rattle.std.proofs.Common.{◌≡◌, ap, ◌∙◌, ℕ, List, [], ◌∷◌, length, map}
+use Rattle.std.proofs.Common.{◌≡◌, ap, ◌∙◌, ℕ, List, length, map}
 use Rattle.std.proofs.lemmas.List.{length-map}
 use Rattle.sy_terms.specs.Expr.{Expr}
 use Rattle.sy_terms.specs.declared.theory.Theory.{Ghosts as TheoryOf}

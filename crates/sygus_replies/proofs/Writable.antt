@@ -1,5 +1,5 @@
 -- Members of the grammars can be written.
-use Rattle.std.proofs.Common.{◌≡◌, ◌≤◌, ap, subst, ℕ, List, [], length, arith}
+use Rattle.std.proofs.Common.{◌≤◌, ap, subst, ℕ, List, [], length, arith}
 use Rattle.std.specs.Prelude.{Bool, All}
 use Rattle.std.proofs.lemmas.List.{length-map}
 use Rattle.std.proofs.lemmas.List.Elements.{All-weaker}

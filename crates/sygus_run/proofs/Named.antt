@@ -1,7 +1,7 @@
 -- The names of fails over each theory.
 use Rattle.std.specs.Prelude.{Bool, true, false, not, List, [], ◌∷◌, map, All, ◌≡◌, refl}
 use Rattle.std.proofs.lemmas.List.Elements.{All-nil, All-cons, All-head, All-tail}
-use Rattle.sy_terms.specs.Values.{Val, Whole}
+use Rattle.sy_terms.specs.Values.{Val}
 use Rattle.sy_terms.specs.Theories.{fits, in_ints}
 use Rattle.sy_terms.specs.declared.op.Op.{Op}
 use Rattle.sy_terms.specs.declared.op.Op.TheVariants as ops
@@ -22,7 +22,7 @@ use Rattle.sy_loop_outcome.specs.declared.outcome.FailCause.TheVariants.{Size, R
 use Rattle.sy_loop_outcome.specs.declared.outcome.Outcome.{Outcome}
 use Rattle.sy_loop_outcome.specs.declared.outcome.Outcome.TheVariants.{Found, Infeasible, Fail}
 use Rattle.sy_loop_outcome_laws.proofs.Ranges.{never_leaves}
-use Rattle.sygus_replies.specs.Replies.{Reply, reply_of}
+use Rattle.sygus_replies.specs.Replies.{reply_of}
 use Rattle.sygus_replies.specs.Answered.{AreRight}
 use Rattle.sygus_words.specs.declared.settings.Mode.{Mode}
 use Rattle.sygus_answers.specs.Answers.{RightOutcome}

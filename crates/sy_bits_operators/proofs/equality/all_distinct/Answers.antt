@@ -1,9 +1,7 @@
-use Rattle.std.proofs.Common.{arith, ◌+◌, length}
+use Rattle.std.proofs.Common.{arith}
 use Rattle.sy_gates.proofs.Gates.{grown-trans}
 use Rattle.sy_gates.specs.Circuits.{bit_value}
-use Rattle.sy_bits_operators.specs.Signals.{signal_sort, signal_sorts, sort_width}
-use Rattle.sy_bits_operators.specs.Costs.{same_gates, first_width}
-use Rattle.sy_bits_operators.proofs.Rows.{bound-of, alike-rest, rest-bound, rest-length, distinct-room, distinct-cost, pairs-step}
+use Rattle.sy_bits_operators.proofs.Rows.{bound-of, alike-rest, rest-bound, distinct-room, distinct-cost, pairs-step}
 use Rattle.sy_bits_operators.proofs.equality.all_distinct.Goals as goal
 
 pub differs-requires-clause-sorts : goal.differs-requires-clause-sorts

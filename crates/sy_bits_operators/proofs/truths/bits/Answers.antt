@@ -1,4 +1,4 @@
-use Rattle.std.proofs.Common.{arith, ap, ◌∙◌, ◌+◌, ◌∷◌, [], length-append}
+use Rattle.std.proofs.Common.{arith, ap, ◌∙◌, ◌∷◌, [], length-append}
 use Rattle.sy_terms.specs.Values.{truth}
 use Rattle.sy_gates.proofs.Words.{word_bound-push}
 use Rattle.sy_bits_operators.specs.Signals.{signal_value}

@@ -1,4 +1,4 @@
-use Rattle.std.proofs.Common.{◌∙◌, sym, ap, ◌≡◌, ◌∷◌, [], arith}
+use Rattle.std.proofs.Common.{◌∙◌, ap, ◌≡◌, ◌∷◌, [], arith}
 use Rattle.std.specs.Prelude.{not, ◌++◌, ◌||◌}
 use Rattle.sy_terms.specs.Values.{truth}
 use Rattle.sy_gates.specs.Circuits.{bit_value}

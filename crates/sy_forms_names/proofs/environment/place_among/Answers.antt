@@ -1,4 +1,4 @@
-use Rattle.std.proofs.Common.{◌≡◌, ◌∙◌, ◌-◌, ◌+◌, ◌<◌, ◌≤◌, length, refl, sym, ap, arith, Some, None, drop}
+use Rattle.std.proofs.Common.{◌≡◌, ◌∙◌, ◌-◌, ◌+◌, sym, ap, arith, None, drop}
 use Rattle.std.specs.Prelude.{bytes_eq}
 use Rattle.sy_forms_names.specs.Environments.{place_from}
 use Rattle.sy_forms_names.proofs.Lookups.{place_from-here, place_from-other, found_at}

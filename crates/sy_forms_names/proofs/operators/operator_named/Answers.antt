@@ -1,4 +1,4 @@
-use Rattle.std.proofs.Common.{◌≡◌, ◌∙◌, sym, ap}
+use Rattle.std.proofs.Common.{◌∙◌, sym, ap}
 use Rattle.sy_forms_names.specs.Environments.{or_else}
 use Rattle.sy_forms_names.specs.Operators.{core_operators, theory_operators, operator_spelled}
 use Rattle.sy_forms_names.proofs.Lookups.{spelled-append}

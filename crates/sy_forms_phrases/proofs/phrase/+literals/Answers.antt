@@ -1,4 +1,4 @@
-use Rattle.std.proofs.Common.{◌≡◌, ◌∙◌, ◌++◌, refl, sym, ap, arith, take}
+use Rattle.std.proofs.Common.{◌∙◌, ◌++◌, sym, ap, arith, take}
 use Rattle.std.proofs.lemmas.List.{take_more}
 use Rattle.sy_terms.specs.Denoted.{vals_of}
 use Rattle.sy_forms_phrases.specs.Meant.{phrase_of, phrases_of, phrase_of-Literal, phrase_of-Position, phrase_of-Local, phrase_of-Nonterminal, phrase_of-Operation, phrase_of-Invocation, phrase_of-Let}

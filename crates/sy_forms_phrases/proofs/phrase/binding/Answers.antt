@@ -1,4 +1,4 @@
-use Rattle.std.proofs.Common.{◌≡◌, refl}
+use Rattle.std.proofs.Common.{refl}
 use Rattle.sy_forms_phrases.specs.Meant.{phrase_of-Let}
 use Rattle.sy_forms_phrases.proofs.phrase.binding.Goals as goal
 

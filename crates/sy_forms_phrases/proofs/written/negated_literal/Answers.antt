@@ -1,4 +1,4 @@
-use Rattle.std.proofs.Common.{◌≡◌, sym}
+use Rattle.std.proofs.Common.{sym}
 use Rattle.sy_forms_phrases.proofs.Literals.{several_negated}
 use Rattle.sy_forms_phrases.proofs.written.negated_literal.Goals as goal
 

@@ -1,4 +1,4 @@
-use Rattle.std.proofs.Common.{◌≡◌, ◌∷◌, [], refl}
+use Rattle.std.proofs.Common.{◌∷◌, []}
 use Rattle.std.proofs.lemmas.List.{map-append}
 use Rattle.sy_terms.specs.Denoted.{val_of}
 use Rattle.sy_forms_phrases.proofs.written.note.Goals as goal

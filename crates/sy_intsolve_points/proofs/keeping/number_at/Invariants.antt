@@ -1,4 +1,4 @@
-use Rattle.std.proofs.Common.{◌≡◌, ◌<◌, drop}
+use Rattle.std.proofs.Common.{◌≡◌, drop}
 use Rattle.sy_frac.specs.Rational.{◌+ℚ◌, value}
 use Rattle.sy_linear_known.specs.Points.{combined_at, form_value_at}
 use Rattle.sy_simplex.specs.Problems.{numbers}

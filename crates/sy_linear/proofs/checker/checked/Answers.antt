@@ -1,8 +1,6 @@
-use Rattle.std.specs.Prelude.{◌≡◌, Ok, true, false, Bool, Result}
 use Rattle.std.proofs.Common.{◌∙◌, sym, ap, subst}
 use Rattle.sy_linear_known.specs.Stored.{linear_query_of, tree_shape_of}
-use Rattle.sy_linear_known.specs.declared.tree.CheckEnd.{CheckEnd}
-use Rattle.sy_linear.specs.Judging.{TellsJudgement, Accepted, Broken, judged}
+use Rattle.sy_linear.specs.Judging.{TellsJudgement, judged}
 use Rattle.sy_linear.proofs.Refuting.{accepted, none_satisfies}
 use Rattle.sy_linear.proofs.Rejecting.{rejected}
 use Rattle.sy_linear.proofs.checker.checked.Goals as goal

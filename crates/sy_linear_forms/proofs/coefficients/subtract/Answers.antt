@@ -1,4 +1,4 @@
-use Rattle.std.proofs.Common.{◌≡◌, ◌⊎◌, inl, inr, arith, drop, get_or, refl, ◌∙◌, ap₂, ap, sym, []}
+use Rattle.std.proofs.Common.{inl, inr, arith, drop, get_or, ◌∙◌, ap₂, ap, sym}
 use Rattle.std.proofs.lemmas.List.{drop_all}
 use Rattle.std.specs.Prelude.{pos, negsuc, ◌-ℤ◌, ◌*ℤ◌, ◌++◌}
 use Rattle.sy_linear_forms.proofs.Merging.{number_back, to_end, not_true, less_left, less_right, less_right_unfit, less_both, less_both_unfit, less_over, less_over_unfit, from_on, in_range-more, in_range-at, in_range-before, in_range-both, in_range-drop}

@@ -1,4 +1,4 @@
-use Rattle.std.proofs.Common.{List, sym}
+use Rattle.std.proofs.Common.{List}
 use Rattle.std.proofs.lemmas.Option.{IfSome_then}
 use Rattle.sy_terms.specs.Denoted.{val_of, vals_of}
 use Rattle.sy_terms.specs.declared.sort.Value.{Value}

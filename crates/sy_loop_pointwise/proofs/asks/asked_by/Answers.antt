@@ -1,4 +1,4 @@
-use Rattle.std.proofs.Common.{ℕ, ◌<◌, ◌+◌, arith, length, take, subst, sym, get_or, refl}
+use Rattle.std.proofs.Common.{◌<◌, arith, length, take, subst, sym, get_or, refl}
 use Rattle.std.proofs.lemmas.List.{take_all}
 use Rattle.std.proofs.lemmas.List.Elements.{All-get_or}
 use Rattle.std.proofs.lemmas.Option.{slice_get-get_or}

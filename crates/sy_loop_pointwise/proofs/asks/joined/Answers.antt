@@ -1,7 +1,6 @@
-use Rattle.std.proofs.Common.{◌≡◌, ◌∙◌, ◌++◌, List, ℕ, sym, subst, true}
+use Rattle.std.proofs.Common.{◌∙◌, ◌++◌, sym, subst, true}
 use Rattle.std.proofs.lemmas.Bool.{true≢false}
 use Rattle.sy_terms.specs.declared.term.Fun.TheVariants.{Wanted}
-use Rattle.sy_terms.specs.Expr.{Expr, Exprs}
 use Rattle.sy_loop_subterms.specs.Denoted.{shapes_of}
 use Rattle.sy_loop_subterms.specs.Shapes.{subterms}
 use Rattle.sy_loop_pointwise.specs.Asked.{AreApplications, IsTheCall}

@@ -1,10 +1,9 @@
-use Rattle.std.proofs.Common.{◌≡◌, ◌∙◌, ap, sym, subst, length, refl, arith}
-use Rattle.std.specs.Prelude.{MatchOption}
+use Rattle.std.proofs.Common.{◌≡◌, ◌∙◌, ap, sym, length, refl, arith}
 use Rattle.std.proofs.lemmas.List.{length-map, length_push}
 use Rattle.std.proofs.lemmas.Option.{none-some}
 use Rattle.sy_terms.specs.Denoted.{expr_of}
 use Rattle.sy_grammar_base.specs.Questions.{goal_of, question_of}
-use Rattle.sy_loop_pointwise.specs.Posed.{PosesConstraint, ArePosed}
+use Rattle.sy_loop_pointwise.specs.Posed.{ArePosed}
 use Rattle.sy_loop_pointwise.proofs.Constraints.{all_posed, constraint_at, kept_more, not_pointwise}
 use Rattle.sy_loop_pointwise.proofs.posed.pose.Goals as goal
 

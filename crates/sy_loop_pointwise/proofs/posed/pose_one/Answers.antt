@@ -1,11 +1,11 @@
-use Rattle.std.proofs.Common.{◌≡◌, ◌∙◌, ◌<◌, ap, sym, subst, length, arith}
+use Rattle.std.proofs.Common.{◌<◌, ap, sym, subst, length, arith}
 use Rattle.std.proofs.lemmas.List.{length-map}
 use Rattle.sy_terms.specs.Denoted.{expr_of}
 use Rattle.sy_grammar_base.specs.Questions.{question_of}
 use Rattle.sy_loop_bounds.specs.WrittenOut.{written_out}
 use Rattle.sy_loop_subterms.specs.Denoted.{shape_of}
 use Rattle.sy_loop_subterms.specs.Shapes.{AreSubterms, subterms}
-use Rattle.sy_loop_pointwise.specs.Asked.{AreApplications, AreKnown}
+use Rattle.sy_loop_pointwise.specs.Asked.{AreKnown}
 use Rattle.sy_loop_pointwise.specs.declared.asks.Asks.TheVariants.{Nothing, Calls, Mixed}
 use Rattle.sy_loop_pointwise.proofs.Kept.{known_at}
 use Rattle.sy_loop_pointwise.proofs.posed.pose_one.Goals as goal

@@ -1,4 +1,4 @@
-use Rattle.std.proofs.Common.{[], ◌<◌, ◌∙◌, ap, sym, subst, length, get_or, refl, arith}
+use Rattle.std.proofs.Common.{[], ◌<◌, subst, length, get_or, arith}
 use Rattle.std.specs.List.{AllZip}
 use Rattle.std.proofs.lemmas.List.{take_all}
 use Rattle.std.proofs.lemmas.List.Elements.{All-get_or}

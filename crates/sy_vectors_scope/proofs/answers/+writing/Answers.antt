@@ -1,5 +1,5 @@
 use borrow.Author.Tests.{ltb-true}
-use Rattle.std.proofs.Common.{arith, ap, length, drop}
+use Rattle.std.proofs.Common.{ap, length, drop}
 use Rattle.std.proofs.lemmas.List.{drop_all}
 use Rattle.sy_vectors_scope.proofs.Checks as checks
 use Rattle.sy_reply.proofs.Written.{from_item}

@@ -1,4 +1,4 @@
-use Rattle.std.proofs.Common.{◌≡◌, ◌<◌, ◌^◌, ◌∙◌, ap, sym, map, length, arith}
+use Rattle.std.proofs.Common.{◌≡◌, ◌∙◌, ap, map, length, arith}
 use Rattle.std.proofs.lemmas.List.{length-map}
 use Rattle.sy_terms.specs.Denoted.{expr_of}
 use Rattle.sy_grammar_base.specs.Questions.{question_of}

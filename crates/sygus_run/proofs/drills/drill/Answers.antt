@@ -1,5 +1,4 @@
-use Rattle.std.proofs.Common.{◌≡◌, inl, inr}
-use Rattle.sygus_run.proofs.Drilling.{high, ends_idle, ends_drilled}
+use Rattle.std.proofs.Common.{◌≡◌}
 use Rattle.sygus_run.proofs.Ends.{idle_line}
 use Rattle.sygus_run.proofs.drills.drill.Goals as goal
 

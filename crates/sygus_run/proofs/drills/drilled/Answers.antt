@@ -1,7 +1,5 @@
-use Rattle.std.proofs.Common.{map}
-use Rattle.sy_grammar_base.specs.Questions.{question_of}
 use Rattle.sy_meaning_words.specs.Vectors as vectors
-use Rattle.sygus_run.proofs.Drilling.{some_problem, problem_asks, problem_fits, drilled_by, named_either}
+use Rattle.sygus_run.proofs.Drilling.{problem_asks, problem_fits, drilled_by, named_either}
 use Rattle.sygus_run.proofs.Named.{vectors_fit}
 use Rattle.sygus_run.proofs.drills.drilled.Goals as goal
 

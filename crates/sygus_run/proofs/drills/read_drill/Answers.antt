@@ -1,4 +1,3 @@
-use Rattle.std.proofs.Common.{◌≡◌, ◌≤◌, ◌∙◌, length, sym, ap, subst, ℕ, List}
 use Rattle.sygus_drill_laws.proofs.Lengths.{files_are_short}
 use Rattle.sygus_run.proofs.Drilling.{not_refused, not_idle, not_integers, is_asked}
 use Rattle.sygus_run.proofs.drills.read_drill.Goals as goal

@@ -1,4 +1,4 @@
-use Rattle.std.proofs.Common.{◌≡◌, ◌∙◌, ap}
+use Rattle.std.proofs.Common.{◌∙◌, ap}
 use Rattle.sy_forms_names.specs.Environments.{place_among}
 use Rattle.sy_forms_names.specs.Locals.{in_force}
 use Rattle.sy_forms_names.proofs.Lookups.{entry-under}

@@ -1,4 +1,4 @@
-use Rattle.std.proofs.Common.{◌≡◌, ◌∙◌, ap}
+use Rattle.std.proofs.Common.{◌∙◌, ap}
 use Rattle.sy_forms_names.specs.Environments.{entry_under}
 use Rattle.sy_forms_names.proofs.Lookups.{entry-under}
 use Rattle.sy_forms_names.proofs.table.Names.sort.Goals as goal
