@@ -10,3 +10,4 @@ pub mod Joints
 pub mod Signs
 pub mod Holding
 pub mod Keys
+pub mod SignMasks

@@ -6,6 +6,7 @@ mod circuit;
 mod compare;
 mod encode;
 mod gate;
+mod masks;
 mod product;
 mod quotient;
 mod shift;

@@ -3,6 +3,7 @@ ghost use Rattle.sy_gates.specs.Circuits.{variables, FollowsPlan, GrownCircuit, 
 
 use crate::circuit::Circuit;
 use crate::gate::Bit;
+use crate::masks::sign_of;
 use crate::wires::moved_up;
 use crate::word::zeros;
 use std::alloc::Global;
@@ -37,9 +38,9 @@ impl Circuit {
         Ok(total)
     }
 
-    /// The product of two words of one width, modulo 2 to the power of it.
+    /// The product of two words of one width as a sum of rows, modulo 2 to the power of it.
     #[tactic(auto, using(crate::proofs::Words::word_steps))]
-    pub fn mul(&mut self, alloc: Global, a: &[Bit], b: &[Bit]) -> Result<Seq<Bit>, Want>
+    fn mul_rows(&mut self, alloc: Global, a: &[Bit], b: &[Bit]) -> Result<Seq<Bit>, Want>
         requires same { length b.now ≡ length a.now }
         requires left { word_bound a.now ≤ variables self.old }
         requires right { word_bound b.now ≤ variables self.old }
@@ -56,5 +57,29 @@ impl Circuit {
             sum = self.add_row(alloc, sum.as_slice(), a, i, bit)?;
         }
         Ok(sum)
+    }
+
+    /// The product of two words of one width, modulo 2 to the power of it. A product by a sign is a choice.
+    pub fn mul(&mut self, alloc: Global, a: &[Bit], b: &[Bit]) -> Result<Seq<Bit>, Want>
+        requires same { length b.now ≡ length a.now }
+        requires left { word_bound a.now ≤ variables self.old }
+        requires right { word_bound b.now ≤ variables self.old }
+        requires room { variables self.old + 4 * (length a.now * length a.now) < 2 ^ 31 }
+        ensures grown { GrownCircuit self.old self.new }
+        ensures cost { OnOk result (variables self.new ≤ variables self.old + 4 * (length a.now * length a.now)) }
+        ensures width { IfOk result (λ r. length r ≡ length a.now) }
+        ensures inside { IfOk result (λ r. word_bound r ≤ variables self.new) }
+        ensures value { IfOk result (λ r. (v : ℕ → Bool) → FollowsPlan v self.new → word_number v r ≡ word_number v a.now * word_number v b.now % 2 ^ length a.now) }
+    {
+        if let Some(sign) = sign_of(b) {
+            let word = self.times_sign(alloc, a, sign)?;
+            return Ok(word);
+        }
+        if let Some(sign) = sign_of(a) {
+            let word = self.times_sign(alloc, b, sign)?;
+            return Ok(word);
+        }
+        let word = self.mul_rows(alloc, a, b)?;
+        Ok(word)
     }
 }

@@ -5,7 +5,7 @@ ghost use Rattle.sy_gates.specs.Arithmetic.{has_top_bit, minus_vector, magnitude
 use crate::circuit::Circuit;
 use crate::gate::Bit;
 use crate::quotient::Division;
-use crate::word::{inverted, zeros};
+use crate::word::zeros;
 use std::alloc::Global;
 use sy_seq::{Seq, Want};
 
@@ -214,26 +214,7 @@ impl Circuit {
         ensures inside { IfOk result (λ r. word_bound r ≤ variables self.new) }
         ensures value { IfOk result (λ r. (v : ℕ → Bool) → FollowsPlan v self.new → word_number v r ≡ signed_shift_down (length a.now) (word_number v a.now) (word_number v by.now)) }
     {
-        let sign = top(a);
-        let start = self.turn_where(alloc, sign, a)?;
-        let moved = self.shift_down(alloc, start.as_slice(), by)?;
-        let word = self.turn_where(alloc, sign, moved.as_slice())?;
-        Ok(word)
-    }
-
-    /// The word with each bit turned where `test` is true, and `a` elsewhere.
-    fn turn_where(&mut self, alloc: Global, test: Bit, a: &[Bit]) -> Result<Seq<Bit>, Want>
-        requires test { bit_bound test ≤ variables self.old }
-        requires word { word_bound a.now ≤ variables self.old }
-        requires room { variables self.old + length a.now < 2 ^ 31 }
-        ensures grown { GrownCircuit self.old self.new }
-        ensures cost { OnOk result (variables self.new ≤ variables self.old + length a.now) }
-        ensures width { IfOk result (λ r. length r ≡ length a.now) }
-        ensures inside { IfOk result (λ r. word_bound r ≤ variables self.new) }
-        ensures value { IfOk result (λ r. (v : ℕ → Bool) → FollowsPlan v self.new → word_number v r ≡ cond (bit_value v test) (2 ^ length a.now - 1 - word_number v a.now) (word_number v a.now)) }
-    {
-        let turned = inverted(alloc, a)?;
-        let word = self.choose_word(alloc, test, turned.as_slice(), a)?;
+        let word = self.filled_shift_down(alloc, a, by, top(a))?;
         Ok(word)
     }
 }
