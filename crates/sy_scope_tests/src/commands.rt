@@ -1,8 +1,9 @@
 // Commands as they are written, with what they ask for.
 use std::alloc::Global;
+use std::process::Abort;
 use sy_forms_items::{Rest, symbol};
 use sy_scope_commands::{Request, command_named, request_of};
-use sy_text::{Sexp, next_command};
+use sy_text::{Sexp, Sexps, next_command};
 
 /// Commands, each behind the offset of the name that it asks for and what it asks for, or why it asks for nothing.
 const COMMANDS: &str = "\
@@ -71,37 +72,41 @@ fn told(request: &Request) -> (&'static str, usize) {
     }
 }
 
-/// What a command asks for, or why it asks for nothing.
-fn asked(alloc: Global, text: &[u8]) -> (&'static str, usize) {
-    let Ok(Some((Sexp::List(items, _), _))) = next_command(alloc, text, 0) else {
-        return ("no list", 0);
-    };
-    let Some((head, parts)) = Rest::all(&items).split() else {
-        return ("empty", 0);
-    };
+/// What a command of these items asks for, or why it asks for nothing.
+fn asked(rt: &impl Abort, items: &Sexps) -> (&'static str, usize) {
+    let (head, parts) = Rest::all(items).split().expect(rt, "an item");
     let Some(name) = symbol(head) else {
         return ("no symbol", 0);
     };
-    match command_named(name.as_slice()) {
-        Some(command) => match request_of(command, parts) {
-            Some(request) => told(&request),
-            None => ("shape", 0),
-        },
-        None => ("no command", 0),
+    let Some(command) = command_named(name.as_slice()) else {
+        return ("no command", 0);
+    };
+    match request_of(command, parts) {
+        Some(request) => told(&request),
+        None => ("shape", 0),
+    }
+}
+
+/// The items of the text, which is a list.
+pub fn items_of(rt: &impl Abort, alloc: Global, text: &str) -> Sexps {
+    match next_command(alloc, text.as_bytes(), 0) {
+        Ok(Some((Sexp::List(items, _), _))) => items,
+        _ => panic!(rt; "no list: {text}"),
     }
 }
 
 /// Whether the text asks for what its row tells.
-fn asks_for(alloc: Global, row: &str) -> bool {
+fn asks_for(rt: &impl Abort, alloc: Global, row: &str) -> bool {
     let (place, rest) = row.split_once(' ').unwrap_or(("", row));
     let (wanted, text) = rest.split_once(": ").unwrap_or(("", rest));
-    let (what, at) = asked(alloc, text.as_bytes());
+    let items = items_of(rt, alloc, text);
+    let (what, at) = asked(rt, &items);
     what == wanted && place.parse() == Ok(at)
 }
 
 #[test]
 fn commands_by_the_table(rt: HostRuntime) {
     for row in COMMANDS.lines() {
-        assert!(rt; asks_for(rt.alloc(), row), "{row}");
+        assert!(rt; asks_for(&rt, rt.alloc(), row), "{row}");
     }
 }

@@ -1,11 +1,13 @@
 // Grammars as they are written, with what is read of them.
-use std::alloc::{AllocError, Global};
-use sy_forms::{Named, Names, ReadEnd};
+use crate::commands::items_of;
+use std::alloc::Global;
+use std::process::Abort;
+use sy_forms::{Names, ReadEnd};
 use sy_meaning_integers::IntTheory;
-use sy_scope_commands::{Listed, Rulebook};
+use sy_scope_commands::{Listed, Rulebook, list_in};
 use sy_scope_rules::{Naming, Written, nonterminals, read_named, read_rulebook};
 use sy_terms::{Logic, Sort};
-use sy_text::{Sexp, Sexps, next_command};
+use sy_text::Sexps;
 
 /// Texts of arguments, a predeclaration and groups, each behind what is read of it: so many nonterminals, rules and written
 /// values, or the first fault, by its offset.
@@ -49,90 +51,73 @@ Refused(33, Nonlinear): (() ((I Int) (C Int)) ((I Int (0 (* I C))) (C Int (1 I))
 ";
 
 /// How many nonterminals, rules and written values there are.
-fn counted(
-    alloc: Global,
-    written: &Written<IntTheory>,
-) -> Result<(usize, usize, usize), AllocError> {
-    let nons = nonterminals(alloc, written.groups.as_slice())?;
+fn counted(rt: &impl Abort, alloc: Global, written: &Written<IntTheory>) -> (usize, usize, usize) {
+    let nons = nonterminals(alloc, written.groups.as_slice()).expect(rt, "memory");
     let mut rules = 0usize;
     for non in nons.as_slice() {
         rules = rules.saturating_add(non.rules.len());
     }
-    Ok((nons.len(), rules, written.values.len()))
+    (nons.len(), rules, written.values.len())
 }
 
-/// What is counted of the grammar of a function of sort Int with these arguments.
-fn counts(
+/// The grammar of a function of sort Int with these arguments, where nothing else is declared.
+fn read(
     alloc: Global,
     names: &Names,
-    arguments: &[Named],
+    arguments: &Sexps,
     book: &Rulebook,
-) -> Result<(usize, usize, usize), ReadEnd> {
+) -> Result<Written<IntTheory>, ReadEnd> {
     let naming = Naming {
         logic: Logic::Lia,
         names,
-        taken: arguments,
-    };
-    let written = read_rulebook::<IntTheory>(alloc, &naming, Sort::Int, book)?;
-    Ok(counted(alloc, &written)?)
-}
-
-/// The same, where the arguments are read first.
-fn counts_after(
-    alloc: Global,
-    arguments: &Sexps,
-    book: &Rulebook,
-) -> Result<(usize, usize, usize), ReadEnd> {
-    let names = Names::new(alloc);
-    let naming = Naming {
-        logic: Logic::Lia,
-        names: &names,
         taken: &[],
     };
     let arguments = read_named(alloc, &naming, arguments)?;
-    counts(alloc, &names, arguments.as_slice(), book)
+    let naming = Naming {
+        logic: Logic::Lia,
+        names,
+        taken: arguments.as_slice(),
+    };
+    read_rulebook(alloc, &naming, Sort::Int, book)
 }
 
-/// Whether the outcome is what is read of the text.
-fn is_outcome(alloc: Global, outcome: &str, text: &[u8]) -> bool {
-    let Ok(Some((Sexp::List(parts, _), _))) = next_command(alloc, text, 0) else {
-        return false;
-    };
-    let (
-        Some(Sexp::List(arguments, _)),
-        Some(Sexp::List(predeclared, place)),
-        Some(Sexp::List(groups, at)),
-    ) = (parts.get(0), parts.get(1), parts.get(2)) else {
-        return false;
-    };
+/// The list of this number among the parts.
+fn listed<'a>(rt: &impl Abort, parts: &'a Sexps, number: usize) -> Listed<'a> {
+    let part = parts.get(number).expect(rt, "a part");
+    list_in(part).expect(rt, "a list")
+}
+
+/// What is read of the text.
+fn told(rt: &impl Abort, alloc: Global, names: &Names, text: &str) -> String {
+    let parts = items_of(rt, alloc, text);
     let book = Rulebook {
-        predeclared: Listed {
-            items: predeclared,
-            place: *place,
-        },
-        groups: Listed {
-            items: groups,
-            place: *at,
-        },
+        predeclared: listed(rt, &parts, 1),
+        groups: listed(rt, &parts, 2),
     };
-    let told = match counts_after(alloc, arguments, &book) {
-        Ok((nons, rules, values)) => format!(in alloc; "Read({nons}, {rules}, {values})"),
+    match read(alloc, names, listed(rt, &parts, 0).items, &book) {
+        Ok(written) => {
+            let (nons, rules, values) = counted(rt, alloc, &written);
+            format!(in alloc; "Read({nons}, {rules}, {values})").expect(rt, "memory")
+        }
         Err(ReadEnd::Refused(place, cause)) => {
             let at = place.at;
-            format!(in alloc; "Refused({at}, {cause:?})")
+            format!(in alloc; "Refused({at}, {cause:?})").expect(rt, "memory")
         }
-        Err(ReadEnd::Want) => return false,
-    };
-    match told {
-        Ok(told) => told.as_str() == outcome,
-        Err(_) => false,
+        Err(ReadEnd::Want) => panic!(rt; "memory"),
     }
+}
+
+/// Whether the row tells what is read of its text.
+fn is_right(rt: &impl Abort, alloc: Global, names: &Names, row: &str) -> bool {
+    let (outcome, text) = row.split_once(": ").unwrap_or(("", row));
+    let told = told(rt, alloc, names, text);
+    told.as_str() == outcome
 }
 
 #[test]
 fn grammars_by_the_table(rt: HostRuntime) {
+    let names = Names::new(rt.alloc());
     for row in GRAMMARS.lines() {
-        let (outcome, text) = row.split_once(": ").unwrap_or(("", row));
-        assert!(rt; is_outcome(rt.alloc(), outcome, text.as_bytes()), "{row}");
+        assert!(rt; is_right(&rt, rt.alloc(), &names, row), "{row}");
     }
 }

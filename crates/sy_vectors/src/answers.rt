@@ -153,6 +153,11 @@ bb ABiA!B|^ 99 never
 44 ABGABs^! 99 never
 44 ABpBAp# 99 never
 @@@ ABAuCAuAC?CBuBC??uBBAuCAuAC?CBuBC??u&CBAuCAuAC?CBuBC??u&BAuCAuAC?CBuBC??A=BAuCAuAC?CBuBC??B=|BAuCAuAC?CBuBC??C=|&! 99 never
+4 AA3a1o*A0sAnA?# 1 never
+4 A3a1oA*A0sAnA?# 1 never
+4 AA3a*A0sAn0?# 1 never
+4 A3aA*A0sAn0?# 1 never
+44 AB3a*B0sAn0?# 1 never
 ";
 
 /// Sums and equal gates: no clause is learned beside the empty one.
@@ -194,9 +199,9 @@ b44 ABB?B# 1 never
 44 ABxB~xA~# 1 never
 ";
 
-/// Sums and products of variables that need no gate, and remainders and shifts of a vector by itself: how many variables the
-/// clauses may have, one beside the variables' bits. A shift by itself, against a choice by the sign, has a gate more for each
-/// bit but one, which both sides share.
+/// Sums and products of variables that need no gate, remainders and shifts of a vector by itself, and signed shifts by
+/// constants, against copies of the sign beside the bits that are left: how many variables the clauses may have, one beside
+/// the variables' bits.
 const SETTLED: &str = "\
 88 ABA+*AB*AA*+# 17 settled
 pp ABA+*AB*AA*+# 129 settled
@@ -211,8 +216,11 @@ pp ABAMAA*B*# 129 settled
 pp AB+BA+< 129 settled
 pp A~AB*BA*#L 129 settled
 1 AAaAAAxsAAx~AAx?# 2 settled
-8 AAaAAAxsAAx~AAx?# 16 settled
-p AAaAAAxsAAx~AAx?# 128 settled
+8 AAaAAAxsAAx~AAx?# 9 settled
+p AAaAAAxsAAx~AAx?# 65 settled
+4 A1aANzze# 5 settled
+8 A4ZaAyzzeN# 9 settled
+p A3FcZZZZZZZZZZZZZZaAzzzzzzzeNyzzeNNNNNNNNNNNNNNN# 65 settled
 8 AAgAAx# 9 settled
 p AAgAAx# 65 settled
 8 AA%AAx# 9 settled

@@ -51,20 +51,20 @@ fn sources_are_read_whole(rt: HostRuntime) {
     assert!(rt; gives(alloc, &mut files, "six", 9, Err(ReadEnd::Fault)));
 }
 
+/// Sinks for so many bytes, of which one call fails, with what they hold once the text was written as far as it can be.
 #[test]
 fn sinks_are_written_until_a_write_fails(rt: HostRuntime) {
-    let alloc = rt.alloc();
-    let mut whole = MemSink::new(alloc, 9, 2, &[4]).expect(&rt, "a sink");
-    assert!(rt; write_whole(&mut whole, &TEXT).is_ok());
-    assert!(rt; whole.written() == TEXT.as_slice());
-    assert!(rt; write_whole(&mut whole, &TEXT).is_err());
-    assert!(rt; whole.written() == TEXT.as_slice());
-    let mut failing = MemSink::new(alloc, 9, 2, &[2]).expect(&rt, "a sink");
-    assert!(rt; write_whole(&mut failing, &TEXT).is_err());
-    assert!(rt; failing.written() == &TEXT[..2]);
-    let mut full = MemSink::new(alloc, 3, 2, &[]).expect(&rt, "a sink");
-    assert!(rt; write_whole(&mut full, &TEXT).is_err());
-    assert!(rt; full.written() == &TEXT[..3]);
+    let rows: [(usize, u64, &[u8]); 3] = [(9, 4, &TEXT), (9, 2, &TEXT[..2]), (3, 0, &TEXT[..3])];
+    for (room, failing, held) in rows {
+        let mut sink = MemSink::new(rt.alloc(), room, 2, &[failing]).expect(&rt, "a sink");
+        let is_whole = write_whole(&mut sink, &TEXT).is_ok();
+        assert!(rt;
+            sink.written() == held && is_whole == (held == TEXT.as_slice()),
+            "{failing}"
+        );
+        let is_longer = is_whole && write_whole(&mut sink, &TEXT).is_ok();
+        assert!(rt; !is_longer && sink.written() == held, "{failing}");
+    }
     assert!(rt; write_whole(&mut SureSink::new(), &TEXT).is_ok());
     assert!(rt; write_whole(&mut StdSink::out(&rt), b"out\n").is_ok());
     assert!(rt; write_whole(&mut StdSink::err(&rt), b"err\n").is_ok());

@@ -1,10 +1,9 @@
 // The tables of the lexicon, and each text of a file read as a second reading does.
 ghost use Rattle.std.specs.Prelude.{◌≤◌, length};
 
-use std::alloc::Global;
-use sy_io::Bytes;
-use sy_terms::Want;
-use sy_text::*;
+use crate::second;
+use std::process::Abort;
+use sy_text::{Sexp, TextEnd, TextFault, line_column, next_command, write_sexp};
 
 /// A file with two commands' kinds of lists, atoms of many kinds, and a comment.
 const FILE: &[u8] = b"(set-logic LIA)
@@ -20,45 +19,86 @@ const FILE: &[u8] = b"(set-logic LIA)
 (check-synth)
 ";
 
+/// Appends the places of the item and of its parts, of which there are at most so many, in the order in which they begin.
+fn append_places(
+    rt: &(impl Abort + AllocGlobal),
+    item: &Sexp,
+    limit: usize,
+    places: &mut Vec<usize>,
+) {
+    let mut waiting = Vec::new(rt.alloc());
+    waiting.push(item).expect(rt, "memory");
+    for _ in 0..limit {
+        match waiting.pop() {
+            Some(Sexp::Atom(_, place)) => places.push(place.at).expect(rt, "memory"),
+            Some(Sexp::List(items, place)) => {
+                places.push(place.at).expect(rt, "memory");
+                for i in (0..items.len()).rev() {
+                    if let Some(part) = items.get(i) {
+                        waiting.push(part).expect(rt, "memory");
+                    }
+                }
+            }
+            None => break,
+        }
+    }
+}
+
+/// The offset behind the next item from `at` on. The places of its parts are appended.
+fn read(
+    rt: &(impl Abort + AllocGlobal),
+    bytes: &[u8],
+    at: usize,
+    places: &mut Vec<usize>,
+) -> Result<Option<usize>, TextFault>
+    requires { at ≤ length bytes.now }
+{
+    let found = next_command(rt.alloc(), bytes, at);
+    match &found {
+        Ok(Some((item, behind))) => {
+            append_places(rt, item, bytes.len(), places);
+            Ok(Some(*behind))
+        }
+        Ok(None) => Ok(None),
+        Err(TextEnd::Fault(fault)) => Err(*fault),
+        Err(TextEnd::Want) => panic!(rt; "memory"),
+    }
+}
+
 /// The fault of the bytes, read to the end.
-fn fault_of(alloc: Global, bytes: &[u8]) -> Option<TextFault> {
+fn fault_of(rt: &(impl Abort + AllocGlobal), bytes: &[u8]) -> Option<TextFault> {
+    let mut places = Vec::new(rt.alloc());
     let mut at = 0;
     for _ in 0..=bytes.len() {
         if at > bytes.len() {
             break;
         }
-        match next_command(alloc, bytes, at) {
-            Ok(Some((_, behind))) => at = behind,
-            Err(TextEnd::Fault(fault)) => return Some(fault),
-            _ => return None,
+        match read(rt, bytes, at, &mut places) {
+            Ok(Some(behind)) => at = behind,
+            Ok(None) => break,
+            Err(fault) => return Some(fault),
         }
     }
     None
 }
 
-/// The first item as it is written.
-fn written(alloc: Global, bytes: &[u8]) -> Option<Bytes> {
-    match next_command(alloc, bytes, 0) {
-        Ok(Some((item, _))) => write_sexp(alloc, &item).ok(),
-        _ => None,
-    }
+/// The fault of the bytes as tables tell it, or `none`.
+fn told(rt: &(impl Abort + AllocGlobal), bytes: &[u8]) -> String {
+    let told = match fault_of(rt, bytes) {
+        Some(fault) => format!(in rt.alloc(); "{fault:?}"),
+        None => String::from_str(rt.alloc(), "none"),
+    };
+    told.expect(rt, "memory")
 }
 
 /// The bytes that the letters stand for, each for the byte of its number.
-fn bytes_of(alloc: Global, letters: &str) -> Result<Vec<u8>, Want> {
-    let mut bytes = Vec::new(alloc);
+fn bytes_of(rt: &(impl Abort + AllocGlobal), letters: &str) -> Vec<u8> {
+    let mut bytes = Vec::new(rt.alloc());
     for letter in letters.chars() {
-        bytes.push((u32::from(letter) % 256) as u8)?;
+        let byte = (u32::from(letter) % 256) as u8;
+        bytes.push(byte).expect(rt, "memory");
     }
-    Ok(bytes)
-}
-
-/// The fault of the bytes as tables tell it, or `none`.
-fn told(alloc: Global, bytes: &[u8]) -> Result<String, Want> {
-    match fault_of(alloc, bytes) {
-        Some(fault) => format!(in alloc; "{fault:?}"),
-        None => String::from_str(alloc, "none"),
-    }
+    bytes
 }
 
 /// Faults, each with the letters in which it is found; `§` ends a row.
@@ -118,19 +158,12 @@ BadByte(67) #b000000000000000000000000000000000000000000000000000000000000000002
 Stray(6) (1 2) )§\
 Stray(3) (a))";
 
-/// Whether the letters have the fault that the row tells.
-fn has_fault(alloc: Global, row: &str) -> Result<bool, Want> {
-    let Some((fault, letters)) = row.split_once(' ') else {
-        return Ok(false);
-    };
-    let bytes = bytes_of(alloc, letters)?;
-    Ok(told(alloc, &bytes)?.as_str() == fault)
-}
-
 #[test]
 fn faults_by_the_table(rt: HostRuntime) {
     for row in FAULTS.split('§') {
-        assert!(rt; matches!(has_fault(rt.alloc(), row), Ok(true)), "{row}");
+        let (fault, letters) = row.split_once(' ').expect(&rt, row);
+        let told = told(&rt, &bytes_of(&rt, letters));
+        assert!(rt; told.as_str() == fault, "{row}");
     }
 }
 
@@ -161,134 +194,67 @@ let¶|let|§\
 a¶a\"b\"§\
 #b1¶; (\r\n#b1)";
 
-/// Whether what is read of the letters is written as the row tells.
-fn has_spelling(alloc: Global, row: &str) -> Result<bool, Want> {
-    let Some((text, letters)) = row.split_once('¶') else {
-        return Ok(false);
-    };
-    let text = bytes_of(alloc, text)?;
-    let bytes = bytes_of(alloc, letters)?;
-    match written(alloc, &bytes) {
-        Some(out) => Ok(out.as_slice() == text.as_slice()),
-        None => Ok(false),
-    }
-}
-
 #[test]
 fn spellings_by_the_table(rt: HostRuntime) {
     for row in SPELLINGS.split('§') {
-        assert!(rt; matches!(has_spelling(rt.alloc(), row), Ok(true)), "{row}");
-    }
-}
-
-/// Whether these are the places of all parts, in the order in which they begin.
-fn has_places(alloc: Global, item: &Sexp, places: &[usize]) -> Result<bool, Want> {
-    let mut waiting = Vec::new(alloc);
-    waiting.push(item)?;
-    for place in places {
-        let Some(part) = waiting.pop() else {
-            return Ok(false);
-        };
-        match part {
-            Sexp::Atom(_, found) if found.at == *place => {}
-            Sexp::List(items, found) if found.at == *place => {
-                for i in (0..items.len()).rev() {
-                    if let Some(inner) = items.get(i) {
-                        waiting.push(inner)?;
-                    }
-                }
-            }
-            _ => return Ok(false),
-        }
-    }
-    Ok(waiting.is_empty())
-}
-
-/// The offset behind the next item, where both readings agree on it and on the places of its parts.
-fn agreed(alloc: Global, bytes: &[u8], at: usize) -> Option<usize>
-    requires { at ≤ length bytes.now }
-{
-    let Ok(Some((item, behind))) = next_command(alloc, bytes, at) else {
-        return None;
-    };
-    let Ok(Some((end, places))) = crate::second::read(alloc, bytes, at) else {
-        return None;
-    };
-    match has_places(alloc, &item, &places) {
-        Ok(true) if behind == end => Some(behind),
-        _ => None,
-    }
-}
-
-/// Whether both readings find the same fault, or both the end, from `at` on.
-fn ends_alike(alloc: Global, bytes: &[u8], at: usize) -> bool
-    requires { at ≤ length bytes.now }
-{
-    match (
-        next_command(alloc, bytes, at),
-        crate::second::read(alloc, bytes, at),
-    ) {
-        (Ok(None), Ok(None)) => true,
-        (Err(TextEnd::Fault(one)), Err(TextEnd::Fault(other))) => one == other,
-        _ => false,
+        let (text, letters) = row.split_once('¶').expect(&rt, row);
+        let read = next_command(rt.alloc(), &bytes_of(&rt, letters), 0);
+        let (item, _) = read.expect(&rt, row).expect(&rt, row);
+        let written = write_sexp(rt.alloc(), &item).expect(&rt, row);
+        assert!(rt;
+            written.as_slice() == bytes_of(&rt, text).as_slice(),
+            "{row}"
+        );
     }
 }
 
 /// Whether both readings of the bytes give the same items, places and fault.
-fn agree(alloc: Global, bytes: &[u8]) -> bool {
+fn agree(rt: &(impl Abort + AllocGlobal), bytes: &[u8]) -> bool {
     let mut at = 0;
     for _ in 0..=bytes.len() {
         if at > bytes.len() {
             break;
         }
-        match agreed(alloc, bytes, at) {
-            Some(behind) => at = behind,
-            None => return ends_alike(alloc, bytes, at),
+        let mut places = Vec::new(rt.alloc());
+        let mut others = Vec::new(rt.alloc());
+        let found = read(rt, bytes, at, &mut places);
+        let is_same = found == second::read(rt, bytes, at, &mut others);
+        if !is_same || found.is_ok() && places != others {
+            return false;
+        }
+        match found {
+            Ok(Some(behind)) => at = behind,
+            _ => return true,
         }
     }
     false
 }
 
 /// The file with another byte at one offset.
-fn changed(alloc: Global, at: usize, byte: u8) -> Result<Vec<u8>, Want> {
-    let mut bytes = Vec::new(alloc);
-    bytes.extend_from_slice(FILE)?;
+fn changed(rt: &(impl Abort + AllocGlobal), at: usize, byte: u8) -> Vec<u8> {
+    let mut bytes = Vec::new(rt.alloc());
+    bytes.extend_from_slice(FILE).expect(rt, "memory");
     if let Some(place) = bytes.get_mut(at) {
         *place = byte;
     }
-    Ok(bytes)
+    bytes
 }
 
-/// Whether each cut of the file ends it or leaves something open.
-fn is_cut(alloc: Global, cut: &[u8]) -> bool {
-    match fault_of(alloc, cut) {
-        None | Some(TextFault::Unclosed(_)) => agree(alloc, cut),
-        _ => false,
-    }
-}
-
-/// Whether the file with another byte at one offset is read alike.
-fn is_read_alike(alloc: Global, at: usize, byte: u8) -> Result<bool, Want> {
-    let bytes = changed(alloc, at, byte)?;
-    Ok(agree(alloc, &bytes))
-}
-
+/// Each cut of the file ends it or leaves something open.
 #[test]
 fn each_cut_and_each_changed_byte_is_read_alike(rt: HostRuntime) {
-    let alloc = rt.alloc();
-    for cut in 0..FILE.len() {
-        assert!(rt; is_cut(alloc, &FILE[..cut]));
+    for at in 0..FILE.len() {
+        let cut = &FILE[..at];
+        let fault = fault_of(&rt, cut);
+        assert!(rt;
+            matches!(fault, None | Some(TextFault::Unclosed(_))),
+            "{at}"
+        );
+        assert!(rt; agree(&rt, cut), "{at}");
         for byte in 0..=255 {
-            assert!(rt; matches!(is_read_alike(alloc, cut, byte), Ok(true)));
+            assert!(rt; agree(&rt, &changed(&rt, at, byte)), "{at} {byte}");
         }
     }
-}
-
-/// What is told of so many equal bytes.
-fn has_fault_filled(alloc: Global, byte: u8, count: usize, fault: &str) -> Result<bool, Want> {
-    let mut bytes = Vec::new(alloc);
-    bytes.resize(count, byte)?;
-    Ok(told(alloc, &bytes)?.as_str() == fault)
 }
 
 #[test]
@@ -300,10 +266,10 @@ fn largest_inputs(rt: HostRuntime) {
         (b'a', 4_194_304, "none"),
     ];
     for (byte, count, fault) in rows {
-        assert!(rt;
-            matches!(has_fault_filled(rt.alloc(), byte, count, fault), Ok(true)),
-            "{fault}"
-        );
+        let mut bytes = Vec::new(rt.alloc());
+        bytes.resize(count, byte).expect(&rt, "memory");
+        let told = told(&rt, &bytes);
+        assert!(rt; told.as_str() == fault, "{count} times {byte}");
     }
 }
 
