@@ -24,7 +24,7 @@ use sy_terms::Want;
 /// The most clauses that a log can have learned.
 const MOST_LEARNED: u32 = 2_147_483_647;
 
-/// A solver of queries over bit vectors. It tries a few dozen assignments at which queries are often true; then it makes
+/// A solver of queries over bit vectors. It tries up to 128 assignments at which queries are often true; then it makes
 /// the circuit clauses of the query, or of one that the same values satisfy and that is easier to search, and searches a
 /// model or a refutation of them that learns at most as many clauses as the limit `clauses`.
 ///

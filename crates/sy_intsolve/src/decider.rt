@@ -14,7 +14,7 @@ use sy_query_decide::{Decide, Verdict};
 use sy_query_limits::{FailName, Limits};
 use sy_terms::Want;
 
-/// A solver of queries of linear arithmetic over the integers. It tries a few dozen assignments at which queries are often
+/// A solver of queries of linear arithmetic over the integers. It tries up to 128 assignments at which queries are often
 /// true; then it grows a tree that splits on open tests and branches on values of variables, until the tree refutes the
 /// query or an assignment satisfies it, with at most as many inner nodes as the limit `nodes` and as many steps of the
 /// simplex method at a leaf as the limit `pivots`.

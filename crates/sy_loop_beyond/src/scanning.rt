@@ -17,7 +17,7 @@ use sy_terms::{Bodies, Theory, Values, Want};
 /// How many combinations are tried at most.
 const MOST_GUESSES: u32 = 4_096;
 
-/// How many of them a solver is asked about at most.
+/// How many of them a solver refutes at most, each with a counterexample.
 const MOST_ASKED: u32 = 256;
 
 /// The first combination in the scan's order that solves the problem as the one body; `None` where none was found to. The

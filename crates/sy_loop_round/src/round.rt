@@ -90,8 +90,8 @@ pub fn run_round<T: Theory, D: Decide<T>>(
     Ok(round)
 }
 
-/// What follows where all bodies whose sizes sum to `level` are refuted, and conditional trees with them: the end, where a bank dropped a term or this was
-/// the greatest size; else the next size.
+/// What follows where all bodies whose sizes sum to `level` are refuted, and conditional trees with them: the end, where a
+/// bank dropped a term or this was the greatest size; else the next size.
 fn after_level<T: Theory, D: Decide<T>>(
     alloc: Global,
     problem: &Problem<T>,

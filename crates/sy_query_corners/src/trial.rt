@@ -1,4 +1,4 @@
-// Queries evaluated at a few dozen assignments.
+// Queries evaluated at up to 128 assignments.
 ghost use Rattle.std.specs.Prelude.{◌≡◌, true, IsTrue, IfOk, IfSome};
 ghost use Rattle.sy_terms.specs.Values.{Truth};
 ghost use Rattle.sy_terms.specs.Denoted.{val_of, vals_of};

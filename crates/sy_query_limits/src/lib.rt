@@ -4,7 +4,7 @@
 /// The limits of a search, each with its least and greatest value in brackets.
 #[derive(Clone, Copy, Debug, PartialEq, Eq)]
 pub struct Limits {
-    /// The sizes of the bodies of all functions together (1 to 64).
+    /// The sizes of the bodies of all functions together, and of each part of a body that chooses (1 to 64).
     pub size: u32,
     /// The stored assignments (1 to 1,024).
     pub rounds: u32,
@@ -18,7 +18,7 @@ pub struct Limits {
     pub clauses: u32,
     /// The inner nodes of the tree of one query (1 to 8,000).
     pub nodes: u32,
-    /// The pivots at one node (1 to 100,000).
+    /// The pivots at one leaf of that tree (1 to 100,000).
     pub pivots: u32,
 }
 

@@ -27,7 +27,7 @@ reach_of Least = Sizes
 reach_of (Drill n) = Joins
 
 -- bodies that are found are of the least bound in which any solve the problem: in modes `solve` and `drill`, unless a bank was
--- full before
+-- full or a number had left the 128 bits before
 abbrev pub FindsWell : {T P S N : Type 0} → (N → Val) → Mode → Limits → Question → Outcome T P S N → Type 0
 FindsWell number Solve limits question outcome = FindsBeyond number question limits outcome
 FindsWell number Least limits question outcome = FindsLeast number Sizes question outcome

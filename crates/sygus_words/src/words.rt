@@ -131,7 +131,7 @@ fn parsed<'a>(alloc: Global, words: &'a [String]) -> Result<ArgMatches<'a>, Word
 }
 
 /// The settings that the words of a command line ask for; the first word is the program's name. An option is
-/// written `--NAME VALUE` or `--NAME=VALUE`, and the last one that is no option is the name of the file. `Refused`
+/// written `--NAME VALUE` or `--NAME=VALUE`, and the one word that is no option is the name of the file. `Refused`
 /// comes where `clap` refuses the words, where the mode is none of `solve`, `least` and `drill`, where the value of a
 /// limit isn't the decimal spelling, without sign and leading zeros, of a number from 1 to its greatest value, or where in
 /// mode `drill` the name of the file isn't so spelled a number from 0 to 999,999,999:
