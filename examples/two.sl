@@ -1,4 +1,4 @@
-; Two functions with one constraint on both: together they are the sum, and they never share a bit.
+; Two functions: together they are the sum of x and y, and f has only bits that just one of x and y has.
 (set-logic BV)
 (synth-fun f ((x (_ BitVec 8)) (y (_ BitVec 8))) (_ BitVec 8)
   ((S (_ BitVec 8)))
