@@ -1,31 +1,12 @@
-// Files that are cut off, and sources and sinks that give and take little or fail.
-use super::runs::{ALL, Calls, Failing, Left, SURE, leaves, parts_of, row_leaves, run_of};
+// Sources and sinks that give and take little or fail, and files that are cut off.
+use super::runs::{ALL, Calls, Left, leaves};
 use std::alloc::Global;
 use std::process::Abort;
 
-/// One example.
-const EXAMPLE: &[u8] =
-    b"(set-logic BV)\n(synth-fun f ((x (_ BitVec 8))) (_ BitVec 8)\n  ((S (_ BitVec 8)))\n  ((S (_ BitVec 8) (x (bvadd x #x01)))))\n(constraint (= (f #x05) #x06))\n(check-synth)\n";
-
-/// The greater of two.
-const GREATER: &[u8] =
-    b"(set-logic LIA)\n(synth-fun f ((x Int) (y Int)) Int\n  ((S Int) (C Bool))\n  ((S Int (x y (ite C S S)))\n   (C Bool ((<= x y)))))\n(declare-var x Int)\n(declare-var y Int)\n(constraint (>= (f x y) x))\n(constraint (>= (f x y) y))\n(constraint (or (= (f x y) x) (= (f x y) y)))\n(check-synth)\n";
-
-/// The reply to it.
-const REPLY: &[u8] = b"(\n(define-fun f ((x (_ BitVec 8))) (_ BitVec 8) (bvadd x #x01))\n)\n";
-
-/// The reply to the greater of two.
-const GREATER_REPLY: &[u8] = b"(\n(define-fun f ((x Int) (y Int)) Int (ite (<= x y) y x))\n)\n";
-
-/// Words, a file, and the reply to it: one over bit vectors, and one over integers.
-const ANSWERED: [(&str, &[u8], &[u8]); 2] = [
-    ("sygus f.sl", EXAMPLE, REPLY),
-    ("sygus --size 3 f.sl", GREATER, GREATER_REPLY),
-];
-
-/// Runs where a write that fails has the last word, whatever the status would have been; in the last one a read fails. Behind
-/// the file stand the calls of the source and of both sinks.
-const FAILING: &str = "sygus f.sl^0^(
+/// Runs where a write that fails has the last word, whatever the status would have been; in the last one a read fails. Then
+/// files that are cut off anywhere, and runs of which each read or each write fails: one file over bit vectors, one over
+/// integers, and a line of mode `drill`.
+pub(crate) const BROKEN: &str = "sygus f.sl^0^(
 (define-fun f ((x (_ BitVec 8))) (_ BitVec 8) (bvadd x #x01))
 )
 ^^(set-logic BV)
@@ -103,130 +84,157 @@ const FAILING: &str = "sygus f.sl^0^(
 (declare-var x Int)
 (constraint (= (f x) x))
 (check-synth)
-^third^all^all";
+^third^all^all~sygus f.sl^2^^ cause 1 Text Unclosed
+^(set-logic BV)
+(synth-fun f ((x (_ BitVec 8))) (_ BitVec 8)
+  ((S (_ BitVec 8)))
+  ((S (_ BitVec 8) (x (bvadd x #x01)))))
+(constraint (= (f #x05) #x06))
+(check-synth)
+^cut~sygus f.sl^2^^ cause 1 Text Unclosed
+^(set-logic LIA)
+(synth-fun f ((x Int) (y Int)) Int
+  ((S Int) (C Bool))
+  ((S Int (x y (ite C S S)))
+   (C Bool ((<= x y)))))
+(declare-var x Int)
+(declare-var y Int)
+(constraint (>= (f x y) x))
+(constraint (>= (f x y) y))
+(constraint (or (= (f x y) x) (= (f x y) y)))
+(check-synth)
+^cut~sygus f.sl^0^(
+(define-fun f ((x (_ BitVec 8))) (_ BitVec 8) (bvadd x #x01))
+)
+^^(set-logic BV)
+(synth-fun f ((x (_ BitVec 8))) (_ BitVec 8)
+  ((S (_ BitVec 8)))
+  ((S (_ BitVec 8) (x (bvadd x #x01)))))
+(constraint (= (f #x05) #x06))
+(check-synth)
+^reads~sygus --size 3 f.sl^0^(
+(define-fun f ((x Int) (y Int)) Int (ite (<= x y) y x))
+)
+^^(set-logic LIA)
+(synth-fun f ((x Int) (y Int)) Int
+  ((S Int) (C Bool))
+  ((S Int (x y (ite C S S)))
+   (C Bool ((<= x y)))))
+(declare-var x Int)
+(declare-var y Int)
+(constraint (>= (f x y) x))
+(constraint (>= (f x y) y))
+(constraint (or (= (f x y) x) (= (f x y) y)))
+(check-synth)
+^reads~sygus f.sl^0^(
+(define-fun f ((x (_ BitVec 8))) (_ BitVec 8) (bvadd x #x01))
+)
+^^(set-logic BV)
+(synth-fun f ((x (_ BitVec 8))) (_ BitVec 8)
+  ((S (_ BitVec 8)))
+  ((S (_ BitVec 8) (x (bvadd x #x01)))))
+(constraint (= (f #x05) #x06))
+(check-synth)
+^writes~sygus --size 3 f.sl^0^(
+(define-fun f ((x Int) (y Int)) Int (ite (<= x y) y x))
+)
+^^(set-logic LIA)
+(synth-fun f ((x Int) (y Int)) Int
+  ((S Int) (C Bool))
+  ((S Int (x y (ite C S S)))
+   (C Bool ((<= x y)))))
+(declare-var x Int)
+(declare-var y Int)
+(constraint (>= (f x y) x))
+(constraint (>= (f x y) y))
+(constraint (or (= (f x y) x) (= (f x y) y)))
+(check-synth)
+^writes~sygus --mode drill --size 1 128^1^drill 128: fail Size
+^^^writes";
 
-/// Whether the file is refused as cut off inside a list or a symbol, or has no more than whole commands without a
-/// `check-synth`.
-fn is_cut<R: Abort>(rt: &R, alloc: Global, file: &[u8]) -> bool {
-    let failing = Failing {
-        source: Calls {
-            failing: &[],
-            piece: 64,
-        },
-        ..SURE
-    };
-    let leaving = run_of(rt, alloc, "sygus f.sl", file, &failing);
-    let line = leaving.err.written();
-    let refused = leaving.status == 2 && line.ends_with(b" cause 1 Text Unclosed\n");
-    let silent = leaving.status == 0 && line.is_empty();
-    leaving.out.written().is_empty() && (refused || silent)
+/// The source gives its bytes in pieces of 64, and its call of this number fails.
+fn source_fails(failing: u64) -> [Calls; 3] {
+    let source = Calls { failing, piece: 64 };
+    [source, ALL, ALL]
 }
 
-#[test]
-fn files_cut_anywhere(rt: HostRuntime) {
-    let alloc = rt.alloc();
-    for file in [EXAMPLE, GREATER] {
-        for end in 0..file.len().saturating_sub(1) {
-            assert!(rt; is_cut(&rt, alloc, &file[..end]));
+/// Whether each beginning of the file leaves this, or nothing where it has no more than whole commands without a
+/// `check-synth`.
+pub(crate) fn leaves_cut<R: Abort>(
+    rt: &R,
+    alloc: Global,
+    line: &str,
+    file: &[u8],
+    left: &Left,
+) -> bool {
+    let nothing = Left {
+        status: 0,
+        out: b"",
+        err: b"",
+    };
+    let calls = source_fails(0);
+    for end in 0..file.len().saturating_sub(1) {
+        let begin = &file[..end];
+        if !leaves(rt, alloc, line, begin, &calls, left)
+            && !leaves(rt, alloc, line, begin, &calls, &nothing)
+        {
+            return false;
         }
     }
+    true
 }
 
-/// Each call moves one byte.
-const SLOW: Calls = Calls {
-    failing: &[],
-    piece: 1,
-};
-
-/// Each call moves one byte, and the first fails.
-const NONE: Calls = Calls {
-    failing: &[1],
-    piece: 1,
-};
-
-/// Each call moves three bytes, and the second fails.
-const SECOND: Calls = Calls {
-    failing: &[2],
-    piece: 3,
-};
-
-/// The third call fails, which of a source is the second read.
-const THIRD: Calls = Calls {
-    failing: &[3],
-    piece: 4096,
-};
-
-/// The calls of this name.
-fn calls_of(name: &str) -> Calls<'static> {
-    match name {
-        "slow" => SLOW,
-        "none" => NONE,
-        "second" => SECOND,
-        "third" => THIRD,
-        _ => ALL,
-    }
-}
-
-#[test]
-fn slow_and_failing_calls(rt: HostRuntime) {
-    for row in FAILING.split('~') {
-        let parts = parts_of(row);
-        let failing = Failing {
-            source: calls_of(parts[5]),
-            out: calls_of(parts[6]),
-            err: calls_of(parts[7]),
-        };
-        assert!(rt; row_leaves(&rt, rt.alloc(), &parts, parts[4], &failing));
-    }
-}
-
-/// The source is begun, its bytes come in pieces of 64, and one read more sees the end.
-#[test]
-fn reads_that_fail(rt: HostRuntime) {
+/// Whether a run ends with a fault whichever read fails, and leaves this where none does. The source is begun, its bytes are
+/// read, and one read more sees the end.
+pub(crate) fn leaves_unread<R: Abort>(
+    rt: &R,
+    alloc: Global,
+    line: &str,
+    file: &[u8],
+    left: &Left,
+) -> bool {
     let failed = Left {
         status: 4,
         out: b"",
         err: b"fault: read\n",
     };
-    for (line, file, reply) in ANSWERED {
-        let answered = Left {
-            status: 0,
-            out: reply,
-            err: b"",
-        };
-        let calls = file.len() as u64 / 64 + 3;
-        for number in 1..=calls + 1 {
-            let failing = Failing {
-                source: Calls {
-                    failing: &[number],
-                    piece: 64,
-                },
-                ..SURE
-            };
-            let left = if number <= calls { failed } else { answered };
-            assert!(rt; leaves(&rt, rt.alloc(), line, file, &failing, &left));
+    let reads = file.len() as u64 / 64 + 3;
+    for number in 1..=reads {
+        let calls = source_fails(number);
+        if !leaves(rt, alloc, line, file, &calls, &failed) {
+            return false;
         }
     }
+    let calls = source_fails(reads + 1);
+    leaves(rt, alloc, line, file, &calls, left)
 }
 
-/// Each write takes one byte.
-#[test]
-fn writes_that_fail(rt: HostRuntime) {
-    for (line, file, reply) in ANSWERED {
-        for count in 0..=reply.len() {
-            let failing = Failing {
-                out: Calls {
-                    failing: &[(count as u64).saturating_add(1)],
-                    piece: 1,
-                },
-                ..SURE
-            };
-            let left = Left {
-                status: if count < reply.len() { 5 } else { 0 },
-                out: &reply[..count],
-                err: b"",
-            };
-            assert!(rt; leaves(&rt, rt.alloc(), line, file, &failing, &left));
+/// Whether a run leaves the bytes before it whichever write fails, and this where none does. Each write takes one byte.
+pub(crate) fn leaves_unwritten<R: Abort>(
+    rt: &R,
+    alloc: Global,
+    line: &str,
+    file: &[u8],
+    left: &Left,
+) -> bool {
+    for count in 0..=left.out.len() {
+        let is_whole = count == left.out.len();
+        let calls = [
+            ALL,
+            Calls {
+                failing: (count as u64).saturating_add(1),
+                piece: 1,
+            },
+            ALL,
+        ];
+        let left = Left {
+            status: if is_whole { left.status } else { 5 },
+            out: &left.out[..count],
+            err: left.err,
+        };
+        if !leaves(rt, alloc, line, file, &calls, &left) {
+            return false;
         }
     }
+    true
 }

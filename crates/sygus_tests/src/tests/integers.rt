@@ -1,10 +1,9 @@
 // Problems over integers, and their answers.
-use super::runs::all_leave;
 
 /// Problems and their answers, two of which would be others where sums wrapped at 128 bits, and two of which are evaluated as
 /// definitions; then conditional trees, which are in bound by the sizes of their parts, but in mode `least` by their own; then
 /// budgets that are named.
-const INTEGERS: &str = "sygus f.sl^0^(
+pub(crate) const INTEGERS: &str = "sygus f.sl^0^(
 (define-fun f ((x Int)) Int (+ x 1))
 )
 ^^(set-logic LIA)
@@ -315,8 +314,3 @@ infeasible
 (constraint (or (= (f x y) x) (= (f x y) y)))
 (check-synth)
 ";
-
-#[test]
-fn answers_over_integers(rt: HostRuntime) {
-    assert!(rt; all_leave(&rt, rt.alloc(), INTEGERS));
-}

@@ -1,8 +1,8 @@
 // Files and words that are refused.
-use super::runs::all_leave;
 
 /// Files with a fault, then words that are no command line, and a name that holds no file.
-const REFUSALS: &str = "sygus f.sl^2^^refused: command 2 line 2 column 40 cause 1 Text LiteralRange
+pub(crate) const REFUSALS: &str =
+    "sygus f.sl^2^^refused: command 2 line 2 column 40 cause 1 Text LiteralRange
 ^(set-logic LIA)
 (synth-fun f () Int ((S Int)) ((S Int (170141183460469231731687303715884105728))))~sygus f.sl^2^^refused: command 5 line 5 column 16 cause 11 Nonlinear
 ^(set-logic LIA)
@@ -73,8 +73,3 @@ const REFUSALS: &str = "sygus f.sl^2^^refused: command 2 line 2 column 40 cause 
 (constraint (= (f #x05) #x06))
 (check-synth)
 ";
-
-#[test]
-fn faulty_files_and_words(rt: HostRuntime) {
-    assert!(rt; all_leave(&rt, rt.alloc(), REFUSALS));
-}

@@ -1,8 +1,7 @@
 // Problems over bit vectors: their answers, and those whose search meets a budget.
-use super::runs::all_leave;
 
 /// Problems and their answers, then budgets that are named; last a product in the other order, which takes no clause.
-const VECTORS: &str = "sygus f.sl^0^^^~sygus f.sl^0^infeasible
+pub(crate) const VECTORS: &str = "sygus f.sl^0^^^~sygus f.sl^0^infeasible
 ^^(set-logic BV)
 (synth-fun f ((x (_ BitVec 8))) (_ BitVec 8)
   ((S (_ BitVec 8)))
@@ -215,8 +214,3 @@ infeasible
 (constraint (= (f x y) (bvmul y x)))
 (check-synth)
 ";
-
-#[test]
-fn answers_over_vectors(rt: HostRuntime) {
-    assert!(rt; all_leave(&rt, rt.alloc(), VECTORS));
-}
