@@ -44,17 +44,6 @@ impl Model for Circuit {
     ghost invariant = { λ c. AllHaveSignals c.variables × (total_width c.variables ≤ c.clauses.vars) };
 }
 
-/// The same sorts, in memory of their own.
-fn copied(alloc: Global, sorts: &[Sort]) -> Result<Seq<Sort>, Want>
-    ensures { IfOk result (λ r. r ≡ sorts.now) }
-{
-    let mut copy = Seq::new(alloc);
-    for sort in sorts {
-        copy.push(*sort)?;
-    }
-    Ok(copy)
-}
-
 /// The circuit of a query's body, and its signal there.
 #[derive(Drop)]
 struct Body {
@@ -90,7 +79,7 @@ pub fn blast(alloc: Global, query: &Query<BvTheory>) -> Result<Circuit, Want>
     } = body_circuit(alloc, query)?;
     let output = circuit.literal(signal.bit())?;
     let clauses = circuit.cnf(alloc, output)?;
-    let variables = copied(alloc, query.vars.as_slice())?;
+    let variables = Seq::from(Vec::from_slice(alloc, query.vars.as_slice())?);
     Ok(Circuit { variables, clauses })
 }
 
