@@ -1,23 +1,14 @@
 -- A file is a list of commands, each of which steps; or it has a first fault.
 use Rattle.std.specs.Prelude.{ℕ, zero, suc, ◌+◌, List, length, drop, Option, Some, None, Result, Ok, Err}
 use Rattle.sy_text.specs.Items.{Item}
-use Rattle.sy_text.specs.Reading.{command_at}
+use Rattle.sy_text.specs.Reading.{command_at, offset_of}
 use Rattle.sy_text.specs.declared.fault.TextFault.{TextFault}
-use Rattle.sy_text.specs.declared.fault.TextFault.TheVariants as faults
 use Rattle.sy_scope_causes.specs.declared.cause.Cause.TheVariants as cause
 use Rattle.sy_scope_causes.specs.declared.cause.Refused.{Refused}
 use Rattle.sy_forms_items.specs.declared.fault.Fault.{Fault}
 use Rattle.sy_forms_items.specs.Readings.{Reading}
 use Rattle.sy_scope_steps.specs.Contexts.{Context, beginning}
 use Rattle.sy_scope_steps.specs.Steps.{step}
-
--- the offset of a fault of the text
-abbrev pub offset_of : TextFault → ℕ
-offset_of (faults.BadByte at) = at
-offset_of (faults.Unclosed at) = at
-offset_of (faults.Stray at) = at
-offset_of (faults.LiteralRange at) = at
-offset_of (faults.TooDeep at) = at
 
 -- the fault of the command of this number
 abbrev pub refused_at : ℕ → Fault → Refused
