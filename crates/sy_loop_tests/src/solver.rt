@@ -1,7 +1,7 @@
 // A solver of queries over at most one truth value, which tries both.
 ghost use Rattle.std.specs.Prelude.{◌≡◌, ◌↔◌, [], IsTrue, true, IfOk, IfSome};
 ghost use Rattle.sy_terms.specs.Values.{Truth, Whole};
-ghost use Rattle.sy_terms.specs.Denoted.{val_of, vals_of, expr_of};
+ghost use Rattle.sy_terms.specs.Denoted.{vals_of, expr_of};
 ghost use Rattle.sy_terms.specs.Meaning.{meaning};
 ghost use Rattle.sy_meaning_integers.specs.Lia as lia;
 ghost use Rattle.sy_grammar_base.specs.Solving.{AreValues};
@@ -9,6 +9,7 @@ ghost use Rattle.sy_query_base.specs.Asked.{QueryFits, query_of};
 ghost use Rattle.sy_loop_tests.specs.Small.{IsSmall, values_for};
 
 use std::alloc::Global;
+use sy_loop_candidate::is_true;
 use sy_meaning::{Eval, evaluate};
 use sy_meaning_integers::IntTheory;
 use sy_query_base::Query;
@@ -116,15 +117,8 @@ fn is_true_at(
 {
     let defs: Defs<IntTheory> = Seq::new(alloc);
     match evaluate(alloc, &defs, values.as_slice(), &query.body) {
-        Ok(value) => Ok(Some(is_true(&value))),
+        Ok(value) => Ok(Some(is_true::<IntTheory>(&value))),
         Err(Eval::Range) => Ok(None),
         Err(Eval::Want) => Err(Want {}),
     }
-}
-
-/// Whether the value is true.
-fn is_true(value: &Value<i128>) -> bool
-    ensures { IsTrue result ↔ val_of Whole value.now ≡ Truth true }
-{
-    matches!(value, Value::Truth(true))
 }
