@@ -4,6 +4,7 @@ use Rattle.std.specs.Prelude.{Bool, Option, All}
 use Rattle.std.specs.Io.KnownBytes.{Appends}
 use Rattle.std.proofs.Math.Seq.{take-length}
 use Rattle.std.proofs.lemmas.List.{length-map, map-append}
+use Rattle.sy_io.proofs.Streams.{appended_more}
 use Rattle.sy_terms.specs.Values.{Val}
 use Rattle.sy_terms.specs.declared.op.Op.{Op}
 use Rattle.sy_terms.specs.declared.sort.Sort.{Sort}
@@ -14,14 +15,6 @@ use Rattle.sygus_replies.specs.Replies.{Reply}
 use Rattle.sygus_replies.specs.Answerable.{IsAnswerable}
 use Rattle.sygus_replies.specs.Texts.{answer_text, texts, answer_line, answer_lines}
 use Rattle.sygus_replies.specs.Answered.{AreRight, WritesMost, BreaksNext}
-
--- bytes appended one after the other
-pub appended_more : (before between after : Option (List ℕ)) (xs ys : List ℕ) → Appends before between xs → Appends between after ys → Appends before after (xs ++ ys)
-appended_more None between after xs ys first second = tt
-appended_more (Some bs) None after xs ys first second = absurd first
-appended_more (Some bs) (Some cs) None xs ys first second = absurd second
-appended_more (Some bs) (Some cs) (Some ds) xs ys first second =
-    second ∙ ap (λ zs. zs ++ ys) first ∙ append_assoc bs xs ys
 
 pub appended_nothing : (before : Option (List ℕ)) → Appends before before []
 appended_nothing None = tt

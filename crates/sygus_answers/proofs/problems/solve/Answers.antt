@@ -1,8 +1,9 @@
 use Rattle.std.proofs.Common.{◌≡◌, ◌<◌, ◌∷◌, [], length, get_or, arith, map, length-append}
 use Rattle.std.proofs.lemmas.List.{length-map}
+use Rattle.sy_io.proofs.Streams.{appended_more}
 use Rattle.sy_grammar_base.specs.Questions.{question_of}
 use Rattle.sygus_replies.specs.Replies.{reply_for, replies_for}
-use Rattle.sygus_replies.proofs.Steps.{appended_more, appended_nothing, texts-none, lines-none, right-none, replies-more, texts-more, right-more, lines-more, most-more, most-all, question_at, question_count, question_answerable}
+use Rattle.sygus_replies.proofs.Steps.{appended_nothing, texts-none, lines-none, right-none, replies-more, texts-more, right-more, lines-more, most-more, most-all, question_at, question_count, question_answerable}
 use Rattle.sygus_answers.specs.Answers.{RightOutcomeFor}
 use Rattle.sygus_answers.proofs.problems.solve.Goals as goal
 
