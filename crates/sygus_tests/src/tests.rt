@@ -1,13 +1,15 @@
 // Runs over sources and sinks in memory, by tables. Parts of a row stand between `^`: the words, the status, the output, the
-// error output, the file, and what is done with it, with what this takes.
+// error output, the file or `@` and a problem's name, and what is done with it, with what this takes.
 mod broken;
 mod drills;
 mod integers;
 mod large;
+mod problems;
 mod refusals;
 mod runs;
 mod vectors;
 
+use problems::file_of;
 use runs::{Left, calls_of, leaves};
 use std::alloc::Global;
 use std::process::Abort;
@@ -24,8 +26,11 @@ fn is_right<R: Abort>(rt: &R, alloc: Global, row: &str) -> bool {
     let (status, rest) = cut(rest);
     let (out, rest) = cut(rest);
     let (err, rest) = cut(rest);
-    let (text, rest) = cut(rest);
+    let (file, rest) = cut(rest);
     let (done, rest) = cut(rest);
+    let Some(text) = file_of(file) else {
+        return false;
+    };
     let file = text.as_bytes();
     let left = Left {
         status: status.parse().unwrap_or(9),
@@ -46,9 +51,9 @@ fn is_right<R: Abort>(rt: &R, alloc: Global, row: &str) -> bool {
     }
 }
 
-/// Asserts that each row is right; `~` stands between rows.
+/// Asserts that each row is right; a line ends in `~` before the next row.
 fn assert_rows<R: Abort>(rt: &R, alloc: Global, table: &str) {
-    for row in table.split('~') {
+    for row in table.split("~\n") {
         assert!(rt; is_right(rt, alloc, row), "{row}");
     }
 }

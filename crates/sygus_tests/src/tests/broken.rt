@@ -9,147 +9,52 @@ use std::process::Abort;
 pub(crate) const BROKEN: &str = "sygus f.sl^0^(
 (define-fun f ((x (_ BitVec 8))) (_ BitVec 8) (bvadd x #x01))
 )
-^^(set-logic BV)
-(synth-fun f ((x (_ BitVec 8))) (_ BitVec 8)
-  ((S (_ BitVec 8)))
-  ((S (_ BitVec 8) (x (bvadd x #x01)))))
-(constraint (= (f #x05) #x06))
-(check-synth)
-^slow^slow^slow~sygus --size 2 f.sl^1^fail
+^^@vector-next^slow^slow^slow~
+sygus --size 2 f.sl^1^fail
 ^fail: check-synth 1 Size
-^(set-logic BV)
-(synth-fun f ((x (_ BitVec 8))) (_ BitVec 8)
-  ((S (_ BitVec 8)))
-  ((S (_ BitVec 8) (x (bvadd x #x01)))))
-(constraint (= (f #x05) #x06))
-(check-synth)
-^slow^slow^slow~sygus f.sl^2^^refused: command 1 line 1 column 19 cause 1 Text Unclosed
-^(set-info :source |ab^slow^slow^slow~sygus f.sl^5^(
-(^^(set-logic BV)
-(synth-fun f ((x (_ BitVec 8))) (_ BitVec 8)
-  ((S (_ BitVec 8)))
-  ((S (_ BitVec 8) (x (bvadd x #x01)))))
-(constraint (= (f #x05) #x06))
-(check-synth)
-^all^second^all~sygus --size 2 f.sl^5^fail
-^^(set-logic BV)
-(synth-fun f ((x (_ BitVec 8))) (_ BitVec 8)
-  ((S (_ BitVec 8)))
-  ((S (_ BitVec 8) (x (bvadd x #x01)))))
-(constraint (= (f #x05) #x06))
-(check-synth)
-^all^slow^none~sygus --size 14 f.sl^5^fail
-^^(set-logic LIA)
-(synth-fun f () Int ((S Int)) ((S Int (1 (+ 1 S)))))
-(constraint (= f 8))
-(check-synth)
-^all^slow^none~sygus f.sl^0^(
+^@vector-next^slow^slow^slow~
+sygus f.sl^2^^refused: command 1 line 1 column 19 cause 1 Text Unclosed
+^(set-info :source |ab^slow^slow^slow~
+sygus f.sl^5^(
+(^^@vector-next^all^second^all~
+sygus --size 2 f.sl^5^fail
+^^@vector-next^all^slow^none~
+sygus --size 14 f.sl^5^fail
+^^@eight^all^slow^none~
+sygus f.sl^0^(
 (define-fun f ((x (_ BitVec 8))) (_ BitVec 8) (bvadd x #x01))
 )
-^^(set-logic BV)
-(synth-fun f ((x (_ BitVec 8))) (_ BitVec 8)
-  ((S (_ BitVec 8)))
-  ((S (_ BitVec 8) (x (bvadd x #x01)))))
-(constraint (= (f #x05) #x06))
-(check-synth)
-^slow^slow^none~sygus f.sl^0^infeasible
-^^(set-logic BV)
-(synth-fun f ((x (_ BitVec 8))) (_ BitVec 8)
-  ((S (_ BitVec 8)))
-  ((S (_ BitVec 8) (x (bvadd x #x01)))))
-(declare-var x (_ BitVec 8))
-(constraint (bvugt (f x) x))
-(check-synth)
-^all^all^none~sygus f.sl^5^^^(set-info :source |ab^all^all^none~sygus^5^^^(set-logic BV)
-(synth-fun f ((x (_ BitVec 8))) (_ BitVec 8)
-  ((S (_ BitVec 8)))
-  ((S (_ BitVec 8) (x (bvadd x #x01)))))
-(constraint (= (f #x05) #x06))
-(check-synth)
-^all^all^none~sygus f.sl^5^^^(set-logic BV)
-(synth-fun f ((x (_ BitVec 8))) (_ BitVec 8)
-  ((S (_ BitVec 8)))
-  ((S (_ BitVec 8) (x (bvadd x #x01)))))
-(constraint (= (f #x05) #x06))
-(check-synth)
-^none^all^none~sygus f.sl^5^(
-(^^(set-logic LIA)
-(synth-fun f ((x Int)) Int ((S Int)) ((S Int (x (+ x 1)))))
-(declare-var x Int)
-(constraint (> (f x) x))
-(check-synth)
-^all^second^all~sygus f.sl^4^^fault: read
-^(set-logic LIA)
-(synth-fun f ((x Int)) Int ((A Int) (B Int)) ((A Int (B)) (B Int (A x))))
-(declare-var x Int)
-(constraint (= (f x) x))
-(check-synth)
-^third^all^all~sygus f.sl^2^^ cause 1 Text Unclosed
-^(set-logic BV)
-(synth-fun f ((x (_ BitVec 8))) (_ BitVec 8)
-  ((S (_ BitVec 8)))
-  ((S (_ BitVec 8) (x (bvadd x #x01)))))
-(constraint (= (f #x05) #x06))
-(check-synth)
-^cut~sygus f.sl^2^^ cause 1 Text Unclosed
-^(set-logic LIA)
-(synth-fun f ((x Int) (y Int)) Int
-  ((S Int) (C Bool))
-  ((S Int (x y (ite C S S)))
-   (C Bool ((<= x y)))))
-(declare-var x Int)
-(declare-var y Int)
-(constraint (>= (f x y) x))
-(constraint (>= (f x y) y))
-(constraint (or (= (f x y) x) (= (f x y) y)))
-(check-synth)
-^cut~sygus f.sl^0^(
+^^@vector-next^slow^slow^none~
+sygus f.sl^0^infeasible
+^^@vector-above^all^all^none~
+sygus f.sl^5^^^(set-info :source |ab^all^all^none~
+sygus^5^^^@vector-next^all^all^none~
+sygus f.sl^5^^^@vector-next^none^all^none~
+sygus f.sl^5^(
+(^^@above^all^second^all~
+sygus f.sl^4^^fault: read
+^@itself^third^all^all~
+sygus f.sl^2^^ cause 1 Text Unclosed
+^@vector-next^cut~
+sygus f.sl^2^^ cause 1 Text Unclosed
+^@max^cut~
+sygus f.sl^0^(
 (define-fun f ((x (_ BitVec 8))) (_ BitVec 8) (bvadd x #x01))
 )
-^^(set-logic BV)
-(synth-fun f ((x (_ BitVec 8))) (_ BitVec 8)
-  ((S (_ BitVec 8)))
-  ((S (_ BitVec 8) (x (bvadd x #x01)))))
-(constraint (= (f #x05) #x06))
-(check-synth)
-^reads~sygus --size 3 f.sl^0^(
+^^@vector-next^reads~
+sygus --size 3 f.sl^0^(
 (define-fun f ((x Int) (y Int)) Int (ite (<= x y) y x))
 )
-^^(set-logic LIA)
-(synth-fun f ((x Int) (y Int)) Int
-  ((S Int) (C Bool))
-  ((S Int (x y (ite C S S)))
-   (C Bool ((<= x y)))))
-(declare-var x Int)
-(declare-var y Int)
-(constraint (>= (f x y) x))
-(constraint (>= (f x y) y))
-(constraint (or (= (f x y) x) (= (f x y) y)))
-(check-synth)
-^reads~sygus f.sl^0^(
+^^@max^reads~
+sygus f.sl^0^(
 (define-fun f ((x (_ BitVec 8))) (_ BitVec 8) (bvadd x #x01))
 )
-^^(set-logic BV)
-(synth-fun f ((x (_ BitVec 8))) (_ BitVec 8)
-  ((S (_ BitVec 8)))
-  ((S (_ BitVec 8) (x (bvadd x #x01)))))
-(constraint (= (f #x05) #x06))
-(check-synth)
-^writes~sygus --size 3 f.sl^0^(
+^^@vector-next^writes~
+sygus --size 3 f.sl^0^(
 (define-fun f ((x Int) (y Int)) Int (ite (<= x y) y x))
 )
-^^(set-logic LIA)
-(synth-fun f ((x Int) (y Int)) Int
-  ((S Int) (C Bool))
-  ((S Int (x y (ite C S S)))
-   (C Bool ((<= x y)))))
-(declare-var x Int)
-(declare-var y Int)
-(constraint (>= (f x y) x))
-(constraint (>= (f x y) y))
-(constraint (or (= (f x y) x) (= (f x y) y)))
-(check-synth)
-^writes~sygus --mode drill --size 1 128^1^drill 128: fail Size
+^^@max^writes~
+sygus --mode drill --size 1 128^1^drill 128: fail Size
 ^^^writes";
 
 /// The source gives its bytes in pieces of 64, and its call of this number fails.

@@ -8,17 +8,23 @@ use sygus_drill::drill_file;
 /// beginning and, as the last part, the number are told.
 pub(crate) const DRILLS: &str = "sygus --mode drill 128^0^drill 128: 1000 examples, 1000 met
 ^^(check-synth)
-~sygus --mode=drill 0^0^drill 0: 1000 examples, 1000 met
+~
+sygus --mode=drill 0^0^drill 0: 1000 examples, 1000 met
 ^^(check-synth)
-~sygus 999999999 --mode drill^0^drill 999999999: 1000 examples, 1000 met
+~
+sygus 999999999 --mode drill^0^drill 999999999: 1000 examples, 1000 met
 ^^(check-synth)
-~sygus --mode drill --size 1 128^1^drill 128: fail Size
+~
+sygus --mode drill --size 1 128^1^drill 128: fail Size
 ^^(check-synth)
-~sygus --mode drill 007^3^^refused: words
+~
+sygus --mode drill 007^3^^refused: words
 ^(check-synth)
-~sygus --mode drill f.sl^3^^refused: words
+~
+sygus --mode drill f.sl^3^^refused: words
 ^(check-synth)
-~sygus f.sl^0^(
+~
+sygus f.sl^0^(
 (define-fun f ((x (_ BitVec 8))) (_ BitVec 8) (bvadd x #x01))
 )
 ^^(set-logic BV)
@@ -27,7 +33,8 @@ pub(crate) const DRILLS: &str = "sygus --mode drill 128^0^drill 128: 1000 exampl
   ((S (_ BitVec 8) (x (bvnot x) (bvadd x #x01) (ite C S S)))
    (C Bool ((bvult x #x00)))))
 (constraint (= (f #x14) #x15))
-^drill^0~sygus f.sl^0^(
+^drill^0~
+sygus f.sl^0^(
 (define-fun f ((x (_ BitVec 8))) (_ BitVec 8) (ite (bvult x #x80) (bvnot x) (bvadd x #x01)))
 )
 ^^(set-logic BV)

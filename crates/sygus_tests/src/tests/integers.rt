@@ -6,25 +6,15 @@
 pub(crate) const INTEGERS: &str = "sygus f.sl^0^(
 (define-fun f ((x Int)) Int (+ x 1))
 )
-^^(set-logic LIA)
-(synth-fun f ((x Int)) Int ((S Int)) ((S Int (x (+ x 1)))))
-(declare-var x Int)
-(constraint (> (f x) x))
-(check-synth)
-~sygus --size 15 f.sl^0^(
+^^@above~
+sygus --size 15 f.sl^0^(
 (define-fun f () Int (+ 1 (+ 1 (+ 1 (+ 1 (+ 1 (+ 1 (+ 1 1))))))))
 )
-^^(set-logic LIA)
-(synth-fun f () Int ((S Int)) ((S Int (1 (+ 1 S)))))
-(constraint (= f 8))
-(check-synth)
-~sygus --size 14 f.sl^1^fail
+^^@eight~
+sygus --size 14 f.sl^1^fail
 ^fail: check-synth 1 Size
-^(set-logic LIA)
-(synth-fun f () Int ((S Int)) ((S Int (1 (+ 1 S)))))
-(constraint (= f 8))
-(check-synth)
-~sygus f.sl^0^(
+^@eight~
+sygus f.sl^0^(
 (define-fun inv ((x Int)) Bool (<= x 10))
 )
 ^^(set-logic LIA)
@@ -34,7 +24,8 @@ pub(crate) const INTEGERS: &str = "sygus f.sl^0^(
 (define-fun post ((x Int)) Bool (<= x 10))
 (inv-constraint inv pre trans post)
 (check-synth)
-~sygus f.sl^0^(
+~
+sygus f.sl^0^(
 (define-fun f ((x Int)) Int 1)
 )
 ^^(set-logic LIA)
@@ -43,28 +34,22 @@ pub(crate) const INTEGERS: &str = "sygus f.sl^0^(
 (assume (>= x 5))
 (constraint (= (f x) (ite (< x 5) 0 1)))
 (check-synth)
-~sygus f.sl^0^infeasible
-^^(set-logic LIA)
-(synth-fun f ((x Int)) Int ((S Int)) ((S Int (0 1))))
-(declare-var x Int)
-(constraint (= (f x) (ite (< x 5) 0 1)))
-(check-synth)
-~sygus f.sl^0^(
+~
+sygus f.sl^0^infeasible
+^^@five~
+sygus f.sl^0^(
 (define-fun f () Int 1)
 (define-fun g () Int 1)
 )
-^^(set-logic LIA)
-(synth-fun f () Int ((S Int)) ((S Int (0 1))))
-(synth-fun g () Int ((S Int)) ((S Int (0 1))))
-(constraint (= (+ (f) g) 2))
-(check-synth)
-~sygus f.sl^1^fail
+^^@two~
+sygus f.sl^1^fail
 ^fail: check-synth 1 Range
 ^(set-logic LIA)
 (synth-fun f () Int ((S Int)) ((S Int (170141183460469231731687303715884105727 (+ S S)))))
 (constraint (= f 1))
 (check-synth)
-~sygus f.sl^0^(
+~
+sygus f.sl^0^(
 (define-fun f ((x Int)) Int x)
 )
 ^^(set-logic LIA)
@@ -72,22 +57,20 @@ pub(crate) const INTEGERS: &str = "sygus f.sl^0^(
 (declare-var x Int)
 (constraint (< (f x) (+ x 170141183460469231731687303715884105727)))
 (check-synth)
-~sygus f.sl^1^fail
+~
+sygus f.sl^1^fail
 ^fail: check-synth 1 Range
 ^(set-logic LIA)
 (synth-fun f ((x Int)) Int ((S Int)) ((S Int (x))))
 (declare-var x Int)
 (constraint (=> (> x 0) (< (+ (f x) 170141183460469231731687303715884105727) 0)))
 (check-synth)
-~sygus f.sl^0^(
+~
+sygus f.sl^0^(
 (define-fun f ((x Int)) Int x)
 )
-^^(set-logic LIA)
-(synth-fun f ((x Int)) Int ((A Int) (B Int)) ((A Int (B)) (B Int (A x))))
-(declare-var x Int)
-(constraint (= (f x) x))
-(check-synth)
-~sygus f.sl^0^(
+^^@itself~
+sygus f.sl^0^(
 (define-fun f () Int 1)
 )
 infeasible
@@ -97,12 +80,14 @@ infeasible
 (check-synth)
 (constraint (= f 0))
 (check-synth)
-~sygus f.sl^0^(
+~
+sygus f.sl^0^(
 )
 ^^(set-logic LIA)
 (constraint true)
 (check-synth)
-~sygus f.sl^0^(
+~
+sygus f.sl^0^(
 (define-fun f ((x Int)) Int x)
 )
 ^^(set-logic LIA)
@@ -110,21 +95,12 @@ infeasible
 (declare-var x Int)
 (constraint (= (f x) x))
 (check-synth)
-~sygus f.sl^0^(
+~
+sygus f.sl^0^(
 (define-fun f ((x Int) (y Int)) Int (ite (<= x y) y x))
 )
-^^(set-logic LIA)
-(synth-fun f ((x Int) (y Int)) Int
-  ((S Int) (C Bool))
-  ((S Int (x y (ite C S S)))
-   (C Bool ((<= x y)))))
-(declare-var x Int)
-(declare-var y Int)
-(constraint (>= (f x y) x))
-(constraint (>= (f x y) y))
-(constraint (or (= (f x y) x) (= (f x y) y)))
-(check-synth)
-~sygus f.sl^0^(
+^^@max~
+sygus f.sl^0^(
 (define-fun f ((x Int)) Bool false)
 )
 ^^(set-logic LIA)
@@ -134,7 +110,8 @@ infeasible
 (constraint (=> (= (+ x x) (+ y y 1)) (f x)))
 (constraint (not (f x)))
 (check-synth)
-~sygus f.sl^0^(
+~
+sygus f.sl^0^(
 (define-fun max2 ((x Int) (y Int)) Int (ite (<= x y) y x))
 )
 ^^(set-logic LIA)
@@ -148,7 +125,8 @@ infeasible
 (constraint (>= (max2 x y) y))
 (constraint (or (= (max2 x y) x) (= (max2 x y) y)))
 (check-synth)
-~sygus f.sl^0^(
+~
+sygus f.sl^0^(
 )
 ^^(set-logic LIA)
 (define-fun max2 ((x Int) (y Int)) Int (ite (<= x y) y x))
@@ -162,99 +140,41 @@ infeasible
 (constraint (= (max2 1 0) 1))
 (constraint (= (max2 1 1) 1))
 (check-synth)
-~sygus --size 47 f.sl^0^(
+~
+sygus --size 47 f.sl^0^(
 (define-fun f ((x Int) (y Int)) Int (+ x (+ x (+ x (+ x (+ x (+ x (+ x (+ x (+ x (+ x (+ x (+ x (+ y (+ y (+ y (+ y (+ y (+ y (+ y (+ y (+ y (+ y (+ y y))))))))))))))))))))))))
 )
-^^(set-logic LIA)
-(synth-fun f ((x Int) (y Int)) Int ((S Int)) ((S Int (x y (+ S S)))))
-(declare-var x Int)
-(declare-var y Int)
-(constraint (= (f x y) (+ (* 12 x) (* 12 y))))
-(check-synth)
-~sygus f.sl^0^(
+^^@twelve~
+sygus f.sl^0^(
 )
 ^^(set-logic LIA)
 (define-fun f ((x Int) (y Int)) Int (+ x (+ x (+ x (+ x (+ x (+ x (+ x (+ x (+ x (+ x (+ x (+ x (+ y (+ y (+ y (+ y (+ y (+ y (+ y (+ y (+ y (+ y (+ y y))))))))))))))))))))))))
 (constraint (= (f 1 0) 12))
 (constraint (= (f 0 1) 12))
 (check-synth)
-~sygus --size 46 f.sl^1^fail
+~
+sygus --size 46 f.sl^1^fail
 ^fail: check-synth 1 Size
-^(set-logic LIA)
-(synth-fun f ((x Int) (y Int)) Int ((S Int)) ((S Int (x y (+ S S)))))
-(declare-var x Int)
-(declare-var y Int)
-(constraint (= (f x y) (+ (* 12 x) (* 12 y))))
-(check-synth)
-~sygus --size 3 f.sl^0^(
+^@twelve~
+sygus --size 3 f.sl^0^(
 (define-fun f ((x Int) (y Int)) Int (ite (<= x y) y x))
 )
-^^(set-logic LIA)
-(synth-fun f ((x Int) (y Int)) Int
-  ((S Int) (C Bool))
-  ((S Int (x y (ite C S S)))
-   (C Bool ((<= x y)))))
-(declare-var x Int)
-(declare-var y Int)
-(constraint (>= (f x y) x))
-(constraint (>= (f x y) y))
-(constraint (or (= (f x y) x) (= (f x y) y)))
-(check-synth)
-~sygus --size 5 f.sl^0^(
+^^@max~
+sygus --size 5 f.sl^0^(
 (define-fun f ((x Int) (y Int)) Int (ite (<= x y) y x))
 )
-^^(set-logic LIA)
-(synth-fun f ((x Int) (y Int)) Int
-  ((S Int) (C Bool))
-  ((S Int (x y (ite C S S)))
-   (C Bool ((<= x y)))))
-(declare-var x Int)
-(declare-var y Int)
-(constraint (>= (f x y) x))
-(constraint (>= (f x y) y))
-(constraint (or (= (f x y) x) (= (f x y) y)))
-(check-synth)
-~sygus --size 2 f.sl^1^fail
+^^@max~
+sygus --size 2 f.sl^1^fail
 ^fail: check-synth 1 Size
-^(set-logic LIA)
-(synth-fun f ((x Int) (y Int)) Int
-  ((S Int) (C Bool))
-  ((S Int (x y (ite C S S)))
-   (C Bool ((<= x y)))))
-(declare-var x Int)
-(declare-var y Int)
-(constraint (>= (f x y) x))
-(constraint (>= (f x y) y))
-(constraint (or (= (f x y) x) (= (f x y) y)))
-(check-synth)
-~sygus --mode least f.sl^0^(
+^@max~
+sygus --mode least f.sl^0^(
 (define-fun f ((x Int) (y Int)) Int (ite (<= x y) y x))
 )
-^^(set-logic LIA)
-(synth-fun f ((x Int) (y Int)) Int
-  ((S Int) (C Bool))
-  ((S Int (x y (ite C S S)))
-   (C Bool ((<= x y)))))
-(declare-var x Int)
-(declare-var y Int)
-(constraint (>= (f x y) x))
-(constraint (>= (f x y) y))
-(constraint (or (= (f x y) x) (= (f x y) y)))
-(check-synth)
-~sygus --mode least --size 5 f.sl^1^fail
+^^@max~
+sygus --mode least --size 5 f.sl^1^fail
 ^fail: check-synth 1 Size
-^(set-logic LIA)
-(synth-fun f ((x Int) (y Int)) Int
-  ((S Int) (C Bool))
-  ((S Int (x y (ite C S S)))
-   (C Bool ((<= x y)))))
-(declare-var x Int)
-(declare-var y Int)
-(constraint (>= (f x y) x))
-(constraint (>= (f x y) y))
-(constraint (or (= (f x y) x) (= (f x y) y)))
-(check-synth)
-~sygus --mode least f.sl^0^(
+^@max~
+sygus --mode least f.sl^0^(
 (define-fun f ((x Int)) Int (+ x x))
 )
 ^^(set-logic LIA)
@@ -265,52 +185,23 @@ infeasible
 (declare-var x Int)
 (constraint (= (f x) (+ x x)))
 (check-synth)
-~sygus --mode least f.sl^0^(
+~
+sygus --mode least f.sl^0^(
 (define-fun f () Int 1)
 (define-fun g () Int 1)
 )
-^^(set-logic LIA)
-(synth-fun f () Int ((S Int)) ((S Int (0 1))))
-(synth-fun g () Int ((S Int)) ((S Int (0 1))))
-(constraint (= (+ (f) g) 2))
-(check-synth)
-~sygus --mode least f.sl^0^infeasible
-^^(set-logic LIA)
-(synth-fun f ((x Int)) Int ((S Int)) ((S Int (0 1))))
-(declare-var x Int)
-(constraint (= (f x) (ite (< x 5) 0 1)))
-(check-synth)
-~sygus --rounds 1 f.sl^1^fail
+^^@two~
+sygus --mode least f.sl^0^infeasible
+^^@five~
+sygus --rounds 1 f.sl^1^fail
 ^fail: check-synth 1 Rounds
-^(set-logic LIA)
-(synth-fun f ((x Int)) Int ((S Int)) ((S Int (x (+ x 1)))))
-(declare-var x Int)
-(constraint (> (f x) x))
-(check-synth)
-~sygus --size 15 --bank 1 f.sl^1^fail
+^@above~
+sygus --size 15 --bank 1 f.sl^1^fail
 ^fail: check-synth 1 Bank
-^(set-logic LIA)
-(synth-fun f () Int ((S Int)) ((S Int (1 (+ 1 S)))))
-(constraint (= f 8))
-(check-synth)
-~sygus --weight 1 f.sl^1^fail
+^@eight~
+sygus --weight 1 f.sl^1^fail
 ^fail: check-synth 1 Weight
-^(set-logic LIA)
-(synth-fun f ((x Int)) Int ((S Int)) ((S Int (x (+ x 1)))))
-(declare-var x Int)
-(constraint (> (f x) x))
-(check-synth)
-~sygus --nodes 1 f.sl^1^fail
+^@above~
+sygus --nodes 1 f.sl^1^fail
 ^fail: check-synth 1 Nodes
-^(set-logic LIA)
-(synth-fun f ((x Int) (y Int)) Int
-  ((S Int) (C Bool))
-  ((S Int (x y (ite C S S)))
-   (C Bool ((<= x y)))))
-(declare-var x Int)
-(declare-var y Int)
-(constraint (>= (f x y) x))
-(constraint (>= (f x y) y))
-(constraint (or (= (f x y) x) (= (f x y) y)))
-(check-synth)
-";
+^@max";

@@ -1,15 +1,10 @@
 // Problems over bit vectors: their answers, and those whose search meets a budget.
 
 /// Problems and their answers, then budgets that are named; last a product in the other order, which takes no clause.
-pub(crate) const VECTORS: &str = "sygus f.sl^0^^^~sygus f.sl^0^infeasible
-^^(set-logic BV)
-(synth-fun f ((x (_ BitVec 8))) (_ BitVec 8)
-  ((S (_ BitVec 8)))
-  ((S (_ BitVec 8) (x (bvadd x #x01)))))
-(declare-var x (_ BitVec 8))
-(constraint (bvugt (f x) x))
-(check-synth)
-~sygus f.sl^0^(
+pub(crate) const VECTORS: &str = "sygus f.sl^0^^^~
+sygus f.sl^0^infeasible
+^^@vector-above~
+sygus f.sl^0^(
 (define-fun f ((x (_ BitVec 8))) (_ BitVec 8) #xff)
 )
 ^^(set-logic BV)
@@ -19,7 +14,8 @@ pub(crate) const VECTORS: &str = "sygus f.sl^0^^^~sygus f.sl^0^infeasible
 (declare-var x (_ BitVec 8))
 (constraint (= (f x) (bvudiv x #x00)))
 (check-synth)
-~sygus f.sl^0^(
+~
+sygus f.sl^0^(
 (define-fun f ((x (_ BitVec 8))) (_ BitVec 8) (bvmul x x))
 )
 ^^(set-logic BV)
@@ -29,43 +25,28 @@ pub(crate) const VECTORS: &str = "sygus f.sl^0^^^~sygus f.sl^0^infeasible
 (declare-var x (_ BitVec 8))
 (constraint (= (f x) (bvmul x x)))
 (check-synth)
-~sygus f.sl^0^(
+~
+sygus f.sl^0^(
 (define-fun f ((x (_ BitVec 8))) (_ BitVec 8) (bvnot x))
 )
-^^(set-logic BV)
-(synth-fun f ((x (_ BitVec 8))) (_ BitVec 8)
-  ((S (_ BitVec 8)))
-  ((S (_ BitVec 8) (x (bvneg x) (bvnot x)))))
-(declare-var x (_ BitVec 8))
-(constraint (= (f (f x)) x))
-(constraint (distinct (f x) x))
-(check-synth)
-~sygus f.sl^0^(
+^^@vector-own-inverse~
+sygus f.sl^0^(
 (define-fun f ((x (_ BitVec 8))) (_ BitVec 8) (bvadd x #x01))
 )
-^^(set-logic BV)
-(synth-fun f ((x (_ BitVec 8))) (_ BitVec 8)
-  ((S (_ BitVec 8)))
-  ((S (_ BitVec 8) (x (bvadd x #x01)))))
-(constraint (= (f #x05) #x06))
-(check-synth)
-~sygus --size 3 -- f.sl^0^(
+^^@vector-next~
+sygus --size 3 -- f.sl^0^(
 (define-fun f ((x (_ BitVec 8))) (_ BitVec 8) (bvadd x #x01))
 )
-^^(set-logic BV)
-(synth-fun f ((x (_ BitVec 8))) (_ BitVec 8)
-  ((S (_ BitVec 8)))
-  ((S (_ BitVec 8) (x (bvadd x #x01)))))
-(constraint (= (f #x05) #x06))
-(check-synth)
-~sygus f.sl^0^infeasible
+^^@vector-next~
+sygus f.sl^0^infeasible
 ^^(set-logic BV)
 (synth-fun f ((x (_ BitVec 8))) (_ BitVec 8)
   ((S (_ BitVec 8)))
   ((S (_ BitVec 8) (x (bvadd x #x01)))))
 (constraint (= (f #x05) #x07))
 (check-synth)
-~sygus f.sl^0^(
+~
+sygus f.sl^0^(
 (define-fun |a b| ((x (_ BitVec 5))) (_ BitVec 5) #b00111)
 )
 ^^(set-logic BV)
@@ -75,7 +56,8 @@ pub(crate) const VECTORS: &str = "sygus f.sl^0^^^~sygus f.sl^0^infeasible
 (declare-var x (_ BitVec 5))
 (constraint (= (|a b| x) #b00111))
 (check-synth)
-~sygus f.sl^0^(
+~
+sygus f.sl^0^(
 (define-fun inv ((x (_ BitVec 8))) Bool (bvule x #x0a))
 )
 ^^(set-logic BV)
@@ -85,7 +67,8 @@ pub(crate) const VECTORS: &str = "sygus f.sl^0^^^~sygus f.sl^0^infeasible
 (define-fun post ((x (_ BitVec 8))) Bool (bvule x #x0a))
 (inv-constraint inv pre trans post)
 (check-synth)
-~sygus f.sl^0^(
+~
+sygus f.sl^0^(
 (define-fun f ((x (_ BitVec 8))) (_ BitVec 8) #x01)
 )
 ^^(set-logic BV)
@@ -96,7 +79,8 @@ pub(crate) const VECTORS: &str = "sygus f.sl^0^^^~sygus f.sl^0^infeasible
 (assume (bvuge x #x05))
 (constraint (= (f x) (ite (bvult x #x05) #x00 #x01)))
 (check-synth)
-~sygus f.sl^0^infeasible
+~
+sygus f.sl^0^infeasible
 ^^(set-logic BV)
 (synth-fun f ((x (_ BitVec 8))) (_ BitVec 8)
   ((S (_ BitVec 8)))
@@ -104,7 +88,8 @@ pub(crate) const VECTORS: &str = "sygus f.sl^0^^^~sygus f.sl^0^infeasible
 (declare-var x (_ BitVec 8))
 (constraint (= (f x) (ite (bvult x #x05) #x00 #x01)))
 (check-synth)
-~sygus f.sl^0^(
+~
+sygus f.sl^0^(
 (define-fun f () (_ BitVec 8) #x01)
 (define-fun g () (_ BitVec 8) #x01)
 )
@@ -113,7 +98,8 @@ pub(crate) const VECTORS: &str = "sygus f.sl^0^^^~sygus f.sl^0^infeasible
 (synth-fun g () (_ BitVec 8) ((S (_ BitVec 8))) ((S (_ BitVec 8) (#x00 #x01))))
 (constraint (= (bvadd (f) g) #x02))
 (check-synth)
-~sygus f.sl^0^(
+~
+sygus f.sl^0^(
 (define-fun f () (_ BitVec 8) #x01)
 )
 infeasible
@@ -123,80 +109,40 @@ infeasible
 (check-synth)
 (constraint (= f #x00))
 (check-synth)
-~sygus f.sl^0^(
+~
+sygus f.sl^0^(
 )
 ^^(set-logic BV)
 (constraint true)
 (check-synth)
-~sygus --size 15 f.sl^0^(
+~
+sygus --size 15 f.sl^0^(
 (define-fun f () (_ BitVec 8) (bvadd #x01 (bvadd #x01 (bvadd #x01 (bvadd #x01 (bvadd #x01 (bvadd #x01 (bvadd #x01 #x01))))))))
 )
-^^(set-logic BV)
-(synth-fun f () (_ BitVec 8) ((S (_ BitVec 8))) ((S (_ BitVec 8) (#x01 (bvadd #x01 S)))))
-(constraint (= f #x08))
-(check-synth)
-~sygus f.sl --size=2^1^fail
+^^@vector-eight~
+sygus f.sl --size=2^1^fail
 ^fail: check-synth 1 Size
-^(set-logic BV)
-(synth-fun f ((x (_ BitVec 8))) (_ BitVec 8)
-  ((S (_ BitVec 8)))
-  ((S (_ BitVec 8) (x (bvadd x #x01)))))
-(constraint (= (f #x05) #x06))
-(check-synth)
-~sygus --size 14 f.sl^1^fail
+^@vector-next~
+sygus --size 14 f.sl^1^fail
 ^fail: check-synth 1 Size
-^(set-logic BV)
-(synth-fun f () (_ BitVec 8) ((S (_ BitVec 8))) ((S (_ BitVec 8) (#x01 (bvadd #x01 S)))))
-(constraint (= f #x08))
-(check-synth)
-~sygus --rounds 1 f.sl^1^fail
+^@vector-eight~
+sygus --rounds 1 f.sl^1^fail
 ^fail: check-synth 1 Rounds
-^(set-logic BV)
-(synth-fun f ((x (_ BitVec 8))) (_ BitVec 8)
-  ((S (_ BitVec 8)))
-  ((S (_ BitVec 8) (x (bvadd x #x01)))))
-(declare-var x (_ BitVec 8))
-(constraint (bvugt (f x) x))
-(check-synth)
-~sygus --points 1 f.sl^1^fail
+^@vector-above~
+sygus --points 1 f.sl^1^fail
 ^fail: check-synth 1 Points
-^(set-logic BV)
-(synth-fun f ((x (_ BitVec 8))) (_ BitVec 8)
-  ((S (_ BitVec 8)))
-  ((S (_ BitVec 8) (x (bvneg x) (bvnot x)))))
-(declare-var x (_ BitVec 8))
-(constraint (= (f (f x)) x))
-(constraint (distinct (f x) x))
-(check-synth)
-~sygus f.sl^0^(
+^@vector-own-inverse~
+sygus f.sl^0^(
 (define-fun f ((x (_ BitVec 8))) (_ BitVec 8) (bvnot x))
 )
-^^(set-logic BV)
-(synth-fun f ((x (_ BitVec 8))) (_ BitVec 8)
-  ((S (_ BitVec 8)))
-  ((S (_ BitVec 8) (x (bvneg x) (bvnot x)))))
-(declare-var x (_ BitVec 8))
-(constraint (= (f (f x)) x))
-(constraint (distinct (f x) x))
-(check-synth)
-~sygus --bank 1 f.sl^1^fail
+^^@vector-own-inverse~
+sygus --bank 1 f.sl^1^fail
 ^fail: check-synth 1 Bank
-^(set-logic BV)
-(synth-fun f ((x (_ BitVec 8))) (_ BitVec 8)
-  ((S (_ BitVec 8)))
-  ((S (_ BitVec 8) (x (bvadd x #x01)))))
-(constraint (= (f #x05) #x06))
-(check-synth)
-~sygus --weight 1 f.sl^1^fail
+^@vector-next~
+sygus --weight 1 f.sl^1^fail
 ^fail: check-synth 1 Weight
-^(set-logic BV)
-(synth-fun f ((x (_ BitVec 8))) (_ BitVec 8)
-  ((S (_ BitVec 8)))
-  ((S (_ BitVec 8) (x (bvadd x #x01)))))
-(declare-var x (_ BitVec 8))
-(constraint (bvugt (f x) x))
-(check-synth)
-~sygus --clauses 1 f.sl^1^fail
+^@vector-above~
+sygus --clauses 1 f.sl^1^fail
 ^fail: check-synth 1 Clauses
 ^(set-logic BV)
 (synth-fun f ((x (_ BitVec 8)) (y (_ BitVec 8))) (_ BitVec 8) ((S (_ BitVec 8))) ((S (_ BitVec 8) ((bvmul x y)))))
@@ -204,7 +150,8 @@ infeasible
 (declare-var y (_ BitVec 8))
 (constraint (= (f x y) (bvadd (bvmul (bvand x #x0f) y) (bvmul (bvand x #xf0) y))))
 (check-synth)
-~sygus --clauses 1 f.sl^0^(
+~
+sygus --clauses 1 f.sl^0^(
 (define-fun f ((x (_ BitVec 8)) (y (_ BitVec 8))) (_ BitVec 8) (bvmul x y))
 )
 ^^(set-logic BV)
