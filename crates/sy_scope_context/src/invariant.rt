@@ -191,7 +191,7 @@ impl<T: Theory> Context<T> {
             after: function_named(&self.names, names.after)?,
         };
         let parts = invariant_parts(alloc, names, functions)?;
-        let state = Vec::from_slice(alloc, functions.invariant.takes)?;
+        let state = Seq::from(Vec::from_slice(alloc, functions.invariant.takes)?);
         if !has_room(&self.names, self.fresh, 2 * state.len()) {
             return Err(ReadEnd::Refused(place, Cause::TooMany));
         }
