@@ -1,43 +1,49 @@
 // A set of literals as marks on variables, for a clause that changes by resolution.
-ghost use Rattle.std.specs.Prelude.{◌≡◌, ◌≢◌, ℕ, Bool, true, false, ◌||◌, ◌==◌, not, OnOk, OnErr, IfOk, [], ◌∷◌, ◌++◌, ◌<◌, length, slice_index_or, IsTrue, MatchBool, Some, None, Option};
+ghost use Rattle.std.specs.Prelude.{◌≡◌, ◌≢◌, ℕ, Bool, true, false, ◌||◌, ◌==◌, not, OnOk, OnErr, IfOk, [], ◌∷◌, ◌++◌, ◌<◌, ◌+◌, ◌^◌, length, slice_index_or, IsTrue, MatchBool, Some, None, Option};
 ghost use Rattle.sy_clauses.specs.Clauses.{literals, join, without, resolvent, resolved, same_literal, IsEmpty};
-ghost use Rattle.sy_clauses.specs.Marking.{clause_of, MarksAreListed};
+ghost use Rattle.sy_clauses.specs.Marking.{clause_of, place_of, MarksAreListed};
 
 use crate::Lit;
 use std::alloc::{AllocError, Global};
 use sy_seq::{Seq, Want};
 
-/// Whether the variable is marked. One past the end is not.
-fn is_marked(marks: &[bool], var: u32) -> bool
-    ensures { result ≡ slice_index_or marks.now var false }
+/// Where a literal's mark is kept. Both signs stand in one list, so that no branch depends on the sign.
+fn place_of(var: u32, positive: bool) -> usize
+    ensures { result ≡ place_of var positive }
 {
-    match marks.get(var as usize) {
+    2 * var as usize + positive as usize
+}
+
+/// Whether there is a mark at a place. One past the end has none.
+fn is_marked(marks: &[bool], place: usize) -> bool
+    ensures { result ≡ slice_index_or marks.now place false }
+{
+    match marks.get(place) {
         Some(mark) => *mark,
         None => false,
     }
 }
 
-/// Marks the variable.
-fn mark(marks: &mut Vec<bool>, var: u32) -> Result<(), Want>
-    ensures here { OnOk result (slice_index_or marks.new.items var false ≡ true) }
-    ensures others { OnOk result ((w : ℕ) → w ≢ var → slice_index_or marks.new.items w false ≡ slice_index_or marks.old.items w false) }
+/// Sets the mark at a place.
+fn mark(marks: &mut Vec<bool>, place: usize) -> Result<(), Want>
+    requires { place + 1 < 2 ^ 64 }
+    ensures here { OnOk result (slice_index_or marks.new.items place false ≡ true) }
+    ensures others { OnOk result ((w : ℕ) → w ≢ place → slice_index_or marks.new.items w false ≡ slice_index_or marks.old.items w false) }
 {
-    let index = var as usize;
-    while marks.len() <= index {
+    while marks.len() <= place {
         marks.push(false)?;
     }
-    marks[index] = true;
+    marks[place] = true;
     Ok(())
 }
 
-/// Takes the variable's mark off.
-fn unmark(marks: &mut [bool], var: u32)
-    ensures here { slice_index_or marks.new var false ≡ false }
-    ensures others { (w : ℕ) → w ≢ var → slice_index_or marks.new w false ≡ slice_index_or marks.old w false }
+/// Takes the mark at a place off.
+fn unmark(marks: &mut [bool], place: usize)
+    ensures here { slice_index_or marks.new place false ≡ false }
+    ensures others { (w : ℕ) → w ≢ place → slice_index_or marks.new w false ≡ slice_index_or marks.old w false }
 {
-    let index = var as usize;
-    if index < marks.len() {
-        marks[index] = false;
+    if place < marks.len() {
+        marks[place] = false;
     }
 }
 
@@ -45,8 +51,7 @@ fn unmark(marks: &mut [bool], var: u32)
 /// others too.
 #[derive(Drop)]
 pub struct Marks {
-    positive: Vec<bool>,
-    negative: Vec<bool>,
+    marks: Vec<bool>,
     touched: Vec<Lit>,
 }
 
@@ -57,8 +62,7 @@ impl Marks {
         ensures listed { MarksAreListed result }
     {
         Marks {
-            positive: Vec::new(alloc),
-            negative: Vec::new(alloc),
+            marks: Vec::new(alloc),
             touched: Vec::new(alloc),
         }
     }
@@ -67,15 +71,11 @@ impl Marks {
     pub fn has(&self, var: u32, positive: bool) -> bool
         ensures { result ≡ clause_of self.now var positive }
     {
-        if positive {
-            is_marked(&self.positive, var)
-        } else {
-            is_marked(&self.negative, var)
-        }
+        is_marked(&self.marks, place_of(var, positive))
     }
 
     /// Adds the literal.
-    #[tactic(auto, using(crate::proofs::Sets::literals_push, crate::proofs::Sets::literals_at))]
+    #[tactic(auto, using(crate::proofs::Sets::literals_push, crate::proofs::Sets::literals_at, crate::proofs::Sets::place_same))]
     fn add(&mut self, literal: Lit) -> Result<(), Want>
         requires { MarksAreListed self.old }
         ensures added { OnOk result ((v : ℕ) (s : Bool) →
@@ -84,26 +84,19 @@ impl Marks {
     {
         if !self.has(literal.var, literal.positive) {
             self.touched.push(literal)?;
-            if literal.positive {
-                mark(&mut self.positive, literal.var)?;
-            } else {
-                mark(&mut self.negative, literal.var)?;
-            }
+            mark(&mut self.marks, place_of(literal.var, literal.positive))?;
         }
         Ok(())
     }
 
     /// Removes the literal.
+    #[tactic(auto, using(crate::proofs::Sets::place_same))]
     fn remove(&mut self, var: u32, positive: bool)
         ensures removed { (v : ℕ) (s : Bool) →
             clause_of self.new v s ≡ without var positive (clause_of self.old) v s }
         ensures touched { self.new.touched ≡ self.old.touched }
     {
-        if positive {
-            unmark(&mut self.positive, var);
-        } else {
-            unmark(&mut self.negative, var);
-        }
+        unmark(&mut self.marks, place_of(var, positive));
     }
 
     /// Adds all literals of the clause.
