@@ -5,6 +5,7 @@ pub mod Learning
 pub mod Levels
 pub mod Places
 pub mod Push
+pub mod Storing
 pub mod Values
 mod Bound
 mod Pigeons

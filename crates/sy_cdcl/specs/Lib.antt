@@ -2,6 +2,7 @@ pub mod Answer
 pub mod Codes
 pub mod Conflicts
 pub mod Status
+pub mod Storing
 pub mod Trails
 pub mod Truths
 pub mod Visits

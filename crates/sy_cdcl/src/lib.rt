@@ -6,6 +6,7 @@ mod order;
 mod propagation;
 mod shortening;
 mod solver;
+mod store;
 mod trail;
 mod watches;
 

@@ -1,17 +1,19 @@
 // Unit propagation.
 ghost use Rattle.std.specs.Prelude.{◌≡◌, ◌<◌, ◌≤◌, ◌+◌, ◌++◌, ◌∷◌, ℕ, [], not, true, false, length, vec_len, slice_get, Some, None, OnOk, IfOk, MatchOption, MatchBool, ◌⊎◌};
 ghost use Rattle.sy_clauses.specs.New.{AllSettled, IsFalse, HasTrue};
-ghost use Rattle.sy_clauses.specs.Clauses.{literals, same_literal, known_clauses, IsEmpty};
+ghost use Rattle.sy_clauses.specs.Clauses.{literals, same_literal, IsEmpty};
+ghost use Rattle.sy_cdcl.specs.Storing.{clauses_in, SpansFit};
 ghost use Rattle.sy_cdcl.specs.Trails.{kept_values, TrailIsReady, TrailExtends, VarsBelow, LevelsSettled};
 ghost use Rattle.sy_cdcl.specs.Status.{IsConflict};
 ghost use Rattle.sy_cdcl.specs.Watching.{AllWatched, IsWatching, IsAttached, pair_of};
 ghost use Rattle.sy_cdcl.specs.Visits.{IsFalseBut, IsOther, Suits, SuitsAt, MayForce, IsOnly, IsAnother};
 
+use crate::store::{Code, Store};
 use crate::trail::{Entry, Trail, Truth};
 use crate::watches::{Pair, Watches, list_index};
 use std::alloc::{AllocError, Global};
-use sy_clauses::{Cnf, Lit, clause_at};
-use sy_seq::{Seq, Want};
+use sy_clauses::Lit;
+use sy_seq::Want;
 
 /// Whether the two are one literal.
 pub fn is_same(a: Lit, b: Lit) -> bool
@@ -54,7 +56,7 @@ pub struct Found {
 
 /// A literal of the clause that isn't false, other than this one. The search begins at a place, and
 /// goes on from the clause's beginning.
-fn find_other(trail: &Trail, clause: &[Lit], other: Lit, from: usize) -> Option<Found>
+fn find_other(trail: &Trail, clause: &[Code], other: Lit, from: usize) -> Option<Found>
     ensures { MatchOption result
         (IsFalseBut (kept_values trail.now.values.items) (literals clause.now) other)
         (λ f. IsOther (kept_values trail.now.values.items) (literals clause.now) other f.literal) }
@@ -62,7 +64,7 @@ fn find_other(trail: &Trail, clause: &[Lit], other: Lit, from: usize) -> Option<
     let start = if from < clause.len() { from } else { 0 };
     let mut place = start;
     for _ in 0..clause.len() {
-        let literal = clause[place];
+        let literal = clause[place].literal();
         if !trail.is_false(literal) && !is_same(other, literal) {
             return Some(Found { literal, place });
         }
@@ -85,7 +87,7 @@ pub enum Outcome {
 }
 
 /// Looks for another literal to watch, from a place on. This one is the other one that is watched.
-fn inspect(trail: &Trail, clause: &[Lit], other: Lit, from: usize) -> Outcome
+fn inspect(trail: &Trail, clause: &[Code], other: Lit, from: usize) -> Outcome
     requires { literals clause.now other.var other.positive ≡ true }
     ensures { Suits (kept_values trail.now.values.items) (literals clause.now) other result }
 {
@@ -104,17 +106,11 @@ fn inspect(trail: &Trail, clause: &[Lit], other: Lit, from: usize) -> Outcome
 }
 
 /// What becomes of the clause of this number, where the literal has become false.
-fn judge(
-    watches: &Watches,
-    trail: &Trail,
-    cnf: &Cnf,
-    derived: &[Seq<Lit>],
-    number: u32,
-    falsified: Lit,
-) -> Outcome
-    requires agrees { TrailIsReady (known_clauses cnf.now.clauses derived.now) trail.now }
-    requires watched { AllWatched (known_clauses cnf.now.clauses derived.now) trail.now watches.now.head watches.now.pairs.items }
-    ensures { SuitsAt (known_clauses cnf.now.clauses derived.now) (kept_values trail.now.values.items) watches.now.pairs.items falsified number result }
+fn judge(watches: &Watches, trail: &Trail, store: &Store, number: u32, falsified: Lit) -> Outcome
+    requires fit { SpansFit store.now }
+    requires agrees { TrailIsReady (clauses_in store.now) trail.now }
+    requires watched { AllWatched (clauses_in store.now) trail.now watches.now.head watches.now.pairs.items }
+    ensures { SuitsAt (clauses_in store.now) (kept_values trail.now.values.items) watches.now.pairs.items falsified number result }
 {
     let Some(pair) = watches.pair(number) else {
         return Outcome::Stay;
@@ -123,24 +119,18 @@ fn judge(
     if trail.is_true(other) {
         return Outcome::Stay;
     }
-    let Some(clause) = clause_at(cnf, derived, number) else {
+    let Some(clause) = store.clause(number) else {
         return Outcome::Stay;
     };
     inspect(trail, clause, other, watches.hint(number))
 }
 
 /// Makes the last literal of a unit clause true, with the clause's number as the reason.
-fn force(
-    trail: &mut Trail,
-    cnf: &Cnf,
-    derived: &[Seq<Lit>],
-    number: u32,
-    literal: Lit,
-) -> Result<(), Want>
-    requires ready { TrailIsReady (known_clauses cnf.now.clauses derived.now) trail.old }
-    requires vars { VarsBelow (vec_len trail.old.values) (known_clauses cnf.now.clauses derived.now) }
-    requires unit { MayForce (known_clauses cnf.now.clauses derived.now) (kept_values trail.old.values.items) number literal }
-    ensures ready { OnOk result (TrailIsReady (known_clauses cnf.now.clauses derived.now) trail.new) }
+fn force(trail: &mut Trail, store: &Store, number: u32, literal: Lit) -> Result<(), Want>
+    requires ready { TrailIsReady (clauses_in store.now) trail.old }
+    requires vars { VarsBelow (vec_len trail.old.values) (clauses_in store.now) }
+    requires unit { MayForce (clauses_in store.now) (kept_values trail.old.values.items) number literal }
+    ensures ready { OnOk result (TrailIsReady (clauses_in store.now) trail.new) }
     ensures entries { OnOk result (trail.new.entries.items ≡
         trail.old.entries.items ++ record { literal = literal; reason = Some number } ∷ []) }
     ensures extends { OnOk result (TrailExtends trail.old trail.new) }
@@ -153,27 +143,27 @@ fn force(
 fn visit(
     watches: &mut Watches,
     trail: &mut Trail,
-    cnf: &Cnf,
-    derived: &[Seq<Lit>],
+    store: &Store,
     entry: Entry,
 ) -> Result<Option<u32>, Want>
-    requires ready { TrailIsReady (known_clauses cnf.now.clauses derived.now) trail.old }
-    requires vars { VarsBelow (vec_len trail.old.values) (known_clauses cnf.now.clauses derived.now) }
-    requires watching { IsWatching (known_clauses cnf.now.clauses derived.now) trail.old watches.old }
+    requires fit { SpansFit store.now }
+    requires ready { TrailIsReady (clauses_in store.now) trail.old }
+    requires vars { VarsBelow (vec_len trail.old.values) (clauses_in store.now) }
+    requires watching { IsWatching (clauses_in store.now) trail.old watches.old }
     requires at { slice_get trail.old.entries.items watches.old.head ≡ Some entry }
-    ensures ready { OnOk result (TrailIsReady (known_clauses cnf.now.clauses derived.now) trail.new) }
+    ensures ready { OnOk result (TrailIsReady (clauses_in store.now) trail.new) }
     ensures extends { OnOk result (TrailExtends trail.old trail.new) }
-    ensures watching { OnOk result (IsWatching (known_clauses cnf.now.clauses derived.now) trail.new watches.new) }
+    ensures watching { OnOk result (IsWatching (clauses_in store.now) trail.new watches.new) }
     ensures head { OnOk result (watches.new.head ≡ watches.old.head) }
     ensures ends { IfOk result (λ conflict. MatchOption conflict
-        (AllWatched (known_clauses cnf.now.clauses derived.now) trail.new (watches.new.head + 1) watches.new.pairs.items)
-        (λ number. IsConflict (known_clauses cnf.now.clauses derived.now) (kept_values trail.new.values.items) number)) }
+        (AllWatched (clauses_in store.now) trail.new (watches.new.head + 1) watches.new.pairs.items)
+        (λ number. IsConflict (clauses_in store.now) (kept_values trail.new.values.items) number)) }
 {
     let falsified = negated(entry.literal);
     let list = list_index(falsified);
     let mut place = 0;
     while let Some(number) = watches.watcher(list, place) {
-        match judge(watches, trail, cnf, derived, number, falsified) {
+        match judge(watches, trail, store, number, falsified) {
             Outcome::Stay => {
                 place += 1;
                 continue;
@@ -183,7 +173,7 @@ fn visit(
                 continue;
             }
             Outcome::Force(literal) => {
-                force(trail, cnf, derived, number, literal)?;
+                force(trail, store, number, literal)?;
                 place += 1;
                 continue;
             }
@@ -197,23 +187,23 @@ fn visit(
 pub fn propagate(
     watches: &mut Watches,
     trail: &mut Trail,
-    cnf: &Cnf,
-    derived: &[Seq<Lit>],
+    store: &Store,
 ) -> Result<Option<u32>, Want>
-    requires ready { TrailIsReady (known_clauses cnf.now.clauses derived.now) trail.old }
-    requires vars { VarsBelow (vec_len trail.old.values) (known_clauses cnf.now.clauses derived.now) }
-    requires watching { IsWatching (known_clauses cnf.now.clauses derived.now) trail.old watches.old }
-    ensures ready { OnOk result (TrailIsReady (known_clauses cnf.now.clauses derived.now) trail.new) }
+    requires fit { SpansFit store.now }
+    requires ready { TrailIsReady (clauses_in store.now) trail.old }
+    requires vars { VarsBelow (vec_len trail.old.values) (clauses_in store.now) }
+    requires watching { IsWatching (clauses_in store.now) trail.old watches.old }
+    ensures ready { OnOk result (TrailIsReady (clauses_in store.now) trail.new) }
     ensures extends { OnOk result (TrailExtends trail.old trail.new) }
-    ensures watching { OnOk result (IsWatching (known_clauses cnf.now.clauses derived.now) trail.new watches.new) }
+    ensures watching { OnOk result (IsWatching (clauses_in store.now) trail.new watches.new) }
     ensures ends { IfOk result (λ conflict. MatchOption conflict
         ((watches.new.head ≡ length trail.new.entries.items)
-        × AllSettled (kept_values trail.new.values.items) (known_clauses cnf.now.clauses derived.now))
-        (λ number. IsConflict (known_clauses cnf.now.clauses derived.now) (kept_values trail.new.values.items) number)) }
+        × AllSettled (kept_values trail.new.values.items) (clauses_in store.now))
+        (λ number. IsConflict (clauses_in store.now) (kept_values trail.new.values.items) number)) }
 {
     while watches.head < trail.entries.len() {
         let entry = trail.entry_at(watches.head);
-        if let Some(number) = visit(watches, trail, cnf, derived, entry)? {
+        if let Some(number) = visit(watches, trail, store, entry)? {
             return Ok(Some(number));
         }
         watches.head += 1;
@@ -222,22 +212,23 @@ pub fn propagate(
 }
 
 /// The first literal of the clause.
-fn first_of(clause: &[Lit]) -> Option<Lit>
+fn first_of(clause: &[Code]) -> Option<Lit>
     ensures { MatchOption result (IsEmpty (literals clause.now)) (λ l. literals clause.now l.var l.positive ≡ true) }
 {
     match clause.get(0) {
-        Some(literal) => Some(*literal),
+        Some(code) => Some(code.literal()),
         None => None,
     }
 }
 
 /// The first literal of the clause other than this one.
-fn another(clause: &[Lit], literal: Lit) -> Option<Lit>
+fn another(clause: &[Code], literal: Lit) -> Option<Lit>
     ensures { MatchOption result (IsOnly (literals clause.now) literal) (λ other. IsAnother (literals clause.now) literal other) }
 {
-    for other in clause {
-        if !is_same(literal, *other) {
-            return Some(*other);
+    for code in clause {
+        let other = code.literal();
+        if !is_same(literal, other) {
+            return Some(other);
         }
     }
     None
@@ -246,18 +237,17 @@ fn another(clause: &[Lit], literal: Lit) -> Option<Lit>
 /// Makes the only literal of a clause true; whether it can be.
 fn settle(
     trail: &mut Trail,
-    cnf: &Cnf,
-    derived: &[Seq<Lit>],
+    store: &Store,
     number: u32,
-    clause: &[Lit],
+    clause: &[Code],
     literal: Lit,
 ) -> Result<bool, Want>
-    requires ready { TrailIsReady (known_clauses cnf.now.clauses derived.now) trail.old }
-    requires vars { VarsBelow (vec_len trail.old.values) (known_clauses cnf.now.clauses derived.now) }
-    requires at { slice_get (known_clauses cnf.now.clauses derived.now) number ≡ Some (literals clause.now) }
+    requires ready { TrailIsReady (clauses_in store.now) trail.old }
+    requires vars { VarsBelow (vec_len trail.old.values) (clauses_in store.now) }
+    requires at { slice_get (clauses_in store.now) number ≡ Some (literals clause.now) }
     requires has { literals clause.now literal.var literal.positive ≡ true }
     requires only { IsOnly (literals clause.now) literal }
-    ensures ready { OnOk result (TrailIsReady (known_clauses cnf.now.clauses derived.now) trail.new) }
+    ensures ready { OnOk result (TrailIsReady (clauses_in store.now) trail.new) }
     ensures extends { OnOk result (TrailExtends trail.old trail.new) }
     ensures ends { IfOk result (λ done. MatchBool done
         (HasTrue (kept_values trail.new.values.items) (literals clause.now))
@@ -267,7 +257,7 @@ fn settle(
         Truth::False => Ok(false),
         Truth::True => Ok(true),
         Truth::Open => {
-            force(trail, cnf, derived, number, literal)?;
+            force(trail, store, number, literal)?;
             Ok(true)
         }
     }
@@ -277,19 +267,18 @@ fn settle(
 fn attach_clause(
     watches: &mut Watches,
     trail: &mut Trail,
-    cnf: &Cnf,
-    derived: &[Seq<Lit>],
+    store: &Store,
     number: u32,
-    clause: &[Lit],
+    clause: &[Code],
 ) -> Result<bool, Want>
-    requires ready { TrailIsReady (known_clauses cnf.now.clauses derived.now) trail.old }
-    requires vars { VarsBelow (vec_len trail.old.values) (known_clauses cnf.now.clauses derived.now) }
-    requires attached { IsAttached (known_clauses cnf.now.clauses derived.now) trail.old watches.old number }
-    requires at { slice_get (known_clauses cnf.now.clauses derived.now) number ≡ Some (literals clause.now) }
-    ensures ready { OnOk result (TrailIsReady (known_clauses cnf.now.clauses derived.now) trail.new) }
+    requires ready { TrailIsReady (clauses_in store.now) trail.old }
+    requires vars { VarsBelow (vec_len trail.old.values) (clauses_in store.now) }
+    requires attached { IsAttached (clauses_in store.now) trail.old watches.old number }
+    requires at { slice_get (clauses_in store.now) number ≡ Some (literals clause.now) }
+    ensures ready { OnOk result (TrailIsReady (clauses_in store.now) trail.new) }
     ensures extends { OnOk result (TrailExtends trail.old trail.new) }
     ensures ends { IfOk result (λ done. MatchBool done
-        (IsAttached (known_clauses cnf.now.clauses derived.now) trail.new watches.new (number + 1))
+        (IsAttached (clauses_in store.now) trail.new watches.new (number + 1))
         (IsFalse (kept_values trail.new.values.items) (literals clause.now))) }
 {
     let Some(first) = first_of(clause) else {
@@ -299,7 +288,7 @@ fn attach_clause(
         watches.watch(number, Pair { first, second })?;
         return Ok(true);
     }
-    if !settle(trail, cnf, derived, number, clause, first)? {
+    if !settle(trail, store, number, clause, first)? {
         return Ok(false);
     }
     watches.skip()?;
@@ -310,25 +299,25 @@ fn attach_clause(
 pub fn attach(
     watches: &mut Watches,
     trail: &mut Trail,
-    cnf: &Cnf,
-    derived: &[Seq<Lit>],
+    store: &Store,
     count: u32,
 ) -> Result<Option<u32>, Want>
-    requires ready { TrailIsReady (known_clauses cnf.now.clauses derived.now) trail.old }
-    requires vars { VarsBelow (vec_len trail.old.values) (known_clauses cnf.now.clauses derived.now) }
-    requires attached { IsAttached (known_clauses cnf.now.clauses derived.now) trail.old watches.old 0 }
-    requires count { length (known_clauses cnf.now.clauses derived.now) ≡ count }
-    ensures ready { OnOk result (TrailIsReady (known_clauses cnf.now.clauses derived.now) trail.new) }
+    requires fit { SpansFit store.now }
+    requires ready { TrailIsReady (clauses_in store.now) trail.old }
+    requires vars { VarsBelow (vec_len trail.old.values) (clauses_in store.now) }
+    requires attached { IsAttached (clauses_in store.now) trail.old watches.old 0 }
+    requires count { length (clauses_in store.now) ≡ count }
+    ensures ready { OnOk result (TrailIsReady (clauses_in store.now) trail.new) }
     ensures extends { OnOk result (TrailExtends trail.old trail.new) }
     ensures ends { IfOk result (λ conflict. MatchOption conflict
-        (IsWatching (known_clauses cnf.now.clauses derived.now) trail.new watches.new)
-        (λ number. IsConflict (known_clauses cnf.now.clauses derived.now) (kept_values trail.new.values.items) number)) }
+        (IsWatching (clauses_in store.now) trail.new watches.new)
+        (λ number. IsConflict (clauses_in store.now) (kept_values trail.new.values.items) number)) }
 {
     for number in 0..count {
-        let Some(clause) = clause_at(cnf, derived, number) else {
+        let Some(clause) = store.clause(number) else {
             continue;
         };
-        if !attach_clause(watches, trail, cnf, derived, number, clause)? {
+        if !attach_clause(watches, trail, store, number, clause)? {
             return Ok(Some(number));
         }
     }

@@ -8,6 +8,7 @@ ghost use Rattle.sy_cdcl.specs.Trails.{kept_values, entries_values, TrailIsReady
 ghost use Rattle.sy_cdcl.specs.Status.{IsConflict};
 ghost use Rattle.sy_cdcl.specs.Conflicts.{OpenAtLevels, LastFits, value_below};
 ghost use Rattle.sy_cdcl.specs.Watching.{IsWatching, list_of, IsSkipped, IsPaired};
+ghost use Rattle.sy_cdcl.specs.Storing.{clauses_in, SpansFit};
 ghost use Rattle.sy_cdcl.specs.Answer.{AnswersFormula, IsRunEnd, IsUnstopped, IsModelOf, VarsFit, or_false};
 ghost use Rattle.sy_cdcl.specs.States.{StateIsSound, IsFresh, IsFinalConflict, clauses_known};
 
@@ -15,6 +16,7 @@ use crate::analysis::{analyze, go_back, last_falsified};
 use crate::order::Order;
 use crate::propagation::{attach, propagate};
 use crate::shortening::conclude;
+use crate::store::Store;
 use crate::trail::Trail;
 use crate::watches::{Pair, Watches};
 use std::alloc::{AllocError, Global};
@@ -49,14 +51,14 @@ pub struct Lesson {
 }
 
 /// Begins a level with this literal.
-fn decide(trail: &mut Trail, cnf: &Cnf, derived: &[Seq<Lit>], literal: Lit) -> Result<(), Want>
-    requires ready { TrailIsReady (known_clauses cnf.now.clauses derived.now) trail.old }
-    requires levels { LevelsSettled (known_clauses cnf.now.clauses derived.now) trail.old }
-    requires settled { AllSettled (kept_values trail.old.values.items) (known_clauses cnf.now.clauses derived.now) }
+fn decide(trail: &mut Trail, store: &Store, literal: Lit) -> Result<(), Want>
+    requires ready { TrailIsReady (clauses_in store.now) trail.old }
+    requires levels { LevelsSettled (clauses_in store.now) trail.old }
+    requires settled { AllSettled (kept_values trail.old.values.items) (clauses_in store.now) }
     requires within { literal.var < vec_len trail.old.values }
     requires unvalued { kept_values trail.old.values.items literal.var ≡ None }
-    ensures ready { OnOk result (TrailIsReady (known_clauses cnf.now.clauses derived.now) trail.new) }
-    ensures levels { OnOk result (LevelsSettled (known_clauses cnf.now.clauses derived.now) trail.new) }
+    ensures ready { OnOk result (TrailIsReady (clauses_in store.now) trail.new) }
+    ensures levels { OnOk result (LevelsSettled (clauses_in store.now) trail.new) }
     ensures entries { OnOk result (trail.new.entries.items ≡
         trail.old.entries.items ++ record { literal = literal; reason = None } ∷ []) }
     ensures starts { OnOk result (trail.new.starts.items ≡ trail.old.starts.items ++ length trail.old.entries.items ∷ []) }
@@ -74,31 +76,32 @@ fn search(
     watches: &mut Watches,
     trail: &mut Trail,
     order: &mut Order,
-    cnf: &Cnf,
-    derived: &[Seq<Lit>],
+    store: &Store,
+    vars: u32,
 ) -> Result<Option<u32>, Want>
-    requires ready { TrailIsReady (known_clauses cnf.now.clauses derived.now) trail.old }
-    requires levels { LevelsSettled (known_clauses cnf.now.clauses derived.now) trail.old }
-    requires vars { VarsBelow cnf.now.vars (known_clauses cnf.now.clauses derived.now) }
-    requires all { vec_len trail.old.values ≡ cnf.now.vars }
-    requires watching { IsWatching (known_clauses cnf.now.clauses derived.now) trail.old watches.old }
-    ensures ready { OnOk result (TrailIsReady (known_clauses cnf.now.clauses derived.now) trail.new) }
-    ensures levels { OnOk result (LevelsSettled (known_clauses cnf.now.clauses derived.now) trail.new) }
-    ensures all { OnOk result (vec_len trail.new.values ≡ cnf.now.vars) }
-    ensures watching { OnOk result (IsWatching (known_clauses cnf.now.clauses derived.now) trail.new watches.new) }
+    requires fit { SpansFit store.now }
+    requires ready { TrailIsReady (clauses_in store.now) trail.old }
+    requires levels { LevelsSettled (clauses_in store.now) trail.old }
+    requires vars { VarsBelow vars (clauses_in store.now) }
+    requires all { vec_len trail.old.values ≡ vars }
+    requires watching { IsWatching (clauses_in store.now) trail.old watches.old }
+    ensures ready { OnOk result (TrailIsReady (clauses_in store.now) trail.new) }
+    ensures levels { OnOk result (LevelsSettled (clauses_in store.now) trail.new) }
+    ensures all { OnOk result (vec_len trail.new.values ≡ vars) }
+    ensures watching { OnOk result (IsWatching (clauses_in store.now) trail.new watches.new) }
     ensures ends { IfOk result (λ conflict. MatchOption conflict
-        (AllSettled (kept_values trail.new.values.items) (known_clauses cnf.now.clauses derived.now)
-        × AllValued cnf.now.vars trail.new)
-        (λ number. IsConflict (known_clauses cnf.now.clauses derived.now) (kept_values trail.new.values.items) number)) }
+        (AllSettled (kept_values trail.new.values.items) (clauses_in store.now)
+        × AllValued vars trail.new)
+        (λ number. IsConflict (clauses_in store.now) (kept_values trail.new.values.items) number)) }
 {
     loop {
-        if let Some(conflict) = propagate(watches, trail, cnf, derived)? {
+        if let Some(conflict) = propagate(watches, trail, store)? {
             return Ok(Some(conflict));
         }
-        let Some(literal) = choose(order, trail, cnf.vars) else {
+        let Some(literal) = choose(order, trail, vars) else {
             return Ok(None);
         };
-        decide(trail, cnf, derived, literal)?;
+        decide(trail, store, literal)?;
     }
 }
 
@@ -207,6 +210,7 @@ fn watch_lesson(
 fn keep(
     watches: &mut Watches,
     trail: &mut Trail,
+    store: &mut Store,
     cnf: &Cnf,
     derived: &mut Vec<Seq<Lit>>,
     lesson: Lesson,
@@ -221,12 +225,17 @@ fn keep(
     requires last { LastFits trail.old.entries.items (literals lesson.clause) lesson.last }
     requires vars { (v : ℕ) (s : Bool) → literals lesson.clause v s ≡ true → v < vec_len trail.old.values }
     requires number { length (known_clauses cnf.now.clauses derived.old.items) ≡ number }
+    requires stored { clauses_in store.old ≡ known_clauses cnf.now.clauses derived.old.items }
+    requires fit { SpansFit store.old }
+    ensures stored { OnOk result (clauses_in store.new ≡ known_clauses cnf.now.clauses derived.new.items) }
+    ensures fit { OnOk result (SpansFit store.new) }
     ensures derived { OnOk result (derived.new.items ≡ derived.old.items ++ lesson.clause ∷ []) }
     ensures ready { OnOk result (TrailIsReady (known_clauses cnf.now.clauses derived.new.items) trail.new) }
     ensures levels { OnOk result (LevelsSettled (known_clauses cnf.now.clauses derived.new.items) trail.new) }
     ensures watching { OnOk result (IsWatching (known_clauses cnf.now.clauses derived.new.items) trail.new watches.new) }
     ensures all { OnOk result (vec_len trail.new.values ≡ vec_len trail.old.values) }
 {
+    store.push(lesson.clause.as_slice())?;
     derived.push(lesson.clause)?;
     trail.assign(lesson.literal, Some(number))?;
     watch_lesson(watches, number, lesson.literal, lesson.last)?;
@@ -247,14 +256,15 @@ fn reward(order: &mut Order, line: &Line, clause: &[Lit]) {
     order.age();
 }
 
-/// The solver's state between two conflicts: the assignment, the clauses that were learned, and the
-/// lines that derive them.
+/// The solver's state between two conflicts: the assignment, all clauses as propagation reads them, those
+/// that were learned, and the lines that derive these.
 #[derive(Drop)]
 pub struct State {
     pub trail: Trail,
     pub watches: Watches,
     pub order: Order,
     pub marks: Marks,
+    pub store: Store,
     pub derived: Vec<Seq<Lit>>,
     pub lines: Seq<Line>,
 }
@@ -308,6 +318,7 @@ fn learn_from(
     keep(
         &mut state.watches,
         &mut state.trail,
+        &mut state.store,
         cnf,
         &mut state.derived,
         lesson,
@@ -325,6 +336,7 @@ fn fresh_state(alloc: Global, cnf: &Cnf) -> Result<State, Want>
         watches: Watches::new(alloc, cnf.vars)?,
         order: Order::new(alloc, cnf.vars)?,
         marks: Marks::new(alloc),
+        store: Store::new(alloc, cnf.clauses.as_slice())?,
         derived: Vec::new(alloc),
         lines: Seq::new(alloc),
     })
@@ -340,13 +352,7 @@ fn attach_all(state: &mut State, cnf: &Cnf, count: u32) -> Result<Option<u32>, W
         (StateIsSound cnf.now state.new)
         (λ number. IsFinalConflict cnf.now state.new number)) }
 {
-    let conflict = attach(
-        &mut state.watches,
-        &mut state.trail,
-        cnf,
-        &state.derived,
-        count,
-    )?;
+    let conflict = attach(&mut state.watches, &mut state.trail, &state.store, count)?;
     Ok(conflict)
 }
 
@@ -383,8 +389,8 @@ fn find_conflict(state: &mut State, cnf: &Cnf) -> Result<Option<u32>, Want>
         &mut state.watches,
         &mut state.trail,
         &mut state.order,
-        cnf,
-        &state.derived,
+        &state.store,
+        cnf.vars,
     )?;
     Ok(conflict)
 }

@@ -1,6 +1,7 @@
 use Rattle.std.proofs.Common.{Bool, ◌+◌, arith, subst}
 use Rattle.std.specs.Prelude.{MatchBool}
-use Rattle.sy_clauses.specs.Clauses.{literals, known_clauses}
+use Rattle.sy_clauses.specs.Clauses.{literals}
+use Rattle.sy_cdcl.specs.Storing.{clauses_in}
 use Rattle.sy_clauses.specs.New.{IsFalse}
 use Rattle.sy_cdcl.specs.Trails.{kept_values}
 use Rattle.sy_cdcl.specs.Watching.{IsAttached}
@@ -10,7 +11,7 @@ use Rattle.sy_cdcl.proofs.propagation.attach.Goals as goal
 
 pub loop-number-preserved : goal.loop-number-preserved
 loop-number-preserved c =
-    let known = known_clauses c.args.cnf.now.clauses c.args.derived.now in
+    let known = clauses_in c.args.store.now in
     let i = c.loop-number.invariant in
     let e = c.in_ok-attach_clause.ensures in
     let t = c.attach_clause.new.trail in
@@ -24,7 +25,7 @@ loop-number-preserved c =
 
 pub returns-clause-ends : goal.returns-clause-ends
 returns-clause-ends c =
-    let known = known_clauses c.args.cnf.now.clauses c.args.derived.now in
+    let known = clauses_in c.args.store.now in
     let i = c.loop-number.invariant in
     let n = c.requires.count in
     let end = c.loop-number.auto.number-end in

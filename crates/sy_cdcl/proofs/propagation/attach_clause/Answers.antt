@@ -1,6 +1,7 @@
 use Rattle.std.proofs.Common.{Bool, subst}
 use Rattle.std.specs.Prelude.{MatchBool}
-use Rattle.sy_clauses.specs.Clauses.{literals, known_clauses}
+use Rattle.sy_clauses.specs.Clauses.{literals}
+use Rattle.sy_cdcl.specs.Storing.{clauses_in}
 use Rattle.sy_clauses.specs.New.{HasTrue, IsFalse}
 use Rattle.sy_cdcl.specs.Trails.{kept_values}
 use Rattle.sy_cdcl.proofs.Listing.{list_of-lt}
@@ -24,7 +25,7 @@ pub returns-in-Some-another-clause-ends : goal.returns-in-Some-another-clause-en
 returns-in-Some-another-clause-ends c =
     let f = c.in-Some.first in
     let s = c.in-Some-another.second in
-    attached_paired (known_clauses c.args.cnf.now.clauses c.args.derived.now) c.args.trail.now c.args.watches.now c.watch.new.self c.args.number
+    attached_paired (clauses_in c.args.store.now) c.args.trail.now c.args.watches.now c.watch.new.self c.args.number
     (literals c.args.clause.now) record { first = f; second = s } c.requires.attached c.requires.at c.in-Some.ensures c.in-Some-another.ensures
     (list_of-lt f _ _ (c.requires.vars c.args.number (literals c.args.clause.now) f.var f.positive c.requires.at c.in-Some.ensures) c.requires.attached.lists)
     (list_of-lt s _ _ (c.requires.vars c.args.number (literals c.args.clause.now) s.var s.positive c.requires.at c.in-Some-another.ensures.has) c.requires.attached.lists)
@@ -32,7 +33,7 @@ returns-in-Some-another-clause-ends c =
 
 pub returns-clause-ends : goal.returns-clause-ends
 returns-clause-ends c =
-    attached_skipped (known_clauses c.args.cnf.now.clauses c.args.derived.now) c.args.trail.now c.settle.new.trail c.args.watches.now c.skip.new.self
+    attached_skipped (clauses_in c.args.store.now) c.args.trail.now c.settle.new.trail c.args.watches.now c.skip.new.self
     c.args.number (literals c.args.clause.now) c.in_ok-settle.ensures.ready c.in_ok-settle.ensures.extends c.requires.attached c.requires.at
     (subst (λ (b : Bool). MatchBool b (HasTrue (kept_values c.settle.new.trail.values.items) (literals c.args.clause.now))
     (IsFalse (kept_values c.settle.new.trail.values.items) (literals c.args.clause.now))) c.if-not-branch.false c.in_ok-settle.ensures.ends)

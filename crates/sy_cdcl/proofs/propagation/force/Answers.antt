@@ -1,5 +1,5 @@
 use Rattle.std.proofs.Common.{refl, Some}
-use Rattle.sy_clauses.specs.Clauses.{known_clauses}
+use Rattle.sy_cdcl.specs.Storing.{clauses_in}
 use Rattle.sy_cdcl.proofs.Push.{ready_forced, extends_push}
 use Rattle.sy_cdcl.proofs.propagation.force.Goals as goal
 
@@ -11,7 +11,7 @@ assign-requires-clause-within c =
 pub returns-clause-ready : goal.returns-clause-ready
 returns-clause-ready c =
     let u = c.requires.unit in
-    ready_forced (known_clauses c.args.cnf.now.clauses c.args.derived.now) c.args.trail.now c.assign.new.self
+    ready_forced (clauses_in c.args.store.now) c.args.trail.now c.assign.new.self
     record { literal = c.args.literal; reason = Some c.args.number } c.args.number u.clause
     c.requires.ready c.in_ok-assign.ensures.entries c.assign.ensures.starts c.in_ok-assign.ensures.agrees refl u.at u.unit
 

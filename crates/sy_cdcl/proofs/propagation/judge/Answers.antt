@@ -1,17 +1,18 @@
 use Rattle.std.proofs.Common.{◌∙◌, sym}
-use Rattle.sy_clauses.specs.Clauses.{literals, known_clauses}
+use Rattle.sy_clauses.specs.Clauses.{literals}
+use Rattle.sy_cdcl.specs.Storing.{clauses_in}
 use Rattle.sy_cdcl.specs.Trails.{kept_values}
 use Rattle.sy_cdcl.proofs.Judging.{guarded_by, pair_within, suits_at}
 use Rattle.sy_cdcl.proofs.propagation.judge.Goals as goal
 
 pub returns : goal.returns
 returns c =
-    let known = known_clauses c.args.cnf.now.clauses c.args.derived.now in
+    let known = clauses_in c.args.store.now in
     let pairs = c.args.watches.now.pairs.items in
     let head = c.args.watches.now.head in
-    let clause = literals c.in-Some-clause_at.clause.now in
+    let clause = literals c.in-Some-clause.clause.now in
     let had = sym c.pair.ensures ∙ c.in-Some.is in
-    let at = c.in-Some-clause_at.ensures in
+    let at = c.in-Some-clause.ensures in
     let guarded = guarded_by known c.args.trail.now head pairs c.args.number clause c.in-Some.pair c.requires.watched at had in
     suits_at known (kept_values c.args.trail.now.values.items) pairs c.args.falsified c.other_of-other.result c.args.number clause c.in-Some.pair
     c.inspect.result at had record { one = c.other_of-other.ensures.one; apart = c.other_of-other.ensures.apart guarded.different }

@@ -1,6 +1,6 @@
 use Rattle.std.proofs.Common.{◌≡◌, ◌+◌, ◌<◌, ℕ, arith, refl, subst, Option, length}
 use Rattle.std.specs.Prelude.{MatchOption}
-use Rattle.sy_clauses.specs.Clauses.{known_clauses}
+use Rattle.sy_cdcl.specs.Storing.{clauses_in}
 use Rattle.sy_cdcl.specs.Trails.{kept_values}
 use Rattle.sy_cdcl.specs.Status.{IsConflict}
 use Rattle.sy_cdcl.specs.Watching.{AllWatched}
@@ -10,7 +10,7 @@ use Rattle.sy_cdcl.proofs.propagation.propagate.Goals as goal
 
 pub loop-watches-preserved : goal.loop-watches-preserved
 loop-watches-preserved c =
-    let known = known_clauses c.args.cnf.now.clauses c.args.derived.now in
+    let known = clauses_in c.args.store.now in
     let i = c.loop-watches.invariant in
     let e = c.in_ok-number.ensures in
     let t = c.visit.new.trail in
@@ -32,7 +32,7 @@ loop-watches-preserved c =
 
 pub returns-clause-ends : goal.returns-clause-ends
 returns-clause-ends c =
-    let known = known_clauses c.args.cnf.now.clauses c.args.derived.now in
+    let known = clauses_in c.args.store.now in
     let i = c.loop-watches.invariant in
     let test = c.loop-watches-test.false in
     let len = c.len.ensures in

@@ -1,12 +1,12 @@
 use Rattle.std.proofs.Common.{◌+◌, ◌-◌, length, vec_len}
-use Rattle.sy_clauses.specs.Clauses.{known_clauses}
+use Rattle.sy_cdcl.specs.Storing.{clauses_in}
 use Rattle.sy_cdcl.specs.Trails.{TrailIsReady, TrailExtends, VarsBelow, unvalued_count}
 use Rattle.sy_cdcl.specs.Watching.{IsWatching}
 use Rattle.sy_cdcl.proofs.propagation.propagate.Given as goal
 
 abbrev pub invariant-loop-watches : goal.invariant-loop-watches
 invariant-loop-watches l =
-    let known = known_clauses l.cnf.clauses l.derived in
+    let known = clauses_in l.store in
     record {
       ready : TrailIsReady known l.trail;
       extends : TrailExtends l.initial.trail l.trail;

@@ -1,7 +1,7 @@
 use Rattle.std.proofs.Common.{◌≡◌, ◌∙◌, ◌+◌, ℕ, sym, subst, arith, Some, None}
 use Rattle.std.specs.Prelude.{slice_get}
 use Rattle.std.proofs.lemmas.Option.{slice_get_within}
-use Rattle.sy_clauses.specs.Clauses.{known_clauses}
+use Rattle.sy_cdcl.specs.Storing.{clauses_in}
 use Rattle.sy_cdcl.specs.Watching.{list_at, AllWatched}
 use Rattle.sy_cdcl.proofs.Listing.{list_within, list_of-lt}
 use Rattle.sy_cdcl.proofs.Visiting.{visiting_first, visiting_stayed, visiting_moved, visiting_forced, visiting_shorter, visiting_last}
@@ -9,7 +9,7 @@ use Rattle.sy_cdcl.proofs.propagation.visit.Goals as goal
 
 pub loop-number-init : goal.loop-number-init
 loop-number-init c =
-    visiting_first (known_clauses c.args.cnf.now.clauses c.args.derived.now) c.args.trail.now c.args.watches.now c.args.entry
+    visiting_first (clauses_in c.args.store.now) c.args.trail.now c.args.watches.now c.args.entry
     c.negated-falsified.result c.list_index-list.result c.requires.ready c.requires.vars c.requires.watching c.requires.at
     record { var = c.negated-falsified.ensures.var; sign = c.negated-falsified.ensures.sign } c.list_index-list.ensures
 
@@ -23,7 +23,7 @@ loop-number-smaller-in-Stay c =
 
 pub loop-number-preserved-in-Stay : goal.loop-number-preserved-in-Stay
 loop-number-preserved-in-Stay c =
-    visiting_stayed (known_clauses c.args.cnf.now.clauses c.args.derived.now) c.args.trail.now c.loop-number.trail c.loop-number.watches c.args.watches.now.head
+    visiting_stayed (clauses_in c.args.store.now) c.args.trail.now c.loop-number.trail c.loop-number.watches c.args.watches.now.head
     c.list_index-list.result c.loop-number.place c.in-Some.number c.args.entry c.negated-falsified.result
     record { var = c.negated-falsified.ensures.var; sign = c.negated-falsified.ensures.sign } c.loop-number.invariant (sym c.in-Some.ensures.found)
     c.in-Stay.ensures
@@ -39,7 +39,7 @@ change-requires-clause-list c =
 pub change-requires-clause-number : goal.change-requires-clause-number
 change-requires-clause-number c =
     let m = c.in-Move.ensures in
-    let w = slice_get_within (known_clauses c.args.cnf.now.clauses c.args.derived.now) c.in-Some.number m.clause m.at in
+    let w = slice_get_within (clauses_in c.args.store.now) c.in-Some.number m.clause m.at in
     let p = c.loop-number.invariant.watching.pairs in
     omega arith
 
@@ -52,7 +52,7 @@ change-requires-clause-second c =
 
 pub loop-number-smaller-in-Move : goal.loop-number-smaller-in-Move
 loop-number-smaller-in-Move c =
-    visiting_shorter (known_clauses c.args.cnf.now.clauses c.args.derived.now) c.args.trail.now c.loop-number.trail c.loop-number.watches c.change.new.self
+    visiting_shorter (clauses_in c.args.store.now) c.args.trail.now c.loop-number.trail c.loop-number.watches c.change.new.self
     c.args.watches.now.head c.list_index-list.result c.loop-number.place c.in-Some.number c.args.entry c.negated-falsified.result c.in-Move.pair
     record { var = c.negated-falsified.ensures.var; sign = c.negated-falsified.ensures.sign } c.list_index-list.ensures
     c.loop-number.invariant (sym c.in-Some.ensures.found) c.in-Move.ensures c.in_ok-change-in-Move.ensures.lists
@@ -61,9 +61,9 @@ pub loop-number-preserved-in-Move : goal.loop-number-preserved-in-Move
 loop-number-preserved-in-Move c =
     let m = c.in-Move.ensures in
     let i = c.loop-number.invariant in
-    let w = slice_get_within (known_clauses c.args.cnf.now.clauses c.args.derived.now) c.in-Some.number m.clause m.at in
+    let w = slice_get_within (clauses_in c.args.store.now) c.in-Some.number m.clause m.at in
     let p = i.watching.pairs in
-    visiting_moved (known_clauses c.args.cnf.now.clauses c.args.derived.now) c.args.trail.now c.loop-number.trail c.loop-number.watches c.change.new.self
+    visiting_moved (clauses_in c.args.store.now) c.args.trail.now c.loop-number.trail c.loop-number.watches c.change.new.self
     c.args.watches.now.head c.list_index-list.result c.loop-number.place c.in-Some.number c.args.entry c.negated-falsified.result c.in-Move.pair
     record { var = c.negated-falsified.ensures.var; sign = c.negated-falsified.ensures.sign } c.list_index-list.ensures
     i (sym c.in-Some.ensures.found)
@@ -82,7 +82,7 @@ loop-number-smaller c =
 
 pub loop-number-preserved : goal.loop-number-preserved
 loop-number-preserved c =
-    visiting_forced (known_clauses c.args.cnf.now.clauses c.args.derived.now) c.args.trail.now c.loop-number.trail c.force.new.trail c.loop-number.watches
+    visiting_forced (clauses_in c.args.store.now) c.args.trail.now c.loop-number.trail c.force.new.trail c.loop-number.watches
     c.args.watches.now.head c.list_index-list.result c.loop-number.place c.in-Some.number c.args.entry c.negated-falsified.result c.in-Force.literal
     (Some c.in-Some.number)
     record { var = c.negated-falsified.ensures.var; sign = c.negated-falsified.ensures.sign } c.loop-number.invariant (sym c.in-Some.ensures.found)
@@ -93,6 +93,6 @@ returns-clause-ends c =
     let i = c.loop-number.invariant in
     let none : slice_get (list_at c.loop-number.watches.lists.items c.list_index-list.result) c.loop-number.place ≡ None =
     sym c.watcher.ensures.found ∙ c.in_default.is in
-    let all = visiting_last (known_clauses c.args.cnf.now.clauses c.args.derived.now) c.args.trail.now c.loop-number.trail c.loop-number.watches
+    let all = visiting_last (clauses_in c.args.store.now) c.args.trail.now c.loop-number.trail c.loop-number.watches
     c.args.watches.now.head c.list_index-list.result c.loop-number.place c.args.entry i none in
-    subst (λ (h : ℕ). AllWatched (known_clauses c.args.cnf.now.clauses c.args.derived.now) c.loop-number.trail (h + 1) c.loop-number.watches.pairs.items) (sym i.unmoved) all
+    subst (λ (h : ℕ). AllWatched (clauses_in c.args.store.now) c.loop-number.trail (h + 1) c.loop-number.watches.pairs.items) (sym i.unmoved) all

@@ -1,9 +1,11 @@
 use Rattle.std.proofs.Common.{◌≡◌, ◌∙◌, ℕ, ◌++◌, ◌∷◌, [], List, sym, subst, ap, refl, Some, length, vec_len}
 use Rattle.std.specs.Prelude.{slice_get, MatchOption}
+use Rattle.sy_clauses.specs.declared.Lit.{Lit}
 use Rattle.sy_clauses.specs.Clauses.{Clause, literals, known_clauses}
 use Rattle.sy_clauses.specs.New.{Partial, IsUnit}
 use Rattle.sy_cdcl.specs.declared.trail.Entry.{Entry}
 use Rattle.sy_cdcl.specs.Trails.{TrailIsReady, LevelsSettled}
+use Rattle.sy_cdcl.specs.Storing.{clauses_in}
 use Rattle.sy_cdcl.specs.Watching.{IsWatching, IsSkipped, IsPaired}
 use Rattle.sy_cdcl.proofs.Push.{same_values, ready_forced, extends_push}
 use Rattle.sy_cdcl.proofs.Levels.{levels_kept}
@@ -38,8 +40,8 @@ returns-clause-ready c =
     let t = c.args.trail.now in
     let new = literals c.args.lesson.clause in
     let known = known_clauses c.args.cnf.now.clauses c.args.derived.now.items in
-    let grown : known_clauses c.args.cnf.now.clauses c.push.new.self.items ≡ known ++ new ∷ [] =
-    ap (known_clauses c.args.cnf.now.clauses) c.in_ok-push.ensures.items ∙ known_more c.args.cnf.now.clauses c.args.derived.now.items c.args.lesson.clause in
+    let grown : known_clauses c.args.cnf.now.clauses c.push-2.new.self.items ≡ known ++ new ∷ [] =
+    ap (known_clauses c.args.cnf.now.clauses) c.in_ok-push-2.ensures.items ∙ known_more c.args.cnf.now.clauses c.args.derived.now.items c.args.lesson.clause in
     let at : slice_get (known ++ new ∷ []) c.args.number ≡ Some new =
     subst (λ (n : ℕ). slice_get (known ++ new ∷ []) n ≡ Some new) c.requires.number (get_end known new) in
     let unit = subst (λ (f : Partial). IsUnit f new c.args.lesson.literal.var c.args.lesson.literal.positive) (sym (same_values t c.requires.ready.assignment.agrees)) c.requires.unit in
@@ -53,8 +55,8 @@ returns-clause-levels c =
     let t = c.args.trail.now in
     let new = literals c.args.lesson.clause in
     let known = known_clauses c.args.cnf.now.clauses c.args.derived.now.items in
-    let grown : known_clauses c.args.cnf.now.clauses c.push.new.self.items ≡ known ++ new ∷ [] =
-    ap (known_clauses c.args.cnf.now.clauses) c.in_ok-push.ensures.items ∙ known_more c.args.cnf.now.clauses c.args.derived.now.items c.args.lesson.clause in
+    let grown : known_clauses c.args.cnf.now.clauses c.push-2.new.self.items ≡ known ++ new ∷ [] =
+    ap (known_clauses c.args.cnf.now.clauses) c.in_ok-push-2.ensures.items ∙ known_more c.args.cnf.now.clauses c.args.derived.now.items c.args.lesson.clause in
     let e : Entry = record { literal = c.args.lesson.literal; reason = Some c.args.number } in
     subst (λ (ks : List Clause). LevelsSettled ks c.assign.new.self) (sym grown)
     (levels_kept (known ++ new ∷ []) t c.assign.new.self (ready_known known new t c.requires.ready)
@@ -68,11 +70,21 @@ returns-clause-watching c =
     let w' = c.watch_lesson.new.watches in
     let new = literals c.args.lesson.clause in
     let known = known_clauses c.args.cnf.now.clauses c.args.derived.now.items in
-    let grown : known_clauses c.args.cnf.now.clauses c.push.new.self.items ≡ known ++ new ∷ [] =
-    ap (known_clauses c.args.cnf.now.clauses) c.in_ok-push.ensures.items ∙ known_more c.args.cnf.now.clauses c.args.derived.now.items c.args.lesson.clause in
+    let grown : known_clauses c.args.cnf.now.clauses c.push-2.new.self.items ≡ known ++ new ∷ [] =
+    ap (known_clauses c.args.cnf.now.clauses) c.in_ok-push-2.ensures.items ∙ known_more c.args.cnf.now.clauses c.args.derived.now.items c.args.lesson.clause in
     let e : Entry = record { literal = c.args.lesson.literal; reason = Some c.args.number } in
     subst (λ (ks : List Clause). IsWatching ks c.assign.new.self w') (sym grown)
     (watching_learned known new t c.assign.new.self w w' c.args.lesson.literal c.args.lesson.last e c.requires.ready c.requires.watching c.requires.head
     c.requires.unit c.requires.lowest c.requires.last c.requires.vars refl c.in_ok-assign.ensures.entries c.assign.ensures.starts c.in_ok-assign.ensures.vars
     (subst (λ (n : ℕ). MatchOption c.args.lesson.last (IsSkipped w w') (λ second. IsPaired w w' n record { first = c.args.lesson.literal; second = second }))
     (sym c.requires.number) c.in_ok-watch_lesson.ensures.watched) c.watch_lesson.ensures.head)
+
+pub returns-clause-stored : goal.returns-clause-stored
+returns-clause-stored c =
+    let new = literals c.args.lesson.clause in
+    let known = known_clauses c.args.cnf.now.clauses c.args.derived.now.items in
+    let grown : known_clauses c.args.cnf.now.clauses c.push-2.new.self.items ≡ known ++ new ∷ [] =
+    ap (known_clauses c.args.cnf.now.clauses) c.in_ok-push-2.ensures.items ∙ known_more c.args.cnf.now.clauses c.args.derived.now.items c.args.lesson.clause in
+    let stored : clauses_in c.push.new.self ≡ clauses_in c.args.store.now ++ new ∷ [] =
+    subst (λ (ls : List Lit). clauses_in c.push.new.self ≡ clauses_in c.args.store.now ++ literals ls ∷ []) c.as_slice.ensures c.in_ok-push.ensures.clauses in
+    stored ∙ ap (λ (ks : List Clause). ks ++ new ∷ []) c.requires.stored ∙ sym grown

@@ -1,6 +1,6 @@
 use Rattle.std.proofs.Common.{◌≡◌, ◌∙◌, ℕ, Option, sym, subst, length}
 use Rattle.std.specs.Prelude.{MatchOption}
-use Rattle.sy_clauses.specs.Clauses.{known_clauses}
+use Rattle.sy_cdcl.specs.Storing.{clauses_in}
 use Rattle.sy_clauses.specs.New.{AllSettled}
 use Rattle.sy_cdcl.specs.Trails.{VarsBelow, kept_values}
 use Rattle.sy_cdcl.specs.Status.{IsConflict}
@@ -10,27 +10,27 @@ use Rattle.sy_cdcl.proofs.solver.search.Goals as goal
 
 pub propagate-requires-clause-vars : goal.propagate-requires-clause-vars
 propagate-requires-clause-vars c =
-    let known = known_clauses c.args.cnf.now.clauses c.args.derived.now in
+    let known = clauses_in c.args.store.now in
     subst (λ (n : ℕ). VarsBelow n known) (sym c.loop-conflict.invariant.all) c.requires.vars
 
 pub returns-in-Some-clause-levels : goal.returns-in-Some-clause-levels
 returns-in-Some-clause-levels c =
-    levels_kept (known_clauses c.args.cnf.now.clauses c.args.derived.now) c.loop-conflict.trail c.propagate.new.trail
+    levels_kept (clauses_in c.args.store.now) c.loop-conflict.trail c.propagate.new.trail
     c.loop-conflict.invariant.ready c.in_ok-conflict.ensures.extends c.loop-conflict.invariant.levels
 
 pub returns-in_default-choose-clause-levels : goal.returns-in_default-choose-clause-levels
 returns-in_default-choose-clause-levels c =
-    levels_kept (known_clauses c.args.cnf.now.clauses c.args.derived.now) c.loop-conflict.trail c.propagate.new.trail
+    levels_kept (clauses_in c.args.store.now) c.loop-conflict.trail c.propagate.new.trail
     c.loop-conflict.invariant.ready c.in_ok-conflict.ensures.extends c.loop-conflict.invariant.levels
 
 pub decide-requires-clause-levels : goal.decide-requires-clause-levels
 decide-requires-clause-levels c =
-    levels_kept (known_clauses c.args.cnf.now.clauses c.args.derived.now) c.loop-conflict.trail c.propagate.new.trail
+    levels_kept (clauses_in c.args.store.now) c.loop-conflict.trail c.propagate.new.trail
     c.loop-conflict.invariant.ready c.in_ok-conflict.ensures.extends c.loop-conflict.invariant.levels
 
 pub loop-conflict-preserved : goal.loop-conflict-preserved
 loop-conflict-preserved c =
-    let known = known_clauses c.args.cnf.now.clauses c.args.derived.now in
+    let known = clauses_in c.args.store.now in
     let t = c.propagate.new.trail in
     let w = c.propagate.new.watches in
     let e = c.in_ok-decide.ensures in

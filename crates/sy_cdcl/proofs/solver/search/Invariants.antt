@@ -1,16 +1,16 @@
 use Rattle.std.proofs.Common.{◌≡◌, vec_len}
-use Rattle.sy_clauses.specs.Clauses.{known_clauses}
+use Rattle.sy_cdcl.specs.Storing.{clauses_in}
 use Rattle.sy_cdcl.specs.Trails.{TrailIsReady, LevelsSettled, unvalued_count}
 use Rattle.sy_cdcl.specs.Watching.{IsWatching}
 use Rattle.sy_cdcl.proofs.solver.search.Given as goal
 
 abbrev pub invariant-loop-conflict : goal.invariant-loop-conflict
 invariant-loop-conflict l =
-    let known = known_clauses l.cnf.clauses l.derived in
+    let known = clauses_in l.store in
     record {
       ready : TrailIsReady known l.trail;
       levels : LevelsSettled known l.trail;
-      all : vec_len l.trail.values ≡ l.cnf.vars;
+      all : vec_len l.trail.values ≡ l.vars;
       watching : IsWatching known l.trail l.watches;
     }
 
