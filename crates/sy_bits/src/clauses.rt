@@ -21,14 +21,21 @@ use sy_terms::Want;
 /// The most nodes of a query that is written anew.
 const MOST_NODES: u64 = 20_000;
 
+/// The most nodes of one in which terms stand in the places of their names.
+const MOST_WRITTEN: u64 = 160_000;
+
 /// How many times as large a query may become when it is written anew.
 const MOST_TIMES: u32 = 8;
+
+/// The most nodes of a term that is written in the places of the name that a `let` gives it.
+const MOST_NAMED: u64 = 16;
 
 /// The most variables and clauses for each unit of a query's size.
 const MOST_EACH: u64 = 1000;
 
 /// A circuit whose clauses say what the query of this size says: that of the query which `rewritten` makes of it, where it
-/// has no more variables and clauses than the query's own circuit may have, and else the query's own.
+/// has no more variables and clauses than the query's own circuit may have, and else the query's own. Where the query gets too
+/// large with small terms in the places of their names, constants and variables alone are written there.
 pub(crate) fn circuit_of(alloc: Global, query: &Query<BvTheory>, size: u32) -> Result<Circuit, Want>
     requires fits { QueryFits owned is_bits (query_of vector query.now) }
     requires size { size ≡ query_size (query_of vector query.now) }
@@ -38,7 +45,10 @@ pub(crate) fn circuit_of(alloc: Global, query: &Query<BvTheory>, size: u32) -> R
     ensures vars { IfOk result (λ circuit. VarsFit circuit.clauses) }
 {
     if query.body.size(MOST_NODES + 1) <= MOST_NODES {
-        if let Some(circuit) = rewritten_circuit(alloc, query, size)? {
+        if let Some(circuit) = rewritten_circuit(alloc, query, size, MOST_NAMED)? {
+            return Ok(circuit);
+        }
+        if let Some(circuit) = rewritten_circuit(alloc, query, size, 1)? {
             return Ok(circuit);
         }
     }
@@ -51,13 +61,18 @@ fn rewritten_circuit(
     alloc: Global,
     query: &Query<BvTheory>,
     size: u32,
+    named: u64,
 ) -> Result<Option<Circuit>, Want>
     requires size { size ≡ query_size (query_of vector query.now) }
     ensures variables { IfOk result (λ found. IfSome found (λ circuit. circuit.variables ≡ query.now.vars)) }
     ensures clauses { IfOk result (λ found. IfSome found (λ circuit. HasCircuitClauses (query_of vector query.now) circuit.clauses)) }
     ensures vars { IfOk result (λ found. IfSome found (λ circuit. VarsFit circuit.clauses)) }
 {
-    let other = rewritten(alloc, query)?;
+    let first = ordered(alloc, query, named)?;
+    if first.body.size(MOST_WRITTEN + 1) > MOST_WRITTEN {
+        return Ok(None);
+    }
+    let other = rewritten(alloc, &first)?;
     if !fits(alloc, &other)? {
         return Ok(None);
     }
@@ -74,15 +89,14 @@ fn rewritten_circuit(
     Ok(Some(circuit))
 }
 
-/// A query that the same values satisfy and that is easier to search: what `ordered` makes of it, with equal terms written
-/// alike and the comparisons in it settled that sums decide.
+/// A query that the same values satisfy and that is easier to search: equal terms are written alike in it, and the comparisons
+/// settled that sums decide.
 fn rewritten(alloc: Global, query: &Query<BvTheory>) -> Result<Query<BvTheory>, Want>
     ensures variables { IfOk result (λ other. other.vars ≡ query.now.vars) }
     ensures same { IfOk result (λ other. (values : List Val) → Satisfies (query_of vector other) values ↔ Satisfies (query_of vector query.now) values) }
 {
-    let first = ordered(alloc, query)?;
-    let second = normal_query(alloc, &first)?;
-    let other = settled_query(alloc, &second)?;
+    let first = normal_query(alloc, query)?;
+    let other = settled_query(alloc, &first)?;
     Ok(other)
 }
 

@@ -3,7 +3,7 @@ use Rattle.std.proofs.Common.{◌≡◌, ◌≤◌, ◌-◌, true, List, [], ◌
 use Rattle.std.proofs.lemmas.List.{take_all}
 use Rattle.sy_terms.specs.Values.{Val}
 use Rattle.sy_terms.specs.Operators.{op_value}
-use Rattle.sy_terms.specs.Expr.{Expr, Exprs, Apply, more, none}
+use Rattle.sy_terms.specs.Expr.{Expr, Exprs, Apply, Bind, more, none}
 use Rattle.sy_terms.specs.Denoted.{expr_of, exprs_of}
 use Rattle.sy_terms.specs.Meaning.{meaning, meanings}
 use Rattle.sy_terms.specs.declared.op.Op.{Op}
@@ -21,6 +21,13 @@ applied_paired operator found arguments others is are values = is values ∙ ap 
 pub application_is : (operator : Op) (found : Expr) (arguments : Exprs) → found ≡ Apply operator arguments → (values : List Val) → meaning [] [] values found ≡ op_value operator (meanings [] [] values arguments)
 unfolding meaning
 application_is operator found arguments is values = ap (meaning [] [] values) is
+
+-- a let of terms that mean the same
+pub bound_paired : (bound others : Exprs) (inner other : Expr) → ((values : List Val) → meanings [] [] values bound ≡ meanings [] [] values others) →
+    ((values : List Val) → meaning [] [] values inner ≡ meaning [] [] values other) → (values : List Val) → meaning [] [] values (Bind bound inner) ≡ meaning [] [] values (Bind others other)
+unfolding meaning
+bound_paired bound others inner other are is values =
+    is (values ++ meanings [] [] values bound) ∙ ap (λ (found : List Val). meaning [] [] (values ++ found) other) (are values)
 
 -- lists with one term more
 pub next_paired : {T N : Type 0} (number : N → Val) (found others : List (Term T N)) (term other : Term T N) → ((values : List Val) → meanings [] [] values (exprs_of number found) ≡ meanings [] [] values (exprs_of number others)) →

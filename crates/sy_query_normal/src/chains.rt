@@ -28,6 +28,11 @@ pub(crate) fn paired(alloc: Global, term: &Term<BvTheory>) -> Result<Term<BvTheo
             let found = paired_application(alloc, *operator, arguments)?;
             Ok(found)
         }
+        Term::Let(bound, inner) => {
+            let bound = all_paired(alloc, bound.as_slice())?;
+            let inner = paired(alloc, inner)?;
+            Ok(Term::Let(bound, Box::new(alloc, inner)?))
+        }
         _ => {
             let found = term.copy(alloc)?;
             Ok(found)

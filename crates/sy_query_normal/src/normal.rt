@@ -28,6 +28,11 @@ pub(crate) fn normal(
             let found = normal_application(alloc, sorts, *operator, arguments)?;
             Ok(found)
         }
+        Term::Let(bound, inner) => {
+            let bound = all_normal(alloc, sorts, bound.as_slice())?;
+            let inner = normal(alloc, sorts, inner)?;
+            Ok(Term::Let(bound, Box::new(alloc, inner)?))
+        }
         _ => {
             let found = term.copy(alloc)?;
             Ok(found)

@@ -17,8 +17,8 @@ use sy_terms::Want;
 /// operator that may be exchanged, comparisons say "less", and an `ite` whose branch is known is its branch. Sums, products and
 /// chains of `bvand`, `bvor` and `bvxor` have two arguments each, taken from the left, where they have at most 64. A remainder
 /// of a vector by itself is zeros, as is a logical shift to the right by itself; an arithmetic one is the shift by a constant
-/// that leaves copies of the top bit. What a `let` binds, and what is under it, stays as it is. `Want` comes where memory runs
-/// out, and nowhere else.
+/// that leaves copies of the top bit. What a `let` binds, and what is under it, is written so too, but for terms over a name
+/// that it binds whose sort has to be known. `Want` comes where memory runs out, and nowhere else.
 pub fn normal_query(alloc: Global, query: &Query<BvTheory>) -> Result<Query<BvTheory>, Want>
     ensures variables { IfOk result (λ found. found.vars ≡ query.now.vars) }
     ensures same { IfOk result (λ found. (values : List Val) → Satisfies (query_of vector found) values ↔ Satisfies (query_of vector query.now) values) }

@@ -16,7 +16,7 @@ use Rattle.sy_terms_laws.proofs.Equations.{both_true, value_at_position_is}
 use Rattle.sy_grammar_base.specs.Solving.{AreValues}
 use Rattle.sy_query_base.specs.Asked.{Query, Satisfies}
 use Rattle.sy_query_orders.specs.Alike.{IsAlike, SaysTheSame}
-use Rattle.sy_query_orders.specs.Replaced.{is_atomic, are_atomic, IsReplaced, AreReplaced, AreNext, SaysTheSameAt}
+use Rattle.sy_query_orders.specs.Replaced.{is_plain, are_plain, IsReplaced, AreReplaced, AreNext, SaysTheSameAt}
 use Rattle.sy_query_orders.proofs.Alike.{meanings_last}
 
 -- truth values
@@ -55,11 +55,12 @@ unfolding meanings
 meanings_append defined wanted values none others = refl
 meanings_append defined wanted values (more term terms) others = ap (λ (rest : List Val). meaning defined wanted values term ∷ rest) (meanings_append defined wanted values terms others)
 
-atomic_append : (count : ℕ) (terms others : Exprs) → are_atomic count terms ≡ true → are_atomic count others ≡ true → are_atomic count (append terms others) ≡ true
-atomic_append count none others first second = second
-atomic_append count (more term terms) others first second =
-    let both = both_true (is_atomic count term) (are_atomic count terms) first in
-    and_true (is_atomic count term) (are_atomic count (append terms others)) both.0 (atomic_append count terms others both.1 second)
+plain_append : (count : ℕ) (terms others : Exprs) → are_plain count terms ≡ true → are_plain count others ≡ true → are_plain count (append terms others) ≡ true
+unfolding are_plain
+plain_append count none others first second = second
+plain_append count (more term terms) others first second =
+    let both = both_true (is_plain count term) (are_plain count terms) first in
+    and_true (is_plain count term) (are_plain count (append terms others)) both.0 (plain_append count terms others both.1 second)
 
 many_meanings : {T N : Type 0} (number : N → Val) (defined wanted : List Function) (values : List Val) (terms : List (Term T N)) → length (meanings defined wanted values (exprs_of number terms)) ≡ length terms
 unfolding meanings
@@ -73,34 +74,38 @@ at_before [] later i within = absurd (omega (arith, within))
 at_before (value ∷ values) later zero within = refl
 at_before (value ∷ values) later (suc i) within = at_before values later i (omega (arith, within))
 
-stays : (defined wanted : List Function) (values later : List Val) (term : Expr) → is_atomic (length values) term ≡ true → meaning defined wanted (values ++ later) term ≡ meaning defined wanted values term
-unfolding meaning
-stays defined wanted values later (Constant value) atomic = refl
-stays defined wanted values later (Variable position) atomic = at_before values later position (below position (length values) atomic)
-stays defined wanted values later (Apply operator arguments) atomic = cc
-stays defined wanted values later (Invoke function arguments) atomic = cc
-stays defined wanted values later (Bind bound inner) atomic = cc
+mutual
+  unfolding meaning meanings is_plain are_plain
 
-all_stay : (defined wanted : List Function) (values later : List Val) (terms : Exprs) → are_atomic (length values) terms ≡ true → meanings defined wanted (values ++ later) terms ≡ meanings defined wanted values terms
-unfolding meanings
-all_stay defined wanted values later none atomic = refl
-all_stay defined wanted values later (more term terms) atomic =
-    let both = both_true (is_atomic (length values) term) (are_atomic (length values) terms) atomic in
-    ap (λ (first : Val). first ∷ meanings defined wanted (values ++ later) terms) (stays defined wanted values later term both.0) ∙
-    ap (λ (rest : List Val). meaning defined wanted values term ∷ rest) (all_stay defined wanted values later terms both.1)
+  stays : (defined wanted : List Function) (values later : List Val) (term : Expr) → is_plain (length values) term ≡ true → meaning defined wanted (values ++ later) term ≡ meaning defined wanted values term
+  stays defined wanted values later (Constant value) plain = refl
+  stays defined wanted values later (Variable position) plain = at_before values later position (below position (length values) plain)
+  stays defined wanted values later (Apply operator arguments) plain = ap (op_value operator) (all_stay defined wanted values later arguments plain)
+  stays defined wanted values later (Invoke function arguments) plain = cc
+  stays defined wanted values later (Bind bound inner) plain = cc
 
-further : (count many : ℕ) (term : Expr) → is_atomic count term ≡ true → is_atomic (count + many) term ≡ true
-further count many (Constant value) atomic = refl
-further count many (Variable position) atomic = less_further position count many atomic
-further count many (Apply operator arguments) atomic = cc
-further count many (Invoke function arguments) atomic = cc
-further count many (Bind bound inner) atomic = cc
+  all_stay : (defined wanted : List Function) (values later : List Val) (terms : Exprs) → are_plain (length values) terms ≡ true → meanings defined wanted (values ++ later) terms ≡ meanings defined wanted values terms
+  all_stay defined wanted values later none plain = refl
+  all_stay defined wanted values later (more term terms) plain =
+      let both = both_true (is_plain (length values) term) (are_plain (length values) terms) plain in
+      ap (λ (first : Val). first ∷ meanings defined wanted (values ++ later) terms) (stays defined wanted values later term both.0) ∙
+      ap (λ (rest : List Val). meaning defined wanted values term ∷ rest) (all_stay defined wanted values later terms both.1)
 
-all_further : (count many : ℕ) (terms : Exprs) → are_atomic count terms ≡ true → are_atomic (count + many) terms ≡ true
-all_further count many none atomic = refl
-all_further count many (more term terms) atomic =
-    let both = both_true (is_atomic count term) (are_atomic count terms) atomic in
-    and_true (is_atomic (count + many) term) (are_atomic (count + many) terms) (further count many term both.0) (all_further count many terms both.1)
+mutual
+  unfolding is_plain are_plain
+
+  further : (count many : ℕ) (term : Expr) → is_plain count term ≡ true → is_plain (count + many) term ≡ true
+  further count many (Constant value) plain = refl
+  further count many (Variable position) plain = less_further position count many plain
+  further count many (Apply operator arguments) plain = all_further count many arguments plain
+  further count many (Invoke function arguments) plain = cc
+  further count many (Bind bound inner) plain = cc
+
+  all_further : (count many : ℕ) (terms : Exprs) → are_plain count terms ≡ true → are_plain (count + many) terms ≡ true
+  all_further count many none plain = refl
+  all_further count many (more term terms) plain =
+      let both = both_true (is_plain count term) (are_plain count terms) plain in
+      and_true (is_plain (count + many) term) (are_plain (count + many) terms) (further count many term both.0) (all_further count many terms both.1)
 
 -- a term, form by form
 
@@ -135,14 +140,14 @@ out_replaced count names bound terms found inner are is defined wanted values ma
 
 -- a let is kept: its names stand for the next variables
 pub kept_replaced : {T N : Type 0} (number : N → Val) (count many : ℕ) (names next terms : Exprs) (bound : List (Term T N)) (found inner : Expr) →
-    are_atomic count names ≡ true → many ≡ length bound → AreNext count many next → AreReplaced count names (exprs_of number bound) terms →
+    are_plain count names ≡ true → many ≡ length bound → AreNext count many next → AreReplaced count names (exprs_of number bound) terms →
     IsReplaced (count + many) (append names next) found inner → IsReplaced count names (Bind (exprs_of number bound) found) (Bind terms inner)
 unfolding meaning
-kept_replaced number count many names next terms bound found inner atomic so after are is defined wanted values short =
+kept_replaced number count many names next terms bound found inner plain so after are is defined wanted values short =
     let later : List Val = meanings defined wanted values (exprs_of number bound) in
     let long : length later ≡ many = many_meanings number defined wanted values bound ∙ sym so in
     let all : length (values ++ later) ≡ count + many = omega (arith, length-append values later, short, long) in
-    let inside : are_atomic (length values) names ≡ true = subst (λ n. are_atomic n names ≡ true) (sym short) atomic in
+    let inside : are_plain (length values) names ≡ true = subst (λ n. are_plain n names ≡ true) (sym short) plain in
     let known : meanings defined wanted (values ++ later) (append names next) ≡ meanings defined wanted values names ++ later =
     both_are defined wanted (values ++ later) names next later (after defined wanted values later short long) ∙ ap (λ (first : List Val). first ++ later) (all_stay defined wanted values later names inside) in
     is defined wanted (values ++ later) all ∙
@@ -162,19 +167,19 @@ more_replaced number count names found terms one other are is defined wanted val
 
 -- names, and those that a let adds
 
-pub atomic_with : {T N : Type 0} (number : N → Val) (count : ℕ) (names others : List (Term T N)) → are_atomic count (exprs_of number names) ≡ true → are_atomic count (exprs_of number others) ≡ true →
-    are_atomic count (exprs_of number (names ++ others)) ≡ true
-atomic_with number count names others first second = rw (exprs_of_append number names others) (atomic_append count (exprs_of number names) (exprs_of number others) first second)
+pub plain_with : {T N : Type 0} (number : N → Val) (count : ℕ) (names others : List (Term T N)) → are_plain count (exprs_of number names) ≡ true → are_plain count (exprs_of number others) ≡ true →
+    are_plain count (exprs_of number (names ++ others)) ≡ true
+plain_with number count names others first second = rw (exprs_of_append number names others) (plain_append count (exprs_of number names) (exprs_of number others) first second)
 
-pub atomic_out : {T N : Type 0} (number : N → Val) (count : ℕ) (names stands bound : List (Term T N)) → are_atomic count (exprs_of number names) ≡ true →
-    exprs_of number stands ≡ exprs_of number bound → true ≡ are_atomic count (exprs_of number bound) → are_atomic count (exprs_of number (names ++ stands)) ≡ true
-atomic_out number count names stands bound first same second =
-    atomic_with number count names stands first (ap (are_atomic count) same ∙ sym second)
+pub plain_out : {T N : Type 0} (number : N → Val) (count : ℕ) (names stands bound : List (Term T N)) → are_plain count (exprs_of number names) ≡ true →
+    exprs_of number stands ≡ exprs_of number bound → true ≡ are_plain count (exprs_of number bound) → are_plain count (exprs_of number (names ++ stands)) ≡ true
+plain_out number count names stands bound first same second =
+    plain_with number count names stands first (ap (are_plain count) same ∙ sym second)
 
-pub atomic_kept : {T N : Type 0} (number : N → Val) (count many : ℕ) (names stands : List (Term T N)) → are_atomic count (exprs_of number names) ≡ true →
-    are_atomic (count + many) (exprs_of number stands) ≡ true → are_atomic (count + many) (exprs_of number (names ++ stands)) ≡ true
-atomic_kept number count many names stands first second =
-    atomic_with number (count + many) names stands (all_further count many (exprs_of number names) first) second
+pub plain_kept : {T N : Type 0} (number : N → Val) (count many : ℕ) (names stands : List (Term T N)) → are_plain count (exprs_of number names) ≡ true →
+    are_plain (count + many) (exprs_of number stands) ≡ true → are_plain (count + many) (exprs_of number (names ++ stands)) ≡ true
+plain_kept number count many names stands first second =
+    plain_with number (count + many) names stands (all_further count many (exprs_of number names) first) second
 
 pub let_out : {T N : Type 0} (number : N → Val) (count : ℕ) (names stands : List (Term T N)) (bound terms : Exprs) (found inner : Expr) → exprs_of number stands ≡ bound → AreReplaced count (exprs_of number names) bound terms →
     IsReplaced count (exprs_of number (names ++ stands)) found inner → IsReplaced count (exprs_of number names) found (Bind terms inner)
@@ -183,10 +188,10 @@ let_out number count names stands bound terms found inner same are is =
     out_replaced count (exprs_of number names) bound terms found inner are (subst (λ all. IsReplaced count all found inner) whole is)
 
 pub let_kept : {T N : Type 0} (number : N → Val) (count many : ℕ) (names stands bound : List (Term T N)) (terms : Exprs) (found inner : Expr) →
-    are_atomic count (exprs_of number names) ≡ true → many ≡ length bound → AreNext count many (exprs_of number stands) → AreReplaced count (exprs_of number names) (exprs_of number bound) terms →
+    are_plain count (exprs_of number names) ≡ true → many ≡ length bound → AreNext count many (exprs_of number stands) → AreReplaced count (exprs_of number names) (exprs_of number bound) terms →
     IsReplaced (count + many) (exprs_of number (names ++ stands)) found inner → IsReplaced count (exprs_of number names) (Bind (exprs_of number bound) found) (Bind terms inner)
-let_kept number count many names stands bound terms found inner atomic so next are is =
-    kept_replaced number count many (exprs_of number names) (exprs_of number stands) terms bound found inner atomic so next are
+let_kept number count many names stands bound terms found inner plain so next are is =
+    kept_replaced number count many (exprs_of number names) (exprs_of number stands) terms bound found inner plain so next are
     (subst (λ all. IsReplaced (count + many) all found inner) (exprs_of_append number names stands) is)
 
 -- what a name stands for
@@ -206,18 +211,20 @@ no_name number [] position beyond defined wanted values = refl
 no_name number (name ∷ names) zero beyond defined wanted values = absurd (omega (arith, beyond))
 no_name number (name ∷ names) (suc i) beyond defined wanted values = no_name number names i (omega (arith, beyond)) defined wanted values
 
--- atomic terms, one by one
+-- plain terms, one by one
 
-pub atomic_more : {T N : Type 0} (number : N → Val) (count : ℕ) (terms : List (Term T N)) (term : Term T N) → are_atomic count (exprs_of number terms) ≡ true → is_atomic count (expr_of number term) ≡ true →
-    are_atomic count (exprs_of number (terms ++ term ∷ [])) ≡ true
-atomic_more number count terms term all one = atomic_with number count terms (term ∷ []) all (and_true (is_atomic count (expr_of number term)) true one refl)
+pub plain_more : {T N : Type 0} (number : N → Val) (count : ℕ) (terms : List (Term T N)) (term : Term T N) → are_plain count (exprs_of number terms) ≡ true → is_plain count (expr_of number term) ≡ true →
+    are_plain count (exprs_of number (terms ++ term ∷ [])) ≡ true
+unfolding are_plain
+plain_more number count terms term all one = plain_with number count terms (term ∷ []) all (and_true (is_plain count (expr_of number term)) true one refl)
 
-pub not_atomic : {T N : Type 0} (number : N → Val) (count : ℕ) (terms : List (Term T N)) (i : ℕ) (term : Term T N) → i < length terms → is_atomic count (expr_of number (get_or terms i term)) ≡ false →
-    are_atomic count (exprs_of number terms) ≡ false
-not_atomic number count [] i term within is = absurd (omega (arith, within))
-not_atomic number count (first ∷ terms) zero term within is = and_first (is_atomic count (expr_of number first)) (are_atomic count (exprs_of number terms)) is
-not_atomic number count (first ∷ terms) (suc i) term within is =
-    and_second (is_atomic count (expr_of number first)) (are_atomic count (exprs_of number terms)) (not_atomic number count terms i term (omega (arith, within)) is)
+pub not_plain : {T N : Type 0} (number : N → Val) (count : ℕ) (terms : List (Term T N)) (i : ℕ) (term : Term T N) → i < length terms → is_plain count (expr_of number (get_or terms i term)) ≡ false →
+    are_plain count (exprs_of number terms) ≡ false
+unfolding are_plain
+not_plain number count [] i term within is = absurd (omega (arith, within))
+not_plain number count (first ∷ terms) zero term within is = and_first (is_plain count (expr_of number first)) (are_plain count (exprs_of number terms)) is
+not_plain number count (first ∷ terms) (suc i) term within is =
+    and_second (is_plain count (expr_of number first)) (are_plain count (exprs_of number terms)) (not_plain number count terms i term (omega (arith, within)) is)
 
 -- the next variables, one by one
 
@@ -244,15 +251,16 @@ more_first {T} {N} number count i position terms so first defined wanted values 
     ap (λ (value : Val). take i later ++ value ∷ []) here ∙
     sym (take_more later i (Truth false) (omega (arith, within)))
 
-pub more_within : {T N : Type 0} (number : N → Val) (count i position : ℕ) (terms : List (Term T N)) → position ≡ count + i → are_atomic (count + i) (exprs_of number terms) ≡ true → are_atomic (count + (i + 1)) (exprs_of number (terms ++ Var position ∷ [])) ≡ true
-more_within {T} {N} number count i position terms so atomic =
+pub more_within : {T N : Type 0} (number : N → Val) (count i position : ℕ) (terms : List (Term T N)) → position ≡ count + i → are_plain (count + i) (exprs_of number terms) ≡ true → are_plain (count + (i + 1)) (exprs_of number (terms ++ Var position ∷ [])) ≡ true
+unfolding is_plain
+more_within {T} {N} number count i position terms so plain =
     let last : Term T N = Var position in
     let same : count + i + 1 ≡ count + (i + 1) = omega arith in
-    let longer : are_atomic (count + (i + 1)) (exprs_of number terms) ≡ true =
-    subst (λ n. are_atomic n (exprs_of number terms) ≡ true) same (all_further (count + i) 1 (exprs_of number terms) atomic) in
-    let inside : is_atomic (count + (i + 1)) (expr_of number last) ≡ true =
-    ap (is_atomic (count + (i + 1))) (expr_of-Var T number position) ∙ less_next position count i so in
-    atomic_more number (count + (i + 1)) terms last longer inside
+    let longer : are_plain (count + (i + 1)) (exprs_of number terms) ≡ true =
+    subst (λ n. are_plain n (exprs_of number terms) ≡ true) same (all_further (count + i) 1 (exprs_of number terms) plain) in
+    let inside : is_plain (count + (i + 1)) (expr_of number last) ≡ true =
+    ap (is_plain (count + (i + 1))) (expr_of-Var T number position) ∙ less_next position count i so in
+    plain_more number (count + (i + 1)) terms last longer inside
 
 pub all_next : (count many : ℕ) (terms : Exprs) → MeanFirst count many terms → AreNext count many terms
 all_next count many terms first defined wanted values later short long = first defined wanted values later short (omega (arith, long)) ∙ take_all many later (omega (arith, long))

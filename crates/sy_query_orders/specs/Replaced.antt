@@ -1,18 +1,21 @@
--- Terms in which names are replaced by what they stand for: constants and variables.
+-- Terms in which names are replaced by what they stand for.
 use Rattle.std.specs.Prelude.{ℕ, Bool, true, false, ◌&&◌, nat_lt, ◌≡◌, ◌↔◌, ◌++◌, List, [], length}
 use Rattle.sy_terms.specs.Values.{Val, Truth}
-use Rattle.sy_terms.specs.Expr.{Expr, Exprs, Constant, Variable, none, more}
+use Rattle.sy_terms.specs.Expr.{Expr, Exprs, Constant, Variable, Apply, Invoke, Bind, none, more}
 use Rattle.sy_terms.specs.Meaning.{Function, meaning, meanings}
 
--- a constant, or one of the first variables
-abbrev pub is_atomic : ℕ → Expr → Bool
-is_atomic count (Constant value) = true
-is_atomic count (Variable position) = nat_lt position count
-is_atomic count _ = false
+-- constants, operators and the first variables alone: it means the same where further values are in force
+unfoldable mutual
+  pub is_plain : ℕ → Expr → Bool
+  is_plain count (Constant value) = true
+  is_plain count (Variable position) = nat_lt position count
+  is_plain count (Apply operator arguments) = are_plain count arguments
+  is_plain count (Invoke function arguments) = false
+  is_plain count (Bind bound inner) = false
 
-abbrev pub are_atomic : ℕ → Exprs → Bool
-are_atomic count none = true
-are_atomic count (more first rest) = is_atomic count first && are_atomic count rest
+  pub are_plain : ℕ → Exprs → Bool
+  are_plain count none = true
+  are_plain count (more first rest) = is_plain count first && are_plain count rest
 
 -- at so many values, the one means what the other means at the values that the names stand for
 abbrev pub IsReplaced : ℕ → Exprs → Expr → Expr → Type 0

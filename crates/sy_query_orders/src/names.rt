@@ -1,5 +1,5 @@
-// What names stand for: constants and variables.
-ghost use Rattle.std.specs.Prelude.{◌≡◌, ◌+◌, ◌<◌, ◌^◌, List, true, IfOk};
+// What names stand for.
+ghost use Rattle.std.specs.Prelude.{◌≡◌, ◌+◌, ◌<◌, ◌^◌, List, true, IsTrue, IfOk};
 ghost use Rattle.sy_terms.specs.Values.{Val};
 ghost use Rattle.sy_terms.specs.Denoted.{expr_of, exprs_of};
 ghost use Rattle.sy_terms.specs.Meaning.{Function, meaning, meanings, value_at_position};
@@ -9,29 +9,46 @@ ghost use Rattle.sy_query_orders.specs.Replaced.{AreNext};
 use std::alloc::{AllocError, Global};
 use sy_terms::{Term, Theory, Value, Want};
 
-/// Whether the term is a constant or one of the first `count` variables.
-fn is_atomic<T: Theory>(count: u32, term: &Term<T>) -> bool
-    ensures { result ≡ spec.is_atomic count (expr_of T.denotes term.now) }
+/// Whether the term is made of constants, operators and the first `count` variables alone, so that it means the same where
+/// further values are in force.
+#[cycle(plain)]
+fn is_plain<T: Theory>(count: u32, term: &Term<T>) -> bool
+    ensures { result ≡ spec.is_plain count (expr_of T.denotes term.now) }
 {
     match term {
         Term::Const(_) => true,
         Term::Var(position) => *position < count,
-        Term::App(_, _) => false,
+        Term::App(_, arguments) => are_plain(count, arguments.as_slice()),
         Term::Call(_, _) => false,
         Term::Let(_, _) => false,
     }
 }
 
 /// Whether each of the terms is.
-pub(crate) fn are_atomic<T: Theory>(count: u32, terms: &[Term<T>]) -> bool
-    ensures { result ≡ spec.are_atomic count (exprs_of T.denotes terms.now) }
+#[cycle(plain)]
+fn are_plain<T: Theory>(count: u32, terms: &[Term<T>]) -> bool
+    ensures { result ≡ spec.are_plain count (exprs_of T.denotes terms.now) }
 {
     for term in terms {
-        if !is_atomic(count, term) {
+        if !is_plain(count, term) {
             return false;
         }
     }
     true
+}
+
+/// Whether each of the terms has at most so many nodes.
+fn are_small<T: Theory>(most: u64, terms: &[Term<T>]) -> bool {
+    terms
+        .iter()
+        .all(|term| term.size(most.saturating_add(1)) <= most)
+}
+
+/// Whether each of the terms may stand in a name's place: it has at most so many nodes, and means the same there.
+pub(crate) fn may_stand<T: Theory>(most: u64, count: u32, terms: &[Term<T>]) -> bool
+    ensures { IsTrue result → spec.are_plain count (exprs_of T.denotes terms.now) ≡ true }
+{
+    are_small(most, terms) && are_plain(count, terms)
 }
 
 /// What the name at a position stands for; beyond the names a term that means what a position without a value does.
@@ -59,7 +76,7 @@ pub(crate) fn variables<T: Theory>(
 ) -> Result<Vec<Term<T>>, Want>
     requires { count + many < 2 ^ 32 }
     ensures next { IfOk result (λ terms. AreNext count many (exprs_of T.denotes terms.items)) }
-    ensures atomic { IfOk result (λ terms. spec.are_atomic (count + many) (exprs_of T.denotes terms.items) ≡ true) }
+    ensures plain { IfOk result (λ terms. spec.are_plain (count + many) (exprs_of T.denotes terms.items) ≡ true) }
 {
     let mut terms = Vec::with_capacity(alloc, many as usize)?;
     for i in 0..many {

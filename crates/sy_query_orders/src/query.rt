@@ -15,28 +15,33 @@ use sy_query_base::Query;
 use sy_query_copies::copied_sorts;
 use sy_terms::{Term, Theory, Want};
 
-/// A query that the same values satisfy. What a `let` gives a name to is written in the name's place where it is a
-/// constant or a variable. Where a small term is compared with a choice, there is a choice between comparisons; and where
-/// variables are compared with each other as unsigned numbers, it says that their order is transitive.
+/// A query that the same values satisfy. What a `let` gives names to is written in their places where each term has at most
+/// `most` nodes, and no `let` left in it. Where a small term is compared with a choice, there is a choice between comparisons;
+/// and where variables are compared with each other as unsigned numbers, it says that their order is transitive.
 ///
 /// `Want` comes where memory runs out, and where a number of 32 bits doesn't count the values in force somewhere in the
 /// query: its variables, and what is bound by the `let`s around that are kept.
-pub fn ordered<T: Theory>(alloc: Global, query: &Query<T>) -> Result<Query<T>, Want>
+pub fn ordered<T: Theory>(alloc: Global, query: &Query<T>, most: u64) -> Result<Query<T>, Want>
     ensures variables { IfOk result (λ found. found.vars ≡ query.now.vars) }
     ensures same { IfOk result (λ found. (values : List Val) → Satisfies (query_of T.denotes found) values ↔ Satisfies (query_of T.denotes query.now) values) }
 {
     let vars = copied_sorts(alloc, query.vars.as_slice())?;
-    let body = ordered_body(alloc, vars.len(), &query.body)?;
+    let body = ordered_body(alloc, most, vars.len(), &query.body)?;
     Ok(Query { vars, body })
 }
 
 /// The same of a body over so many variables.
-fn ordered_body<T: Theory>(alloc: Global, many: usize, body: &Term<T>) -> Result<Term<T>, Want>
+fn ordered_body<T: Theory>(
+    alloc: Global,
+    most: u64,
+    many: usize,
+    body: &Term<T>,
+) -> Result<Term<T>, Want>
     ensures { IfOk result (λ found. SaysTheSameAt many (expr_of T.denotes found) (expr_of T.denotes body.now)) }
 {
     let count = counted(0, many)?;
     let mut names = variables(alloc, 0, count)?;
-    let body = written(alloc, count, &mut names, body)?;
+    let body = written(alloc, most, count, &mut names, body)?;
     let body = apart(alloc, &body)?;
     let triples = triples(alloc, count, &body)?;
     if triples.is_empty() {

@@ -160,7 +160,7 @@ bb ABiA!B|^ 99 never
 44 AB3a*B0sAn0?# 1 never
 ";
 
-/// Sums and equal gates: no clause is learned beside the empty one.
+/// Sums and equal gates, under a `let` too: no clause is learned beside the empty one.
 const EQUAL_GATES: &str = "\
 444 AB+AC+=BC=^ 1 never
 44 AB-0=AB=^ 1 never
@@ -197,6 +197,10 @@ b44 ABB?B# 1 never
 44 ABwABxABwPAB+# 1 never
 44 ABwB~w0# 1 never
 44 ABxB~xA~# 1 never
+44 ABwC3wA3wBw#L 1 never
+44 ABxC3xB3xAx#L 1 never
+44 AB+CCmAA-#L 1 never
+44 AB/B%A/B%A/B%A/B%A/B%AB3wwA3wBw#C0<|L 1 never
 ";
 
 /// Sums and products of variables that need no gate, remainders and shifts of a vector by itself, and signed shifts by
@@ -207,6 +211,7 @@ const SETTLED: &str = "\
 pp ABA+*AB*AA*+# 129 settled
 88 AB+AB+*AA*AB*AB*++BB*+# 17 settled
 pp AB+AB+*AA*AB*AB*++BB*+# 129 settled
+pp AB+CC*AA*AB*AB*++BB*+#L 129 settled
 88 AB+AB-*AA*BB*-# 17 settled
 pp AB+AB-*AA*BB*-# 129 settled
 888 AC*B+C*A+AC*C*BC*+A+# 25 settled

@@ -5,9 +5,8 @@ use Rattle.sy_bits.proofs.Alike.{alike_after}
 use Rattle.sy_bits.proofs.clauses.rewritten.Goals as goal
 
 pub returns-clause-variables : goal.returns-clause-variables
-returns-clause-variables c = c.in_ok-other.ensures.variables ∙ (c.in_ok-second.ensures.variables ∙ c.in_ok-first.ensures.variables)
+returns-clause-variables c = c.in_ok-other.ensures.variables ∙ c.in_ok-first.ensures.variables
 
 pub returns-clause-same : goal.returns-clause-same
 returns-clause-same c =
-    let earlier = alike_after (query_of vector c.args.query.now) (query_of vector c.in_ok-first.first) (query_of vector c.in_ok-second.second) c.in_ok-first.ensures.same c.in_ok-second.ensures.same in
-    alike_after (query_of vector c.args.query.now) (query_of vector c.in_ok-second.second) (query_of vector c.in_ok-other.other) earlier c.in_ok-other.ensures.same
+    alike_after (query_of vector c.args.query.now) (query_of vector c.in_ok-first.first) (query_of vector c.in_ok-other.other) c.in_ok-first.ensures.same c.in_ok-other.ensures.same

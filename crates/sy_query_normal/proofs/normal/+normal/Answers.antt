@@ -1,13 +1,18 @@
 use Rattle.std.proofs.Common.{arith, take}
 use Rattle.std.proofs.lemmas.List.{take_more}
-use Rattle.sy_terms.specs.Denoted.{expr_of-App}
+use Rattle.sy_terms.specs.Denoted.{expr_of-App, expr_of-Let}
 use Rattle.sy_meaning_words.specs.Vectors.{vector}
-use Rattle.sy_query_sums.proofs.Terms.{applied-same, next-same}
+use Rattle.sy_query_sums.proofs.Terms.{applied-same, bound-same, next-same}
 use Rattle.sy_query_normal.proofs.normal.+normal.Goals as goal
 
 pub normal-returns-in_ok-found-in-App : goal.normal-returns-in_ok-found-in-App
 normal-returns-in_ok-found-in-App t c =
     rw (c.in-App.is, expr_of-App) (applied-same c.args.sorts.now c.in-App.operator _ _ _ c.in_ok-found-in-App.ensures (rw c.as_slice.ensures at c.in_ok-arguments-in-App.ensures))
+
+pub normal-returns-in_ok-new-in-Let : goal.normal-returns-in_ok-new-in-Let
+normal-returns-in_ok-new-in-Let t c =
+    rw (c.in-Let.is, expr_of-Let, expr_of-Let, c.in_ok-new-in-Let.ensures.ok)
+    (bound-same c.args.sorts.now _ _ _ _ (rw c.as_slice-in-Let.ensures at c.in_ok-bound-in-Let.ensures) (rw c.deref.ensures at c.in_ok-inner-in-Let.ensures))
 
 pub all_normal-loop-term-preserved : goal.all_normal-loop-term-preserved
 all_normal-loop-term-preserved t c =

@@ -1,14 +1,16 @@
 use Rattle.std.proofs.Common.{refl}
+use Rattle.sy_query_orders.specs.Replaced.{are_plain}
 use Rattle.sy_query_orders.proofs.Replaced.{none_first, more_first, more_within}
 use Rattle.sy_query_orders.proofs.names.variables.Goals as goal
 
 pub loop-i-init : goal.loop-i-init
-loop-i-init g c = rw (c.in_ok-terms.ensures.items) (record { first = none_first c.args.count; atomic = refl })
+unfolding are_plain
+loop-i-init g c = rw (c.in_ok-terms.ensures.items) (record { first = none_first c.args.count; plain = refl })
 
 pub loop-i-preserved : goal.loop-i-preserved
 loop-i-preserved g c =
     let number = g.T.Theory.denotes in
     rw (c.in_ok-push.ensures.items) (record {
       first = more_first number c.args.count c.loop-i.i _ c.loop-i.terms.items refl c.loop-i.invariant.first;
-      atomic = more_within number c.args.count c.loop-i.i _ c.loop-i.terms.items refl c.loop-i.invariant.atomic;
+      plain = more_within number c.args.count c.loop-i.i _ c.loop-i.terms.items refl c.loop-i.invariant.plain;
     })

@@ -1,11 +1,11 @@
 use Rattle.std.proofs.Common.{◌≡◌, ◌+◌, true}
 use Rattle.sy_terms.specs.Denoted.{exprs_of}
-use Rattle.sy_query_orders.specs.Replaced.{are_atomic}
+use Rattle.sy_query_orders.specs.Replaced.{are_plain}
 use Rattle.sy_query_orders.proofs.Replaced.{MeanFirst}
 use Rattle.sy_query_orders.proofs.names.variables.Given as goal
 
 abbrev pub invariant-loop-i : goal.invariant-loop-i
 invariant-loop-i g l = record {
   first : MeanFirst l.count l.i (exprs_of g.T.Theory.denotes l.terms.items);
-  atomic : are_atomic (l.count + l.i) (exprs_of g.T.Theory.denotes l.terms.items) ≡ true;
+  plain : are_plain (l.count + l.i) (exprs_of g.T.Theory.denotes l.terms.items) ≡ true;
 }

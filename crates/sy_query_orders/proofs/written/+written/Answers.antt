@@ -3,7 +3,7 @@ use Rattle.std.proofs.Common.{arith, ◌∙◌, refl, sym, ap, take}
 use Rattle.std.proofs.lemmas.List.{take_more}
 use Rattle.sy_terms.specs.Denoted.{expr_of-Const, expr_of-Var, expr_of-App, expr_of-Call, expr_of-Let, exprs_of}
 use Rattle.sy_terms_laws.proofs.Steps.{app-falls, call-falls, let-falls, all-falls}
-use Rattle.sy_query_orders.specs.Replaced.{are_atomic}
+use Rattle.sy_query_orders.specs.Replaced.{are_plain}
 use Rattle.sy_query_orders.proofs.Replaced as law
 use Rattle.sy_query_orders.proofs.written.+written.Goals as goal
 
@@ -47,15 +47,15 @@ written-written-requires g t c κs within =
     let number = g.T.Theory.denotes in
     let falls = let-falls number c.args.term.now c.in-Let.bound c.in-Let.inner 0 c.in-Let.is in
     let second = falls.1 in
-    let same = c.in_ok-stands-in-Let.ensures ∙ ap (exprs_of number) c.as_slice-then-are_atomic.ensures in
-    let atomic = sym c.if-are_atomic.true ∙ c.are_atomic.ensures ∙ ap (λ terms. are_atomic c.args.count (exprs_of number terms)) c.as_slice-in-Let-2.ensures in
-    let all = law.atomic_out number c.args.count c.args.names.now.items c.in_ok-stands-in-Let.stands.items c.in_ok-bound-in-Let.bound.items.items c.requires same atomic in
+    let same = c.in_ok-stands-in-Let.ensures ∙ ap (exprs_of number) c.as_slice-then-may_stand.ensures in
+    let plain = sym (c.may_stand.ensures c.if-may_stand.true) ∙ ap (λ terms. are_plain c.args.count (exprs_of number terms)) c.as_slice-in-Let-2.ensures in
+    let all = law.plain_out number c.args.count c.args.names.now.items c.in_ok-stands-in-Let.stands.items c.in_ok-bound-in-Let.bound.items.items c.requires same plain in
     (rw c.deref.ensures (omega (arith, second, c.decreases)), (within.0, (within.1, rw (c.in_ok-append-in-Let.ensures.items, c.in_ok-bound-in-Let.ensures.kept) all)))
 
-pub written-returns-then-are_atomic-clause-replaced : goal.written-returns-then-are_atomic-clause-replaced
-written-returns-then-are_atomic-clause-replaced g t c =
+pub written-returns-then-may_stand-clause-replaced : goal.written-returns-then-may_stand-clause-replaced
+written-returns-then-may_stand-clause-replaced g t c =
     let number = g.T.Theory.denotes in
-    let same = c.in_ok-stands-in-Let.ensures ∙ ap (exprs_of number) c.as_slice-then-are_atomic.ensures in
+    let same = c.in_ok-stands-in-Let.ensures ∙ ap (exprs_of number) c.as_slice-then-may_stand.ensures in
     let are = rw c.as_slice-in-Let.ensures at c.in_ok-bound-in-Let.ensures.replaced in
     let is = rw (c.in_ok-append-in-Let.ensures.items, c.in_ok-bound-in-Let.ensures.kept, c.deref.ensures) at c.in_ok-found-in-Let.ensures.replaced in
     rw (c.in-Let.is, expr_of-Let) (law.let_out number c.args.count c.args.names.now.items c.in_ok-stands-in-Let.stands.items _ _ _ _ same are is)
@@ -65,7 +65,7 @@ written-written-requires-in-Let g t c κs within =
     let number = g.T.Theory.denotes in
     let falls = let-falls number c.args.term.now c.in-Let.bound c.in-Let.inner 0 c.in-Let.is in
     let second = falls.1 in
-    let all = law.atomic_kept number c.args.count c.in_ok-many-in-Let.many c.args.names.now.items c.in_ok-stands-in-Let-2.stands.items c.requires c.in_ok-stands-in-Let-2.ensures.atomic in
+    let all = law.plain_kept number c.args.count c.in_ok-many-in-Let.many c.args.names.now.items c.in_ok-stands-in-Let-2.stands.items c.requires c.in_ok-stands-in-Let-2.ensures.plain in
     (rw c.deref-in-Let.ensures (omega (arith, second, c.decreases)), (within.0, (within.1, rw (c.in_ok-append-in-Let-2.ensures.items, c.in_ok-bound-in-Let.ensures.kept) all)))
 
 pub written-returns-in_ok-new-in-Let-clause-replaced : goal.written-returns-in_ok-new-in-Let-clause-replaced
