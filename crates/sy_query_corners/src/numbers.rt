@@ -6,9 +6,23 @@ use sy_terms::{Sort, Want};
 /// How many numbers each sort has apart from a query's constants.
 const OWN: usize = 10;
 
-/// How many numbers are tried where a query has these constants: a sort's own, and each constant with its neighbours.
-pub(crate) fn count(constants: &[i128]) -> usize {
-    constants.len().saturating_mul(3).saturating_add(OWN)
+/// How many single bits a vector has behind the constants.
+const SINGLE_BITS: usize = 3;
+
+/// How many numbers are tried where a query has these constants: a sort's own, each constant with its neighbours, and single
+/// bits where a variable is a vector.
+pub(crate) fn count(vars: &[Sort], constants: &[i128]) -> usize {
+    let before = constants.len().saturating_mul(3).saturating_add(OWN);
+    if has_vector(vars) {
+        before.saturating_add(SINGLE_BITS)
+    } else {
+        before
+    }
+}
+
+/// Whether a variable is a vector.
+pub(crate) fn has_vector(vars: &[Sort]) -> bool {
+    vars.iter().any(|sort| matches!(sort, Sort::Bits(_)))
 }
 
 /// The numbers of these places for variables of these sorts.
@@ -48,7 +62,8 @@ pub(crate) fn with_number(
     Ok(changed)
 }
 
-/// The number of this place for a sort. The constants and their neighbours come after the sort's own numbers.
+/// The number of this place for a sort. The constants and their neighbours come after the sort's own numbers, and single bits
+/// of vectors after these.
 fn number_at(sort: Sort, constants: &[i128], place: usize) -> i128 {
     if place < OWN {
         return own(sort, place);
@@ -56,7 +71,23 @@ fn number_at(sort: Sort, constants: &[i128], place: usize) -> i128 {
     let after = place - OWN;
     match constants.get(after / 3) {
         Some(constant) => within(sort, constant.wrapping_add((after % 3) as i128 - 1)),
-        None => 0,
+        None => single_bit(
+            sort,
+            after.saturating_sub(constants.len().saturating_mul(3)),
+        ),
+    }
+}
+
+/// A bit in the middle of a vector, or of one of its halves; 0 for other sorts.
+fn single_bit(sort: Sort, place: usize) -> i128 {
+    let Sort::Bits(width) = sort else {
+        return 0;
+    };
+    let quarter = width.min(64) / 4;
+    match place {
+        0 => 1 << (2 * quarter),
+        1 => 1 << quarter,
+        _ => 1 << (3 * quarter),
     }
 }
 

@@ -8,7 +8,7 @@ ghost use Rattle.sy_query_base.specs.Asked.{query_of, QueryFits, Satisfies};
 
 use crate::choices::has_large_choice;
 use crate::constants::constants_of;
-use crate::numbers::{count, number_in, numbers_at, with_number};
+use crate::numbers::{count, has_vector, number_in, numbers_at, with_number};
 use crate::places::{Shuffle, stepped};
 use std::alloc::Global;
 use sy_meaning::{Eval, evaluate};
@@ -34,7 +34,7 @@ pub fn corner_model<T: Theory>(alloc: Global, query: &Query<T>) -> Result<Option
 {
     let constants = constants_of(alloc, &query.body)?;
     let vars = query.vars.as_slice();
-    let numbers = count(constants.as_slice()).max(1);
+    let numbers = count(vars, constants.as_slice()).max(1);
     let tries = if vars.len() < 2 {
         numbers.min(TRIES)
     } else {
@@ -86,16 +86,12 @@ fn model_at<T: Theory>(
     let Some(values) = satisfying(alloc, query, numbers.as_slice())? else {
         return Ok(None);
     };
+    // With simple models a search over vectors found fewer solutions beyond a full bank.
     if has_vector(query.vars.as_slice()) || has_large_choice(&query.body) {
         return Ok(Some(values));
     }
     let simple = simplified(alloc, query, Model { numbers, values })?;
     Ok(Some(simple.values))
-}
-
-/// Whether a variable is a vector. With simple models a search over vectors found fewer solutions beyond a full bank.
-fn has_vector(vars: &[Sort]) -> bool {
-    vars.iter().any(|sort| matches!(sort, Sort::Bits(_)))
 }
 
 /// Values that satisfy a query, and their numbers.
