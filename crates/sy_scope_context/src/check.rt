@@ -16,6 +16,7 @@ ghost use Rattle.sy_scope_context.specs.Seen.{context_of, definition_of, sought_
 ghost use Rattle.sy_scope_steps.specs.Steps as spec;
 
 use crate::context::{Condition, Context, Definition, Sought};
+use crate::invariant::copied;
 use std::alloc::Global;
 use sy_forms::{Phrase, ReadEnd};
 use sy_grammar_base::{Grammar, Problem, Wanted};
@@ -169,7 +170,7 @@ impl<T: Theory> Context<T> {
             return Err(Want {});
         };
         let defs = defs_of(alloc, self.definitions.as_slice())?;
-        let vars = Seq::from(Vec::from_slice(alloc, self.variables.as_slice())?);
+        let vars = copied(alloc, self.variables.as_slice())?;
         let wanted = all_wanted(alloc, self.logic, self.sought.as_slice(), &defs)?;
         let assumptions = terms_of(alloc, outside, self.assumptions.as_slice())?;
         let constraints = constraints_of(alloc, outside, self.constraints.as_slice())?;

@@ -90,13 +90,24 @@ fn as_condition(name: Spelled<'_>, takes: &[Sort], f: Called<'_>) -> Result<u32,
     }
 }
 
+/// Appends sorts.
+fn append(all: &mut Seq<Sort>, sorts: &[Sort]) -> Result<(), Want>
+    ensures { OnOk result (all.new ≡ all.old ++ sorts.now) }
+{
+    for sort in sorts {
+        all.push(*sort)?;
+    }
+    Ok(())
+}
+
 /// The sorts of a state and the next.
 fn twice(alloc: Global, state: &[Sort]) -> Result<Seq<Sort>, Want>
     ensures { IfOk result (λ both. both ≡ state.now ++ state.now) }
 {
-    let mut both = Vec::from_slice(alloc, state)?;
-    both.extend_from_slice(state)?;
-    Ok(Seq::from(both))
+    let mut both = Seq::new(alloc);
+    append(&mut both, state)?;
+    append(&mut both, state)?;
+    Ok(both)
 }
 
 /// The names of an `inv-constraint`, in order.
@@ -137,6 +148,15 @@ fn invariant_parts(
         step,
         after,
     })
+}
+
+/// The same sorts, in memory of their own.
+pub(crate) fn copied(alloc: Global, sorts: &[Sort]) -> Result<Seq<Sort>, Want>
+    ensures { IfOk result (λ all. all ≡ sorts.now) }
+{
+    let mut all = Seq::new(alloc);
+    append(&mut all, sorts)?;
+    Ok(all)
 }
 
 impl<T: Theory> Context<T> {
@@ -191,7 +211,7 @@ impl<T: Theory> Context<T> {
             after: function_named(&self.names, names.after)?,
         };
         let parts = invariant_parts(alloc, names, functions)?;
-        let state = Seq::from(Vec::from_slice(alloc, functions.invariant.takes)?);
+        let state = copied(alloc, functions.invariant.takes)?;
         if !has_room(&self.names, self.fresh, 2 * state.len()) {
             return Err(ReadEnd::Refused(place, Cause::TooMany));
         }
