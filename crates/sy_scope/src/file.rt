@@ -1,6 +1,6 @@
 // Files.
 ghost use Rattle.std.specs.Prelude.{◌≡◌, ◌≤◌, ◌<◌, length, IfOk, IfSome};
-ghost use Rattle.sy_text.specs.Reading.{offset_of};
+ghost use Rattle.sy_text.specs.Reading as reading;
 ghost use Rattle.sy_text.specs.Views.{command_of};
 ghost use Rattle.sy_terms.specs.Logics.{IsTheoryOf, Serves};
 ghost use Rattle.sy_text.specs.Views.{item_of};
@@ -37,7 +37,7 @@ struct Opened {
 
 /// The offset of a fault of the text.
 fn offset_of(fault: TextFault) -> usize
-    ensures { result ≡ offset_of fault }
+    ensures { result ≡ reading.offset_of fault }
 {
     match fault {
         TextFault::BadByte(at) => at,
