@@ -1,9 +1,9 @@
 // The program: a file of commands is read, and each `check-synth` in it is answered.
 #![tactic(auto)]
 
-use std::env;
 use std::io::ErrorKind;
 use std::process::ExitCode;
+use std::{env, mem};
 use sy_io::{FileSource, StdSink};
 use sygus_run::run;
 
@@ -26,5 +26,8 @@ fn main(rt: HostRuntime) -> ExitCode {
         &mut out,
         &mut err,
     );
-    ExitCode::from(ended.status)
+    let status = ended.status;
+    // the process ends here, so the answers aren't freed one by one
+    mem::forget(ended);
+    ExitCode::from(status)
 }
