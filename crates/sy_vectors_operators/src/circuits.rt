@@ -1,7 +1,7 @@
 // SMT-LIB's operators at width 4, by circuits. Words of constants fold, so their results are constants.
 use std::alloc::Global;
+use std::process::Abort;
 use sy_gates::{Bit, Circuit, constant, part, rotated_up};
-use sy_terms::Want;
 
 /// The number of a word of constants; `None` of another.
 fn number(word: &[Bit]) -> Option<u8> {
@@ -16,24 +16,24 @@ fn number(word: &[Bit]) -> Option<u8> {
 }
 
 /// The operator's value at constants of four bits, of which the last two operators take one.
-fn at_two(alloc: Global, word: &str, s: u64, t: u64) -> Result<Option<u8>, Want> {
+fn at_two(rt: &impl Abort, alloc: Global, word: &str, s: u64, t: u64) -> Option<u8> {
     let mut circuit = Circuit::new(alloc, 0);
-    let a = constant(alloc, 4, s)?;
-    let b = constant(alloc, 4, t)?;
+    let a = constant(alloc, 4, s).expect(rt, word);
+    let b = constant(alloc, 4, t).expect(rt, word);
     let (a, b) = (a.as_slice(), b.as_slice());
     let value = match word {
-        "bvudiv" => circuit.divide(alloc, a, b)?.quotient,
-        "bvurem" => circuit.divide(alloc, a, b)?.remainder,
-        "bvsdiv" => circuit.signed_quotient(alloc, a, b)?,
-        "bvsrem" => circuit.signed_remainder(alloc, a, b)?,
-        "bvsmod" => circuit.signed_modulo(alloc, a, b)?,
-        "bvashr" => circuit.signed_shift_down(alloc, a, b)?,
-        "bvshl" => circuit.shift_up(alloc, a, b)?,
-        "rotate_left,1" => rotated_up(alloc, a, 1)?,
-        "extract,2,1" => part(alloc, a, 1, 3)?,
-        _ => return Ok(None),
+        "bvudiv" => circuit.divide(alloc, a, b).expect(rt, word).quotient,
+        "bvurem" => circuit.divide(alloc, a, b).expect(rt, word).remainder,
+        "bvsdiv" => circuit.signed_quotient(alloc, a, b).expect(rt, word),
+        "bvsrem" => circuit.signed_remainder(alloc, a, b).expect(rt, word),
+        "bvsmod" => circuit.signed_modulo(alloc, a, b).expect(rt, word),
+        "bvashr" => circuit.signed_shift_down(alloc, a, b).expect(rt, word),
+        "bvshl" => circuit.shift_up(alloc, a, b).expect(rt, word),
+        "rotate_left,1" => rotated_up(alloc, a, 1).expect(rt, word),
+        "extract,2,1" => part(alloc, a, 1, 3).expect(rt, word),
+        _ => return None,
     };
-    Ok(number(value.as_slice()))
+    number(value.as_slice())
 }
 
 /// Operators, two constants, and their value.
@@ -59,10 +59,7 @@ const ROWS: [(&str, u64, u64, u8); 16] = [
 #[test]
 fn operators_by_circuits(rt: HostRuntime) {
     for (word, s, t, value) in &ROWS {
-        let found = at_two(rt.alloc(), word, *s, *t);
-        assert!(rt;
-            matches!(found, Ok(Some(number)) if number == *value),
-            "{word} {s} {t}"
-        );
+        let found = at_two(&rt, rt.alloc(), word, *s, *t);
+        assert!(rt; found == Some(*value), "{word} {s} {t}");
     }
 }

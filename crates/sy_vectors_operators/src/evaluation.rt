@@ -1,18 +1,19 @@
 // Values of terms: those of each operator at constants, partial values that leave 128 bits, the divisions that SMT-LIB made
 // total, bindings, definitions, and the calls of a function to be found.
-ghost use Rattle.std.specs.Prelude.{◌≡◌, ◌∷◌, [], IfOk, IfSome, IsTrue, Some};
+ghost use Rattle.std.specs.Prelude.{◌≡◌, ◌∷◌, [], IsTrue, Some};
 ghost use Rattle.sy_terms.specs.Denoted.{expr_of};
 ghost use Rattle.sy_terms.specs.Definitions.{DefinitionsFit};
 ghost use Rattle.sy_terms.specs.Fitting.{sort_in};
 ghost use Rattle.sy_meaning.specs.Signatures.{scope_and_wanted};
 
-use crate::terms::{term, value};
+use crate::terms::{one, term, value};
 use crate::{integers, words};
 use std::alloc::Global;
+use std::process::Abort;
 use sy_meaning::{
     BvTheory, Eval, IntTheory, Signature, Trace, evaluate, evaluate_with, term_sort, value_sorts,
 };
-use sy_terms::{Bodies, Def, Defs, Seq, Sort, Term, Theory, Value, Want, same_value};
+use sy_terms::{Def, Defs, Seq, Sort, Term, Theory, Value, same_value};
 
 /// Terms over the greatest integer and 5, where the definition adds 1.
 const INTEGERS: &str = "\
@@ -54,6 +55,16 @@ distinct 8:200 8:100 8:7 true
 = 8:200 8:100 false
 ";
 
+/// Terms over the vector #x00 that call a function whose body is `bvnot`, where the definition is `bvneg`, with their values
+/// and the arguments of the calls that are noted.
+const CALLS: &str = "\
+F F/1 a|8:0|8:0 8:255
+ite =/2 a 8:0 F/1 a F/1 8:1|8:255|8:0 8:1
+bvand F/1 a F/1 a|8:255|8:0
+let/1 F/1 8:1 F/1 b|8:1|8:1 8:254
+D F/1 a|8:1|8:0
+";
+
 /// Whether the sort is this one.
 fn is_sort(found: Option<Sort>, sort: Sort) -> bool
     ensures { IsTrue result → found ≡ Some sort }
@@ -61,49 +72,41 @@ fn is_sort(found: Option<Sort>, sort: Sort) -> bool
     found == Some(sort)
 }
 
-/// The term of this text, where it is of the sort over one argument of that sort.
+/// The term of this text, which is of the sort over one argument of that sort.
 fn fitting<T: Theory>(
+    rt: &impl Abort,
     alloc: Global,
     defs: &Defs<T>,
     sort: Sort,
     text: &str,
-) -> Result<Option<Term<T>>, Want>
-    ensures { IfOk result (λ found. IfSome found (λ term. sort_in (scope_and_wanted T.owned defs.now []) (sort ∷ []) (expr_of T.denotes term) ≡ Some sort)) }
+) -> Term<T>
+    ensures { sort_in (scope_and_wanted T.owned defs.now []) (sort ∷ []) (expr_of T.denotes result) ≡ Some sort }
 {
-    let term = term::<T>(alloc, text)?;
-    let wanted: Seq<Signature> = Seq::new(alloc);
-    let sorts = [sort];
-    let found = term_sort(alloc, defs.as_slice(), wanted.as_slice(), &sorts, &term)?;
-    if is_sort(found, sort) {
-        Ok(Some(term))
-    } else {
-        Ok(None)
-    }
+    let term = term::<T>(rt, alloc, text);
+    let found = term_sort(alloc, defs.as_slice(), &[], &[sort], &term).expect(rt, text);
+    assert!(rt; is_sort(found, sort));
+    term
 }
 
 /// One definition over one argument.
-fn one_definition<T: Theory>(alloc: Global, sort: Sort, text: &str) -> Result<Option<Defs<T>>, Want>
-    ensures { IfOk result (λ found. IfSome found (λ defs. DefinitionsFit T.owned T.denotes defs)) }
+fn one_definition<T: Theory>(rt: &impl Abort, alloc: Global, sort: Sort, text: &str) -> Defs<T>
+    ensures { DefinitionsFit T.owned T.denotes result }
 {
-    let mut defs: Defs<T> = Seq::new(alloc);
-    let Some(body) = fitting::<T>(alloc, &defs, sort, text)? else {
-        return Ok(None);
-    };
-    let mut args = Seq::new(alloc);
-    args.push(sort)?;
-    defs.push(Def { args, sort, body })?;
-    Ok(Some(defs))
+    let none: Defs<T> = Seq::new(alloc);
+    let body = fitting::<T>(rt, alloc, &none, sort, text);
+    let args = one(rt, alloc, sort);
+    one(rt, alloc, Def { args, sort, body })
 }
 
 /// The values between spaces.
-fn values<T: Theory>(alloc: Global, text: &str) -> Result<Vec<Value<T::Num>>, Want> {
+fn values<T: Theory>(rt: &impl Abort, alloc: Global, text: &str) -> Vec<Value<T::Num>> {
     let mut values = Vec::new(alloc);
     for word in text.split(' ') {
         if let Some(value) = value::<T>(word) {
-            values.push(value)?;
+            values.push(value).expect(rt, word);
         }
     }
-    Ok(values)
+    values
 }
 
 /// Whether the text tells the value.
@@ -117,81 +120,45 @@ fn is_told<T: Theory>(text: &str, found: &Value<T::Num>) -> bool {
 /// Whether the row's term has the value that its last word tells: `none` where one on the way leaves the range, `mismatch`
 /// where the term has no sort.
 fn is_right<T: Theory>(
+    rt: &impl Abort,
     alloc: Global,
     defs: &Defs<T>,
     values: &[Value<T::Num>],
     row: &str,
-) -> Result<bool, Want>
+) -> bool
     requires { DefinitionsFit T.owned T.denotes defs.now }
 {
     let (text, told) = row.rsplit_once(' ').unwrap_or((row, ""));
-    let Some(sorts) = value_sorts::<T>(alloc, values)? else {
-        return Ok(false);
-    };
-    let term = term::<T>(alloc, text)?;
-    let wanted: Seq<Signature> = Seq::new(alloc);
-    let Some(_) = term_sort(
-        alloc,
-        defs.as_slice(),
-        wanted.as_slice(),
-        sorts.as_slice(),
-        &term,
-    )?
-    else {
-        return Ok(told == "mismatch");
+    let sorts = value_sorts::<T>(alloc, values)
+        .expect(rt, row)
+        .expect(rt, row);
+    let term = term::<T>(rt, alloc, text);
+    let found = term_sort(alloc, defs.as_slice(), &[], sorts.as_slice(), &term).expect(rt, row);
+    let Some(_) = found else {
+        return told == "mismatch";
     };
     match evaluate(alloc, defs, values, &term) {
-        Ok(found) => Ok(is_told::<T>(told, &found)),
-        Err(Eval::Range) => Ok(told == "none"),
-        Err(Eval::Want) => Err(Want {}),
+        Ok(found) => is_told::<T>(told, &found),
+        Err(Eval::Range) => told == "none",
+        Err(Eval::Want) => panic!(rt; "memory"),
     }
 }
 
-/// The first row that isn't right, where the definition and the arguments are these.
-fn first_wrong<T: Theory>(
+/// Asserts that each row is right, where the definition and the arguments are these.
+fn assert_rows<T: Theory>(
+    rt: &impl Abort,
     alloc: Global,
     sort: Sort,
-    definition: &'static str,
+    definition: &str,
     arguments: &str,
-    rows: &'static str,
-) -> Result<Option<&'static str>, Want> {
-    let Some(defs) = one_definition::<T>(alloc, sort, definition)? else {
-        return Ok(Some(definition));
-    };
-    let values = values::<T>(alloc, arguments)?;
+    rows: &str,
+) {
+    let defs = one_definition::<T>(rt, alloc, sort, definition);
+    let values = values::<T>(rt, alloc, arguments);
     for row in rows.lines() {
-        if !is_right(alloc, &defs, values.as_slice(), row)? {
-            return Ok(Some(row));
-        }
-    }
-    Ok(None)
-}
-
-#[test]
-fn values_of_terms(rt: HostRuntime) {
-    let bits = Sort::Bits(8);
-    let over = "170141183460469231731687303715884105727 5";
-    let tables = [
-        first_wrong::<IntTheory>(rt.alloc(), Sort::Int, "+ a 1", over, INTEGERS),
-        first_wrong::<IntTheory>(rt.alloc(), Sort::Int, "a", "", integers::ROWS),
-        first_wrong::<BvTheory>(rt.alloc(), bits, "bvnot a", "8:249 8:2 8:0", VECTORS),
-        first_wrong::<BvTheory>(rt.alloc(), bits, "a", "", words::ROWS),
-        first_wrong::<BvTheory>(rt.alloc(), bits, "a", "", MORE),
-    ];
-    for wrong in tables {
-        assert_eq!(rt; wrong.expect(&rt, "memory"), None);
+        assert!(rt; is_right(rt, alloc, &defs, values.as_slice(), row), "{row}");
     }
 }
-
-/// Terms over the vector #x00 that call a function whose body is `bvnot`, where the definition is `bvneg`, with their values
-/// and the arguments of the calls that are noted.
-const CALLS: &str = "\
-F F/1 a|8:0|8:0 8:255
-ite =/2 a 8:0 F/1 a F/1 8:1|8:255|8:0 8:1
-bvand F/1 a F/1 a|8:255|8:0
-let/1 F/1 8:1 F/1 b|8:1|8:1 8:254
-D F/1 a|8:1|8:0
-";
 
 /// Whether the trace has just the calls of the first function at these values.
 fn is_traced<T: Theory>(trace: &Trace<T>, calls: &str) -> bool {
@@ -213,57 +180,53 @@ fn is_traced<T: Theory>(trace: &Trace<T>, calls: &str) -> bool {
 
 /// Whether the row's term has its value where the function to be found has this body, and notes just its calls.
 fn notes<T: Theory>(
+    rt: &impl Abort,
     alloc: Global,
     defs: &Defs<T>,
     sort: Sort,
     body: Term<T>,
     row: &str,
-) -> Result<bool, Want>
+) -> bool
     requires definitions { DefinitionsFit T.owned T.denotes defs.now }
     requires body { sort_in (scope_and_wanted T.owned defs.now []) (sort ∷ []) (expr_of T.denotes body) ≡ Some sort }
 {
     let (text, rest) = row.split_once('|').unwrap_or((row, ""));
     let (told, calls) = rest.split_once('|').unwrap_or((rest, ""));
-    let values = values::<T>(alloc, "8:0")?;
-    let Some(sorts) = value_sorts::<T>(alloc, values.as_slice())? else {
-        return Ok(false);
-    };
-    let term = term::<T>(alloc, text)?;
-    let mut takes = Seq::new(alloc);
-    takes.push(sort)?;
+    let values = values::<T>(rt, alloc, "8:0");
+    let sorts = value_sorts::<T>(alloc, values.as_slice())
+        .expect(rt, row)
+        .expect(rt, row);
+    let term = term::<T>(rt, alloc, text);
+    let takes = one(rt, alloc, sort);
     let wanted = [Signature { takes, gives: sort }];
-    let mut bodies: Bodies<T> = Seq::new(alloc);
-    bodies.push(body)?;
-    let Some(_) = term_sort(alloc, defs.as_slice(), &wanted, sorts.as_slice(), &term)? else {
-        return Ok(false);
+    let bodies = one(rt, alloc, body);
+    let found = term_sort(alloc, defs.as_slice(), &wanted, sorts.as_slice(), &term).expect(rt, row);
+    let Some(_) = found else {
+        return false;
     };
     let mut trace = Trace::new(alloc);
     match evaluate_with(alloc, defs, &bodies, values.as_slice(), &term, &mut trace) {
-        Ok(found) => Ok(is_told::<T>(told, &found) && is_traced::<T>(&trace, calls)),
-        Err(Eval::Range) => Ok(false),
-        Err(Eval::Want) => Err(Want {}),
+        Ok(found) => is_told::<T>(told, &found) && is_traced::<T>(&trace, calls),
+        Err(_) => false,
     }
-}
-
-/// The first row of calls that isn't right.
-fn first_unlike(alloc: Global) -> Result<Option<&'static str>, Want> {
-    let sort = Sort::Bits(8);
-    let Some(defs) = one_definition::<BvTheory>(alloc, sort, "bvneg a")? else {
-        return Ok(Some("bvneg a"));
-    };
-    for row in CALLS.lines() {
-        let Some(body) = fitting::<BvTheory>(alloc, &defs, sort, "bvnot a")? else {
-            return Ok(Some("bvnot a"));
-        };
-        if !notes::<BvTheory>(alloc, &defs, sort, body, row)? {
-            return Ok(Some(row));
-        }
-    }
-    Ok(None)
 }
 
 #[test]
-fn calls_are_noted_once(rt: HostRuntime) {
-    let wrong = first_unlike(rt.alloc());
-    assert_eq!(rt; wrong.expect(&rt, "memory"), None);
+fn values_of_terms(rt: HostRuntime) {
+    let bits = Sort::Bits(8);
+    let over = "170141183460469231731687303715884105727 5";
+    let alloc = rt.alloc();
+    assert_rows::<IntTheory>(&rt, alloc, Sort::Int, "+ a 1", over, INTEGERS);
+    assert_rows::<IntTheory>(&rt, alloc, Sort::Int, "a", "", integers::ROWS);
+    assert_rows::<BvTheory>(&rt, alloc, bits, "bvnot a", "8:249 8:2 8:0", VECTORS);
+    assert_rows::<BvTheory>(&rt, alloc, bits, "a", "", words::ROWS);
+    assert_rows::<BvTheory>(&rt, alloc, bits, "a", "", MORE);
+    let defs = one_definition::<BvTheory>(&rt, alloc, bits, "bvneg a");
+    for row in CALLS.lines() {
+        let body = fitting::<BvTheory>(&rt, alloc, &defs, bits, "bvnot a");
+        assert!(rt;
+            notes::<BvTheory>(&rt, alloc, &defs, bits, body, row),
+            "{row}"
+        );
+    }
 }

@@ -1,76 +1,101 @@
 // Equal gates are made once: how many variables circuits have.
-ghost use Rattle.std.specs.Prelude.{◌≤◌, ◌≡◌, true};
-ghost use Rattle.sy_gates.specs.Circuits.{variables};
+ghost use Rattle.std.specs.Prelude.{◌≤◌, ◌≡◌};
+ghost use Rattle.sy_gates.specs.Circuits.{variables, bit_bound};
 
 use std::alloc::Global;
+use std::process::Abort;
 use sy_clauses::Lit;
 use sy_gates::{Bit, Circuit, repeated};
-use sy_terms::Want;
-
-fn input(var: u32) -> Bit
-    ensures { result ≡ Bit.Of (record { var = var; positive = true }) }
-{
-    Bit::Of(Lit {
-        var,
-        positive: true,
-    })
-}
 
 /// How many variables a circuit has.
-fn size(alloc: Global, circuit: &Circuit) -> Result<u32, Want>
+fn size(rt: &impl Abort, alloc: Global, circuit: &Circuit) -> u32
     requires { 1 ≤ variables circuit.now }
+    ensures { result ≡ variables circuit.now }
 {
     let first = Lit {
         var: 0,
         positive: true,
     };
-    let cnf = circuit.cnf(alloc, first)?;
-    Ok(cnf.vars)
+    let cnf = circuit.cnf(alloc, first).expect(rt, "memory");
+    cnf.vars
 }
 
-/// Each gate twice, in another order or negated.
-fn equal_gates(alloc: Global) -> Result<u32, Want> {
+/// The input of this letter, negated where that is a capital one, of so many variables.
+fn input(rt: &impl Abort, letter: u8, vars: u32) -> Bit
+    ensures { bit_bound result ≤ vars }
+{
+    let var = match letter {
+        b'x' | b'X' => 0,
+        b'y' | b'Y' => 1,
+        _ => 2,
+    };
+    assert!(rt; var < vars);
+    Bit::Of(Lit {
+        var,
+        positive: letter.is_ascii_lowercase(),
+    })
+}
+
+/// Makes the gate of these letters: `&`, `^` or `?`, and the inputs that it takes.
+fn make(rt: &impl Abort, alloc: Global, circuit: &mut Circuit, gate: &str)
+    requires { 1 ≤ variables circuit.old }
+    ensures { 1 ≤ variables circuit.new }
+{
+    let vars = size(rt, alloc, circuit);
+    assert!(rt; vars < 1000);
+    let made = match gate.as_bytes() {
+        [b'&', a, b] => circuit.and(input(rt, *a, vars), input(rt, *b, vars)),
+        [b'^', a, b] => circuit.xor(input(rt, *a, vars), input(rt, *b, vars)),
+        [b'?', a, b, c] => circuit.choose(
+            input(rt, *a, vars),
+            input(rt, *b, vars),
+            input(rt, *c, vars),
+        ),
+        _ => panic!(rt; "no gate"),
+    };
+    made.expect(rt, gate);
+}
+
+/// How many inputs a circuit has, its gates, and how many variables it has then. First stands each gate twice, in another
+/// order or negated; then gates that are bits, and one more that isn't.
+const ROWS: &str = "\
+3 &xy &yx ^xy ^Yx ?xyz ?Xzy 6
+2 &xx &xX ^xX ?yxx 2
+2 &xx &xX ^xX ?yxx ?yxX 3
+";
+
+/// Whether the row's circuit has so many variables.
+fn is_right(rt: &impl Abort, alloc: Global, row: &str) -> bool {
+    let (inputs, rest) = row.split_once(' ').unwrap_or((row, ""));
+    let (gates, told) = rest.rsplit_once(' ').unwrap_or((rest, ""));
+    let inputs: u32 = inputs.parse().unwrap_or(0);
+    let mut circuit = Circuit::new(alloc, inputs.max(1));
+    for gate in gates.split(' ') {
+        make(rt, alloc, &mut circuit, gate);
+    }
+    told.parse() == Ok(size(rt, alloc, &circuit))
+}
+
+/// Whether more gates than a table of the first size holds aren't made again.
+fn is_made_once(rt: &impl Abort, alloc: Global) -> bool {
     let mut circuit = Circuit::new(alloc, 3);
-    let (x, y, z) = (input(0), input(1), input(2));
-    circuit.and(x, y)?;
-    circuit.and(y, x)?;
-    circuit.xor(x, y)?;
-    circuit.xor(y.negated(), x)?;
-    circuit.choose(x, y, z)?;
-    circuit.choose(x.negated(), z, y)?;
-    size(alloc, &circuit)
-}
-
-/// Gates that are bits, and then one more.
-fn gates_of_one_variable(alloc: Global) -> Result<[u32; 2], Want> {
-    let mut circuit = Circuit::new(alloc, 2);
-    let (x, y) = (input(0), input(1));
-    circuit.and(x, x)?;
-    circuit.and(x, x.negated())?;
-    circuit.xor(x, x.negated())?;
-    circuit.choose(y, x, x)?;
-    let few = size(alloc, &circuit)?;
-    circuit.choose(y, x, x.negated())?;
-    Ok([few, size(alloc, &circuit)?])
-}
-
-/// More gates than a table of the first size holds, made twice.
-fn equal_products(alloc: Global) -> Result<[u32; 2], Want> {
-    let mut circuit = Circuit::new(alloc, 3);
-    let a = repeated(alloc, &[input(0), input(1), input(2)], 4)?;
-    let b = repeated(alloc, &[input(1), input(2)], 6)?;
-    circuit.mul(alloc, a.as_slice(), b.as_slice())?;
-    let made = size(alloc, &circuit)?;
-    circuit.mul(alloc, a.as_slice(), b.as_slice())?;
-    Ok([made, size(alloc, &circuit)?])
+    let inputs = [input(rt, b'x', 3), input(rt, b'y', 3), input(rt, b'z', 3)];
+    let a = repeated(alloc, &inputs, 4).expect(rt, "memory");
+    let b = repeated(alloc, &inputs[1..], 6).expect(rt, "memory");
+    circuit
+        .mul(alloc, a.as_slice(), b.as_slice())
+        .expect(rt, "memory");
+    let made = size(rt, alloc, &circuit);
+    circuit
+        .mul(alloc, a.as_slice(), b.as_slice())
+        .expect(rt, "memory");
+    100 < made && size(rt, alloc, &circuit) == made
 }
 
 #[test]
 fn equal_gates_are_made_once(rt: HostRuntime) {
-    let size = equal_gates(rt.alloc()).expect(&rt, "memory");
-    assert!(rt; size == 6);
-    let [few, more] = gates_of_one_variable(rt.alloc()).expect(&rt, "memory");
-    assert!(rt; few == 2 && more == 3);
-    let [made, again] = equal_products(rt.alloc()).expect(&rt, "memory");
-    assert!(rt; 100 < made && again == made);
+    for row in ROWS.lines() {
+        assert!(rt; is_right(&rt, rt.alloc(), row), "{row}");
+    }
+    assert!(rt; is_made_once(&rt, rt.alloc()));
 }

@@ -1,8 +1,9 @@
 // Copies, sizes and depths of terms, and which terms are equal.
 use crate::terms::term;
 use std::alloc::Global;
+use std::process::Abort;
 use sy_meaning::{BvTheory, IntTheory};
-use sy_terms::{Term, Theory, Want};
+use sy_terms::{Term, Theory};
 
 /// Integers that differ in one place each, with their sizes and depths.
 const INTEGERS: &str = "\
@@ -42,28 +43,31 @@ fn is_measured<T: Theory>(term: &Term<T>, told: &str) -> bool {
     is_whole && term.size(2) == size.min(2) && term.depth(2) == depth.min(2)
 }
 
-/// The first row whose term has a copy of another size or depth, or for which the copy isn't equal to the row's term alone.
-fn first_wrong<T: Theory>(alloc: Global, rows: &'static str) -> Result<Option<&'static str>, Want> {
-    for row in rows.lines() {
-        let (text, told) = row.split_once('|').unwrap_or((row, ""));
-        let copy = term::<T>(alloc, text)?.copy(alloc)?;
-        if !is_measured(&copy, told) {
-            return Ok(Some(row));
-        }
-        for other in rows.lines() {
-            let (text, _) = other.split_once('|').unwrap_or((other, ""));
-            if term::<T>(alloc, text)?.equals(&copy) != (row == other) {
-                return Ok(Some(row));
-            }
-        }
+/// Whether a copy of the row's term has its size and depth, and is equal to the term of this one of the rows alone.
+fn is_right<T: Theory>(rt: &impl Abort, alloc: Global, rows: &str, row: &str) -> bool {
+    let (text, told) = row.split_once('|').unwrap_or((row, ""));
+    let copy = term::<T>(rt, alloc, text).copy(alloc).expect(rt, row);
+    let mut is_right = is_measured(&copy, told);
+    for other in rows.lines() {
+        let (text, _) = other.split_once('|').unwrap_or((other, ""));
+        let is_equal = term::<T>(rt, alloc, text).equals(&copy);
+        is_right = is_right && is_equal == (row == other);
     }
-    Ok(None)
+    is_right
 }
 
 #[test]
 fn copies_are_equal_to_their_terms_alone(rt: HostRuntime) {
-    let integers = first_wrong::<IntTheory>(rt.alloc(), INTEGERS);
-    assert_eq!(rt; integers.expect(&rt, "memory"), None);
-    let vectors = first_wrong::<BvTheory>(rt.alloc(), VECTORS);
-    assert_eq!(rt; vectors.expect(&rt, "memory"), None);
+    for row in INTEGERS.lines() {
+        assert!(rt;
+            is_right::<IntTheory>(&rt, rt.alloc(), INTEGERS, row),
+            "{row}"
+        );
+    }
+    for row in VECTORS.lines() {
+        assert!(rt;
+            is_right::<BvTheory>(&rt, rt.alloc(), VECTORS, row),
+            "{row}"
+        );
+    }
 }

@@ -3,15 +3,14 @@ use crate::operators::operator;
 use sy_meaning::{BvTheory, Word};
 use sy_terms::{Applied, Sort, Sorted, Theory, Value};
 
-#[test]
-fn numbers_of_sorts(rt: HostRuntime) {
-    let s = Word::new(8, 200).expect(&rt, "a word");
-    assert!(rt; BvTheory::value_sort(&Value::Num(s)) == Sort::Bits(8));
-    assert!(rt; BvTheory::number(s) == 200);
-    assert!(rt; BvTheory::of_number(Sort::Bits(8), 200) == Some(s));
-    assert!(rt; BvTheory::of_number(Sort::Bits(8), 256).is_none());
-    assert!(rt; BvTheory::of_number(Sort::Bits(8), -1).is_none());
-    assert!(rt; BvTheory::of_number(Sort::Bool, 1).is_none());
+/// Whether the word 200 of eight bits is that number, and the sorts have just the numbers that they should.
+fn are_numbered(s: Word) -> bool {
+    BvTheory::value_sort(&Value::Num(s)) == Sort::Bits(8)
+        && BvTheory::number(s) == 200
+        && BvTheory::of_number(Sort::Bits(8), 200) == Some(s)
+        && BvTheory::of_number(Sort::Bits(8), 256).is_none()
+        && BvTheory::of_number(Sort::Bits(8), -1).is_none()
+        && BvTheory::of_number(Sort::Bool, 1).is_none()
 }
 
 /// The operators of two vectors.
@@ -39,10 +38,11 @@ fn is_alike(word: &str, s: Word, t: Word, u: Word) -> bool {
 }
 
 #[test]
-fn at_each_place(rt: HostRuntime) {
+fn numbers_of_sorts_at_each_place(rt: HostRuntime) {
     let s = Word::new(8, 200).expect(&rt, "a word");
     let t = Word::new(8, 7).expect(&rt, "a word");
     let u = Word::new(8, 0).expect(&rt, "a word");
+    assert!(rt; are_numbered(s));
     for word in PAIRS.split(' ') {
         assert!(rt; is_alike(word, s, t, u), "{word}");
     }

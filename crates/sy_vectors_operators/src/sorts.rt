@@ -1,36 +1,32 @@
 // The sorts that operators take and give.
 use crate::operators::operator;
-use std::alloc::{AllocError, Global};
+use std::alloc::Global;
+use std::process::Abort;
 use sy_terms::{Fun, Op, Sort, Sorted, operator_sort};
 
 /// A sort, where that of vectors is its width.
-fn sort(text: &str) -> Option<Sort> {
+fn sort(rt: &impl Abort, text: &str) -> Sort {
     match text {
-        "Bool" => Some(Sort::Bool),
-        "Int" => Some(Sort::Int),
-        _ => Some(Sort::Bits(text.parse().ok()?)),
+        "Bool" => Sort::Bool,
+        "Int" => Sort::Int,
+        _ => Sort::Bits(text.parse().ok().expect(rt, text)),
     }
 }
 
 /// Whether the operator's sort is the row's last word.
-fn is_right(alloc: Global, row: &str) -> Result<bool, AllocError> {
+fn is_right(rt: &impl Abort, alloc: Global, row: &str) -> bool {
     let (word, rest) = row.split_once(' ').unwrap_or((row, ""));
     let (arguments, told) = rest.rsplit_once(' ').unwrap_or((rest, ""));
-    let Some(op) = operator(word) else {
-        return Ok(false);
-    };
+    let op = operator(word).expect(rt, row);
     let mut sorts = Vec::new(alloc);
     for argument in arguments.split(' ') {
-        match sort(argument) {
-            Some(sort) => sorts.push(sort)?,
-            None => return Ok(false),
-        }
+        sorts.push(sort(rt, argument)).expect(rt, row);
     }
-    Ok(match operator_sort(&op, &sorts) {
-        Sorted::Is(found) => sort(told) == Some(found),
+    match operator_sort(&op, &sorts) {
+        Sorted::Is(found) => sort(rt, told) == found,
         Sorted::BadWidth => told == "width",
         Sorted::Mismatch => told == "mismatch",
-    })
+    }
 }
 
 /// An operator, the sorts of its arguments, and its own, `mismatch` where it doesn't take them, or `width` where its
@@ -73,16 +69,17 @@ concat 4 4 4 mismatch
 > Int Int Int Bool
 ";
 
-#[test]
-fn operators_take_and_give_sorts(rt: HostRuntime) {
-    for row in ROWS.lines() {
-        assert!(rt; matches!(is_right(rt.alloc(), row), Ok(true)), "{row}");
-    }
+/// Whether operators and functions are told apart by their indices, and by nothing else.
+fn are_told_apart() -> bool {
+    Op::Repeat(2).equals(&Op::Repeat(2))
+        && !Op::Repeat(2).equals(&Op::Repeat(3))
+        && !Fun::Defined(0).equals(&Fun::Wanted(0))
 }
 
 #[test]
-fn indices_tell_operators_apart(rt: HostRuntime) {
-    assert!(rt; Op::Repeat(2).equals(&Op::Repeat(2)));
-    assert!(rt; !Op::Repeat(2).equals(&Op::Repeat(3)));
-    assert!(rt; !Fun::Defined(0).equals(&Fun::Wanted(0)));
+fn operators_take_and_give_sorts(rt: HostRuntime) {
+    for row in ROWS.lines() {
+        assert!(rt; is_right(&rt, rt.alloc(), row), "{row}");
+    }
+    assert!(rt; are_told_apart());
 }
