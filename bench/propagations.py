@@ -19,7 +19,7 @@ CRATES = os.path.join(os.path.dirname(os.path.abspath(__file__)), "..", "crates"
 PARTS = [
     ("sy_seq", "sy_seq", ["seq"]),
     ("sy_clauses", "sy_clauses", ["checker", "marks"]),
-    ("sy_cdcl", "sy_cdcl", ["analysis", "order", "propagation", "shortening", "solver", "trail", "watches"]),
+    ("sy_cdcl", "sy_cdcl", ["analysis", "order", "propagation", "shortening", "solver", "store", "trail", "watches"]),
 ]
 # a line that stands once in the solver, and what is counted before it
 COUNTED = {
@@ -38,7 +38,7 @@ mod list {
     #[derive(Clone, Copy)]
     pub struct Global;
     #[derive(Debug)]
-    pub struct AllocError {}
+    pub struct AllocError;
     pub struct Vec<T>(std::vec::Vec<T>);
     impl<T> Vec<T> {
         pub fn new(_: Global) -> Self { Vec(std::vec::Vec::new()) }
