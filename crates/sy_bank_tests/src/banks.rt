@@ -1,16 +1,17 @@
 // Banks of small grammars over one argument: how many terms are kept at each size, and how the search for them ends.
 
 use crate::parts::{cut, nonterminals};
-use crate::points::{points, value};
+use crate::points::{one, points, value};
 use std::alloc::Global;
+use std::process::Abort;
 use sy_bank::{Bank, BankEnd, build};
 use sy_grammar_base::{Grammar, Non, well_formed};
 use sy_meaning::{BvTheory, IntTheory};
-use sy_terms::{Seq, Sort, Theory, Values, Want};
+use sy_terms::{Seq, Sort, Theory, Values};
 
-/// The bank of these nonterminals up to one size, grown to another if that is greater and nothing was dropped before. A
-/// grammar that isn't well formed ends it as want of memory does.
+/// The bank of these nonterminals up to one size, grown to another if that is greater and nothing was dropped before.
 fn bank_of<T: Theory>(
+    rt: &impl Abort,
     alloc: Global,
     sort: Sort,
     nons: Seq<Non<T>>,
@@ -19,20 +20,20 @@ fn bank_of<T: Theory>(
     upto: (u32, u32),
     cap: u32,
 ) -> Result<Bank<T>, BankEnd<T>> {
-    let mut args = Seq::new(alloc);
-    args.push(sort)?;
+    let args = one(rt, alloc, sort);
     let defs = Seq::new(alloc);
-    if !well_formed(&args, &nons, &defs) {
-        return Err(BankEnd::Want);
-    }
+    assert!(rt; well_formed(&args, &nons, &defs));
     let grammar = Grammar::new(args, nons, &defs);
-    let points = points::<T>(alloc, sort, values)?;
-    let bank = build(alloc, &grammar, &defs, pool, &points, upto.0, cap)?;
-    if bank.overflow().is_some() || bank.upto() >= upto.1 {
-        return Ok(bank);
+    let points = points::<T>(rt, alloc, sort, values);
+    match build(alloc, &grammar, &defs, pool, &points, upto.0, cap) {
+        Ok(bank) => {
+            if bank.overflow().is_some() || bank.upto() >= upto.1 {
+                return Ok(bank);
+            }
+            bank.grow(alloc, &grammar, &defs, pool, upto.1, cap)
+        }
+        end => end,
     }
-    let grown = bank.grow(alloc, &grammar, &defs, pool, upto.1, cap)?;
-    Ok(grown)
 }
 
 /// Whether the bank keeps so many terms for all of so many nonterminals at each size, and none at those after the last.
@@ -53,55 +54,48 @@ fn keeps<T: Theory>(bank: &Bank<T>, nonterminals: u32, counts: &str) -> bool {
 
 /// Whether the line's bank is as it tells.
 fn is_right<T: Theory>(
+    rt: &impl Abort,
     alloc: Global,
     sort: Sort,
     pool: &Values<T>,
     line: &str,
-) -> Result<bool, Want> {
+) -> bool {
     let (grammar, rest) = cut(line);
     let (values, rest) = cut(rest);
     let (upto, rest) = cut(rest);
     let (grown, rest) = cut(rest);
     let (cap, rest) = cut(rest);
     let (counts, end) = cut(rest);
-    let nons = nonterminals::<T>(alloc, sort, grammar)?;
+    let nons = nonterminals::<T>(rt, alloc, sort, grammar);
     let nonterminals = u32::try_from(nons.len()).unwrap_or(u32::MAX);
     let upto = (upto.parse().unwrap_or(0), grown.parse().unwrap_or(0));
     let cap = cap.parse().unwrap_or(0);
-    match bank_of(alloc, sort, nons, values, pool, upto, cap) {
+    match bank_of(rt, alloc, sort, nons, values, pool, upto, cap) {
         Ok(bank) => {
             let is_whole = bank.overflow().is_none();
             let found = if is_whole { "whole" } else { "dropped" };
-            Ok(found == end && keeps(&bank, nonterminals, counts))
+            found == end && keeps(&bank, nonterminals, counts)
         }
         Err(BankEnd::Full(bank, _, next)) => {
             let (word, size) = end.split_once(' ').unwrap_or((end, ""));
             let is_full = word == "full" && next.size == size.parse().unwrap_or(0);
-            Ok(is_full && keeps(&bank, nonterminals, counts))
+            is_full && keeps(&bank, nonterminals, counts)
         }
-        Err(BankEnd::Want) => Err(Want {}),
+        Err(BankEnd::Want) => panic!(rt; "memory"),
     }
 }
 
-/// The first line whose bank isn't as it tells, where the pool has these numbers.
-fn first_wrong<T: Theory>(
-    alloc: Global,
-    sort: Sort,
-    pool: &str,
-    table: &'static str,
-) -> Result<Option<&'static str>, Want> {
+/// Asserts that the bank of each line is as it tells, where the pool has these numbers.
+fn assert_lines<T: Theory>(rt: &impl Abort, alloc: Global, sort: Sort, pool: &str, table: &str) {
     let mut values = Seq::new(alloc);
     for word in pool.split(' ') {
         if let Some(value) = value::<T>(sort, word) {
-            values.push(value)?;
+            values.push(value).expect(rt, word);
         }
     }
     for line in table.lines() {
-        if !is_right::<T>(alloc, sort, &values, line)? {
-            return Ok(Some(line));
-        }
+        assert!(rt; is_right::<T>(rt, alloc, sort, &values, line), "{line}");
     }
-    Ok(None)
 }
 
 /// Grammars, the argument's values, the sizes up to which a bank is built and grown, and the cap; then how many terms are
@@ -144,10 +138,7 @@ x *xx|0 1 2|1|3|1|0 1|full 3";
 
 #[test]
 fn banks_by_the_tables(rt: HostRuntime) {
-    let integers = first_wrong::<IntTheory>(rt.alloc(), Sort::Int, "7 -6", INTEGERS);
-    assert_eq!(rt; integers.expect(&rt, "memory"), None);
-    let vectors = first_wrong::<BvTheory>(rt.alloc(), Sort::Bits(4), "", VECTORS);
-    assert_eq!(rt; vectors.expect(&rt, "memory"), None);
-    let bytes = first_wrong::<BvTheory>(rt.alloc(), Sort::Bits(8), "", BYTES);
-    assert_eq!(rt; bytes.expect(&rt, "memory"), None);
+    assert_lines::<IntTheory>(&rt, rt.alloc(), Sort::Int, "7 -6", INTEGERS);
+    assert_lines::<BvTheory>(&rt, rt.alloc(), Sort::Bits(4), "", VECTORS);
+    assert_lines::<BvTheory>(&rt, rt.alloc(), Sort::Bits(8), "", BYTES);
 }

@@ -1,7 +1,8 @@
 // Parts and grammars as texts, a character for each node, which stands before those that it takes.
 use std::alloc::Global;
+use std::process::Abort;
 use sy_grammar_base::{Non, Part, Parts, Rule};
-use sy_terms::{Op, Seq, Sort, Theory, Value, Want};
+use sy_terms::{Op, Seq, Sort, Theory, Value};
 
 /// What stands before the first `|`, and what stands after it.
 pub fn cut(line: &str) -> (&str, &str) {
@@ -18,17 +19,18 @@ fn number<T: Theory>(sort: Sort, number: i128) -> Part<T> {
 
 /// Takes so many of the last parts, the last one first.
 fn last<T: Theory>(
+    rt: &impl Abort,
     alloc: Global,
     stack: &mut Vec<Part<T>>,
     count: usize,
-) -> Result<Parts<T>, Want> {
+) -> Parts<T> {
     let mut parts = Parts::new(alloc);
     for _ in 0..count {
         if let Some(part) = stack.pop() {
-            parts.push(part)?;
+            parts.push(part).expect(rt, "memory");
         }
     }
-    Ok(parts)
+    parts
 }
 
 /// The operator of this sign, and how many arguments it takes.
@@ -49,56 +51,62 @@ fn operator(sign: u8) -> Option<(Op, usize)> {
 /// nonterminals, `x` is the argument, `D` calls the first definition, and `E` the fourth at two arguments, `M` is the
 /// greatest number of 128 bits, and a digit is itself.
 fn begun<T: Theory>(
+    rt: &impl Abort,
     alloc: Global,
     sort: Sort,
     sign: u8,
     stack: &mut Vec<Part<T>>,
-) -> Result<Part<T>, Want> {
+) -> Part<T> {
     if let Some((op, count)) = operator(sign) {
-        return Ok(Part::App(op, last(alloc, stack, count)?));
+        return Part::App(op, last(rt, alloc, stack, count));
     }
     match sign {
-        b'A' => Ok(Part::Non(0)),
-        b'B' => Ok(Part::Non(1)),
-        b'C' => Ok(Part::Non(2)),
-        b'D' => Ok(Part::Call(0, last(alloc, stack, 1)?)),
-        b'E' => Ok(Part::Call(3, last(alloc, stack, 2)?)),
-        b'x' => Ok(Part::Var(0)),
-        b'M' => Ok(number(sort, i128::MAX)),
-        digit => Ok(number(sort, i128::from(digit.wrapping_sub(b'0')))),
+        b'A' => Part::Non(0),
+        b'B' => Part::Non(1),
+        b'C' => Part::Non(2),
+        b'D' => Part::Call(0, last(rt, alloc, stack, 1)),
+        b'E' => Part::Call(3, last(rt, alloc, stack, 2)),
+        b'x' => Part::Var(0),
+        b'M' => number(sort, i128::MAX),
+        digit => number(sort, i128::from(digit.wrapping_sub(b'0'))),
     }
 }
 
 /// The part of this text.
-pub fn part<T: Theory>(alloc: Global, sort: Sort, text: &str) -> Result<Part<T>, Want> {
+pub fn part<T: Theory>(rt: &impl Abort, alloc: Global, sort: Sort, text: &str) -> Part<T> {
     let mut stack = Vec::new(alloc);
     for sign in text.as_bytes().iter().rev() {
-        let part = begun(alloc, sort, *sign, &mut stack)?;
-        stack.push(part)?;
+        let part = begun(rt, alloc, sort, *sign, &mut stack);
+        stack.push(part).expect(rt, text);
     }
-    Ok(stack.pop().unwrap_or(Part::Var(0)))
+    stack.pop().expect(rt, text)
 }
 
 /// The rules of this text, between spaces: `k` is the rule for all constants and `v` that for all arguments.
-fn rules<T: Theory>(alloc: Global, sort: Sort, text: &str) -> Result<Seq<Rule<T>>, Want> {
+fn rules<T: Theory>(rt: &impl Abort, alloc: Global, sort: Sort, text: &str) -> Seq<Rule<T>> {
     let mut rules = Seq::new(alloc);
     for word in text.split(' ') {
         let rule = match word {
             "k" => Rule::AnyConstant(sort),
             "v" => Rule::AnyVariable(sort),
-            _ => Rule::Term(part(alloc, sort, word)?),
+            _ => Rule::Term(part(rt, alloc, sort, word)),
         };
-        rules.push(rule)?;
+        rules.push(rule).expect(rt, text);
     }
-    Ok(rules)
+    rules
 }
 
 /// The nonterminals of this text, all of one sort, with a semicolon between the rules of two.
-pub fn nonterminals<T: Theory>(alloc: Global, sort: Sort, text: &str) -> Result<Seq<Non<T>>, Want> {
+pub fn nonterminals<T: Theory>(
+    rt: &impl Abort,
+    alloc: Global,
+    sort: Sort,
+    text: &str,
+) -> Seq<Non<T>> {
     let mut nons = Seq::new(alloc);
     for text in text.split(';') {
-        let rules = rules::<T>(alloc, sort, text)?;
-        nons.push(Non { sort, rules })?;
+        let rules = rules::<T>(rt, alloc, sort, text);
+        nons.push(Non { sort, rules }).expect(rt, text);
     }
-    Ok(nons)
+    nons
 }

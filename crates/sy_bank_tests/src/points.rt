@@ -1,11 +1,12 @@
 // Points of one value.
-ghost use Rattle.std.specs.Prelude.{◌≡◌, ◌∷◌, [], true, map, IfOk, IfSome};
+ghost use Rattle.std.specs.Prelude.{◌≡◌, ◌∷◌, [], true, map, IfSome};
 ghost use Rattle.sy_terms.specs.Denoted.{val_of, vals_of};
 ghost use Rattle.sy_terms.specs.Theories.{valid, sort_of_value};
 ghost use Rattle.sy_bank.specs.Rows.{ArePointsOf};
 
 use std::alloc::Global;
-use sy_terms::{Seq, Sort, Theory, Value, Values, Want};
+use std::process::Abort;
+use sy_terms::{Seq, Sort, Theory, Value, Values};
 
 /// The value of the sort that is the number of this text.
 pub fn value<T: Theory>(sort: Sort, text: &str) -> Option<Value<T::Num>>
@@ -17,26 +18,25 @@ pub fn value<T: Theory>(sort: Sort, text: &str) -> Option<Value<T::Num>>
     Some(Value::Num(number))
 }
 
-/// A point of one value.
-fn point<T: Theory>(alloc: Global, value: Value<T::Num>) -> Result<Values<T>, Want>
-    ensures { IfOk result (λ point. vals_of T.denotes point ≡ val_of T.denotes value ∷ []) }
+/// The item alone.
+pub fn one<X: Drop>(rt: &impl Abort, alloc: Global, item: X) -> Seq<X>
+    ensures { result ≡ item ∷ [] }
 {
-    let mut point = Seq::new(alloc);
-    point.push(value)?;
-    Ok(point)
+    let mut items = Seq::new(alloc);
+    items.push(item).expect(rt, "memory");
+    items
 }
 
 /// A point for each of the numbers between spaces, up to the first that isn't of the sort.
-pub fn points<T: Theory>(alloc: Global, sort: Sort, text: &str) -> Result<Seq<Values<T>>, Want>
-    ensures { IfOk result (λ points. ArePointsOf (sort ∷ []) (map (vals_of T.denotes) points)) }
+pub fn points<T: Theory>(rt: &impl Abort, alloc: Global, sort: Sort, text: &str) -> Seq<Values<T>>
+    ensures { ArePointsOf (sort ∷ []) (map (vals_of T.denotes) result) }
 {
     let mut points = Seq::new(alloc);
     for word in text.split(' ') {
         let Some(value) = value::<T>(sort, word) else {
-            return Ok(points);
+            return points;
         };
-        let point = point::<T>(alloc, value)?;
-        points.push(point)?;
+        points.push(one(rt, alloc, value)).expect(rt, word);
     }
-    Ok(points)
+    points
 }

@@ -1,5 +1,5 @@
 // Rows of parts over a few kept terms at two points.
-ghost use Rattle.std.specs.Prelude.{◌≡◌, ◌∷◌, [], true, map, IfOk, IfSome, IsTrue, Some};
+ghost use Rattle.std.specs.Prelude.{◌≡◌, ◌∷◌, [], map, IsTrue, Some};
 ghost use Rattle.sy_terms.specs.Denoted.{vals_of, expr_of};
 ghost use Rattle.sy_terms.specs.Definitions.{DefinitionsFit, scope_of, bodies};
 ghost use Rattle.sy_terms.specs.Meaning.{functions};
@@ -11,14 +11,15 @@ ghost use Rattle.sy_bank_columns.specs.Chosen.{AreRows};
 ghost use Rattle.sy_bank_tests.specs.Integers.{IsInteger};
 
 use crate::parts::{cut, part};
-use crate::points::points;
+use crate::points::{one, points};
 use std::alloc::Global;
+use std::process::Abort;
 use std::rc::Rc;
 use sy_bank_columns::{RowEnd, chosen_part, grown, part_row, term_row};
 use sy_bank_rows::{Grown, Kept, filled_part};
 use sy_grammar_base::{Derivation, Part};
-use sy_meaning::{IntTheory, Signature, term_sort};
-use sy_terms::{Def, Defs, Seq, Sort, Term, Theory, Value, Values, Want};
+use sy_meaning::{IntTheory, term_sort};
+use sy_terms::{Def, Defs, Seq, Sort, Term, Theory, Value, Values};
 
 /// Whether the sort is that of integers.
 fn is_int(found: Option<Sort>) -> bool
@@ -28,80 +29,72 @@ fn is_int(found: Option<Sort>) -> bool
 }
 
 /// Whether the term is an integer over one integer.
-fn is_integer<T: Theory>(alloc: Global, defs: &Defs<T>, term: &Term<T>) -> Result<bool, Want>
-    ensures { IfOk result (λ is. IsTrue is → IsInteger (scope_of T.owned defs.now) (expr_of T.denotes term.now)) }
+fn is_integer<T: Theory>(rt: &impl Abort, alloc: Global, defs: &Defs<T>, term: &Term<T>) -> bool
+    ensures { IsTrue result → IsInteger (scope_of T.owned defs.now) (expr_of T.denotes term.now) }
 {
-    let wanted: Seq<Signature> = Seq::new(alloc);
-    let sorts = [Sort::Int];
-    let found = term_sort(alloc, defs.as_slice(), wanted.as_slice(), &sorts, term)?;
-    Ok(is_int(found))
+    let found = term_sort(alloc, defs.as_slice(), &[], &[Sort::Int], term).expect(rt, "memory");
+    is_int(found)
 }
 
 /// The definition of the next number.
-fn definition<T: Theory>(alloc: Global) -> Result<Option<Defs<T>>, Want>
-    ensures { IfOk result (λ found. IfSome found (λ defs. DefinitionsFit T.owned T.denotes defs)) }
+fn definition<T: Theory>(rt: &impl Abort, alloc: Global) -> Defs<T>
+    ensures { DefinitionsFit T.owned T.denotes result }
 {
-    let mut defs: Defs<T> = Seq::new(alloc);
-    let part = part::<T>(alloc, Sort::Int, "+x1")?;
+    let none: Defs<T> = Seq::new(alloc);
+    let part = part::<T>(rt, alloc, Sort::Int, "+x1");
     let nothing = Vec::new(alloc);
-    let body = filled_part(alloc, &part, nothing.as_slice())?;
-    if !is_integer(alloc, &defs, &body)? {
-        return Ok(None);
-    }
-    let mut args = Seq::new(alloc);
-    args.push(Sort::Int)?;
+    let body = filled_part(alloc, &part, nothing.as_slice()).expect(rt, "memory");
+    assert!(rt; is_integer(rt, alloc, &none, &body));
     let sort = Sort::Int;
-    defs.push(Def { args, sort, body })?;
-    Ok(Some(defs))
+    let args = one(rt, alloc, sort);
+    one(rt, alloc, Def { args, sort, body })
 }
 
 /// The term with its row.
 fn kept<T: Theory>(
+    rt: &impl Abort,
     alloc: Global,
     defs: &Defs<T>,
     points: &[Values<T>],
     term: Term<T>,
-) -> Result<Option<Kept<T>>, RowEnd>
+) -> Kept<T>
     requires definitions { DefinitionsFit T.owned T.denotes defs.now }
     requires points { ArePointsOf (sorts.Int ∷ []) (map (vals_of T.denotes) points.now) }
-    ensures { IfOk result (λ found. IfSome found (λ kept. HasRow (scope_of T.owned defs.now) (functions (bodies T.denotes defs.now)) (map (vals_of T.denotes) points.now) (entry_of T.denotes kept).term (entry_of T.denotes kept).row)) }
+    ensures { HasRow (scope_of T.owned defs.now) (functions (bodies T.denotes defs.now)) (map (vals_of T.denotes) points.now) (entry_of T.denotes result).term (entry_of T.denotes result).row }
 {
-    if !is_integer(alloc, defs, &term)? {
-        return Ok(None);
-    }
-    let row = term_row(alloc, defs, points, &term)?;
-    let grown = Rc::new(alloc, Grown::Leaf(term, Derivation::Variable(0, 0)))?;
-    Ok(Some(Kept {
+    assert!(rt; is_integer(rt, alloc, defs, &term));
+    let row = term_row(alloc, defs, points, &term).expect(rt, "a row");
+    let grown = Rc::new(alloc, Grown::Leaf(term, Derivation::Variable(0, 0))).expect(rt, "memory");
+    Kept {
         grown,
         size: 1,
         row: Seq::from(row),
-    }))
+    }
 }
 
 /// Whether the part has this row where these terms are chosen, or is `lost` at the second point.
 fn has_row<T: Theory>(
+    rt: &impl Abort,
     alloc: Global,
     defs: &Defs<T>,
     points: &[Values<T>],
     part: &Part<T>,
     chosen: &[&Kept<T>],
     told: &str,
-) -> Result<bool, Want>
+) -> bool
     requires definitions { DefinitionsFit T.owned T.denotes defs.now }
     requires points { ArePointsOf (sorts.Int ∷ []) (map (vals_of T.denotes) points.now) }
     requires rows { AreRows (scope_of T.owned defs.now) (functions (bodies T.denotes defs.now)) (map (vals_of T.denotes) points.now) (chosen_of T.denotes chosen.now) }
 {
     let Err(_) = part.occurrence(chosen.len()) else {
-        return Ok(false);
+        return false;
     };
-    let term = chosen_part(alloc, part, chosen)?;
-    if !is_integer(alloc, defs, &term)? {
-        return Ok(false);
-    }
+    let term = chosen_part(alloc, part, chosen).expect(rt, told);
+    assert!(rt; is_integer(rt, alloc, defs, &term));
     match part_row(alloc, defs, points, part, chosen) {
-        Ok(row) => Ok(are_numbers::<T>(row.as_slice(), told)),
-        Err(RowEnd::Lost(point)) => Ok(told == "lost" && point == 1),
-        Err(RowEnd::Want) => Err(Want {}),
+        Ok(row) => are_numbers::<T>(row.as_slice(), told),
+        Err(RowEnd::Lost(point)) => told == "lost" && point == 1,
+        Err(RowEnd::Want) => panic!(rt; "memory"),
     }
 }
 
@@ -121,24 +114,19 @@ fn are_numbers<T: Theory>(values: &[Value<T::Num>], told: &str) -> bool {
 }
 
 /// Whether what is grown of the chosen terms by rule 4 is the part's term, with a derivation for each of them.
-fn is_grown(
-    alloc: Global,
-    part: Part<IntTheory>,
-    chosen: &[&Kept<IntTheory>],
-) -> Result<bool, Want> {
-    let term = chosen_part(alloc, &part, chosen)?;
-    let part = Rc::new(alloc, part)?;
+fn is_grown<T: Theory>(rt: &impl Abort, alloc: Global, part: Part<T>, chosen: &[&Kept<T>]) -> bool {
+    let term = chosen_part(alloc, &part, chosen).expect(rt, "memory");
+    let part = Rc::new(alloc, part).expect(rt, "memory");
     let kept = Kept {
-        grown: grown(alloc, 4, &part, chosen)?,
+        grown: grown(alloc, 4, &part, chosen).expect(rt, "memory"),
         size: 1,
         row: Seq::new(alloc),
     };
-    let derived = match kept.derivation(alloc)? {
+    let derived = match kept.derivation(alloc).expect(rt, "memory") {
         Derivation::Node(4, children) => children.as_slice().len() == chosen.len(),
         _ => false,
     };
-    let same = kept.term(alloc)?.equals(&term);
-    Ok(derived && same)
+    derived && kept.term(alloc).expect(rt, "memory").equals(&term)
 }
 
 /// Parts with their rows, where the argument, 1 and 5 are chosen, and the argument is 3 or the greatest number.
@@ -157,51 +145,40 @@ A|3 170141183460469231731687303715884105727
 D!A|-2 -170141183460469231731687303715884105726
 DA|lost";
 
-/// The first row whose part doesn't have it, or isn't grown.
-fn first_wrong(
+/// Whether the row's part has it, and is grown.
+fn is_right<T: Theory>(
+    rt: &impl Abort,
     alloc: Global,
-    defs: &Defs<IntTheory>,
-    points: &[Values<IntTheory>],
-    chosen: &[&Kept<IntTheory>],
-) -> Result<Option<&'static str>, Want>
-    requires definitions { DefinitionsFit ⟦<IntTheory as Theory>⟧.owned ⟦<IntTheory as Theory>⟧.denotes defs.now }
-    requires points { ArePointsOf (sorts.Int ∷ []) (map (vals_of ⟦<IntTheory as Theory>⟧.denotes) points.now) }
-    requires rows { AreRows (scope_of ⟦<IntTheory as Theory>⟧.owned defs.now) (functions (bodies ⟦<IntTheory as Theory>⟧.denotes defs.now)) (map (vals_of ⟦<IntTheory as Theory>⟧.denotes) points.now) (chosen_of ⟦<IntTheory as Theory>⟧.denotes chosen.now) }
+    defs: &Defs<T>,
+    points: &[Values<T>],
+    chosen: &[&Kept<T>],
+    row: &str,
+) -> bool
+    requires definitions { DefinitionsFit T.owned T.denotes defs.now }
+    requires points { ArePointsOf (sorts.Int ∷ []) (map (vals_of T.denotes) points.now) }
+    requires rows { AreRows (scope_of T.owned defs.now) (functions (bodies T.denotes defs.now)) (map (vals_of T.denotes) points.now) (chosen_of T.denotes chosen.now) }
 {
-    for row in ROWS.lines() {
-        let (text, told) = cut(row);
-        let part = part::<IntTheory>(alloc, Sort::Int, text)?;
-        let found = has_row::<IntTheory>(alloc, defs, points, &part, chosen, told)?;
-        if !found || !is_grown(alloc, part, chosen)? {
-            return Ok(Some(row));
-        }
-    }
-    Ok(None)
+    let (text, told) = cut(row);
+    let part = part::<T>(rt, alloc, Sort::Int, text);
+    has_row(rt, alloc, defs, points, &part, chosen, told) && is_grown(rt, alloc, part, chosen)
 }
 
-/// The first row that is wrong at the points 3 and the greatest number, where the definition gives the next number.
-fn found(alloc: Global) -> Result<Option<&'static str>, RowEnd> {
+/// Asserts that each row is right at the points 3 and the greatest number, where the definition gives the next number.
+fn assert_rows<T: Theory>(rt: &impl Abort, alloc: Global, one: T::Num, five: T::Num) {
     let numbers = "3 170141183460469231731687303715884105727";
-    let points = points::<IntTheory>(alloc, Sort::Int, numbers)?;
+    let points = points::<T>(rt, alloc, Sort::Int, numbers);
     let points = points.as_slice();
-    let Some(defs) = definition::<IntTheory>(alloc)? else {
-        return Ok(Some("the definition"));
-    };
-    let Some(argument) = kept::<IntTheory>(alloc, &defs, points, Term::Var(0))? else {
-        return Ok(Some("the argument"));
-    };
-    let Some(one) = kept::<IntTheory>(alloc, &defs, points, Term::Const(Value::Num(1)))? else {
-        return Ok(Some("1"));
-    };
-    let Some(five) = kept::<IntTheory>(alloc, &defs, points, Term::Const(Value::Num(5)))? else {
-        return Ok(Some("5"));
-    };
-    let wrong = first_wrong(alloc, &defs, points, &[&argument, &one, &five])?;
-    Ok(wrong)
+    let defs = definition::<T>(rt, alloc);
+    let argument = kept::<T>(rt, alloc, &defs, points, Term::Var(0));
+    let one = kept::<T>(rt, alloc, &defs, points, Term::Const(Value::Num(one)));
+    let five = kept::<T>(rt, alloc, &defs, points, Term::Const(Value::Num(five)));
+    let chosen = [&argument, &one, &five];
+    for row in ROWS.lines() {
+        assert!(rt; is_right(rt, alloc, &defs, points, &chosen, row), "{row}");
+    }
 }
 
 #[test]
 fn finds_rows_of_parts(rt: HostRuntime) {
-    let wrong = found(rt.alloc());
-    assert_eq!(rt; wrong.expect(&rt, "no memory"), None);
+    assert_rows::<IntTheory>(&rt, rt.alloc(), 1, 5);
 }

@@ -1,43 +1,47 @@
 // Terms that share others, and parts that are filled, written as text: each node before those that it takes.
 use crate::parts::part;
 use std::alloc::{AllocError, Global};
+use std::process::Abort;
 use std::rc::Rc;
 use sy_bank_rows::{Grown, Growns, Kept, copied_part, filled_part};
 use sy_grammar_base::{Derivation, Part};
 use sy_meaning::IntTheory;
-use sy_terms::{Fun, Seq, Sort, Term, Value, Want, spell};
+use sy_terms::{Fun, Seq, Sort, Term, Value, spell};
 
 /// What the part becomes of the first and second term.
 fn filled(
+    rt: &impl Abort,
     alloc: Global,
     part: &Rc<Part<IntTheory>>,
     first: &Rc<Grown<IntTheory>>,
     second: &Rc<Grown<IntTheory>>,
-) -> Result<Rc<Grown<IntTheory>>, Want> {
-    let mut growns = Growns::with_capacity(alloc, 2)?;
-    growns.push(first.clone()?)?;
-    growns.push(second.clone()?)?;
-    Ok(Rc::new(alloc, Grown::Filled(4, part.clone()?, growns))?)
+) -> Rc<Grown<IntTheory>> {
+    let mut growns = Growns::with_capacity(alloc, 2).expect(rt, "memory");
+    growns
+        .push(first.clone().expect(rt, "memory"))
+        .expect(rt, "memory");
+    growns
+        .push(second.clone().expect(rt, "memory"))
+        .expect(rt, "memory");
+    let part = part.clone().expect(rt, "memory");
+    Rc::new(alloc, Grown::Filled(4, part, growns)).expect(rt, "memory")
 }
 
 /// `x + (x + 1)`, in which one `x` and one sum are shared.
-fn shared(alloc: Global) -> Result<Kept<IntTheory>, Want> {
-    let part = Rc::new(alloc, part::<IntTheory>(alloc, Sort::Int, "+AA")?)?;
-    let x = Rc::new(alloc, Grown::Leaf(Term::Var(0), Derivation::Variable(1, 0)))?;
-    let one = Rc::new(
-        alloc,
-        Grown::Leaf(
-            Term::Const(Value::Num(1)),
-            Derivation::Constant(2, Value::Num(1)),
-        ),
-    )?;
-    let inner = filled(alloc, &part, &x, &one)?;
-    let grown = filled(alloc, &part, &x, &inner)?;
-    Ok(Kept {
-        grown,
+fn shared(rt: &impl Abort, alloc: Global) -> Kept<IntTheory> {
+    let part = part::<IntTheory>(rt, alloc, Sort::Int, "+AA");
+    let part = Rc::new(alloc, part).expect(rt, "memory");
+    let x = Grown::Leaf(Term::Var(0), Derivation::Variable(1, 0));
+    let x = Rc::new(alloc, x).expect(rt, "memory");
+    let one = Value::Num(1);
+    let one = Grown::Leaf(Term::Const(one), Derivation::Constant(2, one));
+    let one = Rc::new(alloc, one).expect(rt, "memory");
+    let inner = filled(rt, alloc, &part, &x, &one);
+    Kept {
+        grown: filled(rt, alloc, &part, &x, &inner),
         size: 5,
         row: Seq::new(alloc),
-    })
+    }
 }
 
 /// Writes a term: `x` and the number of a variable, an integer, an operator, or `d` and the number of a definition.
@@ -78,32 +82,45 @@ fn write_rules(text: &mut String, derivation: &Derivation<IntTheory>) -> Result<
 }
 
 /// A term that shares others, with its derivation.
-fn written_shared(alloc: Global) -> Result<String, Want> {
-    let kept = shared(alloc)?;
+fn written_shared(rt: &impl Abort, alloc: Global) -> String {
+    let kept = shared(rt, alloc);
+    let term = kept.term(alloc).expect(rt, "memory");
+    let derivation = kept.derivation(alloc).expect(rt, "memory");
     let mut text = String::new(alloc);
-    write_term(&mut text, &kept.term(alloc)?)?;
-    text.push_str("by ")?;
-    write_rules(&mut text, &kept.derivation(alloc)?)?;
-    Ok(text)
+    write_term(&mut text, &term).expect(rt, "memory");
+    text.push_str("by ").expect(rt, "memory");
+    write_rules(&mut text, &derivation).expect(rt, "memory");
+    text
+}
+
+/// Writes the part, filled with the terms.
+fn write_filled(
+    rt: &impl Abort,
+    alloc: Global,
+    text: &mut String,
+    part: &Part<IntTheory>,
+    terms: &[Term<IntTheory>],
+) {
+    let term = filled_part(alloc, part, terms).expect(rt, "memory");
+    write_term(text, &term).expect(rt, "memory");
 }
 
 /// A part that is filled with three terms, its copy with two of them, and a part that is filled with none.
-fn written_filled(alloc: Global) -> Result<String, Want> {
-    let part = part::<IntTheory>(alloc, Sort::Int, "E+AAA")?;
-    let copy = copied_part(alloc, &part)?;
+fn written_filled(rt: &impl Abort, alloc: Global) -> String {
+    let part = part::<IntTheory>(rt, alloc, Sort::Int, "E+AAA");
+    let copy = copied_part(alloc, &part).expect(rt, "memory");
     let terms = [Term::Var(5), Term::Const(Value::Num(1)), Term::Var(6)];
-    let (few, none) = terms.split_at(2);
     let mut text = String::new(alloc);
-    write_term(&mut text, &filled_part(alloc, &part, &terms)?)?;
-    write_term(&mut text, &filled_part(alloc, &copy, few)?)?;
-    write_term(&mut text, &filled_part(alloc, &Part::Var(7), none)?)?;
-    Ok(text)
+    write_filled(rt, alloc, &mut text, &part, &terms);
+    write_filled(rt, alloc, &mut text, &copy, &terms[..2]);
+    write_filled(rt, alloc, &mut text, &Part::Var(7), &[]);
+    text
 }
 
 #[test]
 fn builds_terms_and_derivations(rt: HostRuntime) {
-    let shared = written_shared(rt.alloc()).expect(&rt, "memory");
-    assert_eq!(rt; shared.as_str(), "+ x0 + x0 1 by 4 1 4 1 2 ");
-    let filled = written_filled(rt.alloc()).expect(&rt, "memory");
-    assert_eq!(rt; filled.as_str(), "d3 + x5 1 x6 d3 + x5 1 x0 x7 ");
+    let shared = written_shared(&rt, rt.alloc());
+    assert!(rt; shared.as_str() == "+ x0 + x0 1 by 4 1 4 1 2 ");
+    let filled = written_filled(&rt, rt.alloc());
+    assert!(rt; filled.as_str() == "d3 + x5 1 x6 d3 + x5 1 x0 x7 ");
 }

@@ -9,6 +9,7 @@ use Rattle.sy_bank_tests.proofs.points.points.Goals as goal
 pub loop-word-preserved : goal.loop-word-preserved
 loop-word-preserved g c =
     let number = g.T.Theory.denotes in
-    rw (c.in_ok-push.ensures.ok, map-append, c.in_ok-point.ensures)
+    let pushed = rw c.expect.ensures at c.push.ensures.ok in
+    rw (pushed, map-append, c.one.ensures)
     (points-more (c.args.sort ∷ []) (map (vals_of number) c.loop-word.points) (val_of number c.in-Some-value.value ∷ [])
     (All-cons (λ v. valid v ≡ true) (val_of number c.in-Some-value.value) [] c.in-Some-value.ensures.valid (All-nil (λ v. valid v ≡ true))) (ap (λ sort. sort ∷ []) c.in-Some-value.ensures.sort) c.loop-word.invariant)
