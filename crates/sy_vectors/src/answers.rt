@@ -1,11 +1,12 @@
 // What the solver answers to small queries, and what they weigh.
 use crate::queries::{query, query_of_width};
 use std::alloc::Global;
+use std::process::Abort;
 use sy_bits::{BvDecide, BvSpent, fits};
 use sy_clauses::check;
 use sy_meaning::{BvTheory, Word};
 use sy_query::{Built, Decide, FailName, Limits, Query, Verdict, weigh};
-use sy_terms::{Value, Want};
+use sy_terms::Value;
 
 /// Limits with so many learned clauses.
 fn limits(clauses: u32) -> Limits {
@@ -21,80 +22,88 @@ fn limits(clauses: u32) -> Limits {
     }
 }
 
-/// A model as tables tell it: `model` and its numbers, 1 for true.
-fn model(alloc: Global, values: &[Value<Word>]) -> Result<String, Want> {
-    let mut text = String::from_str(alloc, "model")?;
+/// Whether the values are these numbers, 1 for true.
+fn are_values(values: &[Value<Word>], numbers: &str) -> bool {
+    let mut numbers = numbers.split_whitespace();
+    let mut are_told = true;
     for value in values {
         let number = match value {
             Value::Truth(truth) => u64::from(*truth),
             Value::Num(word) => word.bits(),
         };
-        write!(text, " {number}")?;
+        let told = numbers.next().unwrap_or("");
+        are_told &= told.parse::<u64>() == Ok(number);
     }
-    Ok(text)
+    are_told & numbers.next().is_none()
 }
 
-/// What is answered where so many clauses may be learned: `unfit`; a model; `never`, by a log that the checker accepts
-/// and a formula of so many variables at most; or `spent` and how many clauses are learned.
-fn answer(
+/// Whether so many clauses are learned.
+fn has_learned(spent: &BvSpent, count: &str) -> bool {
+    let BvSpent::Clauses(_, log) = spent;
+    count.parse::<usize>() == Ok(log.lines.len()) && BvDecide::name_of(spent) == FailName::Clauses
+}
+
+/// Whether it is answered as is told where so many clauses may be learned: `unfit`; `model` and its numbers; `never`, by a
+/// log that the checker accepts and a formula of so many variables at most; or `spent` and how many clauses are learned.
+fn answers<R: Abort>(
+    rt: &R,
     alloc: Global,
     query: &Query<BvTheory>,
     clauses: u32,
     variables: u32,
-) -> Result<String, Want> {
-    if !fits(alloc, query)? {
-        return String::from_str(alloc, "unfit");
+    told: &str,
+) -> bool {
+    if !fits(alloc, query).expect(rt, told) {
+        return told == "unfit";
     }
-    let verdict = BvDecide::new().decide(alloc, query, &limits(clauses))?;
+    let verdict = BvDecide::new().decide(alloc, query, &limits(clauses));
+    let verdict = verdict.expect(rt, told);
     match &verdict {
-        Verdict::Model(values) => model(alloc, values.as_slice()),
-        Verdict::Never(proof)
-            if proof.cnf.vars <= variables && check(alloc, &proof.cnf, &proof.log)? => {
-            String::from_str(alloc, "never")
+        Verdict::Model(values) => match told.strip_prefix("model") {
+            Some(numbers) => are_values(values.as_slice(), numbers),
+            None => false,
+        },
+        Verdict::Never(proof) => {
+            told == "never"
+                && proof.cnf.vars <= variables
+                && check(alloc, &proof.cnf, &proof.log).expect(rt, told)
         }
-        Verdict::Spent(spent) if BvDecide::name_of(spent) == FailName::Clauses => {
-            let BvSpent::Clauses(_, log) = spent;
-            let count = log.lines.len();
-            format!(in alloc; "spent {count}")
-        }
-        _ => String::from_str(alloc, "wrong"),
+        Verdict::Spent(spent) => match told.strip_prefix("spent ") {
+            Some(count) => has_learned(spent, count),
+            None => false,
+        },
     }
 }
 
 /// Whether the query weighs so much: it is too heavy exactly where less is allowed.
-fn has_weight(alloc: Global, query: &Query<BvTheory>, weight: u32) -> Result<bool, Want> {
-    if !fits(alloc, query)? {
-        return Ok(false);
+fn has_weight<R: Abort>(rt: &R, alloc: Global, query: &Query<BvTheory>, weight: u32) -> bool {
+    if !fits(alloc, query).expect(rt, "memory") {
+        return false;
     }
     let is_heavy = matches!(
         weigh(alloc, query, weight.wrapping_sub(1)),
         Err(Built::Heavy)
     );
-    let is_met = matches!(weigh(alloc, query, weight), Ok(found) if found == weight);
-    Ok(is_heavy && is_met)
+    is_heavy && matches!(weigh(alloc, query, weight), Ok(found) if found == weight)
 }
 
-/// The parts of a row.
-fn parts_of(row: &str) -> Option<(&str, &str, u32, &str)> {
-    let (sorts, rest) = row.split_once(' ')?;
-    let (body, rest) = rest.split_once(' ')?;
-    let (number, told) = rest.split_once(' ')?;
-    Some((sorts, body, number.parse().ok()?, told))
+/// What stands before the first space, and what stands behind it.
+fn cut(row: &str) -> (&str, &str) {
+    row.split_once(' ').unwrap_or((row, ""))
 }
 
 /// Whether the row is right.
-fn is_right(alloc: Global, row: &str) -> Result<bool, Want> {
-    let Some((sorts, body, number, told)) = parts_of(row) else {
-        return Ok(false);
-    };
-    let query = query(alloc, sorts, body)?;
-    if told == "weighs" {
-        return has_weight(alloc, &query, number);
+fn is_right<R: Abort>(rt: &R, alloc: Global, row: &str) -> bool {
+    let (sorts, rest) = cut(row);
+    let (body, rest) = cut(rest);
+    let (number, told) = cut(rest);
+    let number = number.parse::<u32>().expect(rt, row);
+    let query = query(rt, alloc, sorts, body);
+    match told {
+        "weighs" => has_weight(rt, alloc, &query, number),
+        "settled" => answers(rt, alloc, &query, 1, number, "never"),
+        _ => answers(rt, alloc, &query, number, u32::MAX, told),
     }
-    if told == "settled" {
-        return Ok(answer(alloc, &query, 1, number)?.as_str() == "never");
-    }
-    Ok(answer(alloc, &query, number, u32::MAX)?.as_str() == told)
 }
 
 /// What the solver answers: the sorts of the variables, the body, how many clauses may be learned, and the answer. Where
@@ -267,21 +276,20 @@ bb AB# 6 weighs
 fn small_queries(rt: HostRuntime) {
     for table in [ANSWERS, EQUAL_GATES, SETTLED, WEIGHTS] {
         for row in table.lines() {
-            assert!(rt; matches!(is_right(rt.alloc(), row), Ok(true)), "{row}");
+            assert!(rt; is_right(&rt, rt.alloc(), row), "{row}");
         }
     }
 }
 
 /// Whether nothing satisfies the body over two vectors of each width, by no learned clause beside the empty one and
 /// 17,000 variables at most.
-fn is_plain(alloc: Global, body: &str) -> Result<bool, Want> {
+fn is_plain<R: Abort>(rt: &R, alloc: Global, body: &str) -> bool {
+    let mut is_plain = true;
     for width in 1..65 {
-        let query = query_of_width(alloc, width, body)?;
-        if answer(alloc, &query, 1, 17_000)?.as_str() != "never" {
-            return Ok(false);
-        }
+        let query = query_of_width(rt, alloc, width, body);
+        is_plain &= answers(rt, alloc, &query, 1, 17_000, "never");
     }
-    Ok(true)
+    is_plain
 }
 
 /// A product, quotients and shifts, each against itself.
@@ -290,6 +298,6 @@ const THEMSELVES: &str = "ABwB*ABwB*# AB/AB/# AB%AB%# ABlABl# ABgABg# ABaABa#";
 #[test]
 fn equal_terms_of_every_width(rt: HostRuntime) {
     for body in THEMSELVES.split(' ') {
-        assert!(rt; matches!(is_plain(rt.alloc(), body), Ok(true)), "{body}");
+        assert!(rt; is_plain(&rt, rt.alloc(), body), "{body}");
     }
 }

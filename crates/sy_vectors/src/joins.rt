@@ -1,8 +1,8 @@
 // Joins of small tables, with the trees or the classes of points that are wanted.
 use std::alloc::Global;
-use std::test::Fail;
-use sy_terms::{Seq, Want};
-use sy_unify::*;
+use std::process::Abort;
+use sy_terms::Seq;
+use sy_unify::{Choice, Joined, unify};
 
 /// What is wanted of a join.
 enum Wanted {
@@ -20,16 +20,21 @@ struct Case {
     wanted: Wanted,
 }
 
-fn rows(alloc: Global, table: &[&str]) -> Result<Seq<Seq<bool>>, Want> {
+/// The values of this row.
+fn values<R: Abort>(rt: &R, alloc: Global, row: &str) -> Seq<bool> {
+    let mut values = Seq::new(alloc);
+    for sign in row.as_bytes() {
+        values.push(*sign == b'1').expect(rt, row);
+    }
+    values
+}
+
+fn rows<R: Abort>(rt: &R, alloc: Global, table: &[&str]) -> Seq<Seq<bool>> {
     let mut all = Seq::new(alloc);
     for row in table {
-        let mut values = Seq::new(alloc);
-        for byte in row.as_bytes() {
-            values.push(*byte == b'1')?;
-        }
-        all.push(values)?;
+        all.push(values(rt, alloc, row)).expect(rt, row);
     }
-    Ok(all)
+    all
 }
 
 fn holds(table: &[&str], row: u32, point: u32) -> bool {
@@ -59,22 +64,31 @@ fn leaves(tree: &Choice) -> usize {
     }
 }
 
-/// Whether a join answered as is wanted: a tree of that many leaves whose reached leaf is good at each point, or the class.
-fn is_as_wanted(case: &Case, joined: &Joined) -> bool {
-    match (&case.wanted, joined) {
-        (Wanted::Tree(count), Joined::Tree(tree)) => {
-            let mut good = leaves(tree) == *count;
-            for point in 0..case.points {
-                good = good && holds(case.goods, reached(case.conditions, point, tree), point);
-            }
-            good
-        }
+/// Whether the tree has so many leaves, and the leaf that it reaches is good at each point.
+fn is_good(case: &Case, tree: &Choice, count: usize) -> bool {
+    let mut is_good = leaves(tree) == count;
+    for point in 0..case.points {
+        is_good &= holds(case.goods, reached(case.conditions, point, tree), point);
+    }
+    is_good
+}
+
+/// Whether a join answers as is wanted.
+fn is_right<R: Abort>(rt: &R, alloc: Global, case: &Case) -> bool {
+    let goods = rows(rt, alloc, case.goods);
+    let conditions = rows(rt, alloc, case.conditions);
+    if case.points < 1 || goods.len() >= 100 || conditions.len() >= 100 {
+        return false;
+    }
+    let joined = unify(alloc, case.points, &goods, &conditions).expect(rt, "a join");
+    match (&case.wanted, &joined) {
+        (Wanted::Tree(count), Joined::Tree(tree)) => is_good(case, tree, *count),
         (Wanted::Uncovered(class), Joined::Uncovered(points)) => points.as_slice() == *class,
         _ => false,
     }
 }
 
-const CASES: [Case; 24] = [
+const CASES: &[Case] = &[
     // two points that one condition parts, and the same without it
     Case {
         points: 2,
@@ -232,17 +246,16 @@ const CASES: [Case; 24] = [
     },
 ];
 
-#[test]
-fn joins_are_as_wanted(rt: HostRuntime) -> Result<(), Fail> {
-    let alloc = rt.alloc();
+/// Asserts that each case is right.
+fn assert_cases<R: Abort>(rt: &R, alloc: Global, cases: &[Case]) {
     let mut number: u32 = 0;
-    for case in &CASES {
-        let goods = rows(alloc, case.goods)?;
-        let conditions = rows(alloc, case.conditions)?;
-        assert!(rt; case.points >= 1 && goods.len() < 100 && conditions.len() < 100);
-        let joined = unify(alloc, case.points, &goods, &conditions)?;
-        assert!(rt; is_as_wanted(case, &joined), "case {number}");
+    for case in cases {
+        assert!(rt; is_right(rt, alloc, case), "case {number}");
         number = number.saturating_add(1);
     }
-    Ok(())
+}
+
+#[test]
+fn joins_are_as_wanted(rt: HostRuntime) {
+    assert_cases(&rt, rt.alloc(), CASES);
 }

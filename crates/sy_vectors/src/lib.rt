@@ -4,22 +4,16 @@
 #[cfg(test)]
 mod answers;
 #[cfg(test)]
-mod chains;
+mod clauses;
 #[cfg(test)]
 mod conditions;
 #[cfg(test)]
 mod defaults;
 #[cfg(test)]
-mod derivations;
-#[cfg(test)]
-mod formulas;
+mod grammars;
 #[cfg(test)]
 mod joins;
-#[cfg(test)]
-mod logs;
 #[cfg(test)]
 mod points;
 #[cfg(test)]
 mod queries;
-#[cfg(test)]
-mod sizes;

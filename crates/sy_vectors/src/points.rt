@@ -1,39 +1,60 @@
 // Points and pairs over integers.
-use std::alloc::{AllocError, Global};
+use std::alloc::Global;
+use std::process::Abort;
 use sy_meaning::IntTheory;
 use sy_points::{Added, Points, Stored};
-use sy_terms::{Seq, Term, Value, Values};
+use sy_terms::{Bodies, Seq, Term, Value, Values};
 
-fn tuple(alloc: Global, numbers: &[i128]) -> Result<Values<IntTheory>, AllocError> {
+fn tuple<R: Abort>(rt: &R, alloc: Global, numbers: &[i128]) -> Values<IntTheory> {
     let mut values = Seq::new(alloc);
     for number in numbers {
-        values.push(Value::Num(*number))?;
+        values.push(Value::Num(*number)).expect(rt, "a value");
     }
-    Ok(values)
+    values
 }
 
-#[test]
-fn adds_each_tuple_once_up_to_the_limit(rt: HostRuntime) -> Result<(), AllocError> {
-    let mut points = Points::<IntTheory>::new(rt.alloc(), 1, 1)?;
-    let first = tuple(rt.alloc(), &[1, 2])?;
-    let second = tuple(rt.alloc(), &[1, 3])?;
-    assert_eq!(rt; points.add(0, first.as_slice())?, Added::New);
-    assert_eq!(rt; points.add(0, first.as_slice())?, Added::There);
-    assert_eq!(rt; points.add(0, second.as_slice())?, Added::Full);
-    assert_eq!(rt; points.of(0).len(), 1);
-    Ok(())
+/// Whether one function with room for one tuple takes one, knows it again, and takes no other.
+fn adds_one<R: Abort>(
+    rt: &R,
+    alloc: Global,
+    first: &Values<IntTheory>,
+    second: &Values<IntTheory>,
+) -> bool {
+    let mut points = Points::<IntTheory>::new(alloc, 1, 1).expect(rt, "points");
+    let added = points.add(0, first.as_slice()).expect(rt, "memory");
+    let again = points.add(0, first.as_slice()).expect(rt, "memory");
+    let other = points.add(0, second.as_slice()).expect(rt, "memory");
+    let count = points.of(0).len();
+    (added == Added::New) & (again == Added::There) & (other == Added::Full) & (count == 1)
 }
 
-#[test]
-fn keeps_pairs_in_order(rt: HostRuntime) -> Result<(), AllocError> {
-    let mut stored = Stored::<IntTheory>::new(rt.alloc());
+/// The body that is the first argument.
+fn bodies<R: Abort>(rt: &R, alloc: Global) -> Bodies<IntTheory> {
+    let mut bodies = Seq::new(alloc);
+    bodies.push(Term::Var(0)).expect(rt, "a body");
+    bodies
+}
+
+/// Whether two pairs are kept and no third.
+fn keeps_pairs<R: Abort>(rt: &R, alloc: Global) -> bool {
+    let mut stored = Stored::<IntTheory>::new(alloc);
     for number in [5, 7] {
-        let mut bodies = Seq::new(rt.alloc());
-        bodies.push(Term::Var(0))?;
-        stored.push(tuple(rt.alloc(), &[number])?, bodies)?;
+        stored
+            .push(tuple(rt, alloc, &[number]), bodies(rt, alloc))
+            .expect(rt, "a pair");
     }
-    assert_eq!(rt; stored.len(), 2);
-    assert!(rt; stored.get(2).is_none());
-    assert!(rt; stored.get(1).is_some());
-    Ok(())
+    (stored.len() == 2) & stored.get(2).is_none() & stored.get(1).is_some()
+}
+
+/// Whether one of two tuples is added.
+fn adds_one_of_two<R: Abort>(rt: &R, alloc: Global) -> bool {
+    let first = tuple(rt, alloc, &[1, 2]);
+    let second = tuple(rt, alloc, &[1, 3]);
+    adds_one(rt, alloc, &first, &second)
+}
+
+#[test]
+fn points_and_pairs(rt: HostRuntime) {
+    assert!(rt; adds_one_of_two(&rt, rt.alloc()));
+    assert!(rt; keeps_pairs(&rt, rt.alloc()));
 }

@@ -1,8 +1,9 @@
 // Queries as texts, a character for each node, in postfix.
 use std::alloc::Global;
+use std::process::Abort;
 use sy_meaning::{BvTheory, Word};
 use sy_query::Query;
-use sy_terms::{Op, Seq, Sort, Term, Terms, Value, Want};
+use sy_terms::{Op, Seq, Sort, Term, Terms, Value};
 
 /// The sort of this sign: `b` for truth values, a digit for vectors of so many bits, and `@` and `p` for those of 16 and 64.
 fn sort_of(sign: u8) -> Sort {
@@ -21,24 +22,20 @@ fn vector(bits: u64) -> Term<BvTheory> {
 }
 
 /// Takes so many of the last terms.
-fn last(
+fn last<R: Abort>(
+    rt: &R,
     alloc: Global,
     stack: &mut Vec<Term<BvTheory>>,
     count: usize,
-) -> Result<Terms<BvTheory>, Want> {
-    let mut turned = Vec::new(alloc);
-    for _ in 0..count {
-        if let Some(term) = stack.pop() {
-            turned.push(term)?;
-        }
-    }
+) -> Terms<BvTheory> {
+    let first = stack.len().saturating_sub(count);
     let mut terms = Terms::new(alloc);
     for _ in 0..count {
-        if let Some(term) = turned.pop() {
-            terms.push(term)?;
+        if first < stack.len() {
+            terms.push(stack.remove(first)).expect(rt, "a term");
         }
     }
-    Ok(terms)
+    terms
 }
 
 /// The operator of this sign, and how many arguments it takes.
@@ -95,50 +92,56 @@ fn operator(sign: u8) -> Option<(Op, usize)> {
 
 /// The term that ends with this sign: `A`, `B` and `C` are variables, `T` is true, `L` binds the term before the last in
 /// the last, `F` is the greatest vector of four bits, and a digit the vector of its number.
-fn term(alloc: Global, sign: u8, stack: &mut Vec<Term<BvTheory>>) -> Result<Term<BvTheory>, Want> {
+fn term<R: Abort>(
+    rt: &R,
+    alloc: Global,
+    sign: u8,
+    stack: &mut Vec<Term<BvTheory>>,
+) -> Term<BvTheory> {
     if let Some((op, count)) = operator(sign) {
-        return Ok(Term::App(op, last(alloc, stack, count)?));
+        return Term::App(op, last(rt, alloc, stack, count));
     }
     match sign {
-        b'A' => Ok(Term::Var(0)),
-        b'B' => Ok(Term::Var(1)),
-        b'C' => Ok(Term::Var(2)),
-        b'T' => Ok(Term::Const(Value::Truth(true))),
-        b'F' => Ok(vector(15)),
+        b'A' => Term::Var(0),
+        b'B' => Term::Var(1),
+        b'C' => Term::Var(2),
+        b'T' => Term::Const(Value::Truth(true)),
+        b'F' => vector(15),
         b'L' => {
             let inner = stack.pop().unwrap_or(Term::Var(0));
-            let bound = last(alloc, stack, 1)?;
-            Ok(Term::Let(bound, Box::new(alloc, inner)?))
+            let inner = Box::new(alloc, inner).expect(rt, "a term");
+            Term::Let(last(rt, alloc, stack, 1), inner)
         }
-        digit => Ok(vector(u64::from(digit.wrapping_sub(b'0')))),
+        digit => vector(u64::from(digit.wrapping_sub(b'0'))),
     }
 }
 
 /// The term of this text.
-fn term_of(alloc: Global, body: &str) -> Result<Term<BvTheory>, Want> {
+fn term_of<R: Abort>(rt: &R, alloc: Global, body: &str) -> Term<BvTheory> {
     let mut stack = Vec::new(alloc);
     for sign in body.as_bytes() {
-        let term = term(alloc, *sign, &mut stack)?;
-        stack.push(term)?;
+        let term = term(rt, alloc, *sign, &mut stack);
+        stack.push(term).expect(rt, body);
     }
-    Ok(stack.pop().unwrap_or(Term::Var(0)))
+    stack.pop().unwrap_or(Term::Var(0))
 }
 
 /// The query of these variables' sorts and this body.
-pub fn query(alloc: Global, sorts: &str, body: &str) -> Result<Query<BvTheory>, Want> {
+pub fn query<R: Abort>(rt: &R, alloc: Global, sorts: &str, body: &str) -> Query<BvTheory> {
     let mut vars = Seq::new(alloc);
     for sign in sorts.as_bytes() {
-        vars.push(sort_of(*sign))?;
+        vars.push(sort_of(*sign)).expect(rt, sorts);
     }
-    let body = term_of(alloc, body)?;
-    Ok(Query { vars, body })
+    let body = term_of(rt, alloc, body);
+    Query { vars, body }
 }
 
 /// The query of two vectors of a width and this body.
-pub fn query_of_width(alloc: Global, width: u8, body: &str) -> Result<Query<BvTheory>, Want> {
+pub fn query_of_width<R: Abort>(rt: &R, alloc: Global, width: u8, body: &str) -> Query<BvTheory> {
     let mut vars = Seq::new(alloc);
-    vars.push(Sort::Bits(width))?;
-    vars.push(Sort::Bits(width))?;
-    let body = term_of(alloc, body)?;
-    Ok(Query { vars, body })
+    for _ in 0..2 {
+        vars.push(Sort::Bits(width)).expect(rt, body);
+    }
+    let body = term_of(rt, alloc, body);
+    Query { vars, body }
 }

@@ -1,7 +1,7 @@
 use Rattle.std.proofs.Common.{◌≡◌, ℕ, ◌<◌, Some, List}
 use Rattle.std.specs.Prelude.{slice_get}
 use Rattle.sy_clauses.specs.declared.Lit.{Lit}
-use Rattle.sy_vectors.proofs.formulas.fits.Given as goal
+use Rattle.sy_vectors.proofs.clauses.fits.Given as goal
 
 abbrev pub invariant-loop-clause : goal.invariant-loop-clause
 invariant-loop-clause l = (n : ℕ) (c : List Lit) (k : ℕ) (x : Lit) → n < l.clause-index →
