@@ -4,7 +4,7 @@
     bench/answers.py [--sygus PROGRAM] [--limit SECONDS] [--cvc5 TIMES] [FILE ..]
 
 Without files it takes those of examples/, with its folders advice and gallery, and of bench/problems/. Without --sygus it
-builds the program by ./sygus. Each run has a limit of processor seconds and 6 GB. A comment line `; words: WORDS` of a file
+builds the program by ./sygus. Each run has a limit of processor seconds, 20 without --limit, and 6 GB. A comment line `; words: WORDS` of a file
 holds words for `sygus`, as `--size 15`. Each answer of `sygus` is checked: it is definitions of the functions of the file,
 in order, with their arguments and sorts; and where z3 is installed, z3 finds no values at which they violate the problem. A
 line `; answer: fail CAUSE` says that no definitions are wanted, and why; so does `; answer: infeasible`. A line `; leaves: N` has the least number of leaves
@@ -14,19 +14,15 @@ cvc5 stand in that file of JSON: those that are there aren't taken again, and th
 answer is wrong.
 """
 import argparse
-import glob
 import json
 import os
 import re
-import resource
 import shutil
 import statistics
 import subprocess
 import sys
-import tempfile
 
-TOP = os.path.dirname(os.path.dirname(os.path.abspath(__file__)))
-MEMORY = 6 << 30
+from runs import TOP, line_of, name_of, problems, run, sygus, text_of, words_of
 
 # The classes of problems, by how the path of a file begins below TOP; the first that fits counts.
 CLASSES = [
@@ -60,7 +56,7 @@ def read_items(text):
             continue
         if token == "(":
             stack.append([])
-        elif token == ")":
+        elif token == ")" and len(stack) > 1:
             last = stack.pop()
             stack[-1].append(last)
         else:
@@ -177,43 +173,23 @@ def leaves_in(output):
     return sum(leaves_of(definition[4]) for reply in read_items(output) for definition in reply)
 
 
-def run(words, limit):
-    """The processor seconds of a run, its output and its errors; None for the seconds where it met the limit."""
-
-    def bound():
-        resource.setrlimit(resource.RLIMIT_CPU, (limit, limit + 1))
-        resource.setrlimit(resource.RLIMIT_AS, (MEMORY, MEMORY))
-
-    with tempfile.TemporaryFile("w+") as out, tempfile.TemporaryFile("w+") as err:
-        child = subprocess.Popen(words, stdin=subprocess.DEVNULL, stdout=out, stderr=err, preexec_fn=bound)
-        _, status, used = os.wait4(child.pid, 0)
-        child.returncode = status
-        out.seek(0)
-        err.seek(0)
-        seconds = used.ru_utime + used.ru_stime
-        return (None if os.WIFSIGNALED(status) else seconds), out.read(), err.read()
-
-
-def line_of(text, label):
-    found = re.search(rf"^; {label}: (.*)$", text, re.MULTILINE)
-    return found.group(1).strip() if found else ""
-
-
-def answer_of(text, seconds, output, errors):
+def answer_of(text, ended):
     """What `sygus` answered, and whether that is right."""
-    if seconds is None:
+    if ended.is_over:
         return "no answer within the limit", True
+    if ended.status < 0:
+        return f"WRONG: ended by signal {-ended.status}", False
     wanted = line_of(text, "answer")
-    if output.startswith("infeasible"):
+    if ended.output.startswith("infeasible"):
         return "infeasible", wanted in ("", "infeasible")
-    if output.startswith("fail"):
-        cause = errors.strip().split(" ")[-1]
+    if ended.output.startswith("fail"):
+        cause = ended.errors.strip().split(" ")[-1]
         return f"fail {cause}", wanted in ("", f"fail {cause}")
-    if errors.startswith("refused: "):
-        return f"refused {errors.split()[-1]}", False
-    fault = fault_of(text, output)
+    if ended.errors.startswith("refused: "):
+        return f"refused {ended.errors.split()[-1]}", False
+    fault = fault_of(text, ended.output)
     if fault:
-        return f"WRONG: {fault} {errors.strip()}", False
+        return f"WRONG: {fault} {ended.errors}".strip(), False
     return ("definitions", True) if not wanted else ("WRONG: definitions", False)
 
 
@@ -239,16 +215,11 @@ class Beside:
     def seconds(self, file):
         """The seconds in which cvc5 answers the file; None where it doesn't within the limit."""
         name = f"{os.path.basename(file)} {self.limit}"
-        if name not in self.known:
-            self.known[name] = self.taken(file)
+        if name not in self.known and self.program:
+            ended = run([self.program, "--lang=sygus2", file], self.limit)
+            self.known[name] = ended.seconds if "define-fun" in ended.output and not ended.is_over else None
             self.keep()
-        return self.known[name]
-
-    def taken(self, file):
-        if not self.program:
-            return None
-        seconds, reply, _ = run([self.program, "--lang=sygus2", file], self.limit)
-        return seconds if "define-fun" in reply else None
+        return self.known.get(name)
 
     def keep(self):
         if self.times:
@@ -258,16 +229,16 @@ class Beside:
 
 def asked(file, program, beside, limit):
     """What came of a problem: the row of the table, and what `sums` adds up."""
-    with open(file) as opened:
-        text = opened.read()
-    seconds, output, errors = run([program, *line_of(text, "words").split(), file], limit)
-    answer, is_right = answer_of(text, seconds, output, errors)
+    text = text_of(file)
+    ended = run([program, *words_of(text), file], limit)
+    seconds = None if ended.is_over else ended.seconds
+    answer, is_right = answer_of(text, ended)
     found = answer == "definitions"
     other = beside.seconds(file)
     ratio = seconds / max(other, 0.005) if found and other is not None else None
     least = int(line_of(text, "leaves") or 0)
-    leaves = (leaves_in(output), least) if found and least else None
-    name = os.path.basename(file)[:-3]
+    leaves = (leaves_in(ended.output), least) if found and least else None
+    name = name_of(file)
     tree = f"{leaves[0]}, {leaves[1]}" if leaves else ""
     print(f"| {name:24} | {answer:26} | {shown(seconds):>8} | {shown(other):>8} | {shown(ratio):>7} | {tree:>7} |", flush=True)
     return {"class": class_of(file), "name": name, "answer": answer, "found": found, "right": is_right, "wanted": line_of(text, "answer"), "seconds": seconds, "other": other, "ratio": ratio, "leaves": leaves}
@@ -301,23 +272,19 @@ def sums(rows):
 
 
 def main():
-    options = argparse.ArgumentParser()
-    options.add_argument("--sygus")
-    options.add_argument("--limit", type=int, default=20)
-    options.add_argument("--cvc5")
-    options.add_argument("files", nargs="*")
+    options = argparse.ArgumentParser(description=__doc__, formatter_class=argparse.RawDescriptionHelpFormatter)
+    options.add_argument("--sygus", metavar="PROGRAM")
+    options.add_argument("--limit", metavar="SECONDS", type=int, default=20)
+    options.add_argument("--cvc5", metavar="TIMES")
+    options.add_argument("files", metavar="FILE", nargs="*")
     options = options.parse_args()
-    program = options.sygus or f"{TOP}/crates/sygus/out/sygus"
-    if not options.sygus:
-        subprocess.run([f"{TOP}/sygus", f"{TOP}/examples/first.sl"], stdout=subprocess.DEVNULL, check=True)
-    folders = ["examples", "examples/gallery", "examples/advice", "bench/problems"]
-    files = options.files or [file for folder in folders for file in sorted(glob.glob(f"{TOP}/{folder}/*.sl"))]
+    program = sygus(options.sygus)
     print(f"| {'File':24} | {'Answer':26} | {'sygus s':>8} | {'cvc5 s':>8} | {'ratio':>7} | {'leaves':>7} |")
     print(f"|{'-' * 26}|{'-' * 28}|{'-' * 9}:|{'-' * 9}:|{'-' * 8}:|{'-' * 8}:|")
     beside = Beside(options.limit, options.cvc5)
     if not shutil.which("z3"):
         print("z3 isn't installed: of definitions only names, arguments and sorts are checked", file=sys.stderr)
-    rows = [asked(file, program, beside, options.limit) for file in files]
+    rows = [asked(file, program, beside, options.limit) for file in problems(options.files)]
     sums(rows)
     sys.exit(0 if all(row["right"] for row in rows) else 1)
 

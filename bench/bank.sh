@@ -2,15 +2,11 @@
 # Builds a bank of ten operators over four arguments of 32 bits at 64 points, beside the same in plain Rust (rustc -O).
 # It prints rows that were tried a second, and how many times as long the proved bank takes.
 # Its words, where it has some, are the number of points and that of sizes.
-set -eu
-cd "$(dirname "$0")/.."
+. "$(dirname "$0")/measure.sh"
 points=${1:-64} sizes=${2:-7}
-scratch=$(mktemp -d)
-trap 'rm -rf "$scratch"' EXIT
-rustc -O --edition 2021 -o "$scratch/bank" bench/bank.rs
-(cd crates/bench_parts && rt run) >/dev/null 2>&1 || true
-. bench/measure.sh
-read -r _ tried _ kept proved <<<"$(measure crates/bench_parts/out/bench_parts bank "$points" "$sizes" 1000000)"
+plain bank
+build bench_parts
+read -r _ tried _ kept proved <<<"$(measure "$program" bank "$points" "$sizes" 1000000)"
 read -r _ plain_tried _ plain_kept plain <<<"$(measure "$scratch/bank" "$points" "$sizes")"
 [ "$tried $kept" = "$plain_tried $plain_kept" ] || echo "the counts differ: $tried $kept and $plain_tried $plain_kept"
 awk -v n="$tried" -v k="$kept" -v a="$proved" -v b="$plain" 'BEGIN {

@@ -14,32 +14,28 @@ To see what the assignments do that are tried before a search, let `corner_model
 in a clone, which its contract allows, and take the program of that clone as OLD.
 """
 import argparse
-import glob
 import os
-import re
 
-from compare import FOLDERS, TOP, answer, run
+from runs import answer, line_of, name_of, problems, run, text_of, words_of
 
 # what the numbers are without the option
 MOST = {"rounds": 256, "points": 512}
 
 
-def is_answered(program, file, limit, option=None, number=None):
-    """What the program answers, with a number for an option; nothing where it fails."""
-    words = () if option is None else (f"--{option}", str(number))
-    seconds, output = run(program, file, limit, words)
-    found = answer(seconds, output)
-    return found if found in ("definitions", "infeasible") else None
+def is_answered(program, file, limit, *more):
+    """Whether the program answers, with these words more: by definitions, or that there are none."""
+    ended = run([program, *words_of(text_of(file)), *more, file], limit)
+    return answer(ended) in ("definitions", "infeasible")
 
 
 def least(program, file, limit, option, guess):
     """The least number for the option with which the file is answered; a good guess takes two runs."""
-    fails, works = -1, MOST[option]
+    fails, works = 0, MOST[option]
     place, step = guess, 1
     while works - fails > 1:
         if not fails < place < works:
             place = (fails + works) // 2
-        if is_answered(program, file, limit, option, place):
+        if is_answered(program, file, limit, f"--{option}", str(place)):
             works, place = place, place - step
         else:
             fails, place = place, place + step
@@ -48,9 +44,8 @@ def least(program, file, limit, option, guess):
 
 
 def has_option(file):
-    with open(file) as opened:
-        words = re.search(r"^; words: (.*)$", opened.read(), re.MULTILINE)
-    return words is not None and any(f"--{option}" in words.group(1) for option in MOST)
+    words = line_of(text_of(file), "words")
+    return any(f"--{option}" in words for option in MOST)
 
 
 def show_sums(option, pairs):
@@ -63,21 +58,20 @@ def show_sums(option, pairs):
 
 
 def main():
-    options = argparse.ArgumentParser()
-    options.add_argument("--limit", type=int, default=10)
-    options.add_argument("old")
-    options.add_argument("new")
-    options.add_argument("files", nargs="*")
+    options = argparse.ArgumentParser(description=__doc__, formatter_class=argparse.RawDescriptionHelpFormatter)
+    options.add_argument("--limit", metavar="SECONDS", type=int, default=10)
+    options.add_argument("old", metavar="OLD")
+    options.add_argument("new", metavar="NEW")
+    options.add_argument("files", metavar="FILE", nargs="*")
     options = options.parse_args()
-    files = options.files or [file for folder in FOLDERS for file in sorted(glob.glob(f"{TOP}/{folder}/*.sl"))]
     programs = [os.path.abspath(options.old), os.path.abspath(options.new)]
     print("| File | rounds | by the new one | points | by the new one |\n|---|---|---|---|---|")
     found = {option: {} for option in MOST}
     alone = []
-    for file in files:
+    for file in problems(options.files):
         if has_option(file):
             continue
-        name = os.path.basename(file)[:-3]
+        name = name_of(file)
         answered = [is_answered(program, file, options.limit) for program in programs]
         if not all(answered):
             alone += [f"{name} by {which}" for which, yes in zip(("OLD", "NEW"), answered) if yes]
@@ -91,7 +85,7 @@ def main():
                 pair.append(guess)
             pairs[name] = pair
             cells += map(str, pair)
-            guess = max(pair[0] - 1, 0)
+            guess = max(pair[0] - 1, 1)
         print("| " + " | ".join(cells) + " |", flush=True)
     for option, pairs in found.items():
         show_sums(option, pairs)

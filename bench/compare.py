@@ -13,18 +13,12 @@ programs should be built the same way. Last stand the middle of the ratios and t
 where there are such, or where NEW doesn't answer what OLD answers.
 """
 import argparse
-import glob
 import os
-import re
-import resource
 import statistics
-import subprocess
 import sys
-import tempfile
 
-TOP = os.path.dirname(os.path.dirname(os.path.abspath(__file__)))
-FOLDERS = ["examples", "examples/gallery", "examples/advice", "bench/problems"]
-MEMORY = 6 << 30
+from runs import answer, name_of, problems, run, text_of, words_of
+
 # What may be added before a file takes longer: this part of the time before, and so many seconds at least.
 PART = 0.05
 NOISE = 0.001
@@ -33,45 +27,19 @@ LONG = 2.0
 FEW = 3
 
 
-def run(program, file, limit, more=()):
-    """The processor seconds of a run on a file, with more words, and its output; None where it met the limit."""
-    with open(file) as opened:
-        words = re.search(r"^; words: (.*)$", opened.read(), re.MULTILINE)
-    command = [program, *(words.group(1).split() if words else []), *more, file]
-    with tempfile.TemporaryFile("w+") as out:
-        child = subprocess.Popen(command, stdin=subprocess.DEVNULL, stdout=out, stderr=subprocess.DEVNULL)
-        resource.prlimit(child.pid, resource.RLIMIT_CPU, (limit, limit + 1))
-        resource.prlimit(child.pid, resource.RLIMIT_AS, (MEMORY, MEMORY))
-        _, status, used = os.wait4(child.pid, 0)
-        child.returncode = status
-        out.seek(0)
-        return (None if os.WIFSIGNALED(status) else used.ru_utime + used.ru_stime), out.read()
-
-
-def answer(seconds, output):
-    """What a run says, in a word."""
-    if seconds is None:
-        return "nothing"
-    if "fail" in re.findall(r"^\w+", output, re.MULTILINE):
-        return "fail"
-    if output.startswith("infeasible"):
-        return "infeasible"
-    return "definitions" if "define-fun" in output else "nothing"
-
-
 class Pair:
     """The times of two programs on a file."""
 
     def __init__(self, programs, file, limit):
-        self.programs, self.file, self.limit = programs, file, limit
-        self.name = os.path.basename(file)[:-3]
+        self.commands, self.limit = [[program, *words_of(text_of(file)), file] for program in programs], limit
+        self.name = name_of(file)
         self.answers, self.times = [], [[], []]
         self.first(0)
 
     def first(self, place):
-        seconds, output = run(self.programs[place], self.file, self.limit)
-        self.answers.append(answer(seconds, output))
-        self.times[place].append(seconds)
+        ended = run(self.commands[place], self.limit)
+        self.answers.append(answer(ended))
+        self.times[place].append(ended.seconds)
 
     def is_answered(self):
         return self.answers[0] in ("definitions", "infeasible")
@@ -92,10 +60,10 @@ class Pair:
 
     def repeat(self, runs):
         for _ in range(runs):
-            for place, program in enumerate(self.programs):
-                seconds, _ = run(program, self.file, self.limit)
-                if seconds is not None:
-                    self.times[place].append(seconds)
+            for times, command in zip(self.times, self.commands):
+                ended = run(command, self.limit)
+                if not ended.is_over:
+                    times.append(ended.seconds)
 
     def least(self):
         return [min(times) for times in self.times]
@@ -136,19 +104,18 @@ def sums(pairs):
 
 
 def main():
-    options = argparse.ArgumentParser()
-    options.add_argument("--runs", type=int, default=5)
-    options.add_argument("--limit", type=int, default=20)
-    options.add_argument("old")
-    options.add_argument("new")
-    options.add_argument("files", nargs="*")
+    options = argparse.ArgumentParser(description=__doc__, formatter_class=argparse.RawDescriptionHelpFormatter)
+    options.add_argument("--runs", metavar="COUNT", type=int, default=5)
+    options.add_argument("--limit", metavar="SECONDS", type=int, default=20)
+    options.add_argument("old", metavar="OLD")
+    options.add_argument("new", metavar="NEW")
+    options.add_argument("files", metavar="FILE", nargs="*")
     options = options.parse_args()
-    files = options.files or [file for folder in FOLDERS for file in sorted(glob.glob(f"{TOP}/{folder}/*.sl"))]
     programs = [os.path.abspath(options.old), os.path.abspath(options.new)]
     print(f"| {'File':24} | {'old ms':>9} | {'new ms':>9} | {'ratio':>6} | {'':10} |")
     print(f"|{'-' * 26}|{'-' * 10}:|{'-' * 10}:|{'-' * 7}:|{'-' * 12}|")
     pairs = []
-    for file in files:
+    for file in problems(options.files):
         pair = Pair(programs, file, options.limit)
         if pair.is_answered():
             pair.measure(options.runs)

@@ -3,17 +3,12 @@
 # has cycles of chain rules and many derivations of each sum; and of as large bodies that have no derivation. What the
 # program takes to make its input is timed with it, and so is the least time of five runs that is printed.
 # Its words, where it has some, are the numbers of nonterminals, of rules for each, and of nodes.
-set -eu
-cd "$(dirname "$0")/.."
-(cd crates/bench_parts && rt run) >/dev/null 2>&1 || true
-scratch=$(mktemp -d)
-trap 'rm -rf "$scratch"' EXIT
-. bench/measure.sh
+. "$(dirname "$0")/measure.sh"
+build bench_parts
 derived() {
-    printf '%s nonterminals, %s rules for each, %s nodes: %s s\n' \
-        "$1" "$2" "$3" "$(measure crates/bench_parts/out/bench_parts derive "$@")"
+    printf '%s nonterminals, %s rules for each, %s nodes: %s s\n' "$1" "$2" "$3" "$(measure "$program" derive "$@")"
 }
-if [ $# -eq 3 ]; then
+if [ $# -gt 0 ]; then
     derived "$@"
 else
     for nodes in 500 1000 2000; do

@@ -12,13 +12,12 @@ status is 1 where a line or an answer is wrong.
 import argparse
 import os
 import re
-import resource
 import statistics
-import subprocess
 import sys
 import tempfile
 
-TOP = os.path.dirname(os.path.dirname(os.path.abspath(__file__)))
+from runs import run, sygus
+
 STEP = 10_000_019
 
 HEAD = """(set-logic BV)
@@ -67,37 +66,27 @@ def is_right(answer, number):
     return all(value(list(tokens), a) == b for a, b in examples_of(number))
 
 
-def seconds(program, *words):
-    """What the program prints, and its processor time."""
-    before = resource.getrusage(resource.RUSAGE_CHILDREN)
-    printed = subprocess.run([program, *words], capture_output=True, text=True, stdin=subprocess.DEVNULL).stdout
-    after = resource.getrusage(resource.RUSAGE_CHILDREN)
-    return printed, after.ru_utime + after.ru_stime - before.ru_utime - before.ru_stime
-
-
 def main():
-    parser = argparse.ArgumentParser(description="Times sygus on files that are made from numbers.")
-    parser.add_argument("--sygus", metavar="PROGRAM")
-    parser.add_argument("--count", type=int, default=100)
-    options = parser.parse_args()
-    program = options.sygus
-    if not program:
-        subprocess.run([f"{TOP}/sygus", f"{TOP}/examples/first.sl"], stdout=subprocess.DEVNULL)
-        program = f"{TOP}/crates/sygus/out/sygus"
+    options = argparse.ArgumentParser(description=__doc__, formatter_class=argparse.RawDescriptionHelpFormatter)
+    options.add_argument("--sygus", metavar="PROGRAM")
+    options.add_argument("--count", metavar="COUNT", type=int, default=100)
+    options = options.parse_args()
+    program = sygus(options.sygus)
     times, wrong = [], []
     with tempfile.TemporaryDirectory() as folder:
         path = os.path.join(folder, "drill.sl")
         for number in range(0, options.count * STEP, STEP):
-            line, time = seconds(program, "--mode", "drill", str(number))
-            times.append(time)
+            drilled = run([program, "--mode", "drill", str(number)])
+            times.append(drilled.seconds)
             with open(path, "w") as file:
                 file.write(file_of(number))
-            answer, _ = seconds(program, path)
-            if line != f"drill {number}: 1000 examples, 1000 met\n" or not is_right(answer, number):
+            solved = run([program, path])
+            if drilled.output != f"drill {number}: 1000 examples, 1000 met\n" or not is_right(solved.output, number):
                 wrong.append(number)
-                print(f"{number}: {line.strip()}; {answer.strip()}")
+                print(f"{number}: {drilled.output.strip()}; {solved.output.strip()}")
     print(f"{len(times)} numbers, {len(wrong)} wrong; the middle time is {statistics.median(times):.3f} s, the greatest {max(times):.3f} s")
     sys.exit(1 if wrong else 0)
 
 
-main()
+if __name__ == "__main__":
+    main()

@@ -1,16 +1,18 @@
 #!/usr/bin/env python3
 """Measures a run of the gate: the processor minutes of each crate's proof, of its tests and of its must-fail edits.
 
-With no words it clones what is committed into a temporary folder and runs `rt ci --anew` there, so that all is proved
-from nothing (plain `rt ci` with a kit that knows no `--anew`: it keeps nothing between runs); it ends with rt's status,
-and rt's own output is kept in a file that the first line names. With names of crates it does so for these and those
-below them alone (`rt ci --anew NAME..`). `--watch PID` measures a run of `rt ci` that goes on already, from now to its
-end, and leaves it alone: PID is its process or one above it, and what runs at that moment counts whole. Ctrl-C prints
-what is known so far (and stops a run of its own). The table is sorted by the sum of a row, and ends with the seconds of
-a must-fail edit, with its share of the check that all begin with, and their number; then those of the dearest check
-behind that first one. Below it stand the sums, what was spent on linking and on running programs and tests, the wall
-time, and the longest chain of crates, each of which stands on the one before, by the seconds of their proofs. Times are
-those of this machine under its load. It reads /proc, so it runs on Linux alone.
+    bench/gate.py [--watch PID] [--every SECONDS] [NAME ..]
+
+With no words it clones what is committed into a temporary folder and runs `rt ci --anew` there, so that all is proved from
+nothing (plain `rt ci` with a kit that knows no `--anew`: it keeps nothing between runs); it ends with rt's status, and rt's
+own output is kept in a file that the first line names. With names of crates it does so for these and those below them alone
+(`rt ci --anew NAME..`). It looks at /proc each second, or each --every. `--watch PID` measures a run of `rt ci` that goes
+on already, from now to its end, and leaves it alone: PID is its process or one above it, and what runs at that moment
+counts whole. Ctrl-C prints what is known so far (and stops a run of its own). The table is sorted by the sum of a row, and
+ends with the seconds of a must-fail edit, with its share of the check that all begin with, and their number; then those of
+the dearest check behind that first one. Below it stand the sums, what was spent on linking and on running programs and
+tests, the wall time, and the longest chain of crates, each of which stands on the one before, by the seconds of their
+proofs. Times are those of this machine under its load. It runs on Linux alone.
 """
 import argparse
 import collections
@@ -263,12 +265,14 @@ def run(names, every):
 
 
 def main():
-    parser = argparse.ArgumentParser(description=__doc__.partition("\n")[0])
-    parser.add_argument("names", nargs="*", metavar="NAME", help="a crate of crates.txt")
-    parser.add_argument("--watch", type=int, metavar="PID", help="measure this run of rt ci")
-    parser.add_argument("--every", type=float, default=1.0, metavar="SECONDS", help="how often to look (1)")
+    parser = argparse.ArgumentParser(description=__doc__, formatter_class=argparse.RawDescriptionHelpFormatter)
+    parser.add_argument("--watch", metavar="PID", type=int)
+    parser.add_argument("--every", metavar="SECONDS", type=float, default=1.0)
+    parser.add_argument("names", metavar="NAME", nargs="*")
     given = parser.parse_args()
     if given.watch:
+        if given.names:
+            parser.error("--watch goes without names")
         follow(given.watch, given.every)
         return 0
     return run(given.names, given.every)

@@ -12,14 +12,11 @@ identities for which `sy_bits` takes more than twice the time of the faster one;
 import argparse
 import os
 import shutil
-import subprocess
 import sys
 import tempfile
-import time
 
-HERE = os.path.dirname(os.path.abspath(__file__))
-CRATE = os.path.join(HERE, "..", "crates", "bench_problems")
-PROGRAM = os.path.join(CRATE, "out", "bench_problems")
+from runs import measured, run
+
 RUNS = 3
 WIDTHS = (8, 16, 32, 64)
 LEARNED = "400000"
@@ -61,98 +58,73 @@ IDENTITIES = [
 def at_width(term, width):
     """The term over vectors of the width."""
     for number in (0, 1, 2, 3, 4, 7, 8, 10):
-        term = term.replace("{%d}" % number, "#b" + format(number, "0%db" % width))
-    return term.replace("{top}", "#b" + format(width - 1, "0%db" % width))
+        term = term.replace(f"{{{number}}}", f"#b{number:0{width}b}")
+    return term.replace("{top}", f"#b{width - 1:0{width}b}")
 
 
 def write_files(folder, identity, width):
     """The question in the two languages: whether the sides are equal, and values at which they differ."""
     name, left, right = identity
-    equal = "(= %s %s)" % (at_width(left, width), at_width(right, width))
-    sort = "(_ BitVec %d)" % width
-    problem = os.path.join(folder, "%s-%d.sl" % (name, width))
+    equal = f"(= {at_width(left, width)} {at_width(right, width)})"
+    problem = os.path.join(folder, f"{name}-{width}.sl")
     with open(problem, "w") as file:
         file.write("(set-logic BV)\n(synth-fun f () Bool)\n")
-        file.writelines("(declare-var %s %s)\n" % (variable, sort) for variable in "xyz")
-        file.write("(constraint %s)\n(check-synth)\n" % equal)
-    question = os.path.join(folder, "%s-%d.smt2" % (name, width))
+        file.writelines(f"(declare-var {variable} (_ BitVec {width}))\n" for variable in "xyz")
+        file.write(f"(constraint {equal})\n(check-synth)\n")
+    question = os.path.join(folder, f"{name}-{width}.smt2")
     with open(question, "w") as file:
         file.write("(set-logic QF_BV)\n")
-        file.writelines("(declare-const %s %s)\n" % (variable, sort) for variable in "xyz")
-        file.write("(assert (not %s))\n(check-sat)\n" % equal)
+        file.writelines(f"(declare-const {variable} (_ BitVec {width}))\n" for variable in "xyz")
+        file.write(f"(assert (not {equal}))\n(check-sat)\n")
     return problem, question
 
 
-def once(words, limit):
-    """What a program prints, and its processor time in seconds; none past the limit."""
-    with subprocess.Popen(words, stdout=subprocess.PIPE, stderr=subprocess.STDOUT, text=True) as process:
-        end = time.monotonic() + 2 * limit
-        while True:
-            done, _, usage = os.wait4(process.pid, os.WNOHANG)
-            if done:
-                process.returncode = 0
-                used = usage.ru_utime + usage.ru_stime
-                return process.stdout.read(), used
-            if time.monotonic() > end or spent(process.pid) > limit:
-                process.kill()
-                os.wait4(process.pid, 0)
-                process.returncode = 0
-                return None
-            time.sleep(0.001)
-
-
-def spent(pid):
-    """The processor time of a process so far, in seconds."""
-    with open("/proc/%d/stat" % pid) as file:
-        fields = file.read().rsplit(")", 1)[1].split()
-    return (int(fields[11]) + int(fields[12])) / os.sysconf("SC_CLK_TCK")
-
-
 def measure(words, answer, limit):
-    """The least time of the runs, and what the program printed; none where it took too long."""
+    """The run of the least time; none where one took too long."""
     best = None
     for _ in range(RUNS):
-        run = once(words, limit)
-        if run is None:
+        ended = run(words, limit)
+        if ended.is_over:
             return None
-        if not run[0].startswith(answer):
-            sys.exit("%s: %s" % (" ".join(words), run[0]))
-        if best is None or run[1] < best[1]:
-            best = run
-        if run[1] > 1:
+        if not ended.output.startswith(answer):
+            sys.exit(f"{' '.join(words)}: {ended.output}{ended.errors}")
+        if best is None or ended.seconds < best.seconds:
+            best = ended
+        if ended.seconds > 1:
             break
     return best
 
 
-def milliseconds(run, limit):
-    return "over %d s" % limit if run is None else "%.1f" % (run[1] * 1000)
+def milliseconds(ended, limit):
+    return f"over {limit} s" if ended is None else f"{1000 * ended.seconds:.1f}"
 
 
-def ratio(run, other, limit):
+def ratio(ended, other, limit):
     if other is None:
         return ""
-    if run is None:
-        return "> %.0f" % (limit / other[1])
-    return "%.1f" % (run[1] / other[1])
+    if ended is None:
+        return f"> {limit / other.seconds:.0f}"
+    return f"{ended.seconds / other.seconds:.1f}"
 
 
-def is_slow(run, others):
+def is_slow(ended, others):
     """Whether a run takes more than twice the time of the faster one of the others that ended."""
-    times = [other[1] for other in others if other is not None]
-    return bool(times) and (run is None or run[1] > 2 * min(times))
+    times = [other.seconds for other in others if other is not None]
+    return bool(times) and (ended is None or ended.seconds > 2 * min(times))
 
 
 def main():
-    options = argparse.ArgumentParser()
-    options.add_argument("--program")
-    options.add_argument("--limit", type=int, default=30)
-    options.add_argument("names", nargs="*")
-    options = options.parse_args()
+    parser = argparse.ArgumentParser(description=__doc__, formatter_class=argparse.RawDescriptionHelpFormatter)
+    parser.add_argument("--program", metavar="PROGRAM")
+    parser.add_argument("--limit", metavar="SECONDS", type=int, default=30)
+    parser.add_argument("names", metavar="NAME", nargs="*")
+    options = parser.parse_args()
+    unknown = set(options.names) - {name for name, *_ in IDENTITIES}
+    if unknown:
+        parser.error(f"no such identity: {', '.join(sorted(unknown))}")
     limit = options.limit
-    others = {name: words for name, words in (("cvc5", ["cvc5"]), ("z3", ["z3"])) if shutil.which(name)}
-    if options.program is None:
-        subprocess.run(["rt", "run"], cwd=CRATE, stdout=subprocess.DEVNULL, stderr=subprocess.DEVNULL)
-    program = options.program or PROGRAM
+    others = [name for name in ("cvc5", "z3") if shutil.which(name)]
+    program = options.program or measured("bench_problems")
     heads = ["Identity", "bits", "variables", "clauses", "learned", "`sy_bits` ms"]
     heads += [name + " ms" for name in others] + ["by " + name for name in others]
     print("| " + " | ".join(heads) + " |")
@@ -165,10 +137,10 @@ def main():
             for width in WIDTHS:
                 problem, question = write_files(folder, identity, width)
                 own = measure([program, "identities", problem, LEARNED], "holds true accepted", limit)
-                their = [measure(words + [question], "unsat", limit) for words in others.values()]
-                sizes = ["", "", ""] if own is None else own[0].split()[3:8:2]
+                their = [measure([name, question], "unsat", limit) for name in others]
+                sizes = ["", "", ""] if own is None else own.output.split()[3:8:2]
                 cells = [identity[0], str(width)] + sizes + [milliseconds(own, limit)]
-                cells += [milliseconds(run, limit) for run in their] + [ratio(own, run, limit) for run in their]
+                cells += [milliseconds(other, limit) for other in their] + [ratio(own, other, limit) for other in their]
                 print("| " + " | ".join(cells) + " |", flush=True)
                 count += 1
                 slow += [f"{identity[0]} over {width} bits"] if is_slow(own, their) else []
@@ -176,4 +148,5 @@ def main():
     sys.exit(1 if slow else 0)
 
 
-main()
+if __name__ == "__main__":
+    main()

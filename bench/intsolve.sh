@@ -2,19 +2,17 @@
 # Times deciding queries over integers that are made by number, and prints the answers with the sizes of the trees. What the
 # program takes to make its query is timed with it, and so is the least time of five runs that is printed.
 # Its words, where it has some, are a family and a number.
-set -eu
-cd "$(dirname "$0")/.."
-(cd crates/bench_problems && rt run) >/dev/null 2>&1 || true
-scratch=$(mktemp -d)
-trap 'rm -rf "$scratch"' EXIT
-. bench/measure.sh
+. "$(dirname "$0")/measure.sh"
+build bench_problems
 row() {
-    printf '%s %s: %s s\n' "$1" "$2" "$(measure crates/bench_problems/out/bench_problems intsolve "$1" "$2" 8000 10000)"
+    printf '%s %s: %s s\n' "$1" "$2" "$(measure "$program" intsolve "$1" "$2" 8000 10000)"
 }
-if [ $# -eq 2 ]; then
+if [ $# -gt 0 ]; then
     row "$@"
 else
-    for words in 'max 3' 'max 5' 'max 7' 'step 2' 'step 4' 'step 6' 'parity 2' 'parity 20' 'bounds 100' 'bounds 1000'; do
-        row $words
+    for family in 'max 3 5 7' 'step 2 4 6' 'parity 2 20' 'bounds 100 1000'; do
+        for number in ${family#* }; do
+            row "${family%% *}" "$number"
+        done
     done
 fi

@@ -4,9 +4,9 @@ circuits that agree (the sum and the product of two numbers of bits, in both ord
 
     bench/make_cnf.py FOLDER
 """
+import argparse
 import itertools
 import random
-import sys
 
 
 def write(folder, name, variables, clauses):
@@ -110,8 +110,7 @@ def chain(last):
     return last + 1, clauses
 
 
-def main():
-    folder = sys.argv[1]
+def write_all(folder):
     for variables in (100, 125, 150, 175, 200):
         for seed in range(6):
             write(folder, f"random{variables}-{seed}", *random_3sat(variables, 1000 * variables + seed))
@@ -123,4 +122,11 @@ def main():
     write(folder, "chain400000", *chain(400_000))
 
 
-main()
+def main():
+    options = argparse.ArgumentParser(description=__doc__, formatter_class=argparse.RawDescriptionHelpFormatter)
+    options.add_argument("folder", metavar="FOLDER")
+    write_all(options.parse_args().folder)
+
+
+if __name__ == "__main__":
+    main()

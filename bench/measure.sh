@@ -1,6 +1,31 @@
-# Read by the scripts that time a program by its user time; they have set `scratch`, a folder of their own.
+# shellcheck shell=bash
+# Read by the scripts that measure programs of the repository. They go on at its top, and `scratch` is a folder for what they
+# make, which goes when they end. Times are user times.
+set -eu
+cd "$(dirname "${BASH_SOURCE[0]}")/.."
+scratch=$(mktemp -d)
+trap 'rm -rf "$scratch"' EXIT
 TIMEFORMAT='%U'
-# what the program printed, and after it the least user time of five runs
+
+# Compiles bench/NAME.rs to $scratch/NAME.
+plain() {
+    rustc -O --edition 2021 -o "$scratch/$1" "bench/$1.rs"
+}
+
+# Proves and builds the program of crates/NAME, where that wasn't done, and sets `program`.
+build() {
+    local status=0
+    (cd "crates/$1" && rt run) >"$scratch/built" 2>&1 </dev/null || status=$?
+    # without words the program itself ends with status 3
+    if [ "$status" -ne 3 ]; then
+        cat "$scratch/built" >&2
+        echo "$1 couldn't be built" >&2
+        exit 1
+    fi
+    program=crates/$1/out/$1
+}
+
+# Prints what a program prints, and after it the least user time of five runs.
 measure() {
     local line best=
     for _ in 1 2 3 4 5; do

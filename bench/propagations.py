@@ -1,26 +1,29 @@
 #!/usr/bin/env python3
 """Counts what the clause-learning solver does on formulas in the DIMACS form, which the proved program doesn't tell.
 
-    bench/propagations.py FILE ..
+    bench/propagations.py FILE [FILE ..]
 
 It makes a copy of `sy_cdcl`, and of what it stands on, as Rust: contracts are taken out, a vector gets the methods that
 Rattle's has, and three places count. rustc compiles it. For each file it prints the answer, the learned clauses, the
 propagations (literals that became true and whose watch lists were visited, as minisat counts them) and the clauses that
 were looked at. The search is the program's, so the learned clauses of a refutation are the same.
 """
+import argparse
 import os
 import re
 import subprocess
 import sys
 import tempfile
 
-CRATES = os.path.join(os.path.dirname(os.path.abspath(__file__)), "..", "crates")
-# a crate's name, its folder, and its modules
-PARTS = [
-    ("sy_seq", "sy_seq", ["seq"]),
-    ("sy_clauses", "sy_clauses", ["checker", "marks"]),
-    ("sy_cdcl", "sy_cdcl", ["analysis", "order", "propagation", "shortening", "solver", "store", "trail", "watches"]),
-]
+from runs import TOP
+
+CRATES = os.path.join(TOP, "crates")
+# the crates with their modules
+PARTS = {
+    "sy_seq": ["seq"],
+    "sy_clauses": ["checker", "marks"],
+    "sy_cdcl": ["analysis", "order", "propagation", "shortening", "solver", "store", "trail", "watches"],
+}
 # a line that stands once in the solver, and what is counted before it
 COUNTED = {
     "let falsified = negated(entry.literal);": "PROPAGATIONS",
@@ -89,9 +92,9 @@ def without(text, pattern):
     return text
 
 
-def as_rust(folder, module, crate):
-    """A module as Rust."""
-    with open(os.path.join(CRATES, folder, "src", module + ".rt")) as file:
+def as_rust(crate, module, inside):
+    """A module of a crate as Rust, which is put inside the module of that name."""
+    with open(os.path.join(CRATES, crate, "src", f"{module}.rt")) as file:
         text = re.sub(r"//.*", "", file.read())
     text = without(text, r"^impl(<X>)? Model for [^{]*\{")
     text = without(text, r"^\s*(requires|ensures)( \w+)? \{")
@@ -99,16 +102,16 @@ def as_rust(folder, module, crate):
     text = re.sub(r"#!?\[tactic\(.*\)\]", "", text)
     text = text.replace(", Drop)]", ")]").replace("#[derive(Drop)]", "").replace("<X: Drop>", "<X>")
     text = text.replace("use std::marker::Model;", "").replace("use std::alloc::", "use crate::list::")
-    text = re.sub(r"\bcrate::(?!list)", f"crate::{crate}::", text)
+    text = re.sub(r"\bcrate::(?!list)", f"crate::{inside}::", text)
     return re.sub(r"\buse (sy_\w+)::", r"use crate::\1::", text)
 
 
 def source():
     """The solver with its counters, as one file."""
     parts = [HEAD]
-    for crate, folder, modules in PARTS:
-        lines = re.sub(r"^mod \w+;$", "", as_rust(folder, "lib", crate), flags=re.MULTILINE)
-        inner = "".join(f"pub mod {module} {{\nuse crate::list::Vec;\n{as_rust(folder, module, crate)}\n}}\n" for module in modules)
+    for crate, modules in PARTS.items():
+        lines = re.sub(r"^mod \w+;$", "", as_rust(crate, "lib", crate), flags=re.MULTILINE)
+        inner = "".join(f"pub mod {module} {{\nuse crate::list::Vec;\n{as_rust(crate, module, crate)}\n}}\n" for module in modules)
         parts.append(f"mod {crate} {{\n{lines}\n{inner}}}\n")
     parts.append(f"mod dimacs {{\n{as_rust('bench_parts', 'dimacs', 'dimacs')}\n}}\n{MAIN}")
     text = "".join(parts)
@@ -135,10 +138,13 @@ def counts(program, path):
 
 
 def main():
+    options = argparse.ArgumentParser(description=__doc__, formatter_class=argparse.RawDescriptionHelpFormatter)
+    options.add_argument("files", metavar="FILE", nargs="+")
+    files = options.parse_args().files
     print(f"{'file':16} {'answer':6} {'learned':>9} {'propagations':>12} {'looked at':>11}")
     with tempfile.TemporaryDirectory() as folder:
         program = build(folder)
-        for path in sys.argv[1:]:
+        for path in files:
             answer, learned, propagations, looked_at = counts(program, path)
             print(f"{os.path.basename(path):16} {answer:6} {learned:9} {propagations:12} {looked_at:11}", flush=True)
 

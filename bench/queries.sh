@@ -3,11 +3,13 @@
 # assignments satisfied that are tried first, how many others were satisfiable or given up, and how many inner nodes the
 # trees have that refuted the rest. Its words, where it has some, are files; without, it takes those of problems/ that are
 # over integers. Each has a limit of 20 processor seconds.
-set -eu
-cd "$(dirname "$0")/.."
-(cd crates/bench_problems && rt run) >/dev/null 2>&1 || true
-[ $# -gt 0 ] || set -- bench/problems/int_*.sl
-program=crates/bench_problems/out/bench_problems
+files=()
 for file in "$@"; do
+    files+=("$(realpath -- "$file")")
+done
+. "$(dirname "$0")/measure.sh"
+build bench_problems
+[ $# -gt 0 ] || files=(bench/problems/int_*.sl)
+for file in "${files[@]}"; do
     printf '%s: %s\n' "$(basename "$file" .sl)" "$(ulimit -t 20; "$program" queries "$file" 20000 || echo 'no end')"
 done

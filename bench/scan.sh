@@ -2,15 +2,12 @@
 # Times the search for combinations of random numbers of 64 bits that have a wanted value at three points, which none has:
 # how many are judged a second by `bvand` and by `bvmul`, 20 million of 4,472 numbers each, and how many second parts of a
 # sum are looked up a second, a million in a table of as many that is made first.
-set -eu
-cd "$(dirname "$0")/.."
-scratch=$(mktemp -d)
-trap 'rm -rf "$scratch"' EXIT
-(cd crates/bench_parts && rt run) >/dev/null 2>&1 || true
-. bench/measure.sh
-for words in "and 4472" "mul 4472" "add 1000000"; do
-    read -r operator _ <<<"$words"
-    read -r _ _ seconds <<<"$(measure crates/bench_parts/out/bench_parts scan $words)"
-    case $operator in add) count=1 ;; *) count=20 ;; esac
-    awk -v o="$operator" -v n="$count" -v s="$seconds" 'BEGIN { printf "%s: %s s, %.0f million a second\n", o, s, n / s }'
-done
+. "$(dirname "$0")/measure.sh"
+build bench_parts
+row() {
+    read -r _ _ seconds <<<"$(measure "$program" scan "$1" "$2")"
+    awk -v o="$1" -v n="$3" -v s="$seconds" 'BEGIN { printf "%s: %s s, %.0f million a second\n", o, s, n / s }'
+}
+row and 4472 20
+row mul 4472 20
+row add 1000000 1

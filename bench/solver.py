@@ -17,15 +17,13 @@ import os
 import re
 import shutil
 import statistics
-import subprocess
 import sys
 import tempfile
 
+import make_cnf
 import propagations
+from runs import measured, run
 
-HERE = os.path.dirname(os.path.abspath(__file__))
-CRATE = os.path.join(HERE, "..", "crates", "bench_parts")
-PROGRAM = os.path.join(CRATE, "out", "bench_parts")
 RUNS = 3
 LIMIT = 600
 FEW = 10_000
@@ -35,8 +33,7 @@ def solve(program, path):
     """The verdict, the microseconds of solving and of checking, and the learned clauses, which a model doesn't tell."""
     best = None
     for _ in range(RUNS):
-        words = [program, "cdcl", path, "100000000", "times"]
-        text = subprocess.run(words, capture_output=True, text=True, timeout=LIMIT).stdout
+        text = run([program, "cdcl", path, "100000000", "times"], LIMIT).output
         count = {name: int(number) for number, name in re.findall(r"(\d+) (\w+)", text)}
         if "accepted" in text and "true accepted" not in text:
             sys.exit(f"{path}: the log is refused")
@@ -50,13 +47,11 @@ def other(words, path):
     """The verdict, the microseconds, the conflicts, and the propagations of another solver."""
     best = None
     for _ in range(RUNS):
-        with subprocess.Popen(words + [path], stdout=subprocess.PIPE, stderr=subprocess.STDOUT, text=True) as process:
-            text = process.stdout.read()
-            _, _, usage = os.wait4(process.pid, 0)
-            process.returncode = 0
+        ended = run([*words, path], LIMIT)
+        text = ended.output + ended.errors
         count = {name: float(value) for name, value in re.findall(r"(conflicts|propagations) *: *([0-9]+)", text)}
         verdict = "UNSAT" if "UNSATISFIABLE" in text else "SAT"
-        found = verdict, (usage.ru_utime + usage.ru_stime) * 1e6, count["conflicts"], count["propagations"]
+        found = verdict, 1e6 * ended.seconds, count["conflicts"], count["propagations"]
         if best is None or found[1] < best[1]:
             best = found
     return best
@@ -111,13 +106,11 @@ def show_sums(ratios, solver):
 
 
 def main():
-    options = argparse.ArgumentParser()
-    options.add_argument("--program")
-    options.add_argument("folder", nargs="?")
+    options = argparse.ArgumentParser(description=__doc__, formatter_class=argparse.RawDescriptionHelpFormatter)
+    options.add_argument("--program", metavar="PROGRAM")
+    options.add_argument("folder", metavar="FOLDER", nargs="?")
     options = options.parse_args()
-    if options.program is None:
-        # proves and builds the program, where that wasn't done
-        subprocess.run(["rt", "run"], cwd=CRATE, stdin=subprocess.DEVNULL, capture_output=True)
+    program = options.program or measured("bench_parts")
     others = {name: words for name, words in OTHERS.items() if shutil.which(words[0])}
     with tempfile.TemporaryDirectory() as scratch:
         counter = propagations.build(scratch)
@@ -125,7 +118,7 @@ def main():
         if folder is None:
             folder = os.path.join(scratch, "formulas")
             os.mkdir(folder)
-            subprocess.run([sys.executable, os.path.join(HERE, "make_cnf.py"), folder], check=True)
+            make_cnf.write_all(folder)
         heads = ["Formula", "answer", "`sy_cdcl` ms", "`check` ms", "learned", "propagations", "ns each"]
         for name in others:
             heads += [f"{name} ms", "learned", "propagations", "ns each", "a clause", "a propagation", "in all"]
@@ -133,9 +126,10 @@ def main():
         print("|" + "---|" * len(heads))
         found = {}
         for name in sorted(os.listdir(folder), key=lambda n: [int(p) if p.isdigit() else p for p in re.split(r"(\d+)", n)]):
-            found[name[:-4]] = measure(options.program or PROGRAM, counter, os.path.join(folder, name), others)
+            found[name[:-4]] = measure(program, counter, os.path.join(folder, name), others)
     for solver in others:
         show_sums({name: ratios[solver] for name, (learned, ratios) in found.items() if learned < FEW}, solver)
 
 
-main()
+if __name__ == "__main__":
+    main()

@@ -3,20 +3,21 @@
 # path in the same run. What the program takes to make its input is timed with it, and so is the least time of five runs
 # that is printed.
 # Its words, where it has some, are the number of nodes of the query, that of facts and the depth of the tree.
-set -eu
-cd "$(dirname "$0")/.."
-(cd crates/bench_parts && rt run) >/dev/null 2>&1 || true
-scratch=$(mktemp -d)
-trap 'rm -rf "$scratch"' EXIT
-. bench/measure.sh
+. "$(dirname "$0")/measure.sh"
+build bench_parts
 row() {
-    printf 'query of %s nodes, %s facts, tree of depth %s: %s s\n' \
-        "$1" "$2" "$3" "$(measure crates/bench_parts/out/bench_parts trees "$@")"
+    printf 'query of %s nodes, %s facts, tree of depth %s: %s s\n' "$1" "$2" "$3" "$(measure "$program" trees "$@")"
 }
-if [ $# -eq 3 ]; then
+if [ $# -gt 0 ]; then
     row "$@"
 else
-    for words in '0 100 0' '5000 100 0' '10000 100 0' '10000 200 0' '0 100 10' '0 100 11' '0 100 12' '0 50 11' '0 200 11'; do
-        row $words
+    for nodes in 0 5000 10000; do
+        row "$nodes" 100 0
     done
+    row 10000 200 0
+    for depth in 10 11 12; do
+        row 0 100 "$depth"
+    done
+    row 0 50 11
+    row 0 200 11
 fi

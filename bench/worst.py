@@ -3,20 +3,21 @@
 
     bench/worst.py [--sygus PROGRAM] [--limit SECONDS] [--keep FOLDER] [NAME ..]
 
-None of them is solved: they ask for nothing, or end with a fault. Prints for each its bytes, the status, the processor
-seconds and the memory. The status is 1 where one takes more than --limit seconds, 2 if nothing is said, or ends otherwise
-than its comment says.
+Without names it takes all of them, and without --sygus it builds the program by ./sygus. None of them is solved: they ask
+for nothing, or end with a fault. It prints for each its bytes, the status, the processor seconds and the memory, and leaves
+the files in --keep. The status is 1 where one takes more than --limit seconds, 2 if nothing is said, or ends otherwise than
+by the cause of refusal that stands beside it, or none.
 """
 import argparse
-import os
 import pathlib
-import resource
-import subprocess
 import sys
 import tempfile
 
-TOP = pathlib.Path(__file__).resolve().parent.parent
+from runs import run, sygus
+
 LONGEST = 4_194_304
+# the most processor seconds of a run, whatever --limit says
+MOST = 60
 DIGITS = "abcdefghijklmnopqrstuvwxyz0123456789"
 
 
@@ -118,7 +119,7 @@ def long_arguments():
 
 def sorts():
     """4,000 names of sorts, each for the one before."""
-    return vector("(define-sort W0 () W)", *[f"(define-sort W{number + 1} () W{number})" for number in range(4000)], *[f"(constraint (let ((y x)) (= x y)))"] * 50_000)
+    return vector("(define-sort W0 () W)", *[f"(define-sort W{number + 1} () W{number})" for number in range(4000)], *["(constraint (let ((y x)) (= x y)))"] * 50_000)
 
 
 def calls():
@@ -143,8 +144,8 @@ def nested():
 
 def invariants():
     """An invariant of 64 variables, 30 times."""
-    state, there = (" ".join(f"({it}{at} W)" for at in range(64)) for it in "ab")
-    return vector(f"(synth-inv inv ({state}))", f"(define-fun pre ({state}) Bool true)", *[line for number in range(30) for line in ("(inv-constraint inv pre pre pre)",)]), "InvShape"
+    state = " ".join(f"(a{at} W)" for at in range(64))
+    return vector(f"(synth-inv inv ({state}))", f"(define-fun pre ({state}) Bool true)", *["(inv-constraint inv pre pre pre)"] * 30), "InvShape"
 
 
 def questions():
@@ -170,23 +171,17 @@ def brackets():
 FILES = [let_wide, let_used, let_twice, let_nested, let_hidden, let_repeated, constraints, chains, products, rules, arguments, long_names, long_arguments, sorts, calls, tower, nodes, nested, invariants, questions, numeral, atoms, brackets]
 
 
-def run(program, file):
-    """The status, the error, the processor seconds and the memory in MiB."""
-    with tempfile.TemporaryFile("w+") as errors:
-        child = subprocess.Popen([program, file], stdin=subprocess.DEVNULL, stdout=subprocess.DEVNULL, stderr=errors, preexec_fn=lambda: resource.setrlimit(resource.RLIMIT_CPU, (60, 60)))
-        _, status, used = os.wait4(child.pid, 0)
-        child.returncode = status
-        errors.seek(0)
-        return os.waitstatus_to_exitcode(status), errors.read().strip(), used.ru_utime + used.ru_stime, used.ru_maxrss >> 10
-
-
 def main():
-    options = argparse.ArgumentParser()
-    options.add_argument("--sygus", default=str(TOP / "crates" / "sygus" / "out" / "sygus"))
-    options.add_argument("--limit", type=float, default=2)
-    options.add_argument("--keep")
-    options.add_argument("names", nargs="*")
-    options = options.parse_args()
+    parser = argparse.ArgumentParser(description=__doc__, formatter_class=argparse.RawDescriptionHelpFormatter)
+    parser.add_argument("--sygus", metavar="PROGRAM")
+    parser.add_argument("--limit", metavar="SECONDS", type=float, default=2)
+    parser.add_argument("--keep", metavar="FOLDER")
+    parser.add_argument("names", metavar="NAME", nargs="*")
+    options = parser.parse_args()
+    unknown = set(options.names) - {make.__name__ for make in FILES}
+    if unknown:
+        parser.error(f"no such file: {', '.join(sorted(unknown))}")
+    program = sygus(options.sygus)
     bad = 0
     print("| File | bytes | status | s | MiB |")
     print("|---|---|---|---|---|")
@@ -199,11 +194,11 @@ def main():
             file = pathlib.Path(options.keep or folder) / f"{make.__name__}.sl"
             file.write_text(text)
             assert file.stat().st_size <= LONGEST, f"{make.__name__}: {file.stat().st_size} bytes"
-            status, errors, seconds, memory = run(options.sygus, file)
-            cause = errors.split()[-1] if errors else ""
-            is_right = (status, cause) == ((2, wanted) if wanted else (0, ""))
-            bad += not is_right or seconds > options.limit
-            print(f"| {make.__name__}: {make.__doc__[0].lower()}{make.__doc__[1:-1]} | {file.stat().st_size:,} | {status} {cause}{'' if is_right else ' WRONG'} | {seconds:.2f} | {memory} |", flush=True)
+            ended = run([program, file], MOST)
+            cause = (ended.errors.split() or [""])[-1]
+            is_right = (ended.status, cause) == ((2, wanted) if wanted else (0, ""))
+            bad += not is_right or ended.seconds > options.limit
+            print(f"| {make.__name__}: {make.__doc__[0].lower()}{make.__doc__[1:-1]} | {file.stat().st_size:,} | {ended.status} {cause}{'' if is_right else ' WRONG'} | {ended.seconds:.2f} | {ended.memory >> 10} |", flush=True)
     return 1 if bad else 0
 
 

@@ -1,0 +1,87 @@
+"""What the scripts share that run programs on problems: the problems and their comments, the program, and a run under limits."""
+import collections
+import glob
+import os
+import re
+import resource
+import subprocess
+import sys
+import tempfile
+
+TOP = os.path.dirname(os.path.dirname(os.path.abspath(__file__)))
+FOLDERS = ["examples", "examples/gallery", "examples/advice", "bench/problems"]
+MEMORY = 6 << 30
+
+# How a run ended: its status, that of a signal being below 0; its processor seconds; what it printed; its most memory in
+# KiB; and whether it was ended for the time that it took.
+Run = collections.namedtuple("Run", "status seconds output errors memory is_over")
+
+
+def problems(named):
+    """The files that are named, or, where none is, all problems of the repository."""
+    return named or [file for folder in FOLDERS for file in sorted(glob.glob(f"{TOP}/{folder}/*.sl"))]
+
+
+def name_of(file):
+    """The name under which tables show a problem."""
+    return os.path.basename(file).removesuffix(".sl")
+
+
+def text_of(file):
+    with open(file) as opened:
+        return opened.read()
+
+
+def line_of(text, label):
+    """What a comment line `; LABEL: ..` of a problem says; nothing where there is none."""
+    found = re.search(rf"^; {label}: (.*)$", text, re.MULTILINE)
+    return found[1].strip() if found else ""
+
+
+def words_of(text):
+    """The words for `sygus` that stand in a problem."""
+    return line_of(text, "words").split()
+
+
+def sygus(given):
+    """The program that is named, or that of the repository, which is proved and built before where it has to be."""
+    if given:
+        return given
+    subprocess.run([f"{TOP}/sygus", "-"], stdin=subprocess.DEVNULL, check=True)
+    return f"{TOP}/crates/sygus/out/sygus"
+
+
+def measured(name):
+    """The program of measurements of this name, which is proved and built before where it has to be."""
+    ended = subprocess.run(["rt", "run"], cwd=f"{TOP}/crates/{name}", stdin=subprocess.DEVNULL, capture_output=True, text=True)
+    # without words the program itself ends with status 3
+    if ended.returncode != 3:
+        sys.exit(f"{name} couldn't be built:\n{ended.stdout}{ended.stderr}")
+    return f"{TOP}/crates/{name}/out/{name}"
+
+
+def run(words, limit=None):
+    """Runs a program with at most so many processor seconds, where there is a limit, and 6 GB."""
+    with tempfile.TemporaryFile("w+", errors="replace") as out, tempfile.TemporaryFile("w+", errors="replace") as err:
+        child = subprocess.Popen(words, stdin=subprocess.DEVNULL, stdout=out, stderr=err)
+        resource.prlimit(child.pid, resource.RLIMIT_AS, (MEMORY, MEMORY))
+        if limit:
+            resource.prlimit(child.pid, resource.RLIMIT_CPU, (limit, limit + 1))
+        _, status, used = os.wait4(child.pid, 0)
+        child.returncode = os.waitstatus_to_exitcode(status)
+        out.seek(0)
+        err.seek(0)
+        seconds = used.ru_utime + used.ru_stime
+        is_over = child.returncode < 0 and limit is not None and seconds > 0.99 * limit
+        return Run(child.returncode, seconds, out.read(), err.read(), used.ru_maxrss, is_over)
+
+
+def answer(ended):
+    """What a run of `sygus` says, in a word: `definitions`, `infeasible` or `fail`, else `nothing`."""
+    if ended.is_over:
+        return "nothing"
+    if re.search(r"^fail$", ended.output, re.MULTILINE):
+        return "fail"
+    if ended.output.startswith("infeasible"):
+        return "infeasible"
+    return "definitions" if "define-fun" in ended.output else "nothing"
