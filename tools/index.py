@@ -7,6 +7,7 @@ A row for each crate of crates.txt, area by area as they stand there: its name, 
 of its specs/. Crates of tests share one row in each area. With --check nothing is written, and the status is 1 where the
 index isn't that of the crates as they stand.
 """
+import argparse
 import pathlib
 import re
 import sys
@@ -66,6 +67,9 @@ def rows():
 
 
 def main():
+    options = argparse.ArgumentParser(description=__doc__, formatter_class=argparse.RawDescriptionHelpFormatter)
+    options.add_argument("--check", action="store_true")
+    options = options.parse_args()
     page = PAGE.read_text()
     before, rest = page.split(BEGIN)
     after = rest.split(END)[1]
@@ -73,11 +77,12 @@ def main():
     made = f"{before}{BEGIN}\n\n{table}\n\n{END}{after}"
     if made == page:
         return 0
-    if sys.argv[1:] == ["--check"]:
+    if options.check:
         print("docs/ARCHITECTURE.md: the index isn't current; run tools/index.py")
         return 1
     PAGE.write_text(made)
     return 0
 
 
-sys.exit(main())
+if __name__ == "__main__":
+    sys.exit(main())

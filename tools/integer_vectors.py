@@ -1,10 +1,13 @@
 #!/usr/bin/env python3
 """Prints the rows of crates/sy_vectors_operators/src/integers.rt, with values from z3.
 
+    tools/integer_vectors.py
+
 A left associative operator is written out pair by pair, as SMT-LIB defines it, so that each partial
 value is seen: the row has `none` where one of them lies outside -2^127 to 2^127 - 1. SMT-LIB leaves
 division by 0 open; here `div` gives 0 and `mod` the dividend, and those rows don't ask z3.
 """
+import argparse
 import subprocess
 
 LEAST, MOST = -2**127, 2**127 - 1
@@ -100,6 +103,12 @@ def rows(table, answer):
         print(op, *map(word, arguments), word(answer(op, arguments)))
 
 
-rows(ARITHMETIC, number)
-rows(TESTS, lambda op, arguments: ask(smt(op), arguments))
-rows(TRUTHS, lambda op, arguments: ask(smt(op), arguments))
+def main():
+    argparse.ArgumentParser(description=__doc__, formatter_class=argparse.RawDescriptionHelpFormatter).parse_args()
+    rows(ARITHMETIC, number)
+    rows(TESTS, ask)
+    rows(TRUTHS, ask)
+
+
+if __name__ == "__main__":
+    main()

@@ -1,8 +1,11 @@
 #!/usr/bin/env python3
 """Prints the rows of crates/sy_vectors_operators/src/words.rt: values of SMT-LIB's operators on bit vectors, as z3 gives them.
 
-Run it at the top of the repository, with z3 on the path: tools/word_vectors.py
+    tools/word_vectors.py
+
+It needs z3 on the path.
 """
+import argparse
 import random
 import subprocess
 
@@ -13,10 +16,7 @@ PAIRS = [
 ]
 DIVISIONS = ["bvudiv", "bvurem", "bvsdiv", "bvsrem", "bvsmod"]
 SHIFTS = ["bvshl", "bvlshr", "bvashr"]
-ORDERS = [
-    "bvult", "bvule", "bvugt", "bvuge", "bvslt", "bvsle", "bvsgt", "bvsge",
-]
-
+ORDERS = ["bvult", "bvule", "bvugt", "bvuge", "bvslt", "bvsle", "bvsgt", "bvsge"]
 
 # worked by hand, at width 4
 PAIRS_OF_FOUR = [
@@ -160,6 +160,7 @@ def print_orders(rows):
 
 
 def main():
+    argparse.ArgumentParser(description=__doc__, formatter_class=argparse.RawDescriptionHelpFormatter).parse_args()
     rng = random.Random(64)
     print_singles(singles(rng))
     print_pairs(ordinary(rng, PAIRS[:6]))
@@ -170,4 +171,5 @@ def main():
     print_orders(orders(rng))
 
 
-main()
+if __name__ == "__main__":
+    main()
