@@ -1,0 +1,148 @@
+"""Tests of the scripts beside the program: what their help says, the tables that they print, and what their checks find."""
+import importlib.machinery
+import importlib.util
+import pathlib
+import re
+import shutil
+import subprocess
+import sys
+
+TOP = pathlib.Path(__file__).resolve().parent.parent.parent
+sys.path.insert(0, str(TOP / "bench"))
+import answers
+import drill
+from runs import Run
+
+# What a script is for is said in the lines at its head; these have no words of their own.
+PARTS = ["runs.py", "measure.sh"]
+
+PROBLEM = """(set-logic BV)
+(define-sort Byte () (_ BitVec 8))
+(synth-fun f ((x Byte)) Byte)
+(synth-fun c () Bool)
+(declare-var x Byte)
+(constraint (bvule (f x) x))
+(constraint (c))
+(check-synth)
+"""
+# Replies to it, what is wrong with them, and whether it takes z3 to see that.
+REPLIES = [
+    ("(\n(define-fun f ((x (_ BitVec 8))) (_ BitVec 8) (bvlshr x #x01))\n(define-fun c () Bool true)\n)\n", None, False),
+    ("(\n(define-fun f ((x (_ BitVec 8))) (_ BitVec 8) (bvshl x #x01))\n(define-fun c () Bool true)\n)\n", "z3: sat", True),
+    ("(\n(define-fun f ((x (_ BitVec 8))) (_ BitVec 8) x)\n(define-fun c () Bool false)\n)\n", "z3: sat", True),
+    ("(\n(define-fun f ((y (_ BitVec 8))) (_ BitVec 8) y)\n(define-fun c () Bool true)\n)\n", "not the definitions that were asked", False),
+    ("(\n(define-fun f ((x (_ BitVec 16))) (_ BitVec 8) #x00)\n(define-fun c () Bool true)\n)\n", "not the definitions that were asked", False),
+    ("(\n(define-fun f ((x (_ BitVec 8))) (_ BitVec 8) x)\n)\n", "not the definitions that were asked", False),
+    ("", "an answer is missing", False),
+    (")(\n", ")", False),
+    ("(\n(define-fun f ((x (_ BitVec 8))) (_ BitVec 8) x)\n(define-fun c () Bool true)\n)\nfail\n", "more than the answers", False),
+]
+# How runs end, what of it answers.py shows, and whether that is right.
+ENDS = [
+    (Run(0, 0.1, REPLIES[0][0], "", 0, False), "definitions", True),
+    (Run(1, 0.1, "fail\n", "fail: check-synth 1 Bank\n", 0, False), "fail Bank", True),
+    (Run(-24, 20.0, "", "", 0, True), "no answer within the limit", True),
+    (Run(-11, 0.1, "", "", 0, False), "WRONG: ended by signal 11", False),
+    (Run(2, 0.1, "", "refused: command 1 line 1 column 1 cause 2 Shape\n", 0, False), "refused Shape", False),
+    (Run(6, 0.1, "", "want of memory\n", 0, False), "WRONG: an answer is missing want of memory", False),
+]
+# The status, the output and the error output of runs on (f), and whether tools/fuzz finds nothing wrong with them.
+RUNS = [
+    ((0, "", ""), True),
+    ((0, "(\n(define-fun f () Int 1)\n)\ninfeasible\n", ""), True),
+    ((1, "fail\n(\n(define-fun f () Int 1)\n)\n", "fail: check-synth 1 Size\n"), True),
+    ((2, "", "refused: command 1 line 1 column 2 cause 2 CommandNotInProfile\n"), True),
+    ((2, "", "refused: command 1 line 1 column 2 cause 1 Text Unclosed\n"), True),
+    ((0, "fail\n", "fail: check-synth 1 Size\n"), False),
+    ((1, "infeasible\n", ""), False),
+    ((1, "fail\n", "fail: check-synth 2 Size\n"), False),
+    ((1, "fail\n", "fail: check-synth 1 Sizes\n"), False),
+    ((1, "fail\nfail\n", "fail: check-synth 1 Size\n"), False),
+    ((0, "(\n(define-fun f () Int 1)\n", ""), False),
+    ((0, "(\n)\n", ""), False),
+    ((2, "fail\n", "refused: command 1 line 1 column 2 cause 2 CommandNotInProfile\n"), False),
+    ((2, "", "refused: command 1 line 1 column 2 cause 3 CommandNotInProfile\n"), False),
+    ((2, "", "refused: command 1 line 1 column 2 cause 2 CommandNotInProfile Unclosed\n"), False),
+    ((2, "", "refused: command 1 line 3 column 1 cause 2 CommandNotInProfile\n"), False),
+    ((2, "", "refused: command 1 line 1 column 5 cause 2 CommandNotInProfile\n"), False),
+    ((2, "", "refused: input longer than 4194304 bytes\n"), False),
+    ((3, "", "refused: words\n"), False),
+    ((-11, "", ""), False),
+    ((None, "", ""), False),
+]
+
+
+def loaded(path):
+    """A script as a module."""
+    loader = importlib.machinery.SourceFileLoader(path.name, str(path))
+    module = importlib.util.module_from_spec(importlib.util.spec_from_loader(path.name, loader))
+    loader.exec_module(module)
+    return module
+
+
+def scripts():
+    """All scripts in Python but tools/explain, whose words are those of the program."""
+    return [*sorted((TOP / "bench").glob("*.py")), *sorted((TOP / "tools").glob("*.py")), TOP / "tools" / "fuzz", TOP / "tools" / "tests" / "run"]
+
+
+def helps():
+    """The words that a script's head names are those of its help."""
+    for path in scripts():
+        if path.name not in PARTS:
+            said = subprocess.run([sys.executable, path, "--help"], capture_output=True, text=True).stdout
+            usage, _, rest = said.removeprefix("usage: ").partition("\n\n")
+            taken = " ".join(usage.split()).replace(" [-h]", "").replace("...", "..")
+            head = re.search(r"^    (\S+/)?(.*)$", rest, re.M)
+            yield f"help of {path.name}", path.stat().st_mode & 0o111 != 0 and head is not None and taken == head[2]
+
+
+def measured():
+    """bench/README.md has each script, and an end for what is measured."""
+    text = (TOP / "bench" / "README.md").read_text()
+    for path in sorted([*(TOP / "bench").glob("*.sh"), *(TOP / "bench").glob("*.py")]):
+        yield f"{path.name} in bench/README.md", f"`{path.name}`" in text
+
+
+def vectors():
+    """The tables of operators' values are what the scripts print, where z3 is there."""
+    for name in ["integer", "word"] if shutil.which("z3") else []:
+        table = (TOP / "crates" / "sy_vectors_operators" / "src" / f"{name}s.rt").read_text().partition("= \"\\\n")[2].partition("\";")[0]
+        printed = subprocess.run([TOP / "tools" / f"{name}_vectors.py"], capture_output=True, text=True).stdout
+        yield f"table of {name} vectors", printed == table
+
+
+def checks():
+    """What bench/answers.py finds wrong with replies."""
+    for place, (reply, fault, takes_z3) in enumerate(REPLIES):
+        if shutil.which("z3") or not takes_z3:
+            yield f"check of reply {place}", answers.fault_of(PROBLEM, reply) == fault
+    for ended, shown, is_right in ENDS:
+        yield f"check of {shown}", answers.answer_of(PROBLEM, ended) == (shown, is_right)
+
+
+def drilled():
+    """What bench/drill.py finds wrong with the answer to the file of a number."""
+    body = "(\n(define-fun f ((x (_ BitVec 8))) (_ BitVec 8) (ite (bvult x %s) (bvnot x) (bvadd x #x01)))\n)\n"
+    yield "drill: the first example", next(drill.examples_of(128)) == (0x3C, 0xC3)
+    yield "drill: a right answer", drill.is_right(body % "#x80", 128)
+    yield "drill: another bound", not drill.is_right(body % "#x81", 128)
+    yield "drill: no answer", not drill.is_right("fail\n", 128)
+
+
+def fuzzed():
+    """What tools/fuzz finds wrong with runs, and that its files are the same each time."""
+    fuzz = loaded(TOP / "tools" / "fuzz")
+    fuzz.CAUSES, fuzz.BUDGETS = fuzz.causes(), fuzz.budgets()
+    for place, (ended, is_right) in enumerate(RUNS):
+        yield f"fuzz: run {place}", (fuzz.fault(b"(f)\n", *ended) is None) == is_right
+    pool = [PROBLEM.encode()]
+    yield "fuzz: files", all(fuzz.file_of(pool, 1, number) == fuzz.file_of(pool, 1, number) for number in range(50))
+
+
+def tests():
+    yield from helps()
+    yield from measured()
+    yield from vectors()
+    yield from checks()
+    yield from drilled()
+    yield from fuzzed()

@@ -1,0 +1,119 @@
+"""Tests of ./sygus: three crates without code, of which the last is the program, are built by an `rt` that does nothing."""
+import os
+import pathlib
+import shutil
+import signal
+import subprocess
+import tempfile
+import time
+
+TOP = pathlib.Path(__file__).resolve().parent.parent.parent
+CRATES = {"sy_low": [], "sy_high": ["sy_low"], "sygus": ["sy_low", "sy_high"]}
+PROGRAM = "#!/bin/sh\necho \"$*\"\nexit 7\n"
+# Notes when it begins and ends, takes as long as LASTS says, and fails at the crate that FAILS names.
+RT = """#!/bin/sh
+name=${PWD##*/}
+echo "begin $name" >>"$NOTES"
+sleep "$LASTS"
+echo "end $name" >>"$NOTES"
+[ "$name" != "$FAILS" ] || exit 1
+mkdir -p out
+[ "$1" = lib ] || { cp "$NOTES.program" out/sygus; exit 3; }
+"""
+
+
+class Room:
+    """A folder with ./sygus, its crates, and an `rt`."""
+
+    def __init__(self, folder):
+        self.top, self.notes = folder / "repository", folder / "notes"
+        for name in CRATES:
+            (self.top / "crates" / name / "src").mkdir(parents=True)
+            (self.top / "crates" / name / "src" / "lib.rt").write_text("")
+        (self.top / "crates.txt").write_text("".join(f"{name}: {' '.join(below)}\n" for name, below in CRATES.items()))
+        shutil.copy(TOP / "sygus", self.top / "sygus")
+        for path, text in [(folder / "rt", RT), (folder / "notes.program", PROGRAM)]:
+            path.write_text(text)
+            path.chmod(0o755)
+        self.folder = folder
+
+    def words(self, lasts=0.0, fails=""):
+        """The environment of ./sygus."""
+        return {**os.environ, "PATH": f"{self.folder}:{os.environ['PATH']}", "NOTES": str(self.notes), "LASTS": str(lasts), "FAILS": fails}
+
+    def begin(self, lasts=0.0, fails=""):
+        """Starts ./sygus, as a shell with a terminal does."""
+        self.notes.write_text("")
+        return subprocess.Popen([self.top / "sygus", "-", "a word"], env=self.words(lasts, fails), stdin=subprocess.DEVNULL, stdout=subprocess.PIPE, stderr=subprocess.PIPE, text=True, start_new_session=True, preexec_fn=lambda: signal.signal(signal.SIGINT, signal.SIG_DFL))
+
+    def run(self, lasts=0.0, fails=""):
+        """The status of ./sygus, what it printed, and which crates it built."""
+        ended = self.begin(lasts, fails)
+        out, err = ended.communicate()
+        return ended.returncode, out, err, [line.split()[1] for line in self.noted() if line.startswith("begin")]
+
+    def noted(self):
+        return self.notes.read_text().splitlines()
+
+    def change(self, name):
+        """Makes the source of a crate newer than all that was built."""
+        later = time.time() + 2
+        os.utime(self.top / "crates" / name / "src" / "lib.rt", (later, later))
+
+    def restore(self):
+        for name in CRATES:
+            os.utime(self.top / "crates" / name / "src" / "lib.rt")
+        time.sleep(0.02)
+
+
+def builds(room):
+    status, out, err, built = room.run()
+    yield "./sygus: builds each crate after those below it", built == list(CRATES)
+    yield "./sygus: ends as the program", (status, out) == (7, "- a word\n")
+    yield "./sygus: counts the crates", "[3 of 3] sygus" in err
+    yield "./sygus: builds once", room.run() == (7, "- a word\n", "", [])
+    room.change("sy_high")
+    yield "./sygus: builds where a source changed", room.run()[3] == list(CRATES)
+    room.restore()
+
+
+def fails(room):
+    room.change("sy_low")
+    status, out, err, built = room.run(fails="sy_high")
+    yield "./sygus: names the crate that failed", (status, out, built) == (70, "", ["sy_low", "sy_high"]) and "sy_high couldn't be built" in err
+    room.restore()
+
+
+def is_cut_off(room):
+    """Ctrl-C ends the proofs that go on."""
+    room.change("sy_low")
+    ended = room.begin(lasts=1.5)
+    while not room.noted():
+        time.sleep(0.02)
+    os.killpg(ended.pid, signal.SIGINT)
+    status = ended.wait()
+    time.sleep(2)
+    yield "./sygus: is cut off", status == 130 and room.noted() == ["begin sy_low"]
+
+
+def is_alone(room):
+    """A call beside one that builds says so, and leaves that one alone."""
+    room.change("sy_low")
+    first = room.begin(lasts=0.5)
+    while not room.noted():
+        time.sleep(0.02)
+    second = subprocess.run([room.top / "sygus", "-"], env=room.words(), stdin=subprocess.DEVNULL, capture_output=True, text=True)
+    yield "./sygus: is refused beside another call", (second.returncode, second.stdout) == (70, "") and str(first.pid) in second.stderr
+    first.communicate()
+    built = [line for name in CRATES for line in (f"begin {name}", f"end {name}")]
+    yield "./sygus: goes on beside another call", first.returncode == 7 and room.noted() == built
+
+
+def tests():
+    with tempfile.TemporaryDirectory() as folder:
+        room = Room(pathlib.Path(folder))
+        yield from builds(room)
+        yield from fails(room)
+        yield from is_cut_off(room)
+        yield from is_alone(room)
+        yield "./sygus: leaves no room", not list((room.top / "crates" / "sygus" / "out" / "build" / "rooms").iterdir())
