@@ -4,7 +4,7 @@
     bench/identities.py [--program PROGRAM] [--limit SECONDS] [NAME ..]
 
 With no name it takes every identity, at 8, 16, 32 and 64 bits. With `--program` nothing is proved or built, and PROGRAM is
-run in place of `bench_problems`. Each program runs at most three times a file, each with so many processor seconds, 30
+run in place of `bench`. Each program runs at most three times a file, each with so many processor seconds, 30
 without `--limit`, and the least time of its whole process counts; a run that takes longer than a second isn't repeated. The
 last columns are the time of `sy_bits` by that of the other. A solver that isn't installed is left out. Last stand the
 identities for which `sy_bits` takes more than twice the time of the faster one; the status is 1 where there are such.
@@ -124,7 +124,7 @@ def main():
         parser.error(f"no such identity: {', '.join(sorted(unknown))}")
     limit = options.limit
     others = [name for name in ("cvc5", "z3") if shutil.which(name)]
-    program = options.program or measured("bench_problems")
+    program = options.program or measured("bench")
     heads = ["Identity", "bits", "variables", "clauses", "learned", "`sy_bits` ms"]
     heads += [name + " ms" for name in others] + ["by " + name for name in others]
     print("| " + " | ".join(heads) + " |")

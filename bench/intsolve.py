@@ -1,0 +1,97 @@
+#!/usr/bin/env python3
+"""Times deciding queries over integers that are made by number, and prints the answers with the sizes of the trees.
+
+    bench/intsolve.py [FAMILY NUMBER]
+
+The families: `max`, that the greatest of so many numbers, found one by one, isn't one of them or is below one; `step`, that
+a bound of so many variables, of which a step raises any one that is below the bound and keeps the others, doesn't last a
+step; `parity`, that twice a sum of so many numbers is odd; `bounds`, that a number isn't at least each of so many bounds
+that it is at least. Each query is a file whose constraint is its negation. The least processor time of five runs is printed,
+with what the program takes to read its file. Without words ten queries are decided.
+"""
+import argparse
+import os
+import tempfile
+
+from runs import measured, run
+
+RUNS = 5
+ROWS = [("max", 3), ("max", 5), ("max", 7), ("step", 2), ("step", 4), ("step", 6), ("parity", 2), ("parity", 20), ("bounds", 100), ("bounds", 1000)]
+
+
+def named(first, count):
+    return [f"x{place}" for place in range(first, first + count)]
+
+
+def joined(operator, terms):
+    return f"({operator} {' '.join(terms)})"
+
+
+def greatest(count):
+    """That the greatest of the numbers, found one by one, is one of them, and at least each."""
+    found = f"m{count - 1}"
+    is_least = [f"(>= {found} {name})" for name in named(0, count)]
+    term = joined("and", [*is_least, joined("or", [f"(= {found} {name})" for name in named(0, count)])])
+    for place in reversed(range(count)):
+        before, name = f"m{place - 1}", f"x{place}"
+        so_far = f"(ite (>= {before} {name}) {before} {name})" if place else name
+        term = f"(let ((m{place} {so_far})) {term})"
+    return count, term
+
+
+def step(count):
+    """That the bound lasts a step."""
+    old, new = named(0, count), named(count, count)
+    steps = []
+    for raised in range(count):
+        after = [f"(= {b} {f'(+ {a} 1)' if place == raised else a})" for place, (a, b) in enumerate(zip(old, new))]
+        steps.append(joined("and", [f"(< {old[raised]} 10)", *after]))
+    bounded = [joined("and", [f"(<= {name} 10)" for name in names]) for names in (old, new)]
+    return 2 * count, f"(=> (and {bounded[0]} {joined('or', steps)}) {bounded[1]})"
+
+
+def parity(count):
+    """That twice the sum isn't odd."""
+    twice = f"(* 2 {joined('+', ['0', *named(0, count)])})"
+    return count + 1, f"(not (= {twice} (+ (* 2 x{count}) 1)))"
+
+
+def bounds(count):
+    """That the number is at least each bound that it is at least."""
+    return 1, joined("and", [f"(=> (>= x0 {bound}) (>= x0 {bound}))" for bound in range(count)])
+
+
+FAMILIES = {"max": greatest, "step": step, "parity": parity, "bounds": bounds}
+
+
+def file_of(family, number):
+    """The file whose constraint is the negation of the query."""
+    count, term = FAMILIES[family](number)
+    declared = "".join(f"(declare-var {name} Int)\n" for name in named(0, count))
+    return f"(set-logic LIA)\n(synth-fun f () Bool)\n{declared}(constraint {term})\n(check-synth)\n"
+
+
+def measure(program, path):
+    """What the program prints of the file, and the least time."""
+    ended = [run([program, "intsolve", path, "8000", "10000"]) for _ in range(RUNS)]
+    return f"{ended[0].output.strip()} {min(it.seconds for it in ended):.3f}"
+
+
+def main():
+    parser = argparse.ArgumentParser(description=__doc__, formatter_class=argparse.RawDescriptionHelpFormatter, usage="intsolve.py [-h] [FAMILY NUMBER]")
+    parser.add_argument("family", metavar="FAMILY", nargs="?", choices=[*FAMILIES, None])
+    parser.add_argument("number", metavar="NUMBER", nargs="?", type=int)
+    options = parser.parse_args()
+    if options.family and options.number is None:
+        parser.error("a family has a number")
+    program = measured("bench")
+    with tempfile.TemporaryDirectory() as folder:
+        path = os.path.join(folder, "query.sl")
+        for family, number in [(options.family, options.number)] if options.family else ROWS:
+            with open(path, "w") as file:
+                file.write(file_of(family, number))
+            print(f"{family} {number}: {measure(program, path)} s", flush=True)
+
+
+if __name__ == "__main__":
+    main()
