@@ -1,4 +1,4 @@
-"""Tests of ./sygus: three crates without code, of which the last is the program, are built by an `rt` that does nothing."""
+"""Tests of ./sygus and tools/install: three crates without code, of which the last is the program, are built by an `rt` that does nothing."""
 import os
 import pathlib
 import shutil
@@ -9,7 +9,7 @@ import time
 
 TOP = pathlib.Path(__file__).resolve().parent.parent.parent
 CRATES = {"sy_low": [], "sy_high": ["sy_low"], "sygus": ["sy_low", "sy_high"]}
-PROGRAM = "#!/bin/sh\necho \"$*\"\nexit 7\n"
+PROGRAM = "#!/bin/sh\necho \"$*\"\n[ $# -ne 2 ] || exit 7\n"
 # Notes when it begins and ends, takes as long as LASTS says, and fails at the crate that FAILS names.
 RT = """#!/bin/sh
 name=${PWD##*/}
@@ -31,7 +31,9 @@ class Room:
             (self.top / "crates" / name / "src").mkdir(parents=True)
             (self.top / "crates" / name / "src" / "lib.rt").write_text("")
         (self.top / "crates.txt").write_text("".join(f"{name}: {' '.join(below)}\n" for name, below in CRATES.items()))
-        shutil.copy(TOP / "sygus", self.top / "sygus")
+        for name in ("sygus", "tools/install", "docs/sygus.1"):
+            (self.top / name).parent.mkdir(exist_ok=True)
+            shutil.copy(TOP / name, self.top / name)
         for path, text in [(folder / "rt", RT), (folder / "notes.program", PROGRAM)]:
             path.write_text(text)
             path.chmod(0o755)
@@ -109,6 +111,15 @@ def is_alone(room):
     yield "./sygus: goes on beside another call", first.returncode == 7 and room.noted() == built
 
 
+def installs(room):
+    """tools/install copies the program, with its rights, and the manual page."""
+    prefix = room.folder / "a prefix"
+    ended = subprocess.run([room.top / "tools" / "install", prefix], env=room.words(), capture_output=True)
+    ran = subprocess.run([prefix / "bin" / "sygus", "here"], capture_output=True, text=True).stdout if ended.returncode == 0 else ""
+    yield "tools/install: copies the program", ran == "here\n" and (prefix / "share" / "man" / "man1" / "sygus.1").is_file()
+    yield "tools/install: has one word", subprocess.run([room.top / "tools" / "install"], capture_output=True).returncode == 3
+
+
 def tests():
     with tempfile.TemporaryDirectory() as folder:
         room = Room(pathlib.Path(folder))
@@ -116,4 +127,5 @@ def tests():
         yield from fails(room)
         yield from is_cut_off(room)
         yield from is_alone(room)
+        yield from installs(room)
         yield "./sygus: leaves no room", not list((room.top / "crates" / "sygus" / "out" / "build" / "rooms").iterdir())
