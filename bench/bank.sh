@@ -8,9 +8,9 @@ points=${1:-64} sizes=${2:-7}
 scratch=$(mktemp -d)
 trap 'rm -rf "$scratch"' EXIT
 rustc -O --edition 2021 -o "$scratch/bank" bench/bank.rs
-(cd crates/bench_parts && rt run) >/dev/null 2>&1 || true
+(cd crates/bench && rt run) >/dev/null 2>&1 || true
 . bench/measure.sh
-read -r _ tried _ kept proved <<<"$(measure crates/bench_parts/out/bench_parts bank "$points" "$sizes" 1000000)"
+read -r _ tried _ kept proved <<<"$(measure crates/bench/out/bench bank "$points" "$sizes" 1000000)"
 read -r _ plain_tried _ plain_kept plain <<<"$(measure "$scratch/bank" "$points" "$sizes")"
 [ "$tried $kept" = "$plain_tried $plain_kept" ] || echo "the counts differ: $tried $kept and $plain_tried $plain_kept"
 awk -v n="$tried" -v k="$kept" -v a="$proved" -v b="$plain" 'BEGIN {

@@ -5,13 +5,13 @@
 # Its words, where it has some, are the numbers of nonterminals, of rules for each, and of nodes.
 set -eu
 cd "$(dirname "$0")/.."
-(cd crates/bench_parts && rt run) >/dev/null 2>&1 || true
+(cd crates/bench && rt run) >/dev/null 2>&1 || true
 scratch=$(mktemp -d)
 trap 'rm -rf "$scratch"' EXIT
 . bench/measure.sh
 derived() {
     printf '%s nonterminals, %s rules for each, %s nodes: %s s\n' \
-        "$1" "$2" "$3" "$(measure crates/bench_parts/out/bench_parts derive "$@")"
+        "$1" "$2" "$3" "$(measure crates/bench/out/bench derive "$@")"
 }
 if [ $# -eq 3 ]; then
     derived "$@"

@@ -7,10 +7,10 @@ leaves=${1:-478} rounds=${2:-10000}
 scratch=$(mktemp -d)
 trap 'rm -rf "$scratch"' EXIT
 rustc -O --edition 2021 -o "$scratch/evaluate" bench/evaluate.rs
-(cd crates/bench_parts && rt run) >/dev/null 2>&1 || true
+(cd crates/bench && rt run) >/dev/null 2>&1 || true
 . bench/measure.sh
 for theory in bv lia; do
-    read -r _ nodes _ sum proved <<<"$(measure crates/bench_parts/out/bench_parts evaluate "$theory" "$leaves" "$rounds")"
+    read -r _ nodes _ sum proved <<<"$(measure crates/bench/out/bench evaluate "$theory" "$leaves" "$rounds")"
     read -r _ _ _ plain_sum plain <<<"$(measure "$scratch/evaluate" "$theory" "$leaves" "$rounds")"
     [ "$sum" = "$plain_sum" ] || echo "$theory: the sums differ: $sum and $plain_sum"
     awk -v t="$theory" -v n="$nodes" -v r="$rounds" -v a="$proved" -v b="$plain" 'BEGIN {

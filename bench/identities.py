@@ -4,7 +4,7 @@
     bench/identities.py [--program PROGRAM] [--limit SECONDS] [NAME ..]
 
 With no name it takes every identity, at 8, 16, 32 and 64 bits. With `--program` nothing is proved or built, and PROGRAM is
-run in place of `bench_problems`. Each program runs at most three times a file, each with so many processor seconds, 30
+run in place of `bench`. Each program runs at most three times a file, each with so many processor seconds, 30
 without `--limit`, and the least time of its whole process counts; a run that takes longer than a second isn't repeated. The
 last columns are the time of `sy_bits` by that of the other. A solver that isn't installed is left out. Last stand the
 identities for which `sy_bits` takes more than twice the time of the faster one; the status is 1 where there are such.
@@ -18,8 +18,8 @@ import tempfile
 import time
 
 HERE = os.path.dirname(os.path.abspath(__file__))
-CRATE = os.path.join(HERE, "..", "crates", "bench_problems")
-PROGRAM = os.path.join(CRATE, "out", "bench_problems")
+CRATE = os.path.join(HERE, "..", "crates", "bench")
+PROGRAM = os.path.join(CRATE, "out", "bench")
 RUNS = 3
 WIDTHS = (8, 16, 32, 64)
 LEARNED = "400000"

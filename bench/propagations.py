@@ -110,7 +110,7 @@ def source():
         lines = re.sub(r"^mod \w+;$", "", as_rust(folder, "lib", crate), flags=re.MULTILINE)
         inner = "".join(f"pub mod {module} {{\nuse crate::list::Vec;\n{as_rust(folder, module, crate)}\n}}\n" for module in modules)
         parts.append(f"mod {crate} {{\n{lines}\n{inner}}}\n")
-    parts.append(f"mod dimacs {{\n{as_rust('bench_parts', 'dimacs', 'dimacs')}\n}}\n{MAIN}")
+    parts.append(f"mod dimacs {{\n{as_rust('bench', 'dimacs', 'dimacs')}\n}}\n{MAIN}")
     text = "".join(parts)
     for line, counter in COUNTED.items():
         if text.count(line) != 1:

@@ -5,9 +5,9 @@
 # over integers. Each has a limit of 20 processor seconds.
 set -eu
 cd "$(dirname "$0")/.."
-(cd crates/bench_problems && rt run) >/dev/null 2>&1 || true
+(cd crates/bench && rt run) >/dev/null 2>&1 || true
 [ $# -gt 0 ] || set -- bench/problems/int_*.sl
-program=crates/bench_problems/out/bench_problems
+program=crates/bench/out/bench
 for file in "$@"; do
     printf '%s: %s\n' "$(basename "$file" .sl)" "$(ulimit -t 20; "$program" queries "$file" 20000 || echo 'no end')"
 done

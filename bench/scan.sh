@@ -6,11 +6,11 @@ set -eu
 cd "$(dirname "$0")/.."
 scratch=$(mktemp -d)
 trap 'rm -rf "$scratch"' EXIT
-(cd crates/bench_parts && rt run) >/dev/null 2>&1 || true
+(cd crates/bench && rt run) >/dev/null 2>&1 || true
 . bench/measure.sh
 for words in "and 4472" "mul 4472" "add 1000000"; do
     read -r operator _ <<<"$words"
-    read -r _ _ seconds <<<"$(measure crates/bench_parts/out/bench_parts scan $words)"
+    read -r _ _ seconds <<<"$(measure crates/bench/out/bench scan $words)"
     case $operator in add) count=1 ;; *) count=20 ;; esac
     awk -v o="$operator" -v n="$count" -v s="$seconds" 'BEGIN { printf "%s: %s s, %.0f million a second\n", o, s, n / s }'
 done

@@ -7,7 +7,7 @@ count=${1:-300}
 scratch=$(mktemp -d)
 trap 'rm -rf "$scratch"' EXIT
 rustc -O --edition 2024 -o "$scratch/simplex" bench/simplex.rs
-(cd crates/bench_parts && rt run) >/dev/null 2>&1 || true
+(cd crates/bench && rt run) >/dev/null 2>&1 || true
 . bench/measure.sh
-printf 'sy_simplex: %s s\n' "$(measure crates/bench_parts/out/bench_parts simplex "$count")"
+printf 'sy_simplex: %s s\n' "$(measure crates/bench/out/bench simplex "$count")"
 printf 'plain Rust: %s s\n' "$(measure "$scratch/simplex" "$count")"

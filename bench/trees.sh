@@ -5,13 +5,13 @@
 # Its words, where it has some, are the number of nodes of the query, that of facts and the depth of the tree.
 set -eu
 cd "$(dirname "$0")/.."
-(cd crates/bench_parts && rt run) >/dev/null 2>&1 || true
+(cd crates/bench && rt run) >/dev/null 2>&1 || true
 scratch=$(mktemp -d)
 trap 'rm -rf "$scratch"' EXIT
 . bench/measure.sh
 row() {
     printf 'query of %s nodes, %s facts, tree of depth %s: %s s\n' \
-        "$1" "$2" "$3" "$(measure crates/bench_parts/out/bench_parts trees "$@")"
+        "$1" "$2" "$3" "$(measure crates/bench/out/bench trees "$@")"
 }
 if [ $# -eq 3 ]; then
     row "$@"

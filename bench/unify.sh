@@ -9,7 +9,7 @@ read -r points leaves conditions <<<"${words[*]}"
 scratch=$(mktemp -d)
 trap 'rm -rf "$scratch"' EXIT
 rustc -O --edition 2021 -o "$scratch/unify" bench/unify.rs
-(cd crates/bench_parts && rt run) >/dev/null 2>&1 || true
+(cd crates/bench && rt run) >/dev/null 2>&1 || true
 . bench/measure.sh
-printf 'sy_unify: %s s\n' "$(measure crates/bench_parts/out/bench_parts unify "$points" "$leaves" "$conditions")"
+printf 'sy_unify: %s s\n' "$(measure crates/bench/out/bench unify "$points" "$leaves" "$conditions")"
 printf 'plain Rust: %s s\n' "$(measure "$scratch/unify" "$points" "$leaves" "$conditions")"

@@ -1,5 +1,5 @@
 // What comes of candidates for a function of a truth value.
-ghost use Rattle.std.specs.Prelude.{◌≤◌, IfOk, OnOk};
+ghost use Rattle.std.specs.Prelude.{◌≤◌};
 ghost use Rattle.sy_terms.specs.Values.{Whole};
 ghost use Rattle.sy_terms.specs.declared.sort.Sort.TheVariants.{Bool};
 ghost use Rattle.sy_grammar_base.specs.Fits.{ProblemFits};
@@ -12,13 +12,14 @@ use crate::posed::{bodies, posed};
 use crate::rows::number;
 use crate::solver::{Both, IsFalse, Nothing};
 use std::alloc::Global;
+use std::process::Abort;
 use sy_grammar_base::Problem;
 use sy_loop_bounds::Reach;
 use sy_loop_candidate::{End, Known, Step, try_candidate};
 use sy_meaning_integers::IntTheory;
 use sy_points::{Points, Stored};
 use sy_query_limits::Limits;
-use sy_terms::{Sort, Theory, Want};
+use sy_terms::{Sort, Theory};
 
 /// What came of a candidate, without what shows this.
 fn came_of(step: &Step<IntTheory, IsFalse, Nothing>) -> &'static str {
@@ -48,40 +49,42 @@ pub(crate) const AMPLE: Limits = Limits {
 
 /// Nothing is stored and nothing asked.
 fn nothing_known(
+    rt: &impl Abort,
     alloc: Global,
     problem: &Problem<IntTheory>,
     limits: &Limits,
-) -> Result<Known<IntTheory>, Want>
+) -> Known<IntTheory>
     requires { AsksForOne Bool (question_of Whole problem.now) }
-    ensures { IfOk result (IsKnownFor ⟦<IntTheory as Theory>⟧ Beyond problem.now limits.now) }
+    ensures { IsKnownFor ⟦<IntTheory as Theory>⟧ Beyond problem.now limits.now result }
 {
     let stored = Stored::new(alloc);
-    let points = Points::new(alloc, 1, limits.points)?;
-    Ok(Known { stored, points })
+    let points = Points::new(alloc, 1, limits.points).expect(rt, "memory");
+    Known { stored, points }
 }
 
 /// What comes of the constant, or of the argument where there is none, whether or not its size is open; nothing where no
 /// round is left.
 fn tried(
+    rt: &impl Abort,
     alloc: Global,
     problem: &Problem<IntTheory>,
     limits: &Limits,
     solver: &mut Both,
     constant: Option<bool>,
     known: &mut Known<IntTheory>,
-) -> Result<&'static str, Want>
+) -> &'static str
     requires fits { ProblemFits ⟦<IntTheory as Theory>⟧ problem.now }
     requires asks { AsksForOne Bool (question_of Whole problem.now) }
     requires size { 1 ≤ limits.now.size }
     requires known { IsKnownFor ⟦<IntTheory as Theory>⟧ Beyond problem.now limits.now known.old }
-    ensures known { OnOk result (IsKnownFor ⟦<IntTheory as Theory>⟧ Beyond problem.now limits.now known.new) }
+    ensures known { IsKnownFor ⟦<IntTheory as Theory>⟧ Beyond problem.now limits.now known.new }
 {
     if known.stored.len() >= limits.rounds as usize {
-        return Ok("");
+        return "";
     }
-    let bodies = bodies(alloc, constant)?;
-    let step = try_candidate(alloc, problem, limits, Reach::Beyond, solver, bodies, known)?;
-    Ok(came_of(&step))
+    let bodies = bodies(rt, alloc, constant);
+    let step = try_candidate(alloc, problem, limits, Reach::Beyond, solver, bodies, known);
+    came_of(&step.expect(rt, "memory"))
 }
 
 /// A constraint, the limits of rounds, points and weight, how many queries the solver answers, and candidates, one after the
@@ -104,28 +107,34 @@ candidate|<+M?fx100|4|2|100|9|nt|checked|1
 candidate|<+M?fx100|4|2|100|9|t|decide|0";
 
 /// Whether the row is right.
-pub(crate) fn is_right(alloc: Global, parts: &[&str; 9]) -> Result<bool, Want> {
+pub(crate) fn is_right(rt: &impl Abort, alloc: Global, parts: &[&str; 9]) -> bool {
     let limits = Limits {
         rounds: number(parts[2]),
         points: number(parts[3]),
         weight: number(parts[4]),
         ..AMPLE
     };
-    let Some(problem) = posed(alloc, Sort::Bool, parts[1])? else {
-        return Ok(false);
-    };
+    let problem = posed(rt, alloc, Sort::Bool, parts[1]);
     let mut solver = Both {
         left: number(parts[5]),
     };
-    let mut known = nothing_known(alloc, &problem, &limits)?;
+    let mut known = nothing_known(rt, alloc, &problem, &limits);
     let mut has_come = false;
     for sign in parts[6].as_bytes() {
         let constant = match *sign {
             b'x' => None,
             sign => Some(sign == b't'),
         };
-        let came = tried(alloc, &problem, &limits, &mut solver, constant, &mut known)?;
+        let came = tried(
+            rt,
+            alloc,
+            &problem,
+            &limits,
+            &mut solver,
+            constant,
+            &mut known,
+        );
         has_come = came == parts[7];
     }
-    Ok(has_come && known.stored.len() == number(parts[8]) as usize)
+    has_come && known.stored.len() == number(parts[8]) as usize
 }

@@ -2,59 +2,61 @@
 use crate::rows::number;
 use crate::terms::operator;
 use std::alloc::Global;
+use std::process::Abort;
 use sy_loop_scan::{Pool, Scan, Shape};
-use sy_terms::{Sort, Want};
+use sy_terms::Sort;
 
 /// The values of the four, where `x` and `y` are 12 and 10, 200 and 7, 85 and 170.
 const VALUES: [[i128; 4]; 3] = [[12, 10, 8, 6], [200, 7, 0, 207], [85, 170, 0, 255]];
 
 /// A scan of the sign's operator at kept terms, which are the four, of size 2.
-fn scan(alloc: Global, sign: u8, bound: u32) -> Result<Option<Scan>, Want> {
-    let Some((operator, count)) = operator(sign) else {
-        return Ok(None);
-    };
+fn scan(rt: &impl Abort, alloc: Global, sign: u8, bound: u32) -> Scan {
+    let (operator, count) = operator(sign).expect(rt, "an operator");
     let mut operands = Vec::new(alloc);
     for _ in 0..count {
-        operands.push(0)?;
+        operands.push(0).expect(rt, "memory");
     }
     let mut shapes = Vec::new(alloc);
-    shapes.push(Shape {
+    let shape = Shape {
         rule: 0,
         operator,
         size: 1,
         operands,
-    })?;
+    };
+    shapes.push(shape).expect(rt, "memory");
     let mut pools = Vec::new(alloc);
-    pools.push(Pool {
+    let pool = Pool {
         sort: Sort::Bits(8),
-        sizes: Vec::from_slice(alloc, &[2, 2, 2, 2])?,
-    })?;
-    let scan = Scan::new(alloc, shapes, pools, bound)?;
-    Ok(Some(scan))
+        sizes: Vec::from_slice(alloc, &[2, 2, 2, 2]).expect(rt, "memory"),
+    };
+    pools.push(pool).expect(rt, "memory");
+    Scan::new(alloc, shapes, pools, bound).expect(rt, "memory")
 }
 
 /// One point more.
-fn want(alloc: Global, scan: &mut Scan, wanted: u32, values: &[i128]) -> Result<(), Want> {
+fn want(rt: &impl Abort, alloc: Global, scan: &mut Scan, wanted: u32, values: &[i128]) {
     let mut columns = Vec::new(alloc);
-    columns.push(Vec::from_slice(alloc, values)?)?;
+    let column = Vec::from_slice(alloc, values).expect(rt, "memory");
+    columns.push(column).expect(rt, "memory");
     scan.add_point(i128::from(wanted), columns)
+        .expect(rt, "memory");
 }
 
 /// Whether the parts of the next combination are these, none where there is none.
-fn is_next(scan: &mut Scan, parts: &str) -> Result<bool, Want> {
-    let Some(guess) = scan.next_guess()? else {
-        return Ok(parts.is_empty());
+fn is_next(rt: &impl Abort, scan: &mut Scan, parts: &str) -> bool {
+    let Some(guess) = scan.next_guess().expect(rt, "memory") else {
+        return parts.is_empty();
     };
     let digits = parts.as_bytes();
     if guess.parts.len() != digits.len() {
-        return Ok(false);
+        return false;
     }
     for (part, digit) in guess.parts.iter().zip(digits) {
         if *part != usize::from(digit.wrapping_sub(b'0')) {
-            return Ok(false);
+            return false;
         }
     }
-    Ok(true)
+    true
 }
 
 /// An operator, a bound of the size, and steps: a number is wanted at one point more, and after `:` stand the parts of the
@@ -74,29 +76,23 @@ combination|a|5|: 20 :02 14 :11
 combination|a|4|20 :";
 
 /// Whether the row is right.
-pub(crate) fn is_right(alloc: Global, parts: &[&str; 9]) -> Result<bool, Want> {
-    let Some(sign) = parts[1].as_bytes().first() else {
-        return Ok(false);
-    };
-    let Some(mut scan) = scan(alloc, *sign, number(parts[2]))? else {
-        return Ok(false);
-    };
+pub(crate) fn is_right(rt: &impl Abort, alloc: Global, parts: &[&str; 9]) -> bool {
+    let sign = parts[1].as_bytes().first().expect(rt, "an operator");
+    let mut scan = scan(rt, alloc, *sign, number(parts[2]));
     let mut points = 0usize;
     for step in parts[3].split(' ') {
         match step.strip_prefix(':') {
             Some(found) => {
-                if !is_next(&mut scan, found)? {
-                    return Ok(false);
+                if !is_next(rt, &mut scan, found) {
+                    return false;
                 }
             }
             None => {
-                let Some(values) = VALUES.get(points) else {
-                    return Ok(false);
-                };
-                want(alloc, &mut scan, number(step), values)?;
+                let values = VALUES.get(points).expect(rt, "a point");
+                want(rt, alloc, &mut scan, number(step), values);
                 points = points.saturating_add(1);
             }
         }
     }
-    Ok(true)
+    true
 }

@@ -3,13 +3,14 @@ use crate::candidates::AMPLE;
 use crate::rows::number;
 use crate::solver::{Both, Nothing};
 use std::alloc::Global;
+use std::process::Abort;
 use sy_grammar_base::Problem;
 use sy_loop::synthesise;
 use sy_loop_outcome::{FailCause, LoopRange, Outcome, fail_name};
 use sy_meaning_integers::IntTheory;
 use sy_points::Stored;
 use sy_query_limits::{FailName, Limits};
-use sy_terms::{Seq, Term, Want};
+use sy_terms::{Seq, Term};
 
 /// The name of a cause that has one here.
 fn named(text: &str) -> Option<FailName> {
@@ -73,7 +74,7 @@ search|1|pivots
 search|0|rounds";
 
 /// Whether the search of a row ends as it says.
-pub(crate) fn is_ended(alloc: Global, parts: &[&str; 9]) -> Result<bool, Want> {
+pub(crate) fn is_ended(rt: &impl Abort, alloc: Global, parts: &[&str; 9]) -> bool {
     let problem: Problem<IntTheory> = Problem {
         defs: Seq::new(alloc),
         vars: Seq::new(alloc),
@@ -90,11 +91,12 @@ pub(crate) fn is_ended(alloc: Global, parts: &[&str; 9]) -> Result<bool, Want> {
         ..AMPLE
     };
     let mut solver = Both { left: 0 };
-    match synthesise(alloc, &problem, &limits, &mut solver)? {
-        Outcome::Found(_, _) | Outcome::Infeasible => Ok(false),
+    let outcome = synthesise(alloc, &problem, &limits, &mut solver);
+    match outcome.expect(rt, "memory") {
+        Outcome::Found(_, _) | Outcome::Infeasible => false,
         Outcome::Fail(cause) => {
             let name = fail_name::<IntTheory, Both>(&cause);
-            Ok(named(parts[2]) == Some(name))
+            named(parts[2]) == Some(name)
         }
     }
 }

@@ -1,19 +1,20 @@
 // Which problems are pointwise.
 use crate::terms::{operator, term};
 use std::alloc::Global;
+use std::process::Abort;
 use sy_grammar_base::{Grammar, Non, Part, Parts, Problem, Rule, Wanted, well_formed};
 use sy_loop_pointwise::pointwise;
 use sy_meaning_integers::IntTheory;
 use sy_meaning_words::BvTheory;
-use sy_terms::{Seq, Sort, Theory, Want};
+use sy_terms::{Seq, Sort, Theory};
 
 /// The sort, so many times.
-fn sorts(alloc: Global, sort: Sort, count: usize) -> Result<Seq<Sort>, Want> {
+fn sorts(rt: &impl Abort, alloc: Global, sort: Sort, count: usize) -> Seq<Sort> {
     let mut sorts = Seq::new(alloc);
     for _ in 0..count {
-        sorts.push(sort)?;
+        sorts.push(sort).expect(rt, "memory");
     }
-    Ok(sorts)
+    sorts
 }
 
 /// An argument, or a nonterminal: `S` is the start symbol, `C` the other one.
@@ -27,79 +28,70 @@ fn leaf<T: Theory>(sign: u8) -> Part<T> {
 }
 
 /// A leaf, or an operator at leaves.
-fn part<T: Theory>(alloc: Global, text: &str) -> Result<Part<T>, Want> {
-    let Some((sign, others)) = text.as_bytes().split_first() else {
-        return Ok(Part::Non(0));
-    };
+fn part<T: Theory>(rt: &impl Abort, alloc: Global, text: &str) -> Part<T> {
+    let (sign, others) = text.as_bytes().split_first().expect(rt, "a part");
     let Some((operator, _)) = operator(*sign) else {
-        return Ok(leaf::<T>(*sign));
+        return leaf::<T>(*sign);
     };
     let mut parts = Parts::new(alloc);
     for other in others {
-        parts.push(leaf::<T>(*other))?;
+        parts.push(leaf::<T>(*other)).expect(rt, "memory");
     }
-    Ok(Part::App(operator, parts))
+    Part::App(operator, parts)
 }
 
 /// The nonterminals of these rules: those of the start symbol, of this sort, and after `;` those of a truth value.
-fn nonterminals<T: Theory>(alloc: Global, sort: Sort, text: &str) -> Result<Seq<Non<T>>, Want> {
+fn nonterminals<T: Theory>(rt: &impl Abort, alloc: Global, sort: Sort, text: &str) -> Seq<Non<T>> {
     let mut nons = Seq::new(alloc);
     let mut sort = sort;
     for texts in text.split(';') {
         let mut rules = Seq::new(alloc);
         for text in texts.split(' ') {
-            let part = part::<T>(alloc, text)?;
-            rules.push(Rule::Term(part))?;
+            let rule = Rule::Term(part::<T>(rt, alloc, text));
+            rules.push(rule).expect(rt, "memory");
         }
-        nons.push(Non { sort, rules })?;
+        nons.push(Non { sort, rules }).expect(rt, "memory");
         sort = Sort::Bool;
     }
-    Ok(nons)
+    nons
 }
 
 /// A function of so many arguments of the sort to that sort, whose grammar has these rules.
 fn function<T: Theory>(
+    rt: &impl Abort,
     alloc: Global,
     sort: Sort,
     arguments: usize,
     rules: &str,
-) -> Result<Option<Wanted<T>>, Want> {
-    let nons = nonterminals::<T>(alloc, sort, rules)?;
-    let args = sorts(alloc, sort, arguments)?;
+) -> Wanted<T> {
+    let nons = nonterminals::<T>(rt, alloc, sort, rules);
+    let args = sorts(rt, alloc, sort, arguments);
     let defs = Seq::new(alloc);
-    if !well_formed(&args, &nons, &defs) {
-        return Ok(None);
-    }
+    assert!(rt; well_formed(&args, &nons, &defs));
     let grammar = Grammar::new(args, nons, &defs);
-    let args = sorts(alloc, sort, arguments)?;
-    Ok(Some(Wanted {
+    let args = sorts(rt, alloc, sort, arguments);
+    Wanted {
         args,
         sort,
         grammar,
-    }))
+    }
 }
 
-/// Whether the problem of a row is pointwise; `None` where its grammar isn't well formed.
-fn is_pointwise<T: Theory>(
-    alloc: Global,
-    sort: Sort,
-    parts: &[&str; 9],
-) -> Result<Option<bool>, Want> {
+/// Whether the problem of a row is pointwise.
+fn is_pointwise<T: Theory>(rt: &impl Abort, alloc: Global, sort: Sort, parts: &[&str; 9]) -> bool {
     let arguments = parts[3].len();
     let mut wanted = Seq::new(alloc);
     for _ in 0..parts[2].len() {
-        match function::<T>(alloc, sort, arguments, parts[5])? {
-            Some(function) => wanted.push(function)?,
-            None => return Ok(None),
-        }
+        let function = function::<T>(rt, alloc, sort, arguments, parts[5]);
+        wanted.push(function).expect(rt, "memory");
     }
     let mut constraints = Seq::new(alloc);
     for text in parts[6].split(' ') {
-        let constraint = term::<T>(alloc, arguments, text)?;
-        constraints.push(constraint)?;
+        let constraint = term::<T>(rt, alloc, arguments, text);
+        constraints.push(constraint).expect(rt, "memory");
     }
     let (defs, assumptions, pool) = (Seq::new(alloc), Seq::new(alloc), Seq::new(alloc));
-    let vars = sorts(alloc, sort, parts[4].len())?;
+    let vars = sorts(rt, alloc, sort, parts[4].len());
     let problem = Problem {
         defs,
         vars,
@@ -108,8 +100,7 @@ fn is_pointwise<T: Theory>(
         constraints,
         pool,
     };
-    let answer = pointwise(alloc, &problem)?;
-    Ok(Some(answer))
+    pointwise(alloc, &problem).expect(rt, "memory")
 }
 
 /// The sort; the functions to be found; the arguments of each, and the variables; the rules of the grammar; constraints; and
@@ -131,11 +122,11 @@ pointwise|Int|f|xy|xy|x y ?CSS;Lxy|Gfxyx Gfxyy O=fxyx=fxyy|yes
 pointwise|Bits|f|x|x|x -x ~x|=ffxx Dfxx|no";
 
 /// Whether the row is right.
-pub(crate) fn is_right(alloc: Global, parts: &[&str; 9]) -> Result<bool, Want> {
+pub(crate) fn is_right(rt: &impl Abort, alloc: Global, parts: &[&str; 9]) -> bool {
     let found = match parts[1] {
-        "Bool" => is_pointwise::<IntTheory>(alloc, Sort::Bool, parts)?,
-        "Int" => is_pointwise::<IntTheory>(alloc, Sort::Int, parts)?,
-        _ => is_pointwise::<BvTheory>(alloc, Sort::Bits(8), parts)?,
+        "Bool" => is_pointwise::<IntTheory>(rt, alloc, Sort::Bool, parts),
+        "Int" => is_pointwise::<IntTheory>(rt, alloc, Sort::Int, parts),
+        _ => is_pointwise::<BvTheory>(rt, alloc, Sort::Bits(8), parts),
     };
-    Ok(found == Some(parts[7] == "yes"))
+    found == (parts[7] == "yes")
 }

@@ -1,6 +1,6 @@
 // Problems over one sort: a function of it to itself, whose grammar has its argument and every constant, with one
 // constraint over one variable.
-ghost use Rattle.std.specs.Prelude.{◌≡◌, ◌∷◌, [], IfOk, IfSome, map};
+ghost use Rattle.std.specs.Prelude.{◌≡◌, ◌∷◌, [], map};
 ghost use Rattle.sy_terms.specs.Values.{Whole};
 ghost use Rattle.sy_terms.specs.Denoted.{expr_of};
 ghost use Rattle.sy_meaning.specs.Signatures.{signatures_of};
@@ -10,102 +10,89 @@ ghost use Rattle.sy_loop_tests.specs.Posed as posed;
 
 use crate::terms::term;
 use std::alloc::Global;
+use std::process::Abort;
 use sy_grammar_base::{Grammar, Non, Problem, Rule, Wanted, well_formed};
 use sy_meaning::{Signature, term_sort};
 use sy_meaning_integers::IntTheory;
-use sy_terms::{Bodies, Defs, Seq, Sort, Term, Theory, Value, Want};
+use sy_terms::{Bodies, Defs, Seq, Sort, Term, Theory, Value};
 
-/// The sort alone.
-fn alone(alloc: Global, sort: Sort) -> Result<Seq<Sort>, Want>
-    ensures { IfOk result (λ all. all ≡ sort ∷ []) }
+/// The item alone.
+pub(crate) fn one<X: Drop>(rt: &impl Abort, alloc: Global, item: X) -> Seq<X>
+    ensures { result ≡ item ∷ [] }
 {
-    let mut sorts = Seq::new(alloc);
-    sorts.push(sort)?;
-    Ok(sorts)
+    let mut items = Seq::new(alloc);
+    items.push(item).expect(rt, "memory");
+    items
 }
 
 /// The function.
-fn function(alloc: Global, sort: Sort) -> Result<Option<Wanted<IntTheory>>, Want>
-    ensures { IfOk result (λ found. IfSome found (λ f. goal_of Whole f ≡ posed.goal sort)) }
+fn function(rt: &impl Abort, alloc: Global, sort: Sort) -> Wanted<IntTheory>
+    ensures { goal_of Whole result ≡ posed.goal sort }
 {
-    let mut rules = Seq::new(alloc);
-    rules.push(Rule::AnyVariable(sort))?;
-    rules.push(Rule::AnyConstant(sort))?;
-    let mut nons = Seq::new(alloc);
-    nons.push(Non { sort, rules })?;
-    let args = alone(alloc, sort)?;
+    let mut rules = one(rt, alloc, Rule::AnyVariable(sort));
+    rules.push(Rule::AnyConstant(sort)).expect(rt, "memory");
+    let nons = one(rt, alloc, Non { sort, rules });
+    let args = one(rt, alloc, sort);
     let defs = Seq::new(alloc);
-    if !well_formed(&args, &nons, &defs) {
-        return Ok(None);
-    }
+    assert!(rt; well_formed(&args, &nons, &defs));
     let grammar = Grammar::new(args, nons, &defs);
-    let args = alone(alloc, sort)?;
-    Ok(Some(Wanted {
+    let args = one(rt, alloc, sort);
+    Wanted {
         args,
         sort,
         grammar,
-    }))
+    }
 }
 
 /// The signature of the function.
-fn signature(alloc: Global, sort: Sort) -> Result<Seq<Signature>, Want>
-    ensures { IfOk result (λ all. signatures_of all ≡ posed.signature sort ∷ []) }
+fn signature(rt: &impl Abort, alloc: Global, sort: Sort) -> Seq<Signature>
+    ensures { signatures_of result ≡ posed.signature sort ∷ [] }
 {
-    let takes = alone(alloc, sort)?;
-    let mut all = Seq::new(alloc);
-    all.push(Signature { takes, gives: sort })?;
-    Ok(all)
+    let takes = one(rt, alloc, sort);
+    one(rt, alloc, Signature { takes, gives: sort })
 }
 
-/// The term of this text, where it is of the other sort and may call functions of these signatures.
+/// The term of this text, which is of the other sort and may call functions of these signatures.
 pub(crate) fn fitting(
+    rt: &impl Abort,
     alloc: Global,
     wanted: &Seq<Signature>,
     sort: Sort,
     other: Sort,
     text: &str,
-) -> Result<Option<Term<IntTheory>>, Want>
-    ensures { IfOk result (λ found. IfSome found (λ term. posed.FitsOver (signatures_of wanted.now) sort other (expr_of Whole term))) }
+) -> Term<IntTheory>
+    ensures { posed.FitsOver (signatures_of wanted.now) sort other (expr_of Whole result) }
 {
-    let term = term::<IntTheory>(alloc, 1, text)?;
+    let term = term::<IntTheory>(rt, alloc, 1, text);
     let defs: Defs<IntTheory> = Seq::new(alloc);
-    match term_sort(alloc, defs.as_slice(), wanted.as_slice(), &[sort], &term)? {
-        Some(found) if found == other => Ok(Some(term)),
-        _ => Ok(None),
+    let found = term_sort(alloc, defs.as_slice(), wanted.as_slice(), &[sort], &term);
+    match found.expect(rt, "memory") {
+        Some(found) if found == other => term,
+        _ => panic!(rt; "{text}"),
     }
 }
 
-/// The problem of the constraint of this text; `None` where it doesn't fit.
-pub(crate) fn posed(
-    alloc: Global,
-    sort: Sort,
-    text: &str,
-) -> Result<Option<Problem<IntTheory>>, Want>
+/// The problem of the constraint of this text, which fits.
+pub(crate) fn posed(rt: &impl Abort, alloc: Global, sort: Sort, text: &str) -> Problem<IntTheory>
     requires { posed.IsPlain sort }
-    ensures fits { IfOk result (λ found. IfSome found (ProblemFits ⟦<IntTheory as Theory>⟧)) }
-    ensures asks { IfOk result (λ found. IfSome found (λ problem. posed.AsksForOne sort (question_of Whole problem))) }
+    ensures fits { ProblemFits ⟦<IntTheory as Theory>⟧ result }
+    ensures asks { posed.AsksForOne sort (question_of Whole result) }
 {
-    let Some(function) = function(alloc, sort)? else {
-        return Ok(None);
-    };
-    let signature = signature(alloc, sort)?;
-    let Some(constraint) = fitting(alloc, &signature, sort, Sort::Bool, text)? else {
-        return Ok(None);
-    };
-    let mut wanted = Seq::new(alloc);
-    wanted.push(function)?;
-    let mut constraints = Seq::new(alloc);
-    constraints.push(constraint)?;
+    let signature = signature(rt, alloc, sort);
+    let constraint = fitting(rt, alloc, &signature, sort, Sort::Bool, text);
+    let function = function(rt, alloc, sort);
+    let vars = one(rt, alloc, sort);
+    let wanted = one(rt, alloc, function);
+    let constraints = one(rt, alloc, constraint);
     let (defs, assumptions, pool) = (Seq::new(alloc), Seq::new(alloc), Seq::new(alloc));
-    let vars = alone(alloc, sort)?;
-    Ok(Some(Problem {
+    Problem {
         defs,
         vars,
         wanted,
         assumptions,
         constraints,
         pool,
-    }))
+    }
 }
 
 /// The constant, or the argument where there is none.
@@ -120,10 +107,9 @@ fn body(constant: Option<bool>) -> Term<IntTheory>
 }
 
 /// That body alone.
-pub(crate) fn bodies(alloc: Global, constant: Option<bool>) -> Result<Bodies<IntTheory>, Want>
-    ensures { IfOk result (λ bodies. map (expr_of Whole) bodies ≡ posed.member_body constant ∷ []) }
+pub(crate) fn bodies(rt: &impl Abort, alloc: Global, constant: Option<bool>) -> Bodies<IntTheory>
+    ensures { map (expr_of Whole) result ≡ posed.member_body constant ∷ [] }
 {
-    let mut bodies = Bodies::new(alloc);
-    bodies.push(body(constant))?;
-    Ok(bodies)
+    let body = body(constant);
+    one(rt, alloc, body)
 }

@@ -1,70 +1,71 @@
 // What is shown of a problem without functions to be found, whose assumption and constraint are constants.
-ghost use Rattle.std.specs.Prelude.{◌≡◌, ◌⊎◌, [], ◌∷◌, IfOk};
+ghost use Rattle.std.specs.Prelude.{◌≡◌, ◌⊎◌, [], ◌∷◌};
 ghost use Rattle.sy_terms.specs.Values.{Whole};
 ghost use Rattle.sy_terms.specs.declared.sort.Value.TheVariants.{Truth};
 ghost use Rattle.sy_terms.specs.declared.term.Term.{Const};
 ghost use Rattle.sy_grammar_base.specs.Fits.{ProblemFits};
 
+use crate::posed::one;
 use std::alloc::Global;
+use std::process::Abort;
 use sy_bank_rows::Kept;
 use sy_grammar_base::Problem;
 use sy_loop_refutation::{Suspects, are_refuted};
 use sy_meaning_integers::IntTheory;
 use sy_points::{Points, Stored};
-use sy_terms::{Seq, Term, Theory, Value, Want};
+use sy_terms::{Seq, Term, Theory, Value};
 
 /// The constant.
-fn constant(alloc: Global, truth: bool) -> Result<Seq<Term<IntTheory>>, Want>
-    ensures { IfOk result (λ terms. terms ≡ Const (Truth truth) ∷ []) }
+fn constant(rt: &impl Abort, alloc: Global, truth: bool) -> Seq<Term<IntTheory>>
+    ensures { result ≡ Const (Truth truth) ∷ [] }
 {
-    let mut terms = Seq::new(alloc);
-    terms.push(Term::Const(Value::Truth(truth)))?;
-    Ok(terms)
+    one(rt, alloc, Term::Const(Value::Truth(truth)))
 }
 
 /// The problem of this assumption and this constraint.
-fn posed(alloc: Global, assumption: bool, constraint: bool) -> Result<Problem<IntTheory>, Want>
-    ensures fits { IfOk result (ProblemFits ⟦<IntTheory as Theory>⟧) }
-    ensures nothing { IfOk result (λ problem. (problem.vars ≡ []) × (problem.wanted ≡ [])) }
+fn posed(rt: &impl Abort, alloc: Global, assumption: bool, constraint: bool) -> Problem<IntTheory>
+    ensures fits { ProblemFits ⟦<IntTheory as Theory>⟧ result }
+    ensures nothing { (result.vars ≡ []) × (result.wanted ≡ []) }
 {
-    let assumptions = constant(alloc, assumption)?;
-    let constraints = constant(alloc, constraint)?;
+    let assumptions = constant(rt, alloc, assumption);
+    let constraints = constant(rt, alloc, constraint);
     let (defs, vars, wanted) = (Seq::new(alloc), Seq::new(alloc), Seq::new(alloc));
     let pool = Seq::new(alloc);
-    let problem = Problem {
+    Problem {
         defs,
         vars,
         wanted,
         assumptions,
         constraints,
         pool,
-    };
-    Ok(problem)
+    }
 }
 
 /// The assignment of no variables, where it is to be stored.
-fn assigned(alloc: Global, is_stored: bool) -> Result<Stored<IntTheory>, Want>
-    ensures { IfOk result (λ stored. (stored.items ≡ []) ⊎ (stored.items ≡ ([], []) ∷ [])) }
+fn assigned(rt: &impl Abort, alloc: Global, is_stored: bool) -> Stored<IntTheory>
+    ensures { (result.items ≡ []) ⊎ (result.items ≡ ([], []) ∷ []) }
 {
     let mut stored = Stored::new(alloc);
     if !is_stored {
-        return Ok(stored);
+        return stored;
     }
-    stored.push(Seq::new(alloc), Seq::new(alloc))?;
-    Ok(stored)
+    let pushed = stored.push(Seq::new(alloc), Seq::new(alloc));
+    pushed.expect(rt, "memory");
+    stored
 }
 
 /// Whether the problem is violated at the assignment of no variables, where that is stored.
 fn is_violated(
+    rt: &impl Abort,
     alloc: Global,
     suspects: &mut Suspects,
     assumption: bool,
     constraint: bool,
     is_stored: bool,
-) -> Result<bool, Want> {
-    let problem = posed(alloc, assumption, constraint)?;
-    let points = Points::<IntTheory>::new(alloc, 0, 1)?;
-    let stored = assigned(alloc, is_stored)?;
+) -> bool {
+    let problem = posed(rt, alloc, assumption, constraint);
+    let points = Points::<IntTheory>::new(alloc, 0, 1).expect(rt, "memory");
+    let stored = assigned(rt, alloc, is_stored);
     let chosen: Vec<&Kept<IntTheory>> = Vec::new(alloc);
     let refuted = are_refuted(
         alloc,
@@ -73,8 +74,8 @@ fn is_violated(
         &points,
         &stored,
         suspects,
-    )?;
-    Ok(refuted)
+    );
+    refuted.expect(rt, "memory")
 }
 
 /// Problems, one after the other: the assumption, the constraint, whether the assignment is stored, and whether a violation
@@ -83,22 +84,23 @@ pub(crate) const ROWS: &str = "\
 refutation|tntt tttn nntn tnnn tntt";
 
 /// Whether the row is right.
-pub(crate) fn is_right(alloc: Global, parts: &[&str; 9]) -> Result<bool, Want> {
+pub(crate) fn is_right(rt: &impl Abort, alloc: Global, parts: &[&str; 9]) -> bool {
     let mut suspects = Suspects::new(alloc);
     for case in parts[1].split(' ') {
         let [assumption, constraint, stored, shown] = case.as_bytes() else {
-            return Ok(false);
+            return false;
         };
         let violated = is_violated(
+            rt,
             alloc,
             &mut suspects,
             *assumption == b't',
             *constraint == b't',
             *stored == b't',
-        )?;
+        );
         if violated != (*shown == b't') {
-            return Ok(false);
+            return false;
         }
     }
-    Ok(true)
+    true
 }

@@ -1,6 +1,7 @@
 // Terms over the variables `x`, `y` and `z`, as texts: a character for each node, which stands before its arguments.
 use std::alloc::Global;
-use sy_terms::{Fun, Op, Sort, Term, Terms, Theory, Value, Want};
+use std::process::Abort;
+use sy_terms::{Fun, Op, Sort, Term, Terms, Theory, Value};
 
 /// The operator of this sign, and how many arguments it has here.
 pub(crate) fn operator(sign: u8) -> Option<(Op, usize)> {
@@ -30,17 +31,18 @@ pub(crate) fn operator(sign: u8) -> Option<(Op, usize)> {
 
 /// Takes so many terms, of which the last is the first argument.
 fn arguments<T: Theory>(
+    rt: &impl Abort,
     alloc: Global,
     stack: &mut Vec<Term<T>>,
     count: usize,
-) -> Result<Terms<T>, Want> {
+) -> Terms<T> {
     let mut terms = Terms::new(alloc);
     for _ in 0..count {
         if let Some(term) = stack.pop() {
-            terms.push(term)?;
+            terms.push(term).expect(rt, "memory");
         }
     }
-    Ok(terms)
+    terms
 }
 
 /// The integer; `x` over vectors.
@@ -55,42 +57,44 @@ fn integer<T: Theory>(number: i128) -> Term<T> {
 /// greatest integer of 128 bits; `f` calls the function to be found, at so many arguments; `B` binds one term, and the
 /// others are operators.
 fn node<T: Theory>(
+    rt: &impl Abort,
     alloc: Global,
     arguments_of_call: usize,
     stack: &mut Vec<Term<T>>,
     sign: u8,
-) -> Result<Term<T>, Want> {
+) -> Term<T> {
     match sign {
-        b'x'..=b'z' => Ok(Term::Var(u32::from(sign - b'x'))),
-        b't' | b'n' => Ok(Term::Const(Value::Truth(sign == b't'))),
-        b'0'..=b'9' => Ok(integer::<T>(i128::from(sign - b'0'))),
-        b'M' => Ok(integer::<T>(i128::MAX)),
-        b'f' => {
-            let terms = arguments(alloc, stack, arguments_of_call)?;
-            Ok(Term::Call(Fun::Wanted(0), terms))
-        }
+        b'x'..=b'z' => Term::Var(u32::from(sign - b'x')),
+        b't' | b'n' => Term::Const(Value::Truth(sign == b't')),
+        b'0'..=b'9' => integer::<T>(i128::from(sign - b'0')),
+        b'M' => integer::<T>(i128::MAX),
+        b'f' => Term::Call(
+            Fun::Wanted(0),
+            arguments(rt, alloc, stack, arguments_of_call),
+        ),
         b'B' => {
-            let bound = arguments(alloc, stack, 1)?;
+            let bound = arguments(rt, alloc, stack, 1);
             let inner = stack.pop().unwrap_or(Term::Var(0));
-            Ok(Term::Let(bound, Box::new(alloc, inner)?))
+            Term::Let(bound, Box::new(alloc, inner).expect(rt, "memory"))
         }
         _ => {
             let (operator, count) = operator(sign).unwrap_or((Op::And, 0));
-            Ok(Term::App(operator, arguments(alloc, stack, count)?))
+            Term::App(operator, arguments(rt, alloc, stack, count))
         }
     }
 }
 
 /// The term of this text, in which calls of the function to be found have so many arguments.
 pub(crate) fn term<T: Theory>(
+    rt: &impl Abort,
     alloc: Global,
     arguments_of_call: usize,
     text: &str,
-) -> Result<Term<T>, Want> {
+) -> Term<T> {
     let mut stack = Vec::new(alloc);
     for sign in text.as_bytes().iter().rev() {
-        let term = node(alloc, arguments_of_call, &mut stack, *sign)?;
-        stack.push(term)?;
+        let term = node(rt, alloc, arguments_of_call, &mut stack, *sign);
+        stack.push(term).expect(rt, text);
     }
-    Ok(stack.pop().unwrap_or(Term::Var(0)))
+    stack.pop().expect(rt, text)
 }

@@ -2,7 +2,7 @@
 use crate::rows::parts_of;
 use crate::{candidates, combinations, outcomes, pointwise, queries, refutations};
 use std::alloc::Global;
-use sy_terms::Want;
+use std::process::Abort;
 
 /// All tables. The first part of a row says what it is about.
 const TABLES: [&str; 8] = [
@@ -17,18 +17,18 @@ const TABLES: [&str; 8] = [
 ];
 
 /// Whether the row is right.
-fn is_right(alloc: Global, row: &str) -> Result<bool, Want> {
+fn is_right(rt: &impl Abort, alloc: Global, row: &str) -> bool {
     let parts = parts_of(row);
     match parts[0] {
-        "candidate" => candidates::is_right(alloc, &parts),
-        "cause" => Ok(outcomes::is_named(alloc, &parts)),
-        "combination" => combinations::is_right(alloc, &parts),
-        "constant" => queries::is_decided(alloc, &parts),
-        "pointwise" => pointwise::is_right(alloc, &parts),
-        "refutation" => refutations::is_right(alloc, &parts),
-        "search" => outcomes::is_ended(alloc, &parts),
-        "weight" => queries::is_weighed(alloc, &parts),
-        _ => Ok(false),
+        "candidate" => candidates::is_right(rt, alloc, &parts),
+        "cause" => outcomes::is_named(alloc, &parts),
+        "combination" => combinations::is_right(rt, alloc, &parts),
+        "constant" => queries::is_decided(rt, alloc, &parts),
+        "pointwise" => pointwise::is_right(rt, alloc, &parts),
+        "refutation" => refutations::is_right(rt, alloc, &parts),
+        "search" => outcomes::is_ended(rt, alloc, &parts),
+        "weight" => queries::is_weighed(rt, alloc, &parts),
+        _ => false,
     }
 }
 
@@ -36,8 +36,7 @@ fn is_right(alloc: Global, row: &str) -> Result<bool, Want> {
 fn each_row_is_right(rt: HostRuntime) {
     for table in TABLES {
         for row in table.lines() {
-            let is_right = is_right(rt.alloc(), row).expect(&rt, "memory");
-            assert!(rt; is_right, "{row}");
+            assert!(rt; is_right(&rt, rt.alloc(), row), "{row}");
         }
     }
 }

@@ -2,6 +2,7 @@
 use crate::queries::{deep, query};
 use crate::rows::{field, number};
 use std::alloc::Global;
+use std::process::Abort;
 use sy_intsolve::{IntDecide, IntSpent, Tree, fits};
 use sy_linear::check_tree;
 use sy_meaning::IntTheory;
@@ -23,29 +24,30 @@ fn limits(nodes: u32, pivots: u32) -> Limits {
 }
 
 /// A model: its numbers, 1 for true.
-fn model(alloc: Global, values: &[Value<i128>]) -> Result<String, Want> {
-    let mut text = String::from_str(alloc, "model")?;
+fn model(rt: &impl Abort, alloc: Global, values: &[Value<i128>]) -> Result<String, Want> {
+    let mut text = String::from_str(alloc, "model").expect(rt, "memory");
     for value in values {
         let number = match value {
             Value::Truth(truth) => i128::from(*truth),
             Value::Num(number) => *number,
         };
-        write!(text, " {number}")?;
+        write!(text, " {number}").expect(rt, "memory");
     }
     Ok(text)
 }
 
 /// The row's query: the one of its sorts and its body, or a conjunction.
-fn asked(alloc: Global, row: &str) -> Result<Query<IntTheory>, Want> {
+fn asked(rt: &impl Abort, alloc: Global, row: &str) -> Query<IntTheory> {
     match field(row, 0) {
-        "deep" => deep(alloc, number(row, 1)),
-        sorts => query(alloc, sorts, field(row, 1)),
+        "deep" => deep(rt, alloc, number(row, 1)),
+        sorts => query(rt, alloc, sorts, field(row, 1)),
     }
 }
 
 /// A verdict on the query: a model, or `some` where any one will do; `never`, by a tree that the checker accepts; or `spent`
 /// and what ended.
 fn said(
+    rt: &impl Abort,
     alloc: Global,
     query: &Query<IntTheory>,
     verdict: &Verdict<IntTheory, Tree, IntSpent>,
@@ -53,7 +55,7 @@ fn said(
 ) -> Result<String, Want> {
     match verdict {
         Verdict::Model(_) if is_any => String::from_str(alloc, "some"),
-        Verdict::Model(values) => model(alloc, values.as_slice()),
+        Verdict::Model(values) => model(rt, alloc, values.as_slice()),
         Verdict::Never(tree) => {
             let is_right = matches!(check_tree(alloc, query, tree), Ok(true));
             String::from_str(alloc, if is_right { "never" } else { "wrong" })
@@ -66,14 +68,16 @@ fn said(
 }
 
 /// What is answered within the row's limits; `unfit` where the solver doesn't take the query.
-pub fn told(alloc: Global, row: &str) -> Result<String, Want> {
-    let query = asked(alloc, row)?;
-    if !fits(alloc, &query)? {
+pub fn told(rt: &impl Abort, alloc: Global, row: &str) -> Result<String, Want> {
+    let query = asked(rt, alloc, row);
+    if !fits(alloc, &query).expect(rt, "memory") {
         return String::from_str(alloc, "unfit");
     }
     let limits = limits(number(row, 2), number(row, 3));
-    let verdict = IntDecide::new().decide(alloc, &query, &limits)?;
-    said(alloc, &query, &verdict, field(row, 4) == "any")
+    let verdict = IntDecide::new()
+        .decide(alloc, &query, &limits)
+        .expect(rt, "memory");
+    said(rt, alloc, &query, &verdict, field(row, 4) == "any")
 }
 
 /// The variables' sorts, the body, how many inner nodes and steps at a leaf may be, and the answer: what isn't a query;

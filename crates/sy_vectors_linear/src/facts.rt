@@ -3,31 +3,34 @@ use crate::forms::form;
 use crate::queries::query;
 use crate::rows::field;
 use std::alloc::Global;
+use std::process::Abort;
 use sy_linear::{Fact, Known, Path, Test, known};
 use sy_terms::{Seq, Want};
 
 /// Facts with semicolons between them: `B` where the second variable is true, `!B` where it is false, or a form that is at
 /// least 0.
-fn path(alloc: Global, text: &str) -> Result<Path, Want> {
+fn path(rt: &impl Abort, alloc: Global, text: &str) -> Path {
     let mut facts = Seq::new(alloc);
     if text.is_empty() {
-        return Ok(Path { facts });
+        return Path { facts };
     }
     for part in text.split(';') {
-        facts.push(match part {
-            "B" => Fact::Is(1, true),
-            "!B" => Fact::Is(1, false),
-            _ => Fact::AtLeast(form(alloc, part)?),
-        })?;
+        facts
+            .push(match part {
+                "B" => Fact::Is(1, true),
+                "!B" => Fact::Is(1, false),
+                _ => Fact::AtLeast(form(rt, alloc, part)),
+            })
+            .expect(rt, "memory");
     }
-    Ok(Path { facts })
+    Path { facts }
 }
 
 /// What is known of a query over an integer and a truth value: of an open test the first coefficient and the constant.
-pub fn told(alloc: Global, row: &str) -> Result<String, Want> {
-    let path = path(alloc, field(row, 0))?;
-    let query = query(alloc, "ib", field(row, 1))?;
-    match known(alloc, &query, &path)? {
+pub fn told(rt: &impl Abort, alloc: Global, row: &str) -> Result<String, Want> {
+    let path = path(rt, alloc, field(row, 0));
+    let query = query(rt, alloc, "ib", field(row, 1));
+    match known(alloc, &query, &path).expect(rt, "memory") {
         Known::True => String::from_str(alloc, "true"),
         Known::False => String::from_str(alloc, "false"),
         Known::Undecided(Test::Holds(variable)) => format!(in alloc; "holds {variable}"),

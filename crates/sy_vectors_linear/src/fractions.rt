@@ -2,6 +2,7 @@
 use crate::rows::field;
 use std::alloc::Global;
 use std::cmp::Ordering;
+use std::process::Abort;
 use sy_frac::Frac;
 use sy_terms::{Seq, Want};
 
@@ -12,14 +13,14 @@ fn fraction(text: &str) -> Option<Frac> {
 }
 
 /// The fractions of this text, with spaces between them.
-pub fn fractions(alloc: Global, text: &str) -> Result<Seq<Frac>, Want> {
+pub fn fractions(rt: &impl Abort, alloc: Global, text: &str) -> Seq<Frac> {
     let mut all = Seq::new(alloc);
     for word in text.split(' ') {
         if let Some(fraction) = fraction(word) {
-            all.push(fraction)?;
+            all.push(fraction).expect(rt, "memory");
         }
     }
-    Ok(all)
+    all
 }
 
 /// The quotient; none where the divisor is 0.

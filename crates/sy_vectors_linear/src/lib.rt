@@ -1,8 +1,10 @@
-// Fractions, systems of linear forms, and queries over integers with facts, refutation trees and the solver's answers.
+// Fractions, systems of linear forms, cuts, and queries over integers with facts, refutation trees and the solver's answers.
 #![tactic(auto)]
 
 #[cfg(test)]
 mod answers;
+#[cfg(test)]
+mod cuts;
 #[cfg(test)]
 mod facts;
 #[cfg(test)]

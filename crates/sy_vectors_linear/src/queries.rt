@@ -1,8 +1,9 @@
 // Queries over integers as texts, a character for each node, in postfix.
 use std::alloc::Global;
+use std::process::Abort;
 use sy_meaning::IntTheory;
 use sy_query::Query;
-use sy_terms::{Op, Seq, Sort, Term, Terms, Value, Want};
+use sy_terms::{Op, Seq, Sort, Term, Terms, Value};
 
 /// The operator of this sign, and how many arguments it takes.
 fn operator(sign: u8) -> Option<(Op, usize)> {
@@ -27,18 +28,19 @@ fn operator(sign: u8) -> Option<(Op, usize)> {
 
 /// Takes so many of the last terms.
 fn last(
+    rt: &impl Abort,
     alloc: Global,
     stack: &mut Vec<Term<IntTheory>>,
     count: usize,
-) -> Result<Terms<IntTheory>, Want> {
+) -> Terms<IntTheory> {
     let first = stack.len().saturating_sub(count);
     let mut terms = Terms::new(alloc);
     for _ in 0..count {
         if first < stack.len() {
-            terms.push(stack.remove(first))?;
+            terms.push(stack.remove(first)).expect(rt, "memory");
         }
     }
-    Ok(terms)
+    terms
 }
 
 /// The term of this sign, if it isn't an operator: a variable for `A` to `C`, `T` for true, `M` for the greatest number of
@@ -57,50 +59,57 @@ fn leaf(sign: u8) -> Term<IntTheory> {
 }
 
 /// The term of this text; `l` binds the term before the last in the last.
-fn term(alloc: Global, text: &str) -> Result<Term<IntTheory>, Want> {
+fn term(rt: &impl Abort, alloc: Global, text: &str) -> Term<IntTheory> {
     let mut stack = Vec::new(alloc);
     for sign in text.as_bytes() {
         let term = match operator(*sign) {
-            Some((operator, count)) => Term::App(operator, last(alloc, &mut stack, count)?),
+            Some((operator, count)) => Term::App(operator, last(rt, alloc, &mut stack, count)),
             None if *sign == b'l' => {
                 let inner = stack.pop().unwrap_or(Term::Var(0));
-                let bound = last(alloc, &mut stack, 1)?;
-                Term::Let(bound, Box::new(alloc, inner)?)
+                let bound = last(rt, alloc, &mut stack, 1);
+                Term::Let(bound, Box::new(alloc, inner).expect(rt, "memory"))
             }
             None => leaf(*sign),
         };
-        stack.push(term)?;
+        stack.push(term).expect(rt, "memory");
     }
-    Ok(stack.pop().unwrap_or(Term::Var(0)))
+    stack.pop().expect(rt, text)
 }
 
 /// The query whose variables have these sorts, `b` for truth values and `i` for integers, and whose body is this.
-pub fn query(alloc: Global, sorts: &str, body: &str) -> Result<Query<IntTheory>, Want> {
+pub fn query(rt: &impl Abort, alloc: Global, sorts: &str, body: &str) -> Query<IntTheory> {
     let mut vars = Seq::new(alloc);
     for sign in sorts.as_bytes() {
-        vars.push(if *sign == b'b' { Sort::Bool } else { Sort::Int })?;
+        vars.push(if *sign == b'b' { Sort::Bool } else { Sort::Int })
+            .expect(rt, "memory");
     }
-    let body = term(alloc, body)?;
-    Ok(Query { vars, body })
+    let body = term(rt, alloc, body);
+    Query { vars, body }
 }
 
 /// The query whether an integer is above each number below this one, and at most this one.
-pub fn deep(alloc: Global, count: u32) -> Result<Query<IntTheory>, Want> {
+pub fn deep(rt: &impl Abort, alloc: Global, count: u32) -> Query<IntTheory> {
     let mut terms = Terms::new(alloc);
     for number in 0..count {
-        terms.push(compared(alloc, Op::Gt, number)?)?;
+        terms
+            .push(compared(rt, alloc, Op::Gt, number))
+            .expect(rt, "memory");
     }
-    terms.push(compared(alloc, Op::Le, count)?)?;
+    terms
+        .push(compared(rt, alloc, Op::Le, count))
+        .expect(rt, "memory");
     let mut vars = Seq::new(alloc);
-    vars.push(Sort::Int)?;
+    vars.push(Sort::Int).expect(rt, "memory");
     let body = Term::App(Op::And, terms);
-    Ok(Query { vars, body })
+    Query { vars, body }
 }
 
 /// The first variable compared with a number.
-fn compared(alloc: Global, operator: Op, number: u32) -> Result<Term<IntTheory>, Want> {
+fn compared(rt: &impl Abort, alloc: Global, operator: Op, number: u32) -> Term<IntTheory> {
     let mut sides = Terms::new(alloc);
-    sides.push(Term::Var(0))?;
-    sides.push(Term::Const(Value::Num(i128::from(number))))?;
-    Ok(Term::App(operator, sides))
+    sides.push(Term::Var(0)).expect(rt, "memory");
+    sides
+        .push(Term::Const(Value::Num(i128::from(number))))
+        .expect(rt, "memory");
+    Term::App(operator, sides)
 }

@@ -1,20 +1,21 @@
 // The tables, row by row.
-use crate::{answers, facts, forms, fractions, trees};
+use crate::{answers, cuts, facts, forms, fractions, trees};
 use std::alloc::Global;
-use sy_terms::Want;
+use std::process::Abort;
 
 /// Whether the row of this table ends with what its other fields give.
-fn is_right(alloc: Global, table: &str, row: &str) -> Result<bool, Want> {
+fn is_right(rt: &impl Abort, alloc: Global, table: &str, row: &str) -> bool {
     let (row, wanted) = row.rsplit_once('|').unwrap_or(("", ""));
     let told = match table {
-        "fractions" => fractions::told(alloc, row)?,
-        "forms" => forms::told(alloc, row)?,
-        "systems" => forms::answer(alloc, row)?,
-        "facts" => facts::told(alloc, row)?,
-        "trees" => trees::told(alloc, row)?,
-        _ => answers::told(alloc, row)?,
+        "fractions" => fractions::told(alloc, row),
+        "forms" => forms::told(rt, alloc, row),
+        "systems" => forms::answer(rt, alloc, row),
+        "facts" => facts::told(rt, alloc, row),
+        "trees" => trees::told(rt, alloc, row),
+        "cuts" => return cuts::is_right(rt, alloc, row, wanted),
+        _ => answers::told(rt, alloc, row),
     };
-    Ok(told.as_str() == wanted)
+    told.expect(rt, "memory").as_str() == wanted
 }
 
 #[test]
@@ -25,14 +26,12 @@ fn rows_are_right(rt: HostRuntime) {
         ("systems", forms::SYSTEMS),
         ("facts", facts::ROWS),
         ("trees", trees::ROWS),
+        ("cuts", cuts::ROWS),
         ("answers", answers::ROWS),
     ] {
         for row in rows.lines() {
-            assert!(rt;
-                matches!(is_right(rt.alloc(), table, row), Ok(true)),
-                "{table}: {row}"
-            );
+            assert!(rt; is_right(&rt, rt.alloc(), table, row), "{table}: {row}");
         }
     }
-    assert!(rt; matches!(forms::are_built(rt.alloc()), Ok(true)));
+    assert!(rt; forms::are_built(&rt, rt.alloc()));
 }

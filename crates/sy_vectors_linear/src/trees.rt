@@ -4,64 +4,70 @@ use crate::fractions::fractions;
 use crate::queries::query;
 use crate::rows::field;
 use std::alloc::Global;
+use std::process::Abort;
 use sy_linear::{CheckEnd, Test, Tree, check_tree};
 use sy_terms::Want;
 
 /// The last tree.
-fn last(alloc: Global, stack: &mut Vec<Tree>) -> Result<Box<Tree>, Want> {
+fn last(rt: &impl Abort, alloc: Global, stack: &mut Vec<Tree>) -> Box<Tree> {
     let tree = stack.pop().unwrap_or(Tree::Unfinished);
-    Ok(Box::new(alloc, tree)?)
+    Box::new(alloc, tree).expect(rt, "memory")
 }
 
 /// A split of the last tree, under whose negated test the query is known false.
-fn split(alloc: Global, test: Test, stack: &mut Vec<Tree>) -> Result<Tree, Want> {
-    let left = last(alloc, stack)?;
-    let right = Box::new(alloc, Tree::Shown)?;
-    Ok(Tree::Split(test, fractions(alloc, "1/2 0")?, left, right))
+fn split(rt: &impl Abort, alloc: Global, test: Test, stack: &mut Vec<Tree>) -> Tree {
+    let left = last(rt, alloc, stack);
+    let right = Box::new(alloc, Tree::Shown).expect(rt, "memory");
+    Tree::Split(test, fractions(rt, alloc, "1/2 0"), left, right)
 }
 
 /// The cut of the last tree by a divisor and multipliers.
-fn cut(alloc: Global, numbers: &str, stack: &mut Vec<Tree>) -> Result<Tree, Want> {
+fn cut(rt: &impl Abort, alloc: Global, numbers: &str, stack: &mut Vec<Tree>) -> Tree {
     let (divisor, multipliers) = numbers.split_once(' ').unwrap_or((numbers, ""));
-    let below = last(alloc, stack)?;
-    let multipliers = fractions(alloc, multipliers)?;
-    let point = fractions(alloc, "1/2 0")?;
-    Ok(Tree::Cut(multipliers, divisor.parse().unwrap_or(0), point, below))
+    let below = last(rt, alloc, stack);
+    let multipliers = fractions(rt, alloc, multipliers);
+    let point = fractions(rt, alloc, "1/2 0");
+    Tree::Cut(multipliers, divisor.parse().unwrap_or(0), point, below)
 }
 
 /// The branch of the last two trees at a variable and a bound.
-fn branch(alloc: Global, numbers: &str, stack: &mut Vec<Tree>) -> Result<Tree, Want> {
+fn branch(rt: &impl Abort, alloc: Global, numbers: &str, stack: &mut Vec<Tree>) -> Tree {
     let (variable, bound) = numbers.split_once(' ').unwrap_or((numbers, ""));
-    let right = last(alloc, stack)?;
-    let left = last(alloc, stack)?;
-    let point = fractions(alloc, "1/2 0")?;
+    let right = last(rt, alloc, stack);
+    let left = last(rt, alloc, stack);
+    let point = fractions(rt, alloc, "1/2 0");
     let (variable, bound) = (variable.parse().unwrap_or(0), bound.parse().unwrap_or(0));
-    Ok(Tree::Branch(variable, bound, point, left, right))
+    Tree::Branch(variable, bound, point, left, right)
 }
 
 /// The tree of this text, its inner nodes after what is below them.
-fn tree(alloc: Global, text: &str) -> Result<Tree, Want> {
+fn tree(rt: &impl Abort, alloc: Global, text: &str) -> Tree {
     let mut stack = Vec::new(alloc);
     for part in text.split(';') {
         let (word, rest) = part.split_once(' ').unwrap_or((part, ""));
         let tree = match word {
             "shown" => Tree::Shown,
-            "farkas" => Tree::Farkas(fractions(alloc, rest)?),
-            "cut" => cut(alloc, rest, &mut stack)?,
-            "branch" => branch(alloc, rest, &mut stack)?,
-            "truth" => split(alloc, Test::Holds(rest.parse().unwrap_or(0)), &mut stack)?,
-            "split" => split(alloc, Test::AtLeast(form(alloc, rest)?), &mut stack)?,
+            "farkas" => Tree::Farkas(fractions(rt, alloc, rest)),
+            "cut" => cut(rt, alloc, rest, &mut stack),
+            "branch" => branch(rt, alloc, rest, &mut stack),
+            "truth" => split(
+                rt,
+                alloc,
+                Test::Holds(rest.parse().unwrap_or(0)),
+                &mut stack,
+            ),
+            "split" => split(rt, alloc, Test::AtLeast(form(rt, alloc, rest)), &mut stack),
             _ => Tree::Unfinished,
         };
-        stack.push(tree)?;
+        stack.push(tree).expect(rt, "memory");
     }
-    Ok(stack.pop().unwrap_or(Tree::Unfinished))
+    stack.pop().unwrap_or(Tree::Unfinished)
 }
 
 /// The checker's answer on the row's tree of its query over an integer and a truth value.
-pub fn told(alloc: Global, row: &str) -> Result<String, Want> {
-    let query = query(alloc, "ib", field(row, 0))?;
-    match check_tree(alloc, &query, &tree(alloc, field(row, 1))?) {
+pub fn told(rt: &impl Abort, alloc: Global, row: &str) -> Result<String, Want> {
+    let query = query(rt, alloc, "ib", field(row, 0));
+    match check_tree(alloc, &query, &tree(rt, alloc, field(row, 1))) {
         Ok(true) => String::from_str(alloc, "true"),
         Ok(false) => String::from_str(alloc, "false"),
         Err(CheckEnd::Range(at)) => format!(in alloc; "range {at}"),

@@ -6,4 +6,4 @@ use Rattle.sy_loop_candidate.specs.Known.{IsKnown}
 use Rattle.sy_loop_tests.proofs.candidates.is_right.Given as goal
 
 abbrev pub invariant-loop-sign : goal.invariant-loop-sign
-invariant-loop-sign l = IsKnown Beyond (question_of Whole l.problem) l.limits (history_of Whole l.known.stored) l.known.points
+invariant-loop-sign g l = IsKnown Beyond (question_of Whole l.problem) l.limits (history_of Whole l.known.stored) l.known.points

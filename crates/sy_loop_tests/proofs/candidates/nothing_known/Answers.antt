@@ -7,6 +7,6 @@ use Rattle.sy_loop_tests.proofs.Trying.{nothing-known}
 use Rattle.sy_loop_tests.proofs.candidates.nothing_known.Goals as goal
 
 pub returns : goal.returns
-returns c =
-    nothing-known Bool (question_of Whole c.args.problem.now) c.args.limits.now _ c.in_ok-points.points c.requires (ap (map (counterexample_of Whole)) c.new-stored.ensures)
-    c.in_ok-points.ensures.tuples c.in_ok-points.ensures.limit
+returns g c =
+    nothing-known Bool (question_of Whole c.args.problem.now) c.args.limits.now _ c.expect-points.result c.requires (ap (map (counterexample_of Whole)) c.new-stored.ensures)
+    (rw c.expect-points.ensures at c.new.ensures.tuples) (rw c.expect-points.ensures at c.new.ensures.limit)

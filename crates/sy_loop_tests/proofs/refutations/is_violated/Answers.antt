@@ -5,16 +5,16 @@ use Rattle.sy_loop_tests.proofs.Refuting.{no-bodies, no-rows, no-functions, no-t
 use Rattle.sy_loop_tests.proofs.refutations.is_violated.Goals as goal
 
 pub are_refuted-requires-clause-bodies : goal.are_refuted-requires-clause-bodies
-are_refuted-requires-clause-bodies c = no-bodies c.in_ok-problem.problem c.as_slice.result.now (c.as_slice.ensures.value ∙ c.new-chosen.ensures.items) c.in_ok-problem.ensures.nothing.1
+are_refuted-requires-clause-bodies g c = no-bodies c.posed-problem.result c.as_slice.result.now (c.as_slice.ensures.value ∙ c.new-chosen.ensures.items) c.posed-problem.ensures.nothing.1
 
 pub are_refuted-requires-clause-rows : goal.are_refuted-requires-clause-rows
-are_refuted-requires-clause-rows c = no-rows c.in_ok-problem.problem.defs c.in_ok-points.points c.as_slice.result.now (c.as_slice.ensures.value ∙ c.new-chosen.ensures.items)
+are_refuted-requires-clause-rows g c = no-rows c.posed-problem.result.defs c.expect-points.result c.as_slice.result.now (c.as_slice.ensures.value ∙ c.new-chosen.ensures.items)
 
 pub are_refuted-requires-clause-functions : goal.are_refuted-requires-clause-functions
-are_refuted-requires-clause-functions c = no-functions c.in_ok-problem.problem c.in_ok-points.points c.in_ok-points.ensures.tuples c.in_ok-problem.ensures.nothing.1
+are_refuted-requires-clause-functions g c = no-functions c.posed-problem.result c.expect-points.result (rw c.expect-points.ensures at c.new.ensures.tuples) c.posed-problem.ensures.nothing.1
 
 pub are_refuted-requires-clause-taken : goal.are_refuted-requires-clause-taken
-are_refuted-requires-clause-taken c = no-tuples (question_of Whole c.in_ok-problem.problem) c.in_ok-points.points c.in_ok-points.ensures.tuples
+are_refuted-requires-clause-taken g c = no-tuples (question_of Whole c.posed-problem.result) c.expect-points.result (rw c.expect-points.ensures at c.new.ensures.tuples)
 
 pub are_refuted-requires-clause-stored : goal.are_refuted-requires-clause-stored
-are_refuted-requires-clause-stored c = assigned-fit Whole (question_of Whole c.in_ok-problem.problem) c.in_ok-stored.stored.items c.in_ok-problem.ensures.nothing.0 c.in_ok-stored.ensures
+are_refuted-requires-clause-stored g c = assigned-fit Whole (question_of Whole c.posed-problem.result) c.assigned-stored.result.items c.posed-problem.ensures.nothing.0 c.assigned-stored.ensures
