@@ -1,6 +1,6 @@
 // Reading the words, and the file that they name.
 ghost use Rattle.std.specs.Prelude.{ℕ, ◌≡◌, map, string_bytes, IfOk, IfErr};
-ghost use Rattle.sygus_input.specs.Inputs.{AskDrill, IsInput, HasNoInput, IsFileOf, HasNoFile};
+ghost use Rattle.sygus_input.specs.Inputs.{AskDrill, HaveNoReading, IsInput, HasNoInput, IsFileOf, HasNoFile};
 ghost use Rattle.sy_query_limits.specs.declared.Limits.{Limits};
 
 use crate::input::{Input, InputFault};
@@ -11,7 +11,8 @@ use sygus_words::{Mode, Settings, WordFault, read_words};
 /// The most bytes that a file may have.
 const LONGEST: usize = 4194304;
 
-/// What the words ask for, with the file under their name. In mode `drill`, in which no file is read, the source isn't used.
+/// What the words ask for, with the file under their name. In mode `drill`, in which no file is read, the source isn't used,
+/// nor is it where the words are refused.
 pub fn read_input<S: Source>(
     alloc: Global,
     words: &[String],
@@ -20,6 +21,7 @@ pub fn read_input<S: Source>(
     ensures ok { IfOk result (IsInput (map string_bytes words.now) (S.held source.old)) }
     ensures fault { IfErr result (HasNoInput (map string_bytes words.now) (S.held source.old) (S.faults source.old) (S.faults source.new)) }
     ensures unread { (number : ℕ) (limits : Limits) → AskDrill (map string_bytes words.now) number limits → source.new ≡ source.old }
+    ensures unasked { HaveNoReading (map string_bytes words.now) → source.new ≡ source.old }
 {
     let settings = match read_words(alloc, words) {
         Ok(settings) => settings,

@@ -124,6 +124,7 @@ module _ (number : ℕ) (problems : List (Problem BvTheory Word)) (asked : IsPro
       record {
         wish = asked.wish;
         reads = asked.reads;
+        logic = asked.asks.logic;
         right = rw (alone, answered.one) (right_alone limits question answered.answer answered.right);
         reply = reply_of vectors.vector bits.budget answered.answer;
         one = ap (map (reply_of vectors.vector bits.budget)) answered.one;
@@ -174,6 +175,7 @@ ends_idle number limits status answers out out' err err' six idle same =
       answered = λ small. absurd (omega (arith, least, small));
       silent = λ small. absurd (omega (arith, least, small));
       cut_off = λ is. inl (idle, same);
+      memory = λ is. (idle, same);
     }
 
 -- with its answer
@@ -184,10 +186,12 @@ ends_drilled number limits status answers out out' err err' (inl small) answered
   answered = answered;
   silent = λ is. same;
   cut_off = λ is. inr (cut_off is);
+  memory = λ is. absurd (omega (arith, small, is));
 }
 ends_drilled number limits status answers out out' err err' (inr five) answered cut_off same = record {
   only = inr (omega (arith, five));
   answered = answered;
   silent = λ is. same;
   cut_off = λ is. inr (cut_off is);
+  memory = λ is. absurd (omega (arith, five, is));
 }

@@ -41,6 +41,7 @@ module _ (words : List (List ℕ)) (held : Option Holding) (settings : Settings)
     settings = settings;
     wish = at.wish;
     posed = poses at.wish at.reads;
+    logic = at.logic;
     right = at.right;
     every = at.written.every;
     replied = at.written.replied;
@@ -52,6 +53,7 @@ module _ (words : List (List ℕ)) (held : Option Holding) (settings : Settings)
     settings = settings;
     wish = at.wish;
     posed = poses at.wish at.reads;
+    logic = at.logic;
     right = at.right;
     written = at.written;
   }

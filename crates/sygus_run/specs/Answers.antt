@@ -1,6 +1,8 @@
 -- The answers of a run over either theory: their replies, when they are right, and which fails may be among them.
-use Rattle.std.specs.Prelude.{Bool, true, false, ◌≡◌, List, [], map, All, ⊤}
+use Rattle.std.specs.Prelude.{Bool, true, false, ◌≡◌, List, [], map, All, ⊤, Option, Some, None}
 use Rattle.sy_terms.specs.Values.{Whole}
+use Rattle.sy_terms.specs.declared.sort.Logic.{Logic}
+use Rattle.sy_terms.specs.declared.sort.Logic.TheVariants.{Lia, Bv}
 use Rattle.sy_meaning_integers.specs.Lia as lia
 use Rattle.sy_meaning_words.specs.Vectors as vectors
 use Rattle.sy_grammar_base.specs.Questions.{Question}
@@ -30,6 +32,12 @@ AreRightAnswers mode limits questions (Ints outcomes) =
     AreRight (RightOutcome lia.owned Whole int_proofs.Accepted int_budgets.budget int_proofs.ShowsFor mode limits) questions outcomes
 AreRightAnswers mode limits questions (Bits outcomes) =
     AreRight (RightOutcome vectors.owned vectors.vector bits.Accepted bits.budget bits.Shows mode limits) questions outcomes
+
+-- they are over the theory of the file's logic; where no logic was set, there are none
+abbrev pub AreOfLogic : Option Logic → Answers → Type 0
+AreOfLogic logic Idle = logic ≡ None
+AreOfLogic logic (Ints outcomes) = logic ≡ Some Lia
+AreOfLogic logic (Bits outcomes) = logic ≡ Some Bv
 
 -- the budgets of queries over integers, and that of queries over bit vectors
 abbrev pub is_of_integers : FailName → Bool

@@ -17,7 +17,7 @@ use Rattle.sygus_words.specs.declared.settings.Mode.TheVariants.{Drill}
 use Rattle.sygus_answers.specs.Drills.{drill_end}
 use Rattle.sygus_run.specs.declared.answers.Answers.{Answers}
 use Rattle.sygus_run.specs.declared.answers.Answers.TheVariants.{Idle}
-use Rattle.sygus_run.specs.Answers.{replies_of, AreRightAnswers}
+use Rattle.sygus_run.specs.Answers.{replies_of, AreRightAnswers, AreOfLogic}
 
 -- the number's file is in the profile, and what it asks are these problems
 pub record IsProblemOf {T : Type 0} (number : ℕ) (problems : List (Problem T Word)) : Type 0 where
@@ -31,6 +31,7 @@ pub record IsProblemOf {T : Type 0} (number : ℕ) (problems : List (Problem T W
 pub record Drilled (number : ℕ) (limits : Limits) (answers : Answers) (Written : List ℕ → Type 0) : Type 0 where
   pub wish : Wish
   pub reads : wished (file_read (drill_file number)) ≡ Ok wish
+  pub logic : AreOfLogic wish.logic answers
   pub right : AreRightAnswers (Drill number) limits wish.questions answers
   pub reply : Reply
   pub one : replies_of answers ≡ reply ∷ []
@@ -41,9 +42,11 @@ abbrev pub IsDrillCutOff : ℕ → Limits → Answers → Option (List ℕ) → 
 IsDrillCutOff number limits answers out out' = ((answers ≡ Idle) × (out' ≡ out))
     ⊎ Drilled number limits answers (λ line. (count : ℕ) × Appends out out' (take count line))
 
--- no file is refused or can't be read; at 0 and 1 the line is written, and nothing to the error output
+-- no file is refused or can't be read; at 0 and 1 the line is written, and nothing to the error output; at 6 nothing is
+-- answered
 pub record EndsDrill (number : ℕ) (limits : Limits) (status : ℕ) (answers : Answers) (out out' err err' : Option (List ℕ)) : Type 0 where
   pub only : (status ≤ 1) ⊎ (5 ≤ status)
   pub answered : status ≤ 1 → Drilled number limits answers (Appends out out')
   pub silent : status ≤ 1 → err' ≡ err
   pub cut_off : status ≡ 5 → IsDrillCutOff number limits answers out out'
+  pub memory : status ≡ 6 → (answers ≡ Idle) × (out' ≡ out)

@@ -10,12 +10,13 @@ use Rattle.sygus_replies.specs.Texts.{texts, answer_lines}
 use Rattle.sygus_replies.specs.Answered.{WritesMost}
 use Rattle.sygus_run.specs.declared.answers.Answers.{Answers}
 use Rattle.sygus_run.specs.declared.answers.Answers.TheVariants.{Idle}
-use Rattle.sygus_run.specs.Answers.{replies_of, AreRightAnswers}
+use Rattle.sygus_run.specs.Answers.{replies_of, AreRightAnswers, AreOfLogic}
 
 -- the file is in the profile, the answers so far are right, and this was written of what it asks for
 pub record AnswersFile (settings : Settings) (file : List ℕ) (answers : Answers) (Written : Wish → Type 0) : Type 0 where
   pub wish : Wish
   pub reads : wished (file_read file) ≡ Ok wish
+  pub logic : AreOfLogic wish.logic answers
   pub right : AreRightAnswers settings.mode settings.limits wish.questions answers
   pub written : Written wish
 

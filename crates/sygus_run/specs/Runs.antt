@@ -14,7 +14,7 @@ use Rattle.sygus_replies.specs.Texts.{texts, answer_lines, words_line, read_line
 use Rattle.sygus_replies.specs.Answered.{WritesMost}
 use Rattle.sygus_run.specs.declared.answers.Answers.{Answers}
 use Rattle.sygus_run.specs.declared.answers.Answers.TheVariants.{Idle}
-use Rattle.sygus_run.specs.Answers.{replies_of, AreRightAnswers}
+use Rattle.sygus_run.specs.Answers.{replies_of, AreRightAnswers, AreOfLogic}
 
 -- the file of these words is in the profile, and this is what it asks for
 pub record PosesFile (words : List (List ℕ)) (held : Option Holding) (settings : Settings) (wish : Wish) : Type 0 where
@@ -28,6 +28,7 @@ pub record Answered (words : List (List ℕ)) (held : Option Holding) (answers :
   pub settings : Settings
   pub wish : Wish
   pub posed : PosesFile words held settings wish
+  pub logic : AreOfLogic wish.logic answers
   pub right : AreRightAnswers settings.mode settings.limits wish.questions answers
   pub every : length (replies_of answers) ≡ length wish.questions
   pub replied : Appends out out' (texts wish.titles wish.questions (replies_of answers))
@@ -46,6 +47,7 @@ pub record Midway (words : List (List ℕ)) (held : Option Holding) (answers : A
   pub settings : Settings
   pub wish : Wish
   pub posed : PosesFile words held settings wish
+  pub logic : AreOfLogic wish.logic answers
   pub right : AreRightAnswers settings.mode settings.limits wish.questions answers
   pub written : Written wish
 

@@ -15,7 +15,7 @@ use sygus_replies::last;
 /// The answers to the problems of a file, in order.
 #[derive(Drop)]
 pub enum Answers {
-    /// There was no problem to answer.
+    /// Nothing was answered: no logic was set, or the run ended before that.
     Idle,
     /// An outcome for each `check-synth` over integers.
     Ints(Seq<Outcome<IntTheory, Tree, IntSpent>>),
@@ -26,7 +26,9 @@ pub enum Answers {
 /// How a run ended: the status of the program, and the answers.
 #[derive(Drop)]
 pub struct Ended {
+    /// From 0 to 6, as `run` says.
     pub status: u8,
+    /// Those to the first problems, in order: to all of them at 0 and 1, and to none at 2, 3 and 4.
     pub answers: Answers,
 }
 

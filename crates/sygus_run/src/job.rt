@@ -8,7 +8,7 @@ ghost use Rattle.sy_scope.specs.Read.{wish_in};
 ghost use Rattle.sygus_replies.specs.Answered.{WritesMost};
 ghost use Rattle.sygus_replies.specs.Replies.{IsSettled, IsFail};
 ghost use Rattle.sygus_replies.specs.Texts.{texts, answer_lines, memory_line};
-ghost use Rattle.sygus_run.specs.Answers.{replies_of, AreRightAnswers, AreNamedFor};
+ghost use Rattle.sygus_run.specs.Answers.{replies_of, AreRightAnswers, AreOfLogic, AreNamedFor};
 
 use crate::answers::{Answers, Ended};
 use std::alloc::Global;
@@ -33,6 +33,7 @@ pub(crate) fn answer<O: Sink, E: Sink>(
     requires titled { All (IsTitled (wish_in job).titles) (wish_in job).questions }
     requires fit { JobFits job }
     ensures status { (result.status ≤ 1) ⊎ ((result.status ≡ 5) ⊎ (result.status ≡ 6)) }
+    ensures logic { AreOfLogic (wish_in job).logic result.answers }
     ensures right { AreRightAnswers mode limits.now (wish_in job).questions result.answers }
     ensures named { AreNamedFor result.answers }
 

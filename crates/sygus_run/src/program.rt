@@ -20,6 +20,9 @@ use sygus_input::{Input, InputFault, read_input};
 /// Reads the words, then the input, checks the whole file, and answers its problems in order.
 /// Each reply goes out before the next problem is sought. In mode `drill` the file is made from a number, and one line
 /// goes out in place of a reply.
+///
+/// The status is 0 where no answer is a fail and 1 where some is, 2 where the file is refused, 3 where the words are, 4 where
+/// a read failed, 5 where a write did, and 6 where memory was wanted. At 5 and 6 the answers are those so far.
 pub fn run<S: Source, O: Sink, E: Sink>(
     alloc: Global,
     words: &[String],
@@ -48,7 +51,8 @@ pub fn run<S: Source, O: Sink, E: Sink>(
     ensures refused { result.status ≡ 2 → FileIsRefused (map string_bytes words.now) (S.held source.old)
         (E.written err.old) (E.written err.new) }
 
-    // 3: the words are refused
+    // 3: the words are refused; the source isn't used then
+    ensures unasked { HaveNoReading (map string_bytes words.now) → source.new ≡ source.old }
     ensures words { result.status ≡ 3 → HaveNoReading (map string_bytes words.now) }
     ensures words_line { result.status ≡ 3 → Appends (E.written err.old) (E.written err.new) words_line }
 

@@ -13,6 +13,9 @@ pub returns-in-Ok-read_named-clause-unread : goal.returns-in-Ok-read_named-claus
 returns-in-Ok-read_named-clause-unread g c number limits asked =
     absurd (asks_none _ c.in-Ok.settings c.in-Ok.ensures.ok c.in_default.not-Drill number limits asked)
 
+pub returns-in-Ok-read_named-clause-unasked : goal.returns-in-Ok-read_named-clause-unasked
+returns-in-Ok-read_named-clause-unasked g c none = absurd (none c.in-Ok.settings c.in-Ok.ensures.ok)
+
 pub returns-in-Err-clause-fault : goal.returns-in-Err-clause-fault
 returns-in-Err-clause-fault g c =
     let none = asks_none _ c.in-Ok.settings c.in-Ok.ensures.ok c.in_default.not-Drill in
@@ -21,3 +24,6 @@ returns-in-Err-clause-fault g c =
 pub returns-in-Err-clause-unread : goal.returns-in-Err-clause-unread
 returns-in-Err-clause-unread g c number limits asked =
     absurd (asks_none _ c.in-Ok.settings c.in-Ok.ensures.ok c.in_default.not-Drill number limits asked)
+
+pub returns-in-Err-clause-unasked : goal.returns-in-Err-clause-unasked
+returns-in-Err-clause-unasked g c none = absurd (none c.in-Ok.settings c.in-Ok.ensures.ok)

@@ -14,6 +14,7 @@ pub returns-in-Ok-clause-answered : goal.returns-in-Ok-clause-answered
 returns-in-Ok-clause-answered g c small = record {
   wish = wish_in c.in-Ok.job;
   reads = c.in-Ok.ensures.read;
+  logic = c.answer.ensures.logic;
   right = c.answer.ensures.right;
   written = record {
     every = c.answer.ensures.every small;
@@ -26,6 +27,7 @@ pub returns-in-Ok-clause-cut_off : goal.returns-in-Ok-clause-cut_off
 returns-in-Ok-clause-cut_off g c is = inr (record {
   wish = wish_in c.in-Ok.job;
   reads = c.in-Ok.ensures.read;
+  logic = c.answer.ensures.logic;
   right = c.answer.ensures.right;
   written = c.answer.ensures.cut_off is;
 })
@@ -34,6 +36,7 @@ pub returns-in-Ok-clause-memory : goal.returns-in-Ok-clause-memory
 returns-in-Ok-clause-memory g c is = inr (record {
   wish = wish_in c.in-Ok.job;
   reads = c.in-Ok.ensures.read;
+  logic = c.answer.ensures.logic;
   right = c.answer.ensures.right;
   written = c.answer.ensures.memory is;
 })
