@@ -11,6 +11,7 @@ TOP = pathlib.Path(__file__).resolve().parent.parent.parent
 sys.path.insert(0, str(TOP / "bench"))
 import answers
 import drill
+import functions
 from runs import Run
 
 # What a script is for is said in the lines at its head; these have no words of their own.
@@ -70,6 +71,38 @@ RUNS = [
     ((-11, "", ""), False),
     ((None, "", ""), False),
 ]
+# Names of files that rattle writes, and the crate, the function and the column to which bench/functions.py counts them.
+FILES = [
+    ("Rattle-sy_a-proofs.m.f.Lts.oantt", ("sy_a", "m.f", "walk")),
+    ("Rattle-sy_a-proofs.m.f.Lts.View.oantt", ("sy_a", "m.f", "walk")),
+    ("Rattle-sy_a-proofs.m.+f.Lts-g.Given.oantt", ("sy_a", "m.+f", "walk")),
+    ("Rattle-sy_a-proofs.m.T.f.Named.oantt", ("sy_a", "m.T.f", "unanswered")),
+    ("Rattle-sy_a-proofs.m.Code.f.Answers.oantt", ("sy_a", "m.Code.f", "answered")),
+    ("Rattle-sy_a-proofs.m.fn.f.all+FnMut.call_mut.Met.oantt", ("sy_a", "m.fn.f.all+FnMut.call_mut", "joints")),
+    ("Rattle-sy_a-proofs.+sy_b-m-drop.Code.+sy_b++m++T+Destruct-drop.oantt", ("sy_a", "+sy_b-m-drop", "others")),
+    ("Rattle-sy_a-proofs.m.f.Kinds-2-0.oantt", ("sy_a", "m.f", "others")),
+    ("Rattle-sy_a-proofs.m.TheLinks.sy_a-m-f.oantt", ("sy_a", "", "others")),
+    ("Rattle-sy_a-specs.contracts.m.f.oantt", ("sy_a", "", "others")),
+    ("Rattle-sy_a.below.sy_b.proofs.m.f.Met.oantt", ("sy_a", "", "others")),
+    ("Rattle-sy_a-proofs.oantt", ("sy_a", "", "others")),
+]
+# Listings, each with its moment: a folder that was left behind, a check that goes on, and a later one of the same number.
+LISTINGS = [
+    (100, {"left": {"Rattle-sy_a-proofs.m.f.Lts.oantt": 20}, "7": {"Rattle-sy_a-specs.oantt": 60, "Rattle-sy_a-proofs.m.f.Lts.oantt": 70}}),
+    (104, {"left": {"Rattle-sy_a-proofs.m.f.Lts.oantt": 20}, "7": {"Rattle-sy_a-specs.oantt": 60, "Rattle-sy_a-proofs.m.f.Lts.oantt": 70, "Rattle-sy_a-proofs.m.g.Proof.oantt": 102}}),
+    (108, {}),
+    (112, {"7": {"Rattle-sy_a-proofs.m.f.Code.oantt": 109, "Rattle-sy_a-proofs.m.f.Tie.oantt": 111.5, "Rattle-sy_a-proofs.m.f.Met.oantt": 112, "Rattle-sy_a-proofs.m.f.Proof.oantt": 112}}),
+    (160, {"7": {}}),
+    (163, {}),
+]
+# What is printed of them.
+LISTED = """
+seconds                           sum       walk unanswered   answered     joints     others   checks
+sy_a  m.g                        32.0        0.0       32.0        0.0        0.0        0.0        1
+sy_a  m.f                        13.0       10.0        0.5        0.0        2.5        0.0        2
+2 functions                      45.0       10.0       32.5        0.0        2.5        0.0
+what belongs to none              0.0        0.0        0.0        0.0        0.0        0.0
+"""
 
 
 def loaded(path):
@@ -139,6 +172,17 @@ def fuzzed():
     yield "fuzz: files", all(fuzz.file_of(pool, 1, number) == fuzz.file_of(pool, 1, number) for number in range(50))
 
 
+def dearest():
+    """Which functions bench/functions.py finds dear by listings of files."""
+    for name, wanted in FILES:
+        yield f"functions: {name}", functions.part_of(name) == wanted
+    watch = functions.Watch(100, 50)
+    yield "functions: the end", [watch.look(folders, now) for now, folders in LISTINGS] == [True] * 5 + [False]
+    yield "functions: the table", functions.table(watch.checks, 40) == LISTED.strip().splitlines()
+    yield "functions: the dearest alone", functions.table(watch.checks, 1) == [it for it in LISTED.strip().splitlines() if "m.f" not in it]
+    yield "functions: no check", [it.split()[-1] for it in functions.table([], 40)] == ["checks", "0.0", "0.0"]
+
+
 def tests():
     yield from helps()
     yield from measured()
@@ -146,3 +190,4 @@ def tests():
     yield from checks()
     yield from drilled()
     yield from fuzzed()
+    yield from dearest()
