@@ -1,4 +1,4 @@
-"""Tests of ./sygus and tools/install: three crates without code, of which the last is the program, are built by an `rt` that does nothing."""
+"""Tests of ./sygus and tools/install: three crates without code, of which the last is the program, are built by an `rt` that proves nothing."""
 import os
 import pathlib
 import shutil
@@ -10,15 +10,18 @@ import time
 TOP = pathlib.Path(__file__).resolve().parent.parent.parent
 CRATES = {"sy_low": [], "sy_high": ["sy_low"], "sygus": ["sy_low", "sy_high"]}
 PROGRAM = "#!/bin/sh\necho \"$*\"\n[ $# -ne 2 ] || exit 7\n"
-# Notes when it begins and ends, takes as long as LASTS says, and fails at the crate that FAILS names.
+# `rt ci`: notes when each crate of the folder begins and ends, takes as long as LASTS says, and fails at the one that FAILS names.
 RT = """#!/bin/sh
-name=${PWD##*/}
-echo "begin $name" >>"$NOTES"
-sleep "$LASTS"
-echo "end $name" >>"$NOTES"
-[ "$name" != "$FAILS" ] || exit 1
-mkdir -p out
-[ "$1" = lib ] || { cp "$NOTES.program" out/sygus; exit 3; }
+[ "$*" = ci ] && [ -d .git ] && [ -f HANDLES ] || exit 9
+while IFS=: read -r name below; do
+    echo "begin $name" >>"$NOTES"
+    sleep "$LASTS"
+    echo "end $name" >>"$NOTES"
+    [ -d "crates/$name/src" ] && [ "$name" != "$FAILS" ] || { echo "rt: $name NOT PROVED"; exit 1; }
+    echo "rt: $name proved"
+done <crates.txt
+mkdir -p crates/sygus/out
+cp "$NOTES.program" crates/sygus/out/sygus
 """
 
 
@@ -26,12 +29,13 @@ class Room:
     """A folder with ./sygus, its crates, and an `rt`."""
 
     def __init__(self, folder):
-        self.top, self.notes = folder / "repository", folder / "notes"
+        self.top, self.notes, self.scratch = folder / "repository", folder / "notes", folder / "scratch"
+        self.scratch.mkdir()
         for name in CRATES:
             (self.top / "crates" / name / "src").mkdir(parents=True)
             (self.top / "crates" / name / "src" / "lib.rt").write_text("")
-        (self.top / "crates.txt").write_text("".join(f"{name}: {' '.join(below)}\n" for name, below in CRATES.items()))
-        for name in ("sygus", "tools/install", "docs/sygus.1"):
+        (self.top / "crates.txt").write_text("".join(f"{name}: {' '.join(below)}\n" for name, below in [*CRATES.items(), ("bench", ["sy_low"])]))
+        for name in ("sygus", "HANDLES", "tools/install", "docs/sygus.1"):
             (self.top / name).parent.mkdir(exist_ok=True)
             shutil.copy(TOP / name, self.top / name)
         for path, text in [(folder / "rt", RT), (folder / "notes.program", PROGRAM)]:
@@ -41,7 +45,8 @@ class Room:
 
     def words(self, lasts=0.0, fails=""):
         """The environment of ./sygus."""
-        return {**os.environ, "PATH": f"{self.folder}:{os.environ['PATH']}", "NOTES": str(self.notes), "LASTS": str(lasts), "FAILS": fails}
+        own = {"NOTES": str(self.notes), "LASTS": str(lasts), "FAILS": fails, "TMPDIR": str(self.scratch)}
+        return {**os.environ, **own, "PATH": f"{self.folder}:{os.environ['PATH']}"}
 
     def begin(self, lasts=0.0, fails=""):
         """Starts ./sygus, as a shell with a terminal does."""
@@ -128,4 +133,4 @@ def tests():
         yield from is_cut_off(room)
         yield from is_alone(room)
         yield from installs(room)
-        yield "./sygus: leaves no room", not list((room.top / "crates" / "sygus" / "out" / "build" / "rooms").iterdir())
+        yield "./sygus: leaves no room", not list(room.scratch.iterdir())
