@@ -3,6 +3,9 @@
 # make, which goes when they end. Times are user times.
 set -eu
 cd "$(dirname "${BASH_SOURCE[0]}")/.."
+top=$PWD
+# shellcheck source=tools/build.sh
+. tools/build.sh
 scratch=$(mktemp -d)
 trap 'rm -rf "$scratch"' EXIT
 TIMEFORMAT='%U'
@@ -13,15 +16,8 @@ plain() {
 }
 
 # Proves and builds the program of crates/NAME, where that wasn't done, and sets `program`.
-build() {
-    local status=0
-    (cd "crates/$1" && rt run) >"$scratch/built" 2>&1 </dev/null || status=$?
-    # without words the program itself ends with status 3
-    if [ "$status" -ne 3 ]; then
-        cat "$scratch/built" >&2
-        echo "$1 couldn't be built" >&2
-        exit 1
-    fi
+use_program() {
+    build "$1" || exit 1
     program=crates/$1/out/$1
 }
 

@@ -8,7 +8,7 @@ for file in "$@"; do
     files+=("$(realpath -- "$file")")
 done
 . "$(dirname "$0")/measure.sh"
-build bench
+use_program bench
 [ $# -gt 0 ] || files=(bench/problems/int_*.sl)
 for file in "${files[@]}"; do
     printf '%s: %s\n' "$(basename "$file" .sl)" "$(ulimit -t 20; "$program" queries "$file" 20000 || echo 'no end')"

@@ -3,7 +3,7 @@
 # time of five runs each. Its words, where it has some, are the numbers of variables and of constraints. Without words the
 # worst files follow, by worst.py, whose status is that of the script.
 . "$(dirname "$0")/measure.sh"
-build bench
+use_program bench
 variables=${1:-4000} constraints=${2:-100000}
 # each constraint is an equation of two of the variables
 awk -v variables="$variables" -v constraints="$constraints" 'BEGIN {

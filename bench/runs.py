@@ -53,10 +53,8 @@ def sygus(given):
 
 def measured(name):
     """The program of measurements of this name, which is proved and built before where it has to be."""
-    ended = subprocess.run(["rt", "run"], cwd=f"{TOP}/crates/{name}", stdin=subprocess.DEVNULL, capture_output=True, text=True)
-    # without words the program itself ends with status 3
-    if ended.returncode != 3:
-        sys.exit(f"{name} couldn't be built:\n{ended.stdout}{ended.stderr}")
+    if subprocess.run(["sh", "-c", 'top=$1 && . "$top/tools/build.sh" && build "$2"', "sh", TOP, name], stdin=subprocess.DEVNULL).returncode:
+        sys.exit(1)
     return f"{TOP}/crates/{name}/out/{name}"
 
 

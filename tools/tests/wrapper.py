@@ -1,4 +1,4 @@
-"""Tests of ./sygus and tools/install: three crates without code, of which the last is the program, are built by an `rt` that proves nothing."""
+"""Tests of ./sygus, by tools/build.sh, and of tools/install: three crates without code, of which the last is the program, are built by an `rt` that proves nothing."""
 import os
 import pathlib
 import shutil
@@ -35,7 +35,7 @@ class Room:
             (self.top / "crates" / name / "src").mkdir(parents=True)
             (self.top / "crates" / name / "src" / "lib.rt").write_text("")
         (self.top / "crates.txt").write_text("".join(f"{name}: {' '.join(below)}\n" for name, below in [*CRATES.items(), ("bench", ["sy_low"])]))
-        for name in ("sygus", "HANDLES", "tools/install", "docs/sygus.1"):
+        for name in ("sygus", "HANDLES", "tools/build.sh", "tools/install", "docs/sygus.1"):
             (self.top / name).parent.mkdir(exist_ok=True)
             shutil.copy(TOP / name, self.top / name)
         for path, text in [(folder / "rt", RT), (folder / "notes.program", PROGRAM)]:
