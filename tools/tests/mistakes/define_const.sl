@@ -1,0 +1,2 @@
+(set-logic LIA)
+(define-const c Int 5)

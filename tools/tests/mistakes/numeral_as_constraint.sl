@@ -1,0 +1,4 @@
+(set-logic LIA)
+(synth-fun f ((x Int)) Int)
+(constraint 5)
+(check-synth)

@@ -1,0 +1,6 @@
+(set-logic BV)
+(synth-fun f ((x (_ BitVec 32))) (_ BitVec 32)
+  ((S (_ BitVec 32))) ((S (_ BitVec 32) (x #x01 (bvadd S S)))))
+(declare-var x (_ BitVec 32))
+(constraint (= (f x) (bvadd x #x00000001)))
+(check-synth)

@@ -1,0 +1,2 @@
+(set-logic LIA)
+(synth-inv i ((x Int)) Bool)

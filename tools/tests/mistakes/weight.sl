@@ -1,0 +1,2 @@
+(set-logic LIA)
+(declare-weight w)
