@@ -5,19 +5,19 @@
 # Its words, where it has some, are the number of nodes of the query, that of facts and the depth of the tree.
 . "$(dirname "$0")/measure.sh"
 use_program bench
-row() {
+timed() {
     printf 'query of %s nodes, %s facts, tree of depth %s: %s s\n' "$1" "$2" "$3" "$(measure "$program" trees "$@")"
 }
 if [ $# -gt 0 ]; then
-    row "$@"
+    timed "$@"
 else
     for nodes in 0 5000 10000; do
-        row "$nodes" 100 0
+        timed "$nodes" 100 0
     done
-    row 10000 200 0
+    timed 10000 200 0
     for depth in 10 11 12; do
-        row 0 100 "$depth"
+        timed 0 100 "$depth"
     done
-    row 0 50 11
-    row 0 200 11
+    timed 0 50 11
+    timed 0 200 11
 fi
