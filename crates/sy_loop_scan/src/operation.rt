@@ -48,6 +48,7 @@ impl Operation {
             None => first,
         };
         let pool = pools.get(first)?;
+        let seconds = pools.get(second)?.sizes.len();
         Some(Operation {
             way,
             operator: shape.operator,
@@ -55,7 +56,7 @@ impl Operation {
             first,
             firsts: pool.sizes.len(),
             second,
-            seconds: pools.get(second)?.sizes.len(),
+            seconds,
         })
     }
 
