@@ -7,9 +7,9 @@ ghost use Rattle.sy_clauses.specs.New.{IsUnit};
 ghost use Rattle.sy_cdcl.specs.Status.{IsConflict};
 ghost use Rattle.sy_cdcl.specs.Conflicts.{SomeFalsified, NoneFalsified, IsLearned, OpenAtLevels, value_below, IsTakenBack, LastFits};
 
-use crate::order::Order;
 use crate::trail::{Entry, Trail};
 use std::alloc::{AllocError, Global};
+use sy_cdcl_order::Order;
 use sy_clauses::{Cnf, Line, Lit, Marks, Step, advance, clause_at};
 use sy_seq::{Seq, Want};
 
