@@ -30,7 +30,8 @@ pub fn any_falsifies(trail: &Trail, start: usize, end: usize, marks: &Marks) -> 
     let mut place = end;
     while place > start {
         place -= 1;
-        if falsifies(trail.entries[place], marks) {
+        let entry = trail.entry_at(place);
+        if falsifies(entry, marks) {
             return true;
         }
     }
