@@ -1,5 +1,6 @@
 pub mod Back
 pub mod Ends
+pub mod Falsified
 pub mod Growth
 pub mod Learning
 pub mod Levels

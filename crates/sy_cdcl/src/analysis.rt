@@ -7,9 +7,9 @@ ghost use Rattle.sy_clauses.specs.New.{IsUnit};
 ghost use Rattle.sy_cdcl.specs.Status.{IsConflict};
 ghost use Rattle.sy_cdcl.specs.Conflicts.{SomeFalsified, NoneFalsified, IsLearned, OpenAtLevels, value_below, IsTakenBack, LastFits};
 
-use crate::order::Order;
 use crate::trail::{Entry, Trail};
 use std::alloc::{AllocError, Global};
+use sy_cdcl_order::Order;
 use sy_clauses::{Cnf, Line, Lit, Marks, Step, advance, clause_at};
 use sy_seq::{Seq, Want};
 
@@ -30,7 +30,8 @@ pub fn any_falsifies(trail: &Trail, start: usize, end: usize, marks: &Marks) -> 
     let mut place = end;
     while place > start {
         place -= 1;
-        if falsifies(trail.entries[place], marks) {
+        let entry = trail.entry_at(place);
+        if falsifies(entry, marks) {
             return true;
         }
     }

@@ -2,7 +2,6 @@
 #![tactic(auto)]
 
 mod analysis;
-mod order;
 mod propagation;
 mod shortening;
 mod solver;

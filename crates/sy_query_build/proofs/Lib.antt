@@ -8,5 +8,4 @@ pub mod Steps
 pub mod Violation
 pub mod Walking
 pub mod Problem
-pub mod Parts
 pub mod Itself

@@ -25,7 +25,7 @@ use Rattle.sy_query_base.specs.Asked.{Query, QueryFits, query_weight}
 use Rattle.sy_query_build.specs.declared.room.Left.{Left}
 use Rattle.sy_query_build.specs.Placing.{all_placed_with, AllFitOver, AreBuilt}
 use Rattle.sy_query_build.specs.Sized.{IsSized}
-use Rattle.sy_query_build.specs.Violating.{violated_by}
+use Rattle.sy_query_violation.specs.Violating.{violated_by}
 use Rattle.sy_query_build.proofs.Forms.{wholes-sort}
 use Rattle.sy_query_build.proofs.Violation.{truths, all-truths, placed-row, violated-row, violated-sort, violated-weight}
 

@@ -21,7 +21,7 @@ use Rattle.sy_query_base.specs.Placed.{all_placed}
 use Rattle.sy_query_base.specs.Queries.{in_row, conjunction, violated}
 use Rattle.sy_query_base.specs.Weights.{weight, weights, query_scope}
 use Rattle.sy_query_build.specs.Placing.{all_placed_with, placed_with}
-use Rattle.sy_query_build.specs.Violating.{conjoined, violated_by}
+use Rattle.sy_query_violation.specs.Violating.{conjoined, violated_by}
 use Rattle.sy_query_build.proofs.Steps.{sorts-last, weights-last}
 use Rattle.sy_query_build.proofs.Sorted.{sorts_in-length}
 

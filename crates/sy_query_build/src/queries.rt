@@ -1,12 +1,11 @@
 // The query of a problem and bodies, and what a query weighs.
 ghost use Rattle.std.specs.Prelude.{◌≡◌, ◌≤◌, ◌<◌, ◌^◌, length, map, IfOk, IsErrOf};
-ghost use Rattle.sy_terms.specs.Denoted.{expr_of, exprs_of};
+ghost use Rattle.sy_terms.specs.Denoted.{expr_of};
 ghost use Rattle.sy_terms_laws.specs.Evaluation.{BodiesFit};
 ghost use Rattle.sy_grammar_base.specs.Fits.{ProblemFits};
 ghost use Rattle.sy_grammar_base.specs.Questions.{question_of, signatures};
 ghost use Rattle.sy_query_base.specs.Asked.{query_of, query_weight, QueryFits};
 ghost use Rattle.sy_query_base.specs.Queries.{violating, IsViolation};
-ghost use Rattle.sy_query_build.specs.Violating.{violated_by, conjoined};
 
 use crate::built::Built;
 use crate::place::{place, place_all};
@@ -14,7 +13,8 @@ use crate::room::Room;
 use std::alloc::Global;
 use sy_grammar_base::Problem;
 use sy_query_base::Query;
-use sy_terms::{Bodies, Defs, Op, Seq, Sort, Term, Terms, Theory, Value, Want};
+use sy_query_violation::violation;
+use sy_terms::{Bodies, Defs, Seq, Sort, Theory, Want};
 
 /// The query of the problem and a body for each function to be found: every assumption, and not every constraint, with
 /// each call replaced by a `let` of its arguments around the called body. An assignment satisfies it exactly where it
@@ -71,32 +71,6 @@ pub fn weigh<T: Theory>(alloc: Global, query: &Query<T>, cap: u32) -> Result<u32
         &mut room,
     )?;
     Ok(cap - room.left.weight as u32)
-}
-
-/// Every assumption, and not every constraint.
-fn violation<T: Theory>(
-    alloc: Global,
-    assumptions: Terms<T>,
-    constraints: Terms<T>,
-) -> Result<Term<T>, Want>
-    ensures { IfOk result (λ term. expr_of T.denotes term ≡ violated_by (exprs_of T.denotes assumptions.items.items) (exprs_of T.denotes constraints.items.items)) }
-{
-    let mut negated = Terms::new(alloc);
-    negated.push(conjunction(constraints))?;
-    let mut parts = assumptions;
-    parts.push(Term::App(Op::Not, negated))?;
-    Ok(Term::App(Op::And, parts))
-}
-
-/// All of the terms; true where there is none.
-fn conjunction<T: Theory>(terms: Terms<T>) -> Term<T>
-    ensures { expr_of T.denotes result ≡ conjoined (exprs_of T.denotes terms.items.items) }
-{
-    if terms.len() == 0 {
-        Term::Const(Value::Truth(true))
-    } else {
-        Term::App(Op::And, terms)
-    }
 }
 
 /// The same sorts, in memory of their own.

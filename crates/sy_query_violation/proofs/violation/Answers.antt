@@ -1,6 +1,6 @@
 use Rattle.std.proofs.Common.{ap, ◌∙◌, ◌++◌, ◌∷◌, []}
-use Rattle.sy_query_build.proofs.Parts.{violation-is}
-use Rattle.sy_query_build.proofs.queries.violation.Goals as goal
+use Rattle.sy_query_violation.proofs.Parts.{violation-is}
+use Rattle.sy_query_violation.proofs.violation.Goals as goal
 
 pub returns : goal.returns
 returns g c =

@@ -1,6 +1,6 @@
 use Rattle.std.proofs.Common.{sym, ◌∙◌}
-use Rattle.sy_query_build.proofs.Parts.{conjoined-none, conjoined-some}
-use Rattle.sy_query_build.proofs.queries.conjunction.Goals as goal
+use Rattle.sy_query_violation.proofs.Parts.{conjoined-none, conjoined-some}
+use Rattle.sy_query_violation.proofs.conjunction.Goals as goal
 
 pub returns-then-len-eq0 : goal.returns-then-len-eq0
 returns-then-len-eq0 g c = conjoined-none _ g.T.Theory.denotes c.args.terms.items.items (sym c.len.ensures ∙ c.if-len-eq0.true)

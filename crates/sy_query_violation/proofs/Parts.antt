@@ -11,7 +11,7 @@ use Rattle.sy_terms.specs.declared.sort.Value.{Value}
 use Rattle.sy_terms.specs.declared.sort.Value.TheVariants.{Truth}
 use Rattle.sy_terms.specs.declared.term.Term.{Term, Const, App}
 use Rattle.sy_terms.specs.declared.term.Terms.{Terms}
-use Rattle.sy_query_build.specs.Violating.{conjoined, violated_by}
+use Rattle.sy_query_violation.specs.Violating.{conjoined, violated_by}
 use Rattle.std.specs.Prelude.{true}
 
 none-of : {T N : Type 0} (number : N → Val) (terms : List (Term T N)) → length terms ≡ 0 → conjoined (exprs_of number terms) ≡ expr.Constant (values.Truth true)

@@ -22,24 +22,50 @@ const ABSENT: usize = 0xffff_ffff_ffff_ffff;
 /// Above this all activities are scaled down.
 const LIMIT: u64 = 0x0100_0000_0000_0000;
 
+/// So many times 0.
+fn zeros(alloc: Global, count: u32) -> Result<Vec<u64>, Want> {
+    let mut zeros = Vec::new(alloc);
+    for _ in 0..count {
+        zeros.push(0)?;
+    }
+    Ok(zeros)
+}
+
+/// So many times false.
+fn all_false(alloc: Global, count: u32) -> Result<Vec<bool>, Want> {
+    let mut values = Vec::new(alloc);
+    for _ in 0..count {
+        values.push(false)?;
+    }
+    Ok(values)
+}
+
+/// So many variables in order.
+fn numbers(alloc: Global, count: u32) -> Result<Vec<u32>, Want> {
+    let mut numbers = Vec::new(alloc);
+    for number in 0..count {
+        numbers.push(number)?;
+    }
+    Ok(numbers)
+}
+
+/// The places of so many variables in order.
+fn numbered_places(alloc: Global, count: u32) -> Result<Vec<usize>, Want> {
+    let mut places = Vec::new(alloc);
+    for place in 0..count {
+        places.push(place as usize)?;
+    }
+    Ok(places)
+}
+
 impl Order {
     /// All variables in order, with the value false.
     pub fn new(alloc: Global, vars: u32) -> Result<Order, Want> {
-        let mut activity = Vec::new(alloc);
-        let mut phases = Vec::new(alloc);
-        let mut heap = Vec::new(alloc);
-        let mut places = Vec::new(alloc);
-        for var in 0..vars {
-            activity.push(0)?;
-            phases.push(false)?;
-            heap.push(var)?;
-            places.push(var as usize)?;
-        }
         Ok(Order {
-            activity,
-            phases,
-            heap,
-            places,
+            activity: zeros(alloc, vars)?,
+            phases: all_false(alloc, vars)?,
+            heap: numbers(alloc, vars)?,
+            places: numbered_places(alloc, vars)?,
             size: vars as usize,
             step: 0x10000,
         })
