@@ -1,2 +1,3 @@
 pub mod Overfull
 pub mod Small
+pub mod Verdicts

@@ -10,6 +10,8 @@ use Rattle.sy_grammar_base.specs.Solving.{AreValues, AreWithin}
 use Rattle.sy_grammar_base.specs.declared.problem.Problem.{Problem}
 use Rattle.sy_query_limits.specs.declared.Limits.{Limits}
 use Rattle.sy_query_decide.specs.declared.decide.Decide.{Ghosts as DecideOf}
+use Rattle.sy_query_decide.specs.declared.verdict.Verdict.{Verdict}
+use Rattle.sy_query_decide.specs.declared.verdict.Verdict.TheVariants.{Never, Model, Spent}
 use Rattle.sy_points.specs.declared.stored.Stored.{Stored}
 use Rattle.sy_bank_rows.specs.Banks.{Entry}
 use Rattle.sy_bank.specs.Bank.{merged_of}
@@ -18,8 +20,6 @@ use Rattle.sy_loop_history.specs.Solutions.{IsSolution}
 use Rattle.sy_loop_history.specs.Stored.{history_of}
 use Rattle.sy_loop_samples.specs.Banked.{IsOneBank}
 use Rattle.sy_loop_beyond.specs.Exceeding.{MeetsFullBank}
-use Rattle.sy_loop_beyond.specs.declared.body.Tried.{Tried}
-use Rattle.sy_loop_beyond.specs.declared.body.Tried.TheVariants.{Solves, Passed, Spent}
 
 module _ {T N : Type 0} (theory : TheoryOf T N) (problem : Problem T N) where
   -- one function is to be found, and the bank is honest for its grammar
@@ -42,6 +42,10 @@ module _ {T N : Type 0} (theory : TheoryOf T N) (problem : Problem T N) where
   abbrev pub AreSmallFor : ℕ → List Entry → Type 0
   AreSmallFor bound entries = All (λ (entry : Entry). IsSmallFor bound entry.term) entries
 
+  -- the bodies are members of the grammars, of sizes within the bound
+  abbrev pub AreWithinFor : ℕ → List (Term T N) → Type 0
+  AreWithinFor bound bodies = AreWithin (question_of theory.denotes problem).pool bound (question_of theory.denotes problem).goals (map (expr_of theory.denotes) bodies)
+
 module _ {T N : Type 0} (theory : TheoryOf T N) (problem : Problem T N) (limits : Limits) where
   -- after these stored pairs the function's bank is full
   abbrev pub MeetsFullBankFor : Stored T N → ℕ → Bank T N → Type 0
@@ -58,7 +62,8 @@ module _ {T N D P S : Type 0} (theory : TheoryOf T N) (solver : DecideOf D T P S
   abbrev pub IsFoundFor : Option (List (Term T N) × P) → Type 0
   IsFoundFor found = IfSome found (λ solution. AreFoundFor solution.0 solution.1)
 
-  abbrev pub IsTriedFor : Tried T P N → Type 0
-  IsTriedFor (Solves bodies proof) = AreFoundFor bodies proof
-  IsTriedFor Passed = Unit {0}
-  IsTriedFor Spent = Unit {0}
+  -- what a solver answers to the query of the bodies says of them
+  abbrev pub IsVerdictFor : List (Term T N) → Verdict T P S N → Type 0
+  IsVerdictFor bodies (Never proof) = AreFoundFor bodies proof
+  IsVerdictFor bodies (Model values) = AreValues problem.vars (vals_of theory.denotes values)
+  IsVerdictFor bodies (Spent kept) = Unit {0}

@@ -33,15 +33,8 @@ pub(crate) fn solve_again<T: Theory, D: Decide<T>>(
 {
     add_mixed(task, assignments)?;
     for _ in 0..MOST_BANKS {
-        let tuples = wished_tuples(task, assignments.as_slice())?;
-        if tuples.is_empty() {
-            return Ok(None);
-        }
-        let Some(bank) = bank_at(task, tuples.as_slice())? else {
-            return Ok(None);
-        };
         let known = assignments.len();
-        if let Some(found) = solve_over(task, decide, &bank, assignments)? {
+        if let Some(found) = solve_wished(task, decide, assignments)? {
             return Ok(Some(found));
         }
         if assignments.len() == known {
@@ -51,20 +44,46 @@ pub(crate) fn solve_again<T: Theory, D: Decide<T>>(
     Ok(None)
 }
 
-/// A bank of the one function at these tuples; `None` where one of them isn't of its arguments.
-fn bank_at<T: Theory>(task: &Task<T>, tuples: &[Values<T>]) -> Result<Option<Bank<T>>, Want>
+/// The first body that is found to solve the problem over a bank at the tuples that constraints want at the assignments.
+fn solve_wished<T: Theory, D: Decide<T>>(
+    task: &Task<T>,
+    decide: &mut D,
+    assignments: &mut Vec<Values<T>>,
+) -> Result<Option<(Bodies<T>, D::Proof)>, Want>
     requires problem { ProblemFits T.Theory task.now.problem.now }
     requires one { length task.now.problem.now.wanted ≡ 1 }
+    requires assigned { AreAssignedFor T.Theory task.now.problem.now assignments.old.items }
+    ensures assigned { OnOk result (AreAssignedFor T.Theory task.now.problem.now assignments.new.items) }
+    ensures found { IfOk result (IsFoundFor T.Theory D.Decide task.now.problem.now task.now.bound) }
+{
+    let Some(bank) = wished_bank(task, assignments.as_slice())? else {
+        return Ok(None);
+    };
+    solve_over(task, decide, &bank, assignments)
+}
+
+/// A bank of the one function at the tuples that constraints want at the assignments; `None` where there is none, or one of
+/// them isn't of the function's arguments.
+fn wished_bank<T: Theory>(
+    task: &Task<T>,
+    assignments: &[Values<T>],
+) -> Result<Option<Bank<T>>, Want>
+    requires problem { ProblemFits T.Theory task.now.problem.now }
+    requires one { length task.now.problem.now.wanted ≡ 1 }
+    requires assigned { AreAssignedFor T.Theory task.now.problem.now assignments.now }
     ensures { IfOk result (λ found. IfSome found (IsBankFor T.Theory task.now.problem.now)) }
 {
-    let found = bank_over(
+    let tuples = wished_tuples(task, assignments)?;
+    if tuples.is_empty() {
+        return Ok(None);
+    }
+    bank_over(
         task.alloc,
         task.problem,
-        tuples,
+        tuples.as_slice(),
         task.bound,
         task.limits.bank,
-    )?;
-    Ok(found)
+    )
 }
 
 /// Adds assignments that look random.
@@ -102,6 +121,5 @@ fn solve_over<T: Theory, D: Decide<T>>(
             return Ok(Some(found));
         }
     }
-    let found = solve_scanned(task, decide, bank, assignments)?;
-    Ok(found)
+    solve_scanned(task, decide, bank, assignments)
 }

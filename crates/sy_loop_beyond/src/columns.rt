@@ -6,7 +6,7 @@ use sy_bank::Bank;
 use sy_bank_rows::Kept;
 use sy_grammar_sizes::number_of;
 use sy_meaning::{Eval, evaluate, term_sort, value_sorts};
-use sy_terms::{Theory, Value, Values, Want, same_values};
+use sy_terms::{Term, Theory, Value, Values, Want, same_values};
 
 /// For each nonterminal of the one function's grammar the values of its kept terms at the tuple as numbers, by size and
 /// then in the order in which they were found. What isn't computable there counts as 0.
@@ -80,16 +80,27 @@ fn number_at<T: Theory>(
 ) -> Result<i128, Want>
     requires { ProblemFits T.Theory task.now.problem.now }
 {
+    let term = kept.term(task.alloc)?;
+    term_number(task, &term, tuple)
+}
+
+/// The value of the term at the tuple; 0 where it isn't computable there.
+fn term_number<T: Theory>(
+    task: &Task<T>,
+    term: &Term<T>,
+    tuple: &[Value<T::Num>],
+) -> Result<i128, Want>
+    requires { ProblemFits T.Theory task.now.problem.now }
+{
     let alloc = task.alloc;
     let Some(sorts) = value_sorts::<T>(alloc, tuple)? else {
         return Ok(0);
     };
-    let term = kept.term(alloc)?;
     let defs = task.problem.defs.as_slice();
-    let Some(_) = term_sort(alloc, defs, &[], sorts.as_slice(), &term)? else {
+    let Some(_) = term_sort(alloc, defs, &[], sorts.as_slice(), term)? else {
         return Ok(0);
     };
-    match evaluate(alloc, &task.problem.defs, tuple, &term) {
+    match evaluate(alloc, &task.problem.defs, tuple, term) {
         Ok(value) => Ok(number::<T>(&value)),
         Err(Eval::Range) => Ok(0),
         Err(Eval::Want) => Err(Want {}),

@@ -1,5 +1,5 @@
 // Terms that rules of the start symbol give of kept terms.
-ghost use Rattle.std.specs.Prelude.{◌≡◌, length, IfOk, IfSome};
+ghost use Rattle.std.specs.Prelude.{◌≡◌, length, IfOk, IfSome, IsTrue};
 ghost use Rattle.sy_terms.specs.Denoted.{expr_of};
 ghost use Rattle.sy_grammar_base.specs.Fits.{ProblemFits};
 ghost use Rattle.sy_loop_beyond.specs.Clauses.{IsSmallFor};
@@ -27,18 +27,30 @@ pub(crate) fn guessed_term<T: Theory>(
     let Some(term) = filled_rule(task, bank, rule, places)? else {
         return Ok(None);
     };
+    let small = is_small(task, &term)?;
+    if small { Ok(Some(term)) } else { Ok(None) }
+}
+
+/// Whether the derivation of the term that is found has a size within the bound.
+fn is_small<T: Theory>(task: &Task<T>, term: &Term<T>) -> Result<bool, Want>
+    requires problem { ProblemFits T.Theory task.now.problem.now }
+    requires one { length task.now.problem.now.wanted ≡ 1 }
+    ensures { IfOk result (λ small. IsTrue small → IsSmallFor T.Theory task.now.problem.now task.now.bound (expr_of T.denotes term.now)) }
+{
     let Some(wanted) = task.problem.wanted.get(0) else {
-        return Ok(None);
+        return Ok(false);
     };
-    let Some(derivation) = derive(task.alloc, &wanted.grammar, 0, &term)? else {
-        return Ok(None);
+    let found = derive(task.alloc, &wanted.grammar, 0, term)?;
+    let Some(derivation) = found else {
+        return Ok(false);
     };
     let most = task.bound.saturating_add(1);
     let size = derivation_size(&wanted.grammar, 0, &derivation, &task.problem.pool, most);
+    drop(derivation);
     if size >= most {
-        return Ok(None);
+        return Ok(false);
     }
-    Ok(Some(term))
+    Ok(true)
 }
 
 /// What the rule gives of the kept terms of these places; `None` where there is no such rule or term.

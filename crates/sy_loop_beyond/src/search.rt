@@ -1,12 +1,12 @@
 // The search beyond a full bank.
-ghost use Rattle.std.specs.Prelude.{◌≡◌, length, IfOk, OnOk};
+ghost use Rattle.std.specs.Prelude.{◌≡◌, ◌≤◌, length, IfOk, OnOk};
 ghost use Rattle.sy_bank_rows.specs.Stored.{entries_of};
 ghost use Rattle.sy_grammar_base.specs.Fits.{ProblemFits};
 ghost use Rattle.sy_loop_beyond.specs.Clauses.{AreAssignedFor, AreSmallFor, IsBankFor, IsFoundFor, WereAssignedFor};
 
 use crate::again::solve_again;
 use crate::assignments::copied_assignments;
-use crate::body::{MOST_SPENT, Task, Tried, try_body};
+use crate::body::{MOST_SPENT, Task, try_body};
 use crate::scanning::solve_scanned;
 use std::alloc::Global;
 use sy_bank::Bank;
@@ -54,15 +54,32 @@ pub fn solve_beyond<T: Theory, D: Decide<T>>(
         bound,
     };
     let mut assignments = copied_assignments(alloc, problem, stored)?;
+    solve_onwards(&task, decide, bank, level, &mut assignments)
+}
+
+/// The first body that is found to solve the problem: a kept term of this size, a combination of kept terms, or one over
+/// further banks.
+fn solve_onwards<T: Theory, D: Decide<T>>(
+    task: &Task<T>,
+    decide: &mut D,
+    bank: &Bank<T>,
+    level: u32,
+    assignments: &mut Vec<Values<T>>,
+) -> Result<Option<(Bodies<T>, D::Proof)>, Want>
+    requires problem { ProblemFits T.Theory task.now.problem.now }
+    requires bank { IsBankFor T.Theory task.now.problem.now bank.now }
+    requires level { level ≤ task.now.bound }
+    requires assigned { AreAssignedFor T.Theory task.now.problem.now assignments.old.items }
+    ensures { IfOk result (IsFoundFor T.Theory D.Decide task.now.problem.now task.now.bound) }
+{
     let last = bank.kept(0, level);
-    if let Some(found) = solve_kept(&task, decide, last, &mut assignments)? {
+    if let Some(found) = solve_kept(task, decide, last, assignments)? {
         return Ok(Some(found));
     }
-    if let Some(found) = solve_scanned(&task, decide, bank, &mut assignments)? {
+    if let Some(found) = solve_scanned(task, decide, bank, assignments)? {
         return Ok(Some(found));
     }
-    let found = solve_again(&task, decide, &mut assignments)?;
-    Ok(found)
+    solve_again(task, decide, assignments)
 }
 
 /// The same where no bank is full: bodies over banks that are built anew, without terms that leave the 128 bits. `None`
@@ -88,8 +105,7 @@ pub fn solve_anew<T: Theory, D: Decide<T>>(
         bound,
     };
     let mut assignments = copied_assignments(alloc, problem, stored)?;
-    let found = solve_again(&task, decide, &mut assignments)?;
-    Ok(found)
+    solve_again(&task, decide, &mut assignments)
 }
 
 /// The limits for the query of one body.
@@ -117,10 +133,8 @@ pub(crate) fn solve_kept<T: Theory, D: Decide<T>>(
     let mut left = MOST_SPENT;
     for entry in kept {
         let term = entry.term(task.alloc)?;
-        match try_body(task, decide, &term, assignments)? {
-            Tried::Solves(bodies, proof) => return Ok(Some((bodies, proof))),
-            Tried::Passed => {}
-            Tried::Spent => left = left.saturating_sub(1),
+        if let Some(found) = try_body(task, decide, term, assignments, &mut left)? {
+            return Ok(Some(found));
         }
         if left == 0 {
             return Ok(None);

@@ -3,12 +3,15 @@ use Rattle.std.specs.Prelude.{ℕ, ◌⊎◌, List, map}
 use Rattle.sy_terms.specs.Values.{Val}
 use Rattle.sy_terms.specs.Expr.{Expr}
 use Rattle.sy_terms.specs.Denoted.{expr_of}
+use Rattle.sy_terms.specs.declared.term.Term.{Term}
 use Rattle.sy_grammar_base.specs.Solving.{AreWithin}
 use Rattle.sy_query_limits.specs.declared.Limits.{Limits}
+use Rattle.sy_query_decide.specs.declared.decide.Decide.{Ghosts as DecideOf}
 use Rattle.sy_bank_rows.specs.Banks.{Merged}
 use Rattle.sy_loop_bounds.specs.declared.reach.Reach.TheVariants.{Joins}
 use Rattle.sy_loop_history.specs.Budgets.{MemberLeaves, CheckedLeaves}
 use Rattle.sy_loop_history.specs.Histories.{Counterexample}
+use Rattle.sy_loop_history.specs.Solutions.{IsSolution}
 use Rattle.sy_loop_outcome.specs.declared.outcome.Outcome.{Outcome}
 use Rattle.sy_loop_outcome.specs.declared.outcome.Outcome.TheVariants.{Found, Infeasible, Fail}
 use Rattle.sy_loop.specs.Least.{AreLeast}
@@ -46,3 +49,9 @@ FindsBeyond number question limits (Fail cause) = Unit {0}
 -- the same for a theory
 abbrev pub FindsBeyondFor : {T N : Type 0} → TheoryOf T N → Problem T N → Limits → {P S : Type 0} → Outcome T P S N → Type 0
 FindsBeyondFor theory problem limits = FindsBeyond theory.denotes (question_of theory.denotes problem) limits
+
+-- the bodies solve the problem, as the proof shows, and are answered in place of what was met
+abbrev pub SolvesBeyondFor : {T N D P S : Type 0} → TheoryOf T N → DecideOf D T P S N → Problem T N → Limits → List (Term T N) × P → Type 0
+SolvesBeyondFor theory solver problem limits solution =
+    IsSolution solver.accepted (question_of theory.denotes problem) (map (expr_of theory.denotes) solution.0) solution.1
+    × AreBeyond (question_of theory.denotes problem) limits (map (expr_of theory.denotes) solution.0)

@@ -5,6 +5,7 @@ ghost use Rattle.sy_io.specs.Causes.{Rose};
 ghost use Rattle.sy_grammar_base.specs.Fits.{ProblemFits};
 ghost use Rattle.sy_grammar_base.specs.Questions.{question_of};
 ghost use Rattle.sygus_drill.specs.Examples as made;
+ghost use Rattle.sygus_drill.specs.Lines as lines;
 ghost use Rattle.sygus_drill_count.specs.Counts.{AlwaysFit};
 ghost use Rattle.sygus_drill_laws.specs.Asked.{AsksFor};
 ghost use Rattle.sygus_replies.specs.Replies.{IsSettled, IsFail, reply_for, replies_for};
@@ -13,9 +14,10 @@ ghost use Rattle.sygus_answers.specs.Answers.{RightOutcomeFor};
 ghost use Rattle.sygus_answers.specs.Drills.{AnswersDrill, HasSolution, drill_end};
 
 use crate::problems::{Solved, sought, status_of};
+use crate::synthesis::discard;
 use std::alloc::Global;
 use sy_grammar_base::Problem;
-use sy_io::{Sink, write_whole};
+use sy_io::{Bytes, Sink, write_whole};
 use sy_loop_outcome::{Outcome, fail_name};
 use sy_query_decide::Decide;
 use sy_query_limits::Limits;
@@ -54,8 +56,10 @@ pub fn drill<T: Theory, D: Decide<T>, O: Sink>(
     ensures unwritten { OnErr result (O.written out.new ≡ O.written out.old) }
 {
     let outcome = sought(alloc, problem, Mode::Drill(number), limits, decide)?;
-    let end = end_of::<T, D>(alloc, problem, &outcome)?;
-    let line = drill_line(alloc, number, end)?;
+    let Ok(line) = line_of::<T, D>(alloc, number, problem, &outcome) else {
+        discard::<T, D>(outcome);
+        return Err(Want {});
+    };
     let mut answers = Seq::new(alloc);
     answers.push(outcome)?;
     match write_whole(out, line.as_slice()) {
@@ -65,6 +69,25 @@ pub fn drill<T: Theory, D: Decide<T>, O: Sink>(
         }),
         Err(_) => Ok(Solved { status: 5, answers }),
     }
+}
+
+/// The line that tells how a drill of this outcome ended.
+fn line_of<T: Theory, D: Decide<T>>(
+    alloc: Global,
+    number: u32,
+    problem: &Problem<T>,
+    outcome: &Outcome<T, D::Proof, D::Spent>,
+) -> Result<Bytes, Want>
+    requires problem { ProblemFits T.Theory problem.now }
+    requires always { AlwaysFit T.owned }
+    requires closed { problem.now.vars ≡ [] }
+    requires unassumed { (question_of T.denotes problem.now).assumptions ≡ [] }
+    requires count { length (question_of T.denotes problem.now).constraints ≡ 1000 }
+    requires solution { HasSolution (question_of T.denotes problem.now) (reply_for T.Theory D.Decide outcome.now) }
+    ensures { IfOk result (λ line. line ≡ lines.drill_line number (drill_end (reply_for T.Theory D.Decide outcome.now))) }
+{
+    let end = end_of::<T, D>(alloc, problem, outcome)?;
+    drill_line(alloc, number, end)
 }
 
 /// How a drill of this outcome ended: with definitions, by how many of the 1,000 constraints they meet.

@@ -1,10 +1,10 @@
 // The search that goes on for solutions alone where a bank is full, or a number left the 128 bits.
-ghost use Rattle.std.specs.Prelude.{IfOk};
+ghost use Rattle.std.specs.Prelude.{IfOk, IfSome};
 ghost use Rattle.sy_grammar_base.specs.Fits.{ProblemFits};
-ghost use Rattle.sy_loop_beyond.specs.Clauses.{IsFoundFor, MeetsFullBankFor};
+ghost use Rattle.sy_loop_beyond.specs.Clauses.{MeetsFullBankFor};
 ghost use Rattle.sy_loop_bounds.specs.declared.reach.Reach.TheVariants.{Joins};
 ghost use Rattle.sy_loop_outcome.specs.Right.{IsRightFor, LeavesFor};
-ghost use Rattle.sygus_answers.specs.Finding.{FindsBeyondFor};
+ghost use Rattle.sygus_answers.specs.Finding.{FindsBeyondFor, SolvesBeyondFor};
 
 use std::alloc::Global;
 use sy_bank::Bank;
@@ -30,28 +30,44 @@ pub(crate) fn synthesise_beyond<T: Theory, D: Decide<T>>(
     ensures right { IfOk result (IsRightFor T.Theory D.Decide Joins problem.now limits.now) }
     ensures beyond { IfOk result (FindsBeyondFor T.Theory problem.now limits.now) }
 {
-    let cause = match synthesise(alloc, problem, limits, decide)? {
-        Outcome::Fail(cause) => cause,
-        Outcome::Found(bodies, proof) => return Ok(Outcome::Found(bodies, proof)),
-        Outcome::Infeasible => return Ok(Outcome::Infeasible),
+    let outcome = synthesise(alloc, problem, limits, decide)?;
+    let found = match found_beyond(alloc, problem, limits, decide, &outcome) {
+        Ok(found) => found,
+        Err(want) => {
+            discard::<T, D>(outcome);
+            return Err(want);
+        }
+    };
+    if let Some((bodies, proof)) = found {
+        discard::<T, D>(outcome);
+        return Ok(Outcome::Found(bodies, proof));
+    }
+    Ok(outcome)
+}
+
+/// A solution that is found beyond the outcome, where that is that a bank is full or a number left the 128 bits.
+fn found_beyond<T: Theory, D: Decide<T>>(
+    alloc: Global,
+    problem: &Problem<T>,
+    limits: &Limits,
+    decide: &mut D,
+    outcome: &Outcome<T, D::Proof, D::Spent>,
+) -> Result<Option<(Bodies<T>, D::Proof)>, Want>
+    requires problem { ProblemFits T.Theory problem.now }
+    requires right { IsRightFor T.Theory D.Decide Joins problem.now limits.now outcome.now }
+    ensures { IfOk result (λ found. IfSome found (SolvesBeyondFor T.Theory D.Decide problem.now limits.now)) }
+{
+    let Outcome::Fail(cause) = outcome else {
+        return Ok(None);
     };
     match cause {
-        FailCause::Bank(stored, function, bank, nonterminal, next) => {
-            let found = solved(alloc, problem, limits, decide, &stored, function, &bank)?;
-            if let Some((bodies, proof)) = found {
-                return Ok(Outcome::Found(bodies, proof));
-            }
-            let cause = FailCause::Bank(stored, function, bank, nonterminal, next);
-            Ok(Outcome::Fail(cause))
+        FailCause::Bank(stored, function, bank, _, _) => {
+            solved(alloc, problem, limits, decide, stored, *function, bank)
         }
         FailCause::Range(stored, left) => {
-            let found = solved_anew(alloc, problem, limits, decide, &stored, &left)?;
-            if let Some((bodies, proof)) = found {
-                return Ok(Outcome::Found(bodies, proof));
-            }
-            Ok(Outcome::Fail(FailCause::Range(stored, left)))
+            solved_anew(alloc, problem, limits, decide, stored, left)
         }
-        other => Ok(Outcome::Fail(other)),
+        _ => Ok(None),
     }
 }
 
@@ -67,7 +83,7 @@ fn solved<T: Theory, D: Decide<T>>(
 ) -> Result<Option<(Bodies<T>, D::Proof)>, Want>
     requires problem { ProblemFits T.Theory problem.now }
     requires met { MeetsFullBankFor T.Theory problem.now limits.now stored.now function bank.now }
-    ensures { IfOk result (IsFoundFor T.Theory D.Decide problem.now limits.now.size) }
+    ensures { IfOk result (λ found. IfSome found (SolvesBeyondFor T.Theory D.Decide problem.now limits.now)) }
 {
     if problem.wanted.len() != 1 || function != 0 {
         return Ok(None);
@@ -87,7 +103,7 @@ fn solved_anew<T: Theory, D: Decide<T>>(
 ) -> Result<Option<(Bodies<T>, D::Proof)>, Want>
     requires problem { ProblemFits T.Theory problem.now }
     requires left { LeavesFor T.Theory Joins problem.now limits.now stored.now left.now }
-    ensures { IfOk result (IsFoundFor T.Theory D.Decide problem.now limits.now.size) }
+    ensures { IfOk result (λ found. IfSome found (SolvesBeyondFor T.Theory D.Decide problem.now limits.now)) }
 {
     if problem.wanted.len() != 1 {
         return Ok(None);
@@ -95,3 +111,6 @@ fn solved_anew<T: Theory, D: Decide<T>>(
     let found = solve_anew(alloc, problem, limits, decide, stored, limits.size)?;
     Ok(found)
 }
+
+/// Lets go of an outcome that isn't handed on. Each place that drops one without this call is long to prove.
+pub(crate) fn discard<T: Theory, D: Decide<T>>(_outcome: Outcome<T, D::Proof, D::Spent>) {}

@@ -14,3 +14,9 @@ solve_scanned-requires-clause-assigned g c = elim c.loop-size-test.branch [
   | else-loop-size-test w ↦ rw w.assignments-is c.loop-size.invariant
   | then-loop-size-test+in_ok-found+in_default+else-size-size-end w ↦ rw w.assignments-is (rw w.in_ok-found.was at w.solve_kept.ensures.assigned)
 ]
+
+pub returns-clause-assigned : goal.returns-clause-assigned
+returns-clause-assigned g c = c.solve_scanned.ensures.assigned
+
+pub returns-clause-found : goal.returns-clause-found
+returns-clause-found g c = c.solve_scanned.ensures.found

@@ -1,10 +1,11 @@
-use Rattle.std.proofs.Common.{◌≡◌, ◌<◌, ◌∷◌, [], length, get_or, arith, map, length-append}
+use Rattle.std.proofs.Common.{◌≡◌, ◌<◌, ◌∷◌, [], inl, inr, length, get_or, arith, map, length-append, refl}
 use Rattle.std.proofs.lemmas.List.{length-map}
 use Rattle.sy_io.proofs.Streams.{appended_more}
 use Rattle.sy_grammar_base.specs.Questions.{question_of}
 use Rattle.sygus_replies.specs.Replies.{reply_for, replies_for}
 use Rattle.sygus_replies.proofs.Steps.{appended_nothing, texts-none, lines-none, right-none, replies-more, texts-more, right-more, lines-more, most-more, most-all, question_at, question_count, question_answerable}
 use Rattle.sygus_answers.specs.Answers.{RightOutcomeFor}
+use Rattle.sygus_answers.proofs.Ends.{not_five, not_six, five_not_small, five_not_none, five_not_one, five_not_six, six_not_small, six_not_none, six_not_one}
 use Rattle.sygus_answers.proofs.problems.solve.Goals as goal
 
 pub answer_next-requires-clause-answerable : goal.answer_next-requires-clause-answerable
@@ -94,3 +95,73 @@ returns-clause-all_settled g c is = rw c.as_slice.ensures at (c.status_of-status
 
 pub returns-clause-some_fail : goal.returns-clause-some_fail
 returns-clause-some_fail g c is = rw c.as_slice.ensures at (c.status_of-status.ensures.some_fail is)
+
+pub returns-in-Err-Write-clause-status : goal.returns-in-Err-Write-clause-status
+returns-in-Err-Write-clause-status g c = inr (inl refl)
+
+pub returns-in-Err-Write-clause-every : goal.returns-in-Err-Write-clause-every
+returns-in-Err-Write-clause-every g c small = five_not_small small
+
+pub returns-in-Err-Write-clause-replied : goal.returns-in-Err-Write-clause-replied
+returns-in-Err-Write-clause-replied g c small = five_not_small small
+
+pub returns-in-Err-Write-clause-lines : goal.returns-in-Err-Write-clause-lines
+returns-in-Err-Write-clause-lines g c small = five_not_small small
+
+pub returns-in-Err-Write-clause-all_settled : goal.returns-in-Err-Write-clause-all_settled
+returns-in-Err-Write-clause-all_settled g c is = five_not_none is
+
+pub returns-in-Err-Write-clause-some_fail : goal.returns-in-Err-Write-clause-some_fail
+returns-in-Err-Write-clause-some_fail g c is = five_not_one is
+
+pub returns-in-Err-Write-clause-memory : goal.returns-in-Err-Write-clause-memory
+returns-in-Err-Write-clause-memory g c is = five_not_six is
+
+pub returns-in-Err-Write-clause-memory_line : goal.returns-in-Err-Write-clause-memory_line
+returns-in-Err-Write-clause-memory_line g c is = five_not_six is
+
+pub returns-in-Err-Memory-clause-right : goal.returns-in-Err-Memory-clause-right
+returns-in-Err-Memory-clause-right g c = rw (c.in-Err-Memory.ensures.unchanged (cc)) c.loop-problem.invariant.right
+
+pub returns-clause-status : goal.returns-clause-status
+returns-clause-status g c = inl c.status_of-status.ensures.bound
+
+pub returns-clause-right : goal.returns-clause-right
+returns-clause-right g c = c.loop-problem.invariant.right
+
+pub returns-clause-replied : goal.returns-clause-replied
+returns-clause-replied g c _ = c.loop-problem.invariant.replied
+
+pub returns-clause-lines : goal.returns-clause-lines
+returns-clause-lines g c _ = c.loop-problem.invariant.lined
+
+pub returns-clause-write : goal.returns-clause-write
+returns-clause-write g c is = not_five c.status_of-status.result c.status_of-status.ensures.bound is
+
+pub returns-clause-cut_off : goal.returns-clause-cut_off
+returns-clause-cut_off g c is = not_five c.status_of-status.result c.status_of-status.ensures.bound is
+
+pub returns-clause-memory : goal.returns-clause-memory
+returns-clause-memory g c is = not_six c.status_of-status.result c.status_of-status.ensures.bound is
+
+pub returns-clause-memory_line : goal.returns-clause-memory_line
+returns-clause-memory_line g c is = not_six c.status_of-status.result c.status_of-status.ensures.bound is
+
+pub returns-in-Err-Memory-clause-every : goal.returns-in-Err-Memory-clause-every
+returns-in-Err-Memory-clause-every g c small = six_not_small c.last-status.result c.last-status.ensures.written small
+
+pub returns-in-Err-Memory-clause-replied : goal.returns-in-Err-Memory-clause-replied
+returns-in-Err-Memory-clause-replied g c small = six_not_small c.last-status.result c.last-status.ensures.written small
+
+pub returns-in-Err-Memory-clause-lines : goal.returns-in-Err-Memory-clause-lines
+returns-in-Err-Memory-clause-lines g c small = six_not_small c.last-status.result c.last-status.ensures.written small
+
+pub returns-in-Err-Memory-clause-all_settled : goal.returns-in-Err-Memory-clause-all_settled
+returns-in-Err-Memory-clause-all_settled g c is = six_not_none c.last-status.result c.last-status.ensures.written is
+
+pub returns-in-Err-Memory-clause-some_fail : goal.returns-in-Err-Memory-clause-some_fail
+returns-in-Err-Memory-clause-some_fail g c is = six_not_one c.last-status.result c.last-status.ensures.written is
+
+pub returns-in-Err-Memory-clause-memory : goal.returns-in-Err-Memory-clause-memory
+returns-in-Err-Memory-clause-memory g c _ =
+    rw (c.in-Err-Memory.ensures.unchanged (cc), c.in-Err-Memory.ensures.unwritten (cc)) c.loop-problem.invariant.replied

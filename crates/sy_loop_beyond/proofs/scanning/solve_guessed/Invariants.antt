@@ -1,5 +1,5 @@
 use Rattle.sy_loop_beyond.specs.Clauses.{AreAssignedFor}
-use Rattle.sy_loop_beyond.proofs.scanning.solve_scanned.Given as goal
+use Rattle.sy_loop_beyond.proofs.scanning.solve_guessed.Given as goal
 
 abbrev pub invariant-loop : goal.invariant-loop
 invariant-loop g l = AreAssignedFor g.T.Theory l.task.problem.now l.assignments.items

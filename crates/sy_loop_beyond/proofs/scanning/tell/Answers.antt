@@ -3,10 +3,10 @@ use Rattle.sy_terms.specs.Denoted.{vals_of}
 use Rattle.sy_terms.specs.declared.sort.Value.{Value}
 use Rattle.sy_grammar_base.specs.Solving.{AreValues}
 use Rattle.sy_loop_candidate.proofs.Items.{item_of}
-use Rattle.sy_loop_beyond.proofs.tuples.wishes_from.Goals as goal
+use Rattle.sy_loop_beyond.proofs.scanning.tell.Goals as goal
 
-pub wishes_at-requires-clause-values : goal.wishes_at-requires-clause-values
-wishes_at-requires-clause-values g c =
+pub tell_at-requires-clause-values : goal.tell_at-requires-clause-values
+tell_at-requires-clause-values g c =
     rw c.as_slice.ensures
     (item_of (λ (values : List (Value g.row.T-Num.Denot)). AreValues c.args.task.now.problem.now.vars (vals_of g.T.Theory.denotes values)) c.args.assignments.now c.args.assignments.now c.loop-place.place c.index-assignments-place.result refl
     c.loop-place-test.true c.index-assignments-place.is c.requires.assigned)
