@@ -3,11 +3,11 @@ ghost use Rattle.std.specs.Prelude.{◌≡◌, ◌<◌, ◌≤◌, ◌^◌, ℕ,
 ghost use Rattle.std.specs.List.Sorted.{IsStrictlyIncreasing};
 ghost use Rattle.sy_unify.specs.Unify.{IsJoin, IsTreeStep, LeavesWithin};
 
-use crate::guide::{Guide, Hint};
 use crate::rows::{common_leaf, first_other, keep, splits, splitting_test};
 use crate::{Choice, Joined};
 use std::alloc::Global;
 use sy_seq::{Seq, Want};
+use sy_unify_guide::{Guide, Hint};
 
 /// All points below a number, in order.
 fn all_points(alloc: Global, points: u32) -> Result<Seq<u32>, Want>
@@ -31,23 +31,6 @@ enum Step {
     Split(u32),
     /// No leaf is good at each, and no condition splits them.
     Stop,
-}
-
-/// A mark at each of these points, in a row of so many.
-fn marks(alloc: Global, points: &[u32], size: u32) -> Result<Vec<bool>, Want> {
-    let mut marks = Vec::from_elem(alloc, false, size as usize)?;
-    for x in points {
-        if let Some(mark) = marks.get_mut(*x as usize) {
-            *mark = true;
-        }
-    }
-    Ok(marks)
-}
-
-/// What is worth a try at these points.
-fn hint_at(alloc: Global, guide: &Guide, points: &[u32], size: u32) -> Result<Hint, Want> {
-    let marks = marks(alloc, points, size)?;
-    guide.hint(alloc, marks.as_slice())
 }
 
 /// What to do at these points: what the hint says where it holds, else the first leaf or condition that serves.
@@ -93,7 +76,7 @@ fn join(
     ensures joined { IfOk result (IsJoin goods.now conditions.now (Contains points)) }
     ensures leaves { IfOk result (LeavesWithin (length points)) }
 {
-    let hint = hint_at(alloc, guide, points.as_slice(), size)?;
+    let hint = guide.hint(alloc, points.as_slice(), size)?;
     let test = match next_step(goods, conditions, hint, points.as_slice()) {
         Step::Serve(leaf) => return Ok(Joined::Tree(Choice::Leaf(leaf))),
         Step::Stop => return Ok(Joined::Uncovered(points)),

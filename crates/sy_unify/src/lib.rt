@@ -2,7 +2,6 @@
 #![tactic(auto)]
 
 mod choice;
-mod guide;
 mod join_tree;
 mod rows;
 

@@ -1,16 +1,18 @@
-// Which leaf and which condition to try first, so that trees are small. Nothing that is proved of a join rests on
-// what this module answers: a join checks each choice on the rows themselves.
+// Which leaf and which condition a join tries first, so that trees are small. Nothing that is proved of a join rests on
+// what this crate answers: a join checks each choice on the rows themselves.
+#![tactic(auto)]
+
 use std::alloc::Global;
 use std::collections::HashSet;
 use sy_seq::{Seq, Want};
 
 /// A leaf and a condition that are worth a try at a set of points.
 #[derive(Clone, Copy)]
-pub(crate) struct Hint {
+pub struct Hint {
     /// A leaf that is good at the most of the points.
-    pub(crate) leaf: u32,
+    pub leaf: u32,
     /// A condition that best parts the points at which that leaf is good from the others.
-    pub(crate) condition: u32,
+    pub condition: u32,
 }
 
 /// A row in blocks of 64 points, and its number.
@@ -22,7 +24,7 @@ struct Row {
 
 /// The rows of a join in blocks, equal rows once.
 #[derive(Drop)]
-pub(crate) struct Guide {
+pub struct Guide {
     leaves: Vec<Row>,
     conditions: Vec<Row>,
 }
@@ -85,6 +87,17 @@ fn joint_count(a: &[u64], b: &[u64]) -> u64 {
     count
 }
 
+/// A mark at each of these points, in a row of so many.
+fn marks(alloc: Global, points: &[u32], size: u32) -> Result<Vec<bool>, Want> {
+    let mut marks = Vec::from_elem(alloc, false, size as usize)?;
+    for x in points {
+        if let Some(mark) = marks.get_mut(*x as usize) {
+            *mark = true;
+        }
+    }
+    Ok(marks)
+}
+
 impl Split {
     /// Whether less is left mixed than by the other.
     fn is_better(&self, other: &Split) -> bool {
@@ -112,7 +125,7 @@ impl Split {
 
 impl Guide {
     /// The guide of these leaves and conditions.
-    pub(crate) fn new(
+    pub fn new(
         alloc: Global,
         goods: &Seq<Seq<bool>>,
         conditions: &Seq<Seq<bool>>,
@@ -162,9 +175,10 @@ impl Guide {
         condition
     }
 
-    /// What is worth a try at these points of a join.
-    pub(crate) fn hint(&self, alloc: Global, points: &[bool]) -> Result<Hint, Want> {
-        let points = packed(alloc, points)?;
+    /// What is worth a try at these points of a join, of so many in all.
+    pub fn hint(&self, alloc: Global, points: &[u32], size: u32) -> Result<Hint, Want> {
+        let marks = marks(alloc, points, size)?;
+        let points = packed(alloc, marks.as_slice())?;
         let (leaf, good) = self.widest(alloc, points.as_slice())?;
         let condition = self.sharpest(points.as_slice(), good.as_slice());
         Ok(Hint { leaf, condition })
