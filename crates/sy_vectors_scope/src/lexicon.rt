@@ -3,6 +3,7 @@ ghost use Rattle.std.specs.Prelude.{◌≤◌, length};
 
 use crate::second;
 use std::process::Abort;
+use sy_io::Bytes;
 use sy_text::{Sexp, TextEnd, TextFault, line_column, next_command, write_sexp};
 
 /// A file with two commands' kinds of lists, atoms of many kinds, and a comment.
@@ -54,7 +55,7 @@ fn read(
     requires { at ≤ length bytes.now }
 {
     let found = next_command(rt.alloc(), bytes, at);
-    match &found {
+    let read = match &found {
         Ok(Some((item, behind))) => {
             append_places(rt, item, bytes.len(), places);
             Ok(Some(*behind))
@@ -62,7 +63,9 @@ fn read(
         Ok(None) => Ok(None),
         Err(TextEnd::Fault(fault)) => Err(*fault),
         Err(TextEnd::Want) => panic!(rt; "memory"),
-    }
+    };
+    drop(found);
+    read
 }
 
 /// The fault of the bytes, read to the end.
@@ -158,12 +161,18 @@ BadByte(67) #b000000000000000000000000000000000000000000000000000000000000000002
 Stray(6) (1 2) )§\
 Stray(3) (a))";
 
+/// Whether the row tells the fault of its letters.
+fn has_fault(rt: &(impl Abort + AllocGlobal), row: &str) -> bool {
+    let (fault, letters) = row.split_once(' ').unwrap_or((row, ""));
+    let bytes = bytes_of(rt, letters);
+    let told = told(rt, &bytes);
+    told.as_str() == fault
+}
+
 #[test]
 fn faults_by_the_table(rt: HostRuntime) {
     for row in FAULTS.split('§') {
-        let (fault, letters) = row.split_once(' ').expect(&rt, row);
-        let told = told(&rt, &bytes_of(&rt, letters));
-        assert!(rt; told.as_str() == fault, "{row}");
+        assert!(rt; has_fault(&rt, row), "{row}");
     }
 }
 
@@ -194,17 +203,27 @@ let¶|let|§\
 a¶a\"b\"§\
 #b1¶; (\r\n#b1)";
 
+/// The first item of the bytes, as it is written.
+fn spelled(rt: &(impl Abort + AllocGlobal), bytes: &[u8]) -> Bytes {
+    let read = next_command(rt.alloc(), bytes, 0).expect(rt, "an item");
+    let (item, _) = read.expect(rt, "an item");
+    let written = write_sexp(rt.alloc(), &item).expect(rt, "memory");
+    drop(item);
+    written
+}
+
+/// Whether the row tells how the item of its letters is written.
+fn is_spelled(rt: &(impl Abort + AllocGlobal), row: &str) -> bool {
+    let (text, letters) = row.split_once('¶').unwrap_or((row, ""));
+    let bytes = bytes_of(rt, letters);
+    let wanted = bytes_of(rt, text);
+    spelled(rt, &bytes).as_slice() == wanted.as_slice()
+}
+
 #[test]
 fn spellings_by_the_table(rt: HostRuntime) {
     for row in SPELLINGS.split('§') {
-        let (text, letters) = row.split_once('¶').expect(&rt, row);
-        let read = next_command(rt.alloc(), &bytes_of(&rt, letters), 0);
-        let (item, _) = read.expect(&rt, row).expect(&rt, row);
-        let written = write_sexp(rt.alloc(), &item).expect(&rt, row);
-        assert!(rt;
-            written.as_slice() == bytes_of(&rt, text).as_slice(),
-            "{row}"
-        );
+        assert!(rt; is_spelled(&rt, row), "{row}");
     }
 }
 
@@ -240,44 +259,71 @@ fn changed(rt: &(impl Abort + AllocGlobal), at: usize, byte: u8) -> Vec<u8> {
     bytes
 }
 
-/// Each cut of the file ends it or leaves something open.
+/// Whether a cut of the file is read alike, and ends it or leaves something open.
+fn is_cut(rt: &(impl Abort + AllocGlobal), cut: &[u8]) -> bool {
+    let fault = fault_of(rt, cut);
+    matches!(fault, None | Some(TextFault::Unclosed(_))) && agree(rt, cut)
+}
+
+/// Asserts that the file with any byte at the offset is read alike.
+fn assert_changes(rt: &(impl Abort + AllocGlobal), at: usize) {
+    for byte in 0..=255 {
+        let bytes = changed(rt, at, byte);
+        assert!(rt; agree(rt, &bytes), "{at} {byte}");
+    }
+}
+
 #[test]
 fn each_cut_and_each_changed_byte_is_read_alike(rt: HostRuntime) {
     for at in 0..FILE.len() {
-        let cut = &FILE[..at];
-        let fault = fault_of(&rt, cut);
-        assert!(rt;
-            matches!(fault, None | Some(TextFault::Unclosed(_))),
-            "{at}"
-        );
-        assert!(rt; agree(&rt, cut), "{at}");
-        for byte in 0..=255 {
-            assert!(rt; agree(&rt, &changed(&rt, at, byte)), "{at} {byte}");
-        }
+        assert!(rt; is_cut(&rt, &FILE[..at]), "{at}");
+        assert_changes(&rt, at);
     }
+}
+
+/// A byte, how often it stands, and the fault of this.
+const LARGEST: [(u8, usize, &str); 4] = [
+    (b' ', 4_194_304, "none"),
+    (b'(', 1200, "Unclosed(1199)"),
+    (b'(', 1201, "TooDeep(1200)"),
+    (b'a', 4_194_304, "none"),
+];
+
+/// Whether so many of the byte have this fault.
+fn have_fault(rt: &(impl Abort + AllocGlobal), byte: u8, count: usize, fault: &str) -> bool {
+    let mut bytes = Vec::new(rt.alloc());
+    bytes.resize(count, byte).expect(rt, "memory");
+    let told = told(rt, &bytes);
+    told.as_str() == fault
 }
 
 #[test]
 fn largest_inputs(rt: HostRuntime) {
-    let rows = [
-        (b' ', 4_194_304, "none"),
-        (b'(', 1200, "Unclosed(1199)"),
-        (b'(', 1201, "TooDeep(1200)"),
-        (b'a', 4_194_304, "none"),
-    ];
-    for (byte, count, fault) in rows {
-        let mut bytes = Vec::new(rt.alloc());
-        bytes.resize(count, byte).expect(&rt, "memory");
-        let told = told(&rt, &bytes);
-        assert!(rt; told.as_str() == fault, "{count} times {byte}");
+    for (byte, count, fault) in &LARGEST {
+        assert!(rt;
+            have_fault(&rt, *byte, *count, fault),
+            "{count} times {byte}"
+        );
     }
+}
+
+/// A text, an offset, and its line and column.
+const PLACES: [(&[u8], usize, usize, usize); 5] = [
+    (b"ab\nc", 0, 1, 1),
+    (b"ab\nc", 2, 1, 3),
+    (b"ab\nc", 3, 2, 1),
+    (b"ab\nc", 4, 2, 2),
+    (b"ab\r\n\n", 5, 3, 1),
+];
+
+/// Whether the offset of the text has this line and column.
+fn is_at(text: &[u8], at: usize, line: usize, column: usize) -> bool {
+    at <= text.len() && line_column(text, at) == (line, column)
 }
 
 #[test]
 fn lines_and_columns(rt: HostRuntime) {
-    assert_eq!(rt; line_column(b"ab\nc", 0), (1, 1));
-    assert_eq!(rt; line_column(b"ab\nc", 2), (1, 3));
-    assert_eq!(rt; line_column(b"ab\nc", 3), (2, 1));
-    assert_eq!(rt; line_column(b"ab\nc", 4), (2, 2));
-    assert_eq!(rt; line_column(b"ab\r\n\n", 5), (3, 1));
+    for (text, at, line, column) in &PLACES {
+        assert!(rt; is_at(text, *at, *line, *column), "{at}");
+    }
 }

@@ -134,6 +134,17 @@ pub fn read(
     places: &mut Vec<usize>,
 ) -> Result<Option<usize>, TextFault> {
     let mut open = Vec::new(rt.alloc());
+    read_on(rt, bytes, from, &mut open, places)
+}
+
+/// The same, with the lists that are open, of which there are none at first.
+fn read_on(
+    rt: &impl Abort,
+    bytes: &[u8],
+    from: usize,
+    open: &mut Vec<usize>,
+    places: &mut Vec<usize>,
+) -> Result<Option<usize>, TextFault> {
     let mut in_comment = false;
     let mut behind = from;
     for (at, byte) in bytes.iter().enumerate().skip(from) {
