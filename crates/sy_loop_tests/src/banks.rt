@@ -71,19 +71,22 @@ fn is_right<T: Theory>(
     let nonterminals = u32::try_from(nons.len()).unwrap_or(u32::MAX);
     let upto = (upto.parse().unwrap_or(0), grown.parse().unwrap_or(0));
     let cap = cap.parse().unwrap_or(0);
-    match bank_of(rt, alloc, sort, nons, values, pool, upto, cap) {
+    let built = bank_of(rt, alloc, sort, nons, values, pool, upto, cap);
+    let is_right = match &built {
         Ok(bank) => {
             let is_whole = bank.overflow().is_none();
             let found = if is_whole { "whole" } else { "dropped" };
-            found == end && keeps(&bank, nonterminals, counts)
+            found == end && keeps(bank, nonterminals, counts)
         }
         Err(BankEnd::Full(bank, _, next)) => {
             let (word, size) = end.split_once(' ').unwrap_or((end, ""));
             let is_full = word == "full" && next.size == size.parse().unwrap_or(0);
-            is_full && keeps(&bank, nonterminals, counts)
+            is_full && keeps(bank, nonterminals, counts)
         }
         Err(BankEnd::Want) => panic!(rt; "memory"),
-    }
+    };
+    drop(built);
+    is_right
 }
 
 /// Asserts that the bank of each line is as it tells, where the pool has these numbers.

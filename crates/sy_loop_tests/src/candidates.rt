@@ -84,7 +84,10 @@ fn tried(
     }
     let bodies = bodies(rt, alloc, constant);
     let step = try_candidate(alloc, problem, limits, Reach::Beyond, solver, bodies, known);
-    came_of(&step.expect(rt, "memory"))
+    let step = step.expect(rt, "memory");
+    let came = came_of(&step);
+    drop(step);
+    came
 }
 
 /// A constraint, the limits of rounds, points and weight, how many queries the solver answers, and candidates, one after the

@@ -45,6 +45,7 @@ fn definition<T: Theory>(rt: &impl Abort, alloc: Global) -> Defs<T>
     let part = part::<T>(rt, alloc, Sort::Int, "+x1");
     let nothing = Vec::new(alloc);
     let body = filled_part(alloc, &part, nothing.as_slice()).expect(rt, "memory");
+    drop(part);
     assert!(rt; is_integer(rt, alloc, &none, &body));
     let sort = Sort::Int;
     let args = one(rt, alloc, sort);
@@ -92,6 +93,7 @@ fn has_row<T: Theory>(
     };
     let term = chosen_part(alloc, part, chosen).expect(rt, told);
     assert!(rt; is_integer(rt, alloc, defs, &term));
+    drop(term);
     match part_row(alloc, defs, points, part, chosen) {
         Ok(row) => are_numbers::<T>(row.as_slice(), told),
         Err(RowEnd::Lost(point)) => told == "lost" && point == 1,
@@ -123,11 +125,18 @@ fn is_grown<T: Theory>(rt: &impl Abort, alloc: Global, part: Part<T>, chosen: &[
         size: 1,
         row: Seq::new(alloc),
     };
-    let derived = match kept.derivation(alloc).expect(rt, "memory") {
+    let derivation = kept.derivation(alloc).expect(rt, "memory");
+    let is_derived = match &derivation {
         Derivation::Node(4, children) => children.as_slice().len() == chosen.len(),
         _ => false,
     };
-    derived && kept.term(alloc).expect(rt, "memory").equals(&term)
+    drop(derivation);
+    let copy = kept.term(alloc).expect(rt, "memory");
+    drop(kept);
+    let is_same = copy.equals(&term);
+    drop(copy);
+    drop(term);
+    is_derived && is_same
 }
 
 /// Parts with their rows, where the argument, 1 and 5 are chosen, and the argument is 3 or the greatest number.

@@ -84,12 +84,15 @@ fn write_rules(text: &mut String, derivation: &Derivation<IntTheory>) -> Result<
 /// A term that shares others, with its derivation.
 fn written_shared(rt: &impl Abort, alloc: Global) -> String {
     let kept = shared(rt, alloc);
-    let term = kept.term(alloc).expect(rt, "memory");
-    let derivation = kept.derivation(alloc).expect(rt, "memory");
     let mut text = String::new(alloc);
+    let term = kept.term(alloc).expect(rt, "memory");
     write_term(&mut text, &term).expect(rt, "memory");
+    drop(term);
     text.push_str("by ").expect(rt, "memory");
+    let derivation = kept.derivation(alloc).expect(rt, "memory");
     write_rules(&mut text, &derivation).expect(rt, "memory");
+    drop(derivation);
+    drop(kept);
     text
 }
 
@@ -103,6 +106,7 @@ fn write_filled(
 ) {
     let term = filled_part(alloc, part, terms).expect(rt, "memory");
     write_term(text, &term).expect(rt, "memory");
+    drop(term);
 }
 
 /// A part that is filled with three terms, its copy with two of them, and a part that is filled with none.

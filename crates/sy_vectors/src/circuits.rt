@@ -31,7 +31,7 @@ fn at_two(rt: &impl Abort, alloc: Global, word: &str, s: u64, t: u64) -> Option<
         "bvshl" => circuit.shift_up(alloc, a, b).expect(rt, word),
         "rotate_left,1" => rotated_up(alloc, a, 1).expect(rt, word),
         "extract,2,1" => part(alloc, a, 1, 3).expect(rt, word),
-        _ => return None,
+        _ => panic!(rt; "no operator: {word}"),
     };
     number(value.as_slice())
 }

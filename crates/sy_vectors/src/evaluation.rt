@@ -135,13 +135,16 @@ fn is_right<T: Theory>(
     let term = term::<T>(rt, alloc, text);
     let found = term_sort(alloc, defs.as_slice(), &[], sorts.as_slice(), &term).expect(rt, row);
     let Some(_) = found else {
+        drop(term);
         return told == "mismatch";
     };
-    match evaluate(alloc, defs, values, &term) {
+    let is_right = match evaluate(alloc, defs, values, &term) {
         Ok(found) => is_told::<T>(told, &found),
         Err(Eval::Range) => told == "none",
         Err(Eval::Want) => panic!(rt; "memory"),
-    }
+    };
+    drop(term);
+    is_right
 }
 
 /// Asserts that each row is right, where the definition and the arguments are these.

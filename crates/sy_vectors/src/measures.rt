@@ -43,16 +43,26 @@ fn is_measured<T: Theory>(term: &Term<T>, told: &str) -> bool {
     is_whole && term.size(2) == size.min(2) && term.depth(2) == depth.min(2)
 }
 
+/// Whether the term is equal to the one of this text.
+fn is_equal<T: Theory>(rt: &impl Abort, alloc: Global, text: &str, copy: &Term<T>) -> bool {
+    let other = term::<T>(rt, alloc, text);
+    let is_equal = other.equals(copy);
+    drop(other);
+    is_equal
+}
+
 /// Whether a copy of the row's term has its size and depth, and is equal to the term of this one of the rows alone.
 fn is_right<T: Theory>(rt: &impl Abort, alloc: Global, rows: &str, row: &str) -> bool {
     let (text, told) = row.split_once('|').unwrap_or((row, ""));
-    let copy = term::<T>(rt, alloc, text).copy(alloc).expect(rt, row);
+    let original = term::<T>(rt, alloc, text);
+    let copy = original.copy(alloc).expect(rt, row);
+    drop(original);
     let mut is_right = is_measured(&copy, told);
     for other in rows.lines() {
         let (text, _) = other.split_once('|').unwrap_or((other, ""));
-        let is_equal = term::<T>(rt, alloc, text).equals(&copy);
-        is_right = is_right && is_equal == (row == other);
+        is_right = is_right && is_equal(rt, alloc, text, &copy) == (row == other);
     }
+    drop(copy);
     is_right
 }
 

@@ -94,17 +94,20 @@ fn told(rt: &impl Abort, alloc: Global, names: &Names, text: &str) -> String {
         predeclared: listed(rt, &parts, 1),
         groups: listed(rt, &parts, 2),
     };
-    match read(alloc, names, listed(rt, &parts, 0).items, &book) {
+    let read = read(alloc, names, listed(rt, &parts, 0).items, &book);
+    let told = match &read {
         Ok(written) => {
-            let (nons, rules, values) = counted(rt, alloc, &written);
-            format!(in alloc; "Read({nons}, {rules}, {values})").expect(rt, "memory")
+            let (nons, rules, values) = counted(rt, alloc, written);
+            format!(in alloc; "Read({nons}, {rules}, {values})")
         }
         Err(ReadEnd::Refused(place, cause)) => {
-            let at = place.at;
-            format!(in alloc; "Refused({at}, {cause:?})").expect(rt, "memory")
+            let (at, cause) = (place.at, *cause);
+            format!(in alloc; "Refused({at}, {cause:?})")
         }
         Err(ReadEnd::Want) => panic!(rt; "memory"),
-    }
+    };
+    drop(read);
+    told.expect(rt, "memory")
 }
 
 /// Whether the row tells what is read of its text.
