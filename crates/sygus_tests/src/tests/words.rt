@@ -1,5 +1,6 @@
 // Command lines and what they ask for.
 use std::alloc::{AllocError, Global};
+use std::process::Abort;
 use sygus_words::{Mode, Settings, WordFault, read_words};
 
 /// Command lines, each behind what it asks for: the mode, the limits of size, rounds, points, bank, weight, clauses, nodes
@@ -82,18 +83,17 @@ refused|sygus --nodes 1 --nodes 1 f.sl
 refused|sygus --pivots 1 --pivots 1 f.sl";
 
 /// What the words of a line ask for.
-fn read(alloc: Global, line: &str) -> Result<Settings, WordFault> {
+fn read(rt: &impl Abort, alloc: Global, line: &str) -> Result<Settings, WordFault> {
     let mut words = Vec::new(alloc);
     for word in line.split(' ') {
-        words.push(String::from_str(alloc, word)?)?;
+        let word = String::from_str(alloc, word).expect(rt, "a word");
+        words.push(word).expect(rt, "a list");
     }
-    let settings = read_words(alloc, &words)?;
-    Ok(settings)
+    read_words(alloc, &words)
 }
 
-/// The settings as a text.
-fn text_of(alloc: Global, settings: &Settings) -> Result<String, AllocError> {
-    let mut text = String::new(alloc);
+/// Writes the settings.
+fn write_settings(text: &mut String, settings: &Settings) -> Result<(), AllocError> {
     match settings.mode {
         Mode::Solve => text.push_str("solve")?,
         Mode::Least => text.push_str("least")?,
@@ -113,35 +113,40 @@ fn text_of(alloc: Global, settings: &Settings) -> Result<String, AllocError> {
         write!(text, " {limit}")?;
     }
     text.push_str(" ")?;
-    text.push_str(settings.file.as_str())?;
-    Ok(text)
+    text.push_str(settings.file.as_str())
 }
 
-/// Whether the line asks for this.
-fn asks_for(alloc: Global, line: &str, wanted: &str) -> bool {
-    match read(alloc, line) {
-        Ok(settings) => match text_of(alloc, &settings) {
-            Ok(text) => text.as_str() == wanted,
-            Err(_) => false,
-        },
-        Err(WordFault::Refused) => wanted == "refused",
-        Err(WordFault::Want) => false,
+/// What the line asks for, as a text.
+fn told(rt: &impl Abort, alloc: Global, line: &str) -> String {
+    let mut text = String::new(alloc);
+    let read = read(rt, alloc, line);
+    match &read {
+        Ok(settings) => write_settings(&mut text, settings).expect(rt, "memory"),
+        Err(WordFault::Refused) => text.push_str("refused").expect(rt, "memory"),
+        Err(WordFault::Want) => panic!(rt; "memory"),
     }
+    drop(read);
+    text
+}
+
+/// Whether the row tells what its line asks for.
+fn is_told(rt: &impl Abort, alloc: Global, row: &str) -> bool {
+    let (wanted, line) = row.split_once('|').unwrap_or(("", row));
+    let told = told(rt, alloc, line);
+    told.as_str() == wanted
 }
 
 /// Whether an option is refused with this behind it.
-fn is_refused(alloc: Global, name: &str, behind: &str) -> bool {
-    let Ok(line) = format!(in alloc; "sygus --{name} {behind} f.sl") else {
-        return false;
-    };
-    asks_for(alloc, line.as_str(), "refused")
+fn is_refused(rt: &impl Abort, alloc: Global, name: &str, behind: &str) -> bool {
+    let line = format!(in alloc; "sygus --{name} {behind} f.sl").expect(rt, "memory");
+    let told = told(rt, alloc, line.as_str());
+    told.as_str() == "refused"
 }
 
 #[test]
 fn lines_by_the_table(rt: HostRuntime) {
     for row in LINES.lines() {
-        let (wanted, line) = row.split_once('|').unwrap_or(("", row));
-        assert!(rt; asks_for(rt.alloc(), line, wanted), "{row}");
+        assert!(rt; is_told(&rt, rt.alloc(), row), "{row}");
     }
 }
 
@@ -149,7 +154,10 @@ fn lines_by_the_table(rt: HostRuntime) {
 fn other_spellings_of_a_value(rt: HostRuntime) {
     for name in "size rounds points bank weight clauses nodes pivots".split(' ') {
         for spelling in ",0,+1,-1,01,1.0,one".split(',') {
-            assert!(rt; is_refused(rt.alloc(), name, spelling), "{name} {spelling}");
+            assert!(rt;
+                is_refused(&rt, rt.alloc(), name, spelling),
+                "{name} {spelling}"
+            );
         }
     }
 }
