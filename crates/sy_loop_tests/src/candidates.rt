@@ -139,5 +139,8 @@ pub(crate) fn is_right(rt: &impl Abort, alloc: Global, parts: &[&str; 9]) -> boo
         );
         has_come = came == parts[7];
     }
-    has_come && known.stored.len() == number(parts[8]) as usize
+    let count = known.stored.len();
+    drop(known);
+    drop(problem);
+    has_come && count == number(parts[8]) as usize
 }

@@ -95,5 +95,6 @@ pub(crate) fn is_right(rt: &impl Abort, alloc: Global, parts: &[&str; 9]) -> boo
             }
         }
     }
+    drop(scan);
     is_right
 }

@@ -103,5 +103,6 @@ pub(crate) fn is_ended(rt: &impl Abort, alloc: Global, parts: &[&str; 9]) -> boo
     let outcome = outcome.expect(rt, "memory");
     let name = ended_by(&outcome);
     drop(outcome);
+    drop(problem);
     name.is_some() && name == named(parts[2])
 }

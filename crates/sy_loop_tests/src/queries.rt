@@ -49,7 +49,7 @@ pub(crate) fn is_weighed(rt: &impl Abort, alloc: Global, parts: &[&str; 9]) -> b
     let problem = posed(rt, alloc, Sort::Int, parts[1]);
     let bodies = body(rt, alloc, &problem, parts[2]);
     let weight = number(parts[3]);
-    match build(alloc, &problem, &bodies, number(parts[4])) {
+    let is_right = match build(alloc, &problem, &bodies, number(parts[4])) {
         Ok(query) => {
             let is_whole = matches!(weigh(alloc, &query, weight), Ok(found) if found == weight);
             let less = weight.saturating_sub(1);
@@ -59,7 +59,10 @@ pub(crate) fn is_weighed(rt: &impl Abort, alloc: Global, parts: &[&str; 9]) -> b
         }
         Err(Built::Heavy) => parts[5] == "heavy",
         Err(Built::Want) => panic!(rt; "memory"),
-    }
+    };
+    drop(bodies);
+    drop(problem);
+    is_right
 }
 
 /// The query of a constant, maybe over a variable.

@@ -75,7 +75,9 @@ fn is_violated(
         &stored,
         suspects,
     );
-    refuted.expect(rt, "memory")
+    let is_violated = refuted.expect(rt, "memory");
+    drop(problem);
+    is_violated
 }
 
 /// Problems, one after the other: the assumption, the constraint, whether the assignment is stored, and whether a violation
