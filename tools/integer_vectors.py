@@ -1,5 +1,5 @@
 #!/usr/bin/env python3
-"""Prints the rows of crates/sy_vectors_operators/src/integers.rt, with values from z3.
+"""Prints the rows of crates/sy_vectors/src/integers.rt, with values from z3.
 
     tools/integer_vectors.py
 

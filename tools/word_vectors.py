@@ -1,5 +1,5 @@
 #!/usr/bin/env python3
-"""Prints the rows of crates/sy_vectors_operators/src/words.rt: values of SMT-LIB's operators on bit vectors, as z3 gives them.
+"""Prints the rows of crates/sy_vectors/src/words.rt: values of SMT-LIB's operators on bit vectors, as z3 gives them.
 
     tools/word_vectors.py
 

@@ -139,7 +139,7 @@ def measured():
 def vectors():
     """The tables of operators' values are what the scripts print, where z3 is there."""
     for name in ["integer", "word"] if shutil.which("z3") else []:
-        table = (TOP / "crates" / "sy_vectors_operators" / "src" / f"{name}s.rt").read_text().partition("= \"\\\n")[2].partition("\";")[0]
+        table = (TOP / "crates" / "sy_vectors" / "src" / f"{name}s.rt").read_text().partition("= \"\\\n")[2].partition("\";")[0]
         printed = subprocess.run([TOP / "tools" / f"{name}_vectors.py"], capture_output=True, text=True).stdout
         yield f"table of {name} vectors", printed == table
 

@@ -84,7 +84,10 @@ fn tried(
     }
     let bodies = bodies(rt, alloc, constant);
     let step = try_candidate(alloc, problem, limits, Reach::Beyond, solver, bodies, known);
-    came_of(&step.expect(rt, "memory"))
+    let step = step.expect(rt, "memory");
+    let came = came_of(&step);
+    drop(step);
+    came
 }
 
 /// A constraint, the limits of rounds, points and weight, how many queries the solver answers, and candidates, one after the
@@ -136,5 +139,8 @@ pub(crate) fn is_right(rt: &impl Abort, alloc: Global, parts: &[&str; 9]) -> boo
         );
         has_come = came == parts[7];
     }
-    has_come && known.stored.len() == number(parts[8]) as usize
+    let count = known.stored.len();
+    drop(known);
+    drop(problem);
+    has_come && count == number(parts[8]) as usize
 }

@@ -42,21 +42,25 @@ fn want(rt: &impl Abort, alloc: Global, scan: &mut Scan, wanted: u32, values: &[
         .expect(rt, "memory");
 }
 
-/// Whether the parts of the next combination are these, none where there is none.
-fn is_next(rt: &impl Abort, scan: &mut Scan, parts: &str) -> bool {
-    let Some(guess) = scan.next_guess().expect(rt, "memory") else {
-        return parts.is_empty();
-    };
-    let digits = parts.as_bytes();
-    if guess.parts.len() != digits.len() {
+/// Whether the parts are these, a digit each.
+fn are_parts(parts: &[usize], digits: &[u8]) -> bool {
+    if parts.len() != digits.len() {
         return false;
     }
-    for (part, digit) in guess.parts.iter().zip(digits) {
+    for (part, digit) in parts.iter().zip(digits) {
         if *part != usize::from(digit.wrapping_sub(b'0')) {
             return false;
         }
     }
     true
+}
+
+/// Whether the parts of the next combination are these, none where there is none.
+fn is_next(rt: &impl Abort, scan: &mut Scan, parts: &str) -> bool {
+    match scan.next_guess().expect(rt, "memory") {
+        Some(guess) => are_parts(guess.parts.as_slice(), parts.as_bytes()),
+        None => parts.is_empty(),
+    }
 }
 
 /// An operator, a bound of the size, and steps: a number is wanted at one point more, and after `:` stand the parts of the
@@ -80,13 +84,10 @@ pub(crate) fn is_right(rt: &impl Abort, alloc: Global, parts: &[&str; 9]) -> boo
     let sign = parts[1].as_bytes().first().expect(rt, "an operator");
     let mut scan = scan(rt, alloc, *sign, number(parts[2]));
     let mut points = 0usize;
+    let mut is_right = true;
     for step in parts[3].split(' ') {
         match step.strip_prefix(':') {
-            Some(found) => {
-                if !is_next(rt, &mut scan, found) {
-                    return false;
-                }
-            }
+            Some(found) => is_right &= is_next(rt, &mut scan, found),
             None => {
                 let values = VALUES.get(points).expect(rt, "a point");
                 want(rt, alloc, &mut scan, number(step), values);
@@ -94,5 +95,6 @@ pub(crate) fn is_right(rt: &impl Abort, alloc: Global, parts: &[&str; 9]) -> boo
             }
         }
     }
-    true
+    drop(scan);
+    is_right
 }

@@ -1,12 +1,20 @@
-// Tests of queries and of the search, in a crate of their own, so that what they stand on is read and proved once.
+// Tests of queries, of banks and of the search, in a crate of their own, so that what they stand on is read and proved once.
 #![tactic(auto)]
 
+#[cfg(test)]
+mod banks;
 #[cfg(test)]
 mod candidates;
 #[cfg(test)]
 mod combinations;
 #[cfg(test)]
 mod outcomes;
+#[cfg(test)]
+mod part_rows;
+#[cfg(test)]
+mod parts;
+#[cfg(test)]
+mod points;
 #[cfg(test)]
 mod pointwise;
 #[cfg(test)]
@@ -17,6 +25,8 @@ mod queries;
 mod refutations;
 #[cfg(test)]
 mod rows;
+#[cfg(test)]
+mod shared_terms;
 #[cfg(test)]
 mod solver;
 #[cfg(test)]

@@ -1,7 +1,7 @@
 // How a search ends where nothing is to be found and the solver gives up, and the names of causes.
 use crate::candidates::AMPLE;
 use crate::rows::number;
-use crate::solver::{Both, Nothing};
+use crate::solver::{Both, IsFalse, Nothing};
 use std::alloc::Global;
 use std::process::Abort;
 use sy_grammar_base::Problem;
@@ -61,10 +61,10 @@ pub(crate) fn is_named(alloc: Global, parts: &[&str; 9]) -> bool {
     let Some(name) = named(parts[1]) else {
         return false;
     };
-    match cause(alloc, name) {
-        Some(cause) => fail_name::<IntTheory, Both>(&cause) == name,
-        None => false,
-    }
+    let cause = cause(alloc, name);
+    let is_named = matches!(&cause, Some(cause) if fail_name::<IntTheory, Both>(cause) == name);
+    drop(cause);
+    is_named
 }
 
 /// How many rounds there may be, and what ends the search: without functions the empty tuple of bodies is decided, where a
@@ -72,6 +72,14 @@ pub(crate) fn is_named(alloc: Global, parts: &[&str; 9]) -> bool {
 pub(crate) const SEARCHES: &str = "\
 search|1|pivots
 search|0|rounds";
+
+/// The name of what ended the search, where it failed.
+fn ended_by(outcome: &Outcome<IntTheory, IsFalse, Nothing>) -> Option<FailName> {
+    match outcome {
+        Outcome::Fail(cause) => Some(fail_name::<IntTheory, Both>(cause)),
+        Outcome::Found(_, _) | Outcome::Infeasible => None,
+    }
+}
 
 /// Whether the search of a row ends as it says.
 pub(crate) fn is_ended(rt: &impl Abort, alloc: Global, parts: &[&str; 9]) -> bool {
@@ -92,11 +100,9 @@ pub(crate) fn is_ended(rt: &impl Abort, alloc: Global, parts: &[&str; 9]) -> boo
     };
     let mut solver = Both { left: 0 };
     let outcome = synthesise(alloc, &problem, &limits, &mut solver);
-    match outcome.expect(rt, "memory") {
-        Outcome::Found(_, _) | Outcome::Infeasible => false,
-        Outcome::Fail(cause) => {
-            let name = fail_name::<IntTheory, Both>(&cause);
-            named(parts[2]) == Some(name)
-        }
-    }
+    let outcome = outcome.expect(rt, "memory");
+    let name = ended_by(&outcome);
+    drop(outcome);
+    drop(problem);
+    name.is_some() && name == named(parts[2])
 }

@@ -100,7 +100,9 @@ fn is_pointwise<T: Theory>(rt: &impl Abort, alloc: Global, sort: Sort, parts: &[
         constraints,
         pool,
     };
-    pointwise(alloc, &problem).expect(rt, "memory")
+    let is_pointwise = pointwise(alloc, &problem).expect(rt, "memory");
+    drop(problem);
+    is_pointwise
 }
 
 /// The sort; the functions to be found; the arguments of each, and the variables; the rules of the grammar; constraints; and

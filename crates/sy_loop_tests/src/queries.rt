@@ -49,16 +49,20 @@ pub(crate) fn is_weighed(rt: &impl Abort, alloc: Global, parts: &[&str; 9]) -> b
     let problem = posed(rt, alloc, Sort::Int, parts[1]);
     let bodies = body(rt, alloc, &problem, parts[2]);
     let weight = number(parts[3]);
-    match build(alloc, &problem, &bodies, number(parts[4])) {
+    let is_right = match build(alloc, &problem, &bodies, number(parts[4])) {
         Ok(query) => {
             let is_whole = matches!(weigh(alloc, &query, weight), Ok(found) if found == weight);
             let less = weight.saturating_sub(1);
             let is_heavy = matches!(weigh(alloc, &query, less), Err(Built::Heavy));
+            drop(query);
             parts[5] == "built" && is_whole && is_heavy
         }
         Err(Built::Heavy) => parts[5] == "heavy",
         Err(Built::Want) => panic!(rt; "memory"),
-    }
+    };
+    drop(bodies);
+    drop(problem);
+    is_right
 }
 
 /// The query of a constant, maybe over a variable.
@@ -93,13 +97,15 @@ pub(crate) fn is_decided(rt: &impl Abort, alloc: Global, parts: &[&str; 9]) -> b
         left: number(parts[3]),
     };
     let verdict = solver.decide(alloc, &query, &AMPLE);
-    match verdict.expect(rt, "memory") {
+    let verdict = verdict.expect(rt, "memory");
+    let is_right = match &verdict {
         Verdict::Never(_) => parts[4] == "never",
         Verdict::Model(values) => {
             parts[4] == "values" && values.len() == number(parts[5]) as usize
         }
-        Verdict::Spent(spent) => {
-            parts[4] == "spent" && Both::name_of(&spent) == FailName::Pivots
-        }
-    }
+        Verdict::Spent(spent) => { parts[4] == "spent" && Both::name_of(spent) == FailName::Pivots }
+    };
+    drop(verdict);
+    drop(query);
+    is_right
 }

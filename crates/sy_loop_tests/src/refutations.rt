@@ -75,7 +75,9 @@ fn is_violated(
         &stored,
         suspects,
     );
-    refuted.expect(rt, "memory")
+    let is_violated = refuted.expect(rt, "memory");
+    drop(problem);
+    is_violated
 }
 
 /// Problems, one after the other: the assumption, the constraint, whether the assignment is stored, and whether a violation
@@ -86,21 +88,22 @@ refutation|tntt tttn nntn tnnn tntt";
 /// Whether the row is right.
 pub(crate) fn is_right(rt: &impl Abort, alloc: Global, parts: &[&str; 9]) -> bool {
     let mut suspects = Suspects::new(alloc);
+    let mut is_right = true;
     for case in parts[1].split(' ') {
-        let [assumption, constraint, stored, shown] = case.as_bytes() else {
-            return false;
+        is_right &= match case.as_bytes() {
+            [assumption, constraint, stored, shown] => {
+                let violated = is_violated(
+                    rt,
+                    alloc,
+                    &mut suspects,
+                    *assumption == b't',
+                    *constraint == b't',
+                    *stored == b't',
+                );
+                violated == (*shown == b't')
+            }
+            _ => false,
         };
-        let violated = is_violated(
-            rt,
-            alloc,
-            &mut suspects,
-            *assumption == b't',
-            *constraint == b't',
-            *stored == b't',
-        );
-        if violated != (*shown == b't') {
-            return false;
-        }
     }
-    true
+    is_right
 }

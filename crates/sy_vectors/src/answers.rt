@@ -58,7 +58,7 @@ fn answers<R: Abort>(
     }
     let verdict = BvDecide::new().decide(alloc, query, &limits(clauses));
     let verdict = verdict.expect(rt, told);
-    match &verdict {
+    let is_told = match &verdict {
         Verdict::Model(values) => match told.strip_prefix("model") {
             Some(numbers) => are_values(values.as_slice(), numbers),
             None => false,
@@ -72,7 +72,9 @@ fn answers<R: Abort>(
             Some(count) => has_learned(spent, count),
             None => false,
         },
-    }
+    };
+    drop(verdict);
+    is_told
 }
 
 /// Whether the query weighs so much: it is too heavy exactly where less is allowed.
@@ -99,11 +101,13 @@ fn is_right<R: Abort>(rt: &R, alloc: Global, row: &str) -> bool {
     let (number, told) = cut(rest);
     let number = number.parse::<u32>().expect(rt, row);
     let query = query(rt, alloc, sorts, body);
-    match told {
+    let is_right = match told {
         "weighs" => has_weight(rt, alloc, &query, number),
         "settled" => answers(rt, alloc, &query, 1, number, "never"),
         _ => answers(rt, alloc, &query, number, u32::MAX, told),
-    }
+    };
+    drop(query);
+    is_right
 }
 
 /// What the solver answers: the sorts of the variables, the body, how many clauses may be learned, and the answer. Where
@@ -288,6 +292,7 @@ fn is_plain<R: Abort>(rt: &R, alloc: Global, body: &str) -> bool {
     for width in 1..65 {
         let query = query_of_width(rt, alloc, width, body);
         is_plain &= answers(rt, alloc, &query, 1, 17_000, "never");
+        drop(query);
     }
     is_plain
 }

@@ -105,12 +105,14 @@ fn finds<R: Abort>(rt: &R, alloc: Global, cnf: &Cnf, learned: u32, found: &Found
         return false;
     }
     let solved = solve(alloc, cnf, learned).expect(rt, "an answer");
-    match (found, &solved) {
+    let is_found = match (found, &solved) {
         (Found::Refuted, Solved::Refuted(log)) => check(alloc, cnf, log).expect(rt, "a check"),
         (Found::Model(wanted), Solved::Model(values)) => values.as_slice() == *wanted,
         (Found::Spent(count), Solved::Fuel(log)) => log.lines.len() == *count,
         _ => false,
-    }
+    };
+    drop(solved);
+    is_found
 }
 
 fn is_found<R: Abort>(rt: &R, alloc: Global, case: &Case) -> bool {

@@ -163,7 +163,9 @@ fn size<R: Abort, T: Theory>(
     let pool = values::<R, T>(rt, alloc, sort, if is_sum { &[7] } else { &[] });
     let number = value::<R, T>(rt, sort, number);
     let derivation = derivation::<R, T>(rt, alloc, number, is_sum);
-    derivation_size(grammar, 0, &derivation, &pool, cap)
+    let size = derivation_size(grammar, 0, &derivation, &pool, cap);
+    drop(derivation);
+    size
 }
 
 /// Whether these are the rules on the way down, where each node has at most one child.
@@ -232,7 +234,10 @@ fn is_right<R: Abort, T: Theory>(rt: &R, alloc: Global, shape: &Shape, told: &To
     let grammar = Grammar::new(args, nons, &defs);
     let term = asked(rt, alloc, told);
     let found = derive(alloc, &grammar, 0, &term).expect(rt, "an answer");
-    is_told(rt, alloc, shape.sort, &grammar, told, &found)
+    drop(term);
+    let is_told = is_told(rt, alloc, shape.sort, &grammar, told, &found);
+    drop(found);
+    is_told
 }
 
 /// Five times the start symbol.

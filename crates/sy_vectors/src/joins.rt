@@ -81,11 +81,13 @@ fn is_right<R: Abort>(rt: &R, alloc: Global, case: &Case) -> bool {
         return false;
     }
     let joined = unify(alloc, case.points, &goods, &conditions).expect(rt, "a join");
-    match (&case.wanted, &joined) {
+    let is_wanted = match (&case.wanted, &joined) {
         (Wanted::Tree(count), Joined::Tree(tree)) => is_good(case, tree, *count),
         (Wanted::Uncovered(class), Joined::Uncovered(points)) => points.as_slice() == *class,
         _ => false,
-    }
+    };
+    drop(joined);
+    is_wanted
 }
 
 const CASES: &[Case] = &[

@@ -1,8 +1,11 @@
-// Worked examples of public calls of several areas; `sy_vectors_..` have those of one area.
+// Worked examples of public calls of several areas, and each operator's sorts, spelling and values, by terms and by circuits;
+// `sy_vectors_..` have the examples of one area.
 #![tactic(auto)]
 
 #[cfg(test)]
 mod answers;
+#[cfg(test)]
+mod circuits;
 #[cfg(test)]
 mod clauses;
 #[cfg(test)]
@@ -10,10 +13,28 @@ mod conditions;
 #[cfg(test)]
 mod defaults;
 #[cfg(test)]
+mod evaluation;
+#[cfg(test)]
+mod gates;
+#[cfg(test)]
 mod grammars;
 #[cfg(test)]
+mod integers;
+#[cfg(test)]
 mod joins;
+#[cfg(test)]
+mod measures;
+#[cfg(test)]
+mod numbers;
+#[cfg(test)]
+mod operators;
 #[cfg(test)]
 mod points;
 #[cfg(test)]
 mod queries;
+#[cfg(test)]
+mod sorts;
+#[cfg(test)]
+mod terms;
+#[cfg(test)]
+mod words;

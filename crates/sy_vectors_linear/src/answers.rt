@@ -71,13 +71,17 @@ fn said(
 pub fn told(rt: &impl Abort, alloc: Global, row: &str) -> Result<String, Want> {
     let query = asked(rt, alloc, row);
     if !fits(alloc, &query).expect(rt, "memory") {
+        drop(query);
         return String::from_str(alloc, "unfit");
     }
     let limits = limits(number(row, 2), number(row, 3));
     let verdict = IntDecide::new()
         .decide(alloc, &query, &limits)
         .expect(rt, "memory");
-    said(rt, alloc, &query, &verdict, field(row, 4) == "any")
+    let told = said(rt, alloc, &query, &verdict, field(row, 4) == "any");
+    drop(verdict);
+    drop(query);
+    told
 }
 
 /// The variables' sorts, the body, how many inner nodes and steps at a leaf may be, and the answer: what isn't a query;

@@ -17,12 +17,16 @@ fn cut_of(rt: &impl Abort, alloc: Global, text: &str) -> Option<Form> {
     }
     assert!(rt; are_forms(2, forms.as_slice()));
     let end = ended(alloc, 2, &forms, 99).expect(rt, "memory");
-    let (Feasible::Point(point), Some(tableau)) = (end.answer, end.last) else {
-        return None;
+    let found = match (&end.answer, &end.last) {
+        (Feasible::Point(point), Some(tableau)) => {
+            let vars = [Sort::Int, Sort::Int];
+            let found = best(alloc, &vars, facts.as_slice(), point.as_slice(), tableau);
+            found.expect(rt, "memory")
+        }
+        _ => None,
     };
-    let vars = [Sort::Int, Sort::Int];
-    let found = best(alloc, &vars, facts.as_slice(), point.as_slice(), &tableau);
-    found.expect(rt, "memory").map(|rounding| rounding.form)
+    drop(end);
+    found.map(|rounding| rounding.form)
 }
 
 /// Whether the forms have this cut.

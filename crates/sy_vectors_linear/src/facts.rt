@@ -30,7 +30,9 @@ fn path(rt: &impl Abort, alloc: Global, text: &str) -> Path {
 pub fn told(rt: &impl Abort, alloc: Global, row: &str) -> Result<String, Want> {
     let path = path(rt, alloc, field(row, 0));
     let query = query(rt, alloc, "ib", field(row, 1));
-    match known(alloc, &query, &path).expect(rt, "memory") {
+    let known = known(alloc, &query, &path).expect(rt, "memory");
+    drop(query);
+    let told = match &known {
         Known::True => String::from_str(alloc, "true"),
         Known::False => String::from_str(alloc, "false"),
         Known::Undecided(Test::Holds(variable)) => format!(in alloc; "holds {variable}"),
@@ -40,7 +42,9 @@ pub fn told(rt: &impl Abort, alloc: Global, row: &str) -> Result<String, Want> {
             format!(in alloc; "{first} {constant}")
         }
         Known::OutOfRange(node) => format!(in alloc; "range {node}"),
-    }
+    };
+    drop(known);
+    told
 }
 
 /// Facts, a body, and what they tell of it.

@@ -79,7 +79,8 @@ pub fn answer(rt: &impl Abort, alloc: Global, row: &str) -> Result<String, Want>
     if !are_forms(vars, forms.as_slice()) {
         return String::from_str(alloc, "unfit");
     }
-    match feasible(alloc, vars, &forms, number(row, 2)).expect(rt, "memory") {
+    let found = feasible(alloc, vars, &forms, number(row, 2)).expect(rt, "memory");
+    let told = match &found {
         Feasible::Point(point) => listed(rt, alloc, "point", point.as_slice()),
         Feasible::Conflict(multipliers) => listed(rt, alloc, "conflict", multipliers.as_slice()),
         Feasible::Pivots(run) => {
@@ -90,7 +91,9 @@ pub fn answer(rt: &impl Abort, alloc: Global, row: &str) -> Result<String, Want>
             let count = run.steps.len();
             format!(in alloc; "range {count}")
         }
-    }
+    };
+    drop(found);
+    told
 }
 
 /// How many variables there are, forms, how many pivots may be, and the answer; forms out of order don't fit.

@@ -67,7 +67,11 @@ fn tree(rt: &impl Abort, alloc: Global, text: &str) -> Tree {
 /// The checker's answer on the row's tree of its query over an integer and a truth value.
 pub fn told(rt: &impl Abort, alloc: Global, row: &str) -> Result<String, Want> {
     let query = query(rt, alloc, "ib", field(row, 0));
-    match check_tree(alloc, &query, &tree(rt, alloc, field(row, 1))) {
+    let tree = tree(rt, alloc, field(row, 1));
+    let checked = check_tree(alloc, &query, &tree);
+    drop(tree);
+    drop(query);
+    match checked {
         Ok(true) => String::from_str(alloc, "true"),
         Ok(false) => String::from_str(alloc, "false"),
         Err(CheckEnd::Range(at)) => format!(in alloc; "range {at}"),

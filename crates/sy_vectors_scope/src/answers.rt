@@ -5,6 +5,7 @@ ghost use Rattle.sy_grammar.specs.Questions.{goal_of};
 ghost use Rattle.sy_reply.specs.Writable.{is_plain_value, IsDefined, IsWritable, AreWritable, AreTitled, HaveBodies};
 
 use std::alloc::Global;
+use std::process::Abort;
 use sy_grammar::{Problem, Wanted};
 use sy_io::Bytes;
 use sy_reply::reply_text;
@@ -143,6 +144,7 @@ fn have_bodies<T: Theory>(definitions: usize, functions: &[Wanted<T>], bodies: &
 /// The reply to the first problem in which the functions to be found have the bodies of the last definitions; nothing where
 /// these can't be written.
 fn reply_of<T: Theory>(
+    rt: &impl Abort,
     alloc: Global,
     titles: &Titles,
     problems: &[Problem<T>],
@@ -155,7 +157,8 @@ fn reply_of<T: Theory>(
     let others = definitions.saturating_sub(functions.len());
     let mut bodies = Seq::new(alloc);
     for definition in problem.defs.as_slice().iter().skip(others) {
-        bodies.push(definition.body.copy(alloc)?)?;
+        let body = definition.body.copy(alloc).expect(rt, "memory");
+        bodies.push(body).expect(rt, "memory");
     }
     if titles.defined.len() < definitions
         || !are_titled(titles.wanted.as_slice(), functions)
@@ -167,25 +170,24 @@ fn reply_of<T: Theory>(
 }
 
 /// Whether the reply to the row's file is as the row tells.
-fn has_reply(alloc: Global, row: &str) -> bool {
+fn has_reply(rt: &impl Abort, alloc: Global, row: &str) -> bool {
     let (text, file) = row.split_once('^').unwrap_or(("", row));
     if file.len() > 4_194_304 {
         return false;
     }
-    let reply = match read_file(alloc, file.as_bytes()) {
-        Ok(Job::Ints(problems, titles)) => reply_of(alloc, &titles, problems.as_slice()),
-        Ok(Job::Bits(problems, titles)) => reply_of(alloc, &titles, problems.as_slice()),
-        _ => return false,
+    let read = read_file(alloc, file.as_bytes());
+    let reply = match &read {
+        Ok(Job::Ints(problems, titles)) => reply_of(rt, alloc, titles, problems.as_slice()),
+        Ok(Job::Bits(problems, titles)) => reply_of(rt, alloc, titles, problems.as_slice()),
+        _ => panic!(rt; "{row}"),
     };
-    match reply {
-        Ok(reply) => reply.as_slice() == text.as_bytes(),
-        Err(_) => false,
-    }
+    drop(read);
+    reply.expect(rt, "memory").as_slice() == text.as_bytes()
 }
 
 #[test]
 fn replies_by_the_table(rt: HostRuntime) {
     for row in REPLIES.split('~') {
-        assert!(rt; has_reply(rt.alloc(), row), "{row}");
+        assert!(rt; has_reply(&rt, rt.alloc(), row), "{row}");
     }
 }

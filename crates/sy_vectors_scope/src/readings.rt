@@ -1,6 +1,7 @@
 // What is read of files.
 use crate::{files, terms};
 use std::alloc::{AllocError, Global};
+use std::process::Abort;
 use sy_scope::{Job, ScopeEnd, read_file};
 
 /// What is read: so many problems in a logic, or the first fault, by its command, its offset behind the head, and its
@@ -9,7 +10,8 @@ fn reading_of(alloc: Global, head: usize, text: &[u8]) -> Result<String, AllocEr
     if text.len() > 4_194_304 {
         return String::from_str(alloc, "TooLong");
     }
-    match read_file(alloc, text) {
+    let read = read_file(alloc, text);
+    let reading = match &read {
         Ok(Job::Idle) => String::from_str(alloc, "Idle"),
         Ok(Job::Ints(problems, _)) => {
             let count = problems.len();
@@ -26,7 +28,9 @@ fn reading_of(alloc: Global, head: usize, text: &[u8]) -> Result<String, AllocEr
             format!(in alloc; "Refused({command}, {at}, {cause:?})")
         }
         Err(ScopeEnd::Want) => Err(AllocError {}),
-    }
+    };
+    drop(read);
+    reading
 }
 
 /// Appends the piece of this number.
@@ -58,13 +62,13 @@ fn append(file: &mut String, text: &str) -> Result<(), AllocError> {
 }
 
 /// Whether the row's text is read as it tells, where a file is the head, the text and the tail.
-fn reads_as(alloc: Global, head: &str, tail: &str, row: &str) -> Result<bool, AllocError> {
+fn reads_as(rt: &impl Abort, alloc: Global, head: &str, tail: &str, row: &str) -> bool {
     let (outcome, text) = row.split_once(": ").unwrap_or(("", row));
-    let mut file = String::from_str(alloc, head)?;
-    append(&mut file, text)?;
-    file.push_str(tail)?;
-    let reading = reading_of(alloc, head.len(), file.as_bytes())?;
-    Ok(reading.as_str() == outcome)
+    let mut file = String::from_str(alloc, head).expect(rt, "memory");
+    append(&mut file, text).expect(rt, "memory");
+    file.push_str(tail).expect(rt, "memory");
+    let reading = reading_of(alloc, head.len(), file.as_bytes()).expect(rt, "memory");
+    reading.as_str() == outcome
 }
 
 /// Whole files, and items of files: what stands before and behind each, and the rows.
@@ -121,8 +125,7 @@ const TABLES: [(&str, &str, &str); 14] = [
 fn files_terms_sorts_and_rules(rt: HostRuntime) {
     for (head, tail, table) in &TABLES {
         for row in table.lines() {
-            let read = reads_as(rt.alloc(), head, tail, row);
-            assert!(rt; matches!(read, Ok(true)), "{row}");
+            assert!(rt; reads_as(&rt, rt.alloc(), head, tail, row), "{row}");
         }
     }
 }

@@ -8,6 +8,7 @@ mod problems;
 mod refusals;
 mod runs;
 mod vectors;
+mod words;
 
 use problems::file_of;
 use runs::{Left, calls_of, leaves};

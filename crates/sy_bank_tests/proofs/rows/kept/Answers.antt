@@ -1,8 +1,0 @@
-use Rattle.sy_bank_rows.specs.Shared.{term_from-Leaf}
-use Rattle.sy_bank_tests.proofs.rows.kept.Goals as goal
-
-pub returns : goal.returns
-returns g c =
-    let row = rw c.expect-row.ensures at c.term_row.ensures.ok in
-    let grown = rw c.expect-grown.ensures at c.new.ensures.ok in
-    rw (grown, term_from-Leaf, c.from.ensures) row

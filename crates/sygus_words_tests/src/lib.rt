@@ -1,5 +1,0 @@
-// Tests of `sygus_words`, in a crate of their own, so that the library is proved once.
-#![tactic(auto)]
-
-#[cfg(test)]
-mod tests;
