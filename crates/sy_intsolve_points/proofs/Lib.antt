@@ -4,3 +4,4 @@ pub mod Conflicts
 pub mod Wholes
 pub mod Evaluating
 pub mod Solved
+pub mod Places

@@ -1,5 +1,5 @@
 -- Rational points at which the forms of a path are at least 0.
-use Rattle.std.specs.Prelude.{◌≡◌, ◌≢◌, ℕ, ◌<◌, Bool, false, List, length, All, ℤ, Option, Some, None}
+use Rattle.std.specs.Prelude.{◌≡◌, ◌≢◌, ℕ, ◌<◌, ◌⊎◌, Bool, false, List, length, All, ℤ, Option, Some, None}
 use Rattle.sy_frac.specs.Fraction.{Fraction, IsFloor}
 use Rattle.sy_frac.specs.Rational.{ℚ, 0ℚ, is_negative_rational}
 use Rattle.sy_terms.specs.Values.{Val, Truth, Whole}
@@ -14,6 +14,7 @@ use Rattle.sy_linear_known.specs.Points.{form_value_at}
 use Rattle.sy_linear_known.specs.Trees.{forms, IsOf, IsContradiction}
 use Rattle.sy_simplex_tableau.specs.Rows.{at}
 use Rattle.sy_simplex.specs.Problems.{system_of, numbers}
+use Rattle.sy_simplex.specs.Runs.{RunIsSpent, IsOutOfRange}
 use Rattle.sy_simplex.specs.declared.answer.Feasible.{Feasible}
 use Rattle.sy_simplex.specs.declared.answer.Feasible.TheVariants.{Point, Conflict, Pivots, Range}
 
@@ -73,3 +74,16 @@ IsSoundFor vars path (Point point) = IsCornerOf vars path point
 IsSoundFor vars path (Conflict multipliers) = IsContradiction multipliers (forms path)
 IsSoundFor vars path (Pivots run) = Unit {0}
 IsSoundFor vars path (Range run) = Unit {0}
+
+-- ---- where a search goes on
+-- a point of the path each value of which is whole, or a corner
+pub record IsPlaceOf (vars : List Sort) (path : List Fact) (point : List Fraction) : Type 0 where
+  pub at : IsPointOf vars path point
+  pub place : ValuesAreWhole point ⊎ IsCornerOf vars path point
+
+-- such a point, multipliers that refute the path, or a run that shows which budget was met
+abbrev pub TellsPlace : List Sort → List Fact → ℕ → Feasible → Type 0
+TellsPlace vars path pivots (Point point) = IsPlaceOf vars path point
+TellsPlace vars path pivots (Conflict multipliers) = IsContradiction multipliers (forms path)
+TellsPlace vars path pivots (Pivots run) = RunIsSpent (length vars) (forms path) pivots run.steps
+TellsPlace vars path pivots (Range run) = IsOutOfRange (length vars) (forms path) pivots run.steps

@@ -4,12 +4,14 @@
 
 mod forms;
 mod keeping;
+mod place;
 mod solving;
 mod values;
 mod whole;
 
 pub use forms::forms_of;
 pub use keeping::{copied, kept, meets, number_at};
+pub use place::whole_or_corner;
 pub use solving::corner;
 pub use values::values_of;
 pub use whole::first_broken;

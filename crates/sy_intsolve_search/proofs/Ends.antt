@@ -1,5 +1,5 @@
 -- What the ends of a search show, and the variables of its forks.
-use Rattle.std.specs.Prelude.{◌≡◌, ℕ, zero, suc, ◌*◌, ◌<◌, ◌≤◌, Bool, true, false, ◌&&◌, List, [], ◌∷◌, length, slice_get, get_or, ℤ, pos, negsuc, ◌*ℤ◌, unsigned_abs, int_lt, Option, Some, None, IfSome}
+use Rattle.std.specs.Prelude.{◌≡◌, ℕ, zero, suc, ◌*◌, ◌<◌, ◌≤◌, Bool, true, false, ◌&&◌, List, [], ◌∷◌, length, slice_get, get_or, ℤ, pos, negsuc, ◌*ℤ◌, unsigned_abs, int_lt, Option, Some, None, Result, Ok, Err, IfOk, IfSome}
 use Rattle.std.specs.List.{list_all}
 use Rattle.std.proofs.Common.{refl, sym, ◌∙◌, ap, subst, arith}
 use Rattle.std.proofs.lemmas.Nat.Gcd.{IsGcd-from_zero, IsGcd-swap, same_from_IsGcd}
@@ -7,6 +7,8 @@ use borrow.Author.Differences.{at_most_in}
 use Rattle.sy_frac.specs.Fraction.{Fraction, IsLowest}
 use Rattle.sy_frac.specs.Rational.{0ℚ, ◌*ℚ◌, over, value, is_negative_rational, over_negative, product_over_is, zero-*ℚ, zero_not_negative}
 use Rattle.sy_query_limits.specs.declared.Limits.{Limits}
+use Rattle.sy_query_decide.specs.declared.verdict.Verdict.{Verdict}
+use Rattle.sy_query_decide.specs.declared.verdict.Verdict.TheVariants as verdicts
 use Rattle.sy_terms.specs.declared.sort.Sort.{Sort}
 use Rattle.sy_terms.specs.declared.sort.Sort.TheVariants as sorts
 use Rattle.sy_linear_known.specs.declared.path.Fact.{Fact}
@@ -31,6 +33,7 @@ use Rattle.sy_intsolve_points.specs.Points.{IsPointOf, IsFirstBroken}
 use Rattle.sy_intsolve_trees.specs.declared.fork.Fork.TheVariants as forks
 use Rattle.sy_intsolve_trees.specs.declared.step.Order.{Order}
 use Rattle.sy_intsolve_trees.specs.declared.step.Order.TheVariants.{First, Free}
+use Rattle.sy_intsolve_trees.specs.declared.spent.IntSpent.{IntSpent}
 use Rattle.sy_intsolve_trees.specs.declared.spent.IntSpent.TheVariants as spent
 use Rattle.sy_intsolve_trees.specs.declared.spent.IntRange.TheVariants as range
 use Rattle.sy_intsolve_trees.specs.Budgets.{NodesMet, OpensAt}
@@ -41,7 +44,7 @@ use Rattle.sy_intsolve_trees.proofs.Opening.{nodes_met, opens_at}
 use Rattle.sy_intsolve_trees.proofs.Refuting.{refutes, bare-grown_of}
 use Rattle.sy_intsolve_search.specs.declared.way.Way.{Way}
 use Rattle.sy_intsolve_search.specs.Ways.{IsWay, IsClosedTree, IsSplit}
-use Rattle.sy_intsolve_search.specs.States.{IsSpentBy}
+use Rattle.sy_intsolve_search.specs.States.{is_spent, IsSearchEnd, IsSpentBy, AnswersQuery}
 
 -- ---- refutations
 no_layers : (order : Order) (q : LinearQuery) (facts : List Fact) (layers : List Layer) → layers ≡ [] → AreLayers order q [] layers facts → facts ≡ []
@@ -84,6 +87,22 @@ spent-range Free q limits way tree path run w n e f s = tt
 pub spent-known : (order : Order) (q : LinearQuery) (limits : Limits) (way : Way) (tree : Tree) (path : Path) (node : ℕ) → IsWay order q way Unfinished → way.inner ≤ limits.nodes → grown_tree_of tree ≡ plugged (layers_of way.steps.items) Unfinished → path.facts ≡ way.facts.items → (query_seen q way.facts.items).misfit ≡ Some node → IsSpentBy order q limits (spent.Range tree (range.Known path node))
 spent-known First q limits way tree path node w n e f s = (opens q limits.nodes way (grown_tree_of tree) path.facts w n e f, subst (λ facts. (query_seen q facts).misfit ≡ Some node) (sym f) s)
 spent-known Free q limits way tree path node w n e f s = tt
+
+-- ---- answers
+-- the end of a search that met no budget is an answer, and any end of one that splits on the first open test
+pub unspent-answers : {T : Type 0} (order : Order) (q : LinearQuery) (limits : Limits) (verdict : Verdict T Tree IntSpent ℤ) → IsSearchEnd order q limits verdict → is_spent verdict ≡ false → AnswersQuery q limits verdict
+unspent-answers order q limits (verdicts.Never tree) end e = end
+unspent-answers order q limits (verdicts.Model values) end e = end
+unspent-answers order q limits (verdicts.Spent spent) end e = absurd cc
+
+first-answers : {T : Type 0} (q : LinearQuery) (limits : Limits) (verdict : Verdict T Tree IntSpent ℤ) → IsSearchEnd First q limits verdict → AnswersQuery q limits verdict
+first-answers q limits (verdicts.Never tree) end = end
+first-answers q limits (verdicts.Model values) end = end
+first-answers q limits (verdicts.Spent spent) end = end
+
+pub first-end : {T E : Type 0} (q : LinearQuery) (limits : Limits) (end : Result (Verdict T Tree IntSpent ℤ) E) → IfOk end (IsSearchEnd First q limits) → IfOk end (AnswersQuery q limits)
+first-end q limits (Ok verdict) end = first-answers q limits verdict end
+first-end q limits (Err want) end = tt
 
 -- ---- splits
 -- a split at a point of the path

@@ -1,5 +1,5 @@
 -- The layers of a way that stands, with one more at the end and with one less.
-use Rattle.std.specs.Prelude.{◌≡◌, suc, Bool, true, false, not, List, [], ◌∷◌, ◌++◌}
+use Rattle.std.specs.Prelude.{◌≡◌, suc, Bool, true, false, List, [], ◌∷◌, ◌++◌}
 use Rattle.std.proofs.Common.{refl, sym, ap, subst}
 use Rattle.std.proofs.lemmas.List.{append_assoc, append-nil}
 use Rattle.sy_frac.specs.Fraction.{Fraction}
@@ -12,9 +12,9 @@ use Rattle.sy_intsolve_trees.specs.declared.fork.Fork.{Fork}
 use Rattle.sy_intsolve_trees.specs.declared.fork.Fork.TheVariants as forks
 use Rattle.sy_intsolve_trees.specs.declared.step.Order.{Order}
 use Rattle.sy_intsolve_trees.specs.Growing.{GrownTree, fork_fact, IsFork, inner}
-use Rattle.sy_intsolve_trees.specs.Steps.{Layer, layer_inner, layer_waiting, unbegun, IsOtherSide, IsLayer, AreLayers}
+use Rattle.sy_intsolve_trees.specs.Steps.{Layer, side_layer, layer_inner, layer_waiting, unbegun, IsLayer, AreLayers}
 use Rattle.sy_intsolve_trees.proofs.Layers.{layers-more, layers-last}
-use Rattle.sy_intsolve_search.specs.Ways.{CanTurn, side_layer, LayerTurns, AllTurn, Stand}
+use Rattle.sy_intsolve_search.specs.Ways.{CanTurn, LayerTurns, AllTurn, Stand}
 
 last_of : {A : Type 0} (x : A) (xs : List A) → (rest : List A) × ((last : A) × (x ∷ xs ≡ rest ++ last ∷ []))
 last_of x [] = ([], (x, refl))
@@ -72,10 +72,6 @@ pub stand-moved : (order : Order) (q : LinearQuery) (ls ms : List Layer) (fs gs 
 stand-moved order q ls ms fs gs e f s = subst (λ l. Stand order q l gs) (sym e) (subst (Stand order q ls) (sym f) s)
 
 -- ---- the layer to a side
-pub side-is : (order : Order) (q : LinearQuery) (path : List Fact) (fork : Fork) (p : List Fraction) (left : Bool) (other : GrownTree) (fact : Fact) → IsFork order q path fork p → IsOtherSide order q (path ++ fork_fact (not left) fork ∷ []) other → fact ≡ fork_fact left fork → IsLayer order q path (side_layer left fork p other) fact
-side-is order q path fork p true other fact f b e = (f, e, b)
-side-is order q path fork p false other fact f b e = (f, e, b)
-
 pub side-fork : (order : Order) (q : LinearQuery) (path : List Fact) (fork : Fork) (p : List Fraction) (left : Bool) (other : GrownTree) (fact : Fact) → IsLayer order q path (side_layer left fork p other) fact → IsFork order q path fork p × (fact ≡ fork_fact left fork)
 side-fork order q path fork p true other fact l = (l.0, l.1)
 side-fork order q path fork p false other fact l = (l.0, l.1)

@@ -1,5 +1,5 @@
 -- What the points of a path tell, and the sides of a fork.
-use Rattle.std.specs.Prelude.{◌≡◌, ℕ, true, List, length, ℤ}
+use Rattle.std.specs.Prelude.{◌≡◌, ℕ, true, List, ℤ}
 use Rattle.std.proofs.Common.{refl, ap, subst}
 use Rattle.sy_frac.specs.Fraction.{Fraction}
 use Rattle.sy_terms.specs.declared.sort.Sort.{Sort}
@@ -9,33 +9,26 @@ use Rattle.sy_linear_forms.specs.Forms.{form_negation}
 use Rattle.sy_terms.specs.declared.sort.Sort.TheVariants as sorts
 use Rattle.sy_linear_known.specs.declared.path.Fact.TheVariants.{AtLeast}
 use Rattle.sy_linear_known.specs.declared.path.Test.{Test}
-use Rattle.sy_linear_known.specs.Trees.{forms, added_fact, opposite_fact, at_or_below, IsOf}
+use Rattle.sy_linear_known.specs.Trees.{added_fact, opposite_fact, at_or_below, IsOf}
 use Rattle.sy_linear.specs.Judging.{suits, opposite_fits, is_int, Adds, split_outcome, branch_outcome}
-use Rattle.sy_simplex.specs.Answers.{TellsFeasible}
 use Rattle.sy_simplex.specs.declared.answer.Feasible.{Feasible}
 use Rattle.sy_simplex.specs.declared.answer.Feasible.TheVariants.{Point, Conflict, Pivots, Range}
-use Rattle.sy_intsolve_points.specs.Points.{IsPointOf, IsSoundFor}
+use Rattle.sy_intsolve_points.specs.Points.{IsPointOf, TellsPlace}
 use Rattle.sy_intsolve_trees.specs.declared.fork.Fork.{Fork}
 use Rattle.sy_intsolve_trees.specs.declared.fork.Fork.TheVariants as forks
 use Rattle.sy_intsolve_trees.specs.declared.step.Order.{Order}
 use Rattle.sy_intsolve_trees.specs.Growing.{IsFork}
-use Rattle.sy_intsolve_search.specs.Ways.{HasSides, CanTurn, TellsPoint, TellsCorner}
+use Rattle.sy_intsolve_search.specs.Ways.{HasSides, CanTurn, TellsPoint}
 
-pub tells-corner : (vars ws : List Sort) (path facts : List Fact) (pivots : ℕ) (answer : Feasible) → ws ≡ vars → facts ≡ path → IsSoundFor ws facts answer → TellsFeasible (length ws) (forms facts) pivots answer → TellsCorner vars path pivots answer
-tells-corner vars ws path facts pivots answer e f s t =
-    subst (λ v. TellsCorner v path pivots answer) e (subst (λ p. TellsCorner ws p pivots answer) f (by answer s t))
-  where
-    by : (answer : Feasible) → IsSoundFor ws facts answer → TellsFeasible (length ws) (forms facts) pivots answer → TellsCorner ws facts pivots answer
-    by (Point p) s t = s
-    by (Conflict ms) s t = s
-    by (Pivots run) s t = t
-    by (Range run) s t = t
+pub place-moved : (vars ws : List Sort) (path facts : List Fact) (pivots : ℕ) (answer : Feasible) → ws ≡ vars → facts ≡ path → TellsPlace ws facts pivots answer → TellsPlace vars path pivots answer
+place-moved vars ws path facts pivots answer e f t =
+    subst (λ v. TellsPlace v path pivots answer) e (subst (λ p. TellsPlace ws p pivots answer) f t)
 
-pub corner-point : (vars : List Sort) (path : List Fact) (pivots : ℕ) (answer : Feasible) → TellsCorner vars path pivots answer → TellsPoint vars path pivots answer
-corner-point vars path pivots (Point p) s = s.at
-corner-point vars path pivots (Conflict ms) s = s
-corner-point vars path pivots (Pivots run) s = s
-corner-point vars path pivots (Range run) s = s
+pub place-point : (vars : List Sort) (path : List Fact) (pivots : ℕ) (answer : Feasible) → TellsPlace vars path pivots answer → TellsPoint vars path pivots answer
+place-point vars path pivots (Point p) s = s.at
+place-point vars path pivots (Conflict ms) s = s
+place-point vars path pivots (Pivots run) s = s
+place-point vars path pivots (Range run) s = s
 
 -- the point of a fork is one of the path
 pub fork-at : (order : Order) (q : LinearQuery) (path : List Fact) (fork : Fork) (p : List Fraction) → IsFork order q path fork p → IsPointOf q.vars path p

@@ -16,13 +16,13 @@ use Rattle.sy_intsolve_trees.specs.declared.fork.Fork.{Fork}
 use Rattle.sy_intsolve_trees.specs.declared.step.Order.{Order}
 use Rattle.sy_intsolve_trees.specs.declared.step.Step.{Step}
 use Rattle.sy_intsolve_trees.specs.Growing.{GrownTree, Forked, Cut, Farkas, Shown, Unfinished, fork_fact, IsFork, IsGrowing, inner, is_closed}
-use Rattle.sy_intsolve_trees.specs.Steps.{Layer, Left, Right, Under, wrapped, layer_inner, inner_of, unbegun, layer_waiting, waiting, IsOtherSide, IsLayer, AreLayers}
+use Rattle.sy_intsolve_trees.specs.Steps.{Layer, Left, Right, Under, side_layer, wrapped, layer_inner, inner_of, unbegun, layer_waiting, waiting, IsOtherSide, IsLayer, AreLayers}
 use Rattle.sy_intsolve_trees.specs.Stored.{layer_of, layers_of}
-use Rattle.sy_intsolve_trees.proofs.Layers.{inner_of-last, waiting-last}
+use Rattle.sy_intsolve_trees.proofs.Layers.{side-is, inner_of-last, waiting-last}
 use Rattle.sy_intsolve_search.specs.declared.way.Way.{Way}
-use Rattle.sy_intsolve_search.specs.Ways.{CanTurn, side_layer, AllTurn, Stand, IsWay, IsLonger, IsLeaf, IsClosedTree, GoesOn, room_after}
+use Rattle.sy_intsolve_search.specs.Ways.{CanTurn, AllTurn, Stand, IsWay, IsLonger, IsLeaf, IsClosedTree, GoesOn, room_after}
 use Rattle.sy_intsolve_search.specs.States.{room_closed, room_open}
-use Rattle.sy_intsolve_search.proofs.Lists.{stand-more, stand-last, stand-moved, side-is, side-fork, side-turns, turns-side, side-inner, side-waiting, side-path}
+use Rattle.sy_intsolve_search.proofs.Lists.{stand-more, stand-last, stand-moved, side-fork, side-turns, turns-side, side-inner, side-waiting, side-path}
 
 -- ---- numbers
 inner-unfinished : inner Unfinished ≡ 0

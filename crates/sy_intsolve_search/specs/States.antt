@@ -1,5 +1,5 @@
 -- The states of a search, its turns and its answers.
-use Rattle.std.specs.Prelude.{◌≡◌, ℕ, ◌+◌, ◌*◌, ◌-◌, ◌<◌, ◌≤◌, true, not, List, [], length, ℤ, IfSome}
+use Rattle.std.specs.Prelude.{◌≡◌, ℕ, ◌+◌, ◌*◌, ◌-◌, ◌<◌, ◌≤◌, Bool, true, false, not, List, [], length, ℤ, IfSome}
 use Rattle.sy_terms.specs.Values.{Truth, Whole}
 use Rattle.sy_terms.specs.Denoted.{vals_of}
 use Rattle.sy_terms.specs.Meaning.{meaning}
@@ -18,7 +18,7 @@ use Rattle.sy_intsolve_trees.specs.declared.step.Order.TheVariants as orders
 use Rattle.sy_intsolve_trees.specs.declared.spent.IntSpent.{IntSpent}
 use Rattle.sy_intsolve_trees.specs.Budgets.{budget, Shows}
 use Rattle.sy_intsolve_trees.specs.Growing.{GrownTree, Unfinished}
-use Rattle.sy_intsolve_trees.specs.Steps.{Layer, layer_waiting, waiting}
+use Rattle.sy_intsolve_trees.specs.Steps.{Layer, side_layer, layer_waiting, waiting}
 use Rattle.sy_intsolve_trees.specs.Stored.{grown_tree_of, layer_of, layers_of}
 use Rattle.sy_intsolve_search.specs.declared.way.Way.{Way}
 use Rattle.sy_intsolve_search.specs.declared.state.State.{State}
@@ -27,7 +27,7 @@ use Rattle.sy_intsolve_search.specs.declared.state.Turn.{Turn}
 use Rattle.sy_intsolve_search.specs.declared.state.Turn.TheVariants as turns
 use Rattle.sy_intsolve_search.specs.declared.back.Beside.{Beside}
 use Rattle.sy_intsolve_search.specs.declared.back.Beside.TheVariants as beside
-use Rattle.sy_intsolve_search.specs.Ways.{side_layer, IsLeaf, IsClosedTree}
+use Rattle.sy_intsolve_search.specs.Ways.{IsLeaf, IsClosedTree}
 
 -- ---- answers
 -- values of the variables at which the query is true
@@ -43,6 +43,11 @@ abbrev pub AnswersQuery : {T : Type 0} → LinearQuery → Limits → Verdict T 
 AnswersQuery q limits (verdicts.Never tree) = TreeRefutes q [] (tree_shape_of tree)
 AnswersQuery q limits (verdicts.Model values) = IsModelOfQuery q values
 AnswersQuery q limits (verdicts.Spent spent) = IsSpentFor q limits spent
+
+abbrev pub is_spent : {T : Type 0} → Verdict T Tree IntSpent ℤ → Bool
+is_spent (verdicts.Never tree) = false
+is_spent (verdicts.Model values) = false
+is_spent (verdicts.Spent spent) = true
 
 -- the same where each split is on the first open test; else nothing is shown
 abbrev pub IsSpentBy : Order → LinearQuery → Limits → IntSpent → Type 0

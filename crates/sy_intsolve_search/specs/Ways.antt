@@ -15,7 +15,7 @@ use Rattle.sy_simplex.specs.declared.answer.Feasible.{Feasible}
 use Rattle.sy_simplex.specs.declared.answer.Feasible.TheVariants.{Point, Conflict, Pivots, Range}
 use Rattle.sy_simplex.specs.Runs.{RunIsSpent, IsOutOfRange}
 use Rattle.sy_intsolve_paths_laws.specs.Paths.{IsPath, TestIsOpen}
-use Rattle.sy_intsolve_points.specs.Points.{IsPointOf, IsCornerOf, IsFirstBroken, ValuesAreWhole}
+use Rattle.sy_intsolve_points.specs.Points.{IsPointOf, IsFirstBroken, ValuesAreWhole}
 use Rattle.sy_intsolve_trees.specs.declared.fork.Fork.{Fork}
 use Rattle.sy_intsolve_trees.specs.declared.fork.Fork.TheVariants as forks
 use Rattle.sy_intsolve_trees.specs.declared.step.Order.{Order}
@@ -46,11 +46,6 @@ CanTurn vars path (forks.Branch i k) = IsPath vars path × IsOf sorts.Int vars i
 -- what a node gives is two facts, or want of memory
 abbrev pub GivesTwoFacts : Result (Option (Fact × Fact)) CheckEnd → Type 0
 GivesTwoFacts outcome = (facts : Fact × Fact) × AnswersAt 0 outcome (Adds facts)
-
--- the layer to the left side, or else to the right one
-abbrev pub side_layer : Bool → Fork → List Fraction → GrownTree → Layer
-side_layer true fork p other = Left fork p other
-side_layer false fork p other = Right fork p other
 
 abbrev pub is_unfinished : GrownTree → Bool
 is_unfinished Unfinished = true
@@ -125,13 +120,6 @@ TellsPoint vars path pivots (Point p) = IsPointOf vars path p
 TellsPoint vars path pivots (Conflict ms) = IsContradiction ms (forms path)
 TellsPoint vars path pivots (Pivots run) = RunIsSpent (length vars) (forms path) pivots run.steps
 TellsPoint vars path pivots (Range run) = IsOutOfRange (length vars) (forms path) pivots run.steps
-
--- the same, where the point is a corner
-abbrev pub TellsCorner : List Sort → List Fact → ℕ → Feasible → Type 0
-TellsCorner vars path pivots (Point p) = IsCornerOf vars path p
-TellsCorner vars path pivots (Conflict ms) = IsContradiction ms (forms path)
-TellsCorner vars path pivots (Pivots run) = RunIsSpent (length vars) (forms path) pivots run.steps
-TellsCorner vars path pivots (Range run) = IsOutOfRange (length vars) (forms path) pivots run.steps
 
 -- the first value that isn't whole, of an integer variable; none where all are whole
 abbrev pub IsBrokenIn : List Sort → List Fraction → Option (ℕ × ℤ) → Type 0

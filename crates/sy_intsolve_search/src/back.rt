@@ -49,6 +49,7 @@ fn turned(step: Step, tree: Tree) -> Beside
     match step {
         Step::Left(fork, point, right) => {
             if is_unbegun(&right) {
+                drop(right);
                 Beside::Side(fork, point, false, tree)
             } else {
                 Beside::Whole(Step::Left(fork, point, right), tree)
@@ -56,6 +57,7 @@ fn turned(step: Step, tree: Tree) -> Beside
         }
         Step::Right(fork, point, left) => {
             if is_unbegun(&left) {
+                drop(left);
                 Beside::Side(fork, point, true, tree)
             } else {
                 Beside::Whole(Step::Right(fork, point, left), tree)
@@ -93,7 +95,7 @@ pub(crate) fn back(
     };
     match turned(step, tree) {
         Beside::Side(fork, point, left, other) => {
-            let state = enter(alloc, query, above, fork, point, left, other)?;
+            let state = enter(alloc, query, above, fork, point, left, Some(other))?;
             Ok(Turn::On(state))
         }
         Beside::Whole(whole, below) => {

@@ -19,7 +19,6 @@ use sy_intsolve_trees::Step;
 use sy_linear_known::Fact;
 use sy_meaning_integers::IntTheory;
 use sy_query_base::Query;
-use sy_query_decide::Verdict;
 use sy_seq::{Seq, Want};
 use sy_simplex_tableau::Tableau;
 
@@ -75,8 +74,7 @@ pub(crate) fn under(
     ensures { IfOk result (IsTurn plan.now.order (linear_query_of query.now) plan.now.limits (room_open plan.now.limits.nodes way)) }
 {
     if way.inner >= plan.limits.nodes {
-        let spent = spent_nodes(alloc, way)?;
-        return Ok(Turn::Over(Verdict::Spent(spent)));
+        return spent_nodes(alloc, way);
     }
     let Rounding { multipliers, form } = rounding;
     let step = Step::Under(multipliers, 1, point);

@@ -1,12 +1,13 @@
 // Inner nodes with two sides, and the side at which a search goes on.
-ghost use Rattle.std.specs.Prelude.{◌≡◌, ◌≤◌, true, false, ℕ, IfOk};
+ghost use Rattle.std.specs.Prelude.{◌≡◌, ◌≤◌, ◌∷◌, ◌++◌, [], List, true, false, ℕ, IfOk, IfSome};
 ghost use Rattle.sy_linear_known.specs.declared.path.Fact.{Fact as FactOf};
 ghost use Rattle.sy_linear.specs.Judging.{AnswersAt, Adds};
 ghost use Rattle.sy_linear_known.specs.Stored.{linear_query_of};
 ghost use Rattle.sy_intsolve_trees.specs.Growing.{fork_fact};
-ghost use Rattle.sy_intsolve_trees.specs.Stored.{grown_tree_of, layer_of};
+ghost use Rattle.sy_intsolve_trees.specs.Stored.{side_of};
+ghost use Rattle.sy_intsolve_points.specs.Points.{IsPointOf};
 ghost use Rattle.sy_intsolve_trees.specs.declared.step.Order.{Order};
-ghost use Rattle.sy_intsolve_search.specs.Ways.{CanTurn, HasSides, GivesTwoFacts, side_layer, GoesOn, room_after};
+ghost use Rattle.sy_intsolve_search.specs.Ways.{CanTurn, HasSides, GivesTwoFacts, GoesOn, room_after};
 ghost use Rattle.sy_intsolve_search.specs.States.{nodes_left, IsState};
 
 use crate::state::State;
@@ -51,17 +52,12 @@ fn fact_of(alloc: Global, vars: &[Sort], fork: &Fork, left: bool) -> Result<Fact
     ensures { IfOk result (λ fact. fact ≡ fork_fact left fork.now) }
 {
     let (below, above) = both_facts(alloc, vars, fork)?;
-    if left { Ok(below) } else { Ok(above) }
-}
-
-/// The step to the left side, or else to the right one, where the tree is the other side.
-fn step_to(left: bool, fork: Fork, point: Seq<Frac>, other: Tree) -> Step
-    ensures { layer_of result ≡ side_layer left fork point (grown_tree_of other) }
-{
     if left {
-        Step::Left(fork, point, other)
+        drop(above);
+        Ok(below)
     } else {
-        Step::Right(fork, point, other)
+        drop(below);
+        Ok(above)
     }
 }
 
@@ -76,9 +72,33 @@ pub(crate) fn goes_left(fork: &Fork, point: &[Frac]) -> bool {
     }
 }
 
-/// The open leaf on the left of the fork at the end of the way, or else on its right; the tree is the other side, and the
-/// way's inner nodes are counted with the fork and that side. The fork's point is kept where it is known to meet the new
-/// fact.
+/// The fact of the left side, or else that of the right one, and the point where it is known to meet the fact.
+fn ahead(
+    alloc: Global,
+    query: &Query<IntTheory>,
+    fork: &Fork,
+    point: &[Frac],
+    left: bool,
+) -> Result<(Fact, Option<Seq<Frac>>), Want>
+    requires { HasSides query.now.vars fork.now }
+    ensures fact { IfOk result (λ found. found.0 ≡ fork_fact left fork.now) }
+    ensures near { (path : List FactOf) → IsPointOf query.now.vars path point.now → IfOk result (λ found. IfSome found.1 (IsPointOf query.now.vars (path ++ found.0 ∷ []))) }
+{
+    let vars = query.vars.as_slice();
+    let fact = fact_of(alloc, vars, fork, left)?;
+    match kept(alloc, point, &fact) {
+        Ok(near) => Ok((fact, near)),
+        Err(want) => {
+            drop(fact);
+            Err(want)
+        }
+    }
+}
+
+/// The open leaf on the left of the fork at the end of the way, or else on its right, beside the other side, which isn't
+/// begun where there is none; the way's inner nodes are counted with the fork and that side. The fork's point is kept where
+/// it is known to meet the new fact. What isn't handed on is let go of by calls, since a proof walks through all that a
+/// tree may be wherever one goes out of scope.
 pub(crate) fn enter(
     alloc: Global,
     query: &Query<IntTheory>,
@@ -86,17 +106,23 @@ pub(crate) fn enter(
     fork: Fork,
     point: Seq<Frac>,
     left: bool,
-    other: Tree,
+    other: Option<Tree>,
 ) -> Result<State, Want>
     requires { CanTurn query.now.vars way.facts.items fork }
-    ensures state { (order : Order) (nodes : ℕ) → GoesOn order (linear_query_of query.now) way fork point left (grown_tree_of other) → way.inner ≤ nodes → IfOk result (IsState order (linear_query_of query.now) nodes) }
-    ensures room { (nodes : ℕ) → IfOk result (λ next. nodes_left nodes next ≡ room_after nodes way (grown_tree_of other)) }
+    ensures state { (order : Order) (nodes : ℕ) → GoesOn order (linear_query_of query.now) way fork point left (side_of other) → way.inner ≤ nodes → IfOk result (IsState order (linear_query_of query.now) nodes) }
+    ensures room { (nodes : ℕ) → IfOk result (λ next. nodes_left nodes next ≡ room_after nodes way (side_of other)) }
 {
-    let vars = query.vars.as_slice();
-    let fact = fact_of(alloc, vars, &fork, left)?;
     let here = point.as_slice();
-    let near = kept(alloc, here, &fact)?;
-    let step = step_to(left, fork, point, other);
-    let next = way.longer(fact, step)?;
-    Ok(State::Open(next, near))
+    match ahead(alloc, query, &fork, here, left) {
+        Ok((fact, near)) => {
+            let step = Step::to_side(left, fork, point, other);
+            let next = way.longer(fact, step)?;
+            Ok(State::Open(next, near))
+        }
+        Err(want) => {
+            drop(fork);
+            drop(other);
+            Err(want)
+        }
+    }
 }

@@ -4,7 +4,8 @@ ghost use Rattle.sy_linear_known.specs.declared.answer.Known.TheVariants as know
 ghost use Rattle.sy_linear_known.specs.Right.{KnownIsRight};
 ghost use Rattle.sy_linear_known.specs.Seen.{query_known};
 ghost use Rattle.sy_linear_known.specs.Stored.{linear_query_of};
-ghost use Rattle.sy_intsolve_points.specs.Points.{IsPointOf, IsCornerOf};
+ghost use Rattle.sy_intsolve_points.specs.Points.{IsPointOf, IsCornerOf, IsPlaceOf};
+ghost use Rattle.sy_intsolve_trees.specs.declared.fork.Fork.TheVariants.{Branch};
 ghost use Rattle.sy_intsolve_trees.specs.Growing.{IsFork};
 ghost use Rattle.sy_intsolve_search.specs.Ways.{IsNumberedQuery, IsLeaf, IsSplit, CanTurn};
 ghost use Rattle.sy_intsolve_search.specs.States.{IsTurn, room_open};
@@ -12,9 +13,9 @@ ghost use Rattle.sy_intsolve_search.specs.States.{IsTurn, room_open};
 use crate::choosing::guessed_test;
 use crate::cut::{cut_at, under};
 use crate::fork::{enter, goes_left};
-use crate::open::{broken, corner_at, known_at, near, point_at};
+use crate::open::{broken, known_at, near, place_at, point_at};
 use crate::plan::Plan;
-use crate::spent::{model, spent_known, spent_nodes, spent_pivots, spent_range, whole_model};
+use crate::spent::{model, spent_known, spent_nodes, spent_pivots, spent_range};
 use crate::state::{State, Turn};
 use crate::way::Way;
 use std::alloc::Global;
@@ -25,7 +26,6 @@ use sy_intsolve_trees::Fork;
 use sy_linear_known::{Known, Test, Tree};
 use sy_meaning_integers::IntTheory;
 use sy_query_base::Query;
-use sy_query_decide::Verdict;
 use sy_seq::{Seq, Want};
 use sy_simplex::{Ended, Feasible};
 use sy_simplex_tableau::Tableau;
@@ -45,23 +45,24 @@ fn grow(
     ensures { IfOk result (IsTurn plan.now.order (linear_query_of query.now) plan.now.limits (room_open plan.now.limits.nodes way)) }
 {
     if way.inner >= plan.limits.nodes {
-        let spent = spent_nodes(alloc, way)?;
-        return Ok(Turn::Over(Verdict::Spent(spent)));
+        drop(fork);
+        return spent_nodes(alloc, way);
     }
     let here = point.as_slice();
     let left = goes_left(&fork, here);
     let grown = way.counted();
-    let state = enter(alloc, query, grown, fork, point, left, Tree::Unfinished)?;
+    let state = enter(alloc, query, grown, fork, point, left, None)?;
     Ok(Turn::On(state))
 }
 
-/// A cut at the corner at the end of the way, where the last tableau suggests one, or else the branch.
+/// A cut at the corner at the end of the way, where the last tableau suggests one, or else the branch on the variable's
+/// value.
 fn cut_or_branch(
     alloc: Global,
     query: &Query<IntTheory>,
     plan: &Plan,
     way: Way,
-    branch: Fork,
+    value: (u32, i128),
     point: Seq<Frac>,
     last: Option<Tableau>,
 ) -> Result<Turn, Want>
@@ -69,23 +70,24 @@ fn cut_or_branch(
     requires leaf { IsLeaf plan.now.order (linear_query_of query.now) plan.now.limits.nodes way }
     requires known { query_known (linear_query_of query.now) way.facts.items ≡ known.True }
     requires corner { IsCornerOf query.now.vars way.facts.items point }
-    requires fork { IsFork plan.now.order (linear_query_of query.now) way.facts.items branch point }
-    requires turns { CanTurn query.now.vars way.facts.items branch }
+    requires fork { IsFork plan.now.order (linear_query_of query.now) way.facts.items (Branch value.0 value.1) point }
+    requires turns { CanTurn query.now.vars way.facts.items (Branch value.0 value.1) }
     ensures { IfOk result (IsTurn plan.now.order (linear_query_of query.now) plan.now.limits (room_open plan.now.limits.nodes way)) }
 {
     let here = point.as_slice();
     let found = cut_at(alloc, query, &way, here, last)?;
-    if let Some(rounding) = found {
-        let turn = under(alloc, query, plan, way, rounding, point)?;
-        return Ok(turn);
+    match found {
+        Some(rounding) => under(alloc, query, plan, way, rounding, point),
+        None => {
+            let branch = Fork::Branch(value.0, value.1);
+            grow(alloc, query, plan, way, branch, point)
+        }
     }
-    let turn = grow(alloc, query, plan, way, branch, point)?;
-    Ok(turn)
 }
 
-/// A turn at a corner of the path of a leaf at which the query is known true: a whole corner is a model, and else comes a
-/// cut, or a branch on the first value that isn't whole.
-fn at_corner(
+/// A turn at a point of the path of a leaf at which the query is known true: where each value is whole a model, and else, at
+/// a corner, a cut or a branch on the first value that isn't whole.
+fn at_place(
     alloc: Global,
     query: &Query<IntTheory>,
     plan: &Plan,
@@ -97,20 +99,13 @@ fn at_corner(
     requires leaf { IsLeaf plan.now.order (linear_query_of query.now) plan.now.limits.nodes way }
     requires known { query_known (linear_query_of query.now) way.facts.items ≡ known.True }
     requires right { KnownIsRight (linear_query_of query.now) way.facts.items known.True }
-    requires corner { IsCornerOf query.now.vars way.facts.items point }
+    requires place { IsPlaceOf query.now.vars way.facts.items point }
     ensures { IfOk result (IsTurn plan.now.order (linear_query_of query.now) plan.now.limits (room_open plan.now.limits.nodes way)) }
 {
     let here = point.as_slice();
     match broken(query, &way, here) {
-        None => {
-            let values = model(alloc, query, &way, here)?;
-            Ok(Turn::Over(Verdict::Model(values)))
-        }
-        Some((variable, bound)) => {
-            let branch = Fork::Branch(variable, bound);
-            let turn = cut_or_branch(alloc, query, plan, way, branch, point, last)?;
-            Ok(turn)
-        }
+        None => model(alloc, query, &way, here),
+        Some(value) => cut_or_branch(alloc, query, plan, way, value, point, last),
     }
 }
 
@@ -129,30 +124,15 @@ fn settled(
     requires right { KnownIsRight (linear_query_of query.now) way.facts.items known.True }
     ensures { IfOk result (IsTurn plan.now.order (linear_query_of query.now) plan.now.limits (room_open plan.now.limits.nodes way)) }
 {
-    if let Some(near) = point {
-        let here = near.as_slice();
-        if let Some(values) = whole_model(alloc, query, &way, here)? {
-            return Ok(Turn::Over(Verdict::Model(values)));
-        }
-    }
-    let end = corner_at(alloc, query, plan.limits.pivots, &way)?;
+    let end = place_at(alloc, query, plan.limits.pivots, &way, point)?;
     let Ended { answer, last } = end;
     match answer {
-        Feasible::Point(corner) => {
-            let turn = at_corner(alloc, query, plan, way, corner, last)?;
-            Ok(turn)
-        }
+        Feasible::Point(place) => at_place(alloc, query, plan, way, place, last),
         Feasible::Conflict(multipliers) => {
             Ok(Turn::On(State::Closed(way, Tree::Farkas(multipliers))))
         }
-        Feasible::Pivots(run) => {
-            let spent = spent_pivots(alloc, way, run)?;
-            Ok(Turn::Over(Verdict::Spent(spent)))
-        }
-        Feasible::Range(run) => {
-            let spent = spent_range(alloc, way, run)?;
-            Ok(Turn::Over(Verdict::Spent(spent)))
-        }
+        Feasible::Pivots(run) => spent_pivots(alloc, way, run),
+        Feasible::Range(run) => spent_range(alloc, way, run),
     }
 }
 
@@ -173,20 +153,18 @@ fn undecided(
 {
     let answer = point_at(alloc, query, plan.limits.pivots, &way, point)?;
     match answer {
-        Feasible::Point(near) => {
-            let turn = grow(alloc, query, plan, way, Fork::Split(test), near)?;
-            Ok(turn)
-        }
+        Feasible::Point(near) => grow(alloc, query, plan, way, Fork::Split(test), near),
         Feasible::Conflict(multipliers) => {
+            drop(test);
             Ok(Turn::On(State::Closed(way, Tree::Farkas(multipliers))))
         }
         Feasible::Pivots(run) => {
-            let spent = spent_pivots(alloc, way, run)?;
-            Ok(Turn::Over(Verdict::Spent(spent)))
+            drop(test);
+            spent_pivots(alloc, way, run)
         }
         Feasible::Range(run) => {
-            let spent = spent_range(alloc, way, run)?;
-            Ok(Turn::Over(Verdict::Spent(spent)))
+            drop(test);
+            spent_range(alloc, way, run)
         }
     }
 }
@@ -206,19 +184,10 @@ fn told(
 {
     let known = known_at(alloc, query, &way)?;
     match known {
-        Known::True => {
-            let turn = settled(alloc, query, plan, way, point)?;
-            Ok(turn)
-        }
+        Known::True => settled(alloc, query, plan, way, point),
         Known::False => Ok(Turn::On(State::Closed(way, Tree::Shown))),
-        Known::Undecided(test) => {
-            let turn = undecided(alloc, query, plan, way, point, test)?;
-            Ok(turn)
-        }
-        Known::OutOfRange(node) => {
-            let spent = spent_known(alloc, way, node)?;
-            Ok(Turn::Over(Verdict::Spent(spent)))
-        }
+        Known::Undecided(test) => undecided(alloc, query, plan, way, point, test),
+        Known::OutOfRange(node) => spent_known(alloc, way, node),
     }
 }
 
@@ -237,12 +206,11 @@ fn opened(
     requires kept { IfSome point (IsPointOf query.now.vars way.facts.items) }
     ensures { IfOk result (IsTurn plan.now.order (linear_query_of query.now) plan.now.limits (room_open plan.now.limits.nodes way)) }
 {
-    if let Some(test) = guessed_test(alloc, query, plan, guide, &way)? {
-        let turn = undecided(alloc, query, plan, way, point, test)?;
-        return Ok(turn);
+    let found = guessed_test(alloc, query, plan, guide, &way)?;
+    match found {
+        Some(test) => undecided(alloc, query, plan, way, point, test),
+        None => told(alloc, query, plan, way, point),
     }
-    let turn = told(alloc, query, plan, way, point)?;
-    Ok(turn)
 }
 
 /// A turn at an open leaf, with a point of its path where one is kept: where few of the path's facts refute it, they close the
@@ -262,16 +230,10 @@ pub(crate) fn look(
 {
     let told = near(alloc, query, plan.limits.pivots, &way, point)?;
     match told {
-        Near::Point(here) => {
-            let turn = opened(alloc, query, plan, guide, way, Some(here))?;
-            Ok(turn)
-        }
+        Near::Point(here) => opened(alloc, query, plan, guide, way, Some(here)),
         Near::Conflict(multipliers) => {
             Ok(Turn::On(State::Closed(way, Tree::Farkas(multipliers))))
         }
-        Near::Unknown => {
-            let turn = opened(alloc, query, plan, guide, way, None)?;
-            Ok(turn)
-        }
+        Near::Unknown => opened(alloc, query, plan, guide, way, None),
     }
 }

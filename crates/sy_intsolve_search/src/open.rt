@@ -4,14 +4,14 @@ ghost use Rattle.sy_linear_known.specs.Right.{KnownIsRight, IsMisfit};
 ghost use Rattle.sy_linear_known.specs.Seen.{query_known};
 ghost use Rattle.sy_linear_known.specs.Stored.{linear_query_of};
 ghost use Rattle.sy_intsolve_paths_laws.specs.Paths.{IsPath};
-ghost use Rattle.sy_intsolve_points.specs.Points.{IsPointOf};
+ghost use Rattle.sy_intsolve_points.specs.Points.{IsPointOf, TellsPlace};
 ghost use Rattle.sy_intsolve_subsets.specs.Telling.{IsNear};
-ghost use Rattle.sy_intsolve_search.specs.Ways.{IsNumberedQuery, IsBrokenIn, TellsCorner, TellsPoint};
+ghost use Rattle.sy_intsolve_search.specs.Ways.{IsNumberedQuery, IsBrokenIn, TellsPoint};
 
 use crate::way::Way;
 use std::alloc::Global;
 use sy_frac::Frac;
-use sy_intsolve_points::{corner, first_broken};
+use sy_intsolve_points::{first_broken, whole_or_corner};
 use sy_intsolve_subsets::{Near, by_few_facts};
 use sy_linear_known::{Known, known_under};
 use sy_meaning_integers::IntTheory;
@@ -31,20 +31,23 @@ pub(crate) fn known_at(alloc: Global, query: &Query<IntTheory>, way: &Way) -> Re
     Ok(known)
 }
 
-/// A corner of the way's path and the last tableau, multipliers that refute it, or the budget that was met.
-pub(crate) fn corner_at(
+/// A point of the way's path that is whole, the kept one where that is so, or a corner and the last tableau; multipliers that
+/// refute the path, or the budget that was met.
+pub(crate) fn place_at(
     alloc: Global,
     query: &Query<IntTheory>,
     pivots: u32,
     way: &Way,
+    point: Option<Seq<Frac>>,
 ) -> Result<Ended, Want>
     requires asked { IsNumberedQuery (linear_query_of query.now) }
     requires path { IsPath query.now.vars way.now.facts.items }
-    ensures { IfOk result (λ end. TellsCorner query.now.vars way.now.facts.items pivots end.answer) }
+    requires kept { IfSome point (IsPointOf query.now.vars way.now.facts.items) }
+    ensures { IfOk result (λ end. TellsPlace query.now.vars way.now.facts.items pivots end.answer) }
 {
     let vars = query.vars.as_slice();
     let facts = way.facts.as_slice();
-    let end = corner(alloc, vars, facts, pivots)?;
+    let end = whole_or_corner(alloc, vars, facts, pivots, point)?;
     Ok(end)
 }
 
@@ -109,7 +112,7 @@ pub(crate) fn point_at(
     if let Some(point) = point {
         return Ok(Feasible::Point(point));
     }
-    let end = corner_at(alloc, query, pivots, way)?;
+    let end = place_at(alloc, query, pivots, way, None)?;
     Ok(end.answer)
 }
 

@@ -2,7 +2,7 @@
 ghost use Rattle.std.specs.Prelude.{◌≡◌, IfOk};
 ghost use Rattle.sy_linear_known.specs.Stored.{linear_query_of};
 ghost use Rattle.sy_intsolve_search.specs.Ways.{IsNumberedQuery};
-ghost use Rattle.sy_intsolve_search.specs.States.{IsState, IsTurn, nodes_left, IsSearchEnd, AnswersQuery};
+ghost use Rattle.sy_intsolve_search.specs.States.{IsState, IsTurn, nodes_left, is_spent, IsSearchEnd, AnswersQuery};
 
 use crate::back::back;
 use crate::leaf::look;
@@ -31,14 +31,8 @@ fn next_turn(
     ensures { IfOk result (IsTurn plan.now.order (linear_query_of query.now) plan.now.limits (nodes_left plan.now.limits.nodes state)) }
 {
     match state {
-        State::Open(way, point) => {
-            let next = look(alloc, query, plan, guide, way, point)?;
-            Ok(next)
-        }
-        State::Closed(way, tree) => {
-            let next = back(alloc, query, way, tree)?;
-            Ok(next)
-        }
+        State::Open(way, point) => look(alloc, query, plan, guide, way, point),
+        State::Closed(way, tree) => back(alloc, query, way, tree),
     }
 }
 
@@ -62,6 +56,16 @@ fn search(
     }
 }
 
+/// Whether a budget was met.
+fn is_spent(verdict: &Verdict<IntTheory, Tree, IntSpent>) -> bool
+    ensures { result ≡ is_spent verdict.now }
+{
+    match verdict {
+        Verdict::Never(_) | Verdict::Model(_) => false,
+        Verdict::Spent(_) => true,
+    }
+}
+
 /// Whether an assignment satisfies the query, by a tree of at most `limits.nodes` inner nodes, with at most `limits.pivots`
 /// steps of the simplex method at one leaf. `Never` has a tree that refutes the query, `Model` an assignment that satisfies
 /// it, and `Spent` an unfinished tree, each split of which is on the first open test, that shows which budget was met.
@@ -77,20 +81,31 @@ pub fn solve_query(
     ensures { IfOk result (AnswersQuery (linear_query_of query.now) limits.now) }
 {
     let mut guide = Guide::new(alloc, query)?;
+    search_twice(alloc, query, limits, &mut guide)
+}
+
+/// The end of the search that is free in its splits; where that meets a budget, of the one that splits on the first open test.
+fn search_twice(
+    alloc: Global,
+    query: &Query<IntTheory>,
+    limits: &Limits,
+    guide: &mut Guide,
+) -> Result<Verdict<IntTheory, Tree, IntSpent>, Want>
+    requires asked { IsNumberedQuery (linear_query_of query.now) }
+    ensures { IfOk result (AnswersQuery (linear_query_of query.now) limits.now) }
+{
     let free = Plan {
         limits: *limits,
         order: Order::Free,
     };
-    match search(alloc, query, &free, &mut guide)? {
-        Verdict::Never(tree) => Ok(Verdict::Never(tree)),
-        Verdict::Model(values) => Ok(Verdict::Model(values)),
-        Verdict::Spent(_) => {
-            let first = Plan {
-                limits: *limits,
-                order: Order::First,
-            };
-            let verdict = search(alloc, query, &first, &mut guide)?;
-            Ok(verdict)
-        }
+    let verdict = search(alloc, query, &free, guide)?;
+    if !is_spent(&verdict) {
+        return Ok(verdict);
     }
+    drop(verdict);
+    let first = Plan {
+        limits: *limits,
+        order: Order::First,
+    };
+    search(alloc, query, &first, guide)
 }

@@ -1,5 +1,5 @@
 // The ends of a search: a model, or what shows that a budget was met.
-ghost use Rattle.std.specs.Prelude.{◌≡◌, ◌≤◌, Some, length, IfOk, IfSome};
+ghost use Rattle.std.specs.Prelude.{◌≡◌, ◌≤◌, ℕ, Some, length, IfOk};
 ghost use Rattle.sy_query_limits.specs.declared.Limits.{Limits as LimitsOf};
 ghost use Rattle.sy_linear_known.specs.declared.answer.Known.TheVariants as known;
 ghost use Rattle.sy_linear_known.specs.Right.{KnownIsRight};
@@ -12,9 +12,9 @@ ghost use Rattle.sy_intsolve_points.specs.Points.{IsPointOf, ValuesAreWhole};
 ghost use Rattle.sy_intsolve_trees.specs.declared.step.Order.{Order};
 ghost use Rattle.sy_intsolve_trees.specs.Growing.{Unfinished};
 ghost use Rattle.sy_intsolve_search.specs.Ways.{IsNumberedQuery, IsWay};
-ghost use Rattle.sy_intsolve_search.specs.States.{IsSpentBy, IsModelOfQuery};
+ghost use Rattle.sy_intsolve_search.specs.States.{IsTurn};
 
-use crate::open::broken;
+use crate::state::Turn;
 use crate::way::Way;
 use std::alloc::Global;
 use sy_frac::Frac;
@@ -23,21 +23,21 @@ use sy_intsolve_trees::{IntRange, IntSpent, plugged};
 use sy_linear_known::{Path, Tree};
 use sy_meaning_integers::IntTheory;
 use sy_query_base::Query;
+use sy_query_decide::Verdict;
 use sy_seq::{Seq, Want};
 use sy_simplex::Run;
-use sy_terms::Values;
 
-/// The tree so far, whose inner nodes are as many as allowed.
-pub(crate) fn spent_nodes(alloc: Global, way: Way) -> Result<IntSpent, Want>
-    ensures { (order : Order) (query : QueryOf) (limits : LimitsOf) → IsWay order query way Unfinished → way.inner ≡ limits.nodes → IfOk result (IsSpentBy order query limits) }
+/// The end with the tree so far, whose inner nodes are as many as allowed.
+pub(crate) fn spent_nodes(alloc: Global, way: Way) -> Result<Turn, Want>
+    ensures { (order : Order) (query : QueryOf) (limits : LimitsOf) (before : ℕ) → IsWay order query way Unfinished → way.inner ≡ limits.nodes → IfOk result (IsTurn order query limits before) }
 {
     let tree = plugged(alloc, way.steps, Tree::Unfinished)?;
-    Ok(IntSpent::Nodes(tree))
+    Ok(Turn::Over(Verdict::Spent(IntSpent::Nodes(tree))))
 }
 
-/// The tree so far and the way's path, under which the simplex method took as many steps as allowed.
-pub(crate) fn spent_pivots(alloc: Global, way: Way, run: Run) -> Result<IntSpent, Want>
-    ensures { (order : Order) (query : QueryOf) (limits : LimitsOf) → IsWay order query way Unfinished → way.inner ≤ limits.nodes → RunIsSpent (length query.vars) (forms way.facts.items) limits.pivots run.steps → IfOk result (IsSpentBy order query limits) }
+/// The end with the tree so far and the way's path, under which the simplex method took as many steps as allowed.
+pub(crate) fn spent_pivots(alloc: Global, way: Way, run: Run) -> Result<Turn, Want>
+    ensures { (order : Order) (query : QueryOf) (limits : LimitsOf) (before : ℕ) → IsWay order query way Unfinished → way.inner ≤ limits.nodes → RunIsSpent (length query.vars) (forms way.facts.items) limits.pivots run.steps → IfOk result (IsTurn order query limits before) }
 {
     let Way {
         facts,
@@ -48,12 +48,12 @@ pub(crate) fn spent_pivots(alloc: Global, way: Way, run: Run) -> Result<IntSpent
     let path = Path {
         facts: Seq::from(facts),
     };
-    Ok(IntSpent::Pivots(tree, path, run))
+    Ok(Turn::Over(Verdict::Spent(IntSpent::Pivots(tree, path, run))))
 }
 
-/// The tree so far and the way's path, under which an operation of the simplex method doesn't fit.
-pub(crate) fn spent_range(alloc: Global, way: Way, run: Run) -> Result<IntSpent, Want>
-    ensures { (order : Order) (query : QueryOf) (limits : LimitsOf) → IsWay order query way Unfinished → way.inner ≤ limits.nodes → IsOutOfRange (length query.vars) (forms way.facts.items) limits.pivots run.steps → IfOk result (IsSpentBy order query limits) }
+/// The end with the tree so far and the way's path, under which an operation of the simplex method doesn't fit.
+pub(crate) fn spent_range(alloc: Global, way: Way, run: Run) -> Result<Turn, Want>
+    ensures { (order : Order) (query : QueryOf) (limits : LimitsOf) (before : ℕ) → IsWay order query way Unfinished → way.inner ≤ limits.nodes → IsOutOfRange (length query.vars) (forms way.facts.items) limits.pivots run.steps → IfOk result (IsTurn order query limits before) }
 {
     let Way {
         facts,
@@ -64,12 +64,12 @@ pub(crate) fn spent_range(alloc: Global, way: Way, run: Run) -> Result<IntSpent,
     let path = Path {
         facts: Seq::from(facts),
     };
-    Ok(IntSpent::Range(tree, IntRange::Simplex(path, run)))
+    Ok(Turn::Over(Verdict::Spent(IntSpent::Range(tree, IntRange::Simplex(path, run)))))
 }
 
-/// The tree so far and the way's path, under which a form of the query isn't built at the node of this number.
-pub(crate) fn spent_known(alloc: Global, way: Way, node: u32) -> Result<IntSpent, Want>
-    ensures { (order : Order) (query : QueryOf) (limits : LimitsOf) → IsWay order query way Unfinished → way.inner ≤ limits.nodes → (query_seen query way.facts.items).misfit ≡ Some node → IfOk result (IsSpentBy order query limits) }
+/// The end with the tree so far and the way's path, under which a form of the query isn't built at the node of this number.
+pub(crate) fn spent_known(alloc: Global, way: Way, node: u32) -> Result<Turn, Want>
+    ensures { (order : Order) (query : QueryOf) (limits : LimitsOf) (before : ℕ) → IsWay order query way Unfinished → way.inner ≤ limits.nodes → (query_seen query way.facts.items).misfit ≡ Some node → IfOk result (IsTurn order query limits before) }
 {
     let Way {
         facts,
@@ -80,47 +80,25 @@ pub(crate) fn spent_known(alloc: Global, way: Way, node: u32) -> Result<IntSpent
     let path = Path {
         facts: Seq::from(facts),
     };
-    Ok(IntSpent::Range(tree, IntRange::Known(path, node)))
+    Ok(Turn::Over(Verdict::Spent(IntSpent::Range(tree, IntRange::Known(path, node)))))
 }
 
-/// The assignment of a whole point of the way's path, which makes the query true.
+/// The end with the assignment of a whole point of the way's path, which makes the query true.
 pub(crate) fn model(
     alloc: Global,
     query: &Query<IntTheory>,
     way: &Way,
     point: &[Frac],
-) -> Result<Values<IntTheory>, Want>
+) -> Result<Turn, Want>
     requires asked { IsNumberedQuery (linear_query_of query.now) }
     requires path { IsPath query.now.vars way.now.facts.items }
     requires right { KnownIsRight (linear_query_of query.now) way.now.facts.items known.True }
     requires at { IsPointOf query.now.vars way.now.facts.items point.now }
     requires whole { ValuesAreWhole point.now }
-    ensures { IfOk result (IsModelOfQuery (linear_query_of query.now)) }
+    ensures { (order : Order) (limits : LimitsOf) (before : ℕ) → IfOk result (IsTurn order (linear_query_of query.now) limits before) }
 {
     let vars = query.vars.as_slice();
     let facts = way.facts.as_slice();
     let values = values_of(alloc, vars, facts, point)?;
-    Ok(values)
-}
-
-/// The assignment of a point of the way's path, where the point is whole.
-pub(crate) fn whole_model(
-    alloc: Global,
-    query: &Query<IntTheory>,
-    way: &Way,
-    point: &[Frac],
-) -> Result<Option<Values<IntTheory>>, Want>
-    requires asked { IsNumberedQuery (linear_query_of query.now) }
-    requires path { IsPath query.now.vars way.now.facts.items }
-    requires right { KnownIsRight (linear_query_of query.now) way.now.facts.items known.True }
-    requires at { IsPointOf query.now.vars way.now.facts.items point.now }
-    ensures { IfOk result (λ found. IfSome found (IsModelOfQuery (linear_query_of query.now))) }
-{
-    match broken(query, way, point) {
-        None => {
-            let values = model(alloc, query, way, point)?;
-            Ok(Some(values))
-        }
-        Some(_) => Ok(None),
-    }
+    Ok(Turn::Over(Verdict::Model(values)))
 }

@@ -61,8 +61,8 @@ impl Way {
             mut steps,
             inner,
         } = self;
-        facts.push(fact)?;
         steps.push(step)?;
+        facts.push(fact)?;
         Ok(Way {
             facts,
             steps,

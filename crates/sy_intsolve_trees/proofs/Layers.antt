@@ -1,12 +1,30 @@
 -- What holds of the whole tree, by its layers and what stands at their end.
-use Rattle.std.specs.Prelude.{◌≡◌, ◌+◌, true, false, List, [], ◌∷◌, ◌++◌}
+use Rattle.std.specs.Prelude.{◌≡◌, ◌+◌, Bool, true, false, not, List, [], ◌∷◌, ◌++◌, Option, Some, None, IfSome}
 use Rattle.std.proofs.Common.{refl, sym, ◌∙◌, ap, subst, arith, inl, inr}
 use Rattle.std.proofs.lemmas.List.{append_assoc, append-nil}
+use Rattle.sy_frac.specs.Fraction.{Fraction}
 use Rattle.sy_linear_known.specs.declared.path.Fact.{Fact}
+use Rattle.sy_linear_known.specs.declared.tree.Tree.{Tree}
 use Rattle.sy_linear_known.specs.Seen.{LinearQuery}
+use Rattle.sy_intsolve_trees.specs.declared.fork.Fork.{Fork}
 use Rattle.sy_intsolve_trees.specs.declared.step.Order.{Order}
-use Rattle.sy_intsolve_trees.specs.Growing.{GrownTree, fork_fact, IsGrowing, LeadsTo, inner}
-use Rattle.sy_intsolve_trees.specs.Steps.{Layer, Left, Right, Under, wrapped, plugged, layer_inner, inner_of, layer_waiting, waiting, IsOtherSide, IsLayer, AreLayers}
+use Rattle.sy_intsolve_trees.specs.Growing.{GrownTree, fork_fact, IsFork, IsGrowing, LeadsTo, inner}
+use Rattle.sy_intsolve_trees.specs.Steps.{Layer, Left, Right, Under, side_layer, wrapped, plugged, layer_inner, inner_of, layer_waiting, waiting, IsOtherSide, IsLayer, AreLayers}
+use Rattle.sy_intsolve_trees.specs.Stored.{grown_tree_of, side_of}
+
+-- ---- the layer to a side
+pub side-is : (order : Order) (q : LinearQuery) (path : List Fact) (fork : Fork) (p : List Fraction) (left : Bool) (other : GrownTree) (fact : Fact) → IsFork order q path fork p → IsOtherSide order q (path ++ fork_fact (not left) fork ∷ []) other → fact ≡ fork_fact left fork → IsLayer order q path (side_layer left fork p other) fact
+side-is order q path fork p true other fact f b e = (f, e, b)
+side-is order q path fork p false other fact f b e = (f, e, b)
+
+-- a side that isn't there is one that isn't begun
+beside : (order : Order) (q : LinearQuery) (path : List Fact) (other : Option Tree) → IfSome other (λ tree. IsOtherSide order q path (grown_tree_of tree)) → IsOtherSide order q path (side_of other)
+beside order q path (Some tree) b = b
+beside order q path None b = inl refl
+
+pub side-stands : (order : Order) (q : LinearQuery) (path : List Fact) (fork : Fork) (p : List Fraction) (left : Bool) (other : Option Tree) (layer : Layer) → layer ≡ side_layer left fork p (side_of other) → IsFork order q path fork p → IfSome other (λ tree. IsOtherSide order q (path ++ fork_fact (not left) fork ∷ []) (grown_tree_of tree)) → IsLayer order q path layer (fork_fact left fork)
+side-stands order q path fork p left other layer e f b =
+    subst (λ l. IsLayer order q path l (fork_fact left fork)) (sym e) (side-is order q path fork p left (side_of other) (fork_fact left fork) f (beside order q (path ++ fork_fact (not left) fork ∷ []) other b) refl)
 
 -- ---- one layer more at the end
 pub plugged-last : (layers : List Layer) (layer : Layer) (end : GrownTree) → plugged (layers ++ layer ∷ []) end ≡ plugged layers (wrapped layer end)

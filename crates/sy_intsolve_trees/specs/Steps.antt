@@ -1,5 +1,5 @@
 -- The way from the root of a tree to the leaf at which a search goes on.
-use Rattle.std.specs.Prelude.{◌≡◌, ℕ, suc, ◌+◌, ◌⊎◌, true, false, List, [], ◌∷◌, ◌++◌, ℤ}
+use Rattle.std.specs.Prelude.{◌≡◌, ℕ, suc, ◌+◌, ◌⊎◌, Bool, true, false, List, [], ◌∷◌, ◌++◌, ℤ}
 use Rattle.sy_frac.specs.Fraction.{Fraction}
 use Rattle.sy_linear_forms.specs.declared.form.Form.{Form}
 use Rattle.sy_linear_known.specs.declared.path.Fact.{Fact}
@@ -14,6 +14,11 @@ pub data Layer : Type 0 where
   Left : (fork : Fork) → (point : List Fraction) → (right : GrownTree) → Layer
   Right : (fork : Fork) → (point : List Fraction) → (left : GrownTree) → Layer
   Under : (multipliers : List Fraction) → (divisor : ℤ) → (point : List Fraction) → Layer
+
+-- the layer to the left side, or else to the right one
+abbrev pub side_layer : Bool → Fork → List Fraction → GrownTree → Layer
+side_layer true fork p other = Left fork p other
+side_layer false fork p other = Right fork p other
 
 abbrev pub wrapped : Layer → GrownTree → GrownTree
 wrapped (Left fork p right) below = Forked fork p below right

@@ -1,5 +1,5 @@
 -- Trees and ways apart from memory.
-use Rattle.std.specs.Prelude.{List, map}
+use Rattle.std.specs.Prelude.{List, map, Option, Some, None}
 use Rattle.sy_linear_known.specs.declared.tree.Tree.{Tree, Split', Branch', Cut', Farkas, Shown, Unfinished}
 use Rattle.sy_intsolve_trees.specs.declared.fork.Fork.TheVariants as forks
 use Rattle.sy_intsolve_trees.specs.declared.step.Step.{Step}
@@ -14,6 +14,11 @@ grown_tree_of (Cut' multipliers divisor points p inner) = grown.Cut multipliers 
 grown_tree_of (Farkas multipliers) = grown.Farkas multipliers
 grown_tree_of Shown = grown.Shown
 grown_tree_of Unfinished = grown.Unfinished
+
+-- a side that isn't there isn't begun
+abbrev pub side_of : Option Tree → grown.GrownTree
+side_of (Some tree) = grown_tree_of tree
+side_of None = grown.Unfinished
 
 abbrev pub layer_of : Step → layer.Layer
 layer_of (steps.Left fork point right) = layer.Left fork point (grown_tree_of right)

@@ -7,7 +7,7 @@ use Rattle.sy_intsolve_search.proofs.Ways.{cut-layer, cut-grown, cut-room}
 use Rattle.sy_intsolve_search.proofs.cut.under.Goals as goal
 
 pub returns-then-way-plan : goal.returns-then-way-plan
-returns-then-way-plan c = c.in_ok-spent.ensures c.args.plan.now.order (linear_query_of c.args.query.now) c.args.plan.now.limits c.requires.leaf.way (omega (arith, c.if-way-plan.true, c.requires.leaf.within))
+returns-then-way-plan c = c.spent_nodes.ensures c.args.plan.now.order (linear_query_of c.args.query.now) c.args.plan.now.limits _ c.requires.leaf.way (omega (arith, c.if-way-plan.true, c.requires.leaf.within))
 
 pub returns : goal.returns
 returns c =

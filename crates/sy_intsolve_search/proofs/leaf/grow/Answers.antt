@@ -8,7 +8,7 @@ pub enter-requires : goal.enter-requires
 enter-requires c = subst (λ facts. CanTurn c.args.query.now.vars facts c.args.fork) (sym c.counted-grown.ensures.facts) c.requires.turns
 
 pub returns-then-way-plan : goal.returns-then-way-plan
-returns-then-way-plan c = c.in_ok-spent.ensures c.args.plan.now.order (linear_query_of c.args.query.now) c.args.plan.now.limits c.requires.leaf.way (omega (arith, c.if-way-plan.true, c.requires.leaf.within))
+returns-then-way-plan c = c.spent_nodes.ensures c.args.plan.now.order (linear_query_of c.args.query.now) c.args.plan.now.limits _ c.requires.leaf.way (omega (arith, c.if-way-plan.true, c.requires.leaf.within))
 
 pub returns : goal.returns
 returns c = (

@@ -13,11 +13,14 @@ grow-requires c = record {
   turns = c.requires.split.turns;
 }
 
+pub returns-in-Point : goal.returns-in-Point
+returns-in-Point c = c.grow.ensures
+
 pub returns-in-Conflict : goal.returns-in-Conflict
 returns-in-Conflict c = ((leaf-closed c.args.plan.now.order (linear_query_of c.args.query.now) c.args.plan.now.limits.nodes c.args.way (Farkas c.in-Conflict.multipliers) c.requires.leaf (inner-farkas c.in-Conflict.multipliers) (subst (TellsPoint c.args.query.now.vars c.args.way.facts.items c.args.plan.now.limits.pivots) c.in-Conflict.is c.in_ok-answer.ensures) refl, c.requires.leaf.within), omega arith)
 
-pub returns-in_ok-spent-in-Pivots : goal.returns-in_ok-spent-in-Pivots
-returns-in_ok-spent-in-Pivots c = c.in_ok-spent-in-Pivots.ensures c.args.plan.now.order (linear_query_of c.args.query.now) c.args.plan.now.limits c.requires.leaf.way c.requires.leaf.within (subst (TellsPoint c.args.query.now.vars c.args.way.facts.items c.args.plan.now.limits.pivots) c.in-Pivots.is c.in_ok-answer.ensures)
+pub returns-in-Pivots : goal.returns-in-Pivots
+returns-in-Pivots c = c.spent_pivots.ensures c.args.plan.now.order (linear_query_of c.args.query.now) c.args.plan.now.limits _ c.requires.leaf.way c.requires.leaf.within (subst (TellsPoint c.args.query.now.vars c.args.way.facts.items c.args.plan.now.limits.pivots) c.in-Pivots.is c.in_ok-answer.ensures)
 
-pub returns-in_ok-spent-in-Range : goal.returns-in_ok-spent-in-Range
-returns-in_ok-spent-in-Range c = c.in_ok-spent-in-Range.ensures c.args.plan.now.order (linear_query_of c.args.query.now) c.args.plan.now.limits c.requires.leaf.way c.requires.leaf.within (subst (TellsPoint c.args.query.now.vars c.args.way.facts.items c.args.plan.now.limits.pivots) c.in-Range.is c.in_ok-answer.ensures)
+pub returns-in-Range : goal.returns-in-Range
+returns-in-Range c = c.spent_range.ensures c.args.plan.now.order (linear_query_of c.args.query.now) c.args.plan.now.limits _ c.requires.leaf.way c.requires.leaf.within (subst (TellsPoint c.args.query.now.vars c.args.way.facts.items c.args.plan.now.limits.pivots) c.in-Range.is c.in_ok-answer.ensures)

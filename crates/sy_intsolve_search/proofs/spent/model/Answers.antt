@@ -18,7 +18,7 @@ values_of-requires c = record {
 }
 
 pub returns : goal.returns
-returns c =
+returns c order limits before =
     let assigns : Assigns c.args.query.now.vars (vals_of Whole c.in_ok-values.values) = subst (λ vars. Assigns vars (vals_of Whole c.in_ok-values.values)) c.as_slice-vars.ensures c.in_ok-values.ensures.assigns in
     let meets : MeetsPath (vals_of Whole c.in_ok-values.values) c.args.way.now.facts.items = subst (MeetsPath (vals_of Whole c.in_ok-values.values)) c.as_slice-facts.ensures.value c.in_ok-values.ensures.meets in
     (assigns, c.requires.right (vals_of Whole c.in_ok-values.values) assigns meets)
