@@ -12,13 +12,13 @@ not_six status small is = absurd (omega arith)
 pub five_not_small : {A : Type 0} → 5 ≤ 1 → A
 five_not_small small = absurd (omega arith)
 
-pub five_not_none : {A : Type 0} → 5 ≡ 0 → A
+pub five_not_none : {A : Type 0} → ◌≡◌ {A = ℕ} 5 0 → A
 five_not_none is = absurd (omega arith)
 
-pub five_not_one : {A : Type 0} → 5 ≡ 1 → A
+pub five_not_one : {A : Type 0} → ◌≡◌ {A = ℕ} 5 1 → A
 five_not_one is = absurd (omega arith)
 
-pub five_not_six : {A : Type 0} → 5 ≡ 6 → A
+pub five_not_six : {A : Type 0} → ◌≡◌ {A = ℕ} 5 6 → A
 five_not_six is = absurd (omega arith)
 
 -- what is 6 unless it is 5 is neither 0 nor 1
