@@ -1,5 +1,6 @@
 // A bank of ten operators over four arguments of 32 bits, built at random points: the words are the numbers of points,
-// of sizes and of terms that are kept at most. It prints how many terms were tried and how many are kept.
+// of sizes and of terms that are kept at most. It prints how many terms were tried and how many are kept; the status is 4
+// where it gets full.
 ghost use Rattle.std.specs.Prelude.{◌≡◌, ◌∷◌, [], true, All, map, IfOk, IfSome};
 ghost use Rattle.sy_terms.specs.Denoted.{val_of, vals_of, AreValid};
 ghost use Rattle.sy_terms.specs.Theories.{valid, sort_of_value};
@@ -7,12 +8,15 @@ ghost use Rattle.sy_terms.specs.declared.op.Op.TheVariants as ops;
 ghost use Rattle.sy_terms.specs.declared.sort.Sort.TheVariants as sorts;
 ghost use Rattle.sy_bank.specs.Rows.{ArePointsOf};
 
-use crate::words::{REFUSED, WANT, next, number};
+use crate::words::{WANT, next, number};
 use std::alloc::Global;
 use sy_bank::{Bank, BankEnd, build};
 use sy_grammar_base::{Grammar, Non, Part, Parts, Rule, well_formed};
 use sy_meaning_words::BvTheory;
 use sy_terms::{Op, Seq, Sort, Theory, Value, Values, Want};
+
+/// The status where the bank gets full.
+const FULL: u8 = 4;
 
 /// A random value of the sort, from the upper half of the state.
 fn value<T: Theory>(sort: Sort, state: u64) -> Option<Value<T::Num>>
@@ -122,7 +126,19 @@ fn counted<T: Theory>(bank: &Bank<T>, operators: usize) -> (usize, usize) {
     (tried, kept)
 }
 
-/// What is counted of the bank; `None` where the grammar isn't well formed.
+/// What is counted of the bank that was built; `None` where it got full.
+fn counted_if_whole<T: Theory>(
+    built: &Result<Bank<T>, BankEnd<T>>,
+    operators: usize,
+) -> Result<Option<(usize, usize)>, Want> {
+    match built {
+        Ok(bank) => Ok(Some(counted(bank, operators))),
+        Err(BankEnd::Full(_, _, _)) => Ok(None),
+        Err(BankEnd::Want) => Err(Want {}),
+    }
+}
+
+/// What is counted of the bank; `None` where it gets full or the grammar isn't well formed.
 fn measured<T: Theory>(
     alloc: Global,
     sort: Sort,
@@ -130,20 +146,20 @@ fn measured<T: Theory>(
     count: u32,
     upto: u32,
     cap: u32,
-) -> Result<Option<(usize, usize)>, BankEnd<T>>
+) -> Result<Option<(usize, usize)>, Want>
     requires { T.numeric sorts.Int ≡ true → T.owned ops.Neg ≡ true }
 {
     let args = four(alloc, sort)?;
     let nons = nonterminals::<T>(alloc, sort, operators)?;
+    let points = points::<T>(alloc, sort, count)?;
+    let pool = Seq::new(alloc);
     let defs = Seq::new(alloc);
     if !well_formed(&args, &nons, &defs) {
         return Ok(None);
     }
     let grammar = Grammar::new(args, nons, &defs);
-    let pool = Seq::new(alloc);
-    let points = points::<T>(alloc, sort, count)?;
-    let bank = build(alloc, &grammar, &defs, &pool, &points, upto, cap)?;
-    Ok(Some(counted(&bank, operators.len())))
+    let built = build(alloc, &grammar, &defs, &pool, &points, upto, cap);
+    counted_if_whole(&built, operators.len())
 }
 
 /// The same over vectors of 32 bits.
@@ -152,7 +168,7 @@ fn measured_vectors(
     count: u32,
     upto: u32,
     cap: u32,
-) -> Result<Option<(usize, usize)>, BankEnd<BvTheory>> {
+) -> Result<Option<(usize, usize)>, Want> {
     let operators = [
         Op::BvAnd,
         Op::BvOr,
@@ -165,24 +181,23 @@ fn measured_vectors(
         Op::BvShl,
         Op::BvLshr,
     ];
-    let found = measured::<BvTheory>(alloc, Sort::Bits(32), &operators, count, upto, cap)?;
-    Ok(found)
+    measured::<BvTheory>(alloc, Sort::Bits(32), &operators, count, upto, cap)
 }
 
-/// Builds the bank that the words ask for, and prints what is counted; the status is 4 where it gets full.
+/// Builds the bank that the words ask for, and prints what is counted.
 pub(crate) fn run(rt: &HostRuntime, words: &[String]) -> u8 {
-    match measured_vectors(
+    let found = measured_vectors(
         rt.alloc(),
         number(words, 1),
         number(words, 2),
         number(words, 3),
-    ) {
+    );
+    match found {
         Ok(Some((tried, kept))) => {
             let _ = println!(rt; "tried {tried} kept {kept}");
             0
         }
-        Ok(None) => REFUSED,
-        Err(BankEnd::Full(_, _, _)) => 4,
-        Err(BankEnd::Want) => WANT,
+        Ok(None) => FULL,
+        Err(_) => WANT,
     }
 }

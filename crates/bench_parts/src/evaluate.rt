@@ -8,7 +8,7 @@ use crate::random::{Kit, random_term};
 use crate::words::{REFUSED, WANT, number, word};
 use std::alloc::Global;
 use sy_meaning::{BvTheory, Eval, IntTheory, Signature, evaluate, term_sort};
-use sy_terms::{Defs, Op, Seq, Sort, Theory, Value, Want};
+use sy_terms::{Defs, Op, Seq, Sort, Term, Theory, Value, Want};
 
 /// The value of the sort that is this number.
 fn value<T: Theory>(sort: Sort, number: u32) -> Option<Value<T::Num>>
@@ -44,6 +44,34 @@ fn values<T: Theory>(
     Ok(Some(all))
 }
 
+/// The sum of the term's values at so many assignments; `None` where it doesn't fit three variables of the sort.
+fn sum_of_values<T: Theory>(
+    alloc: Global,
+    sort: Sort,
+    term: &Term<T>,
+    rounds: u32,
+) -> Result<Option<i128>, Want> {
+    let defs: Defs<T> = Seq::new(alloc);
+    let wanted: Seq<Signature> = Seq::new(alloc);
+    let sorts = [sort, sort, sort];
+    let Some(_) = term_sort(alloc, defs.as_slice(), wanted.as_slice(), &sorts, term)? else {
+        return Ok(None);
+    };
+    let mut total = 0i128;
+    for round in 0..rounds {
+        let Some(values) = values::<T>(alloc, sort, round)? else {
+            return Ok(None);
+        };
+        match evaluate(alloc, &defs, values.as_slice(), term) {
+            Ok(Value::Num(number)) => total = total.wrapping_add(T::number(number)),
+            Ok(Value::Truth(_)) => (),
+            Err(Eval::Range) => (),
+            Err(Eval::Want) => return Err(Want {}),
+        }
+    }
+    Ok(Some(total))
+}
+
 /// The number of nodes, and the sum of the term's values.
 fn measured<T: Theory>(
     alloc: Global,
@@ -54,25 +82,11 @@ fn measured<T: Theory>(
     let Some(term) = random_term::<T>(alloc, kit, leaves)? else {
         return Ok(None);
     };
-    let defs: Defs<T> = Seq::new(alloc);
-    let wanted: Seq<Signature> = Seq::new(alloc);
-    let sorts = [kit.sort, kit.sort, kit.sort];
-    let Some(_) = term_sort(alloc, defs.as_slice(), wanted.as_slice(), &sorts, &term)? else {
-        return Ok(None);
-    };
-    let mut total = 0i128;
-    for round in 0..rounds {
-        let Some(values) = values::<T>(alloc, kit.sort, round)? else {
-            return Ok(None);
-        };
-        match evaluate(alloc, &defs, values.as_slice(), &term) {
-            Ok(Value::Num(number)) => total = total.wrapping_add(T::number(number)),
-            Ok(Value::Truth(_)) => (),
-            Err(Eval::Range) => (),
-            Err(Eval::Want) => return Err(Want {}),
-        }
+    match sum_of_values(alloc, kit.sort, &term, rounds) {
+        Ok(Some(total)) => Ok(Some((term.size(u64::MAX), total))),
+        Ok(None) => Ok(None),
+        Err(want) => Err(want),
     }
-    Ok(Some((term.size(u64::MAX), total)))
 }
 
 /// The measurement in one of the theories.
