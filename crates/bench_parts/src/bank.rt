@@ -128,10 +128,13 @@ fn counted<T: Theory>(bank: &Bank<T>, operators: usize) -> (usize, usize) {
 
 /// What is counted of the bank that was built; `None` where it got full.
 fn counted_if_whole<T: Theory>(
-    built: &Result<Bank<T>, BankEnd<T>>,
+    alloc: Global,
+    built: Result<Bank<T>, BankEnd<T>>,
     operators: usize,
 ) -> Result<Option<(usize, usize)>, Want> {
-    match built {
+    // in a box, since it takes long to prove that a bank is let go of in place
+    let built = Box::new(alloc, built)?;
+    match &*built {
         Ok(bank) => Ok(Some(counted(bank, operators))),
         Err(BankEnd::Full(_, _, _)) => Ok(None),
         Err(BankEnd::Want) => Err(Want {}),
@@ -158,8 +161,11 @@ fn measured<T: Theory>(
         return Ok(None);
     }
     let grammar = Grammar::new(args, nons, &defs);
-    let built = build(alloc, &grammar, &defs, &pool, &points, upto, cap);
-    counted_if_whole(&built, operators.len())
+    counted_if_whole(
+        alloc,
+        build(alloc, &grammar, &defs, &pool, &points, upto, cap),
+        operators.len(),
+    )
 }
 
 /// The same over vectors of 32 bits.
