@@ -5,7 +5,7 @@
 . "$(dirname "$0")/measure.sh"
 points=${1:-64} sizes=${2:-7}
 plain bank
-use_program bench
+use_program bench_parts
 read -r _ tried _ kept proved <<<"$(measure "$program" bank "$points" "$sizes" 1000000)"
 read -r _ plain_tried _ plain_kept plain <<<"$(measure "$scratch/bank" "$points" "$sizes")"
 [ "$tried $kept" = "$plain_tried $plain_kept" ] || echo "the counts differ: $tried $kept and $plain_tried $plain_kept"

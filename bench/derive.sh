@@ -4,7 +4,7 @@
 # program takes to make its input is timed with it, and so is the least time of five runs that is printed.
 # Its words, where it has some, are the numbers of nonterminals, of rules for each, and of nodes.
 . "$(dirname "$0")/measure.sh"
-use_program bench
+use_program bench_parts
 derived() {
     printf '%s nonterminals, %s rules for each, %s nodes: %s s\n' "$1" "$2" "$3" "$(measure "$program" derive "$@")"
 }

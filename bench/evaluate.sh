@@ -5,7 +5,7 @@
 . "$(dirname "$0")/measure.sh"
 leaves=${1:-478} rounds=${2:-10000}
 plain evaluate
-use_program bench
+use_program bench_parts
 for theory in bv lia; do
     read -r _ nodes _ sum proved <<<"$(measure "$program" evaluate "$theory" "$leaves" "$rounds")"
     read -r _ _ _ plain_sum plain <<<"$(measure "$scratch/evaluate" "$theory" "$leaves" "$rounds")"

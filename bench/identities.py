@@ -1,13 +1,15 @@
 #!/usr/bin/env python3
-"""Runs `sy_bits` beside cvc5 and z3 on the question whether an identity of bit vectors holds.
+"""Runs `sygus` beside cvc5 and z3 on the question whether an identity of bit vectors holds.
 
-    bench/identities.py [--program PROGRAM] [--limit SECONDS] [NAME ..]
+    bench/identities.py [--sygus PROGRAM] [--limit SECONDS] [NAME ..]
 
-With no name it takes every identity, at 8, 16, 32 and 64 bits. With `--program` nothing is proved or built, and PROGRAM is
-run in place of `bench`. Each program runs at most three times a file, each with so many processor seconds, 30
-without `--limit`, and the least time of its whole process counts; a run that takes longer than a second isn't repeated. The
-last columns are the time of `sy_bits` by that of the other. A solver that isn't installed is left out. Last stand the
-identities for which `sy_bits` takes more than twice the time of the faster one; the status is 1 where there are such.
+With no name it takes every identity, at 8, 16, 32 and 64 bits. Without --sygus it builds the program by ./sygus. Its file
+is a problem whose constraint is the identity and whose function has one body, so that its answer is that body where the
+solver of bit vectors, `sy_bits`, proves the identity, and nothing else is to be found. Each program runs at most three times
+a file, each with so many processor seconds, 30 without --limit, and the least time of its whole process counts; a run that
+takes longer than a second isn't repeated. The last columns are the time of `sygus` by that of the other. A solver that
+isn't installed is left out. Last stand the identities for which `sygus` takes more than twice the time of the faster one;
+the status is 1 where there are such.
 """
 import argparse
 import os
@@ -15,7 +17,7 @@ import shutil
 import sys
 import tempfile
 
-from runs import measured, run
+from runs import answer, run, sygus
 
 RUNS = 3
 WIDTHS = (8, 16, 32, 64)
@@ -68,7 +70,7 @@ def write_files(folder, identity, width):
     equal = f"(= {at_width(left, width)} {at_width(right, width)})"
     problem = os.path.join(folder, f"{name}-{width}.sl")
     with open(problem, "w") as file:
-        file.write("(set-logic BV)\n(synth-fun f () Bool)\n")
+        file.write("(set-logic BV)\n(synth-fun f () Bool ((Body Bool)) ((Body Bool (true))))\n")
         file.writelines(f"(declare-var {variable} (_ BitVec {width}))\n" for variable in "xyz")
         file.write(f"(constraint {equal})\n(check-synth)\n")
     question = os.path.join(folder, f"{name}-{width}.smt2")
@@ -79,14 +81,19 @@ def write_files(folder, identity, width):
     return problem, question
 
 
-def measure(words, answer, limit):
+def is_proved(ended):
+    """Whether a run says that the sides are equal: `sygus` by its only body, the others by what they say of the question."""
+    return answer(ended) == "definitions" or ended.output.startswith("unsat")
+
+
+def measure(words, limit):
     """The run of the least time; none where one took too long."""
     best = None
     for _ in range(RUNS):
         ended = run(words, limit)
         if ended.is_over:
             return None
-        if not ended.output.startswith(answer):
+        if not is_proved(ended):
             sys.exit(f"{' '.join(words)}: {ended.output}{ended.errors}")
         if best is None or ended.seconds < best.seconds:
             best = ended
@@ -115,7 +122,7 @@ def is_slow(ended, others):
 
 def main():
     parser = argparse.ArgumentParser(description=__doc__, formatter_class=argparse.RawDescriptionHelpFormatter)
-    parser.add_argument("--program", metavar="PROGRAM")
+    parser.add_argument("--sygus", metavar="PROGRAM")
     parser.add_argument("--limit", metavar="SECONDS", type=int, default=30)
     parser.add_argument("names", metavar="NAME", nargs="*")
     options = parser.parse_args()
@@ -124,8 +131,8 @@ def main():
         parser.error(f"no such identity: {', '.join(sorted(unknown))}")
     limit = options.limit
     others = [name for name in ("cvc5", "z3") if shutil.which(name)]
-    program = options.program or measured("bench")
-    heads = ["Identity", "bits", "variables", "clauses", "learned", "`sy_bits` ms"]
+    program = sygus(options.sygus)
+    heads = ["Identity", "bits", "`sygus` ms"]
     heads += [name + " ms" for name in others] + ["by " + name for name in others]
     print("| " + " | ".join(heads) + " |")
     print("|" + "---|" * len(heads))
@@ -136,10 +143,9 @@ def main():
                 continue
             for width in WIDTHS:
                 problem, question = write_files(folder, identity, width)
-                own = measure([program, "identities", problem, LEARNED], "holds true accepted", limit)
-                their = [measure([name, question], "unsat", limit) for name in others]
-                sizes = ["", "", ""] if own is None else own.output.split()[3:8:2]
-                cells = [identity[0], str(width)] + sizes + [milliseconds(own, limit)]
+                own = measure([program, "--clauses", LEARNED, problem], limit)
+                their = [measure([name, question], limit) for name in others]
+                cells = [identity[0], str(width), milliseconds(own, limit)]
                 cells += [milliseconds(other, limit) for other in their] + [ratio(own, other, limit) for other in their]
                 print("| " + " | ".join(cells) + " |", flush=True)
                 count += 1

@@ -1,21 +1,24 @@
 #!/usr/bin/env python3
-"""Times deciding queries over integers that are made by number, and prints the answers with the sizes of the trees.
+"""Times deciding queries over integers that are made by number, and says how many nodes that takes.
 
-    bench/intsolve.py [FAMILY NUMBER]
+    bench/intsolve.py [--sygus PROGRAM] [FAMILY NUMBER]
 
 The families: `max`, that the greatest of so many numbers, found one by one, isn't one of them or is below one; `step`, that
 a bound of so many variables, of which a step raises any one that is below the bound and keeps the others, doesn't last a
 step; `parity`, that twice a sum of so many numbers is odd; `bounds`, that a number isn't at least each of so many bounds
-that it is at least. Each query is a file whose constraint is its negation. The least processor time of five runs is printed,
-with what the program takes to read its file. Without words ten queries are decided.
+that it is at least. Each query is a problem whose constraint is its negation and whose function has one body, so that
+`sygus` answers by that body where its solver of integers refutes the query. The least processor time of five runs of the
+whole program is printed, and the least `--nodes` with which it answers. Without words ten queries are decided; without
+--sygus it builds the program by ./sygus.
 """
 import argparse
 import os
 import tempfile
 
-from runs import measured, run
+from runs import answer, run, sygus
 
 RUNS = 5
+MOST = 8_000
 ROWS = [("max", 3), ("max", 5), ("max", 7), ("step", 2), ("step", 4), ("step", 6), ("parity", 2), ("parity", 20), ("bounds", 100), ("bounds", 1000)]
 
 
@@ -68,29 +71,49 @@ def file_of(family, number):
     """The file whose constraint is the negation of the query."""
     count, term = FAMILIES[family](number)
     declared = "".join(f"(declare-var {name} Int)\n" for name in named(0, count))
-    return f"(set-logic LIA)\n(synth-fun f () Bool)\n{declared}(constraint {term})\n(check-synth)\n"
+    return f"(set-logic LIA)\n(synth-fun f () Bool ((Body Bool)) ((Body Bool (true))))\n{declared}(constraint {term})\n(check-synth)\n"
+
+
+def decided(program, path, nodes):
+    """A run with at most so many nodes."""
+    return run([program, "--nodes", str(nodes), path])
+
+
+def least(program, path):
+    """The least number of nodes with which the query is refuted."""
+    fails, works = 0, MOST
+    while works - fails > 1:
+        nodes = (fails + works) // 2
+        if answer(decided(program, path, nodes)) == "definitions":
+            works = nodes
+        else:
+            fails = nodes
+    return works
 
 
 def measure(program, path):
-    """What the program prints of the file, and the least time."""
-    ended = [run([program, "intsolve", path, "8000", "10000"]) for _ in range(RUNS)]
-    return f"{ended[0].output.strip()} {min(it.seconds for it in ended):.3f}"
+    """What the program says of the file, the nodes that it takes, and the least time."""
+    ended = [decided(program, path, MOST) for _ in range(RUNS)]
+    if answer(ended[0]) != "definitions":
+        return f"not refuted, {answer(ended[0])}"
+    return f"refuted with --nodes {least(program, path)} in {min(it.seconds for it in ended):.3f} s"
 
 
 def main():
-    parser = argparse.ArgumentParser(description=__doc__, formatter_class=argparse.RawDescriptionHelpFormatter, usage="intsolve.py [-h] [FAMILY NUMBER]")
+    parser = argparse.ArgumentParser(description=__doc__, formatter_class=argparse.RawDescriptionHelpFormatter, usage="intsolve.py [-h] [--sygus PROGRAM] [FAMILY NUMBER]")
+    parser.add_argument("--sygus", metavar="PROGRAM")
     parser.add_argument("family", metavar="FAMILY", nargs="?", choices=[*FAMILIES, None])
     parser.add_argument("number", metavar="NUMBER", nargs="?", type=int)
     options = parser.parse_args()
     if options.family and options.number is None:
         parser.error("a family has a number")
-    program = measured("bench")
+    program = sygus(options.sygus)
     with tempfile.TemporaryDirectory() as folder:
         path = os.path.join(folder, "query.sl")
         for family, number in [(options.family, options.number)] if options.family else ROWS:
             with open(path, "w") as file:
                 file.write(file_of(family, number))
-            print(f"{family} {number}: {measure(program, path)} s", flush=True)
+            print(f"{family} {number}: {measure(program, path)}", flush=True)
 
 
 if __name__ == "__main__":

@@ -5,6 +5,6 @@
 . "$(dirname "$0")/measure.sh"
 count=${1:-300}
 plain simplex
-use_program bench
+use_program bench_parts
 printf 'sy_simplex: %s s\n' "$(measure "$program" simplex "$count")"
 printf 'plain Rust: %s s\n' "$(measure "$scratch/simplex" "$count")"

@@ -5,7 +5,7 @@ of clauses, on the same files in turn.
     bench/solver.py [--program PROGRAM] [FOLDER]
 
 With no folder it makes the files of bench/make_cnf.py. With `--program` nothing is proved or built, and PROGRAM is run in
-place of `bench`. Each program runs three times a file, and the least processor time counts. `sy_cdcl` measures its
+place of `bench_parts`. Each program runs three times a file, and the least processor time counts. `sy_cdcl` measures its
 time in `solve` and in `check`; the others' is that of the whole process. How many clauses `sy_cdcl` learns and how often it
 propagates is counted by bench/propagations.py, which needs rustc; the others learn a clause by each conflict. The last
 columns are the time of `sy_cdcl` by that of the other, for a learned clause, for a propagation and in all. Last stands how
@@ -110,7 +110,7 @@ def main():
     options.add_argument("--program", metavar="PROGRAM")
     options.add_argument("folder", metavar="FOLDER", nargs="?")
     options = options.parse_args()
-    program = options.program or measured("bench")
+    program = options.program or measured("bench_parts")
     others = {name: words for name, words in OTHERS.items() if shutil.which(words[0])}
     with tempfile.TemporaryDirectory() as scratch:
         counter = propagations.build(scratch)

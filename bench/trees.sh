@@ -4,7 +4,7 @@
 # that is printed.
 # Its words, where it has some, are the number of nodes of the query, that of facts and the depth of the tree.
 . "$(dirname "$0")/measure.sh"
-use_program bench
+use_program bench_parts
 timed() {
     printf 'query of %s nodes, %s facts, tree of depth %s: %s s\n' "$1" "$2" "$3" "$(measure "$program" trees "$@")"
 }

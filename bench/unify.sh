@@ -5,6 +5,6 @@
 . "$(dirname "$0")/measure.sh"
 points=${1:-512} leaves=${2:-5000} conditions=${3:-5000}
 plain unify
-use_program bench
+use_program bench_parts
 printf 'sy_unify: %s s\n' "$(measure "$program" unify "$points" "$leaves" "$conditions")"
 printf 'plain Rust: %s s\n' "$(measure "$scratch/unify" "$points" "$leaves" "$conditions")"

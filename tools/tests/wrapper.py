@@ -34,7 +34,7 @@ class Room:
         for name in CRATES:
             (self.top / "crates" / name / "src").mkdir(parents=True)
             (self.top / "crates" / name / "src" / "lib.rt").write_text("")
-        (self.top / "crates.txt").write_text("".join(f"{name}: {' '.join(below)}\n" for name, below in [*CRATES.items(), ("bench", ["sy_low"])]))
+        (self.top / "crates.txt").write_text("".join(f"{name}: {' '.join(below)}\n" for name, below in [*CRATES.items(), ("bench_parts", ["sy_low"])]))
         for name in ("sygus", "HANDLES", "tools/build.sh", "tools/install", "docs/sygus.1"):
             (self.top / name).parent.mkdir(exist_ok=True)
             shutil.copy(TOP / name, self.top / name)

@@ -1,8 +1,0 @@
-(set-logic LIA)
-(synth-fun f () Bool)
-(declare-var x Int)
-(declare-var y Int)
-(declare-var z Int)
-(constraint (let ((m x)) (let ((n (ite (>= m y) m y))) (let ((o (ite (>= n z) n z)))
-  (and (>= o x) (>= o y) (>= o z) (or (= o x) (= o y) (= o z)))))))
-(check-synth)

@@ -1,5 +1,0 @@
-(set-logic BV)
-(synth-fun f () Bool)
-(declare-var x (_ BitVec 8))
-(constraint (= (bvadd x #x01) x))
-(check-synth)

@@ -1,6 +1,0 @@
-use Rattle.std.proofs.Common.{◌≡◌}
-use Rattle.sy_terms.specs.Denoted.{expr_of}
-use Rattle.bench.proofs.evaluate.measured.Given as goal
-
-abbrev pub invariant-loop-round : goal.invariant-loop-round
-invariant-loop-round g l = expr_of g.T.Theory.denotes l.term ≡ expr_of g.T.Theory.denotes l.initial.term

@@ -1,4 +1,0 @@
-use Rattle.bench.proofs.trees.+branches.Given as goal
-
-abbrev pub decreases-branches : goal.decreases-branches
-decreases-branches l = l.depth

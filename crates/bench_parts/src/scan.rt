@@ -1,0 +1,89 @@
+// A scan of combinations of random numbers of 64 bits by one operator: the words are the operator (`and`, `mul` or
+// `add`) and the number of kept terms. All numbers are odd and 0 is wanted at three points, so that no combination by
+// `and` or `mul` has it. It prints how many combinations are named.
+use crate::words::{WANT, next, number, word};
+use std::alloc::Global;
+use sy_loop_scan::{Pool, Scan, Shape};
+use sy_terms::{Op, Sort, Want};
+
+/// The operator of this name; a sum where it is none of them.
+fn operator_of(name: &str) -> Op {
+    match name {
+        "and" => Op::BvAnd,
+        "mul" => Op::BvMul,
+        _ => Op::BvAdd,
+    }
+}
+
+/// So many odd numbers.
+fn column(alloc: Global, count: u32, seed: u64) -> Result<Vec<i128>, Want> {
+    let mut state = seed;
+    let mut numbers = Vec::new(alloc);
+    for _ in 0..count {
+        state = next(state);
+        numbers.push(i128::from(state | 1))?;
+    }
+    Ok(numbers)
+}
+
+/// A scan of the operator over so many kept terms of size 1.
+fn scan_of(alloc: Global, operator: Op, count: u32) -> Result<Scan, Want> {
+    let mut shapes = Vec::new(alloc);
+    shapes.push(Shape {
+        rule: 0,
+        operator,
+        size: 1,
+        operands: Vec::from_slice(alloc, &[0, 0])?,
+    })?;
+    let mut sizes = Vec::new(alloc);
+    for _ in 0..count {
+        sizes.push(1)?;
+    }
+    let mut pools = Vec::new(alloc);
+    pools.push(Pool {
+        sort: Sort::Bits(64),
+        sizes,
+    })?;
+    Scan::new(alloc, shapes, pools, 3)
+}
+
+/// Wants 0 at three points, at which the terms have random odd numbers.
+fn add_points(alloc: Global, scan: &mut Scan, count: u32) -> Result<(), Want> {
+    for seed in 1..4u64 {
+        let mut columns = Vec::new(alloc);
+        columns.push(column(alloc, count, seed)?)?;
+        scan.add_point(0, columns)?;
+    }
+    Ok(())
+}
+
+/// How many combinations the scan names, of a thousand at most.
+fn guesses(scan: &mut Scan) -> Result<u32, Want> {
+    for named in 0..1000u32 {
+        if scan.next_guess()?.is_none() {
+            return Ok(named);
+        }
+    }
+    Ok(1000)
+}
+
+/// How many combinations are named that have the wanted values.
+fn named(alloc: Global, operator: Op, count: u32) -> Result<u32, Want> {
+    let mut scan = scan_of(alloc, operator, count)?;
+    match add_points(alloc, &mut scan, count) {
+        Ok(()) => guesses(&mut scan),
+        Err(want) => Err(want),
+    }
+}
+
+/// Scans what the words ask for, and prints how many combinations are named.
+pub(crate) fn run(rt: &HostRuntime, words: &[String]) -> u8 {
+    let operator = operator_of(word(words, 1));
+    match named(rt.alloc(), operator, number(words, 2)) {
+        Ok(count) => {
+            let _ = println!(rt; "named {count}");
+            0
+        }
+        Err(_) => WANT,
+    }
+}
