@@ -22,7 +22,8 @@ CRATES = os.path.join(TOP, "crates")
 PARTS = {
     "sy_seq": ["seq"],
     "sy_clauses": ["checker", "marks"],
-    "sy_cdcl": ["analysis", "order", "propagation", "shortening", "solver", "store", "trail", "watches"],
+    "sy_cdcl_order": ["order"],
+    "sy_cdcl": ["analysis", "propagation", "shortening", "solver", "store", "trail", "watches"],
 }
 # a line that stands once in the solver, and what is counted before it
 COUNTED = {
@@ -113,7 +114,7 @@ def source():
         lines = re.sub(r"^mod \w+;$", "", as_rust(crate, "lib", crate), flags=re.MULTILINE)
         inner = "".join(f"pub mod {module} {{\nuse crate::list::Vec;\n{as_rust(crate, module, crate)}\n}}\n" for module in modules)
         parts.append(f"mod {crate} {{\n{lines}\n{inner}}}\n")
-    parts.append(f"mod dimacs {{\n{as_rust('bench', 'dimacs', 'dimacs')}\n}}\n{MAIN}")
+    parts.append(f"mod dimacs {{\n{as_rust('bench_parts', 'dimacs', 'dimacs')}\n}}\n{MAIN}")
     text = "".join(parts)
     for line, counter in COUNTED.items():
         if text.count(line) != 1:
