@@ -1,6 +1,5 @@
 mod Folds
 mod Lists
-mod Masks
 mod Numbers
 mod Paired
 mod Ranges

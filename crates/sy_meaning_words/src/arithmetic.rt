@@ -9,7 +9,8 @@ use crate::word::Word;
 pub(crate) fn negated(s: Word) -> Word
     ensures { Bits result.width result.bits ≡ Bits s.width (bv.negated s.width s.bits) }
 {
-    Word::lowest(s.width(), 0u64.wrapping_sub(s.bits()))
+    let width = s.width();
+    Word::made(width, sy_meaning_numbers::negated(width, s.bits()))
 }
 
 /// `s + t`.
@@ -17,7 +18,8 @@ pub(crate) fn sum(s: Word, t: Word) -> Word
     requires { s.width ≡ t.width }
     ensures { Bits result.width result.bits ≡ Bits s.width (bv.sum s.width s.bits t.bits) }
 {
-    Word::lowest(s.width(), s.bits().wrapping_add(t.bits()))
+    let width = s.width();
+    Word::made(width, sy_meaning_numbers::sum(width, s.bits(), t.bits()))
 }
 
 /// `s - t`.

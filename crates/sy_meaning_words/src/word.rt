@@ -38,8 +38,7 @@ impl Word {
         requires most { width ≤ 64 }
         ensures { Bits result.width result.bits ≡ Bits width (number % 2 ^ width) }
     {
-        let bits = number & (u64::MAX >> (64 - width));
-        Word { width, bits }
+        Word::made(width, sy_meaning_numbers::lowest(width, number))
     }
 
     /// The greatest number of a width.
@@ -48,7 +47,7 @@ impl Word {
         requires most { width ≤ 64 }
         ensures { result ≡ 2 ^ width - 1 }
     {
-        u64::MAX >> (64 - width)
+        sy_meaning_numbers::greatest(width)
     }
 
     /// The vector whose top bit alone is 1.
@@ -73,7 +72,7 @@ impl Word {
     pub(crate) fn is_negative(self) -> bool
         ensures { result ≡ negative self.width self.bits }
     {
-        1 << (self.width - 1) <= self.bits
+        sy_meaning_numbers::is_negative(self.width, self.bits)
     }
 
     /// How many bits there are.

@@ -1,10 +1,11 @@
-use Rattle.std.proofs.Common.{ap, ◌∙◌}
-use Rattle.sy_terms.specs.Values.{Bits}
-use Rattle.sy_meaning_words.proofs.Masks.{is_fit}
-use Rattle.sy_meaning_words.proofs.Numbers.{wrap_neg}
+use Rattle.std.proofs.Common.{refl, ◌∙◌}
 use Rattle.sy_meaning_words.proofs.arithmetic.negated.Goals as goal
 
+pub negated-requires : goal.negated-requires
+negated-requires c = rw (c.width-width.ensures, c.bits.ensures) c.args.s.is_valid
+
+pub made-requires : goal.made-requires
+made-requires c = c.negated.ensures.fits
+
 pub returns : goal.returns
-returns c =
-    let fit = is_fit c.args.s.width c.args.s.bits c.args.s.is_valid in
-    c.lowest.ensures ∙ rw (c.width.ensures, c.bits.ensures) (ap (Bits c.args.s.width) (wrap_neg c.args.s.bits c.args.s.width fit.2 fit.1))
+returns c = c.made.ensures ∙ rw (c.negated.ensures.is, c.width-width.ensures, c.bits.ensures) refl

@@ -1,0 +1,8 @@
+// Bit vectors of 1 to 64 bits as numbers below two to their width: sums, quotients and remainders.
+#![tactic(auto)]
+
+mod division;
+mod wrapped;
+
+pub use division::{quotient, remainder, signed_modulus, signed_quotient, signed_remainder};
+pub use wrapped::{greatest, is_negative, lowest, negated, sum};
