@@ -1,5 +1,6 @@
 use Rattle.std.proofs.Common.{arith, refl, ◌≡◌, [], ◌+◌, IfOk, ap, ◌∙◌, Result, Ok, Err, ◌++◌, OnOk, OnErr}
 use Rattle.std.specs.Result.{IsErrAnd}
+use Rattle.std.proofs.lemmas.Grind.{common_steps}
 use Rattle.std.proofs.lemmas.List.{take_all}
 use Rattle.sy_terms.specs.Expr.{nodes}
 use Rattle.sy_terms.specs.Denoted.{expr_of}
@@ -105,7 +106,7 @@ evaluate_under-slice_bounds-evaluate_under-end g t c =
     let takes = step.call-takes _ _ _ g.T.Theory.denotes _ _ _ _ _ _ c.in-Call.is c.in-Defined.is c.requires.term.fits have in
     let called = reached.calls g.T.Theory.owned g.T.Theory.denotes c.args.defs.now _ _ _ _ c.requires.definitions takes in
     let here = reached.calls-within g.T.Theory.denotes called in
-    omega (arith, here)
+    grind (arith, common_steps)
 
 pub evaluate_under-evaluate_under-requires : goal.evaluate_under-evaluate_under-requires
 evaluate_under-evaluate_under-requires g t c κs within =
