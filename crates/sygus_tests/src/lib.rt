@@ -1,5 +1,4 @@
-// Tests of `sygus_run`: whole runs of the program, with its words, its file and its outputs in memory; and command lines by
-// `sygus_words`.
+// Tests of `sygus_words` and of `sygus_drill`: command lines, and files that are made from numbers.
 #![tactic(auto)]
 
 #[cfg(test)]

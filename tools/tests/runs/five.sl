@@ -1,0 +1,5 @@
+(set-logic LIA)
+(synth-fun f ((x Int)) Int ((S Int)) ((S Int (0 1))))
+(declare-var x Int)
+(constraint (= (f x) (ite (< x 5) 0 1)))
+(check-synth)

@@ -1,0 +1,5 @@
+(set-logic LIA)
+(synth-fun f ((x Int)) Int ((A Int) (B Int)) ((A Int (B)) (B Int (A x))))
+(declare-var x Int)
+(constraint (= (f x) x))
+(check-synth)

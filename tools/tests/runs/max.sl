@@ -1,0 +1,11 @@
+(set-logic LIA)
+(synth-fun f ((x Int) (y Int)) Int
+  ((S Int) (C Bool))
+  ((S Int (x y (ite C S S)))
+   (C Bool ((<= x y)))))
+(declare-var x Int)
+(declare-var y Int)
+(constraint (>= (f x y) x))
+(constraint (>= (f x y) y))
+(constraint (or (= (f x y) x) (= (f x y) y)))
+(check-synth)

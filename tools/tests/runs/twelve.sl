@@ -1,0 +1,6 @@
+(set-logic LIA)
+(synth-fun f ((x Int) (y Int)) Int ((S Int)) ((S Int (x y (+ S S)))))
+(declare-var x Int)
+(declare-var y Int)
+(constraint (= (f x y) (+ (* 12 x) (* 12 y))))
+(check-synth)

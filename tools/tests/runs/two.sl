@@ -1,0 +1,5 @@
+(set-logic LIA)
+(synth-fun f () Int ((S Int)) ((S Int (0 1))))
+(synth-fun g () Int ((S Int)) ((S Int (0 1))))
+(constraint (= (+ (f) g) 2))
+(check-synth)

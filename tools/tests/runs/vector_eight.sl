@@ -1,0 +1,4 @@
+(set-logic BV)
+(synth-fun f () (_ BitVec 8) ((S (_ BitVec 8))) ((S (_ BitVec 8) (#x01 (bvadd #x01 S)))))
+(constraint (= f #x08))
+(check-synth)
