@@ -9,3 +9,4 @@ pub mod Ascending
 pub mod Suiting
 pub mod Asking
 pub mod Keying
+pub mod Applied

@@ -1,7 +1,7 @@
 -- The steps of a walk through a term.
-use Rattle.std.specs.Prelude.{◌≡◌, ℕ, zero, suc, ◌+◌, ◌<◌, ◌≤◌, Bool, true, false, cond, ◌&&◌, List, [], ◌∷◌, ◌++◌, length, get_or, drop, ℤ, Some, None}
+use Rattle.std.specs.Prelude.{◌≡◌, ℕ, zero, suc, ◌+◌, ◌<◌, ◌≤◌, Bool, true, false, cond, ◌&&◌, List, [], ◌∷◌, ◌++◌, length, get_or, take, drop, ℤ, Some, None}
 use Rattle.std.proofs.Common.{refl, sym, ◌∙◌, ap, ap₂, arith, add-one}
-use Rattle.std.proofs.lemmas.List.{drop_all, append_assoc}
+use Rattle.std.proofs.lemmas.List.{drop_all, drop_more, take_more, append_assoc}
 use Rattle.sy_terms.specs.Values.{Whole}
 use Rattle.sy_terms.specs.Expr.{Expr, Exprs, Constant, Variable, Apply, Invoke, Bind, none, more, nodes, nodes_of}
 use Rattle.sy_terms.specs.Denoted.{val_of, expr_of, exprs_of, expr_of-Const, expr_of-Var, expr_of-App, expr_of-Call, expr_of-Let}
@@ -139,13 +139,21 @@ fits-at (s ∷ ss) zero h = (and_parts (sight_fits s) (all_fit ss) h).0
 fits-at (s ∷ ss) (suc i) h = fits-at ss i (and_parts (sight_fits s) (all_fit ss) h).1
 
 -- ---- variables
-pub variables_next : (path : List Fact) (vars : List Sort) (names new all : List Sight) (number i : ℕ) (sort : Sort) (s : Sight) → i < length vars → sort ≡ get_or vars i sort → s ≡ variable_sight path sort number → new ≡ names ++ s ∷ [] → names ++ variable_sights path number (drop i vars) ≡ all → new ++ variable_sights path (number + 1) (drop (i + 1) vars) ≡ all
-variables_next path vars names new all number i sort s within is e f kept =
+pub variables_next : (path : List Fact) (vars : List Sort) (names new all : List Sight) (number i : ℕ) (d : Sort) (s : Sight) → i < length vars → s ≡ variable_sight path (get_or vars i d) number → new ≡ names ++ s ∷ [] → names ++ variable_sights path number (drop i vars) ≡ all → new ++ variable_sights path (number + 1) (drop (i + 1) vars) ≡ all
+variables_next path vars names new all number i d s within e f kept =
     ap (λ ns. ns ++ variable_sights path (number + 1) (drop (i + 1) vars)) f
     ∙ append_assoc names (s ∷ []) (variable_sights path (number + 1) (drop (i + 1) vars))
     ∙ ap₂ (λ r k. names ++ (r ∷ variable_sights path k (drop (i + 1) vars))) e (add-one number)
-    ∙ sym (ap (λ vs. names ++ variable_sights path number vs) (drop_item vars i sort within is))
+    ∙ sym (ap (λ vs. names ++ variable_sights path number vs) (drop_more vars i d within))
     ∙ kept
+
+-- ---- bound terms
+pub bound_more : (names new before bound : List Sight) (i : ℕ) (s copy : Sight) → i < length bound → s ≡ get_or bound i s → copy ≡ s → new ≡ names ++ copy ∷ [] → names ≡ before ++ take i bound → new ≡ before ++ take (i + 1) bound
+bound_more names new before bound i s copy within is same pushed kept =
+    pushed
+    ∙ ap₂ (λ ns x. ns ++ x ∷ []) kept (same ∙ is)
+    ∙ append_assoc before (take i bound) (get_or bound i s ∷ [])
+    ∙ sym (ap (λ ts. before ++ ts) (take_more bound i s within))
 
 -- ---- queries
 pub known_is : (vars sorts : List Sort) (path facts : List Fact) (names : List Sight) (e : Expr) (s : Seen) (k : Known) → k ≡ known_of s → s ≡ seen vars path names 0 e → names ≡ variable_sights facts 0 vars → vars ≡ sorts → path ≡ facts → k ≡ known_of (seen sorts facts (variable_sights facts 0 sorts) 0 e)

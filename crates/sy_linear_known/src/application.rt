@@ -13,7 +13,6 @@ use sy_seq::Want;
 use sy_terms::Op;
 
 /// What the path tells of the operator's application, by what it tells of the arguments.
-#[tactic(auto, unfolding(crate::specs::Sights::operator_applied))]
 fn value_of(alloc: Global, path: &Facts<'_>, operator: &Op, sights: &[Sight]) -> Result<Node, Want>
     requires { all_fit sights.now ≡ true }
     ensures { IfOk result (λ n. n ≡ operator_applied path.now operator.now sights.now) }

@@ -1,5 +1,6 @@
 // Forms of sums, differences and products.
-ghost use Rattle.std.specs.Prelude.{◌≡◌, ◌∷◌, IfOk, true};
+ghost use Rattle.std.specs.Prelude.{◌≡◌, ◌∷◌, IfOk, IsErrOf, true, false};
+ghost use Rattle.sy_linear_forms.specs.declared.form.Form.{Form as FormOf};
 ghost use Rattle.sy_linear_forms.specs.Forms.{form_is_in_range, is_constant_form};
 ghost use Rattle.sy_linear_known.specs.Sights as spec;
 ghost use Rattle.sy_linear_known.specs.Fitting.{form_fits, sight_fits, all_fit};
@@ -18,6 +19,18 @@ pub(crate) enum Operation {
     Product,
 }
 
+/// The form that was made; none where it doesn't fit.
+fn fitting(made: Result<Form, FormEnd>) -> Result<Option<Form>, Want>
+    ensures ok { (f : FormOf) → IfOk made (λ g. g ≡ f) → IfOk made (λ g. form_is_in_range g ≡ true) → (IsErrOf made FormEnd.OutOfRange → form_is_in_range f ≡ false) → IfOk result (λ form. form ≡ spec.built f) }
+    ensures fits { IfOk made (λ g. form_is_in_range g ≡ true) → IfOk result (λ form. form_fits form ≡ true) }
+{
+    match made {
+        Ok(form) => Ok(Some(form)),
+        Err(FormEnd::OutOfRange) => Ok(None),
+        Err(FormEnd::Want) => Err(AllocError),
+    }
+}
+
 /// The sum; none where it doesn't fit.
 pub(crate) fn sum(alloc: Global, f: &Form, g: &Form) -> Result<Option<Form>, Want>
     requires left { form_is_in_range f.now ≡ true }
@@ -25,11 +38,7 @@ pub(crate) fn sum(alloc: Global, f: &Form, g: &Form) -> Result<Option<Form>, Wan
     ensures ok { IfOk result (λ form. form ≡ spec.form_sum f.now g.now) }
     ensures fits { IfOk result (λ form. form_fits form ≡ true) }
 {
-    match f.plus(alloc, g) {
-        Ok(form) => Ok(Some(form)),
-        Err(FormEnd::OutOfRange) => Ok(None),
-        Err(FormEnd::Want) => Err(AllocError),
-    }
+    fitting(f.plus(alloc, g))
 }
 
 /// The multiple; none where it doesn't fit.
@@ -38,11 +47,7 @@ pub(crate) fn multiple(alloc: Global, factor: i128, f: &Form) -> Result<Option<F
     ensures ok { IfOk result (λ form. form ≡ spec.form_multiple factor f.now) }
     ensures fits { IfOk result (λ form. form_fits form ≡ true) }
 {
-    match f.times(alloc, factor) {
-        Ok(form) => Ok(Some(form)),
-        Err(FormEnd::OutOfRange) => Ok(None),
-        Err(FormEnd::Want) => Err(AllocError),
-    }
+    fitting(f.times(alloc, factor))
 }
 
 /// The difference; none where it doesn't fit.
@@ -52,11 +57,7 @@ pub(crate) fn difference(alloc: Global, f: &Form, g: &Form) -> Result<Option<For
     ensures ok { IfOk result (λ form. form ≡ spec.form_difference f.now g.now) }
     ensures fits { IfOk result (λ form. form_fits form ≡ true) }
 {
-    match f.minus(alloc, g) {
-        Ok(form) => Ok(Some(form)),
-        Err(FormEnd::OutOfRange) => Ok(None),
-        Err(FormEnd::Want) => Err(AllocError),
-    }
+    fitting(f.minus(alloc, g))
 }
 
 /// The form that is at least 0 exactly where the first is above the second; none where it doesn't fit.
@@ -66,11 +67,7 @@ pub(crate) fn excess(alloc: Global, f: &Form, g: &Form) -> Result<Option<Form>, 
     ensures ok { IfOk result (λ form. form ≡ spec.excess f.now g.now) }
     ensures fits { IfOk result (λ form. form_fits form ≡ true) }
 {
-    match f.above(alloc, g) {
-        Ok(form) => Ok(Some(form)),
-        Err(FormEnd::OutOfRange) => Ok(None),
-        Err(FormEnd::Want) => Err(AllocError),
-    }
+    fitting(f.above(alloc, g))
 }
 
 /// Whether no variable has a coefficient.
@@ -130,6 +127,17 @@ impl Operation {
         }
     }
 
+    /// The same, of which the first is let go.
+    fn continued(self, alloc: Global, node: Node, sight: &Sight) -> Result<Node, Want>
+        requires node { sight_fits node.sight ≡ true }
+        requires sight { sight_fits sight.now ≡ true }
+        ensures { IfOk result (λ n. n ≡ spec.sights_combined (operation_result self) node sight.now) }
+    {
+        let next = self.combined(alloc, &node, sight);
+        drop(node);
+        next
+    }
+
     /// The operation taken from the left over what is told of terms.
     pub(crate) fn folded(self, alloc: Global, sights: &[Sight]) -> Result<Node, Want>
         requires { all_fit sights.now ≡ true }
@@ -140,7 +148,7 @@ impl Operation {
         };
         let mut node = Node::told(first.copy(alloc)?);
         for sight in rest {
-            node = self.combined(alloc, &node, sight)?;
+            node = self.continued(alloc, node, sight)?;
         }
         Ok(node)
     }

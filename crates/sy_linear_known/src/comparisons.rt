@@ -97,8 +97,13 @@ fn equal(alloc: Global, path: &Facts<'_>, f: &Form, g: &Form) -> Result<Node, Wa
     ensures { IfOk result (λ n. n ≡ spec.forms_equal path.now f.now g.now) }
 {
     let first = at_most(alloc, path, g, f)?;
-    let second = at_most(alloc, path, f, g)?;
-    Ok(first.both(second))
+    match at_most(alloc, path, f, g) {
+        Ok(second) => Ok(first.both(second)),
+        Err(want) => {
+            drop(first);
+            Err(want)
+        }
+    }
 }
 
 /// Whether the two differ.
@@ -146,6 +151,28 @@ impl Comparison {
         }
     }
 
+    /// The comparison of two terms, after those before.
+    fn joined(
+        self,
+        alloc: Global,
+        path: &Facts<'_>,
+        before: Node,
+        first: &Sight,
+        second: &Sight,
+    ) -> Result<Node, Want>
+        requires left { sight_fits first.now ≡ true }
+        requires right { sight_fits second.now ≡ true }
+        ensures { IfOk result (λ n. n ≡ spec.both_nodes before (spec.compared (comparison self path.now) first.now second.now)) }
+    {
+        match self.compared(alloc, path, first, second) {
+            Ok(next) => Ok(before.both(next)),
+            Err(want) => {
+                drop(before);
+                Err(want)
+            }
+        }
+    }
+
     /// The comparison of each term with the one after it.
     pub(crate) fn in_row(
         self,
@@ -159,8 +186,7 @@ impl Comparison {
         let mut node = Node::told(Sight::Settled(true));
         let mut left = sights;
         while let [first, second, ..] = left {
-            let next = self.compared(alloc, path, first, second)?;
-            node = node.both(next);
+            node = self.joined(alloc, path, node, first, second)?;
             left = &left[1..];
         }
         Ok(node)
@@ -181,8 +207,7 @@ impl Comparison {
     {
         let mut node = before;
         for other in others {
-            let next = self.compared(alloc, path, first, other)?;
-            node = node.both(next);
+            node = self.joined(alloc, path, node, first, other)?;
         }
         Ok(node)
     }

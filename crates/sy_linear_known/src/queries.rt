@@ -53,7 +53,8 @@ fn variable_sights(alloc: Global, path: &[Fact], vars: &[Sort]) -> Result<Vec<Si
 }
 
 /// What is known by what was found: a node at which a form doesn't fit goes before the value, and the value before
-/// the first open test.
+/// the first open test. What isn't handed on is let go of by calls, which is proved faster than that it goes out of
+/// scope.
 fn known_of(seen: Seen) -> Known
     ensures { result ≡ spec.known_of seen }
 {
@@ -62,13 +63,19 @@ fn known_of(seen: Seen) -> Known
         unknown,
         misfit,
     } = seen;
+    let is_true = sight.is_true();
+    let is_false = sight.is_false();
+    drop(sight);
     if let Some(number) = misfit {
+        drop(unknown);
         return Known::OutOfRange(number);
     }
-    if sight.is_true() {
+    if is_true {
+        drop(unknown);
         return Known::True;
     }
-    if sight.is_false() {
+    if is_false {
+        drop(unknown);
         return Known::False;
     }
     match unknown {

@@ -1,5 +1,5 @@
 // What a path tells of a term.
-ghost use Rattle.std.specs.Prelude.{◌≡◌, IfOk, ◌∷◌, []};
+ghost use Rattle.std.specs.Prelude.{◌≡◌, IfOk, ◌∷◌, [], cond};
 ghost use Rattle.std.specs.List.{list_any, list_all};
 ghost use Rattle.sy_linear_known.specs.Seen.{seen_as, nothing_found, with_next, node_noted, after_bound};
 ghost use Rattle.sy_linear_known.specs.Sights.{is_true, is_false, is_open, all_of, any_of, sight_opposite, told, unfit, or_else, both_nodes, turned, of_form};
@@ -65,6 +65,17 @@ impl Sight {
         matches!(self, Sight::Settled(false))
     }
 
+    /// Whether the term is known to have this truth value.
+    pub(crate) fn is_settled(&self, truth: bool) -> bool
+        ensures { result ≡ cond truth is_true is_false self.now }
+    {
+        if truth {
+            self.is_true()
+        } else {
+            self.is_false()
+        }
+    }
+
     /// Whether nothing is known of the term.
     pub(crate) fn is_open(&self) -> bool
         ensures { result ≡ is_open self.now }
@@ -87,41 +98,37 @@ impl Sight {
     }
 }
 
-/// Whether one is known false.
-fn some_false(sights: &[Sight]) -> bool
-    ensures { result ≡ list_any is_false sights.now }
+/// Whether one is known to have this truth value.
+fn some_settled(sights: &[Sight], truth: bool) -> bool
+    ensures { result ≡ list_any (cond truth is_true is_false) sights.now }
 {
-    sights.iter().any(|sight| sight.is_false())
+    for sight in sights {
+        if sight.is_settled(truth) {
+            return true;
+        }
+    }
+    false
 }
 
-/// Whether one is known true.
-fn some_true(sights: &[Sight]) -> bool
-    ensures { result ≡ list_any is_true sights.now }
+/// Whether all are known to have this truth value.
+fn each_settled(sights: &[Sight], truth: bool) -> bool
+    ensures { result ≡ list_all (cond truth is_true is_false) sights.now }
 {
-    sights.iter().any(|sight| sight.is_true())
-}
-
-/// Whether all are known false.
-fn each_false(sights: &[Sight]) -> bool
-    ensures { result ≡ list_all is_false sights.now }
-{
-    sights.iter().all(|sight| sight.is_false())
-}
-
-/// Whether all are known true.
-fn each_true(sights: &[Sight]) -> bool
-    ensures { result ≡ list_all is_true sights.now }
-{
-    sights.iter().all(|sight| sight.is_true())
+    for sight in sights {
+        if !sight.is_settled(truth) {
+            return false;
+        }
+    }
+    true
 }
 
 /// False where one is known false, true where all are known true.
 pub(crate) fn all_of(sights: &[Sight]) -> Sight
     ensures { result ≡ all_of sights.now }
 {
-    if some_false(sights) {
+    if some_settled(sights, false) {
         Sight::Settled(false)
-    } else if each_true(sights) {
+    } else if each_settled(sights, true) {
         Sight::Settled(true)
     } else {
         Sight::Open
@@ -132,9 +139,9 @@ pub(crate) fn all_of(sights: &[Sight]) -> Sight
 pub(crate) fn any_of(sights: &[Sight]) -> Sight
     ensures { result ≡ any_of sights.now }
 {
-    if some_true(sights) {
+    if some_settled(sights, true) {
         Sight::Settled(true)
-    } else if each_false(sights) {
+    } else if each_settled(sights, false) {
         Sight::Settled(false)
     } else {
         Sight::Open
@@ -211,8 +218,11 @@ impl Node {
     pub(crate) fn both(self, other: Node) -> Node
         ensures { result ≡ both_nodes self other }
     {
+        let sight = both_of(&self.sight, &other.sight);
+        drop(self.sight);
+        drop(other.sight);
         Node {
-            sight: both_of(&self.sight, &other.sight),
+            sight,
             unknown: or_else(self.unknown, other.unknown),
             fits: self.fits && other.fits,
         }
@@ -222,8 +232,10 @@ impl Node {
     pub(crate) fn turned(self) -> Node
         ensures { result ≡ turned self }
     {
+        let sight = opposite(&self.sight);
+        drop(self.sight);
         Node {
-            sight: opposite(&self.sight),
+            sight,
             unknown: self.unknown,
             fits: self.fits,
         }
@@ -239,6 +251,17 @@ impl Seen {
             sight,
             unknown: None,
             misfit: None,
+        }
+    }
+
+    /// A node of this number that isn't linear, below which nothing is looked at.
+    pub(crate) fn unfit(at: u32) -> Seen
+        ensures { result ≡ node_noted at unfit nothing_found }
+    {
+        Seen {
+            sight: Sight::Open,
+            unknown: None,
+            misfit: Some(at),
         }
     }
 
@@ -282,12 +305,19 @@ impl Found {
     pub(crate) fn with_next(self, seen: Seen) -> Result<Found, Want>
         ensures { IfOk result (λ found. found ≡ with_next self seen) }
     {
+        let unknown = or_else(self.unknown, seen.unknown);
+        let misfit = or_else(self.misfit, seen.misfit);
         let mut sights = self.sights;
-        sights.push(seen.sight)?;
-        Ok(Found {
-            sights,
-            unknown: or_else(self.unknown, seen.unknown),
-            misfit: or_else(self.misfit, seen.misfit),
-        })
+        match sights.push(seen.sight) {
+            Ok(()) => Ok(Found {
+                sights,
+                unknown,
+                misfit,
+            }),
+            Err(want) => {
+                drop(unknown);
+                Err(want)
+            }
+        }
     }
 }

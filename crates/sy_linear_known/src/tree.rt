@@ -26,7 +26,7 @@ pub enum Tree {
 }
 
 /// Why a tree isn't judged.
-#[derive(Clone, Copy, Debug, PartialEq, Eq)]
+#[derive(Clone, Copy)]
 pub enum CheckEnd {
     /// An operation at the node of this number, in preorder, leaves 128 bits.
     Range(u32),

@@ -61,16 +61,27 @@ fn truth_at(alloc: Global, operator: &Op, values: &[Value<i128>]) -> Result<Sigh
     }
 }
 
+/// The operator's value where all arguments' truth values are known.
+fn by_truths(alloc: Global, operator: &Op, sights: &[Sight]) -> Result<Option<Sight>, Want>
+    requires { in_core operator.now ≡ true }
+    ensures { IfOk result (λ told. told ≡ option_map (spec.truth_at operator.now) (spec.all_truths sights.now)) }
+{
+    match all_truths(alloc, sights)? {
+        Some(values) => {
+            let sight = truth_at(alloc, operator, values.as_slice())?;
+            Ok(Some(sight))
+        }
+        None => Ok(None),
+    }
+}
+
 /// What is told of the operator where all arguments' truth values are known.
 pub(crate) fn evaluated(alloc: Global, operator: &Op, sights: &[Sight]) -> Result<Node, Want>
     requires { in_core operator.now ≡ true }
     ensures { IfOk result (λ n. n ≡ spec.evaluated operator.now (spec.all_truths sights.now)) }
 {
-    match all_truths(alloc, sights)? {
-        Some(values) => {
-            let sight = truth_at(alloc, operator, values.as_slice())?;
-            Ok(Node::told(sight))
-        }
+    match by_truths(alloc, operator, sights)? {
+        Some(sight) => Ok(Node::told(sight)),
         None => Ok(Node::told(Sight::Open)),
     }
 }
@@ -85,11 +96,15 @@ pub(crate) fn by_truths_or(
     requires { in_core operator.now ≡ true }
     ensures { IfOk result (λ n. n ≡ spec.by_truths_or operator.now (spec.all_truths sights.now) compared) }
 {
-    match all_truths(alloc, sights)? {
-        Some(values) => {
-            let sight = truth_at(alloc, operator, values.as_slice())?;
+    match by_truths(alloc, operator, sights) {
+        Ok(Some(sight)) => {
+            drop(compared);
             Ok(Node::told(sight))
         }
-        None => Ok(compared),
+        Ok(None) => Ok(compared),
+        Err(want) => {
+            drop(compared);
+            Err(want)
+        }
     }
 }

@@ -4,6 +4,7 @@ ghost use Rattle.sy_terms.specs.Values.{Whole};
 ghost use Rattle.sy_terms.specs.Expr.{nodes, nodes_of};
 ghost use Rattle.sy_terms.specs.Denoted.{val_of, expr_of, exprs_of};
 ghost use Rattle.sy_linear_known.specs.Seen as spec;
+ghost use Rattle.sy_linear_known.specs.Sights.{operator_applied};
 ghost use Rattle.sy_linear_known.specs.Fitting.{sight_fits, all_fit};
 
 use crate::application::applied;
@@ -105,6 +106,41 @@ fn bind(alloc: Global, names: &mut Vec<Sight>, bound: &[Sight]) -> Result<(), Wa
     Ok(())
 }
 
+/// Appends copies of what is told of bound terms, and hands on what was found in them.
+fn bound_by(alloc: Global, names: &mut Vec<Sight>, found: Found) -> Result<Found, Want>
+    ensures found { IfOk result (λ same. same ≡ found) }
+    ensures names { OnOk result (names.new.items ≡ names.old.items ++ found.sights) }
+{
+    match bind(alloc, names, found.sights.as_slice()) {
+        Ok(()) => Ok(found),
+        Err(want) => {
+            drop(found);
+            Err(want)
+        }
+    }
+}
+
+/// What is found at the application of this number, by what is found in its arguments.
+fn noted(
+    alloc: Global,
+    path: &Facts<'_>,
+    operator: &Op,
+    at: u32,
+    below: Found,
+) -> Result<Seen, Want>
+    requires { all_fit below.sights ≡ true }
+    ensures seen { IfOk result (λ s. s ≡ spec.node_noted at (operator_applied path.now operator.now below.sights) below) }
+    ensures fits { IfOk result (λ s. sight_fits s.sight ≡ true) }
+{
+    match applied(alloc, path, operator, below.sights.as_slice()) {
+        Ok(node) => Ok(Seen::noted(at, node, below)),
+        Err(want) => {
+            drop(below);
+            Err(want)
+        }
+    }
+}
+
 /// What is found in a term, by what is told of the names in force; `next` is the number of its node, and then of
 /// the node after it.
 #[cycle(walk)]
@@ -138,25 +174,28 @@ pub(crate) fn walk(
             *next += 1;
             let choice = is_choice(operator);
             let below = walk_all(alloc, vars, path, names, choice, arguments, next)?;
-            let node = applied(alloc, path, operator, below.sights.as_slice())?;
-            Ok(Seen::noted(at, node, below))
+            let seen = noted(alloc, path, operator, at, below)?;
+            Ok(seen)
         }
         Term::Call(_, _) => {
             skip(term, next);
-            Ok(Seen {
-                sight: Sight::Open,
-                unknown: None,
-                misfit: Some(at),
-            })
+            Ok(Seen::unfit(at))
         }
         Term::Let(bound, inner) => {
             *next += 1;
             let below = walk_all(alloc, vars, path, names, false, bound, next)?;
             let outer = names.len();
-            bind(alloc, names, below.sights.as_slice())?;
-            let seen = walk(alloc, vars, path, names, inner, next)?;
-            names.truncate(outer);
-            Ok(Seen::after(below, seen))
+            let found = bound_by(alloc, names, below)?;
+            match walk(alloc, vars, path, names, inner, next) {
+                Ok(seen) => {
+                    names.truncate(outer);
+                    Ok(Seen::after(found, seen))
+                }
+                Err(want) => {
+                    drop(found);
+                    Err(want)
+                }
+            }
         }
     }
 }
@@ -209,8 +248,13 @@ fn walk_all(
     let mut found = Found::new(alloc);
     for term in terms.as_slice() {
         let live = is_live(choice, found.sights.as_slice());
-        let seen = walk_if(alloc, vars, path, names, live, term, next)?;
-        found = found.with_next(seen)?;
+        match walk_if(alloc, vars, path, names, live, term, next) {
+            Ok(seen) => found = found.with_next(seen)?,
+            Err(want) => {
+                drop(found);
+                return Err(want);
+            }
+        }
     }
     Ok(found)
 }

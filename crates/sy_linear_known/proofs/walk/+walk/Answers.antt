@@ -1,10 +1,10 @@
-use Rattle.std.proofs.Common.{◌≡◌, ◌+◌, ◌++◌, drop, arith, sym, ap, ap₂, ◌∙◌}
+use Rattle.std.proofs.Common.{◌≡◌, ◌+◌, ◌++◌, drop, arith, refl, sym, ap, ap₂, ◌∙◌}
 use Rattle.sy_terms.specs.Values.{Whole}
 use Rattle.sy_terms.specs.Expr.{nodes, nodes_of}
 use Rattle.sy_terms.specs.Denoted.{expr_of, exprs_of}
 use Rattle.sy_linear_known.specs.Sights.{operator_applied}
 use Rattle.sy_linear_known.specs.Seen as spec
-use Rattle.sy_linear_known.specs.Fitting.{all_fit}
+use Rattle.sy_linear_known.specs.Fitting.{sight_fits, all_fit}
 use Rattle.sy_linear_known.proofs.Walking as step
 use Rattle.sy_linear_known.proofs.walk.+walk.Goals as goal
 
@@ -27,17 +27,17 @@ walk-returns-in-Const-clause-next t c = ap (λ n. c.args.next.now + n) (sym (ap 
 pub walk-returns-in_ok-seen-in-Var-clause-next : goal.walk-returns-in_ok-seen-in-Var-clause-next
 walk-returns-in_ok-seen-in-Var-clause-next t c = ap (λ n. c.args.next.now + n) (sym (ap nodes (step.var_is c.args.term.now c.in-Var.number c.in-Var.is)))
 
-pub walk-returns-in_ok-node-in-App-clause-next : goal.walk-returns-in_ok-node-in-App-clause-next
-walk-returns-in_ok-node-in-App-clause-next t c =
+pub walk-returns-in_ok-seen-in-App-clause-next : goal.walk-returns-in_ok-seen-in-App-clause-next
+walk-returns-in_ok-seen-in-App-clause-next t c =
     let all : nodes (expr_of Whole c.args.term.now) ≡ nodes_of (exprs_of Whole c.in-App.arguments.items.items) + 1 = step.app_nodes c.args.term.now c.in-App.operator c.in-App.arguments c.in-App.is in
     let after : c.walk_all.new.next ≡ c.args.next.now + 1 + nodes_of (exprs_of Whole c.in-App.arguments.items.items) = c.in_ok-below-in-App.ensures.next in
     omega (arith, all, after)
 
-pub walk-returns-in_ok-seen-in-Let-clause-next : goal.walk-returns-in_ok-seen-in-Let-clause-next
-walk-returns-in_ok-seen-in-Let-clause-next t c =
+pub walk-returns-in-Ok-clause-next : goal.walk-returns-in-Ok-clause-next
+walk-returns-in-Ok-clause-next t c =
     let all = step.let_nodes c.args.term.now c.in-Let.bound c.in-Let.inner c.in-Let.is in
     let same = ap (λ u. nodes (expr_of Whole u)) c.deref.ensures in
-    omega (arith, all, same, c.in_ok-below-in-Let.ensures.next, c.in_ok-seen-in-Let.ensures.next)
+    omega (arith, all, same, c.in_ok-below-in-Let.ensures.next, c.in-Ok.ensures.next)
 
 -- ---- calls
 pub walk-walk_all-requires : goal.walk-walk_all-requires
@@ -54,7 +54,7 @@ pub walk-walk-requires : goal.walk-walk-requires
 walk-walk-requires t c =
     let all = step.let_nodes c.args.term.now c.in-Let.bound c.in-Let.inner c.in-Let.is in
     let same = ap (λ u. nodes (expr_of Whole u)) c.deref.ensures in
-    let longer = c.in_ok-bind-in-Let.ensures ∙ ap₂ (λ ns ss. ns ++ ss) c.in_ok-below-in-Let.ensures.names c.as_slice-in-Let.ensures in (
+    let longer = c.in_ok-found-in-Let.ensures.names ∙ ap (λ ns. ns ++ c.in_ok-below-in-Let.below.sights) c.in_ok-below-in-Let.ensures.names in (
       omega (arith, all, same, c.decreases),
       (
         ap all_fit longer ∙ step.fits-append c.args.names.now.items c.in_ok-below-in-Let.below.sights c.requires.names c.in_ok-below-in-Let.ensures.fits,
@@ -85,41 +85,74 @@ walk-returns-in_ok-seen-in-Var-clause-seen t c =
     c.in_ok-seen-in-Var.ensures.seen ∙ ap (λ ns. spec.variable_seen c.args.vars.now ns c.in-Var.number) c.as_slice.ensures.value
     ∙ step.seen-var c.args.vars.now c.args.path.now c.args.names.now.items c.args.next.now c.args.term.now c.in-Var.number c.in-Var.is
 
-pub walk-returns-in_ok-node-in-App-clause-seen : goal.walk-returns-in_ok-node-in-App-clause-seen
-walk-returns-in_ok-node-in-App-clause-seen t c =
-    c.noted.ensures
-    ∙ step.seen-app c.args.vars.now c.args.path.now c.args.names.now.items c.args.next.now c.args.term.now c.in-App.operator c.in-App.arguments c.in_ok-below-in-App.below c.in_ok-node-in-App.node c.in-App.is
+pub walk-returns-in_ok-seen-in-App-clause-seen : goal.walk-returns-in_ok-seen-in-App-clause-seen
+walk-returns-in_ok-seen-in-App-clause-seen t c =
+    c.in_ok-seen-in-App.ensures.seen
+    ∙ step.seen-app c.args.vars.now c.args.path.now c.args.names.now.items c.args.next.now c.args.term.now c.in-App.operator c.in-App.arguments c.in_ok-below-in-App.below
+    (operator_applied c.args.path.now c.in-App.operator c.in_ok-below-in-App.below.sights) c.in-App.is
     (c.in_ok-below-in-App.ensures.found ∙ ap (λ choice. spec.all_seen c.args.vars.now c.args.path.now c.args.names.now.items choice (c.args.next.now + 1) spec.nothing_found (exprs_of Whole c.in-App.arguments.items.items)) c.is_choice-choice.ensures)
-    (c.in_ok-node-in-App.ensures.ok ∙ ap (operator_applied c.args.path.now c.in-App.operator) c.as_slice-in-App.ensures)
+    refl
 
 pub walk-returns-in-Call-clause-seen : goal.walk-returns-in-Call-clause-seen
 walk-returns-in-Call-clause-seen t c =
-    step.seen-call c.args.vars.now c.args.path.now c.args.names.now.items c.args.next.now c.args.term.now c.in-Call.field-0 c.in-Call.field-1 c.in-Call.is
+    c.unfit.ensures
+    ∙ step.seen-call c.args.vars.now c.args.path.now c.args.names.now.items c.args.next.now c.args.term.now c.in-Call.field-0 c.in-Call.field-1 c.in-Call.is
 
-pub walk-returns-in_ok-seen-in-Let-clause-seen : goal.walk-returns-in_ok-seen-in-Let-clause-seen
-walk-returns-in_ok-seen-in-Let-clause-seen t c =
-    c.after.ensures
-    ∙ step.seen-let c.args.vars.now c.args.path.now c.args.names.now.items c.bind.new.names.items c.args.next.now c.walk_all-in-Let.new.next c.args.term.now c.in-Let.bound c.in-Let.inner c.in_ok-below-in-Let.below c.in_ok-seen-in-Let.seen c.in-Let.is
+pub walk-returns-in-Ok-clause-seen : goal.walk-returns-in-Ok-clause-seen
+walk-returns-in-Ok-clause-seen t c =
+    c.after.ensures ∙ ap (λ below. spec.after_bound below c.in-Ok.seen) c.in_ok-found-in-Let.ensures.found
+    ∙ step.seen-let c.args.vars.now c.args.path.now c.args.names.now.items c.bound_by.new.names.items c.args.next.now c.walk_all-in-Let.new.next c.args.term.now c.in-Let.bound c.in-Let.inner c.in_ok-below-in-Let.below c.in-Ok.seen c.in-Let.is
     c.in_ok-below-in-Let.ensures.found
-    (c.in_ok-bind-in-Let.ensures ∙ ap₂ (λ ns ss. ns ++ ss) c.in_ok-below-in-Let.ensures.names c.as_slice-in-Let.ensures)
+    (c.in_ok-found-in-Let.ensures.names ∙ ap (λ ns. ns ++ c.in_ok-below-in-Let.below.sights) c.in_ok-below-in-Let.ensures.names)
     c.in_ok-below-in-Let.ensures.next
-    (c.in_ok-seen-in-Let.ensures.seen ∙ ap (λ u. spec.seen c.args.vars.now c.args.path.now c.bind.new.names.items c.walk_all-in-Let.new.next (expr_of Whole u)) c.deref.ensures)
+    (c.in-Ok.ensures.seen ∙ ap (λ u. spec.seen c.args.vars.now c.args.path.now c.bound_by.new.names.items c.walk_all-in-Let.new.next (expr_of Whole u)) c.deref.ensures)
 
 pub walk_all-loop-term-preserved : goal.walk_all-loop-term-preserved
 walk_all-loop-term-preserved t c = record {
   kept =
-      ap (λ ns. spec.all_seen c.args.vars.now c.args.path.now ns c.args.choice c.walk_if.new.next c.in_ok-found.found (exprs_of Whole (drop (c.loop-term.term-index + 1) c.as_slice-term-items.result.now))) c.in_ok-seen.ensures.names
-      ∙ step.all_seen-next c.args.vars.now c.args.path.now c.loop-term.names.items c.args.choice c.loop-term.next c.walk_if.new.next c.loop-term.found c.in_ok-found.found _ c.in_ok-seen.seen c.as_slice-term-items.result.now c.loop-term.term-index c.term-item.result c.is_live-live.result
-      c.loop-term-test.true c.term-item.is (c.is_live-live.ensures ∙ ap (spec.live c.args.choice) c.as_slice.ensures) c.in_ok-seen.ensures.seen c.in_ok-found.ensures c.in_ok-seen.ensures.next c.loop-term.invariant.kept
-      ∙ sym (ap (λ ns. spec.all_seen c.args.vars.now c.args.path.now ns c.args.choice c.args.next.now spec.nothing_found (exprs_of Whole c.as_slice-term-items.result.now)) c.in_ok-seen.ensures.names);
-  names = c.in_ok-seen.ensures.names ∙ c.loop-term.invariant.names;
+      ap (λ ns. spec.all_seen c.args.vars.now c.args.path.now ns c.args.choice c.walk_if.new.next c.in_ok-found-in-Ok.found (exprs_of Whole (drop (c.loop-term.term-index + 1) c.as_slice-term-items.result.now))) c.in-Ok.ensures.names
+      ∙ step.all_seen-next c.args.vars.now c.args.path.now c.loop-term.names.items c.args.choice c.loop-term.next c.walk_if.new.next c.loop-term.found c.in_ok-found-in-Ok.found _ c.in-Ok.seen c.as_slice-term-items.result.now c.loop-term.term-index c.term-item.result c.is_live-live.result
+      c.loop-term-test.true c.term-item.is (c.is_live-live.ensures ∙ ap (spec.live c.args.choice) c.as_slice.ensures) c.in-Ok.ensures.seen c.in_ok-found-in-Ok.ensures c.in-Ok.ensures.next c.loop-term.invariant.kept
+      ∙ sym (ap (λ ns. spec.all_seen c.args.vars.now c.args.path.now ns c.args.choice c.args.next.now spec.nothing_found (exprs_of Whole c.as_slice-term-items.result.now)) c.in-Ok.ensures.names);
+  names = c.in-Ok.ensures.names ∙ c.loop-term.invariant.names;
   next =
       let left = step.nodes_left c.as_slice-term-items.result.now c.loop-term.term-index c.term-item.result c.loop-term-test.true c.term-item.is in
-      omega (arith, left, c.loop-term.invariant.next, c.in_ok-seen.ensures.next);
-  fits = ap (λ f. all_fit f.sights) c.in_ok-found.ensures ∙ step.fits-push c.loop-term.found.sights c.in_ok-seen.seen.sight c.loop-term.invariant.fits c.in_ok-seen.ensures.fits;
+      omega (arith, left, c.loop-term.invariant.next, c.in-Ok.ensures.next);
+  fits = ap (λ f. all_fit f.sights) c.in_ok-found-in-Ok.ensures ∙ step.fits-push c.loop-term.found.sights c.in-Ok.seen.sight c.loop-term.invariant.fits c.in-Ok.ensures.fits;
 }
 
 pub walk_all-returns-clause-found : goal.walk_all-returns-clause-found
 walk_all-returns-clause-found t c =
     step.all_seen-end c.args.vars.now c.args.path.now c.loop-term.names.items c.args.choice c.loop-term.next c.loop-term.found _ c.as_slice-term-items.result.now c.loop-term.term-index c.loop-term-test.false c.loop-term.invariant.kept
     ∙ ap₂ (λ ns ts. spec.all_seen c.args.vars.now c.args.path.now ns c.args.choice c.args.next.now spec.nothing_found (exprs_of Whole ts)) c.loop-term.invariant.names c.as_slice-term-items.ensures
+
+pub walk_all-returns-clause-next : goal.walk_all-returns-clause-next
+walk_all-returns-clause-next t c =
+    let past = step.nodes_end c.as_slice-term-items.result.now c.loop-term.term-index c.loop-term-test.false in
+    let same = ap (λ ts. nodes_of (exprs_of Whole ts)) c.as_slice-term-items.ensures in
+    omega (arith, c.loop-term.invariant.next, past, same)
+
+pub walk_all-returns-clause-names : goal.walk_all-returns-clause-names
+walk_all-returns-clause-names t c = c.loop-term.invariant.names
+
+-- ---- fits
+pub walk_all-returns-clause-fits : goal.walk_all-returns-clause-fits
+walk_all-returns-clause-fits t c = c.loop-term.invariant.fits
+
+pub walk-returns-in-Const-clause-fits : goal.walk-returns-in-Const-clause-fits
+walk-returns-in-Const-clause-fits t c = ap (λ s. sight_fits s.sight) c.leaf.ensures ∙ c.of_value.ensures.fits
+
+pub walk-returns-in_ok-seen-in-Var-clause-fits : goal.walk-returns-in_ok-seen-in-Var-clause-fits
+walk-returns-in_ok-seen-in-Var-clause-fits t c = c.in_ok-seen-in-Var.ensures.fits
+
+pub walk-returns-in_ok-seen-in-App-clause-fits : goal.walk-returns-in_ok-seen-in-App-clause-fits
+walk-returns-in_ok-seen-in-App-clause-fits t c = c.in_ok-seen-in-App.ensures.fits
+
+pub walk-returns-in_ok-seen-in-App-clause-names : goal.walk-returns-in_ok-seen-in-App-clause-names
+walk-returns-in_ok-seen-in-App-clause-names t c = c.in_ok-below-in-App.ensures.names
+
+pub walk-returns-in-Ok-clause-fits : goal.walk-returns-in-Ok-clause-fits
+walk-returns-in-Ok-clause-fits t c = ap (λ s. sight_fits s.sight) c.after.ensures ∙ c.in-Ok.ensures.fits
+
+pub walk-returns-in-Call-clause-fits : goal.walk-returns-in-Call-clause-fits
+walk-returns-in-Call-clause-fits t c = ap (λ s. sight_fits s.sight) c.unfit.ensures

@@ -1,0 +1,6 @@
+use Rattle.std.proofs.Common.{ap₂, ◌∙◌}
+use Rattle.sy_linear_known.specs.Sights.{both_nodes}
+use Rattle.sy_linear_known.proofs.comparisons.equal.Goals as goal
+
+pub returns-in-Ok : goal.returns-in-Ok
+returns-in-Ok c = c.both.ensures ∙ ap₂ both_nodes c.in_ok-first.ensures c.in-Ok.ensures

@@ -1,0 +1,8 @@
+use Rattle.std.specs.Prelude.{cond}
+use Rattle.std.specs.List.{list_all}
+use Rattle.std.proofs.Common.{◌≡◌, drop}
+use Rattle.sy_linear_known.specs.Sights.{is_true, is_false}
+use Rattle.sy_linear_known.proofs.sight.each_settled.Given as goal
+
+abbrev pub invariant-loop-sight : goal.invariant-loop-sight
+invariant-loop-sight l = list_all (cond l.truth is_true is_false) (drop l.sight-index l.sights) ≡ list_all (cond l.truth is_true is_false) l.sights
