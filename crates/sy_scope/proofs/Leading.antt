@@ -1,17 +1,19 @@
 -- How the commands of a file lead to its outcome.
-use Rattle.std.proofs.Common.{ℕ, zero, suc, ◌+◌, ◌<◌, ◌≤◌, ◌≡◌, refl, sym, ap, ◌∙◌, List, length, Option, Some, None, Result, Ok, Err, arith}
+use Rattle.std.proofs.Common.{ℕ, zero, suc, ◌+◌, ◌<◌, ◌≤◌, ◌≡◌, refl, sym, ap, subst, ◌∙◌, List, length, Option, Some, None, Result, Ok, Err, arith}
+use Rattle.std.specs.Prelude.{OnOk}
 use Rattle.sy_text.specs.Items.{Item}
 use Rattle.sy_scope_causes.specs.declared.cause.Refused.{Refused}
 use Rattle.sy_forms_items.specs.declared.fault.Fault.{Fault}
 use Rattle.sy_scope_steps.specs.Contexts.{Context, beginning}
 use Rattle.sy_scope_steps.specs.Steps.{step}
 use Rattle.sy_scope_steps.specs.Files.{FileOutcome, command_read, after_command, then_next, refused_at, file_from, file_read}
-use Rattle.sy_forms_items.specs.Readings.{ReadingFails}
+use Rattle.sy_forms_items.specs.Readings.{Reading, ReadingFails, ReadingGives}
 use Rattle.sy_forms_items.specs.declared.fault.ReadEnd.{ReadEnd}
 use Rattle.sy_forms_items.specs.declared.fault.ReadEnd.TheVariants as read_ends
-use Rattle.sy_scope.specs.declared.job.ScopeEnd.{ScopeEnd}
-use Rattle.sy_scope.specs.declared.job.ScopeEnd.TheVariants as ends
-use Rattle.sy_scope.specs.Read.{LeadsToOutcome, EndsAs, ended_as}
+use Rattle.sy_scope_ends.specs.declared.ScopeEnd.{ScopeEnd}
+use Rattle.sy_scope_ends.specs.declared.ScopeEnd.TheVariants as ends
+use Rattle.sy_scope_ends.specs.Ends.{ended_as, numbered_as}
+use Rattle.sy_scope.specs.Read.{LeadsToOutcome, EndsAs}
 
 -- what follows after an offset
 abbrev onward : ℕ → ℕ → List ℕ → ℕ → Context → FileOutcome
@@ -95,3 +97,23 @@ module _ (file : List ℕ) (at command : ℕ) (context : Context) (outcome : Fil
       ReadingFails end (step context x.0) → EndsAs (ended_as command end) outcome
   ends_fault l x read read_ends.Want f = tt
   ends_fault l x read (read_ends.Refused place cause) f = leads_to_fault file at command context outcome l (record { place = place; cause = cause }) x read f
+
+  -- so where its step was given its number
+  pub ends_numbered : {X : Type 0} → LeadsToOutcome file at command context outcome → (x : Item × ℕ) → command_read file command at ≡ Ok (Some x) →
+      (later : Context) (stepped : Result X ReadEnd) (end : ScopeEnd) → Err end ≡ numbered_as command stepped → ReadingGives (λ _. later) stepped (step context x.0) → EndsAs end outcome
+  ends_numbered l x read later (Ok y) end is gives = absurd cc
+  ends_numbered l x read later (Err e) end is gives =
+      let same : ended_as command e ≡ end = cc in
+      subst (λ (reason : ScopeEnd). EndsAs reason outcome) same (ends_fault l x read e gives)
+
+module _ {X : Type 0} (command : ℕ) where
+  -- a command that goes on has stepped
+  pub stepped_on : (stepped : Result X ReadEnd) (x : X) (later : Context) (read : Reading Context) →
+      Ok x ≡ numbered_as command stepped → ReadingGives (λ _. later) stepped read → read ≡ Ok later
+  stepped_on (Ok y) x later read is gives = gives
+  stepped_on (Err end) x later read is gives = absurd cc
+
+  -- and what its step promised holds
+  pub stepped_holds : (P : Type 0) (stepped : Result X ReadEnd) (x : X) → Ok x ≡ numbered_as command stepped → OnOk stepped P → P
+  stepped_holds P (Ok y) x is holds = holds
+  stepped_holds P (Err end) x is holds = absurd cc

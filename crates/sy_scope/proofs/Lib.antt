@@ -1,3 +1,4 @@
 pub mod Leading
 pub mod Fits
 pub mod Sound
+pub mod Wishes

@@ -8,15 +8,13 @@ use Rattle.sy_terms.specs.Values.{Val, Whole}
 use Rattle.sy_scope_titles.specs.declared.Titles.{Titles}
 use Rattle.sy_grammar_base.specs.declared.problem.Problem.{Problem}
 use Rattle.sy_meaning_words.specs.Vectors.{vector}
-use Rattle.sy_forms_items.specs.declared.fault.ReadEnd.{ReadEnd}
-use Rattle.sy_forms_items.specs.declared.fault.ReadEnd.TheVariants as read_ends
+use Rattle.sy_scope_ends.specs.declared.ScopeEnd.{ScopeEnd}
+use Rattle.sy_scope_ends.specs.declared.ScopeEnd.TheVariants as ends
 use Rattle.sy_scope_steps.specs.Contexts.{Context, beginning, with_logic}
 use Rattle.sy_scope_steps.specs.Files.{FileOutcome, file_from}
 use Rattle.sy_scope_steps.specs.Jobs.{Wish}
 use Rattle.sy_scope.specs.declared.job.Job.{Job}
 use Rattle.sy_scope.specs.declared.job.Job.TheVariants as jobs
-use Rattle.sy_scope.specs.declared.job.ScopeEnd.{ScopeEnd}
-use Rattle.sy_scope.specs.declared.job.ScopeEnd.TheVariants as ends
 use Rattle.sy_scope.specs.declared.file.Opened.{Opened}
 
 -- what was read, seen by view, is the outcome, unless memory ran out
@@ -35,11 +33,6 @@ pub record LeadsToOutcome (file : List ℕ) (at command : ℕ) (context : Contex
   pub within : at ≤ length file
   pub counted : command ≤ at + 1
   pub same : file_from turns command file at context ≡ outcome
-
--- why a command of this number gives nothing
-abbrev pub ended_as : ℕ → ReadEnd → ScopeEnd
-ended_as command read_ends.Want = ends.Want
-ended_as command (read_ends.Refused place cause) = ends.Refused (record { command = command; place = place; cause = cause })
 
 -- a context in which a logic was set, or none
 abbrev pub opened_by : Option Logic → Context

@@ -1,5 +1,5 @@
 // Files.
-ghost use Rattle.std.specs.Prelude.{◌≡◌, ◌≤◌, ◌<◌, length, IfOk, IfSome};
+ghost use Rattle.std.specs.Prelude.{◌≡◌, ◌≤◌, ◌<◌, length, IfOk, IfSome, OnOk};
 ghost use Rattle.sy_text.specs.Reading as reading;
 ghost use Rattle.sy_text.specs.Views.{command_of};
 ghost use Rattle.sy_terms.specs.Logics.{IsTheoryOf, Serves};
@@ -9,13 +9,14 @@ ghost use Rattle.sy_forms_items.specs.Readings.{ReadingGives};
 ghost use Rattle.sy_scope_steps.specs.Contexts as contexts;
 ghost use Rattle.sy_scope_steps.specs.Files as spec;
 ghost use Rattle.sy_scope_steps.specs.Jobs.{wished};
-ghost use Rattle.sy_scope.specs.Read.{ReadsFile, LeadsToOutcome, OpensAs, ended_as, opened_by, wish_in, wish_over};
+ghost use Rattle.sy_scope.specs.Read.{ReadsFile, LeadsToOutcome, OpensAs, opened_by, wish_in, wish_over};
 ghost use Rattle.sy_scope.specs.Fit.{ProblemsFit, JobFits};
 ghost use Rattle.sy_scope_context.specs.Seen.{context_of};
 ghost use Rattle.sy_scope_steps.specs.Steps as steps;
 
-use crate::job::{Job, ScopeEnd};
+use crate::job::Job;
 use std::alloc::Global;
+use std::mem::replace;
 use sy_forms::{ReadEnd, is};
 use sy_grammar_base::Problem;
 use sy_meaning_integers::IntTheory;
@@ -23,6 +24,7 @@ use sy_meaning_words::BvTheory;
 use sy_scope_causes::{Cause, Refused};
 use sy_scope_commands::Request;
 use sy_scope_context::{Asked, Context, check_feature, read_request};
+use sy_scope_ends::{ScopeEnd, ended, numbered};
 use sy_scope_titles::Titles;
 use sy_terms::{Logic, Seq, Theory};
 use sy_text::{Place, Sexp, TextEnd, TextFault, next_command};
@@ -45,20 +47,6 @@ fn offset_of(fault: TextFault) -> usize
         TextFault::Stray(at) => at,
         TextFault::LiteralRange(at) => at,
         TextFault::TooDeep(at) => at,
-    }
-}
-
-/// Why the command of this number gives nothing.
-fn ended(command: u32, end: ReadEnd) -> ScopeEnd
-    ensures { result ≡ ended_as command end }
-{
-    match end {
-        ReadEnd::Refused(place, cause) => ScopeEnd::Refused(Refused {
-            command,
-            place,
-            cause,
-        }),
-        ReadEnd::Want => ScopeEnd::Want,
     }
 }
 
@@ -136,7 +124,9 @@ fn read_opening(alloc: Global, bytes: &[u8]) -> Result<Option<Opened>, ScopeEnd>
     let mut at = 0;
     let mut command = 1;
     while let Some((item, after)) = next(alloc, bytes, at, command)? {
-        let logic = match open_with(&item) {
+        let opening = open_with(&item);
+        drop(item);
+        let logic = match opening {
             Ok(logic) => logic,
             Err(end) => return Err(ended(command, end)),
         };
@@ -149,31 +139,55 @@ fn read_opening(alloc: Global, bytes: &[u8]) -> Result<Option<Opened>, ScopeEnd>
     Ok(None)
 }
 
-/// The context after the commands behind those that set the logic.
+/// Takes the context of a file in which only the logic was set to the one after all commands behind.
 fn read_commands<T: Theory>(
     alloc: Global,
     bytes: &[u8],
     opened: Opened,
-) -> Result<Context<T>, ScopeEnd>
+    context: &mut Context<T>,
+) -> Result<(), ScopeEnd>
     requires short { length bytes.now ≤ 4194304 }
     requires serves { Serves T.numeric opened.logic }
     requires theory { IsTheoryOf opened.logic T.owned T.numeric }
+    requires begun { context_of T.denotes context.old ≡ contexts.with_logic opened.logic contexts.beginning }
+    requires logic { context.old.logic ≡ opened.logic }
     requires opened { LeadsToOutcome bytes.now opened.at opened.command (contexts.with_logic opened.logic contexts.beginning) (spec.file_read bytes.now) }
-    ensures read { ReadsFile (context_of T.denotes) result (spec.file_read bytes.now) }
-    ensures logic { IfOk result (λ context. context.logic ≡ opened.logic) }
+    ensures read { ReadsFile (λ _. context_of T.denotes context.new) result (spec.file_read bytes.now) }
+    ensures logic { OnOk result (context.new.logic ≡ opened.logic) }
 {
-    let mut context = Context::new(alloc, opened.logic);
     let mut at = opened.at;
     let mut command = opened.command;
     while let Some((item, after)) = next(alloc, bytes, at, command)? {
-        match context.step(alloc, &item) {
-            Ok(()) => {}
-            Err(end) => return Err(ended(command, end)),
-        }
+        let stepped = context.step(alloc, &item);
+        drop(item);
+        numbered(command, stepped)?;
         at = after;
         command += 1;
     }
-    Ok(context)
+    Ok(())
+}
+
+/// What a file of a theory's logic asks, and the names of its functions, by the context in which only the logic was set. The
+/// context is of no further use.
+fn read_by<T: Theory>(
+    alloc: Global,
+    bytes: &[u8],
+    opened: Opened,
+    context: &mut Context<T>,
+) -> Result<(Seq<Problem<T>>, Titles), ScopeEnd>
+    requires short { length bytes.now ≤ 4194304 }
+    requires serves { Serves T.numeric opened.logic }
+    requires theory { IsTheoryOf opened.logic T.owned T.numeric }
+    requires begun { context_of T.denotes context.old ≡ contexts.with_logic opened.logic contexts.beginning }
+    requires logic { context.old.logic ≡ opened.logic }
+    requires opened { LeadsToOutcome bytes.now opened.at opened.command (contexts.with_logic opened.logic contexts.beginning) (spec.file_read bytes.now) }
+    ensures read { ReadsFile (wish_over T.denotes opened.logic) result (wished (spec.file_read bytes.now)) }
+    ensures fit { IfOk result (λ x. ProblemsFit T.owned T.numeric T.denotes x.0) }
+{
+    read_commands(alloc, bytes, opened, context)?;
+    let titles = context.titles(alloc)?;
+    let questions = replace(&mut context.questions, Seq::new(alloc));
+    Ok((questions, titles))
 }
 
 /// What a file of a theory's logic asks, and the names of its functions.
@@ -189,9 +203,10 @@ fn read_in<T: Theory>(
     ensures read { ReadsFile (wish_over T.denotes opened.logic) result (wished (spec.file_read bytes.now)) }
     ensures fit { IfOk result (λ x. ProblemsFit T.owned T.numeric T.denotes x.0) }
 {
-    let context = read_commands(alloc, bytes, opened)?;
-    let titles = context.titles(alloc)?;
-    Ok((context.questions, titles))
+    let mut context = Context::new(alloc, opened.logic);
+    let read = read_by(alloc, bytes, opened, &mut context);
+    drop(context);
+    read
 }
 
 /// Reads a file of at most 4,194,304 bytes. `Ok` comes exactly where it is in the profile, with a problem for each

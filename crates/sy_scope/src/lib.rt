@@ -5,6 +5,7 @@ mod file;
 mod job;
 
 pub use file::read_file;
-pub use job::{Job, ScopeEnd};
+pub use job::Job;
 pub use sy_scope_causes::{Cause, Refused, cause_number};
+pub use sy_scope_ends::ScopeEnd;
 pub use sy_scope_titles::{Title, Titles};

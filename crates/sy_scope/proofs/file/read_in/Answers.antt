@@ -1,7 +1,13 @@
-use Rattle.sy_scope.proofs.Fits.{read_fit}
 use Rattle.sy_scope.proofs.file.read_in.Goals as goal
 
+pub read_by-read-requires-clause-begun : goal.read_by-read-requires-clause-begun
+read_by-read-requires-clause-begun g c = c.new-context.ensures.context
+
+pub read_by-read-requires-clause-logic : goal.read_by-read-requires-clause-logic
+read_by-read-requires-clause-logic g c = c.new-context.ensures.logic
+
+pub returns-clause-read : goal.returns-clause-read
+returns-clause-read g c = c.read_by-read.ensures.read
+
 pub returns-clause-fit : goal.returns-clause-fit
-returns-clause-fit g c =
-    read_fit g.T.Theory.owned g.T.Theory.numeric g.T.Theory.denotes c.args.opened.logic c.in_ok-context.context c.args.bytes.now
-    c.requires.theory c.in_ok-context.ensures.logic c.in_ok-context.ensures.read
+returns-clause-fit g c = c.read_by-read.ensures.fit
