@@ -1,1 +1,1 @@
-pub mod Conditions
+pub use Rattle.sy_loop_conditions.specs.Conditions

@@ -1,8 +1,6 @@
 // The terms that conditional trees over kept terms are.
 ghost use Rattle.std.specs.Prelude.{◌≡◌, IfOk};
 ghost use Rattle.sy_terms.specs.Denoted.{expr_of};
-ghost use Rattle.sy_terms.specs.Expr as expr;
-ghost use Rattle.sy_terms.specs.declared.op.Op.TheVariants as ops;
 ghost use Rattle.sy_bank_rows.specs.Stored.{chosen_of};
 ghost use Rattle.sy_loop_bounds.specs.Conditional.{yield};
 ghost use Rattle.sy_loop_trees_laws.specs.Trees.{conditional_of, entry_at};
@@ -28,29 +26,13 @@ pub fn tree_term<T: Theory>(
             Ok(term)
         }
         Choice::Test(test, there, here) => {
-            let condition = part_term(alloc, conditions, *test)?;
-            let there = tree_term(alloc, there, leaves, conditions)?;
-            let here = tree_term(alloc, here, leaves, conditions)?;
-            let term = chosen_term(alloc, condition, there, here)?;
-            Ok(term)
+            let mut arguments = Terms::with_capacity(alloc, 3)?;
+            arguments.push(part_term(alloc, conditions, *test)?)?;
+            arguments.push(tree_term(alloc, there, leaves, conditions)?)?;
+            arguments.push(tree_term(alloc, here, leaves, conditions)?)?;
+            Ok(Term::App(Op::Ite, arguments))
         }
     }
-}
-
-/// The choice between the terms by the condition.
-fn chosen_term<T: Theory>(
-    alloc: Global,
-    condition: Term<T>,
-    there: Term<T>,
-    here: Term<T>,
-) -> Result<Term<T>, Want>
-    ensures { IfOk result (λ term. expr_of T.denotes term ≡ expr.Apply ops.Ite (expr.more (expr_of T.denotes condition) (expr.more (expr_of T.denotes there) (expr.more (expr_of T.denotes here) expr.none)))) }
-{
-    let mut arguments = Terms::with_capacity(alloc, 3)?;
-    arguments.push(condition)?;
-    arguments.push(there)?;
-    arguments.push(here)?;
-    Ok(Term::App(Op::Ite, arguments))
 }
 
 /// The kept term of this number, in memory of its own; `false` where there is none.

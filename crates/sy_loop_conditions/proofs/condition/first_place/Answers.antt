@@ -1,7 +1,7 @@
 use Rattle.std.proofs.Common.{refl, sym, ◌∙◌}
 use Rattle.sy_grammar_base.specs.Written.{pattern_of-Const, pattern_of-Var, pattern_of-Non, pattern_of-App, pattern_of-Call}
-use Rattle.sy_loop_trees.proofs.Choosing.{first_is, no_first}
-use Rattle.sy_loop_trees.proofs.condition.first_place.Goals as goal
+use Rattle.sy_loop_conditions.proofs.Choosing.{first_is, no_first}
+use Rattle.sy_loop_conditions.proofs.condition.first_place.Goals as goal
 
 pub returns-in-Some : goal.returns-in-Some
 returns-in-Some g c = rw (c.in-App.is, pattern_of-App) (c.place.ensures ∙ sym (first_is g.T.Theory.denotes c.in-App.field-0 c.in-App.parts.items.items c.in-Some.first.now c.in-Some.ensures))

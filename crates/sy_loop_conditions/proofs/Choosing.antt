@@ -1,9 +1,10 @@
 -- The rule by which a grammar makes conditional trees.
-use Rattle.std.specs.Prelude.{ℕ, zero, suc, ◌≡◌, ◌≤◌, ◌&&◌, Bool, true, false, List, [], ◌∷◌, length, slice_get, Option, Some, None, All, Contains, refl}
+use Rattle.std.specs.Prelude.{ℕ, zero, suc, ◌≡◌, ◌≤◌, ◌&&◌, Bool, true, false, List, [], ◌∷◌, length, map, slice_get, Option, Some, None, MatchOption, All, Contains, refl}
 use Rattle.std.proofs.Common.{ap, sym, ◌∙◌, arith}
 use Rattle.std.specs.Option.{option_map}
 use Rattle.std.proofs.lemmas.Bool.{eqb-true, true≢false}
-use Rattle.std.proofs.lemmas.Option.{slice_get-map}
+use Rattle.std.proofs.lemmas.List.{length-map}
+use Rattle.std.proofs.lemmas.Option.{slice_get-map, slice_get_within}
 use Rattle.std.proofs.lemmas.List.Elements.{All-contains}
 use Rattle.sy_terms.specs.Values.{Val}
 use Rattle.sy_terms.specs.declared.op.Op.{Op}
@@ -16,7 +17,7 @@ use Rattle.sy_grammar_base.specs.declared.grammar.Non.{Non}
 use Rattle.sy_grammar_base.specs.declared.grammar.Rule.{Rule}
 use Rattle.sy_grammar_base.specs.Written.{pattern_of, patterns_of}
 use Rattle.sy_grammar_base.specs.declared.part.Part.{Part}
-use Rattle.sy_loop_trees.specs.Conditions.{HasNoTrees, IsConditionOf, first_nonterminal, pattern_nonterminal, tested_by}
+use Rattle.sy_loop_conditions.specs.Conditions.{HasNoTrees, IsConditionOf, first_nonterminal, pattern_nonterminal, tested_by}
 
 both_left : (a b : Bool) → (a && b) ≡ true → a ≡ true
 both_left true b is = refl
@@ -99,7 +100,7 @@ rule_is syntax place = there syntax.nonterminals place
     there (start ∷ others) place = refl
 
 -- the first choice makes trees, by the nonterminal that stands first in it
-pub first_tests : (syntax : Syntax) (place : ℕ) (rule : Production) → IsFirst is_choice (start_rules syntax.nonterminals) place → slice_get (start_rules syntax.nonterminals) place ≡ Some rule →
+first_tests : (syntax : Syntax) (place : ℕ) (rule : Production) → IsFirst is_choice (start_rules syntax.nonterminals) place → slice_get (start_rules syntax.nonterminals) place ≡ Some rule →
     (condition : ℕ) × (tested_by rule ≡ Some condition) × IsConditionOf syntax condition
 first_tests syntax place rule first at =
     let same : rule ≡ first.item = let there = first.at in cc in
@@ -112,9 +113,16 @@ first_tests syntax place rule first at =
       },
     )
 
+-- so what stands first in the rule at the place of the first choice is the nonterminal of the conditions
+pub first_told : (syntax : Syntax) (place : ℕ) (found : Option ℕ) → IsFirst is_choice (start_rules syntax.nonterminals) place → ((rule : Production) → slice_get (start_rules syntax.nonterminals) place ≡ Some rule → found ≡ tested_by rule) →
+    MatchOption found (HasNoTrees syntax) (IsConditionOf syntax)
+first_told syntax place found first tells =
+    let tests = first_tests syntax place first.item first first.at in
+    rw (tells first.item first.at, tests.1) tests.2
+
 -- what stands in a grammar's start symbol
 module _ {T N : Type 0} (number : N → Val) (grammar : Grammar T N) where
-  pub start_at : (start : Non T N) (place : ℕ) (rule : Rule T N) → slice_get grammar.nons 0 ≡ Some start → slice_get start.rules place ≡ Some rule →
+  start_at : (start : Non T N) (place : ℕ) (rule : Rule T N) → slice_get grammar.nons 0 ≡ Some start → slice_get start.rules place ≡ Some rule →
       slice_get (start_rules (syntax_from number grammar).nonterminals) place ≡ Some (production_of number rule)
   start_at start place rule at found = within grammar.nons at
     where
@@ -123,3 +131,22 @@ module _ {T N : Type 0} (number : N → Val) (grammar : Grammar T N) where
       within (non ∷ nons) at =
           let same : non ≡ start = cc in
           slice_get-map (production_of number) non.rules place ∙ ap (λ (n : Non T N). option_map (production_of number) (slice_get n.rules place)) same ∙ ap (λ (r : Option (Rule T N)). option_map (production_of number) r) found
+
+  -- what a rule of the start symbol tells
+  pub told_at : (start : Non T N) (place : ℕ) (rule : Rule T N) (found : Option ℕ) → slice_get grammar.nons 0 ≡ Some start → slice_get start.rules place ≡ Some rule → found ≡ tested_by (production_of number rule) →
+      (production : Production) → slice_get (start_rules (syntax_from number grammar).nonterminals) place ≡ Some production → found ≡ tested_by production
+  told_at start place rule found at within is production there =
+      let here = start_at start place rule at within in
+      let same : production_of number rule ≡ production = cc in
+      is ∙ ap tested_by same
+
+  -- past the last rule
+  pub none_at : (start : Non T N) (place : ℕ) → slice_get grammar.nons 0 ≡ Some start → length start.rules ≤ place →
+      (production : Production) → slice_get (start_rules (syntax_from number grammar).nonterminals) place ≡ Some production → ⊥
+  none_at start place at beyond production there = within grammar.nons at there
+    where
+      within : (nons : List (Non T N)) → slice_get nons 0 ≡ Some start → slice_get (start_rules (syntax_from number (record { args = grammar.args; nons = nons })).nonterminals) place ≡ Some production → ⊥
+      within [] at there = absurd (cc)
+      within (non ∷ nons) at there =
+          let same : non ≡ start = cc in
+          omega (arith, beyond, ap (λ (n : Non T N). length n.rules) same, length-map non.rules (production_of number), slice_get_within (map (production_of number) non.rules) place production there)

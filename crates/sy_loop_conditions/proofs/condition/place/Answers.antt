@@ -1,6 +1,6 @@
 use Rattle.std.proofs.Common.{refl}
 use Rattle.sy_grammar_base.specs.Written.{pattern_of-Const, pattern_of-Var, pattern_of-Non, pattern_of-App, pattern_of-Call}
-use Rattle.sy_loop_trees.proofs.condition.place.Goals as goal
+use Rattle.sy_loop_conditions.proofs.condition.place.Goals as goal
 
 pub returns-in-Non : goal.returns-in-Non
 returns-in-Non g c = rw (c.in-Non.is, pattern_of-Non) refl

@@ -1,9 +1,9 @@
 // The nonterminal of the conditions of a grammar's conditional trees.
-ghost use Rattle.std.specs.Prelude.{◌≡◌, MatchOption};
+ghost use Rattle.std.specs.Prelude.{◌≡◌, MatchOption, Some, slice_get};
 ghost use Rattle.sy_grammar_base.specs.Grown.{syntax_from, production_of};
-ghost use Rattle.sy_grammar_base.specs.Trees.{IsNumbered};
+ghost use Rattle.sy_grammar_base.specs.Trees.{IsNumbered, Production, start_rules};
 ghost use Rattle.sy_grammar_base.specs.Written.{pattern_of};
-ghost use Rattle.sy_loop_trees.specs.Conditions.{HasNoTrees, IsConditionOf, first_nonterminal, pattern_nonterminal, tested_by};
+ghost use Rattle.sy_loop_conditions.specs.Conditions.{HasNoTrees, IsConditionOf, first_nonterminal, pattern_nonterminal, tested_by};
 
 use sy_grammar_base::{Grammar, Part, Rule, tree_rule};
 use sy_terms::Theory;
@@ -14,7 +14,16 @@ pub fn condition_of<T: Theory>(grammar: &Grammar<T>) -> Option<u32>
     requires numbered { IsNumbered (syntax_from T.denotes grammar.now) }
     ensures { MatchOption result (HasNoTrees (syntax_from T.denotes grammar.now)) (IsConditionOf (syntax_from T.denotes grammar.now)) }
 {
-    let place = tree_rule(grammar)?;
+    match tree_rule(grammar) {
+        Some(place) => tested_at(grammar, place),
+        None => None, // no rule makes trees
+    }
+}
+
+/// The nonterminal that stands first in this rule of the start symbol, where it is an operator.
+fn tested_at<T: Theory>(grammar: &Grammar<T>, place: u32) -> Option<u32>
+    ensures { (rule : Production) → slice_get (start_rules (syntax_from T.denotes grammar.now).nonterminals) place ≡ Some rule → result ≡ tested_by rule }
+{
     let start = grammar.nons().get(0)?;
     let rule = start.rules.get(place as usize)?;
     tested(rule)
