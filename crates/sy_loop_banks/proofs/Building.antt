@@ -3,7 +3,7 @@ use Rattle.std.proofs.Common.{◌≡◌, ◌<◌, ◌+◌, ◌++◌, ⊎_elim, r
 use Rattle.std.specs.Prelude.{IfSome, false, Option, Err}
 use Rattle.std.specs.Option.{option_map}
 use Rattle.std.specs.List.{All, Contains}
-use Rattle.std.proofs.lemmas.List.{length-map, length-append}
+use Rattle.std.proofs.lemmas.List.{length-append}
 use Rattle.std.proofs.lemmas.Option.{get_or_from_slice_get, slice_get-map, slice_get_read, slice_get_within}
 use Rattle.std.proofs.lemmas.List.Elements.{All-contains, All-weaker, All-contains_itself}
 use Rattle.sy_terms.specs.Values.{Val}
@@ -26,7 +26,6 @@ use Rattle.sy_bank_rows.specs.Banks.{Entry, Lost, Merged, IsDropped}
 use Rattle.sy_bank_rows.specs.Rows.{ArePointsOf}
 use Rattle.sy_bank.specs.Bank.{merged_of}
 use Rattle.sy_bank.specs.Promised.{IsBank, BankIsWhole, BankIsFull}
-use Rattle.sy_bank.specs.declared.bank.Bank.{Bank}
 use Rattle.sy_bank.specs.declared.bank.BankEnd.{BankEnd}
 use Rattle.sy_bank.specs.declared.bank.BankEnd.TheVariants as ends
 use Rattle.sy_bank.specs.Answers.{OnBank, IfFull}
@@ -42,11 +41,7 @@ use Rattle.sy_loop_banks.specs.Banks.{IsBankOf, IsWholeOf, IsFullOf, AreBanks, B
 use Rattle.sy_loop_outcome.specs.Right.{HasLeftRange}
 use Rattle.sy_loop_outcome.specs.declared.outcome.LoopRange.{LoopRange}
 use Rattle.sy_loop_outcome.specs.declared.outcome.LoopRange.TheVariants.{Member, Checked}
-use Rattle.sy_bank_rows.specs.Stored.{lost_of}
-use Rattle.sy_bank_rows.specs.declared.kept.Dropped.{Dropped}
-use Rattle.sy_terms.specs.declared.sort.Value.{Value}
-use Rattle.sy_terms.specs.declared.term.Term.{Term}
-use Rattle.sy_loop_banks.specs.Dropping.{IsPlaced, IsDroppedBy}
+use Rattle.sy_loop_drop.specs.Dropping.{IsPlaced, IsDroppedBy}
 use Rattle.sy_bank_level.proofs.Kept.{at-end}
 
 -- a function's grammar fits
@@ -202,15 +197,3 @@ dropped_leaves number reach question limits history asked level function bank (M
     let leaves = member_leaves reach question limits history asked level function bank by.0 (vals_of number tuple) known room opened of by.1 by.4 in
     subst (λ f. MemberLeaves reach question limits.size limits.rounds history f (expr_of number term) (vals_of number tuple)) (sym by.2)
     (subst (λ t. MemberLeaves reach question limits.size limits.rounds history function t (vals_of number tuple)) (sym by.3) leaves)
-
--- what a bank dropped
-pub dropped_by : {T N : Type 0} (number : N → Val) (function : ℕ) (bank : Bank T N) (points : List (List (Value N))) (dropped : Dropped T N) (tuple copy : List (Value N)) (term : Term T N) → map (vals_of number) points ≡ (merged_of number bank).points → Some (lost_of number dropped) ≡ (merged_of number bank).dropped →
-    dropped.point < length points → tuple ≡ get_or points dropped.point tuple → copy ≡ tuple → expr_of number term ≡ expr_of number dropped.term → let left : LoopRange T N = Member function term copy in IsDroppedBy number function (merged_of number bank) left
-dropped_by number function bank points dropped tuple copy term points_are is within at same copied =
-    let place : slice_get (map (vals_of number) points) dropped.point ≡ Some (vals_of number tuple) = image_at (vals_of number) points dropped.point tuple within at in
-    (lost_of number dropped, sym is, refl, copied, subst (λ ps. slice_get ps dropped.point ≡ Some (vals_of number copy)) points_are (place ∙ ap (λ t. Some (vals_of number t)) (sym same)))
-
-pub placed_within : {T N : Type 0} (number : N → Val) (bank : Bank T N) (points : List (List (Value N))) (dropped : Dropped T N) → IsPlaced (merged_of number bank) → Some (lost_of number dropped) ≡ (merged_of number bank).dropped → map (vals_of number) points ≡ (merged_of number bank).points → dropped.point < length points
-placed_within number bank points dropped is at points_are =
-    let inside : dropped.point < length (merged_of number bank).points = subst (λ d. IfSome d (λ (lost : Lost). lost.point < length (merged_of number bank).points)) (sym at) is in
-    omega (arith, inside, ap length points_are, length-map points (vals_of number))

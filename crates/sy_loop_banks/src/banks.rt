@@ -15,10 +15,11 @@ ghost use Rattle.sy_loop_candidate.specs.Clauses.{IsKnownFor};
 ghost use Rattle.sy_loop_banks.specs.Clauses.{AreBuiltFor, AreCarriedFor, IsCarriedFor};
 
 use std::alloc::{AllocError, Global};
-use sy_bank::{Bank, BankEnd, build};
+use sy_bank::{Bank, BankEnd};
 use sy_bank_rows::Kept;
 use sy_grammar_base::{Problem, Wanted};
 use sy_loop_bounds::Reach;
+use sy_loop_build::new_bank;
 use sy_loop_candidate::Known;
 use sy_query_limits::Limits;
 use sy_terms::{Seq, Theory, Values, Want, same_values};
@@ -101,15 +102,7 @@ fn take_bank<T: Theory>(
             );
         }
     }
-    build(
-        alloc,
-        &wanted.grammar,
-        &problem.defs,
-        &problem.pool,
-        points,
-        level,
-        limits.bank,
-    )
+    new_bank(alloc, problem, limits, wanted, points, level)
 }
 
 /// Whether the points are the same.

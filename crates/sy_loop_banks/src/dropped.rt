@@ -1,10 +1,10 @@
 // Terms that banks dropped.
-ghost use Rattle.std.specs.Prelude.{◌≡◌, ◌<◌, length, map, IfOk, MatchOption, None};
+ghost use Rattle.std.specs.Prelude.{◌≡◌, ◌<◌, length, map, IfOk, MatchOption};
 ghost use Rattle.sy_grammar_base.specs.Questions.{question_of};
 ghost use Rattle.sy_bank.specs.Bank.{merged_of};
 ghost use Rattle.sy_loop_history.specs.Histories.{IsOpenNumber};
 ghost use Rattle.sy_loop_history.specs.Stored.{history_of};
-ghost use Rattle.sy_loop_banks.specs.Dropping.{DroppedNothing, IsPlaced, IsDroppedBy};
+ghost use Rattle.sy_loop_banks.specs.Dropping.{DroppedNothing};
 ghost use Rattle.sy_loop_candidate.specs.Clauses.{IsKnownFor};
 ghost use Rattle.sy_loop_outcome.specs.Right.{LeavesFor};
 ghost use Rattle.sy_loop_banks.specs.Clauses.{AreBanksFor};
@@ -14,9 +14,10 @@ use sy_bank::Bank;
 use sy_grammar_base::Problem;
 use sy_loop_bounds::Reach;
 use sy_loop_candidate::Known;
+use sy_loop_drop::term_of;
 use sy_loop_outcome::LoopRange;
 use sy_query_limits::Limits;
-use sy_terms::{Theory, Want, copied_values};
+use sy_terms::{Theory, Want};
 
 /// A term that one of the banks dropped, at the tuple where it leaves the 128 bits; `None` exactly where none did. `Want` comes where
 /// memory doesn't suffice for a copy of both.
@@ -46,24 +47,4 @@ pub fn dropped_term<T: Theory>(
         }
     }
     Ok(None)
-}
-
-/// The term that the bank of the function of this number dropped.
-fn term_of<T: Theory>(
-    alloc: Global,
-    function: u32,
-    bank: &Bank<T>,
-) -> Result<Option<LoopRange<T>>, Want>
-    requires { IsPlaced (merged_of T.denotes bank.now) }
-    ensures { IfOk result (λ found. MatchOption found ((merged_of T.denotes bank.now).dropped ≡ None) (IsDroppedBy T.denotes function (merged_of T.denotes bank.now))) }
-{
-    let Some(dropped) = bank.overflow() else {
-        return Ok(None);
-    };
-    let points = bank.points();
-    let place = dropped.point as usize;
-    let tuple = &points[place];
-    let term = dropped.term.copy(alloc)?;
-    let tuple = copied_values::<T>(alloc, tuple.as_slice())?;
-    Ok(Some(LoopRange::Member(function, term, tuple)))
 }
