@@ -22,6 +22,7 @@ CRATES = os.path.join(TOP, "crates")
 PARTS = {
     "sy_seq": ["seq"],
     "sy_clauses": ["checker", "marks"],
+    "sy_cdcl_literals": ["entries", "outcomes"],
     "sy_cdcl_order": ["order"],
     "sy_cdcl": ["analysis", "propagation", "shortening", "solver", "store", "trail", "watches"],
 }

@@ -7,12 +7,13 @@ use Rattle.sy_clauses.specs.declared.Lit.{Lit}
 use Rattle.sy_clauses.specs.Clauses.{Clause, same_literal}
 use Rattle.sy_clauses.specs.New.{IsUnit, HasTrue, HasTwoOpen}
 use Rattle.sy_clauses.proofs.Sets.{literal_is, same_self}
-use Rattle.sy_cdcl.specs.declared.trail.Entry.{Entry}
+use Rattle.sy_cdcl_literals.specs.declared.entries.Entry.{Entry}
 use Rattle.sy_cdcl.specs.declared.trail.Trail.{Trail}
-use Rattle.sy_cdcl.specs.declared.watches.Pair.{Pair}
+use Rattle.sy_cdcl_literals.specs.declared.outcomes.Pair.{Pair}
 use Rattle.sy_cdcl.specs.declared.watches.Watches.{Watches}
 use Rattle.sy_cdcl.specs.Trails.{entries_values, kept_values, TrailIsReady, TrailExtends, EachOnce}
-use Rattle.sy_cdcl.specs.Conflicts.{SomeFalsified, NoneFalsified, OpenAtLevels, IsTakenBack, IsLastFalsified, LastFits}
+use Rattle.sy_cdcl_literals.specs.Falsified.{SomeFalsified, NoneFalsified}
+use Rattle.sy_cdcl.specs.Conflicts.{OpenAtLevels, IsTakenBack, IsLastFalsified, LastFits}
 use Rattle.sy_cdcl.specs.Watching.{list_of, pair_of, IsIn, list_at, enlisted, Falsifies, IsRooted, IsGuarded, IsWatched, AllListed, IsWatching, IsAttached, IsSkipped, IsPaired}
 use Rattle.sy_cdcl.specs.Visits.{IsAnother}
 use Rattle.sy_cdcl.proofs.Push.{some_is}

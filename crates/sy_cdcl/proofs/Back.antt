@@ -6,10 +6,11 @@ use Rattle.std.proofs.lemmas.List.{take_all, take-take}
 use Rattle.sy_clauses.specs.Clauses.{Clause, same_literal}
 use Rattle.sy_clauses.specs.New.{IsUnit, AllSettled}
 use Rattle.sy_clauses.proofs.Sets.{literal_is}
-use Rattle.sy_cdcl.specs.declared.trail.Entry.{Entry}
+use Rattle.sy_cdcl_literals.specs.declared.entries.Entry.{Entry}
 use Rattle.sy_cdcl.specs.declared.trail.Trail.{Trail}
 use Rattle.sy_cdcl.specs.Trails.{entries_values, level_start, EachOnce, IsTrail, IsForced, TrailIsReady, LevelsSettled}
-use Rattle.sy_cdcl.specs.Conflicts.{SomeFalsified, NoneFalsified, value_below, OpenAtLevels, IsTakenBack}
+use Rattle.sy_cdcl_literals.specs.Falsified.{SomeFalsified, NoneFalsified}
+use Rattle.sy_cdcl.specs.Conflicts.{value_below, OpenAtLevels, IsTakenBack}
 use Rattle.sy_cdcl.proofs.Places.{not_source, none_before, value_before}
 use Rattle.sy_cdcl.proofs.Learning.{last_start, never, not_not}
 

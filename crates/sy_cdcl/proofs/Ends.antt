@@ -10,7 +10,7 @@ use Rattle.sy_clauses.specs.Clauses.{Clause, literals, same_literal, known_claus
 use Rattle.sy_clauses.specs.New.{HasTrue, HasTwoOpen, AllSettled, EachNew}
 use Rattle.sy_clauses.proofs.Sets.{literal_is}
 use Rattle.sy_clauses.proofs.Known.{known_first}
-use Rattle.sy_cdcl.specs.declared.trail.Entry.{Entry}
+use Rattle.sy_cdcl_literals.specs.declared.entries.Entry.{Entry}
 use Rattle.sy_cdcl.specs.declared.trail.Trail.{Trail}
 use Rattle.sy_cdcl.specs.Trails.{kept_values, IsTrail, TrailIsReady, LevelsSettled, VarsBelow}
 use Rattle.sy_cdcl.specs.Conflicts.{IsLearned}

@@ -7,11 +7,12 @@ use Rattle.sy_clauses.specs.declared.Lit.{Lit}
 use Rattle.sy_clauses.specs.Clauses.{Clause, same_literal}
 use Rattle.sy_clauses.specs.New.{HasTrue, ClauseIsSettled}
 use Rattle.sy_clauses.proofs.Sets.{same_self}
-use Rattle.sy_cdcl.specs.declared.trail.Entry.{Entry}
-use Rattle.sy_cdcl.specs.declared.watches.Pair.{Pair}
+use Rattle.sy_cdcl_literals.specs.declared.entries.Entry.{Entry}
+use Rattle.sy_cdcl_literals.specs.declared.outcomes.Pair.{Pair}
 use Rattle.sy_cdcl.specs.Trails.{entries_values, EachOnce}
 use Rattle.sy_cdcl.specs.Watching.{Falsifies, IsBacked, IsGuarded, IsWatched}
-use Rattle.sy_cdcl.specs.Visits.{IsApart, IsOther, StaysWatched}
+use Rattle.sy_cdcl_literals.specs.Suiting.{IsOther}
+use Rattle.sy_cdcl.specs.Visits.{IsApart, StaysWatched}
 use Rattle.sy_cdcl.proofs.Back.{get_taken, get_in_taken}
 use Rattle.sy_cdcl.proofs.Push.{some_is, push_cases, WasThere, IsLast}
 use Rattle.sy_cdcl.proofs.Places.{source, value_at}

@@ -6,7 +6,9 @@ use Rattle.sy_clauses.specs.declared.Lit.{Lit}
 use Rattle.sy_clauses.specs.Clauses.{Clause, literals, same_literal}
 use Rattle.sy_clauses.specs.New.{Partial, IsUnit, IsFalse}
 use Rattle.sy_clauses.proofs.Sets.{literals_more, literals_found, literal_is, same_self}
-use Rattle.sy_cdcl.specs.Visits.{IsFalseBut, IsOnly}
+use Rattle.sy_cdcl_literals.specs.Suiting.{IsFalseBut}
+use Rattle.sy_cdcl.specs.Visits.{IsOnly}
+use Rattle.sy_cdcl_literals.proofs.Literals.{at_literal}
 use Rattle.sy_cdcl.proofs.Push.{some_is}
 
 or_cases : (a b : Bool) → (a || b) ≡ true → (a ≡ true) ⊎ (b ≡ true)
@@ -19,11 +21,6 @@ pub in_more : (ls : List Lit) (i : ℕ) (d : Lit) (v : ℕ) (s : Bool) → i < l
 in_more ls i d v s h e =
     or_cases (literals (take i ls) v s) (same_literal (get_or ls i d).var (get_or ls i d).positive v s)
     (sym (literals_more ls i d v s h) ∙ e)
-
--- a false literal has a false value wherever it is
-at_literal : (values : Partial) (x : Lit) (v : ℕ) (s : Bool) → same_literal x.var x.positive v s ≡ true →
-    values x.var ≡ Some (not x.positive) → values v ≡ Some (not s)
-at_literal values x v s h e = let q = literal_is x.var x.positive v s h in rw (q.0, q.1) e
 
 -- a literal of the clause stands in it
 pub found_at : (ls : List Lit) (i : ℕ) (d : Lit) → i < length ls → literals ls (get_or ls i d).var (get_or ls i d).positive ≡ true

@@ -5,11 +5,12 @@ use Rattle.sy_clauses.specs.declared.Lit.{Lit}
 use Rattle.sy_clauses.specs.Clauses.{Clause}
 use Rattle.sy_clauses.specs.New.{Partial, HasTrue}
 use Rattle.sy_cdcl.specs.declared.trail.Trail.{Trail}
-use Rattle.sy_cdcl.specs.declared.watches.Pair.{Pair}
-use Rattle.sy_cdcl.specs.declared.propagation.Outcome.{Outcome}
-use Rattle.sy_cdcl.specs.declared.propagation.Outcome.TheVariants.{Stay, Move, Force, Conflict}
+use Rattle.sy_cdcl_literals.specs.declared.outcomes.Pair.{Pair}
+use Rattle.sy_cdcl_literals.specs.declared.outcomes.Outcome.{Outcome}
+use Rattle.sy_cdcl_literals.specs.declared.outcomes.Outcome.TheVariants.{Stay, Move, Force, Conflict}
 use Rattle.sy_cdcl.specs.Watching.{IsWatched, IsGuarded, AllWatched, pair_of}
-use Rattle.sy_cdcl.specs.Visits.{IsOther, StaysWatched, Suits, SuitsAt}
+use Rattle.sy_cdcl_literals.specs.Suiting.{IsOther, Suits}
+use Rattle.sy_cdcl.specs.Visits.{StaysWatched, SuitsAt}
 use Rattle.sy_cdcl.proofs.Push.{some_is}
 
 -- the clause with a pair is guarded by it

@@ -1,6 +1,5 @@
 pub mod Back
 pub mod Ends
-pub mod Falsified
 pub mod Growth
 pub mod Learning
 pub mod Levels

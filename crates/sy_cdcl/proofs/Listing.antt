@@ -7,7 +7,7 @@ use Rattle.std.proofs.lemmas.Option.{slice_get_within, get_or_from_slice_get}
 use Rattle.std.proofs.lemmas.List.{get_or-set_same, get_or-set_other, length-set}
 use Rattle.sy_clauses.specs.declared.Lit.{Lit}
 use Rattle.sy_clauses.specs.Clauses.{same_literal}
-use Rattle.sy_cdcl.specs.declared.watches.Pair.{Pair}
+use Rattle.sy_cdcl_literals.specs.declared.outcomes.Pair.{Pair}
 use Rattle.sy_cdcl.specs.Watching.{list_of, IsIn, list_at, enlisted, delisted, pair_of, AllListed}
 use Rattle.sy_cdcl.proofs.Back.{get_in_taken}
 use Rattle.sy_cdcl.proofs.Push.{some_is}

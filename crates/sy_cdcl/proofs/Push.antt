@@ -7,7 +7,7 @@ use Rattle.sy_clauses.specs.Clauses.{Clause}
 use Rattle.std.proofs.lemmas.Bool.Decides.{eqb_tells}
 use Rattle.std.proofs.lemmas.Option.{slice_get_within}
 use Rattle.sy_clauses.specs.New.{Partial, IsUnit, ClauseIsSettled, AllSettled}
-use Rattle.sy_cdcl.specs.declared.trail.Entry.{Entry}
+use Rattle.sy_cdcl_literals.specs.declared.entries.Entry.{Entry}
 use Rattle.sy_cdcl.specs.declared.trail.Trail.{Trail}
 use Rattle.sy_cdcl.specs.Trails.{entries_values, kept_values, ValuesAgree, IsForced, TrailIsReady, TrailExtends, VarsBelow, unvalued_count}
 

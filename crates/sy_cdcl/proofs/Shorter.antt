@@ -5,7 +5,7 @@ use Rattle.sy_clauses.specs.declared.Lit.{Lit}
 use Rattle.sy_clauses.specs.Clauses.{Clause, literals, same_literal, resolved, after_step, resolvent}
 use Rattle.sy_clauses.specs.New.{IsUnit}
 use Rattle.sy_clauses.proofs.Sets.{literals_at, literal_is, same_self}
-use Rattle.sy_cdcl.specs.declared.trail.Entry.{Entry}
+use Rattle.sy_cdcl_literals.specs.declared.entries.Entry.{Entry}
 use Rattle.sy_cdcl.specs.declared.trail.Trail.{Trail}
 use Rattle.sy_cdcl.specs.Trails.{level_start, EachOnce, IsForced}
 use Rattle.sy_cdcl.specs.Conflicts.{value_below}

@@ -12,9 +12,9 @@ use Rattle.sy_clauses.specs.declared.Lit.{Lit}
 use Rattle.sy_clauses.specs.Clauses.{Clause, same_literal}
 use Rattle.sy_clauses.specs.New.{Partial, HasTrue, AllSettled, ClauseIsSettled}
 use Rattle.sy_clauses.proofs.Sets.{literal_is}
-use Rattle.sy_cdcl.specs.declared.trail.Entry.{Entry}
+use Rattle.sy_cdcl_literals.specs.declared.entries.Entry.{Entry}
 use Rattle.sy_cdcl.specs.declared.trail.Trail.{Trail}
-use Rattle.sy_cdcl.specs.declared.watches.Pair.{Pair}
+use Rattle.sy_cdcl_literals.specs.declared.outcomes.Pair.{Pair}
 use Rattle.sy_cdcl.specs.declared.watches.Watches.{Watches}
 use Rattle.sy_cdcl.specs.Trails.{entries_values, kept_values, TrailIsReady, TrailExtends, VarsBelow}
 use Rattle.sy_cdcl.specs.Watching.{list_of, pair_of, IsIn, list_at, enlisted, delisted, IsWatched, IsGuarded, AllWatched, IsWatching}

@@ -1,7 +1,7 @@
 -- What is kept in few bytes: a variable's value, a literal, and the pair that a clause watches.
 use Rattle.std.specs.Prelude.{ℕ, ◌/◌, ◌%◌, Bool, true, false, ◌==◌, if◌then◌else◌, Option, Some, None}
 use Rattle.sy_clauses.specs.declared.Lit.{Lit}
-use Rattle.sy_cdcl.specs.declared.watches.Pair.{Pair}
+use Rattle.sy_cdcl_literals.specs.declared.outcomes.Pair.{Pair}
 
 -- 0 is false, 1 true, and any other number no value
 abbrev pub value_of : ℕ → Option Bool

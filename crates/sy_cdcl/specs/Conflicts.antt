@@ -1,26 +1,12 @@
 -- What is learned from a conflict.
-use Rattle.std.specs.Prelude.{◌≡◌, ℕ, ◌≤◌, ◌<◌, Bool, true, false, not, Option, Some, None, List, take, slice_get, length, ◌+◌}
+use Rattle.std.specs.Prelude.{◌≡◌, ℕ, ◌<◌, Bool, true, not, Option, Some, None, List, take, slice_get, length, ◌+◌}
 use Rattle.sy_clauses.specs.declared.Lit.{Lit}
 use Rattle.sy_clauses.specs.Clauses.{Clause, IsEmpty}
 use Rattle.sy_clauses.specs.New.{IsUnit, HasTwoOpen}
-use Rattle.sy_cdcl.specs.declared.trail.Entry.{Entry}
+use Rattle.sy_cdcl_literals.specs.declared.entries.Entry.{Entry}
+use Rattle.sy_cdcl_literals.specs.Falsified.{NoneFalsified}
 use Rattle.sy_cdcl.specs.declared.trail.Trail.{Trail}
 use Rattle.sy_cdcl.specs.Trails.{entries_values, level_start}
-
--- an entry between the two places makes a literal of the clause false
-pub record SomeFalsified (entries : List Entry) (start end : ℕ) (c : Clause) : Type 0 where
-  pub place : ℕ
-  pub entry : Entry
-  pub from : start ≤ place
-  pub to : place < end
-  pub at : slice_get entries place ≡ Some entry
-  pub hit : c entry.literal.var (not entry.literal.positive) ≡ true
-
--- no entry between the two places does
-abbrev pub NoneFalsified : List Entry → ℕ → ℕ → Clause → Type 0
-NoneFalsified entries start end c =
-    (p : ℕ) (e : Entry) → start ≤ p → p < end → slice_get entries p ≡ Some e →
-    c e.literal.var (not e.literal.positive) ≡ false
 
 -- the values at the end of the level below the present one
 abbrev pub value_below : Trail → ℕ → Option Bool

@@ -4,7 +4,6 @@ pub mod Conflicts
 pub mod Status
 pub mod Storing
 pub mod Trails
-pub mod Truths
 pub mod Visits
 pub mod Watching
 pub mod Short

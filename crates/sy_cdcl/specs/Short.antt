@@ -2,7 +2,7 @@
 use Rattle.std.specs.Prelude.{◌≡◌, ℕ, Bool, true, false, not, Some, List, slice_get, ◌≤◌, ◌<◌}
 use Rattle.sy_clauses.specs.declared.Lit.{Lit}
 use Rattle.sy_clauses.specs.Clauses.{Clause, same_literal}
-use Rattle.sy_cdcl.specs.declared.trail.Entry.{Entry}
+use Rattle.sy_cdcl_literals.specs.declared.entries.Entry.{Entry}
 
 -- each literal of the first clause is in the second
 abbrev pub IsWithin : Clause → Clause → Type 0

@@ -2,7 +2,7 @@
 use Rattle.std.specs.Prelude.{◌≡◌, ◌≢◌, ℕ, ◌≤◌, ◌<◌, Bool, true, ◌==◌, if◌then◌else◌, Option, Some, None, List, [], ◌∷◌, length, take, slice_get, slice_index_or, ◌+◌, ◌-◌, count_by, is_none, vec_len}
 use Rattle.sy_clauses.specs.Clauses.{Clause}
 use Rattle.sy_clauses.specs.New.{Partial, IsUnit, AllSettled}
-use Rattle.sy_cdcl.specs.declared.trail.Entry.{Entry}
+use Rattle.sy_cdcl_literals.specs.declared.entries.Entry.{Entry}
 use Rattle.sy_cdcl.specs.declared.trail.Trail.{Trail}
 
 -- the values that a list of entries gives

@@ -1,23 +1,14 @@
 -- What becomes of a clause where a literal that it watches has become false.
-use Rattle.std.specs.Prelude.{◌≡◌, ◌≢◌, ℕ, Bool, true, false, not, Option, Some, List, slice_get, ◌⊎◌}
+use Rattle.std.specs.Prelude.{◌≡◌, ℕ, Bool, true, false, Option, Some, List, slice_get, ◌⊎◌}
 use Rattle.sy_clauses.specs.declared.Lit.{Lit}
 use Rattle.sy_clauses.specs.Clauses.{Clause, same_literal}
-use Rattle.sy_clauses.specs.New.{Partial, IsFalse, IsUnit, HasTrue}
-use Rattle.sy_cdcl.specs.declared.watches.Pair.{Pair}
-use Rattle.sy_cdcl.specs.declared.propagation.Outcome.{Outcome}
-use Rattle.sy_cdcl.specs.declared.propagation.Outcome.TheVariants.{Stay, Move, Force, Conflict}
+use Rattle.sy_clauses.specs.New.{Partial, IsUnit, HasTrue}
+use Rattle.sy_cdcl_literals.specs.declared.outcomes.Pair.{Pair}
+use Rattle.sy_cdcl_literals.specs.declared.outcomes.Outcome.{Outcome}
+use Rattle.sy_cdcl_literals.specs.declared.outcomes.Outcome.TheVariants.{Stay, Move, Force, Conflict}
+use Rattle.sy_cdcl_literals.specs.Suiting.{IsOther}
 use Rattle.sy_cdcl.specs.Status.{IsConflict}
 use Rattle.sy_cdcl.specs.Watching.{pair_of}
-
--- all literals are false but, perhaps, this one
-abbrev pub IsFalseBut : Partial → Clause → Lit → Type 0
-IsFalseBut values c l = (v : ℕ) (s : Bool) → c v s ≡ true → same_literal l.var l.positive v s ≡ false → values v ≡ Some (not s)
-
--- a literal of the clause that isn't false, other than this one
-pub record IsOther (values : Partial) (c : Clause) (l other : Lit) : Type 0 where
-  pub has : c other.var other.positive ≡ true
-  pub different : same_literal l.var l.positive other.var other.positive ≡ false
-  pub not_false : values other.var ≢ Some (not other.positive)
 
 -- the literal is neither of the pair
 pub record IsApart (pair : Pair) (l : Lit) : Type 0 where
@@ -28,13 +19,6 @@ pub record IsApart (pair : Pair) (l : Lit) : Type 0 where
 pub record StaysWatched (pair : Pair) (l other : Lit) : Type 0 where
   pub one : (other ≡ pair.first) ⊎ (other ≡ pair.second)
   pub apart : same_literal other.var other.positive l.var l.positive ≡ false
-
--- by the clause's literals and the other one that it watches
-abbrev pub Suits : Partial → Clause → Lit → Outcome → Type 0
-Suits values c other Stay = values other.var ≡ Some other.positive
-Suits values c other (Move pair place) = (pair.first ≡ other) × IsOther values c other pair.second
-Suits values c other (Force l) = IsUnit values c l.var l.positive
-Suits values c other Conflict = IsFalse values c
 
 -- the clause is true, or doesn't watch the literal
 abbrev pub MayStay : List Clause → Partial → List (Option Pair) → Lit → ℕ → Type 0
@@ -56,7 +40,7 @@ pub record MayForce (clauses : List Clause) (values : Partial) (n : ℕ) (l : Li
   pub at : slice_get clauses n ≡ Some clause
   pub unit : IsUnit values clause l.var l.positive
 
--- the same by the clause's number, where this literal has become false
+-- what suits by the clause's number, where this literal has become false
 abbrev pub SuitsAt : List Clause → Partial → List (Option Pair) → Lit → ℕ → Outcome → Type 0
 SuitsAt clauses values pairs l n Stay = MayStay clauses values pairs l n
 SuitsAt clauses values pairs l n (Move pair place) = MayMove clauses values pairs l n pair

@@ -5,20 +5,15 @@ ghost use Rattle.sy_clauses.specs.Marking.{clause_of, MarksAreListed};
 ghost use Rattle.sy_cdcl.specs.Trails.{kept_values, entries_values, TrailIsReady, LevelsSettled};
 ghost use Rattle.sy_clauses.specs.New.{IsUnit};
 ghost use Rattle.sy_cdcl.specs.Status.{IsConflict};
-ghost use Rattle.sy_cdcl.specs.Conflicts.{SomeFalsified, NoneFalsified, IsLearned, OpenAtLevels, value_below, IsTakenBack, LastFits};
+ghost use Rattle.sy_cdcl_literals.specs.Falsified.{SomeFalsified, NoneFalsified};
+ghost use Rattle.sy_cdcl.specs.Conflicts.{IsLearned, OpenAtLevels, value_below, IsTakenBack, LastFits};
 
-use crate::trail::{Entry, Trail};
+use crate::trail::Trail;
 use std::alloc::{AllocError, Global};
+use sy_cdcl_literals::{falsifies, is_last_hit, some_falsifies};
 use sy_cdcl_order::Order;
 use sy_clauses::{Cnf, Line, Lit, Marks, Step, advance, clause_at};
 use sy_seq::{Seq, Want};
-
-/// Whether the entry's literal makes a marked one false.
-pub fn falsifies(entry: Entry, marks: &Marks) -> bool
-    ensures { result ≡ clause_of marks.now entry.literal.var (not entry.literal.positive) }
-{
-    marks.has(entry.literal.var, !entry.literal.positive)
-}
 
 /// Whether an entry between the two places makes a marked literal false.
 pub fn any_falsifies(trail: &Trail, start: usize, end: usize, marks: &Marks) -> bool
@@ -27,15 +22,7 @@ pub fn any_falsifies(trail: &Trail, start: usize, end: usize, marks: &Marks) -> 
         (SomeFalsified trail.now.entries.items start end (clause_of marks.now))
         (NoneFalsified trail.now.entries.items start end (clause_of marks.now)) }
 {
-    let mut place = end;
-    while place > start {
-        place -= 1;
-        let entry = trail.entry_at(place);
-        if falsifies(entry, marks) {
-            return true;
-        }
-    }
-    false
+    some_falsifies(&trail.entries, start, end, marks)
 }
 
 /// Whether, above the lowest level, no entry between the two places makes a marked literal false.
@@ -45,10 +32,7 @@ fn is_last(trail: &Trail, start: usize, end: usize, marks: &Marks) -> bool
         ((0 < length trail.now.starts.items) × NoneFalsified trail.now.entries.items start end (clause_of marks.now))
         (0 < length trail.now.starts.items → SomeFalsified trail.now.entries.items start end (clause_of marks.now)) }
 {
-    if trail.starts.len() == 0 {
-        return false;
-    }
-    !any_falsifies(trail, start, end, marks)
+    is_last_hit(&trail.entries, trail.starts.len(), start, end, marks)
 }
 
 /// A line, and the literal of the present level in its clause.

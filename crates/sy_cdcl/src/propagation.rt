@@ -6,12 +6,14 @@ ghost use Rattle.sy_cdcl.specs.Storing.{clauses_in, SpansFit};
 ghost use Rattle.sy_cdcl.specs.Trails.{kept_values, TrailIsReady, TrailExtends, VarsBelow, LevelsSettled};
 ghost use Rattle.sy_cdcl.specs.Status.{IsConflict};
 ghost use Rattle.sy_cdcl.specs.Watching.{AllWatched, IsWatching, IsAttached, pair_of};
-ghost use Rattle.sy_cdcl.specs.Visits.{IsFalseBut, IsOther, Suits, SuitsAt, MayForce, IsOnly, IsAnother};
+ghost use Rattle.sy_cdcl_literals.specs.Suiting.{IsFalseBut, IsOther, Suits};
+ghost use Rattle.sy_cdcl.specs.Visits.{SuitsAt, MayForce, IsOnly, IsAnother};
 
 use crate::store::{Code, Store};
-use crate::trail::{Entry, Trail, Truth};
-use crate::watches::{Pair, Watches, list_index};
+use crate::trail::Trail;
+use crate::watches::{Watches, list_index};
 use std::alloc::{AllocError, Global};
+use sy_cdcl_literals::{Entry, Outcome, Pair, Truth, outcome_of};
 use sy_clauses::Lit;
 use sy_seq::Want;
 
@@ -76,16 +78,6 @@ fn find_other(trail: &Trail, clause: &[Code], other: Lit, from: usize) -> Option
     None
 }
 
-/// What becomes of a clause where a literal that it watches has become false. A clause that is to watch
-/// another has the pair, and the place of the new literal.
-#[derive(Clone, Copy, Drop)]
-pub enum Outcome {
-    Stay,
-    Move(Pair, usize),
-    Force(Lit),
-    Conflict,
-}
-
 /// Looks for another literal to watch, from a place on. This one is the other one that is watched.
 fn inspect(trail: &Trail, clause: &[Code], other: Lit, from: usize) -> Outcome
     requires { literals clause.now other.var other.positive ≡ true }
@@ -98,11 +90,7 @@ fn inspect(trail: &Trail, clause: &[Code], other: Lit, from: usize) -> Outcome
         };
         return Outcome::Move(pair, found.place);
     }
-    match trail.truth(other) {
-        Truth::True => Outcome::Stay,
-        Truth::Open => Outcome::Force(other),
-        Truth::False => Outcome::Conflict,
-    }
+    outcome_of(trail.truth(other), other)
 }
 
 /// What becomes of the clause of this number, where the literal has become false.

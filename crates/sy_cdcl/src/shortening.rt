@@ -8,10 +8,11 @@ ghost use Rattle.sy_cdcl.specs.Status.{IsConflict};
 ghost use Rattle.sy_cdcl.specs.Conflicts.{IsLearned, value_below};
 ghost use Rattle.sy_cdcl.specs.Short.{IsCovered, HasMore, IsShort, IsWithin};
 
-use crate::analysis::{Learned, analyze, falsifies};
+use crate::analysis::{Learned, analyze};
 use crate::propagation::is_same;
 use crate::trail::Trail;
 use std::alloc::{AllocError, Global};
+use sy_cdcl_literals::falsifies;
 use sy_clauses::{Cnf, Line, Lit, Marks, Step, advance, clause_at};
 use sy_seq::{Seq, Want};
 

@@ -1,29 +1,15 @@
 // The solver's assignment, in the order in which it was made.
 ghost use Rattle.std.specs.Prelude.{◌≡◌, ℕ, Option, Some, None, [], ◌∷◌, ◌++◌, ◌<◌, ◌≤◌, ◌-◌, ◌+◌, length, vec_len, take, IfOk, OnOk, slice_index_or, slice_get, MatchBool, ◌≢◌, not};
 ghost use Rattle.sy_cdcl.specs.Trails.{kept_values, entries_values, IsTrail, ValuesAgree, level_start, unvalued_count, EachOnce};
-ghost use Rattle.sy_cdcl.specs.Truths.{IsTruthOf};
+ghost use Rattle.sy_cdcl_literals.specs.Suiting.{IsTruthOf};
 ghost use Rattle.sy_cdcl.specs.Codes.{value_of};
 
 use std::alloc::{AllocError, Global};
 use std::marker::Model;
+use sy_cdcl_literals::{Entry, Truth};
 use sy_cdcl_order::Order;
 use sy_clauses::Lit;
 use sy_seq::Want;
-
-/// A literal that is true: decided, or forced by the clause of a number.
-#[derive(Clone, Copy, Drop)]
-pub struct Entry {
-    pub literal: Lit,
-    pub reason: Option<u32>,
-}
-
-/// A literal's value.
-#[derive(Clone, Copy, Drop)]
-pub enum Truth {
-    True,
-    False,
-    Open,
-}
 
 /// A variable's value, or none, in one byte, so that it is compared at once.
 #[derive(Drop)]

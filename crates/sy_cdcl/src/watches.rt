@@ -6,6 +6,7 @@ ghost use Rattle.sy_cdcl.specs.Watching.{list_of, list_at, pair_of, enlisted, de
 
 use std::alloc::{AllocError, Global};
 use std::marker::Model;
+use sy_cdcl_literals::Pair;
 use sy_clauses::Lit;
 use sy_seq::Want;
 
@@ -61,13 +62,6 @@ impl Watchers {
     }
 }
 
-/// Two literals of a clause.
-#[derive(Clone, Copy, Drop)]
-pub struct Pair {
-    pub first: Lit,
-    pub second: Lit,
-}
-
 /// The pair that a clause watches, where it has one, and the place in the clause behind the last literal
 /// that it came to watch. A search that begins there passes over that literal, and the false ones before
 /// it. No contract speaks of the place, since any one is right. It takes 16 bytes, as a record with a
@@ -84,7 +78,7 @@ pub struct Watched {
 
 impl Model for Watched {
     ghost use Rattle.std.specs.Prelude.{Option};
-    ghost use Rattle.sy_cdcl.specs.declared.watches.Pair.{Pair};
+    ghost use Rattle.sy_cdcl_literals.specs.declared.outcomes.Pair.{Pair};
     ghost use Rattle.sy_cdcl.specs.Codes.{pair_if};
 
     ghost Value = { Option Pair };

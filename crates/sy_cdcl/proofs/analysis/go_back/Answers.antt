@@ -2,9 +2,9 @@ use Rattle.std.proofs.Common.{◌∙◌, sym, subst, arith, ◌<◌, length, Lis
 use Rattle.sy_clauses.specs.Clauses.{known_clauses}
 use Rattle.sy_clauses.specs.Marking.{clause_of}
 use Rattle.sy_clauses.specs.New.{IsUnit}
-use Rattle.sy_cdcl.specs.declared.trail.Entry.{Entry}
+use Rattle.sy_cdcl_literals.specs.declared.entries.Entry.{Entry}
 use Rattle.sy_cdcl.specs.Trails.{entries_values, level_start}
-use Rattle.sy_cdcl.specs.Conflicts.{SomeFalsified, NoneFalsified}
+use Rattle.sy_cdcl_literals.specs.Falsified.{SomeFalsified, NoneFalsified}
 use Rattle.sy_cdcl.proofs.Learning.{start_within}
 use Rattle.sy_cdcl.proofs.Back.{ready_left, levels_left, unit_left, open_below, back_first, back_more}
 use Rattle.sy_cdcl.proofs.analysis.go_back.Goals as goal

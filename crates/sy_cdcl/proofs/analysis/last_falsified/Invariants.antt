@@ -1,6 +1,6 @@
 use Rattle.std.proofs.Common.{◌≤◌, length}
 use Rattle.sy_clauses.specs.Marking.{clause_of}
-use Rattle.sy_cdcl.specs.Conflicts.{NoneFalsified}
+use Rattle.sy_cdcl_literals.specs.Falsified.{NoneFalsified}
 use Rattle.sy_cdcl.proofs.analysis.last_falsified.Given as goal
 
 abbrev pub invariant-loop-place : goal.invariant-loop-place

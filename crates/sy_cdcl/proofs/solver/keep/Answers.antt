@@ -3,7 +3,7 @@ use Rattle.std.specs.Prelude.{slice_get, MatchOption}
 use Rattle.sy_clauses.specs.declared.Lit.{Lit}
 use Rattle.sy_clauses.specs.Clauses.{Clause, literals, known_clauses}
 use Rattle.sy_clauses.specs.New.{Partial, IsUnit}
-use Rattle.sy_cdcl.specs.declared.trail.Entry.{Entry}
+use Rattle.sy_cdcl_literals.specs.declared.entries.Entry.{Entry}
 use Rattle.sy_cdcl.specs.Trails.{TrailIsReady, LevelsSettled}
 use Rattle.sy_cdcl.specs.Storing.{clauses_in}
 use Rattle.sy_cdcl.specs.Watching.{IsWatching, IsSkipped, IsPaired}

@@ -1,10 +1,10 @@
--- Entries of the trail that make a literal of a clause false, from the last one down.
+-- Entries that make a literal of a clause false, from the last one down.
 use Rattle.std.proofs.Common.{◌≡◌, ℕ, true, false, not, List, arith, sym, subst, ◌∙◌, ◌<◌, ◌≤◌, ◌+◌, Some, None, ⊎_elim, ◌⊎◌}
 use Rattle.std.specs.Prelude.{slice_get}
+use Rattle.std.proofs.lemmas.Option.{same_Some}
 use Rattle.sy_clauses.specs.Clauses.{Clause}
-use Rattle.sy_cdcl.specs.declared.trail.Entry.{Entry}
-use Rattle.sy_cdcl.specs.Conflicts.{SomeFalsified, NoneFalsified}
-use Rattle.sy_cdcl.proofs.Push.{some_is}
+use Rattle.sy_cdcl_literals.specs.declared.entries.Entry.{Entry}
+use Rattle.sy_cdcl_literals.specs.Falsified.{SomeFalsified, NoneFalsified}
 
 -- what isn't there has no value
 pub missing : {A X : Type 0} (xs : List A) (n : ℕ) (x : A) → slice_get xs n ≡ None → slice_get xs n ≡ Some x → X
@@ -28,7 +28,7 @@ none_more es p from end e c next at hit none q x low high got =
     (λ (same : q ≤ p).
     let place : q ≡ p = omega arith in
     let here : slice_get es p ≡ Some x = subst (λ (n : ℕ). slice_get es n ≡ Some x) place got in
-    subst (λ (y : Entry). c y.literal.var (not y.literal.positive) ≡ false) (some_is (sym at ∙ here)) hit)
+    subst (λ (y : Entry). c y.literal.var (not y.literal.positive) ≡ false) (same_Some e x (sym at ∙ here)) hit)
     (split p q)
   where
     split : (p q : ℕ) → (p < q) ⊎ (q ≤ p)
