@@ -36,14 +36,13 @@ fn push_all(
     Ok(true)
 }
 
-/// The coefficients of the first list, and those of the second so many times.
-fn merged(
-    alloc: Global,
+/// Appends the coefficients of the first list, and those of the second so many times; whether they fit.
+fn merge(
+    list: &mut Seq<Coefficient>,
     first: &[Coefficient],
     factor: i128,
     second: &[Coefficient],
-) -> Result<Option<Seq<Coefficient>>, Want> {
-    let mut list = Seq::new(alloc);
+) -> Result<bool, Want> {
     let mut i = 0;
     let mut j = 0;
     while i < first.len() && j < second.len() {
@@ -51,23 +50,23 @@ fn merged(
         let (b, other) = second[j];
         let fits = if a < b {
             i += 1;
-            push(&mut list, a, Some(number))?
+            push(list, a, Some(number))?
         } else if b < a {
             j += 1;
-            push(&mut list, b, factor.checked_mul(other))?
+            push(list, b, factor.checked_mul(other))?
         } else {
             i += 1;
             j += 1;
-            push(&mut list, a, total(number, factor, other))?
+            push(list, a, total(number, factor, other))?
         };
         if !fits {
-            return Ok(None);
+            return Ok(false);
         }
     }
-    if !push_all(&mut list, 1, &first[i..])? || !push_all(&mut list, factor, &second[j..])? {
-        return Ok(None);
+    if !push_all(list, 1, &first[i..])? {
+        return Ok(false);
     }
-    Ok(Some(list))
+    push_all(list, factor, &second[j..])
 }
 
 /// The first form, the second so many times, and the number; none where it doesn't fit.
@@ -84,21 +83,41 @@ pub(crate) fn combined(
     let Some(constant) = constant.checked_add(number) else {
         return Ok(None);
     };
-    let found = merged(
-        alloc,
+    let mut coefs = Seq::new(alloc);
+    let fits = merge(
+        &mut coefs,
         first.coefs.as_slice(),
         factor,
         second.coefs.as_slice(),
     )?;
-    match found {
-        Some(coefs) => Ok(Some(Form { coefs, constant })),
-        None => Ok(None),
+    if fits {
+        Ok(Some(Form { coefs, constant }))
+    } else {
+        Ok(None)
+    }
+}
+
+/// The form so many times, and the number; none where it doesn't fit.
+pub(crate) fn scaled(
+    alloc: Global,
+    factor: i128,
+    form: &Form,
+    number: i128,
+) -> Result<Option<Form>, Want> {
+    let Some(constant) = total(number, factor, form.constant) else {
+        return Ok(None);
+    };
+    let mut coefs = Seq::new(alloc);
+    if push_all(&mut coefs, factor, form.coefs.as_slice())? {
+        Ok(Some(Form { coefs, constant }))
+    } else {
+        Ok(None)
     }
 }
 
 /// The form that is at least 0 exactly where this one isn't; none where it doesn't fit.
 pub(crate) fn negation(alloc: Global, form: &Form) -> Result<Option<Form>, Want> {
-    combined(alloc, &Form::number(alloc, -1), -1, form, 0)
+    scaled(alloc, -1, form, -1)
 }
 
 /// Whether the form's first coefficient is negative.

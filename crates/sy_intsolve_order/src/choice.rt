@@ -71,14 +71,11 @@ impl Guide {
 
     /// Counts the listed tests, and for each group those that are listed in it.
     pub(crate) fn count(&mut self) -> Result<(), Want> {
+        let tests = self.tests();
         self.tallies.clear();
+        self.tallies.resize(tests, Tally::none())?;
         self.sizes.clear();
-        for _test in 0..self.tests() {
-            self.tallies.push(Tally::none())?;
-        }
-        for _node in 0..self.marks.len() {
-            self.sizes.push(0)?;
-        }
+        self.sizes.resize(self.marks.len(), 0)?;
         for at in 0..self.listed.len() {
             let Some(occurrence) = self.listed.get(at).copied() else {
                 continue;

@@ -42,27 +42,42 @@ pub struct Guide {
     pub(crate) sizes: Vec<u32>,
 }
 
+/// Appends what is told of the variables: by what a path tells of the tests on them, or else by no fact.
+fn name_variables(
+    names: &mut Vec<Sight>,
+    variables: &[Sight],
+    truths: &[Option<bool>],
+) -> Result<(), Want> {
+    for number in 0..variables.len() {
+        let sight = match truths.get(number) {
+            Some(Some(truth)) => Sight::Settled(*truth),
+            _ => variables[number],
+        };
+        names.push(sight)?;
+    }
+    Ok(())
+}
+
 impl Guide {
     /// The guide of a search for an assignment that satisfies the query. `Want` comes where memory runs out, and nowhere
     /// else.
     pub fn new(alloc: Global, query: &Query<IntTheory>) -> Result<Guide, Want> {
-        let mut marks = Vec::new(alloc);
-        mark_all(&mut marks, &query.body, Mark::root())?;
-        let mut tables = Tables::new(alloc);
-        let mut variables = Vec::new(alloc);
-        let mut number = 0u32;
-        for sort in query.vars.as_slice() {
-            let sight = match sort {
-                Sort::Int => Sight::Linear(tables.variable(alloc, number)?),
-                Sort::Bool | Sort::Bits(_) => Sight::Open,
-            };
-            variables.push(sight)?;
-            number = number.saturating_add(1);
+        let mut guide = Guide::empty(alloc);
+        match guide.prepare(alloc, query) {
+            Ok(()) => Ok(guide),
+            Err(want) => {
+                drop(guide);
+                Err(want)
+            }
         }
-        Ok(Guide {
-            marks,
-            tables,
-            variables,
+    }
+
+    /// Nothing. It takes no memory.
+    fn empty(alloc: Global) -> Guide {
+        Guide {
+            marks: Vec::new(alloc),
+            tables: Tables::new(alloc),
+            variables: Vec::new(alloc),
             names: Vec::new(alloc),
             sights: Vec::new(alloc),
             next: 0,
@@ -71,7 +86,22 @@ impl Guide {
             zones: Zones::new(alloc),
             tallies: Vec::new(alloc),
             sizes: Vec::new(alloc),
-        })
+        }
+    }
+
+    /// Takes down what is known of the query's nodes and told of its variables.
+    fn prepare(&mut self, alloc: Global, query: &Query<IntTheory>) -> Result<(), Want> {
+        mark_all(&mut self.marks, &query.body, Mark::root())?;
+        let mut number = 0u32;
+        for sort in query.vars.as_slice() {
+            let sight = match sort {
+                Sort::Int => Sight::Linear(self.tables.variable(alloc, number)?),
+                Sort::Bool | Sort::Bits(_) => Sight::Open,
+            };
+            self.variables.push(sight)?;
+            number = number.saturating_add(1);
+        }
+        Ok(())
     }
 
     /// Notes the truth value of the test, where it is none of the later ones.
@@ -96,10 +126,9 @@ impl Guide {
 
     /// Notes what the facts tell of the tests, and of differences of variables.
     fn take(&mut self, alloc: Global, facts: &[Fact]) -> Result<(), Want> {
+        let tests = self.tests();
         self.truths.clear();
-        for _test in 0..self.tests() {
-            self.truths.push(None)?;
-        }
+        self.truths.resize(tests, None)?;
         self.zones.clear(self.variables.len())?;
         for fact in facts {
             match fact {
@@ -120,13 +149,11 @@ impl Guide {
     /// Lists the open tests of the query under the facts that are noted.
     fn list(&mut self, alloc: Global, query: &Query<IntTheory>) -> Result<(), Want> {
         self.names.clear();
-        for number in 0..self.variables.len() {
-            let sight = match self.truths.get(number) {
-                Some(Some(truth)) => Sight::Settled(*truth),
-                _ => self.variables[number],
-            };
-            self.names.push(sight)?;
-        }
+        name_variables(
+            &mut self.names,
+            self.variables.as_slice(),
+            self.truths.as_slice(),
+        )?;
         self.sights.clear();
         self.listed.clear();
         self.next = 0;

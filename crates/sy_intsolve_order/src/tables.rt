@@ -1,5 +1,5 @@
 // Forms, tests and results of operations, each kept once.
-use crate::arithmetic::{combined, is_downward, negation};
+use crate::arithmetic::{combined, is_downward, negation, scaled};
 use crate::hash::{form_hash, mixed};
 use std::alloc::Global;
 use std::collections::HashMap;
@@ -46,11 +46,13 @@ impl Forms {
     /// The form's number.
     pub(crate) fn number(&mut self, form: Form) -> Result<usize, Want> {
         if let Some(number) = self.find(&form) {
+            drop(form);
             return Ok(number);
         }
         let number = self.all.len();
-        self.places.insert(form_hash(&form), number)?;
+        let hash = form_hash(&form);
         self.all.push(form)?;
+        self.places.insert(hash, number)?;
         Ok(number)
     }
 }
@@ -116,16 +118,13 @@ impl Operation {
             Operation::Sum => combined(alloc, first, 1, second, 0),
             Operation::Difference | Operation::AtLeast => combined(alloc, first, -1, second, 0),
             Operation::Above => combined(alloc, first, -1, second, -1),
-            Operation::Product => {
-                let nothing = Form::number(alloc, 0);
-                if first.coefs.len() == 0 {
-                    combined(alloc, &nothing, first.constant, second, 0)
-                } else if second.coefs.len() == 0 {
-                    combined(alloc, &nothing, second.constant, first, 0)
-                } else {
-                    Ok(None)
-                }
+            Operation::Product if first.coefs.len() == 0 => {
+                scaled(alloc, first.constant, second, 0)
             }
+            Operation::Product if second.coefs.len() == 0 => {
+                scaled(alloc, second.constant, first, 0)
+            }
+            Operation::Product => Ok(None),
         }
     }
 
@@ -133,6 +132,12 @@ impl Operation {
     fn is_comparison(self) -> bool {
         matches!(self, Operation::AtLeast | Operation::Above)
     }
+}
+
+/// The number with the truth value, where there is one.
+fn with_truth(number: Option<usize>, truth: bool) -> Option<(usize, bool)> {
+    let found = number?;
+    Some((found, truth))
 }
 
 /// The forms of a query's terms, its tests, and the operations that were carried out.
@@ -189,30 +194,34 @@ impl Tables {
     /// The test whether the form is at least 0, where it is there.
     pub(crate) fn find(&self, alloc: Global, form: &Form) -> Result<Option<(usize, bool)>, Want> {
         if !is_downward(form) {
-            return Ok(self.tests.find(form).map(|number| (number, true)));
+            return Ok(with_truth(self.tests.find(form), true));
         }
-        match negation(alloc, form)? {
-            Some(opposite) => Ok(self.tests.find(&opposite).map(|number| (number, false))),
-            None => Ok(None),
-        }
+        let Some(opposite) = negation(alloc, form)? else {
+            return Ok(None);
+        };
+        let number = self.tests.find(&opposite);
+        drop(opposite);
+        Ok(with_truth(number, false))
     }
 
     /// The test whether the form is at least 0.
     fn literal(&mut self, alloc: Global, form: Form) -> Result<Literal, Want> {
         if form.coefs.len() == 0 {
-            return Ok(Literal::Known(form.constant >= 0));
+            let holds = form.constant >= 0;
+            drop(form);
+            return Ok(Literal::Known(holds));
         }
         if !is_downward(&form) {
             let number = self.tests.number(form)?;
             return Ok(Literal::Test(number, true));
         }
-        match negation(alloc, &form)? {
-            Some(opposite) => {
-                let number = self.tests.number(opposite)?;
-                Ok(Literal::Test(number, false))
-            }
-            None => Ok(Literal::Unfit),
-        }
+        let opposite = negation(alloc, &form);
+        drop(form);
+        let Some(opposite) = opposite? else {
+            return Ok(Literal::Unfit);
+        };
+        let number = self.tests.number(opposite)?;
+        Ok(Literal::Test(number, false))
     }
 
     /// What the operation gives, where the forms of these numbers are there.

@@ -77,9 +77,8 @@ impl Zones {
             0
         };
         self.limits.clear();
-        for _pair in 0..self.side.saturating_mul(self.side) {
-            self.limits.push(None)?;
-        }
+        self.limits
+            .resize(self.side.saturating_mul(self.side), None)?;
         Ok(())
     }
 

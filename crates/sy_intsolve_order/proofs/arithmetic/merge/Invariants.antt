@@ -1,5 +1,5 @@
 use Rattle.std.proofs.Common.{length, ◌+◌, ◌-◌, ◌≤◌}
-use Rattle.sy_intsolve_order.proofs.arithmetic.merged.Given as goal
+use Rattle.sy_intsolve_order.proofs.arithmetic.merge.Given as goal
 
 abbrev pub invariant-loop-i : goal.invariant-loop-i
 invariant-loop-i l = (l.i ≤ length l.first) × (l.j ≤ length l.second)
