@@ -1,5 +1,6 @@
 pub mod Gates
 pub mod Words
+pub mod Rooms
 pub mod Encoding
 pub mod Ways
 pub mod Places

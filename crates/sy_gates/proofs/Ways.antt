@@ -205,6 +205,10 @@ but_last-push cs d =
     let e : length (cs ++ d ∷ []) - 1 ≡ length cs = omega (arith, length-append cs (d ∷ [])) in
     rw e (grind (arith, common_steps))
 
+-- the last clause stands after the others
+pub last-push : (cs ds : List (List Lit)) (d : List Lit) → ds ≡ cs ++ d ∷ [] → ds ≡ but_last ds ++ d ∷ []
+last-push cs ds d e = rw (e, but_last-push cs d) refl
+
 take-whole : (gs : List Gate) (i : ℕ) → length gs ≤ i → take i gs ≡ gs
 take-whole gs i h = grind (arith, common_steps)
 

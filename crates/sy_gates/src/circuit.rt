@@ -3,7 +3,7 @@ ghost use Rattle.sy_gates.specs.Circuits.{Plan, variables, FollowsPlan, bit_valu
 ghost use Rattle.sy_gates.specs.Models.{but_last, ExtendsInOneWay};
 ghost use Rattle.sy_clauses.specs.Clauses.{IsModel};
 
-use crate::encode::{add_clause, add_gate};
+use crate::encode::{add_gate, add_one};
 use crate::gate::{Added, Bit, Gate, negated, same_gate, variable};
 use crate::table::Table;
 use std::alloc::Global;
@@ -214,7 +214,7 @@ impl Circuit {
             let gate = gates[i];
             add_gate(alloc, &mut clauses, self.inputs + i as u32, gate)?;
         }
-        add_clause(alloc, &mut clauses, &[output])?;
+        add_one(alloc, &mut clauses, output)?;
         Ok(Cnf { vars, clauses })
     }
 

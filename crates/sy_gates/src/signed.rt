@@ -91,9 +91,9 @@ impl Circuit {
         ensures inside { IfOk result (λ r. word_bound r ≤ variables self.new) }
         ensures value { IfOk result (λ r. (v : ℕ → Bool) → FollowsPlan v self.new → word_number v r ≡ signed_quotient (length a.now) (word_number v a.now) (word_number v b.now)) }
     {
-        let division = self.divide_magnitudes(alloc, a, b)?;
+        let quotient = self.divide_magnitudes(alloc, a, b)?.quotient;
         let differ = self.xor(top(a), top(b))?;
-        let word = self.negate_where(alloc, differ, division.quotient.as_slice())?;
+        let word = self.negate_where(alloc, differ, quotient.as_slice())?;
         Ok(word)
     }
 
@@ -116,8 +116,8 @@ impl Circuit {
         ensures inside { IfOk result (λ r. word_bound r ≤ variables self.new) }
         ensures value { IfOk result (λ r. (v : ℕ → Bool) → FollowsPlan v self.new → word_number v r ≡ signed_remainder (length a.now) (word_number v a.now) (word_number v b.now)) }
     {
-        let division = self.divide_magnitudes(alloc, a, b)?;
-        let word = self.negate_where(alloc, top(a), division.remainder.as_slice())?;
+        let rest = self.divide_magnitudes(alloc, a, b)?.remainder;
+        let word = self.negate_where(alloc, top(a), rest.as_slice())?;
         Ok(word)
     }
 
@@ -135,8 +135,8 @@ impl Circuit {
         ensures inside { IfOk result (λ r. word_bound r ≤ variables self.new) }
         ensures value { IfOk result (λ r. (v : ℕ → Bool) → FollowsPlan v self.new → word_number v r ≡ signed_modulo (length a.now) (word_number v a.now) (word_number v b.now)) }
     {
-        let division = self.divide_magnitudes(alloc, a, b)?;
-        let word = self.signed_choice(alloc, top(a), top(b), division.remainder.as_slice(), b)?;
+        let rest = self.divide_magnitudes(alloc, a, b)?.remainder;
+        let word = self.signed_choice(alloc, top(a), top(b), rest.as_slice(), b)?;
         Ok(word)
     }
 

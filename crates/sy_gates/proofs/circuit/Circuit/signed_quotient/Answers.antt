@@ -11,6 +11,6 @@ returns-clause-value c = λ v f.
     let at_divided = c.xor.ensures.grown.keeps v at_xor in
     let second = c.top-2.ensures.value v ∙ ap (λ n. has_top_bit n (word_number v c.args.b.now)) c.requires.same in
     negated_where v width (bit_value v c.in_ok-differ.differ) (xor (has_top_bit width (word_number v c.args.a.now)) (has_top_bit width (word_number v c.args.b.now))) _
-    c.in_ok-division.division.quotient c.as_slice.result.now c.in_ok-word.word
-    (c.in_ok-differ.ensures.value v at_xor ∙ ap₂ xor (c.top.ensures.value v) second) c.as_slice.ensures c.in_ok-division.ensures.quotient_width
-    (c.in_ok-division.ensures.quotient v at_divided) (c.in_ok-word.ensures.value v f)
+    _ c.as_slice.result.now c.in_ok-word.word
+    (c.in_ok-differ.ensures.value v at_xor ∙ ap₂ xor (c.top.ensures.value v) second) c.as_slice.ensures c.in_ok-quotient.ensures.quotient_width
+    (c.in_ok-quotient.ensures.quotient v at_divided) (c.in_ok-word.ensures.value v f)

@@ -9,6 +9,6 @@ returns-clause-value c = λ v f.
     let width = length c.args.a.now in
     let at_divided = c.negate_where.ensures.grown.keeps v f in
     negated_where v width (bit_value v c.top.result) (has_top_bit width (word_number v c.args.a.now)) _
-    c.in_ok-division.division.remainder c.as_slice.result.now c.in_ok-word.word
-    (c.top.ensures.value v) c.as_slice.ensures c.in_ok-division.ensures.remainder_width
-    (c.in_ok-division.ensures.remainder v at_divided) (c.in_ok-word.ensures.value v f)
+    _ c.as_slice.result.now c.in_ok-word.word
+    (c.top.ensures.value v) c.as_slice.ensures c.in_ok-rest.ensures.remainder_width
+    (c.in_ok-rest.ensures.remainder v at_divided) (c.in_ok-word.ensures.value v f)
