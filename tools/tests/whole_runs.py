@@ -3,7 +3,7 @@
 The tables are runs/*.txt. A row is a command line behind `$`, in the folder runs/, then the lines of its input behind `<`,
 those of its output behind `>`, those of its error output behind `!`, and its status behind `=`. Beside them stand files at
 each limit and one above it, files that are cut off anywhere, inputs that give one byte a read or fail after any byte, and
-outputs that take no more than so many bytes.
+outputs that take no more than so many bytes; and what is read of files (readings.py).
 """
 import os
 import pathlib
@@ -19,6 +19,8 @@ TOP = pathlib.Path(__file__).resolve().parent.parent.parent
 RUNS = TOP / "tools" / "tests" / "runs"
 sys.path.insert(0, str(TOP / "bench"))
 import drill
+import readings
+from readings import repeated
 
 NEXT = "(\n(define-fun f ((x (_ BitVec 8))) (_ BitVec 8) (bvadd x #x01))\n)\n"
 GREATER = "(\n(define-fun f ((x Int) (y Int)) Int (ite (<= x y) y x))\n)\n"
@@ -64,11 +66,6 @@ def tables(program):
 def drilled(program):
     for number, answer in DRILLED.items():
         yield f"the file of drill {number}", run(program, ["-"], input=drill.file_of(number)) == (0, answer, "")
-
-
-def repeated(piece, count):
-    """So many pieces; `#` in them is a number that counts from 0, and `@` the next one."""
-    return "".join(piece.replace("#", str(number)).replace("@", str(number + 1)) for number in range(count))
 
 
 def refusal(place, cause):
@@ -209,3 +206,4 @@ def untold(program):
 def tests(program):
     for part in (tables, drilled, limits, cut_off, unread, slow, unwritten, untold):
         yield from part(program)
+    yield from readings.tests(run, program)

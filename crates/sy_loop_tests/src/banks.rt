@@ -1,13 +1,13 @@
 // Banks of small grammars over one argument: how many terms are kept at each size, and how the search for them ends.
 
-use crate::parts::{cut, nonterminals};
+use crate::parts::nonterminals;
 use crate::points::{points, value};
 use crate::posed::one;
+use crate::rows::{field, number};
 use std::alloc::Global;
 use std::process::Abort;
 use sy_bank::{Bank, BankEnd, build};
 use sy_grammar_base::{Grammar, Non, well_formed};
-use sy_meaning::{BvTheory, IntTheory};
 use sy_terms::{Seq, Sort, Theory, Values};
 
 /// The bank of these nonterminals up to one size, grown to another if that is greater and nothing was dropped before.
@@ -53,25 +53,32 @@ fn keeps<T: Theory>(bank: &Bank<T>, nonterminals: u32, counts: &str) -> bool {
     words.next().is_none()
 }
 
-/// Whether the line's bank is as it tells.
-fn is_right<T: Theory>(
+/// The numbers between spaces as values of the sort.
+fn pool_of<T: Theory>(rt: &impl Abort, alloc: Global, sort: Sort, text: &str) -> Values<T> {
+    let mut values = Seq::new(alloc);
+    for word in text.split(' ') {
+        if let Some(value) = value::<T>(sort, word) {
+            values.push(value).expect(rt, word);
+        }
+    }
+    values
+}
+
+/// Whether the row's bank is as it tells, where the pool has these numbers.
+pub(crate) fn is_right<T: Theory>(
     rt: &impl Abort,
     alloc: Global,
     sort: Sort,
-    pool: &Values<T>,
-    line: &str,
+    pool: &str,
+    row: &str,
 ) -> bool {
-    let (grammar, rest) = cut(line);
-    let (values, rest) = cut(rest);
-    let (upto, rest) = cut(rest);
-    let (grown, rest) = cut(rest);
-    let (cap, rest) = cut(rest);
-    let (counts, end) = cut(rest);
-    let nons = nonterminals::<T>(rt, alloc, sort, grammar);
+    let (counts, end) = (field(row, 6), field(row, 7));
+    let pool = pool_of::<T>(rt, alloc, sort, pool);
+    let nons = nonterminals::<T>(rt, alloc, sort, sort, field(row, 1));
     let nonterminals = u32::try_from(nons.len()).unwrap_or(u32::MAX);
-    let upto = (upto.parse().unwrap_or(0), grown.parse().unwrap_or(0));
-    let cap = cap.parse().unwrap_or(0);
-    let built = bank_of(rt, alloc, sort, nons, values, pool, upto, cap);
+    let upto = (number(row, 3), number(row, 4));
+    let cap = number(row, 5);
+    let built = bank_of(rt, alloc, sort, nons, field(row, 2), &pool, upto, cap);
     let is_right = match &built {
         Ok(bank) => {
             let is_whole = bank.overflow().is_none();
@@ -89,60 +96,40 @@ fn is_right<T: Theory>(
     is_right
 }
 
-/// Asserts that the bank of each line is as it tells, where the pool has these numbers.
-fn assert_lines<T: Theory>(rt: &impl Abort, alloc: Global, sort: Sort, pool: &str, table: &str) {
-    let mut values = Seq::new(alloc);
-    for word in pool.split(' ') {
-        if let Some(value) = value::<T>(sort, word) {
-            values.push(value).expect(rt, word);
-        }
-    }
-    for line in table.lines() {
-        assert!(rt; is_right::<T>(rt, alloc, sort, &values, line), "{line}");
-    }
-}
-
 /// Grammars, the argument's values, the sizes up to which a bank is built and grown, and the cap; then how many terms are
 /// kept at each size, after which none is; and whether the bank is whole, dropped a term, or is full before one of a size.
 /// First stand all constants and arguments, by their digits, where one term is enough without points; then sums, as they
 /// are built and as they are grown; a term that isn't computable; what derives nothing; and chains, in whatever order they
 /// stand.
-const INTEGERS: &str = "\
-k v|30 50|6|6|99|0 5 1 4 6 16 32|whole
-k v|30|9|9|20|0 5 1 4 6 4|full 5
-k v||128|128|9|0 1|whole
-1 +1A|0|5|5|9|0 1 0 1 0 1|whole
-1 +1A|0|1|5|9|0 1 0 1 0 1|whole
-1 +1A|0|3|5|2|0 1 0 1|full 5
-M +MA|0|3|3|9|0 1|dropped
-+M1 +12|0|3|5|0||dropped
-+12 +M1|0|3|5|0||full 3
-3 4 3 +12 +22|0|3|3|2|0 2|whole
-+AA|0|4|4|0||whole
-B x;A|0|2|2|9|0 2|whole
-B B;C A;v B||1|2|9|0 3|whole
-B B;C A;v B||1|2|2|0 2|full 1";
+pub(crate) const INTEGERS: &str = "\
+bank of integers|k v|30 50|6|6|99|0 5 1 4 6 16 32|whole
+bank of integers|k v|30|9|9|20|0 5 1 4 6 4|full 5
+bank of integers|k v||128|128|9|0 1|whole
+bank of integers|1 +1A|0|5|5|9|0 1 0 1 0 1|whole
+bank of integers|1 +1A|0|1|5|9|0 1 0 1 0 1|whole
+bank of integers|1 +1A|0|3|5|2|0 1 0 1|full 5
+bank of integers|M +MA|0|3|3|9|0 1|dropped
+bank of integers|+M1 +12|0|3|5|0||dropped
+bank of integers|+12 +M1|0|3|5|0||full 3
+bank of integers|3 4 3 +12 +22|0|3|3|2|0 2|whole
+bank of integers|+AA|0|4|4|0||whole
+bank of integers|B x;A|0|2|2|9|0 2|whole
+bank of integers|B B;C A;v B||1|2|9|0 3|whole
+bank of integers|B B;C A;v B||1|2|2|0 2|full 1";
 
 /// The same over vectors of four bits: all constants and arguments, as far as the width goes; and each function of two truth
 /// values once, with a bit for each pair of them.
-const VECTORS: &str = "\
-k v|3 5|99|99|50|0 3 0 2 4 8|whole
-3 5 ~A &AA|0|13|13|99|0 2 2 1 4 4 1 0 0 0 0 2|whole";
+pub(crate) const VECTORS: &str = "\
+bank of four bits|k v|3 5|99|99|50|0 3 0 2 4 8|whole
+bank of four bits|3 5 ~A &AA|0|13|13|99|0 2 2 1 4 4 1 0 0 0 0 2|whole";
 
 /// The same over vectors of eight bits: an argument and its square, which 2 tells apart and 0 and 1 don't, also where the bank
 /// is full at once or when it is grown.
-const BYTES: &str = "\
-x *xx|0 1|3|3|10|0 1|whole
-x *xx|0 1|3|3|1|0 1|whole
-x *xx|0 1 2|3|3|10|0 1 0 1|whole
-x *xx|0 1 2|3|3|1|0 1|full 3
-x *xx|0 1 2|1|1|10|0 1|whole
-x *xx|0 1 2|1|3|10|0 1 0 1|whole
-x *xx|0 1 2|1|3|1|0 1|full 3";
-
-#[test]
-fn banks_by_the_tables(rt: HostRuntime) {
-    assert_lines::<IntTheory>(&rt, rt.alloc(), Sort::Int, "7 -6", INTEGERS);
-    assert_lines::<BvTheory>(&rt, rt.alloc(), Sort::Bits(4), "", VECTORS);
-    assert_lines::<BvTheory>(&rt, rt.alloc(), Sort::Bits(8), "", BYTES);
-}
+pub(crate) const BYTES: &str = "\
+bank of bytes|x *xx|0 1|3|3|10|0 1|whole
+bank of bytes|x *xx|0 1|3|3|1|0 1|whole
+bank of bytes|x *xx|0 1 2|3|3|10|0 1 0 1|whole
+bank of bytes|x *xx|0 1 2|3|3|1|0 1|full 3
+bank of bytes|x *xx|0 1 2|1|1|10|0 1|whole
+bank of bytes|x *xx|0 1 2|1|3|10|0 1 0 1|whole
+bank of bytes|x *xx|0 1 2|1|3|1|0 1|full 3";

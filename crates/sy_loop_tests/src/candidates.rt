@@ -9,7 +9,7 @@ ghost use Rattle.sy_loop_candidate.specs.Clauses.{IsKnownFor};
 ghost use Rattle.sy_loop_tests.specs.Posed.{AsksForOne};
 
 use crate::posed::{bodies, posed};
-use crate::rows::number;
+use crate::rows::{field, number};
 use crate::solver::{Both, IsFalse, Nothing};
 use std::alloc::Global;
 use std::process::Abort;
@@ -110,20 +110,20 @@ candidate|<+M?fx100|4|2|100|9|nt|checked|1
 candidate|<+M?fx100|4|2|100|9|t|decide|0";
 
 /// Whether the row is right.
-pub(crate) fn is_right(rt: &impl Abort, alloc: Global, parts: &[&str; 9]) -> bool {
+pub(crate) fn is_right(rt: &impl Abort, alloc: Global, row: &str) -> bool {
     let limits = Limits {
-        rounds: number(parts[2]),
-        points: number(parts[3]),
-        weight: number(parts[4]),
+        rounds: number(row, 2),
+        points: number(row, 3),
+        weight: number(row, 4),
         ..AMPLE
     };
-    let problem = posed(rt, alloc, Sort::Bool, parts[1]);
+    let problem = posed(rt, alloc, Sort::Bool, field(row, 1));
     let mut solver = Both {
-        left: number(parts[5]),
+        left: number(row, 5),
     };
     let mut known = nothing_known(rt, alloc, &problem, &limits);
     let mut has_come = false;
-    for sign in parts[6].as_bytes() {
+    for sign in field(row, 6).as_bytes() {
         let constant = match *sign {
             b'x' => None,
             sign => Some(sign == b't'),
@@ -137,10 +137,10 @@ pub(crate) fn is_right(rt: &impl Abort, alloc: Global, parts: &[&str; 9]) -> boo
             constant,
             &mut known,
         );
-        has_come = came == parts[7];
+        has_come = came == field(row, 7);
     }
     let count = known.stored.len();
     drop(known);
     drop(problem);
-    has_come && count == number(parts[8]) as usize
+    has_come && count == number(row, 8) as usize
 }

@@ -1,5 +1,5 @@
 // Combinations of `x`, `y`, `x & y` and `x ^ y` over 8 bits.
-use crate::rows::number;
+use crate::rows::{field, number};
 use crate::terms::operator;
 use std::alloc::Global;
 use std::process::Abort;
@@ -80,17 +80,17 @@ combination|a|5|: 20 :02 14 :11
 combination|a|4|20 :";
 
 /// Whether the row is right.
-pub(crate) fn is_right(rt: &impl Abort, alloc: Global, parts: &[&str; 9]) -> bool {
-    let sign = parts[1].as_bytes().first().expect(rt, "an operator");
-    let mut scan = scan(rt, alloc, *sign, number(parts[2]));
+pub(crate) fn is_right(rt: &impl Abort, alloc: Global, row: &str) -> bool {
+    let sign = field(row, 1).as_bytes().first().expect(rt, "an operator");
+    let mut scan = scan(rt, alloc, *sign, number(row, 2));
     let mut points = 0usize;
     let mut is_right = true;
-    for step in parts[3].split(' ') {
+    for step in field(row, 3).split(' ') {
         match step.strip_prefix(':') {
             Some(found) => is_right &= is_next(rt, &mut scan, found),
             None => {
                 let values = VALUES.get(points).expect(rt, "a point");
-                want(rt, alloc, &mut scan, number(step), values);
+                want(rt, alloc, &mut scan, number(step, 0), values);
                 points = points.saturating_add(1);
             }
         }

@@ -1,6 +1,6 @@
 // How a search ends where nothing is to be found and the solver gives up, and the names of causes.
 use crate::candidates::AMPLE;
-use crate::rows::number;
+use crate::rows::{field, number};
 use crate::solver::{Both, IsFalse, Nothing};
 use std::alloc::Global;
 use std::process::Abort;
@@ -28,20 +28,21 @@ fn named(text: &str) -> Option<FailName> {
 /// A cause of this name, with nothing that shows it; `None` where that takes more than lists, or the solver has no such
 /// budget.
 fn cause(alloc: Global, name: FailName) -> Option<FailCause<IntTheory, Nothing>> {
-    let stored = Stored::new(alloc);
-    let (bodies, values) = (Seq::new(alloc), Seq::new(alloc));
     match name {
         FailName::Size => Some(FailCause::Size),
-        FailName::Rounds => Some(FailCause::Rounds(stored)),
+        FailName::Rounds => Some(FailCause::Rounds(Stored::new(alloc))),
         FailName::Points => {
-            let tuples = Seq::new(alloc);
-            Some(FailCause::Points(stored, 0, bodies, values, tuples))
+            let (bodies, values, tuples) = (Seq::new(alloc), Seq::new(alloc), Seq::new(alloc));
+            Some(FailCause::Points(Stored::new(alloc), 0, bodies, values, tuples))
         }
-        FailName::Weight => Some(FailCause::Weight(stored, bodies)),
-        FailName::Pivots => Some(FailCause::Decide(stored, bodies, Nothing {})),
+        FailName::Weight => Some(FailCause::Weight(Stored::new(alloc), Seq::new(alloc))),
+        FailName::Pivots => {
+            let (stored, bodies) = (Stored::new(alloc), Seq::new(alloc));
+            Some(FailCause::Decide(stored, bodies, Nothing {}))
+        }
         FailName::Range => {
-            let left = LoopRange::Member(0, Term::Var(0), values);
-            Some(FailCause::Range(stored, left))
+            let left = LoopRange::Member(0, Term::Var(0), Seq::new(alloc));
+            Some(FailCause::Range(Stored::new(alloc), left))
         }
         _ => None,
     }
@@ -57,8 +58,8 @@ cause|pivots
 cause|range";
 
 /// Whether the cause of a row has its name.
-pub(crate) fn is_named(alloc: Global, parts: &[&str; 9]) -> bool {
-    let Some(name) = named(parts[1]) else {
+pub(crate) fn is_named(alloc: Global, row: &str) -> bool {
+    let Some(name) = named(field(row, 1)) else {
         return false;
     };
     let cause = cause(alloc, name);
@@ -82,7 +83,7 @@ fn ended_by(outcome: &Outcome<IntTheory, IsFalse, Nothing>) -> Option<FailName> 
 }
 
 /// Whether the search of a row ends as it says.
-pub(crate) fn is_ended(rt: &impl Abort, alloc: Global, parts: &[&str; 9]) -> bool {
+pub(crate) fn is_ended(rt: &impl Abort, alloc: Global, row: &str) -> bool {
     let problem: Problem<IntTheory> = Problem {
         defs: Seq::new(alloc),
         vars: Seq::new(alloc),
@@ -93,7 +94,7 @@ pub(crate) fn is_ended(rt: &impl Abort, alloc: Global, parts: &[&str; 9]) -> boo
     };
     let limits = Limits {
         size: 2,
-        rounds: number(parts[1]),
+        rounds: number(row, 1),
         points: 1,
         weight: 10,
         ..AMPLE
@@ -104,5 +105,5 @@ pub(crate) fn is_ended(rt: &impl Abort, alloc: Global, parts: &[&str; 9]) -> boo
     let name = ended_by(&outcome);
     drop(outcome);
     drop(problem);
-    name.is_some() && name == named(parts[2])
+    name.is_some() && name == named(field(row, 2))
 }

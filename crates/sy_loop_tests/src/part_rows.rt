@@ -19,7 +19,7 @@ use std::rc::Rc;
 use sy_bank_columns::{RowEnd, chosen_part, grown, part_row, term_row};
 use sy_bank_rows::{Grown, Kept, filled_part};
 use sy_grammar_base::{Derivation, Part};
-use sy_meaning::{IntTheory, term_sort};
+use sy_meaning::term_sort;
 use sy_terms::{Def, Defs, Seq, Sort, Term, Theory, Value, Values};
 
 /// Whether the sort is that of integers.
@@ -174,7 +174,7 @@ fn is_right<T: Theory>(
 }
 
 /// Asserts that each row is right at the points 3 and the greatest number, where the definition gives the next number.
-fn assert_rows<T: Theory>(rt: &impl Abort, alloc: Global, one: T::Num, five: T::Num) {
+pub(crate) fn assert_rows<T: Theory>(rt: &impl Abort, alloc: Global, one: T::Num, five: T::Num) {
     let numbers = "3 170141183460469231731687303715884105727";
     let points = points::<T>(rt, alloc, Sort::Int, numbers);
     let points = points.as_slice();
@@ -186,9 +186,4 @@ fn assert_rows<T: Theory>(rt: &impl Abort, alloc: Global, one: T::Num, five: T::
     for row in ROWS.lines() {
         assert!(rt; is_right(rt, alloc, &defs, points, &chosen, row), "{row}");
     }
-}
-
-#[test]
-fn finds_rows_of_parts(rt: HostRuntime) {
-    assert_rows::<IntTheory>(&rt, rt.alloc(), 1, 5);
 }

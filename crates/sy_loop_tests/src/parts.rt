@@ -43,12 +43,15 @@ fn operator(sign: u8) -> Option<(Op, usize)> {
         b'*' => Some((Op::BvMul, 2)),
         b'&' => Some((Op::BvAnd, 2)),
         b'~' => Some((Op::BvNot, 1)),
+        b'n' => Some((Op::BvNeg, 1)),
+        b'?' => Some((Op::Ite, 3)),
+        b'L' => Some((Op::Le, 2)),
         _ => None,
     }
 }
 
 /// The part that begins with this sign, where the stack has those after it, the next one last: `A`, `B` and `C` are the
-/// nonterminals, `x` is the argument, `D` calls the first definition, and `E` the fourth at two arguments, `M` is the
+/// nonterminals, `x` and `y` are arguments, `D` calls the first definition, and `E` the fourth at two arguments, `M` is the
 /// greatest number of 128 bits, and a digit is itself.
 fn begun<T: Theory>(
     rt: &impl Abort,
@@ -67,6 +70,7 @@ fn begun<T: Theory>(
         b'D' => Part::Call(0, last(rt, alloc, stack, 1)),
         b'E' => Part::Call(3, last(rt, alloc, stack, 2)),
         b'x' => Part::Var(0),
+        b'y' => Part::Var(1),
         b'M' => number(sort, i128::MAX),
         digit => number(sort, i128::from(digit.wrapping_sub(b'0'))),
     }
@@ -96,17 +100,21 @@ fn rules<T: Theory>(rt: &impl Abort, alloc: Global, sort: Sort, text: &str) -> S
     rules
 }
 
-/// The nonterminals of this text, all of one sort, with a semicolon between the rules of two.
+/// The nonterminals of this text, of which the first has one sort and the others have another, with a semicolon between the
+/// rules of two.
 pub fn nonterminals<T: Theory>(
     rt: &impl Abort,
     alloc: Global,
     sort: Sort,
+    others: Sort,
     text: &str,
 ) -> Seq<Non<T>> {
     let mut nons = Seq::new(alloc);
+    let mut sort = sort;
     for text in text.split(';') {
         let rules = rules::<T>(rt, alloc, sort, text);
         nons.push(Non { sort, rules }).expect(rt, text);
+        sort = others;
     }
     nons
 }

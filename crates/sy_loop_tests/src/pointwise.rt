@@ -1,8 +1,10 @@
 // Which problems are pointwise.
-use crate::terms::{operator, term};
+use crate::parts::nonterminals;
+use crate::rows::field;
+use crate::terms::term;
 use std::alloc::Global;
 use std::process::Abort;
-use sy_grammar_base::{Grammar, Non, Part, Parts, Problem, Rule, Wanted, well_formed};
+use sy_grammar_base::{Grammar, Problem, Wanted, well_formed};
 use sy_loop_pointwise::pointwise;
 use sy_meaning_integers::IntTheory;
 use sy_meaning_words::BvTheory;
@@ -17,45 +19,6 @@ fn sorts(rt: &impl Abort, alloc: Global, sort: Sort, count: usize) -> Seq<Sort> 
     sorts
 }
 
-/// An argument, or a nonterminal: `S` is the start symbol, `C` the other one.
-fn leaf<T: Theory>(sign: u8) -> Part<T> {
-    match sign {
-        b'x' => Part::Var(0),
-        b'y' => Part::Var(1),
-        b'C' => Part::Non(1),
-        _ => Part::Non(0),
-    }
-}
-
-/// A leaf, or an operator at leaves.
-fn part<T: Theory>(rt: &impl Abort, alloc: Global, text: &str) -> Part<T> {
-    let (sign, others) = text.as_bytes().split_first().expect(rt, "a part");
-    let Some((operator, _)) = operator(*sign) else {
-        return leaf::<T>(*sign);
-    };
-    let mut parts = Parts::new(alloc);
-    for other in others {
-        parts.push(leaf::<T>(*other)).expect(rt, "memory");
-    }
-    Part::App(operator, parts)
-}
-
-/// The nonterminals of these rules: those of the start symbol, of this sort, and after `;` those of a truth value.
-fn nonterminals<T: Theory>(rt: &impl Abort, alloc: Global, sort: Sort, text: &str) -> Seq<Non<T>> {
-    let mut nons = Seq::new(alloc);
-    let mut sort = sort;
-    for texts in text.split(';') {
-        let mut rules = Seq::new(alloc);
-        for text in texts.split(' ') {
-            let rule = Rule::Term(part::<T>(rt, alloc, text));
-            rules.push(rule).expect(rt, "memory");
-        }
-        nons.push(Non { sort, rules }).expect(rt, "memory");
-        sort = Sort::Bool;
-    }
-    nons
-}
-
 /// A function of so many arguments of the sort to that sort, whose grammar has these rules.
 fn function<T: Theory>(
     rt: &impl Abort,
@@ -64,7 +27,7 @@ fn function<T: Theory>(
     arguments: usize,
     rules: &str,
 ) -> Wanted<T> {
-    let nons = nonterminals::<T>(rt, alloc, sort, rules);
+    let nons = nonterminals::<T>(rt, alloc, sort, Sort::Bool, rules);
     let args = sorts(rt, alloc, sort, arguments);
     let defs = Seq::new(alloc);
     assert!(rt; well_formed(&args, &nons, &defs));
@@ -78,20 +41,20 @@ fn function<T: Theory>(
 }
 
 /// Whether the problem of a row is pointwise.
-fn is_pointwise<T: Theory>(rt: &impl Abort, alloc: Global, sort: Sort, parts: &[&str; 9]) -> bool {
-    let arguments = parts[3].len();
+fn is_pointwise<T: Theory>(rt: &impl Abort, alloc: Global, sort: Sort, row: &str) -> bool {
+    let arguments = field(row, 3).len();
     let mut wanted = Seq::new(alloc);
-    for _ in 0..parts[2].len() {
-        let function = function::<T>(rt, alloc, sort, arguments, parts[5]);
+    for _ in 0..field(row, 2).len() {
+        let function = function::<T>(rt, alloc, sort, arguments, field(row, 5));
         wanted.push(function).expect(rt, "memory");
     }
     let mut constraints = Seq::new(alloc);
-    for text in parts[6].split(' ') {
+    for text in field(row, 6).split(' ') {
         let constraint = term::<T>(rt, alloc, arguments, text);
         constraints.push(constraint).expect(rt, "memory");
     }
     let (defs, assumptions, pool) = (Seq::new(alloc), Seq::new(alloc), Seq::new(alloc));
-    let vars = sorts(rt, alloc, sort, parts[4].len());
+    let vars = sorts(rt, alloc, sort, field(row, 4).len());
     let problem = Problem {
         defs,
         vars,
@@ -120,15 +83,15 @@ pointwise|Bool|f|x|xy|x|Bfy=fxx|yes
 pointwise|Bool|f|x|xy|x|=xy|yes
 pointwise|Bool||x|xy|x|=xy|no
 pointwise|Bool|fg|x|xy|x|=fxfx|no
-pointwise|Int|f|xy|xy|x y ?CSS;Lxy|Gfxyx Gfxyy O=fxyx=fxyy|yes
-pointwise|Bits|f|x|x|x -x ~x|=ffxx Dfxx|no";
+pointwise|Int|f|xy|xy|x y ?BAA;Lxy|Gfxyx Gfxyy O=fxyx=fxyy|yes
+pointwise|Bits|f|x|x|x nx ~x|=ffxx Dfxx|no";
 
 /// Whether the row is right.
-pub(crate) fn is_right(rt: &impl Abort, alloc: Global, parts: &[&str; 9]) -> bool {
-    let found = match parts[1] {
-        "Bool" => is_pointwise::<IntTheory>(rt, alloc, Sort::Bool, parts),
-        "Int" => is_pointwise::<IntTheory>(rt, alloc, Sort::Int, parts),
-        _ => is_pointwise::<BvTheory>(rt, alloc, Sort::Bits(8), parts),
+pub(crate) fn is_right(rt: &impl Abort, alloc: Global, row: &str) -> bool {
+    let found = match field(row, 1) {
+        "Bool" => is_pointwise::<IntTheory>(rt, alloc, Sort::Bool, row),
+        "Int" => is_pointwise::<IntTheory>(rt, alloc, Sort::Int, row),
+        _ => is_pointwise::<BvTheory>(rt, alloc, Sort::Bits(8), row),
     };
-    found == (parts[7] == "yes")
+    found == (field(row, 7) == "yes")
 }

@@ -9,7 +9,7 @@ ghost use Rattle.sy_loop_tests.specs.Posed.{AsksForOne};
 
 use crate::candidates::AMPLE;
 use crate::posed::{fitting, one, posed};
-use crate::rows::number;
+use crate::rows::{field, number};
 use crate::solver::Both;
 use std::alloc::Global;
 use std::process::Abort;
@@ -45,19 +45,19 @@ weight|>fxx|+x1|10|10|built
 weight|>fxx|+x1|10|4294967295|built";
 
 /// Whether the row of a weight is right.
-pub(crate) fn is_weighed(rt: &impl Abort, alloc: Global, parts: &[&str; 9]) -> bool {
-    let problem = posed(rt, alloc, Sort::Int, parts[1]);
-    let bodies = body(rt, alloc, &problem, parts[2]);
-    let weight = number(parts[3]);
-    let is_right = match build(alloc, &problem, &bodies, number(parts[4])) {
+pub(crate) fn is_weighed(rt: &impl Abort, alloc: Global, row: &str) -> bool {
+    let problem = posed(rt, alloc, Sort::Int, field(row, 1));
+    let bodies = body(rt, alloc, &problem, field(row, 2));
+    let weight = number(row, 3);
+    let is_right = match build(alloc, &problem, &bodies, number(row, 4)) {
         Ok(query) => {
             let is_whole = matches!(weigh(alloc, &query, weight), Ok(found) if found == weight);
             let less = weight.saturating_sub(1);
             let is_heavy = matches!(weigh(alloc, &query, less), Err(Built::Heavy));
             drop(query);
-            parts[5] == "built" && is_whole && is_heavy
+            field(row, 5) == "built" && is_whole && is_heavy
         }
-        Err(Built::Heavy) => parts[5] == "heavy",
+        Err(Built::Heavy) => field(row, 5) == "heavy",
         Err(Built::Want) => panic!(rt; "memory"),
     };
     drop(bodies);
@@ -91,19 +91,21 @@ constant|true|x|1|values|1
 constant|true|x|0|spent";
 
 /// Whether the row of a constant is right.
-pub(crate) fn is_decided(rt: &impl Abort, alloc: Global, parts: &[&str; 9]) -> bool {
-    let query = constant(rt, alloc, parts[1] == "true", parts[2] == "x");
+pub(crate) fn is_decided(rt: &impl Abort, alloc: Global, row: &str) -> bool {
+    let query = constant(rt, alloc, field(row, 1) == "true", field(row, 2) == "x");
     let mut solver = Both {
-        left: number(parts[3]),
+        left: number(row, 3),
     };
     let verdict = solver.decide(alloc, &query, &AMPLE);
     let verdict = verdict.expect(rt, "memory");
     let is_right = match &verdict {
-        Verdict::Never(_) => parts[4] == "never",
+        Verdict::Never(_) => field(row, 4) == "never",
         Verdict::Model(values) => {
-            parts[4] == "values" && values.len() == number(parts[5]) as usize
+            field(row, 4) == "values" && values.len() == number(row, 5) as usize
         }
-        Verdict::Spent(spent) => { parts[4] == "spent" && Both::name_of(spent) == FailName::Pivots }
+        Verdict::Spent(spent) => {
+            field(row, 4) == "spent" && Both::name_of(spent) == FailName::Pivots
+        }
     };
     drop(verdict);
     drop(query);

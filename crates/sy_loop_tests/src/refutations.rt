@@ -6,6 +6,7 @@ ghost use Rattle.sy_terms.specs.declared.term.Term.{Const};
 ghost use Rattle.sy_grammar_base.specs.Fits.{ProblemFits};
 
 use crate::posed::one;
+use crate::rows::field;
 use std::alloc::Global;
 use std::process::Abort;
 use sy_bank_rows::Kept;
@@ -86,10 +87,10 @@ pub(crate) const ROWS: &str = "\
 refutation|tntt tttn nntn tnnn tntt";
 
 /// Whether the row is right.
-pub(crate) fn is_right(rt: &impl Abort, alloc: Global, parts: &[&str; 9]) -> bool {
+pub(crate) fn is_right(rt: &impl Abort, alloc: Global, row: &str) -> bool {
     let mut suspects = Suspects::new(alloc);
     let mut is_right = true;
-    for case in parts[1].split(' ') {
+    for case in field(row, 1).split(' ') {
         is_right &= match case.as_bytes() {
             [assumption, constraint, stored, shown] => {
                 let violated = is_violated(

@@ -121,10 +121,10 @@ fn written_filled(rt: &impl Abort, alloc: Global) -> String {
     text
 }
 
-#[test]
-fn builds_terms_and_derivations(rt: HostRuntime) {
-    let shared = written_shared(&rt, rt.alloc());
-    assert!(rt; shared.as_str() == "+ x0 + x0 1 by 4 1 4 1 2 ");
-    let filled = written_filled(&rt, rt.alloc());
-    assert!(rt; filled.as_str() == "d3 + x5 1 x6 d3 + x5 1 x0 x7 ");
+/// Whether terms and derivations are written as they are to be.
+pub(crate) fn are_written(rt: &impl Abort, alloc: Global) -> bool {
+    let shared = written_shared(rt, alloc);
+    let filled = written_filled(rt, alloc);
+    shared.as_str() == "+ x0 + x0 1 by 4 1 4 1 2 "
+        && filled.as_str() == "d3 + x5 1 x6 d3 + x5 1 x0 x7 "
 }

@@ -1,11 +1,19 @@
 // The rows of all tables.
-use crate::rows::parts_of;
-use crate::{candidates, combinations, outcomes, pointwise, queries, refutations};
+use crate::rows::field;
+use crate::{
+    banks, candidates, combinations, outcomes, part_rows, pointwise, queries, refutations,
+    shared_terms,
+};
 use std::alloc::Global;
 use std::process::Abort;
+use sy_meaning::{BvTheory, IntTheory};
+use sy_terms::Sort;
 
-/// All tables. The first part of a row says what it is about.
-const TABLES: [&str; 8] = [
+/// All tables. The first field of a row says what it is about.
+const TABLES: [&str; 11] = [
+    banks::INTEGERS,
+    banks::VECTORS,
+    banks::BYTES,
     candidates::ROWS,
     combinations::ROWS,
     outcomes::CAUSES,
@@ -18,16 +26,18 @@ const TABLES: [&str; 8] = [
 
 /// Whether the row is right.
 fn is_right(rt: &impl Abort, alloc: Global, row: &str) -> bool {
-    let parts = parts_of(row);
-    match parts[0] {
-        "candidate" => candidates::is_right(rt, alloc, &parts),
-        "cause" => outcomes::is_named(alloc, &parts),
-        "combination" => combinations::is_right(rt, alloc, &parts),
-        "constant" => queries::is_decided(rt, alloc, &parts),
-        "pointwise" => pointwise::is_right(rt, alloc, &parts),
-        "refutation" => refutations::is_right(rt, alloc, &parts),
-        "search" => outcomes::is_ended(rt, alloc, &parts),
-        "weight" => queries::is_weighed(rt, alloc, &parts),
+    match field(row, 0) {
+        "bank of integers" => banks::is_right::<IntTheory>(rt, alloc, Sort::Int, "7 -6", row),
+        "bank of four bits" => banks::is_right::<BvTheory>(rt, alloc, Sort::Bits(4), "", row),
+        "bank of bytes" => banks::is_right::<BvTheory>(rt, alloc, Sort::Bits(8), "", row),
+        "candidate" => candidates::is_right(rt, alloc, row),
+        "cause" => outcomes::is_named(alloc, row),
+        "combination" => combinations::is_right(rt, alloc, row),
+        "constant" => queries::is_decided(rt, alloc, row),
+        "pointwise" => pointwise::is_right(rt, alloc, row),
+        "refutation" => refutations::is_right(rt, alloc, row),
+        "search" => outcomes::is_ended(rt, alloc, row),
+        "weight" => queries::is_weighed(rt, alloc, row),
         _ => false,
     }
 }
@@ -39,4 +49,6 @@ fn each_row_is_right(rt: HostRuntime) {
             assert!(rt; is_right(&rt, rt.alloc(), row), "{row}");
         }
     }
+    part_rows::assert_rows::<IntTheory>(&rt, rt.alloc(), 1, 5);
+    assert!(rt; shared_terms::are_written(&rt, rt.alloc()));
 }

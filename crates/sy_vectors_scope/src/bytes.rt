@@ -1,4 +1,5 @@
 // Sources that are read whole and sinks that are written whole, until a call fails.
+use crate::tables::field;
 use std::alloc::Global;
 use std::fs;
 use std::process::Abort;
@@ -25,17 +26,16 @@ fn read_as<S: Source>(alloc: Global, source: &mut S, name: &str, limit: usize) -
 
 /// A name, a limit, the call that fails, and what comes of a source of the text under the name `a`. Call 1 begins; calls 2 to 4
 /// give two, two and one byte, and call 5 finds the end. No call has the number 0.
-const SOURCES: [(&str, usize, u64, &str); 9] = [
-    ("a", 5, 0, "text"),
-    ("a", 5, 6, "text"),
-    ("b", 0, 0, "nothing"),
-    ("a", 4, 0, "too long"),
-    ("a", 5, 1, "fault"),
-    ("a", 5, 2, "fault"),
-    ("a", 5, 3, "fault"),
-    ("a", 5, 4, "fault"),
-    ("a", 5, 5, "fault"),
-];
+pub const SOURCES: &str = "\
+a|5|0|text
+a|5|6|text
+b|0|0|nothing
+a|4|0|too long
+a|5|1|fault
+a|5|2|fault
+a|5|3|fault
+a|5|4|fault
+a|5|5|fault";
 
 /// What comes of a source of the text under the name `a`, of which one call fails.
 fn failing_as(
@@ -48,32 +48,19 @@ fn failing_as(
     read_as(rt.alloc(), &mut source, name, limit)
 }
 
+/// Whether what comes of the row's source is as it tells.
+pub fn is_read(rt: &(impl Abort + AllocGlobal), row: &str) -> bool {
+    let limit: usize = field(row, 1).parse().unwrap_or(0);
+    let failing: u64 = field(row, 2).parse().unwrap_or(0);
+    failing_as(rt, failing, field(row, 0), limit) == field(row, 3)
+}
+
 /// Whether a source that can't fail gives its text under its name, and nothing under another.
-fn is_sure(rt: &(impl Abort + AllocGlobal)) -> bool {
+pub fn is_sure(rt: &(impl Abort + AllocGlobal)) -> bool {
     let mut source = SureSource::new(rt.alloc(), "a", &TEXT).expect(rt, "a source");
     let own = read_as(rt.alloc(), &mut source, "a", 9);
     let other = read_as(rt.alloc(), &mut source, "b", 9);
     (own == "text") & (other == "nothing")
-}
-
-#[test]
-fn sources_are_read_whole(rt: HostRuntime) {
-    for (name, limit, failing, wanted) in &SOURCES {
-        assert!(rt;
-            failing_as(&rt, *failing, name, *limit) == *wanted,
-            "{failing}"
-        );
-    }
-    assert!(rt; is_sure(&rt));
-}
-
-#[test]
-fn files_are_read_whole(rt: HostRuntime) {
-    fs::write(&rt, "five", TEXT.as_slice()).expect(&rt, "a file");
-    let mut files = FileSource::new(&rt);
-    let five = read_as(rt.alloc(), &mut files, "five", 9);
-    let six = read_as(rt.alloc(), &mut files, "six", 9);
-    assert!(rt; (five == "text") & (six == "fault"));
 }
 
 /// How many bytes a sink takes, the call that fails, and what it holds once the text was written as far as it can be.
@@ -94,13 +81,23 @@ fn holds(rt: &(impl Abort + AllocGlobal), room: usize, failing: u64, held: &[u8]
     is_held & is_as_told & !is_longer & (sink.written() == held)
 }
 
-#[test]
-fn sinks_are_written_until_a_write_fails(rt: HostRuntime) {
+/// Whether all sinks hold what they are to hold.
+pub fn are_written(rt: &(impl Abort + AllocGlobal)) -> bool {
+    let mut are_held = write_whole(&mut SureSink::new(), &TEXT).is_ok();
     for (room, failing, held) in &SINKS {
-        assert!(rt; holds(&rt, *room, *failing, held), "{failing}");
+        are_held &= holds(rt, *room, *failing, held);
     }
-    let is_sure = write_whole(&mut SureSink::new(), &TEXT).is_ok();
+    are_held
+}
+
+#[test]
+fn files_are_read_and_standard_sinks_are_written(rt: HostRuntime) {
+    fs::write(&rt, "five", TEXT.as_slice()).expect(&rt, "a file");
+    let mut files = FileSource::new(&rt);
+    let five = read_as(rt.alloc(), &mut files, "five", 9);
+    let six = read_as(rt.alloc(), &mut files, "six", 9);
+    assert!(rt; (five == "text") & (six == "fault"));
     let is_out = write_whole(&mut StdSink::out(&rt), b"out\n").is_ok();
     let is_err = write_whole(&mut StdSink::err(&rt), b"err\n").is_ok();
-    assert!(rt; is_sure & is_out & is_err);
+    assert!(rt; is_out & is_err);
 }

@@ -6,7 +6,7 @@ use sy_scope_commands::{Request, command_named, request_of};
 use sy_text::{Sexp, Sexps, next_command};
 
 /// Commands, each behind the offset of the name that it asks for and what it asks for, or why it asks for nothing.
-const COMMANDS: &str = "\
+pub const COMMANDS: &str = "\
 11 logic: (set-logic BV)
 0 shape: (set-logic)
 0 shape: (set-logic 5)
@@ -48,8 +48,7 @@ const COMMANDS: &str = "\
 0 shape: (check-synth 1)
 0 no command: (optimize-synth ())
 0 no command: (Check-synth)
-0 no symbol: ((check-synth))
-";
+0 no symbol: ((check-synth))";
 
 /// What a request is called, and the offset of its name.
 fn told(request: &Request) -> (&'static str, usize) {
@@ -96,17 +95,10 @@ pub fn items_of(rt: &impl Abort, alloc: Global, text: &str) -> Sexps {
 }
 
 /// Whether the text asks for what its row tells.
-fn asks_for(rt: &impl Abort, alloc: Global, row: &str) -> bool {
+pub fn asks_for(rt: &impl Abort, alloc: Global, row: &str) -> bool {
     let (place, rest) = row.split_once(' ').unwrap_or(("", row));
     let (wanted, text) = rest.split_once(": ").unwrap_or(("", rest));
     let items = items_of(rt, alloc, text);
     let (what, at) = asked(rt, &items);
     what == wanted && place.parse() == Ok(at)
-}
-
-#[test]
-fn commands_by_the_table(rt: HostRuntime) {
-    for row in COMMANDS.lines() {
-        assert!(rt; asks_for(&rt, rt.alloc(), row), "{row}");
-    }
 }

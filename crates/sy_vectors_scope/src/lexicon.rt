@@ -2,6 +2,7 @@
 ghost use Rattle.std.specs.Prelude.{◌≤◌, length};
 
 use crate::second;
+use crate::tables::field;
 use std::process::Abort;
 use sy_io::Bytes;
 use sy_text::{Sexp, TextEnd, TextFault, line_column, next_command, write_sexp};
@@ -105,7 +106,7 @@ fn bytes_of(rt: &(impl Abort + AllocGlobal), letters: &str) -> Vec<u8> {
 }
 
 /// Faults, each with the letters in which it is found; `§` ends a row.
-const FAULTS: &str = "\
+pub const FAULTS: &str = "\
 Unclosed(0) (set-logic BV§\
 Unclosed(18) (set-info :source |ab§\
 Unclosed(3) (a (b§\
@@ -162,22 +163,15 @@ Stray(6) (1 2) )§\
 Stray(3) (a))";
 
 /// Whether the row tells the fault of its letters.
-fn has_fault(rt: &(impl Abort + AllocGlobal), row: &str) -> bool {
+pub fn has_fault(rt: &(impl Abort + AllocGlobal), row: &str) -> bool {
     let (fault, letters) = row.split_once(' ').unwrap_or((row, ""));
     let bytes = bytes_of(rt, letters);
     let told = told(rt, &bytes);
     told.as_str() == fault
 }
 
-#[test]
-fn faults_by_the_table(rt: HostRuntime) {
-    for row in FAULTS.split('§') {
-        assert!(rt; has_fault(&rt, row), "{row}");
-    }
-}
-
 /// Items as they are written, each with the letters from which it is read, behind `¶`; `§` ends a row.
-const SPELLINGS: &str = "\
+pub const SPELLINGS: &str = "\
 (a |b c| #x0f \"q\"\"r\" :k 1.50)¶(a |b c| #x0F \"q\"\"r\" :k 1.50)§\
 a¶|a|§\
 let¶|let|§\
@@ -213,18 +207,11 @@ fn spelled(rt: &(impl Abort + AllocGlobal), bytes: &[u8]) -> Bytes {
 }
 
 /// Whether the row tells how the item of its letters is written.
-fn is_spelled(rt: &(impl Abort + AllocGlobal), row: &str) -> bool {
+pub fn is_spelled(rt: &(impl Abort + AllocGlobal), row: &str) -> bool {
     let (text, letters) = row.split_once('¶').unwrap_or((row, ""));
     let bytes = bytes_of(rt, letters);
     let wanted = bytes_of(rt, text);
     spelled(rt, &bytes).as_slice() == wanted.as_slice()
-}
-
-#[test]
-fn spellings_by_the_table(rt: HostRuntime) {
-    for row in SPELLINGS.split('§') {
-        assert!(rt; is_spelled(&rt, row), "{row}");
-    }
 }
 
 /// Whether both readings of the bytes give the same items, places and fault.
@@ -282,12 +269,11 @@ fn each_cut_and_each_changed_byte_is_read_alike(rt: HostRuntime) {
 }
 
 /// A byte, how often it stands, and the fault of this.
-const LARGEST: [(u8, usize, &str); 4] = [
-    (b' ', 4_194_304, "none"),
-    (b'(', 1200, "Unclosed(1199)"),
-    (b'(', 1201, "TooDeep(1200)"),
-    (b'a', 4_194_304, "none"),
-];
+pub const LARGEST: &str = "\
+(|1200|Unclosed(1199)
+(|1201|TooDeep(1200)
+ |4194304|none
+a|4194304|none";
 
 /// Whether so many of the byte have this fault.
 fn have_fault(rt: &(impl Abort + AllocGlobal), byte: u8, count: usize, fault: &str) -> bool {
@@ -297,33 +283,30 @@ fn have_fault(rt: &(impl Abort + AllocGlobal), byte: u8, count: usize, fault: &s
     told.as_str() == fault
 }
 
-#[test]
-fn largest_inputs(rt: HostRuntime) {
-    for (byte, count, fault) in &LARGEST {
-        assert!(rt;
-            have_fault(&rt, *byte, *count, fault),
-            "{count} times {byte}"
-        );
-    }
+/// Whether the row's bytes have their fault.
+pub fn is_largest(rt: &(impl Abort + AllocGlobal), row: &str) -> bool {
+    let byte = row.as_bytes().first().expect(rt, "a byte");
+    let count: usize = field(row, 1).parse().unwrap_or(0);
+    have_fault(rt, *byte, count, field(row, 2))
 }
 
-/// A text, an offset, and its line and column.
-const PLACES: [(&[u8], usize, usize, usize); 5] = [
-    (b"ab\nc", 0, 1, 1),
-    (b"ab\nc", 2, 1, 3),
-    (b"ab\nc", 3, 2, 1),
-    (b"ab\nc", 4, 2, 2),
-    (b"ab\r\n\n", 5, 3, 1),
-];
+/// A text, an offset, and its line and column; `§` ends a row.
+pub const PLACES: &str = "\
+ab\nc|0|1|1§\
+ab\nc|2|1|3§\
+ab\nc|3|2|1§\
+ab\nc|4|2|2§\
+ab\r\n\n|5|3|1";
 
 /// Whether the offset of the text has this line and column.
 fn is_at(text: &[u8], at: usize, line: usize, column: usize) -> bool {
     at <= text.len() && line_column(text, at) == (line, column)
 }
 
-#[test]
-fn lines_and_columns(rt: HostRuntime) {
-    for (text, at, line, column) in &PLACES {
-        assert!(rt; is_at(text, *at, *line, *column), "{at}");
-    }
+/// Whether the row's offset has its line and column.
+pub fn is_placed(row: &str) -> bool {
+    let at: usize = field(row, 1).parse().unwrap_or(0);
+    let line: usize = field(row, 2).parse().unwrap_or(0);
+    let column: usize = field(row, 3).parse().unwrap_or(0);
+    is_at(field(row, 0).as_bytes(), at, line, column)
 }

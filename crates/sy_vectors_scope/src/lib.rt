@@ -1,15 +1,14 @@
-// Sources and sinks; texts of the lexicon, commands, grammars, files, terms, sorts and rules, each with what is read of it,
-// or the cause and the place of its refusal; replies, refusals and lines of failures as they are written out by hand.
+// Sources and sinks; texts of the lexicon, commands and grammars, each with what is read of it, or the cause and the place of
+// its refusal; refusals and lines of failures as they are written out by hand; command lines, and files that are made from
+// numbers.
 #![tactic(auto)]
 
-#[cfg(test)]
-mod answers;
 #[cfg(test)]
 mod bytes;
 #[cfg(test)]
 mod commands;
 #[cfg(test)]
-mod files;
+mod drills;
 #[cfg(test)]
 mod lexicon;
 #[cfg(test)]
@@ -17,10 +16,10 @@ mod lines;
 #[cfg(test)]
 mod pool;
 #[cfg(test)]
-mod readings;
-#[cfg(test)]
 mod rules;
 #[cfg(test)]
 mod second;
 #[cfg(test)]
-mod terms;
+mod tables;
+#[cfg(test)]
+mod words;

@@ -1,8 +1,9 @@
 // Lines as they are written out by hand.
 use std::alloc::Global;
-use sy_query::FailName;
-use sy_reply::{fail_line, refusal_text};
-use sy_scope::{Cause, Refused};
+use std::process::Abort;
+use sy_query_limits::FailName;
+use sy_reply_lines::{fail_line, refusal_text};
+use sy_scope_causes::{Cause, Refused};
 use sy_text::{Place, TextFault};
 
 /// Whether the line of command 2, refused at an offset, is this.
@@ -21,8 +22,8 @@ fn is_refusal(alloc: Global, bytes: &[u8], at: usize, cause: Cause, line: &str) 
     }
 }
 
-#[test]
-fn refusals_and_failures(rt: HostRuntime) {
+/// Whether refusals have their lines.
+pub fn are_refused(alloc: Global) -> bool {
     let file =
         b"(set-logic LIA)\n(synth-fun f () Int ((S Int)) ((S Int (170141183460469231731687303715884105728))))";
     let refusals = [
@@ -52,16 +53,24 @@ fn refusals_and_failures(rt: HostRuntime) {
             "refused: command 2 line 2 column 1 cause 16 TooMany\n",
         ),
     ];
+    let mut are_told = true;
     for (at, cause, line) in refusals {
-        assert!(rt; is_refusal(rt.alloc(), file, at, cause, line));
+        are_told &= is_refusal(alloc, file, at, cause, line);
     }
+    are_told
+}
+
+/// Whether failures have their lines.
+pub fn have_failed(rt: &impl Abort, alloc: Global) -> bool {
     let failures = [
         (1, FailName::Size, "fail: check-synth 1 Size\n"),
         (2, FailName::Range, "fail: check-synth 2 Range\n"),
         (16, FailName::Pivots, "fail: check-synth 16 Pivots\n"),
     ];
+    let mut are_told = true;
     for (check, name, line) in failures {
-        let text = fail_line(rt.alloc(), check, name).expect(&rt, "a line");
-        assert!(rt; text.as_slice() == line.as_bytes());
+        let text = fail_line(alloc, check, name).expect(rt, "a line");
+        are_told &= text.as_slice() == line.as_bytes();
     }
+    are_told
 }

@@ -1,11 +1,12 @@
 // What a pool over integers keeps.
+use std::alloc::Global;
+use std::process::Abort;
 use sy_meaning_integers::IntTheory;
 use sy_scope_pool::Pool;
 use sy_terms::Value;
 
-/// Each value stands once, in the order in which it came first.
-#[test]
-fn values_stand_once_in_order(rt: HostRuntime) {
+/// Whether each value stands once, in the order in which it came first.
+pub fn is_in_order(rt: &impl Abort, alloc: Global) -> bool {
     let rows: [(&[Value<i128>], &[Value<i128>]); 4] = [
         (&[], &[]),
         (
@@ -32,10 +33,13 @@ fn values_stand_once_in_order(rt: HostRuntime) {
             ],
         ),
     ];
-    let mut pool = Pool::<IntTheory>::new(rt.alloc());
+    let mut pool = Pool::<IntTheory>::new(alloc);
+    let mut is_in_order = true;
     for (added, all) in rows {
-        pool.add(added).expect(&rt, "room");
-        let values = pool.values(rt.alloc()).expect(&rt, "a list");
-        assert!(rt; values.as_slice() == all);
+        pool.add(added).expect(rt, "room");
+        let values = pool.values(alloc).expect(rt, "a list");
+        is_in_order &= values.as_slice() == all;
     }
+    drop(pool);
+    is_in_order
 }

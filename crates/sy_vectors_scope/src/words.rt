@@ -5,7 +5,7 @@ use sygus_words::{Mode, Settings, WordFault, read_words};
 
 /// Command lines, each behind what it asks for: the mode, the limits of size, rounds, points, bank, weight, clauses, nodes
 /// and pivots, and the file.
-const LINES: &str = "\
+pub const LINES: &str = "\
 solve 12 256 512 20000 400000 100000 4000 10000 f.sl|sygus f.sl
 solve 12 256 512 20000 400000 100000 4000 10000 f.sl|other f.sl
 solve 12 256 512 20000 400000 100000 4000 10000 -|sygus -
@@ -130,7 +130,7 @@ fn told(rt: &impl Abort, alloc: Global, line: &str) -> String {
 }
 
 /// Whether the row tells what its line asks for.
-fn is_told(rt: &impl Abort, alloc: Global, row: &str) -> bool {
+pub fn is_told(rt: &impl Abort, alloc: Global, row: &str) -> bool {
     let (wanted, line) = row.split_once('|').unwrap_or(("", row));
     let told = told(rt, alloc, line);
     told.as_str() == wanted
@@ -143,21 +143,22 @@ fn is_refused(rt: &impl Abort, alloc: Global, name: &str, behind: &str) -> bool 
     told.as_str() == "refused"
 }
 
-#[test]
-fn lines_by_the_table(rt: HostRuntime) {
-    for row in LINES.lines() {
-        assert!(rt; is_told(&rt, rt.alloc(), row), "{row}");
-    }
-}
+/// Options, each with a number for its value.
+pub const OPTIONS: &str = "\
+size
+rounds
+points
+bank
+weight
+clauses
+nodes
+pivots";
 
-#[test]
-fn other_spellings_of_a_value(rt: HostRuntime) {
-    for name in "size rounds points bank weight clauses nodes pivots".split(' ') {
-        for spelling in ",0,+1,-1,01,1.0,one".split(',') {
-            assert!(rt;
-                is_refused(&rt, rt.alloc(), name, spelling),
-                "{name} {spelling}"
-            );
-        }
+/// Whether other spellings of a value are refused behind the option.
+pub fn are_refused(rt: &impl Abort, alloc: Global, name: &str) -> bool {
+    let mut are_refused = true;
+    for spelling in ",0,+1,-1,01,1.0,one".split(',') {
+        are_refused &= is_refused(rt, alloc, name, spelling);
     }
+    are_refused
 }
