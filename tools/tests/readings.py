@@ -20,6 +20,7 @@ FRAMES = {
     "assumptions": (VARIABLES + "(assume (= x ", "))"),
     "integer_sorts": ("(set-logic LIA)(define-sort N Bool)(declare-var v ", ")"),
     "vector_sorts": ("(set-logic BV)(define-sort N Bool)(declare-var v ", ")"),
+    "grammars": ("(set-logic LIA)(synth-fun f ", ")"),
     "rules": ("(set-logic LIA)(define-sort N Int)(declare-var x Int)(define-fun g ((a Int)) Int a)(synth-fun f ((a Int) (e Int)) Int)"
               "(synth-fun h ((u Int)) Int ((I Int) (C Int)) ((I Int (u ", ")) (C Int ((Constant Int)))))"),
 }

@@ -1,9 +1,10 @@
 """Whole runs of the program, with what each leaves: its status, its output and its error output.
 
 The tables are runs/*.txt. A row is a command line behind `$`, in the folder runs/, then the lines of its input behind `<`,
-those of its output behind `>`, those of its error output behind `!`, and its status behind `=`. Beside them stand files at
-each limit and one above it, files that are cut off anywhere, inputs that give one byte a read or fail after any byte, and
-outputs that take no more than so many bytes; and what is read of files (readings.py).
+those of its output behind `>`, those of its error output behind `!`, and its status behind `=`. Beside them stand command
+lines alone (command_lines.txt: what comes of each, a colon, and its words), files at each limit and one above it, files that
+are cut off anywhere, inputs that give one byte a read or fail after any byte, and outputs that take no more than so many
+bytes; and what is read of files (readings.py).
 """
 import os
 import pathlib
@@ -29,6 +30,9 @@ ANSWERED = [("vector_next.sl", [], NEXT), ("max.sl", ["--size", "3"], GREATER)]
 # The answers to the files that drills make of these numbers.
 DRILLED = {0: NEXT, 128: "(\n(define-fun f ((x (_ BitVec 8))) (_ BitVec 8) (ite (bvult x #x80) (bvnot x) (bvadd x #x01)))\n)\n"}
 UNREAD = (4, "", "fault: read\n")
+REFUSED = (3, "", "refused: words\n")
+# Spellings that no option with a number takes.
+MISSPELT = ["", "0", "+1", "-1", "01", "1.0", "one"]
 # Runs whose error output takes nothing: words, the input, and what is left.
 UNTOLD = [
     (["--size", "2", "vector_next.sl"], "", (5, "fail\n")),
@@ -66,6 +70,24 @@ def tables(program):
 def drilled(program):
     for number, answer in DRILLED.items():
         yield f"the file of drill {number}", run(program, ["-"], input=drill.file_of(number)) == (0, answer, "")
+
+
+def asked():
+    """Command lines in a folder without the file that they name, and what comes of each; one that reads its input finds none."""
+    for row in (RUNS.parent / "command_lines.txt").read_text().splitlines():
+        told, _, line = row.partition(": ")
+        yield told, line.split(" ")
+    for name in "size rounds points bank weight clauses nodes pivots".split():
+        for spelling in MISSPELT:
+            yield "refused", ["sygus", f"--{name}", spelling, "f.sl"]
+
+
+def command_lines(program):
+    wanted = {"unread": UNREAD, "refused": REFUSED, "nothing": (0, "", "")}
+    for told, line in asked():
+        ended = subprocess.run(line, executable=program, cwd=RUNS, input="", text=True, capture_output=True)
+        left = ended.returncode, ended.stdout, ended.stderr
+        yield " ".join(line), left[1].startswith(f"{told}: ") if told.startswith("drill") else left == wanted[told]
 
 
 def refusal(place, cause):
@@ -204,6 +226,6 @@ def untold(program):
 
 
 def tests(program):
-    for part in (tables, drilled, limits, cut_off, unread, slow, unwritten, untold):
+    for part in (tables, drilled, command_lines, limits, cut_off, unread, slow, unwritten, untold):
         yield from part(program)
     yield from readings.tests(run, program)

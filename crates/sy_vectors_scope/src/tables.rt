@@ -1,5 +1,5 @@
 // The tables, row by row.
-use crate::{bytes, commands, drills, lexicon, lines, pool, rules, words};
+use crate::{bytes, drills, lexicon, pool};
 use std::process::Abort;
 
 /// The field of this number, with bars between them; the empty text where the row has fewer.
@@ -8,16 +8,12 @@ pub fn field(row: &str, number: usize) -> &str {
 }
 
 /// All tables: their names, what stands between rows, and these.
-const TABLES: [(&str, char, &str); 11] = [
+const TABLES: [(&str, char, &str); 7] = [
     ("sources", '\n', bytes::SOURCES),
     ("faults", '§', lexicon::FAULTS),
     ("spellings", '§', lexicon::SPELLINGS),
     ("largest texts", '\n', lexicon::LARGEST),
     ("places", '§', lexicon::PLACES),
-    ("commands", '\n', commands::COMMANDS),
-    ("grammars", '\n', rules::GRAMMARS),
-    ("command lines", '\n', words::LINES),
-    ("options", '\n', words::OPTIONS),
     ("drills", '~', drills::FILES),
     ("others", '\n', OTHERS),
 ];
@@ -26,8 +22,6 @@ const TABLES: [(&str, char, &str); 11] = [
 const OTHERS: &str = "\
 a source that can't fail
 sinks
-lines of failures
-lines of refusals
 a pool";
 
 /// Whether this holds.
@@ -35,8 +29,6 @@ fn holds(rt: &(impl Abort + AllocGlobal), row: &str) -> bool {
     match row {
         "a source that can't fail" => bytes::is_sure(rt),
         "sinks" => bytes::are_written(rt),
-        "lines of failures" => lines::have_failed(rt, rt.alloc()),
-        "lines of refusals" => lines::are_refused(rt.alloc()),
         "a pool" => pool::is_in_order(rt, rt.alloc()),
         _ => false,
     }
@@ -50,10 +42,6 @@ fn is_right(rt: &(impl Abort + AllocGlobal), table: &str, row: &str) -> bool {
         "spellings" => lexicon::is_spelled(rt, row),
         "largest texts" => lexicon::is_largest(rt, row),
         "places" => lexicon::is_placed(row),
-        "commands" => commands::asks_for(rt, rt.alloc(), row),
-        "grammars" => rules::is_right(rt, rt.alloc(), row),
-        "command lines" => words::is_told(rt, rt.alloc(), row),
-        "options" => words::are_refused(rt, rt.alloc(), row),
         "drills" => drills::is_begun(rt, rt.alloc(), row),
         "others" => holds(rt, row),
         _ => false,
