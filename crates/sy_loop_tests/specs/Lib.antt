@@ -1,3 +1,1 @@
 pub mod Integers
-pub mod Posed
-pub mod Small

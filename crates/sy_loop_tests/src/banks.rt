@@ -2,8 +2,7 @@
 
 use crate::parts::nonterminals;
 use crate::points::{points, value};
-use crate::posed::one;
-use crate::rows::{field, number};
+use crate::rows::{field, number, one};
 use std::alloc::Global;
 use std::process::Abort;
 use sy_bank::{Bank, BankEnd, build};

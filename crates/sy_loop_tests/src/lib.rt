@@ -1,14 +1,10 @@
-// Tests of queries, of banks and of the search, in a crate of their own, so that what they stand on is read and proved once.
+// Tests of banks and of parts of the search, in a crate of their own, so that what they stand on is read and proved once.
 #![tactic(auto)]
 
 #[cfg(test)]
 mod banks;
 #[cfg(test)]
-mod candidates;
-#[cfg(test)]
 mod combinations;
-#[cfg(test)]
-mod outcomes;
 #[cfg(test)]
 mod part_rows;
 #[cfg(test)]
@@ -18,17 +14,11 @@ mod points;
 #[cfg(test)]
 mod pointwise;
 #[cfg(test)]
-mod posed;
-#[cfg(test)]
-mod queries;
-#[cfg(test)]
 mod refutations;
 #[cfg(test)]
 mod rows;
 #[cfg(test)]
 mod shared_terms;
-#[cfg(test)]
-mod solver;
 #[cfg(test)]
 mod terms;
 #[cfg(test)]

@@ -12,7 +12,7 @@ ghost use Rattle.sy_loop_tests.specs.Integers.{IsInteger};
 
 use crate::parts::{cut, part};
 use crate::points::points;
-use crate::posed::one;
+use crate::rows::one;
 use std::alloc::Global;
 use std::process::Abort;
 use std::rc::Rc;

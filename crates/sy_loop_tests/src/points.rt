@@ -4,7 +4,7 @@ ghost use Rattle.sy_terms.specs.Denoted.{val_of, vals_of};
 ghost use Rattle.sy_terms.specs.Theories.{valid, sort_of_value};
 ghost use Rattle.sy_bank.specs.Rows.{ArePointsOf};
 
-use crate::posed::one;
+use crate::rows::one;
 use std::alloc::Global;
 use std::process::Abort;
 use sy_terms::{Seq, Sort, Theory, Value, Values};

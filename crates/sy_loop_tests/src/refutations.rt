@@ -5,8 +5,7 @@ ghost use Rattle.sy_terms.specs.declared.sort.Value.TheVariants.{Truth};
 ghost use Rattle.sy_terms.specs.declared.term.Term.{Const};
 ghost use Rattle.sy_grammar_base.specs.Fits.{ProblemFits};
 
-use crate::posed::one;
-use crate::rows::field;
+use crate::rows::{field, one};
 use std::alloc::Global;
 use std::process::Abort;
 use sy_bank_rows::Kept;

@@ -1,7 +1,7 @@
 // Terms over the variables `x`, `y` and `z`, as texts: a character for each node, which stands before its arguments.
 use std::alloc::Global;
 use std::process::Abort;
-use sy_terms::{Fun, Op, Sort, Term, Terms, Theory, Value};
+use sy_terms::{Fun, Op, Term, Terms, Theory};
 
 /// The operator of this sign, and how many arguments it has here.
 pub(crate) fn operator(sign: u8) -> Option<(Op, usize)> {
@@ -9,10 +9,6 @@ pub(crate) fn operator(sign: u8) -> Option<(Op, usize)> {
         b'=' => Some((Op::Equal, 2)),
         b'D' => Some((Op::Distinct, 2)),
         b'O' => Some((Op::Or, 2)),
-        b'?' => Some((Op::Ite, 3)),
-        b'+' => Some((Op::Add, 2)),
-        b'<' => Some((Op::Lt, 2)),
-        b'>' => Some((Op::Gt, 2)),
         b'L' => Some((Op::Le, 2)),
         b'G' => Some((Op::Ge, 2)),
         b'-' => Some((Op::BvNeg, 1)),
@@ -45,17 +41,8 @@ fn arguments<T: Theory>(
     terms
 }
 
-/// The integer; `x` over vectors.
-fn integer<T: Theory>(number: i128) -> Term<T> {
-    match T::of_number(Sort::Int, number) {
-        Some(number) => Term::Const(Value::Num(number)),
-        None => Term::Var(0),
-    }
-}
-
-/// The node of a sign, whose arguments are the last terms: `t` and `n` are true and false, a digit is itself, `M` is the
-/// greatest integer of 128 bits; `f` calls the function to be found, at so many arguments; `B` binds one term, and the
-/// others are operators.
+/// The node of a sign, whose arguments are the last terms: `f` calls the function to be found, at so many arguments; `B` binds
+/// one term, and the others are operators.
 fn node<T: Theory>(
     rt: &impl Abort,
     alloc: Global,
@@ -65,9 +52,6 @@ fn node<T: Theory>(
 ) -> Term<T> {
     match sign {
         b'x'..=b'z' => Term::Var(u32::from(sign - b'x')),
-        b't' | b'n' => Term::Const(Value::Truth(sign == b't')),
-        b'0'..=b'9' => integer::<T>(i128::from(sign - b'0')),
-        b'M' => integer::<T>(i128::MAX),
         b'f' => Term::Call(
             Fun::Wanted(0),
             arguments(rt, alloc, stack, arguments_of_call),

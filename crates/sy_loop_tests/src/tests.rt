@@ -1,26 +1,18 @@
 // The rows of all tables.
 use crate::rows::field;
-use crate::{
-    banks, candidates, combinations, outcomes, part_rows, pointwise, queries, refutations,
-    shared_terms,
-};
+use crate::{banks, combinations, part_rows, pointwise, refutations, shared_terms};
 use std::alloc::Global;
 use std::process::Abort;
 use sy_meaning::{BvTheory, IntTheory};
 use sy_terms::Sort;
 
 /// All tables. The first field of a row says what it is about.
-const TABLES: [&str; 11] = [
+const TABLES: [&str; 6] = [
     banks::INTEGERS,
     banks::VECTORS,
     banks::BYTES,
-    candidates::ROWS,
     combinations::ROWS,
-    outcomes::CAUSES,
-    outcomes::SEARCHES,
     pointwise::ROWS,
-    queries::CONSTANTS,
-    queries::WEIGHTS,
     refutations::ROWS,
 ];
 
@@ -30,14 +22,9 @@ fn is_right(rt: &impl Abort, alloc: Global, row: &str) -> bool {
         "bank of integers" => banks::is_right::<IntTheory>(rt, alloc, Sort::Int, "7 -6", row),
         "bank of four bits" => banks::is_right::<BvTheory>(rt, alloc, Sort::Bits(4), "", row),
         "bank of bytes" => banks::is_right::<BvTheory>(rt, alloc, Sort::Bits(8), "", row),
-        "candidate" => candidates::is_right(rt, alloc, row),
-        "cause" => outcomes::is_named(alloc, row),
         "combination" => combinations::is_right(rt, alloc, row),
-        "constant" => queries::is_decided(rt, alloc, row),
         "pointwise" => pointwise::is_right(rt, alloc, row),
         "refutation" => refutations::is_right(rt, alloc, row),
-        "search" => outcomes::is_ended(rt, alloc, row),
-        "weight" => queries::is_weighed(rt, alloc, row),
         _ => false,
     }
 }
