@@ -6,6 +6,7 @@ use Rattle.clap.specs.Words.{App, Rule, Text, fault_of, first_of, matches_of, ne
 use Rattle.clap.specs.Simple.{new_shape}
 use Rattle.clap.specs.declared.builder.ArgAction.TheVariants.{Set}
 use Rattle.sy_query_limits.specs.declared.Limits.{Limits}
+use Rattle.sygus_numbers.specs.Numbers.{LimitIs}
 use Rattle.sygus_words.specs.declared.settings.Mode.{Mode}
 use Rattle.sygus_words.specs.declared.settings.Mode.TheVariants.{Solve, Least, Drill}
 use Rattle.sygus_words.specs.declared.settings.Settings.{Settings}
@@ -31,11 +32,6 @@ sygus = record {
   };
   subs = [];
 }
-
--- n is the default where the option isn't there, and otherwise the number of which the text is the decimal spelling, from 1 to greatest
-abbrev pub LimitIs : ℕ → ℕ → Option Text → ℕ → Type 0
-LimitIs default greatest None n = n ≡ default
-LimitIs default greatest (Some text) n = (text ≡ decimal n) × (1 ≤ n) × (n ≤ greatest)
 
 -- the greatest number that mode `drill` takes
 abbrev pub greatest_drill : ℕ

@@ -3,7 +3,8 @@ ghost use Rattle.std.specs.Prelude.{◌≡◌, ◌≤◌, ◌<◌, ◌^◌, ℕ,
 ghost use Rattle.std.specs.Fmt.{decimal};
 ghost use Rattle.std.specs.String.{string_bytes};
 ghost use Rattle.clap.specs.Words.{fault_of, first_value, found_of, matches_of, rows_of};
-ghost use Rattle.sygus_words.specs.CommandLine.{sygus, greatest_drill, LimitIs, DrillIs, ModeIs, AreLimits, AreSettings, IsReading, WordsAreRefused};
+ghost use Rattle.sygus_numbers.specs.Numbers.{LimitIs};
+ghost use Rattle.sygus_words.specs.CommandLine.{sygus, greatest_drill, DrillIs, ModeIs, AreLimits, AreSettings, IsReading, WordsAreRefused};
 ghost use Rattle.sygus_words.specs.declared.settings.Settings.{Settings};
 ghost use Rattle.sygus_words.specs.declared.settings.WordFault.TheVariants.{Refused};
 ghost use Rattle.sygus_words.specs.declared.settings.Mode.{Mode};
@@ -15,37 +16,14 @@ use clap::ArgMatches;
 use clap::error::ErrorKind;
 use std::alloc::Global;
 use sy_query_limits::Limits;
-
-/// The number from 1 to `greatest` that the text is the decimal spelling of, without sign and leading zeros.
-fn number(text: &str, greatest: u32) -> Option<u32>
-    ensures { MatchOption result ((n : ℕ) → text.now ≡ decimal n → 1 ≤ n → n ≤ greatest → ⊥)
-        (λ n. (text.now ≡ decimal n) × (1 ≤ n) × (n ≤ greatest)) }
-{
-    let [first, ..] = text.as_bytes() else {
-        return None;
-    };
-    if *first <= b'0' {
-        return None;
-    }
-    let Ok(number) = text.parse::<u32>() else {
-        return None;
-    };
-    if number <= greatest {
-        Some(number)
-    } else {
-        None
-    }
-}
+use sygus_numbers::{limit_of, number};
 
 /// The value of an option, from 1 to `greatest`, or its default.
 fn limit(matches: &ArgMatches<'_>, name: &str, default: u32, greatest: u32) -> Option<u32>
     ensures { MatchOption result ((n : ℕ) → LimitIs default greatest (first_value (found_of matches.now) name.now) n → ⊥)
         (λ n. LimitIs default greatest (first_value (found_of matches.now) name.now) n) }
 {
-    match matches.get_str(name) {
-        Some(text) => number(text, greatest),
-        None => Some(default),
-    }
+    limit_of(matches.get_str(name), default, greatest)
 }
 
 /// The limits, each by its option.

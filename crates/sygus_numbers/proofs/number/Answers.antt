@@ -3,7 +3,7 @@ use Rattle.std.specs.Fmt.{decimal}
 use Rattle.std.specs.Str.Parse.{AllDigits, digits_value, without_leading_plus, ParsesUnsigned}
 use Rattle.std.proofs.lemmas.Fmt.{parse-decimal, first_decimal, decimal_digit, decimal_nonempty, decimal-digits_value}
 use Rattle.std.proofs.lemmas.Str.Parse.{numerals_by_value, tells_digits, without_leading_plus_none}
-use Rattle.sygus_words.proofs.words.number.Goals as goal
+use Rattle.sygus_numbers.proofs.number.Goals as goal
 
 below : (n greatest : ℕ) → n ≤ greatest → greatest < 2 ^ 32 → (n < 2 ^ 32) × (n < 2 ^ 64)
 below n greatest le lt = (omega (arith, le, lt), omega (arith, le, lt))
