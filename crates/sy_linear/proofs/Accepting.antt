@@ -12,6 +12,7 @@ use Rattle.std.proofs.lemmas.Bool.{ltb-true, le-ltb}
 use Rattle.sy_frac.specs.Fraction.{Fraction, IsLowest, IsQuotient, sum_over}
 use Rattle.sy_frac.specs.Rational.{ℚ, 0ℚ, ◌+ℚ◌, ◌*ℚ◌, over, value, is_negative_rational, over_same, over_negative, value_sum, value_product, sum_over_is, product_over_is, +ℚ_cancel, zero-+ℚ, *ℚ-+ℚ, not_negative_times, whole_not_negative}
 use Rattle.sy_frac.proofs.Quotients.{product_nonzero, mul-positive}
+use Rattle.sy_frac_kinds.specs.Kinds.{is_multiplier}
 use Rattle.sy_linear_forms.specs.declared.form.Form.{Form}
 use Rattle.sy_linear_forms.specs.Forms.{Coefficient}
 use Rattle.sy_linear_known.specs.Trees as tree
@@ -19,7 +20,7 @@ use Rattle.sy_linear_known.specs.Trees.{whole_ℚ, Weight, rationals, combined_w
 use Rattle.sy_linear.specs.declared.combination.Share.{Share}
 use Rattle.sy_linear.specs.declared.combination.Combination.{Combination}
 use Rattle.sy_linear.specs.Exact.{whole_fits, lowest, exact, checked_whole, fraction_sum, fraction_product, whole_multiple, checked_plus_multiple, fraction_quotient, over_whole, floor}
-use Rattle.sy_linear.specs.Combining.{has_whole_weight, divided_shares, divided, numerators, rounded, is_multiplier, are_multipliers, share_before, plus_coefficients, of_parts, checked_plus_form, forms_folded, empty_combination, checked_combination, is_zero, is_negative_constant}
+use Rattle.sy_linear.specs.Combining.{has_whole_weight, divided_shares, divided, numerators, rounded, are_multipliers, share_before, plus_coefficients, of_parts, checked_plus_form, forms_folded, empty_combination, checked_combination, is_zero, is_negative_constant}
 use Rattle.sy_linear.proofs.Lowest.{lowest_is, fits_to, left_true, right_true, positive_nonzero, whole_nonzero, euclid_low, euclid_high}
 
 -- ---- operations

@@ -13,6 +13,7 @@ use borrow.Author.Differences.{ints, same_in, at_most_in}
 use Rattle.sy_frac.specs.Fraction.{Fraction, IsLowest}
 use Rattle.sy_frac.specs.Rational.{ℚ, 0ℚ, ◌+ℚ◌, ◌*ℚ◌, over, value, is_negative_rational, over_negative, sum_over_is, product_over_is, zero_not_negative, not_negative_plus, whole_not_negative, +ℚ_assoc, zero-*ℚ, one-*ℚ, *ℚ_assoc, over_same, one_over}
 use Rattle.sy_frac.proofs.Quotients.{product_nonzero, abs-product}
+use Rattle.sy_frac_kinds.specs.Kinds.{is_multiplier}
 use Rattle.sy_terms.specs.declared.sort.Sort.{Sort}
 use Rattle.sy_terms.specs.declared.sort.Sort.TheVariants as sorts
 use Rattle.sy_linear_forms.specs.declared.form.Form.{Form}
@@ -31,7 +32,7 @@ use Rattle.sy_linear_known.proofs.Refutation.{whole_plus, whole_zero, product_no
 use Rattle.sy_linear.specs.declared.combination.Share.{Share}
 use Rattle.sy_linear.specs.declared.combination.Combination.{Combination}
 use Rattle.sy_linear.specs.Exact.{over_whole, is_whole, floor}
-use Rattle.sy_linear.specs.Combining.{is_multiplier, are_multipliers, share_before, checked_combination, is_zero, is_negative_constant, of_parts, divided_shares, divided, has_whole_weight, numerators, rounded}
+use Rattle.sy_linear.specs.Combining.{are_multipliers, share_before, checked_combination, is_zero, is_negative_constant, of_parts, divided_shares, divided, has_whole_weight, numerators, rounded}
 use Rattle.sy_linear.specs.Judging.{Judgement, Accepted, Broken, Unfit, Adds, Fails, Leaves, judged_in_turn, after_node, size, is_int, is_bool, has_int, suits, opposite_fits, rounded_outcome, added_form, divided_combination, of_combination, shown_judged, judged}
 use Rattle.sy_linear.proofs.Accepting.{Means, MeansIf, combination_means, weights_of, AllPositive, Divides, over_whole_divides, some_same, whole_times, negative_times, times_neg, cut}
 

@@ -1,9 +1,10 @@
 -- Combinations of forms by fractions, folded form by form.
-use Rattle.std.specs.Prelude.{ℕ, ◌&&◌, Bool, cond, List, [], ◌∷◌, ◌++◌, length, not, ℤ, pos, int_lt, nat_lt, nat_eq, Option, Some, None}
+use Rattle.std.specs.Prelude.{ℕ, ◌&&◌, Bool, cond, List, [], ◌∷◌, ◌++◌, length, ℤ, pos, int_lt, nat_lt, nat_eq, Option, Some, None}
 use Rattle.std.specs.List.{list_all}
 use Rattle.std.specs.Option.{option_and_then}
 use Rattle.std.specs.Ordering.{int_eq}
 use Rattle.sy_frac.specs.Fraction.{Fraction}
+use Rattle.sy_frac_kinds.specs.Kinds.{is_multiplier}
 use Rattle.sy_linear_forms.specs.declared.form.Form.{Form}
 use Rattle.sy_linear_forms.specs.Forms.{Coefficient, before}
 use Rattle.sy_linear.specs.declared.combination.Share.{Share}
@@ -11,10 +12,6 @@ use Rattle.sy_linear.specs.declared.combination.Combination.{Combination}
 use Rattle.sy_linear.specs.Exact.{whole_multiple, checked_plus_multiple, over_whole, floor, is_whole}
 
 -- ---- multipliers
--- a fraction that isn't negative
-abbrev pub is_multiplier : Fraction → Bool
-is_multiplier m = not (int_lt m.num (pos 0)) && nat_lt 0 m.den
-
 -- one multiplier for each form
 abbrev pub are_multipliers : List Fraction → List Form → Bool
 are_multipliers ms fs = nat_eq (length ms) (length fs) && list_all is_multiplier ms

@@ -1,6 +1,7 @@
 // Combinations of forms by fractions.
 ghost use Rattle.std.specs.Prelude.{◌≡◌, ◌≤ℤ◌, ◌+◌, ◌<◌, ◌^◌, ◌++◌, length, List, pos, [], true, false, IfOk, OnOk, IsErrOf, Option, Some, None};
 ghost use Rattle.std.specs.List.{list_all};
+ghost use Rattle.sy_frac_kinds.specs.Kinds as kinds;
 ghost use Rattle.sy_linear_forms.specs.Forms.{before};
 ghost use Rattle.sy_linear_known.specs.Trees.{forms};
 ghost use Rattle.sy_linear.specs.Combining as spec;
@@ -8,6 +9,7 @@ ghost use Rattle.sy_linear.specs.Combining as spec;
 use crate::exact::{floor, is_whole, multiple, over_whole, plus_multiple};
 use std::alloc::Global;
 use sy_frac::Frac;
+use sy_frac_kinds::is_multiplier;
 use sy_linear_forms::{Form, FormEnd};
 use sy_linear_known::Fact;
 use sy_seq::{Seq, Want};
@@ -26,16 +28,9 @@ pub(crate) struct Combination {
     pub(crate) constant: Frac,
 }
 
-/// Whether the fraction isn't negative.
-fn is_multiplier(fraction: &Frac) -> bool
-    ensures { result ≡ spec.is_multiplier fraction.now }
-{
-    fraction.num() >= 0
-}
-
-/// Whether all of the fractions are so.
+/// Whether none of the fractions is negative.
 fn all_multipliers(fractions: &[Frac]) -> bool
-    ensures { result ≡ list_all spec.is_multiplier fractions.now }
+    ensures { result ≡ list_all kinds.is_multiplier fractions.now }
 {
     fractions.iter().all(|fraction| is_multiplier(fraction))
 }
