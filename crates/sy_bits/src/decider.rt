@@ -9,10 +9,9 @@ ghost use Rattle.sy_bits.specs.Proofs as proofs;
 ghost use Rattle.sy_bits.specs.Soundness.{sound};
 
 use crate::answers::{BvProof, BvSpent};
-use crate::clauses::circuit_of;
-use crate::room::countable_size;
 use std::alloc::{AllocError, Global};
 use sy_bits_circuit::Circuit;
+use sy_bits_clauses::{circuit_of, countable_size};
 use sy_cdcl::{Solved, solve};
 use sy_meaning_words::BvTheory;
 use sy_query_base::Query;

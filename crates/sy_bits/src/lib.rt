@@ -2,12 +2,9 @@
 #![tactic(auto)]
 
 mod answers;
-mod clauses;
 mod decider;
-mod fitting;
-mod room;
 
 pub use answers::{BvProof, BvSpent};
 pub use decider::BvDecide;
-pub use fitting::fits;
 pub use sy_bits_circuit::{Circuit, blast};
+pub use sy_bits_clauses::fits;

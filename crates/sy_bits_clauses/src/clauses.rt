@@ -1,10 +1,10 @@
 // The circuit whose clauses are searched: the query's own, or that of a query which is easier to search.
-ghost use Rattle.std.specs.Prelude.{◌≡◌, ◌≤◌, ◌<◌, ◌*◌, ◌^◌, ◌↔◌, List, length, IfOk, IfSome, IsTrue};
-ghost use Rattle.sy_terms.specs.Values.{Val};
-ghost use Rattle.sy_query_base.specs.Asked.{query_of, QueryFits, Satisfies};
+ghost use Rattle.std.specs.Prelude.{◌≡◌, ◌≤◌, ◌<◌, ◌*◌, ◌^◌, ◌↔◌, length, IfOk, IfSome, IsTrue};
+ghost use Rattle.sy_query_base.specs.Asked.{query_of, QueryFits};
 ghost use Rattle.sy_meaning_words.specs.Vectors.{vector, owned, is_bits};
 ghost use Rattle.sy_cdcl.specs.Answer.{VarsFit};
 ghost use Rattle.sy_bits_laws.specs.Clauses.{HasCircuitClauses, query_size};
+ghost use Rattle.sy_bits_clauses.specs.Alike.{SpeaksFor};
 
 use crate::fitting::fits;
 use crate::room::countable_size;
@@ -33,10 +33,11 @@ const MOST_NAMED: u64 = 16;
 /// The most variables and clauses for each unit of a query's size.
 const MOST_EACH: u64 = 1000;
 
-/// A circuit whose clauses say what the query of this size says: that of the query which `rewritten` makes of it, where it
-/// has no more variables and clauses than the query's own circuit may have, and else the query's own. Where the query gets too
-/// large with small terms in the places of their names, constants and variables alone are written there.
-pub(crate) fn circuit_of(alloc: Global, query: &Query<BvTheory>, size: u32) -> Result<Circuit, Want>
+/// A circuit whose clauses say what the query of this size says: that of a query which the same values satisfy and which is
+/// easier to search, where it has no more variables and clauses than the query's own may have, and else the query's own.
+/// Where the query gets too large with small terms in the places of their names, constants and variables alone are written
+/// there.
+pub fn circuit_of(alloc: Global, query: &Query<BvTheory>, size: u32) -> Result<Circuit, Want>
     requires fits { QueryFits owned is_bits (query_of vector query.now) }
     requires size { size ≡ query_size (query_of vector query.now) }
     requires room { 1000 * query_size (query_of vector query.now) < 2 ^ 31 }
@@ -56,7 +57,8 @@ pub(crate) fn circuit_of(alloc: Global, query: &Query<BvTheory>, size: u32) -> R
     Ok(circuit)
 }
 
-/// The circuit of the query that `rewritten` makes of one of this size, where it is small enough.
+/// The circuit of what is written for a query of this size, where it is small enough. What is written is let go of by a call,
+/// here and below, since a proof walks through all that a term may be wherever one goes out of scope.
 fn rewritten_circuit(
     alloc: Global,
     query: &Query<BvTheory>,
@@ -69,35 +71,64 @@ fn rewritten_circuit(
     ensures vars { IfOk result (λ found. IfSome found (λ circuit. VarsFit circuit.clauses)) }
 {
     let first = ordered(alloc, query, named)?;
-    if first.body.size(MOST_WRITTEN + 1) > MOST_WRITTEN {
+    let found = normal_circuit(alloc, &first, size);
+    drop(first);
+    found
+}
+
+/// The same of a query in which equal terms are written alike, where this one isn't too large.
+fn normal_circuit(
+    alloc: Global,
+    query: &Query<BvTheory>,
+    size: u32,
+) -> Result<Option<Circuit>, Want>
+    ensures speaks { IfOk result (λ found. IfSome found (SpeaksFor (query_of vector query.now) size)) }
+    ensures vars { IfOk result (λ found. IfSome found (λ circuit. VarsFit circuit.clauses)) }
+{
+    if query.body.size(MOST_WRITTEN + 1) > MOST_WRITTEN {
         return Ok(None);
     }
-    let other = rewritten(alloc, &first)?;
-    if !fits(alloc, &other)? {
+    let normal = normal_query(alloc, query)?;
+    let found = settled_circuit(alloc, &normal, size);
+    drop(normal);
+    found
+}
+
+/// The same of a query in which the comparisons are settled that sums decide.
+fn settled_circuit(
+    alloc: Global,
+    query: &Query<BvTheory>,
+    size: u32,
+) -> Result<Option<Circuit>, Want>
+    ensures speaks { IfOk result (λ found. IfSome found (SpeaksFor (query_of vector query.now) size)) }
+    ensures vars { IfOk result (λ found. IfSome found (λ circuit. VarsFit circuit.clauses)) }
+{
+    let settled = settled_query(alloc, query)?;
+    let found = small_circuit(alloc, &settled, size);
+    drop(settled);
+    found
+}
+
+/// The query's circuit, where it has no more variables and clauses than that of a query of this size may have.
+fn small_circuit(alloc: Global, query: &Query<BvTheory>, size: u32) -> Result<Option<Circuit>, Want>
+    ensures speaks { IfOk result (λ found. IfSome found (SpeaksFor (query_of vector query.now) size)) }
+    ensures vars { IfOk result (λ found. IfSome found (λ circuit. VarsFit circuit.clauses)) }
+{
+    if !fits(alloc, query)? {
         return Ok(None);
     }
-    let Some(large) = countable_size(alloc, &other)? else {
+    let Some(large) = countable_size(alloc, query)? else {
         return Ok(None);
     };
     if large > size.saturating_mul(MOST_TIMES) {
         return Ok(None);
     }
-    let circuit = blast(alloc, &other)?;
+    let circuit = blast(alloc, query)?;
     if !is_within(circuit.cnf(), size) {
+        drop(circuit);
         return Ok(None);
     }
     Ok(Some(circuit))
-}
-
-/// A query that the same values satisfy and that is easier to search: equal terms are written alike in it, and the comparisons
-/// settled that sums decide.
-fn rewritten(alloc: Global, query: &Query<BvTheory>) -> Result<Query<BvTheory>, Want>
-    ensures variables { IfOk result (λ other. other.vars ≡ query.now.vars) }
-    ensures same { IfOk result (λ other. (values : List Val) → Satisfies (query_of vector other) values ↔ Satisfies (query_of vector query.now) values) }
-{
-    let first = normal_query(alloc, query)?;
-    let other = settled_query(alloc, &first)?;
-    Ok(other)
 }
 
 /// Whether there are at most so many variables and clauses as a query of this size may have.

@@ -40,7 +40,7 @@ fn room_after(sorts: &[Sort], room: u32) -> Option<u32>
 }
 
 /// The query's size, where the variables and the clauses of its circuit are sure to be fewer than 2^31 each.
-pub(crate) fn countable_size(alloc: Global, query: &Query<BvTheory>) -> Result<Option<u32>, Want>
+pub fn countable_size(alloc: Global, query: &Query<BvTheory>) -> Result<Option<u32>, Want>
     requires { QueryFits owned is_bits (query_of vector query.now) }
     ensures { IfOk result (λ found. MatchOption found
         (2 ^ 31 ≤ 1000 * query_size (query_of vector query.now))
