@@ -64,9 +64,13 @@ impl Decide<BvTheory> for BvDecide {
         }
         let circuit = circuit_of(alloc, query, size)?;
         let fuel = limits.clauses.min(MOST_LEARNED);
-        let solved = solve(alloc, circuit.cnf(), fuel)?;
-        let verdict = answer(alloc, query, limits, circuit, solved)?;
-        Ok(verdict)
+        match solve(alloc, circuit.cnf(), fuel) {
+            Ok(solved) => answer(alloc, query, limits, circuit, solved),
+            Err(end) => {
+                drop(circuit);
+                Err(end)
+            }
+        }
     }
 
     fn name_of(spent: &BvSpent) -> FailName {
@@ -97,11 +101,15 @@ fn answer(
             log,
         })),
         Solved::Model(bits) => {
-            let values = circuit.read(alloc, &bits)?;
-            Ok(Verdict::Model(values))
+            let values = circuit.read(alloc, &bits);
+            drop(bits);
+            drop(circuit);
+            Ok(Verdict::Model(values?))
         }
         Solved::Fuel(log) => {
             if limits.clauses > MOST_LEARNED {
+                drop(log);
+                drop(circuit);
                 return Err(AllocError);
             }
             Ok(Verdict::Spent(BvSpent::Clauses(circuit.into_cnf(), log)))
