@@ -37,3 +37,7 @@ written_skip d size P old xs n h w p = record {
     at_place : (j : ℕ) → j < n + 1 → ((eqb j n ≡ true) × (j ≡ n)) ⊎ ((eqb j n ≡ false) × (j ≢ n)) → P j (get_or xs j d)
     at_place j l (inl s) = subst (λ i. P i (get_or xs i d)) (sym s.1) (subst (P n) (sym (w.above n (omega arith) h)) p)
     at_place j l (inr s) = w.below j (omega (arith, l, s.1))
+
+-- all places are written
+pub written_all : {A : Type 0} → (d : A) (size : ℕ) (P : ℕ → A → Type 0) (old : ℕ → A) (xs : List A) (n : ℕ) → IsWritten d size P old xs n → size ≤ n → (j : ℕ) → j < size → P j (get_or xs j d)
+written_all d size P old xs n w h j l = w.below j (omega (arith, h, l))

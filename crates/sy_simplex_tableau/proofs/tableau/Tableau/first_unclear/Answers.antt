@@ -1,8 +1,9 @@
-use Rattle.std.proofs.Common.{◌≡◌, ◌<◌, ◌+◌, length, sym, subst, arith}
+use Rattle.std.proofs.Common.{◌≡◌, ◌<◌, ◌+◌, ◌∙◌, length, sym, subst, arith}
 use Rattle.std.proofs.lemmas.List.{get_or_read}
 use Rattle.sy_simplex_tableau.specs.States.{basic, FirstUnclear}
 use Rattle.sy_simplex_tableau.specs.Stated.{tableau_state_of}
-use Rattle.sy_simplex_tableau.proofs.Clear.{FirstSoFar, not_clear, first_kept, first_found, first_replaced, first_stays}
+use Rattle.sy_simplex_tableau.proofs.Clear.{FirstSoFar, not_clear, first_kept, first_found, first_replaced, first_stays, first_end, first_below}
+use Rattle.sy_simplex_tableau.proofs.Exchanging.{within}
 use Rattle.sy_simplex_tableau.proofs.tableau.Tableau.first_unclear.Goals as goal
 use Rattle.sy_simplex_tableau.proofs.tableau.Tableau.first_unclear.Goals.{then-not-is_clear+in-Some+then-index, then-not-is_clear+in-Some+else-index, then-not-is_clear+in-None, else-not-is_clear}
 
@@ -27,3 +28,18 @@ loop-at-preserved c =
       | then-not-is_clear+in-None w ↦ subst (FirstSoFar t (n + 1)) (sym w.best-is) (first_found t n (subst (FirstSoFar t n) w.in-None.is before) (not_clear t n c.is_clear.result w.if-not-is_clear.true c.is_clear.ensures))
       | else-not-is_clear w ↦ subst (FirstSoFar t (n + 1)) (sym w.best-is) (first_kept t n c.loop-at.best (c.is_clear.ensures.0 w.if-not-is_clear.false) before)
     ]
+
+pub loop-at-init : goal.loop-at-init
+loop-at-init c = λ k l. absurd (omega (arith, l))
+
+pub is_clear-requires-clause-row_below : goal.is_clear-requires-clause-row_below
+is_clear-requires-clause-row_below c = within c.loop-at.at _ _ (sym (c.len-at-end.ensures ∙ c.args.self.now.basics.ok.0)) c.loop-at-test.true
+
+pub index-requires : goal.index-requires
+index-requires c = within c.loop-at.at _ _ (sym c.len-at-end.ensures) c.loop-at-test.true
+
+pub index-requires-in-Some : goal.index-requires-in-Some
+index-requires-in-Some c = within c.in-Some.other _ _ (sym c.len-at-end.ensures) (first_below (tableau_state_of c.args.self.now) c.loop-at.at c.in-Some.other c.len-at-end.result c.loop-at.best c.in-Some.is c.loop-at.invariant c.loop-at-test.true)
+
+pub returns : goal.returns
+returns c = first_end (tableau_state_of c.args.self.now) c.loop-at.at c.len-at-end.result c.loop-at.best c.loop-at.auto.at-end c.loop-at-test.false (c.len-at-end.ensures ∙ c.args.self.now.basics.ok.0) c.loop-at.invariant
