@@ -11,3 +11,8 @@ pub mod Refuted
 pub mod Answering
 pub mod Determined
 pub mod Outcomes
+pub mod Rotating
+pub mod Tracing
+pub mod Returning
+pub mod Counting
+pub mod Ending

@@ -10,5 +10,5 @@ mod solve;
 
 pub use answer::{Ended, Feasible, Run};
 pub use forms::{are_forms, is_form};
-pub use law::answers_are_determined;
+pub use law::{answers_are_determined, enough_pivots_are_never_spent, no_basis_comes_twice};
 pub use solve::{ended, feasible};

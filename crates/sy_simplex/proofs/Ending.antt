@@ -7,10 +7,10 @@ use Rattle.sy_simplex.specs.Runs.{Ran, RunIsSpent}
 use Rattle.sy_simplex.proofs.Bridge.{basic_variable}
 use Rattle.sy_simplex.proofs.Sound.{IsSteady, of_tableau}
 use Rattle.sy_simplex.proofs.Endings.{among, among_found, among_holds}
-use Rattle.sy_simplex_laws.specs.Bases.{IsBasic, HaveSameBasis}
-use Rattle.sy_simplex_laws.proofs.Counting.{Twice, pigeonhole, code, code_below, code_same}
-use Rattle.sy_simplex_laws.proofs.Tracing.{state_at, steady_at, ran_at}
-use Rattle.sy_simplex_laws.proofs.Returning.{no_basis_twice}
+use Rattle.sy_simplex.specs.Bases.{IsBasic, HaveSameBasis}
+use Rattle.sy_simplex.proofs.Counting.{Twice, pigeonhole, code, code_below, code_same}
+use Rattle.sy_simplex.proofs.Tracing.{state_at, steady_at, ran_at}
+use Rattle.sy_simplex.proofs.Returning.{no_basis_twice}
 
 -- the basic variables, as a test
 in_basis : TableauState → ℕ → Bool

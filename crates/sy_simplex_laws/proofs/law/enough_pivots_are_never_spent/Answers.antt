@@ -1,5 +1,0 @@
-use Rattle.sy_simplex_laws.proofs.Ending.{never_spent}
-use Rattle.sy_simplex_laws.proofs.law.enough_pivots_are_never_spent.Goals as goal
-
-pub returns : goal.returns
-returns c = never_spent
