@@ -23,8 +23,7 @@ PARTS = {
     "sy_seq": ["seq"],
     "sy_clauses": ["checker", "marks"],
     "sy_cdcl_literals": ["entries", "outcomes"],
-    "sy_cdcl_order": ["order"],
-    "sy_cdcl": ["analysis", "propagation", "shortening", "solver", "store", "trail", "watches"],
+    "sy_cdcl": ["analysis", "order", "propagation", "shortening", "solver", "store", "trail", "watches"],
 }
 # a line that stands once in the solver, and what is counted before it
 COUNTED = {

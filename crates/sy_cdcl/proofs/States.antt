@@ -2,7 +2,7 @@
 use Rattle.std.proofs.Common.{◌≡◌, ℕ, List, ◌∙◌, sym, ap, subst, refl, arith, length, vec_len}
 use Rattle.sy_clauses.specs.declared.Cnf.{Cnf}
 use Rattle.sy_clauses.specs.Clauses.{Clause, known_clauses}
-use Rattle.sy_cdcl_order.specs.declared.order.Order.{Order}
+use Rattle.sy_cdcl.specs.declared.order.Order.{Order}
 use Rattle.sy_cdcl.specs.declared.trail.Trail.{Trail}
 use Rattle.sy_cdcl.specs.declared.watches.Watches.{Watches}
 use Rattle.sy_cdcl.specs.declared.solver.State.{State}

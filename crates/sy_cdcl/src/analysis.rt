@@ -8,10 +8,10 @@ ghost use Rattle.sy_cdcl.specs.Status.{IsConflict};
 ghost use Rattle.sy_cdcl_literals.specs.Falsified.{SomeFalsified, NoneFalsified};
 ghost use Rattle.sy_cdcl.specs.Conflicts.{IsLearned, OpenAtLevels, value_below, IsTakenBack, LastFits};
 
+use crate::order::Order;
 use crate::trail::Trail;
 use std::alloc::{AllocError, Global};
 use sy_cdcl_literals::{falsifies, is_last_hit, some_falsifies};
-use sy_cdcl_order::Order;
 use sy_clauses::{Cnf, Line, Lit, Marks, Step, advance, clause_at};
 use sy_seq::{Seq, Want};
 

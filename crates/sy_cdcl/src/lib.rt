@@ -2,6 +2,7 @@
 #![tactic(auto)]
 
 mod analysis;
+mod order;
 mod propagation;
 mod shortening;
 mod solver;

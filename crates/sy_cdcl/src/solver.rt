@@ -13,6 +13,7 @@ ghost use Rattle.sy_cdcl.specs.Answer.{AnswersFormula, IsRunEnd, IsUnstopped, Is
 ghost use Rattle.sy_cdcl.specs.States.{StateIsSound, IsFresh, IsFinalConflict, clauses_known};
 
 use crate::analysis::{analyze, go_back, last_falsified};
+use crate::order::Order;
 use crate::propagation::{attach, propagate};
 use crate::shortening::conclude;
 use crate::store::Store;
@@ -20,7 +21,6 @@ use crate::trail::Trail;
 use crate::watches::Watches;
 use std::alloc::{AllocError, Global};
 use sy_cdcl_literals::Pair;
-use sy_cdcl_order::Order;
 use sy_clauses::{Cnf, Line, Lit, Log, Marks};
 use sy_seq::{Seq, Want};
 

@@ -4,10 +4,10 @@ ghost use Rattle.sy_cdcl.specs.Trails.{kept_values, entries_values, IsTrail, Val
 ghost use Rattle.sy_cdcl_literals.specs.Suiting.{IsTruthOf};
 ghost use Rattle.sy_cdcl.specs.Codes.{value_of};
 
+use crate::order::Order;
 use std::alloc::{AllocError, Global};
 use std::marker::Model;
 use sy_cdcl_literals::{Entry, Truth};
-use sy_cdcl_order::Order;
 use sy_clauses::Lit;
 use sy_seq::Want;
 

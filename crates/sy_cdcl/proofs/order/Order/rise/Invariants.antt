@@ -1,4 +1,4 @@
-use Rattle.sy_cdcl_order.proofs.order.Order.rise.Given as goal
+use Rattle.sy_cdcl.proofs.order.Order.rise.Given as goal
 
 abbrev pub decreases-loop-place : goal.decreases-loop-place
 decreases-loop-place l = l.place

@@ -1,5 +1,5 @@
 use Rattle.std.proofs.Common.{◌-◌, ◌<◌, ◌^◌}
-use Rattle.sy_cdcl_order.proofs.order.Order.sink.Given as goal
+use Rattle.sy_cdcl.proofs.order.Order.sink.Given as goal
 
 abbrev pub invariant-loop-place : goal.invariant-loop-place
 invariant-loop-place l = l.half < 2 ^ 63
