@@ -36,6 +36,29 @@ three number (x ∷ y ∷ []) a b c long e f h = absurd (omega (arith, long))
 three number (x ∷ y ∷ z ∷ []) a b c long e f h = rw (e, f, h) refl
 three number (x ∷ y ∷ z ∷ w ∷ parts) a b c long e f h = absurd (omega (arith, long))
 
+-- the answer once the first two are known, or one of them is wrong
+pub three_last : {T N : Type 0} (number : N → Val) (parts : List (Part T N)) (a b c : Part T N) → length parts ≡ 3 → a ≡ get_or parts 0 a → b ≡ get_or parts 1 b → c ≡ get_or parts 2 c →
+    is_place (pattern_of number a) ≡ true → is_start (pattern_of number b) ≡ true → is_start (pattern_of number c) ≡ are_choices (patterns_of number parts)
+three_last number parts a b c long e f h p q =
+    sym (three number parts a b c long e f h ∙ ap (λ t. t && (is_start (pattern_of number b) && is_start (pattern_of number c))) p ∙ ap (λ t. t && is_start (pattern_of number c)) q)
+
+pub three_second : {T N : Type 0} (number : N → Val) (parts : List (Part T N)) (a b : Part T N) → length parts ≡ 3 → a ≡ get_or parts 0 a → b ≡ get_or parts 1 b →
+    is_place (pattern_of number a) ≡ true → is_start (pattern_of number b) ≡ false → are_choices (patterns_of number parts) ≡ false
+three_second number [] a b long e f p q = absurd (omega (arith, long))
+three_second number (x ∷ []) a b long e f p q = absurd (omega (arith, long))
+three_second number (x ∷ y ∷ []) a b long e f p q = absurd (omega (arith, long))
+three_second number (x ∷ y ∷ z ∷ []) a b long e f p q =
+    three number (x ∷ y ∷ z ∷ []) a b z long e f refl ∙ ap (λ t. t && (is_start (pattern_of number b) && is_start (pattern_of number z))) p ∙ ap (λ t. t && is_start (pattern_of number z)) q
+three_second number (x ∷ y ∷ z ∷ w ∷ parts) a b long e f p q = absurd (omega (arith, long))
+
+pub three_first : {T N : Type 0} (number : N → Val) (parts : List (Part T N)) (a : Part T N) → length parts ≡ 3 → a ≡ get_or parts 0 a → is_place (pattern_of number a) ≡ false → are_choices (patterns_of number parts) ≡ false
+three_first number [] a long e p = absurd (omega (arith, long))
+three_first number (x ∷ []) a long e p = absurd (omega (arith, long))
+three_first number (x ∷ y ∷ []) a long e p = absurd (omega (arith, long))
+three_first number (x ∷ y ∷ z ∷ []) a long e p =
+    three number (x ∷ y ∷ z ∷ []) a y z long e refl refl ∙ ap (λ t. t && (is_start (pattern_of number y) && is_start (pattern_of number z))) p
+three_first number (x ∷ y ∷ z ∷ w ∷ parts) a long e p = absurd (omega (arith, long))
+
 -- no item before the place is accepted
 abbrev pub NoneBefore : {A : Type 0} → (A → Bool) → List A → ℕ → Type 0
 NoneBefore accepts items place = All (λ item. accepts item ≡ false) (take place items)

@@ -1,4 +1,6 @@
 pub mod Choices
 pub mod Factors
 pub mod Fitted
+pub mod Parted
+pub mod Reading
 pub mod Sorting

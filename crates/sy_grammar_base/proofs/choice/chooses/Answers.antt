@@ -1,4 +1,5 @@
 use Rattle.std.proofs.Common.{refl, sym, ◌∙◌}
+use mathlib.Core.Bool.{true≢false}
 use Rattle.sy_grammar_base.proofs.Choices.{choice_other}
 use Rattle.sy_grammar_base.specs.Written.{pattern_of-Const, pattern_of-Var, pattern_of-Non, pattern_of-App, pattern_of-Call}
 use Rattle.sy_grammar_base.proofs.choice.chooses.Goals as goal
@@ -19,4 +20,4 @@ pub returns-then-equals : goal.returns-then-equals
 returns-then-equals g c = rw (c.in-App.is, pattern_of-App, c.equals.ensures.0 c.if-equals.true) c.are_choices.ensures
 
 pub returns-else-equals : goal.returns-else-equals
-returns-else-equals g c = rw (c.in-App.is, pattern_of-App) (c.if-equals.false ∙ sym (choice_other _ _ (λ same. let is = c.equals.ensures.1 same in let not = c.if-equals.false in cc)))
+returns-else-equals g c = rw (c.in-App.is, pattern_of-App) (c.if-equals.false ∙ sym (choice_other _ _ (λ same. true≢false (sym (c.equals.ensures.1 same) ∙ c.if-equals.false))))
