@@ -4,23 +4,24 @@ ghost use Rattle.sy_intsolve_paths_laws.specs.Paths.{IsPath};
 ghost use Rattle.sy_intsolve_points.specs.Points.{IsPointOf, ValuesAreWhole, TellsPlace};
 
 use crate::solving::corner;
-use crate::whole::first_broken;
 use std::alloc::Global;
 use sy_frac::Frac;
+use sy_frac_kinds::is_whole;
 use sy_linear_known::Fact;
 use sy_seq::{Seq, Want};
 use sy_simplex::{Ended, Feasible};
 use sy_terms::Sort;
 
 /// Whether each value is known to be whole.
-fn is_whole(point: &[Frac]) -> bool
-    requires { length point.now < 2 ^ 31 }
+fn are_whole(point: &[Frac]) -> bool
     ensures { result ≡ true → ValuesAreWhole point.now }
 {
-    match first_broken(point) {
-        None => true,
-        Some(_) => false,
+    for at in 0..point.len() {
+        if !is_whole(&point[at]) {
+            return false;
+        }
     }
+    true
 }
 
 /// A point of the path that is whole, or a corner: the kept point where it is whole, and else what `corner` says. So a
@@ -38,7 +39,7 @@ pub fn whole_or_corner(
     ensures { IfOk result (λ end. TellsPlace vars.now facts.now pivots end.answer) }
 {
     if let Some(near) = kept {
-        if is_whole(near.as_slice()) {
+        if are_whole(near.as_slice()) {
             return Ok(Ended {
                 answer: Feasible::Point(near),
                 last: None,

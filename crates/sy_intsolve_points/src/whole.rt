@@ -3,6 +3,7 @@ ghost use Rattle.std.specs.Prelude.{◌<◌, ◌^◌, length};
 ghost use Rattle.sy_intsolve_points.specs.Points.{FirstBroken};
 
 use sy_frac::Frac;
+use sy_frac_kinds::broken;
 
 /// The first variable whose value isn't a whole number, and the greatest whole number below that value; `None` exactly
 /// where all values are whole.
@@ -11,8 +12,8 @@ pub fn first_broken(point: &[Frac]) -> Option<(u32, i128)>
     ensures { FirstBroken point.now result }
 {
     for at in 0..point.len() {
-        if point[at].den() != 1 {
-            return Some((at as u32, point[at].floor()));
+        if let Some(below) = broken(&point[at]) {
+            return Some((at as u32, below));
         }
     }
     None
