@@ -1,8 +1,8 @@
 -- The sorts of terms and of lists of terms, by what is found of their parts.
-use Rattle.std.specs.Prelude.{ℕ, zero, suc, ◌+◌, ◌<◌, Bool, true, false, List, [], ◌∷◌, ◌++◌, ◌≡◌, refl, length, slice_get, Option, Some, None, if◌then◌else◌}
+use Rattle.std.specs.Prelude.{ℕ, zero, suc, ◌+◌, ◌<◌, ◌≤◌, map, Bool, true, false, List, [], ◌∷◌, ◌++◌, ◌≡◌, refl, length, slice_get, Option, Some, None, if◌then◌else◌}
 use Rattle.std.specs.Cmp.Lexicographic.{pointwise}
 use Rattle.std.proofs.Common.{ap, sym, ◌∙◌, nat_eq, take, get_or}
-use Rattle.std.proofs.lemmas.Option.{none-some, slice_get-get_or}
+use Rattle.std.proofs.lemmas.Option.{none-some, slice_get-get_or, slice_get-map, slice_get_past, slice_get_read}
 use Rattle.std.proofs.lemmas.List.{take_more}
 use Rattle.std.specs.declared.boxed.Box.{Box}
 use Rattle.std.specs.declared.alloc.Global.{Global}
@@ -127,3 +127,10 @@ pointwise_same equal tt' ii ww ti it tw wt iw wi = lists
     lists [] (t ∷ ts) = refl
     lists (s ∷ ss) [] = refl
     lists (s ∷ ss) (t ∷ ts) = rw (sorts s t, lists ss ts) refl
+
+-- ---- the signatures that functions have by their numbers
+pub called-past : {X : Type 0} (signed : X → Signature) (all : List X) (number : ℕ) (ts : List Sort) → length all ≤ number → called_sort (slice_get (map signed all) number) (Some ts) ≡ None
+called-past signed all number ts past = rw (slice_get-map signed all number, slice_get_past all number past) refl
+
+pub called-within : {X : Type 0} (signed : X → Signature) (all : List X) (number : ℕ) (x : X) (ts : List Sort) → number < length all → x ≡ get_or all number x → called_sort (slice_get (map signed all) number) (Some ts) ≡ (if same_sorts ts (signed x).takes then Some (signed x).gives else None)
+called-within signed all number x ts within is = rw (slice_get-map signed all number, slice_get_read all (length all) number x refl within is) refl
