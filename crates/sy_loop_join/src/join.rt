@@ -11,6 +11,7 @@ ghost use Rattle.sy_loop_join.specs.Clauses.{ArePartsFor, GoesFor, IsJoinableFor
 ghost use Rattle.sy_loop_join.specs.Going.{OnNext};
 
 use crate::copies::copied_leaf;
+use crate::kept::kept_up_to;
 use crate::plan::Plan;
 use crate::served::is_served;
 use std::alloc::{AllocError, Global};
@@ -21,7 +22,7 @@ use sy_loop_bounds::Reach;
 use sy_loop_candidate::{End, Known, Step, decide_due, try_candidate};
 use sy_loop_goods::{Goods, Rest, good_rows};
 use sy_loop_memo::Memo;
-use sy_loop_trees::{kept_up_to, tree_term, truth_rows};
+use sy_loop_trees::{tree_term, truth_rows};
 use sy_query_decide::Decide;
 use sy_query_limits::Limits;
 use sy_terms::{Seq, Term, Theory, Want};

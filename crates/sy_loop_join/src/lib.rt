@@ -3,6 +3,7 @@
 
 mod copies;
 mod join;
+mod kept;
 mod plan;
 mod served;
 mod trees;
