@@ -8,6 +8,7 @@ use Rattle.std.proofs.lemmas.List.Elements.{All-nil, All-cons}
 use borrow.Author.Differences.{at_most_in}
 use Rattle.sy_frac.specs.Fraction.{Fraction}
 use Rattle.sy_frac.specs.Rational.{value, is_negative_rational, over_negative}
+use Rattle.sy_frac_kinds.specs.Kinds.{is_below_one}
 use Rattle.sy_terms.specs.declared.sort.Sort.{Sort}
 use Rattle.sy_terms.specs.declared.sort.Sort.TheVariants as sorts
 use Rattle.sy_linear_forms.specs.declared.form.Form.{Form}
@@ -22,7 +23,7 @@ use Rattle.sy_linear.proofs.Lowest.{left_true, right_true}
 use Rattle.sy_linear.proofs.Accepting.{cut}
 use Rattle.sy_simplex.specs.Problems.{numbers}
 use Rattle.sy_intsolve_paths_laws.specs.Paths.{Suit}
-use Rattle.sy_intsolve_cuts.specs.Cuts.{is_below_one, AreBelowDivisor, IsRoundingForm}
+use Rattle.sy_intsolve_cuts.specs.Cuts.{AreBelowDivisor, IsRoundingForm}
 
 -- the added form is that of a cut
 same_form : (f e : Form) → Adds (AtLeast f) ≡ Adds (AtLeast e) → f ≡ e

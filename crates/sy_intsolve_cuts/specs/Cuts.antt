@@ -1,5 +1,5 @@
 -- Forms that a cut adds at a point of a path.
-use Rattle.std.specs.Prelude.{◌≡◌, Bool, true, int_lt, List, All, ℤ, pos, ◌*ℤ◌, ◌<ℤ◌, Option, Some, None}
+use Rattle.std.specs.Prelude.{◌≡◌, true, List, All, ℤ, pos, ◌*ℤ◌, ◌<ℤ◌, Option, Some, None}
 use Rattle.sy_frac.specs.Fraction.{Fraction}
 use Rattle.sy_frac.specs.Rational.{is_negative_rational}
 use Rattle.sy_terms.specs.declared.sort.Sort.{Sort}
@@ -11,9 +11,6 @@ use Rattle.sy_linear_known.specs.Trees.{forms, IsCut}
 use Rattle.sy_simplex.specs.Problems.{numbers}
 use Rattle.sy_intsolve_paths_laws.specs.Paths.{Suit}
 use Rattle.sy_intsolve_cuts.specs.declared.choosing.Rounding.{Rounding}
-
-abbrev pub is_below_one : Fraction → Bool
-is_below_one m = int_lt m.num (pos m.den)
 
 -- each multiplier is below the divisor
 abbrev pub AreBelowDivisor : ℤ → List Fraction → Type 0

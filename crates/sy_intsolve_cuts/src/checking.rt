@@ -1,16 +1,17 @@
 // What multipliers give, checked.
-ghost use Rattle.std.specs.Prelude.{◌≡◌, ◌<◌, ◌^◌, true, pos, int_lt, length, IfOk, IfSome};
+ghost use Rattle.std.specs.Prelude.{◌≡◌, ◌<◌, ◌^◌, true, pos, length, IfOk, IfSome};
 ghost use Rattle.std.specs.List.{list_all};
 ghost use Rattle.sy_frac.specs.Rational.{is_negative_rational};
+ghost use Rattle.sy_frac_kinds.specs.Kinds as kinds;
 ghost use Rattle.sy_linear_known.specs.declared.path.Fact.TheVariants.{AtLeast};
 ghost use Rattle.sy_linear_known.specs.Points.{form_value_at};
 ghost use Rattle.sy_simplex.specs.Problems.{numbers};
 ghost use Rattle.sy_intsolve_paths_laws.specs.Paths.{Suit};
 ghost use Rattle.sy_intsolve_cuts.specs.Cuts.{IsRoundingForm};
-ghost use Rattle.sy_intsolve_cuts.specs.Cuts as spec;
 
 use std::alloc::{AllocError, Global};
 use sy_frac::Frac;
+use sy_frac_kinds::{is_below_one, is_below_zero};
 use sy_intsolve_points::number_at;
 use sy_linear::{cut, suits};
 use sy_linear_known::{CheckEnd, Fact, Form, Test};
@@ -18,27 +19,13 @@ use sy_seq::Want;
 use sy_simplex::is_form;
 use sy_terms::Sort;
 
-/// Whether the multiplier is below 1.
-fn is_below_one(multiplier: &Frac) -> bool
-    ensures { result ≡ spec.is_below_one multiplier.now }
-{
-    multiplier.num() < multiplier.den()
-}
-
 /// Whether each multiplier is below 1.
 fn are_below_one(multipliers: &[Frac]) -> bool
-    ensures { result ≡ list_all spec.is_below_one multipliers.now }
+    ensures { result ≡ list_all kinds.is_below_one multipliers.now }
 {
     multipliers
         .iter()
         .all(|multiplier| is_below_one(multiplier))
-}
-
-/// Whether the fraction is negative.
-fn is_below_zero(number: &Frac) -> bool
-    ensures { result ≡ int_lt number.now.num (pos 0) }
-{
-    number.num() < 0
 }
 
 /// Whether the form is known to be negative at the point.
