@@ -6,6 +6,7 @@ ghost use Rattle.sy_terms.specs.Theories.{partials_fit, from_left_fits};
 ghost use Rattle.sy_terms.specs.Denoted.{val_of, vals_of};
 ghost use Rattle.sy_meaning_integers.specs.Found.{Found};
 
+use sy_meaning_numbers::whole_sum;
 use sy_terms::Value;
 
 /// An operation on two whole numbers.
@@ -41,7 +42,7 @@ impl Step for Plus {
     ghost exact = { ◌+ℤ◌ };
 
     fn step(x: i128, y: i128) -> Option<i128> {
-        x.checked_add(y)
+        whole_sum(x, y)
     }
 }
 
