@@ -7,8 +7,8 @@ use Rattle.sy_grammar_base.specs.Trees.{Syntax}
 use Rattle.sy_bank_rows.specs.Banks.{Entry, Merged}
 use Rattle.sy_bank_rows.specs.Stored.{entry_of}
 use Rattle.sy_bank_level.specs.Places.{places_of}
-use Rattle.sy_bank_growth_laws.specs.Indexed.{IsIndexed}
-use Rattle.sy_bank_growth_laws.specs.Ready.{BankIsReady}
+use Rattle.sy_bank_laws.specs.Indexed.{IsIndexed}
+use Rattle.sy_bank_laws.specs.Ready.{BankIsReady}
 use Rattle.sy_bank.specs.Bank.{merged_of}
 use Rattle.sy_bank.specs.declared.bank.Bank.{Bank}
 use Rattle.sy_bank.specs.declared.bank.BankEnd.{BankEnd}

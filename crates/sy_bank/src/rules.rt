@@ -6,7 +6,7 @@ ghost use Rattle.sy_grammar_base.specs.Written.{pattern_of};
 ghost use Rattle.sy_bank_level.specs.Filling.{IsSteady, LevelGrows};
 ghost use Rattle.sy_bank_level.specs.Task.{world, IsStop, level_state_of};
 ghost use Rattle.sy_bank_offer.specs.Tasks.{IsTask, IsRule};
-ghost use Rattle.sy_bank_growth_laws.specs.Tried.{IsTried, AllAreTried, IsFilled};
+ghost use Rattle.sy_bank_laws.specs.Tried.{IsTried, AllAreTried, IsFilled};
 
 use std::rc::Rc;
 use sy_bank_chains::pass_chains;

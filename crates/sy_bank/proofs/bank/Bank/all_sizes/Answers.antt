@@ -8,7 +8,7 @@ use Rattle.sy_grammar_base.specs.Grown.{syntax_from}
 use Rattle.sy_bank_rows.specs.Stored.{lost_of}
 use Rattle.sy_bank_level.specs.Task.{level_of}
 use Rattle.sy_bank_rows.specs.Rows.{ArePointsOf}
-use Rattle.sy_bank_growth_laws.proofs.Next.{whole-covers}
+use Rattle.sy_bank_laws.proofs.Next.{whole-covers}
 use Rattle.sy_bank.specs.Bank.{merged_of}
 use Rattle.sy_bank.specs.Promised.{Stays}
 use Rattle.sy_bank.proofs.Ends.{end-stays, handed-on, some-dropped}

@@ -8,7 +8,7 @@ use Rattle.sy_bank_rows.specs.Stored.{entry_of}
 use Rattle.sy_bank_level.specs.Filling.{World}
 use Rattle.sy_bank_level.specs.Places.{places_of}
 use Rattle.sy_bank_level.specs.Task.{level_of, levels_of, level_state_of}
-use Rattle.sy_bank_growth_laws.proofs.Next.{steady-begun}
+use Rattle.sy_bank_laws.proofs.Next.{steady-begun}
 use Rattle.sy_bank.specs.Bank.{merged_of}
 use Rattle.sy_bank.proofs.Steps.{IsStep, step-next, step-indexed, step-ready, step-full}
 use Rattle.sy_bank.proofs.bank.Bank.next_size.Goals as goal

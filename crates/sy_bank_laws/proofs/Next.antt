@@ -13,12 +13,12 @@ use Rattle.sy_bank_level.specs.Filling.{World, LevelState, all_levels, IsSteady,
 use Rattle.sy_bank_level.specs.declared.table.Place.{Place}
 use Rattle.sy_bank_level.proofs.Beginnings.{kept_at-idle, count-idle}
 use Rattle.sy_bank_level.proofs.Kept.{size-within}
-use Rattle.sy_bank_coverage_laws.proofs.Coverage.{saturated_covers}
-use Rattle.sy_bank_growth_laws.specs.Indexed.{IsIndexed}
-use Rattle.sy_bank_growth_laws.specs.Ready.{IsSaturatedBelow, BankIsReady}
-use Rattle.sy_bank_growth_laws.specs.Tried.{IsFilled}
-use Rattle.sy_bank_growth_laws.proofs.LevelsLemmas.{kept-more}
-use Rattle.sy_bank_growth_laws.proofs.TriedLemmas.{lower-offers}
+use Rattle.sy_bank_laws.proofs.Coverage.{saturated_covers}
+use Rattle.sy_bank_laws.specs.Indexed.{IsIndexed}
+use Rattle.sy_bank_laws.specs.Ready.{IsSaturatedBelow, BankIsReady}
+use Rattle.sy_bank_laws.specs.Tried.{IsFilled}
+use Rattle.sy_bank_laws.proofs.LevelsLemmas.{kept-more}
+use Rattle.sy_bank_laws.proofs.TriedLemmas.{lower-offers}
 
 -- what stays the same while the kept terms of the bank's next size are found
 abbrev pub world_at : Scope → Syntax → List Function → List Val → Merged → ℕ → World

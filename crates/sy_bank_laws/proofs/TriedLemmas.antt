@@ -9,7 +9,7 @@ use Rattle.sy_bank_rows.specs.Covering.{AreKept, sizes, terms, Offers}
 use Rattle.sy_bank_level.specs.Filling.{World, LevelState, all_levels, IsSteady, LevelGrows, TermIsDone}
 use Rattle.sy_bank_level.proofs.Kept.{below-or-last, kept_at-before}
 use Rattle.sy_bank_level.proofs.Keeping.{done-on}
-use Rattle.sy_bank_growth_laws.specs.Tried.{IsTried, AreTried, AllAreTried, IsFilled}
+use Rattle.sy_bank_laws.specs.Tried.{IsTried, AreTried, AllAreTried, IsFilled}
 
 -- what is done stays done
 pub tried-on : (w : World) (s t : LevelState) (size n r : ℕ) → LevelGrows w s t → IsTried w s size n r → IsTried w t size n r

@@ -1,2 +1,0 @@
-// A law of merged banks: what is saturated covers.
-#![tactic(auto)]

@@ -1,2 +1,0 @@
-// Laws of banks that grow size by size: what is saturated below a size, and what is filled at it.
-#![tactic(auto)]
