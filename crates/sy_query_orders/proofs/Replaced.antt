@@ -1,6 +1,7 @@
 -- Names replaced by what they stand for.
 use Rattle.std.specs.Prelude.{ℕ, zero, suc, Bool, true, false, ◌&&◌, nat_lt, ◌+◌, ◌<◌, ◌≤◌, ◌↔◌, List, [], ◌∷◌, ◌++◌, ◌≡◌, refl, length, take}
 use Rattle.std.proofs.Common.{arith, ap, sym, ◌∙◌, subst, get_or, length-append}
+use Rattle.std.proofs.Math.Seq.{take-append_seam}
 use Rattle.std.proofs.lemmas.List.{take_more, take_all, get_or-append-add, length-map}
 use Rattle.sy_terms.specs.Values.{Val, Truth}
 use Rattle.sy_terms.specs.Operators.{op_value}
@@ -264,6 +265,11 @@ more_within {T} {N} number count i position terms so plain =
 
 pub all_next : (count many : ℕ) (terms : Exprs) → MeanFirst count many terms → AreNext count many terms
 all_next count many terms first defined wanted values later short long = first defined wanted values later short (omega (arith, long)) ∙ take_all many later (omega (arith, long))
+
+-- names that were longer, cut back to those before
+pub cut_back : {X : Type 0} (old before after longer last stands : List X) (n : ℕ) → last ≡ take n after → after ≡ longer → longer ≡ before ++ stands → n ≡ length before → before ≡ old → last ≡ old
+cut_back old before after longer last stands n cut same appended count kept =
+    cut ∙ ap (take n) (same ∙ appended) ∙ ap (λ k. take k (before ++ stands)) count ∙ take-append_seam before stands ∙ kept
 
 -- a body over variables that stand for themselves
 

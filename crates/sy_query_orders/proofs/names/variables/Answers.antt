@@ -1,6 +1,6 @@
-use Rattle.std.proofs.Common.{refl}
+use Rattle.std.proofs.Common.{◌≡◌, refl, arith}
 use Rattle.sy_query_orders.specs.Replaced.{are_plain}
-use Rattle.sy_query_orders.proofs.Replaced.{none_first, more_first, more_within}
+use Rattle.sy_query_orders.proofs.Replaced.{none_first, more_first, more_within, all_next}
 use Rattle.sy_query_orders.proofs.names.variables.Goals as goal
 
 pub loop-i-init : goal.loop-i-init
@@ -14,3 +14,13 @@ loop-i-preserved g c =
       first = more_first number c.args.count c.loop-i.i _ c.loop-i.terms.items refl c.loop-i.invariant.first;
       plain = more_within number c.args.count c.loop-i.i _ c.loop-i.terms.items refl c.loop-i.invariant.plain;
     })
+
+pub returns-clause-next : goal.returns-clause-next
+returns-clause-next g c =
+    let e : c.loop-i.i ≡ c.args.many = omega arith in
+    all_next c.args.count c.args.many _ (rw e at c.loop-i.invariant.first)
+
+pub returns-clause-plain : goal.returns-clause-plain
+returns-clause-plain g c =
+    let e : c.loop-i.i ≡ c.args.many = omega arith in
+    rw e at c.loop-i.invariant.plain

@@ -60,6 +60,10 @@ written-returns-then-may_stand-clause-replaced g t c =
     let is = rw (c.in_ok-append-in-Let.ensures.items, c.in_ok-bound-in-Let.ensures.kept, c.deref.ensures) at c.in_ok-found-in-Let.ensures.replaced in
     rw (c.in-Let.is, expr_of-Let) (law.let_out number c.args.count c.args.names.now.items c.in_ok-stands-in-Let.stands.items _ _ _ _ same are is)
 
+pub written-returns-then-may_stand-clause-kept : goal.written-returns-then-may_stand-clause-kept
+written-returns-then-may_stand-clause-kept g t c =
+    law.cut_back _ _ _ _ _ _ _ c.truncate.ensures.items c.in_ok-found-in-Let.ensures.kept c.in_ok-append-in-Let.ensures.items (c.len-outer.ensures ∙ c.all_written-in-Let.new.names.ok.0) c.in_ok-bound-in-Let.ensures.kept
+
 pub written-written-requires-in-Let : goal.written-written-requires-in-Let
 written-written-requires-in-Let g t c κs within =
     let number = g.T.Theory.denotes in
@@ -75,6 +79,10 @@ written-returns-in_ok-new-in-Let-clause-replaced g t c =
     let is = rw (c.in_ok-append-in-Let-2.ensures.items, c.in_ok-bound-in-Let.ensures.kept, c.deref-in-Let.ensures) at c.in_ok-inner-in-Let.ensures.replaced in
     rw (c.in-Let.is, expr_of-Let, expr_of-Let, c.in_ok-new-in-Let.ensures.ok)
     (law.let_kept number c.args.count c.in_ok-many-in-Let.many c.args.names.now.items c.in_ok-stands-in-Let-2.stands.items c.in_ok-bound-in-Let.bound.items.items _ _ _ c.requires (c.in_ok-many-in-Let.ensures.0 ∙ c.len.ensures) c.in_ok-stands-in-Let-2.ensures.next are is)
+
+pub written-returns-in_ok-new-in-Let-clause-kept : goal.written-returns-in_ok-new-in-Let-clause-kept
+written-returns-in_ok-new-in-Let-clause-kept g t c =
+    law.cut_back _ _ _ _ _ _ _ c.truncate-in-Let.ensures.items c.in_ok-inner-in-Let.ensures.kept c.in_ok-append-in-Let-2.ensures.items (c.len-outer.ensures ∙ c.all_written-in-Let.new.names.ok.0) c.in_ok-bound-in-Let.ensures.kept
 
 -- ---- terms, one by one
 
