@@ -1,4 +1,5 @@
 mod Placing
+mod Points
 mod Columns
 mod Told
 mod Memos

@@ -1,3 +1,5 @@
+use Rattle.std.proofs.Common.{arith}
+use Rattle.std.proofs.lemmas.List.{take_all}
 use Rattle.std.proofs.lemmas.List.Elements.{All-filter}
 use Rattle.sy_grammar_base.specs.Questions.{question_of}
 use Rattle.sy_points.specs.Asked.{of_function}
@@ -20,3 +22,19 @@ loop-leaf-preserved g c =
       leaving = leaving_next g.T.Theory.denotes (question_of g.T.Theory.denotes c.args.problem.now) (history_of g.T.Theory.denotes c.args.stored.now) (of_function c.args.points.now 0) c.args.rests.now c.in_ok-here.here.items c.args.point c.requires.distinct c.requires.rests c.in_ok-here.ensures c.requires.pointwise c.requires.assigned c.args.leaves.now c.requires.leaves.rows c.loop-leaf.leaf c.loop-leaf.goods c.in_ok-judged.judged (rw (c.as_slice.ensures.value, c.as_slice-in-loop-leaf.ensures) at c.in_ok-judged.ensures.judged) c.loop-leaf.leaving c.loop-leaf.invariant.leaving;
       memo = c.in_ok-judged.ensures.memo;
     })
+
+pub loop-leaf-init : goal.loop-leaf-init
+loop-leaf-init g c = rw c.new-goods.ensures (record {
+  goods = λ none tuple at. tt;
+  leaving = tt;
+  memo = c.requires.memo;
+})
+
+pub returns-clause-goods : goal.returns-clause-goods
+returns-clause-goods g c = rw (take_all c.loop-leaf.leaf c.args.leaves.now (omega (arith, c.loop-leaf-test.false))) at c.loop-leaf.invariant.goods
+
+pub returns-clause-leaving : goal.returns-clause-leaving
+returns-clause-leaving g c = c.loop-leaf.invariant.leaving
+
+pub returns-clause-memo : goal.returns-clause-memo
+returns-clause-memo g c = c.loop-leaf.invariant.memo

@@ -1,8 +1,8 @@
-use Rattle.std.proofs.Common.{◌≡◌, ◌<◌, ◌≤◌, ◌∙◌, List, Bool, Bor, ap, arith, length, rules, sym}
+use Rattle.std.proofs.Common.{◌≡◌, ◌<◌, ◌≤◌, ◌∙◌, List, Bool, Bor, ap, arith, length, rules, subst, sym}
 use Rattle.std.proofs.lemmas.List.{length-map}
 use Rattle.sy_terms.specs.Denoted.{vals_of}
 use Rattle.sy_grammar_base.specs.Questions.{question_of}
-use Rattle.sy_points.specs.Asked.{of_function, tuples_of}
+use Rattle.sy_points.specs.Asked.{AreDistinct, of_function, tuples_of}
 use Rattle.sy_bank_rows.specs.Stored.{chosen_of, entry_of}
 use Rattle.sy_bank_rows.specs.declared.kept.Kept.{Kept}
 use Rattle.sy_loop_history.specs.Stored.{history_of}
@@ -39,3 +39,16 @@ returns-clause-goods g c none =
     let many : length leaves ≡ length c.args.leaves.now = length-map c.args.leaves.now (λ (leaf : Bor (Kept _ _)). entry_of g.T.Theory.denotes leaf.now) in
     goods_all (question_of g.T.Theory.denotes c.args.problem.now) (assignments_of (history_of g.T.Theory.denotes c.args.stored.now)) (of_function c.args.points.now 0) leaves c.loop-point.point c.loop-point.columns.items c.in_ok-rows.rows done (c.loop-point.invariant.columns none) (c.in_ok-rows.ensures.many ∙ sym many)
     (λ place less. c.in_ok-rows.ensures.rows place (omega (arith, less, many)) ∙ ap (λ (columns : List (List Bool)). row_from columns place) c.as_slice.ensures.value)
+
+pub good_column-requires-clause-distinct : goal.good_column-requires-clause-distinct
+good_column-requires-clause-distinct g c =
+    subst AreDistinct (sym (tuples_are c.args.points.now (tuples_of g.T.Theory.denotes c.of-tuples.result.now) c.of-tuples.ensures.list)) c.of-tuples.ensures.distinct
+
+pub returns-clause-many : goal.returns-clause-many
+returns-clause-many g c = c.in_ok-rows.ensures.many
+
+pub returns-clause-leaving : goal.returns-clause-leaving
+returns-clause-leaving g c = c.loop-point.invariant.leaving
+
+pub returns-clause-memo : goal.returns-clause-memo
+returns-clause-memo g c = c.loop-point.invariant.memo

@@ -1,10 +1,12 @@
 use Rattle.std.proofs.Common.{[], arith, map}
-use Rattle.std.proofs.lemmas.List.Elements.{All-head}
+use Rattle.std.proofs.lemmas.List.Elements.{All-get_or, All-head, All-nil}
 use Rattle.sy_terms.specs.Denoted.{expr_of}
 use Rattle.sy_grammar_base.specs.Questions.{question_of}
+use Rattle.sy_points.specs.Asked.{of_function}
 use Rattle.sy_loop_history.specs.Stored.{history_of}
 use Rattle.sy_loop_trees_laws.specs.Goods.{assignments_of}
 use Rattle.sy_loop_goods.specs.Judging.{IsTrueAt}
+use Rattle.sy_loop_goods.specs.Rests.{IsRest}
 use Rattle.sy_loop_goods.proofs.Told.{all_more, all_done}
 use Rattle.sy_loop_goods.proofs.judging.judge.Goals as goal
 
@@ -19,3 +21,13 @@ loop-rest-preserved g c =
 pub returns-clause-judged : goal.returns-clause-judged
 returns-clause-judged g c =
     all_done (IsTrueAt (question_of g.T.Theory.denotes c.args.problem.now) (assignments_of (history_of g.T.Theory.denotes c.args.stored.now)) (map (expr_of g.T.Theory.denotes) c.args.bodies.now)) c.args.rests.now c.loop-rest.rest-index (omega (arith, c.loop-rest-test.false)) c.loop-rest.invariant.all
+
+pub loop-rest-init : goal.loop-rest-init
+loop-rest-init g c = record {
+  all = All-nil (IsTrueAt (question_of g.T.Theory.denotes c.args.problem.now) (assignments_of (history_of g.T.Theory.denotes c.args.stored.now)) (map (expr_of g.T.Theory.denotes) c.args.bodies.now));
+  memo = c.requires.memo;
+}
+
+pub judge_one-requires-clause-rest : goal.judge_one-requires-clause-rest
+judge_one-requires-clause-rest g c =
+    All-get_or (IsRest (question_of g.T.Theory.denotes c.args.problem.now) (assignments_of (history_of g.T.Theory.denotes c.args.stored.now)) (of_function c.args.points.now 0)) c.args.rests.now c.loop-rest.rest-index _ c.loop-rest-test.true c.requires.rests

@@ -1,4 +1,4 @@
-use Rattle.std.proofs.Common.{[], ◌∷◌, inr, refl, subst, sym}
+use Rattle.std.proofs.Common.{[], ◌∷◌, inl, inr, refl, subst, sym}
 use Rattle.std.proofs.lemmas.List.Elements.{All-contains}
 use Rattle.std.proofs.lemmas.Option.{slice_get_read}
 use Rattle.sy_grammar_base.specs.Questions.{question_of}
@@ -47,3 +47,6 @@ returns-clause-judged g c =
       at = chosen_at g.T.Theory.denotes c.args.leaves.now c.args.leaf kept (slice_get_read _ _ _ _ refl c.requires.leaf c.index-leaves-leaf.is);
       judges = rw c.in_ok-bodies.ensures at c.in_ok-judged.ensures.judged;
     })
+
+pub returns-in-Some-clause-judged : goal.returns-in-Some-clause-judged
+returns-in-Some-clause-judged g c = inl (c.in-Some.good, c.in-Some.ensures, c.judged_by.ensures)

@@ -1,4 +1,4 @@
-use Rattle.std.proofs.Common.{◌+◌, ◌≤◌, [], arith, length, subst, sym}
+use Rattle.std.proofs.Common.{◌+◌, ◌≤◌, [], arith, length, refl, subst, sym}
 use Rattle.std.proofs.lemmas.List.{length-map}
 use Rattle.sy_grammar_base.specs.Questions.{question_of}
 use Rattle.sy_points.specs.Asked.{of_function}
@@ -6,7 +6,7 @@ use Rattle.sy_loop_history.specs.Histories.{Counterexample}
 use Rattle.sy_loop_history.specs.Stored.{counterexample_of, history_of}
 use Rattle.sy_loop_trees_laws.specs.Goods.{assignments_of}
 use Rattle.sy_loop_goods.specs.Rests.{AreRests}
-use Rattle.sy_loop_goods.proofs.Placing.{all_places, next_new, next_there, none_before, widens_then}
+use Rattle.sy_loop_goods.proofs.Placing.{all_places, next_new, next_there, none_before, widens_not, widens_then}
 use Rattle.sy_loop_goods.proofs.rests.rest_all.Goals.{in-There, in-New}
 use Rattle.sy_loop_goods.proofs.rests.rest_all.Goals as goal
 
@@ -42,3 +42,10 @@ returns-clause-answer g c =
     let done : length (assignments_of (history_of g.T.Theory.denotes c.args.stored.now)) ≤ c.loop-place.place = omega (arith, c.loop-place-test.false, c.len-place-end.ensures, length-map c.args.stored.now.items (counterexample_of g.T.Theory.denotes), length-map (history_of g.T.Theory.denotes c.args.stored.now) (λ (k : Counterexample). k.assignment)) in
     let are = all_places (question_of g.T.Theory.denotes c.args.problem.now) (assignments_of (history_of g.T.Theory.denotes c.args.stored.now)) (of_function c.args.points.now 0) c.loop-place.place c.loop-place.rests.items done (so_far.1 (none_before (question_of g.T.Theory.denotes c.args.problem.now) (assignments_of (history_of g.T.Theory.denotes c.args.stored.now)) (of_function c.args.points.now 0))) in
     (subst (λ asked. AreRests (question_of g.T.Theory.denotes c.args.problem.now) (assignments_of (history_of g.T.Theory.denotes c.args.stored.now)) (of_function asked 0) c.loop-place.rests.items) (sym so_far.0) are, so_far.0)
+
+pub loop-place-init : goal.loop-place-init
+loop-place-init g c = rw c.new-rests.ensures.items (record {
+  held = c.requires.held;
+  widens = widens_not (question_of g.T.Theory.denotes c.args.problem.now) (history_of g.T.Theory.denotes c.args.stored.now) c.args.points.now;
+  so_far = (refl, λ first. first);
+})

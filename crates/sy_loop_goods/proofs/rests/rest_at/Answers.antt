@@ -1,9 +1,9 @@
-use Rattle.std.proofs.Common.{◌+◌, arith}
+use Rattle.std.proofs.Common.{◌+◌, arith, refl}
 use Rattle.sy_grammar_base.specs.Questions.{question_of}
 use Rattle.sy_points.specs.Asked.{of_function}
 use Rattle.sy_loop_history.specs.Stored.{history_of}
 use Rattle.sy_loop_trees_laws.specs.Goods.{assignments_of}
-use Rattle.sy_loop_goods.proofs.Placing.{next_new, next_place, next_there, widens_then}
+use Rattle.sy_loop_goods.proofs.Placing.{next_new, next_place, next_there, widens_not, widens_then}
 use Rattle.sy_loop_goods.proofs.rests.rest_at.Goals.{in-There, in-New}
 use Rattle.sy_loop_goods.proofs.rests.rest_at.Goals as goal
 
@@ -38,3 +38,10 @@ returns-clause-answer g c =
     let so_far = rw c.if-new.false at c.loop-number.invariant.so_far in
     let many = c.requires.posed.many in
     (so_far.0, λ first. next_place (question_of g.T.Theory.denotes c.args.problem.now) (assignments_of (history_of g.T.Theory.denotes c.args.stored.now)) (of_function c.args.points.now 0) c.args.place c.loop-number.number c.loop-number.rests.items (omega (arith, c.loop-number-test.false, many)) (so_far.1 first))
+
+pub loop-number-init : goal.loop-number-init
+loop-number-init g c = record {
+  held = c.requires.held;
+  widens = widens_not (question_of g.T.Theory.denotes c.args.problem.now) (history_of g.T.Theory.denotes c.args.stored.now) c.args.points.now;
+  so_far = (refl, λ first. first);
+}

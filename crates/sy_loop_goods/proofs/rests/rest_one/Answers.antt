@@ -1,4 +1,4 @@
-use Rattle.std.proofs.Common.{List, refl}
+use Rattle.std.proofs.Common.{List, arith, refl}
 use Rattle.std.proofs.lemmas.Option.{slice_get_read}
 use Rattle.sy_terms.specs.Denoted.{vals_of}
 use Rattle.sy_terms.specs.declared.sort.Value.{Value}
@@ -9,7 +9,7 @@ use Rattle.sy_points.specs.declared.points.Added.TheVariants as added
 use Rattle.sy_loop_history.specs.Stored.{counterexample_of, history_of}
 use Rattle.sy_loop_candidate.proofs.Assignments.{place_of}
 use Rattle.sy_loop_trees_laws.specs.Goods.{assignments_of}
-use Rattle.sy_loop_goods.proofs.Placing.{add_holds, add_widens, assignment_at, full, nowhere, the_constraint, there}
+use Rattle.sy_loop_goods.proofs.Placing.{add_holds, add_widens, assignment_at, full, less_room, nowhere, the_constraint, there, widens_not}
 use Rattle.sy_loop_goods.proofs.rests.rest_one.Goals as goal
 
 pub rest_of-requires-clause-values : goal.rest_of-requires-clause-values
@@ -80,3 +80,62 @@ returns-clause-answer g c =
           (there (question_of g.T.Theory.denotes c.args.problem.now) (assignments_of (history_of g.T.Theory.denotes c.args.stored.now)) (of_function c.args.points.now 0) c.args.place c.args.number (vals_of g.T.Theory.denotes pair.0) it.constraint (assignment_at (history_of g.T.Theory.denotes c.args.stored.now) c.args.place (counterexample_of g.T.Theory.denotes pair) at) it.at
           c.requires.pointwise (c.requires.held.assigned c.args.place (counterexample_of g.T.Theory.denotes pair) at) (vals_of g.T.Theory.denotes c.in-At.tuple) c.point_in-point.result rests.rests found c.args.rests.now.items so_far),
     )
+
+pub returns-in-Nowhere-clause-held : goal.returns-in-Nowhere-clause-held
+returns-in-Nowhere-clause-held g c = c.requires.held
+
+pub returns-in-Nowhere-clause-widens : goal.returns-in-Nowhere-clause-widens
+returns-in-Nowhere-clause-widens g c = widens_not (question_of g.T.Theory.denotes c.args.problem.now) (history_of g.T.Theory.denotes c.args.stored.now) c.args.points.now
+
+pub returns-in-Leaves-clause-held : goal.returns-in-Leaves-clause-held
+returns-in-Leaves-clause-held g c = c.requires.held
+
+pub returns-in-Leaves-clause-widens : goal.returns-in-Leaves-clause-widens
+returns-in-Leaves-clause-widens g c = widens_not (question_of g.T.Theory.denotes c.args.problem.now) (history_of g.T.Theory.denotes c.args.stored.now) c.args.points.now
+
+pub returns-in-Full-clause-held : goal.returns-in-Full-clause-held
+returns-in-Full-clause-held g c =
+    let pair : List (Value g.row.T-Num.Denot) × List (Term g.row.T.Denot g.row.T-Num.Denot) = (c.in-Some.assignment.now, c.in-Some.field-0-1.now) in
+    let at = place_of g.T.Theory.denotes c.args.stored.now c.args.place pair c.in-Some.ensures in
+    let it = the_constraint (question_of g.T.Theory.denotes c.args.problem.now) c.args.posed.now c.args.number c.index-posed-number.result c.requires.posed (slice_get_read _ _ _ _ refl c.requires.number c.index-posed-number.is) in
+    let told = c.in_ok-rested.ensures it.constraint it.of it.poses in
+    let rests = rw (c.in-At.is, c.as_slice.ensures) at told in
+    add_holds (question_of g.T.Theory.denotes c.args.problem.now) c.args.limits.now (history_of g.T.Theory.denotes c.args.stored.now) c.args.place (counterexample_of g.T.Theory.denotes pair) at it.constraint it.of (vals_of g.T.Theory.denotes c.in-At.tuple) rests
+    c.args.points.now c.add.new.self added.Full c.requires.held (rw (c.in-Full.is, c.as_slice-2.ensures) at c.in_ok-added.ensures.ok)
+
+pub returns-in-Full-clause-widens : goal.returns-in-Full-clause-widens
+returns-in-Full-clause-widens g c =
+    let pair : List (Value g.row.T-Num.Denot) × List (Term g.row.T.Denot g.row.T-Num.Denot) = (c.in-Some.assignment.now, c.in-Some.field-0-1.now) in
+    let at = place_of g.T.Theory.denotes c.args.stored.now c.args.place pair c.in-Some.ensures in
+    let it = the_constraint (question_of g.T.Theory.denotes c.args.problem.now) c.args.posed.now c.args.number c.index-posed-number.result c.requires.posed (slice_get_read _ _ _ _ refl c.requires.number c.index-posed-number.is) in
+    let told = c.in_ok-rested.ensures it.constraint it.of it.poses in
+    let rests = rw (c.in-At.is, c.as_slice.ensures) at told in
+    add_widens (question_of g.T.Theory.denotes c.args.problem.now) c.args.limits.now (history_of g.T.Theory.denotes c.args.stored.now) c.args.place (counterexample_of g.T.Theory.denotes pair) at it.constraint it.of (vals_of g.T.Theory.denotes c.in-At.tuple) rests
+    c.args.points.now c.add.new.self added.Full c.requires.held (rw (c.in-Full.is, c.as_slice-2.ensures) at c.in_ok-added.ensures.ok)
+
+pub returns-clause-held : goal.returns-clause-held
+returns-clause-held g c =
+    let pair : List (Value g.row.T-Num.Denot) × List (Term g.row.T.Denot g.row.T-Num.Denot) = (c.in-Some.assignment.now, c.in-Some.field-0-1.now) in
+    let at = place_of g.T.Theory.denotes c.args.stored.now c.args.place pair c.in-Some.ensures in
+    let it = the_constraint (question_of g.T.Theory.denotes c.args.problem.now) c.args.posed.now c.args.number c.index-posed-number.result c.requires.posed (slice_get_read _ _ _ _ refl c.requires.number c.index-posed-number.is) in
+    let told = c.in_ok-rested.ensures it.constraint it.of it.poses in
+    let rests = rw (c.in-At.is, c.as_slice.ensures) at told in
+    add_holds (question_of g.T.Theory.denotes c.args.problem.now) c.args.limits.now (history_of g.T.Theory.denotes c.args.stored.now) c.args.place (counterexample_of g.T.Theory.denotes pair) at it.constraint it.of (vals_of g.T.Theory.denotes c.in-At.tuple) rests
+    c.args.points.now c.add.new.self added.There c.requires.held (rw (c.in-There.is, c.as_slice-2.ensures) at c.in_ok-added.ensures.ok)
+
+pub returns-clause-widens : goal.returns-clause-widens
+returns-clause-widens g c =
+    let pair : List (Value g.row.T-Num.Denot) × List (Term g.row.T.Denot g.row.T-Num.Denot) = (c.in-Some.assignment.now, c.in-Some.field-0-1.now) in
+    let at = place_of g.T.Theory.denotes c.args.stored.now c.args.place pair c.in-Some.ensures in
+    let it = the_constraint (question_of g.T.Theory.denotes c.args.problem.now) c.args.posed.now c.args.number c.index-posed-number.result c.requires.posed (slice_get_read _ _ _ _ refl c.requires.number c.index-posed-number.is) in
+    let told = c.in_ok-rested.ensures it.constraint it.of it.poses in
+    let rests = rw (c.in-At.is, c.as_slice.ensures) at told in
+    add_widens (question_of g.T.Theory.denotes c.args.problem.now) c.args.limits.now (history_of g.T.Theory.denotes c.args.stored.now) c.args.place (counterexample_of g.T.Theory.denotes pair) at it.constraint it.of (vals_of g.T.Theory.denotes c.in-At.tuple) rests
+    c.args.points.now c.add.new.self added.There c.requires.held (rw (c.in-There.is, c.as_slice-2.ensures) at c.in_ok-added.ensures.ok)
+
+pub add-requires : goal.add-requires
+add-requires g c = omega (arith, c.requires.held.functions, c.requires.pointwise.one)
+
+pub returns-in-New-clause-answer : goal.returns-in-New-clause-answer
+returns-in-New-clause-answer g c =
+    less_room c.args.points.now c.add.new.self (vals_of g.T.Theory.denotes c.in-At.tuple) (omega (arith, c.requires.held.functions, c.requires.pointwise.one)) (rw (c.in-New.is, c.as_slice-2.ensures) at c.in_ok-added.ensures.ok)
