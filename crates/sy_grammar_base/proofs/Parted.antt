@@ -1,10 +1,10 @@
 -- The part of a nonterminal's rule, by what was found of both.
-use Rattle.std.proofs.Common.{◌≡◌, ◌≤◌, ℕ, List, length, map, Option, Some, None, slice_get, ap, ◌∙◌, arith}
+use Rattle.std.proofs.Common.{◌≡◌, ◌≤◌, ℕ, length, map, Option, Some, None, slice_get, ap, ◌∙◌, arith}
 use Rattle.std.specs.Option.{option_map}
 use Rattle.std.proofs.lemmas.List.{length-map}
 use Rattle.std.proofs.lemmas.Option.{slice_get_past, slice_get-map}
 use Rattle.sy_terms.specs.Values.{Val}
-use Rattle.sy_grammar_base.specs.Trees.{Production, Nonterminal, rule_of, template, template_at}
+use Rattle.sy_grammar_base.specs.Trees.{Nonterminal, rule_of, template, template_at}
 use Rattle.sy_grammar_base.specs.Grown.{syntax_from, nonterminal_of, production_of}
 use Rattle.sy_grammar_base.specs.declared.grammar.Grammar.{Grammar}
 use Rattle.sy_grammar_base.specs.declared.grammar.Non.{Non}
