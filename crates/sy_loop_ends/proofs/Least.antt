@@ -8,7 +8,7 @@ use Rattle.sy_loop_bounds.specs.declared.reach.Reach.TheVariants.{Sizes, Joins, 
 use Rattle.sy_loop_history.specs.Histories.{AllViolate, AreViolatedBelow, Counterexample, IsCandidate, IsHonestHistory}
 use Rattle.sy_loop_history.proofs.Staying.{tried_in_bound}
 use Rattle.sy_loop_laws.proofs.Refuted.{no_solution_within}
-use Rattle.sy_loop_ends.specs.Least.{AreLeast}
+use Rattle.sy_loop_claims.specs.Least.{AreLeast}
 
 all_below : (reach : Reach) (question : Question) (history : List Counterexample) (n : ℕ) → (reach ≡ Beyond → ⊥) → AreViolatedBelow reach question history n → (m : ℕ) → m < n → AllViolate reach question history m
 all_below Sizes question history n strict below = below

@@ -1,3 +1,1 @@
-pub mod Beginning
-pub mod Least
-pub mod Summing
+mod Least

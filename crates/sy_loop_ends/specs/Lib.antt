@@ -1,2 +1,2 @@
-pub mod Clauses
-pub mod Least
+pub use Rattle.sy_loop_claims.specs.Clauses
+pub use Rattle.sy_loop_claims.specs.Least

@@ -2,6 +2,6 @@
 #![tactic(auto)]
 
 mod outcome;
-mod sizes;
 
-pub use outcome::{ended, exhausted, unbegun};
+pub use outcome::ended;
+pub use sy_loop_claims::{exhausted, unbegun};

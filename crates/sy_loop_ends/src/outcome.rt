@@ -1,34 +1,21 @@
-// The outcomes of a search that ends.
+// The outcome of a search that a candidate ends.
 ghost use Rattle.std.specs.Prelude.{◌≡◌, IfOk};
 ghost use Rattle.sy_loop_bounds.specs.declared.reach.Reach.TheVariants.{Beyond};
 ghost use Rattle.sy_loop_candidate.specs.Clauses.{IsEndFor, IsKnownFor};
+ghost use Rattle.sy_loop_candidate.specs.declared.step.End.TheVariants as ends;
 ghost use Rattle.sy_loop_outcome.specs.Right.{IsRightFor};
-ghost use Rattle.sy_loop_ends.specs.Clauses.{FindsLeastFor, IsUnsolvedFor};
+ghost use Rattle.sy_loop_claims.specs.Clauses.{FindsLeastFor};
 
-use crate::sizes::are_at_most;
 use std::alloc::Global;
 use sy_grammar_base::Problem;
 use sy_loop_bounds::Reach;
 use sy_loop_candidate::{End, Known};
-use sy_loop_outcome::{FailCause, LoopRange, Outcome};
+use sy_loop_claims::{found, left_range};
+use sy_loop_outcome::{FailCause, Outcome};
 use sy_points::Stored;
 use sy_query_decide::Decide;
 use sy_query_limits::Limits;
-use sy_terms::{Seq, Theory, Values, Want, copied_values};
-
-/// The outcome where a search may have no round.
-pub fn unbegun<T: Theory, D: Decide<T>>(
-    alloc: Global,
-    _problem: &Problem<T>,
-    _limits: &Limits,
-    _reach: Reach,
-) -> Outcome<T, D::Proof, D::Spent>
-    requires { _limits.now.rounds ≡ 0 }
-    ensures right { IsRightFor T.Theory D.Decide _reach _problem.now _limits.now result }
-    ensures least { FindsLeastFor T.Theory _reach _problem.now result }
-{
-    Outcome::Fail(FailCause::Rounds(Stored::new(alloc)))
-}
+use sy_terms::{Bodies, Seq, Theory, Values, Want, copied_values};
 
 /// The outcome of a search that ends by a candidate. `Want` comes where memory doesn't suffice for a copy of a function's tuples.
 pub fn ended<T: Theory, D: Decide<T>>(
@@ -46,41 +33,51 @@ pub fn ended<T: Theory, D: Decide<T>>(
     ensures least { IfOk result (FindsLeastFor T.Theory _reach _problem.now) }
 {
     match end {
-        End::Found(bodies, proof) => Ok(Outcome::Found(bodies, proof)),
-        End::Rounds => Ok(Outcome::Fail(FailCause::Rounds(known.stored))),
-        End::Points(function, bodies, assignment) => {
-            let tuples = copied_tuples::<T>(alloc, known.points.of(function))?;
-            let cause = FailCause::Points(known.stored, function, bodies, assignment, tuples);
-            Ok(Outcome::Fail(cause))
+        End::Found(bodies, proof) => {
+            drop(known);
+            Ok(found::<T, D>(_problem, _limits, _reach, bodies, proof))
         }
-        End::Weight(bodies) => Ok(Outcome::Fail(FailCause::Weight(known.stored, bodies))),
+        End::Rounds => Ok(Outcome::Fail(FailCause::Rounds(stored_of(known)))),
+        End::Points(function, bodies, assignment) => points_met::<T, D>(
+            alloc, _problem, _limits, _reach, known, function, bodies, assignment,
+        ),
+        End::Weight(bodies) => Ok(Outcome::Fail(FailCause::Weight(stored_of(known), bodies))),
         End::Decide(bodies, spent) => {
-            Ok(Outcome::Fail(FailCause::Decide(known.stored, bodies, spent)))
+            Ok(Outcome::Fail(FailCause::Decide(stored_of(known), bodies, spent)))
         }
         End::Checked(bodies, assignment) => {
-            let left = LoopRange::Checked(bodies, assignment);
-            Ok(Outcome::Fail(FailCause::Range(known.stored, left)))
+            let stored = stored_of(known);
+            Ok(left_range::<T, D>(_problem, _limits, _reach, stored, bodies, assignment))
         }
     }
 }
 
-/// The outcome where nothing up to the greatest size solves the problem. `Want` comes where memory doesn't suffice to find the
-/// grammars' largest sizes.
-pub fn exhausted<T: Theory, D: Decide<T>>(
-    alloc: Global,
-    problem: &Problem<T>,
-    limits: &Limits,
-    reach: Reach,
-) -> Result<Outcome<T, D::Proof, D::Spent>, Want>
-    requires { IsUnsolvedFor T.Theory reach problem.now limits.now }
-    ensures right { IfOk result (IsRightFor T.Theory D.Decide reach problem.now limits.now) }
-    ensures least { IfOk result (FindsLeastFor T.Theory reach problem.now) }
+/// The assignments that refuted candidates, of what a search knows.
+fn stored_of<T: Theory>(known: Known<T>) -> Stored<T>
+    ensures { result ≡ known.stored }
 {
-    if are_at_most(alloc, problem, limits.size)? {
-        Ok(Outcome::Infeasible)
-    } else {
-        Ok(Outcome::Fail(FailCause::Size))
-    }
+    known.stored
+}
+
+/// The outcome where the function of this number has as many tuples as it may, and the bodies ask for one more at the
+/// assignment. It names copies of the function's tuples.
+fn points_met<T: Theory, D: Decide<T>>(
+    alloc: Global,
+    _problem: &Problem<T>,
+    _limits: &Limits,
+    _reach: Reach,
+    known: Known<T>,
+    function: u32,
+    bodies: Bodies<T>,
+    assignment: Values<T>,
+) -> Result<Outcome<T, D::Proof, D::Spent>, Want>
+    requires { IsEndFor T.Theory D.Decide _reach _problem.now _limits.now known (ends.Points function bodies assignment) }
+    ensures right { IfOk result (IsRightFor T.Theory D.Decide _reach _problem.now _limits.now) }
+    ensures least { IfOk result (FindsLeastFor T.Theory _reach _problem.now) }
+{
+    let tuples = copied_tuples::<T>(alloc, known.points.of(function))?;
+    let cause = FailCause::Points(known.stored, function, bodies, assignment, tuples);
+    Ok(Outcome::Fail(cause))
 }
 
 /// The same tuples, in memory of their own.

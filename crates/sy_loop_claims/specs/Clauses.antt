@@ -6,7 +6,7 @@ use Rattle.sy_query_limits.specs.declared.Limits.{Limits}
 use Rattle.sy_loop_bounds.specs.declared.reach.Reach.{Reach}
 use Rattle.sy_loop_history.specs.Unsolved.{NoSolutionWithin}
 use Rattle.sy_loop_outcome.specs.declared.outcome.Outcome.{Outcome}
-use Rattle.sy_loop_ends.specs.Least.{FindsLeast}
+use Rattle.sy_loop_claims.specs.Least.{FindsLeast}
 
 module _ {T N : Type 0} (theory : TheoryOf T N) (reach : Reach) (problem : Problem T N) where
   abbrev pub FindsLeastFor : {P S : Type 0} → Outcome T P S N → Type 0

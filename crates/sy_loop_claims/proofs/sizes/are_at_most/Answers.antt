@@ -1,8 +1,8 @@
 use Rattle.std.proofs.Common.{rules, arith, ◌-◌, sym}
 use mathlib.Core.Bool.{true≢false}
 use Rattle.sy_terms.specs.Denoted.{vals_of}
-use Rattle.sy_loop_ends.proofs.Summing.{summed_start, summed_more, summed_all, summed_exceeds}
-use Rattle.sy_loop_ends.proofs.sizes.are_at_most.Goals as goal
+use Rattle.sy_loop_claims.proofs.Summing.{summed_start, summed_more, summed_all, summed_exceeds}
+use Rattle.sy_loop_claims.proofs.sizes.are_at_most.Goals as goal
 
 pub loop-wanted-init : goal.loop-wanted-init
 loop-wanted-init g c = summed_start g.T.Theory.denotes (vals_of g.T.Theory.denotes c.args.problem.now.pool) c.as_slice-wanted-items.result.now c.args.size
