@@ -11,6 +11,8 @@ ghost use Rattle.sy_intsolve_paths_laws.specs.Paths.{IsPath};
 ghost use Rattle.sy_intsolve_points.specs.Points.{IsPointOf, ValuesAreWhole};
 ghost use Rattle.sy_intsolve_trees.specs.declared.step.Order.{Order};
 ghost use Rattle.sy_intsolve_trees.specs.Growing.{Unfinished};
+ghost use Rattle.sy_intsolve_trees.specs.Steps as spec;
+ghost use Rattle.sy_intsolve_trees.specs.Stored.{grown_tree_of, layers_of};
 ghost use Rattle.sy_intsolve_search.specs.Ways.{IsNumberedQuery, IsWay};
 ghost use Rattle.sy_intsolve_search.specs.States.{IsTurn};
 
@@ -27,6 +29,23 @@ use sy_query_decide::Verdict;
 use sy_seq::{Seq, Want};
 use sy_simplex::Run;
 
+/// The tree so far, unfinished at the way's end, and the way's path.
+fn plugged_way(alloc: Global, way: Way) -> Result<(Tree, Path), Want>
+    ensures tree { IfOk result (λ left. grown_tree_of left.0 ≡ spec.plugged (layers_of way.steps.items) Unfinished) }
+    ensures path { IfOk result (λ left. left.1.facts ≡ way.facts.items) }
+{
+    let Way {
+        facts,
+        steps,
+        inner: _,
+    } = way;
+    let tree = plugged(alloc, steps, Tree::Unfinished)?;
+    let path = Path {
+        facts: Seq::from(facts),
+    };
+    Ok((tree, path))
+}
+
 /// The end with the tree so far, whose inner nodes are as many as allowed.
 pub(crate) fn spent_nodes(alloc: Global, way: Way) -> Result<Turn, Want>
     ensures { (order : Order) (query : QueryOf) (limits : LimitsOf) (before : ℕ) → IsWay order query way Unfinished → way.inner ≡ limits.nodes → IfOk result (IsTurn order query limits before) }
@@ -39,15 +58,7 @@ pub(crate) fn spent_nodes(alloc: Global, way: Way) -> Result<Turn, Want>
 pub(crate) fn spent_pivots(alloc: Global, way: Way, run: Run) -> Result<Turn, Want>
     ensures { (order : Order) (query : QueryOf) (limits : LimitsOf) (before : ℕ) → IsWay order query way Unfinished → way.inner ≤ limits.nodes → RunIsSpent (length query.vars) (forms way.facts.items) limits.pivots run.steps → IfOk result (IsTurn order query limits before) }
 {
-    let Way {
-        facts,
-        steps,
-        inner: _,
-    } = way;
-    let tree = plugged(alloc, steps, Tree::Unfinished)?;
-    let path = Path {
-        facts: Seq::from(facts),
-    };
+    let (tree, path) = plugged_way(alloc, way)?;
     Ok(Turn::Over(Verdict::Spent(IntSpent::Pivots(tree, path, run))))
 }
 
@@ -55,15 +66,7 @@ pub(crate) fn spent_pivots(alloc: Global, way: Way, run: Run) -> Result<Turn, Wa
 pub(crate) fn spent_range(alloc: Global, way: Way, run: Run) -> Result<Turn, Want>
     ensures { (order : Order) (query : QueryOf) (limits : LimitsOf) (before : ℕ) → IsWay order query way Unfinished → way.inner ≤ limits.nodes → IsOutOfRange (length query.vars) (forms way.facts.items) limits.pivots run.steps → IfOk result (IsTurn order query limits before) }
 {
-    let Way {
-        facts,
-        steps,
-        inner: _,
-    } = way;
-    let tree = plugged(alloc, steps, Tree::Unfinished)?;
-    let path = Path {
-        facts: Seq::from(facts),
-    };
+    let (tree, path) = plugged_way(alloc, way)?;
     Ok(Turn::Over(Verdict::Spent(IntSpent::Range(tree, IntRange::Simplex(path, run)))))
 }
 
@@ -71,15 +74,7 @@ pub(crate) fn spent_range(alloc: Global, way: Way, run: Run) -> Result<Turn, Wan
 pub(crate) fn spent_known(alloc: Global, way: Way, node: u32) -> Result<Turn, Want>
     ensures { (order : Order) (query : QueryOf) (limits : LimitsOf) (before : ℕ) → IsWay order query way Unfinished → way.inner ≤ limits.nodes → (query_seen query way.facts.items).misfit ≡ Some node → IfOk result (IsTurn order query limits before) }
 {
-    let Way {
-        facts,
-        steps,
-        inner: _,
-    } = way;
-    let tree = plugged(alloc, steps, Tree::Unfinished)?;
-    let path = Path {
-        facts: Seq::from(facts),
-    };
+    let (tree, path) = plugged_way(alloc, way)?;
     Ok(Turn::Over(Verdict::Spent(IntSpent::Range(tree, IntRange::Known(path, node)))))
 }
 
