@@ -64,6 +64,13 @@ pub pushed-view : {X Y : Type 0} (f : X → List Y) (xs : List X) (n : ℕ) (x z
     map f (set xs n x) ≡ slice_set (map f xs) n (slice_index_or (map f xs) n [] ++ e ∷ [])
 pushed-view f xs n x z e within is more = set-view f xs n x ∙ ap (slice_set (map f xs) n) (more ∙ ap (λ list. list ++ e ∷ []) (sym (at-view f xs n z within is)))
 
+-- what is put where it stands changes nothing
+pub set-same : {X : Type 0} (xs : List X) (n : ℕ) (z : X) → z ≡ get_or xs n z → set xs n z ≡ xs
+set-same [] zero z is = refl
+set-same [] (suc n) z is = refl
+set-same (y ∷ xs) zero z is = ap (λ first. first ∷ xs) is
+set-same (y ∷ xs) (suc n) z is = ap (λ rest. y ∷ rest) (set-same xs n z is)
+
 none_of : {X Y : Type 0} (f : List X → List Y) → f [] ≡ [] → (n : ℕ) → map f (replicate n []) ≡ replicate n []
 none_of f e zero = refl
 none_of {X} {Y} f e (suc n) = ap (λ (first : List Y). first ∷ map f (replicate n [])) e ∙ ap (λ (rest : List (List Y)). [] ∷ rest) (none_of f e n)

@@ -1,9 +1,12 @@
-use Rattle.std.proofs.Common.{◌≡◌, ◌<◌, length, arith, ap, ◌∙◌, sym, subst}
+use Rattle.std.proofs.Common.{◌≡◌, ◌<◌, length, arith, ap, ◌∙◌, sym, subst, Result, Ok, Err}
+use Rattle.std.specs.Prelude.{IfErr}
+use Rattle.std.specs.Result.{IsErrAnd}
 use Rattle.std.proofs.lemmas.List.{length-map}
 use Rattle.sy_grammar_base.specs.Grown.{nonterminal_of}
 use Rattle.sy_bank_rows.specs.Stored.{entry_of}
 use Rattle.sy_bank_level.specs.Filling.{EntryIsRight}
 use Rattle.sy_bank_level.specs.Places.{places_of}
+use Rattle.sy_bank_level.specs.declared.filling.Stop.TheVariants.{Want}
 use Rattle.sy_bank_level.specs.Task.{world, level_state_of, level_of}
 use Rattle.sy_bank_level.proofs.Keeping.{keeps, keeps-grows, keeps-done, added-as}
 use Rattle.sy_bank_level.proofs.filling.Filling.keep.Goals as goal
@@ -34,3 +37,20 @@ returns-clause-done g c =
     let within : c.args.nonterminal < length s.fresh = omega (arith, c.requires.known, c.requires.steady.wide, length-map c.args.task.now.grammar.now.nons (nonterminal_of number)) in
     let right = subst (λ size. EntryIsRight w c.args.nonterminal size (entry_of number c.args.kept)) sized c.requires.right in
     rw (c.in_ok-push.ensures.ok, sized) (keeps-done w s c.args.nonterminal (entry_of number c.args.kept) (places_of c.add.new.self) right within)
+
+-- a way out by want of memory
+handed_on : {X E : Type 0} (P : E → Type 0) (r : Result X E) (end : E) → IsErrAnd r (λ e. e ≡ end) → P end → IfErr r P
+handed_on P (Ok x) end told holds = tt
+handed_on P (Err e) end told holds = subst P (sym told) holds
+
+pub returns-in_err-add-clause-stop : goal.returns-in_err-add-clause-stop
+returns-in_err-add-clause-stop g c = handed_on _ c.from_residual.result Want c.from_residual.ensures.1 tt
+
+pub returns-in_err-push-clause-stop : goal.returns-in_err-push-clause-stop
+returns-in_err-push-clause-stop g c = handed_on _ c.from_residual-in_err-push.result Want c.from_residual-in_err-push.ensures.1 tt
+
+pub of-requires : goal.of-requires
+of-requires g c = omega (arith, c.requires.known, c.requires.steady.wide, length-map c.args.task.now.grammar.now.nons (nonterminal_of g.T.Theory.denotes))
+
+pub push-requires : goal.push-requires
+push-requires g c = omega (arith, c.requires.known, c.requires.steady.wide, length-map c.args.task.now.grammar.now.nons (nonterminal_of g.T.Theory.denotes))
