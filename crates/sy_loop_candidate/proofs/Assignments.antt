@@ -5,6 +5,7 @@ use Rattle.std.specs.List.{Contains}
 use Rattle.std.proofs.lemmas.Option.{slice_get-map}
 use Rattle.std.proofs.lemmas.List.Elements.{Contains-append_left, Contains-append_right}
 use Rattle.sy_terms.specs.Values.{Val}
+use Rattle.sy_terms.specs.Denoted.{vals_of}
 use Rattle.sy_terms.specs.Expr.{Expr}
 use Rattle.sy_terms.specs.Meaning.{functions, function_from, asked}
 use Rattle.sy_terms.specs.declared.sort.Value.{Value}
@@ -30,6 +31,13 @@ use Rattle.sy_loop_candidate.proofs.Asking.{within_held, held_with, widened}
 -- the counterexample of this place
 pub place_of : {T N : Type 0} (number : N → Val) (stored : Stored T N) (place : ℕ) (pair : List (Value N) × List (Term T N)) → slice_get stored.items place ≡ Some pair → slice_get (history_of number stored) place ≡ Some (counterexample_of number pair)
 place_of number stored place pair at = slice_get-map (counterexample_of number) stored.items place ∙ ap (option_map (counterexample_of number)) at
+
+-- a copy of its assignment
+pub stored_copy : {T N : Type 0} (number : N → Val) (stored : Stored T N) (place : ℕ) (pair : List (Value N) × List (Term T N)) (copy : List (Value N)) → slice_get stored.items place ≡ Some pair → copy ≡ pair.0 →
+    option_map (λ (c : Counterexample). c.assignment) (slice_get (history_of number stored) place) ≡ Some (vals_of number copy)
+stored_copy {T} {N} number stored place pair copy at same =
+    ap (option_map (λ (c : Counterexample). c.assignment)) (place_of number stored place pair at)
+    ∙ ap (λ (vs : List (Value N)). Some (vals_of number vs)) (sym same)
 
 -- what a constraint asks, all constraints ask
 asked_of : (definitions : List Expr) (bodies : List Expr) (values : List Val) (terms : List Expr) (term : Expr) (call : ℕ × List Val) → Contains terms term →

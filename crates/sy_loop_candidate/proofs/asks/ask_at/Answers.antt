@@ -1,4 +1,4 @@
-use Rattle.std.proofs.Common.{List, map}
+use Rattle.std.proofs.Common.{arith, List, map}
 use Rattle.sy_terms.specs.Denoted.{expr_of}
 use Rattle.sy_terms.specs.declared.sort.Value.{Value}
 use Rattle.sy_terms.specs.declared.term.Term.{Term}
@@ -46,3 +46,6 @@ returns-in-None-clause-answer g c =
 pub returns-in-None-clause-widens : goal.returns-in-None-clause-widens
 returns-in-None-clause-widens g c =
     widens_not (question_of g.T.Theory.denotes c.args.problem.now) (history_of g.T.Theory.denotes c.args.stored.now) (map (expr_of g.T.Theory.denotes) c.args.bodies.now) c.args.points.now
+
+pub unreachable-requires : goal.unreachable-requires
+unreachable-requires g c = omega (arith, c.requires.place, c.in_default.ensures)

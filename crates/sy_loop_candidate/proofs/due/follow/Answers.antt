@@ -1,4 +1,4 @@
-use Rattle.std.proofs.Common.{List, map}
+use Rattle.std.proofs.Common.{arith, List, map}
 use Rattle.sy_terms.specs.Denoted.{expr_of, vals_of}
 use Rattle.sy_terms.specs.declared.sort.Value.{Value}
 use Rattle.sy_terms.specs.declared.term.Term.{Term}
@@ -98,3 +98,6 @@ returns-in_default-asked-clause-known g c =
 pub returns-in_default-asked-clause-grows : goal.returns-in_default-asked-clause-grows
 returns-in_default-asked-clause-grows g c =
     grows_by (question_of g.T.Theory.denotes c.args.problem.now) (history_of g.T.Theory.denotes c.args.known.now.stored) (map (expr_of g.T.Theory.denotes) c.in-Some.bodies.now) c.args.known.now.points c.ask_at.new.points c.in_ok-asked.ensures.widens
+
+pub unreachable-requires : goal.unreachable-requires
+unreachable-requires g c = omega (arith, c.requires.place, c.in_default.ensures)

@@ -1,7 +1,10 @@
-use Rattle.std.proofs.Common.{map, subst}
+use Rattle.std.proofs.Common.{map, subst, arith}
+use Rattle.std.proofs.lemmas.List.{length-map}
+use Rattle.std.proofs.lemmas.Option.{slice_get_within}
 use Rattle.sy_terms.specs.Denoted.{expr_of, vals_of}
 use Rattle.sy_grammar_base.specs.Questions.{question_of}
-use Rattle.sy_loop_history.specs.Stored.{history_of}
+use Rattle.sy_loop_history.specs.Stored.{counterexample_of, history_of}
+use Rattle.sy_loop_candidate.specs.Traces.{AsksMore, LeavesRangeAt}
 use Rattle.sy_loop_candidate.proofs.Asking.{grows_by, grows_then, known_wider}
 use Rattle.sy_loop_candidate.specs.Steps.{Steps}
 use Rattle.sy_loop_candidate.proofs.Ending.{points_met, checked_leaves, room_in, traced_step}
@@ -78,3 +81,19 @@ returns-in_ok-assignment-in-Leaves-clause-known g c =
 pub returns-in_ok-assignment-in-Leaves-clause-grows : goal.returns-in_ok-assignment-in-Leaves-clause-grows
 returns-in_ok-assignment-in-Leaves-clause-grows g c =
     grows_by (question_of g.T.Theory.denotes c.args.problem.now) (history_of g.T.Theory.denotes c.args.known.now.stored) (map (expr_of g.T.Theory.denotes) c.args.bodies) c.args.known.now.points c.try_bodies.new.points c.in_ok-try_bodies.ensures.widens
+
+pub assignment_at-requires : goal.assignment_at-requires
+assignment_at-requires g c =
+    let number = g.T.Theory.denotes in
+    let history = history_of number c.args.known.now.stored in
+    let asks : AsksMore (question_of number c.args.problem.now) history c.try_bodies.new.points (map (expr_of number) c.args.bodies) c.in-Full.function c.in-Full.place = rw c.in-Full.is at c.in_ok-try_bodies.ensures.answer in
+    let within = slice_get_within history c.in-Full.place asks.counterexample asks.at in
+    omega (arith, within, length-map c.args.known.now.stored.items (counterexample_of number))
+
+pub assignment_at-requires-in-Leaves : goal.assignment_at-requires-in-Leaves
+assignment_at-requires-in-Leaves g c =
+    let number = g.T.Theory.denotes in
+    let history = history_of number c.args.known.now.stored in
+    let leaves : LeavesRangeAt (question_of number c.args.problem.now) history (map (expr_of number) c.args.bodies) c.in-Leaves.place = rw c.in-Leaves.is at c.in_ok-try_bodies.ensures.answer in
+    let within = slice_get_within history c.in-Leaves.place leaves.counterexample leaves.at in
+    omega (arith, within, length-map c.args.known.now.stored.items (counterexample_of number))
