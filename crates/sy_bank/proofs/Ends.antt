@@ -5,7 +5,7 @@ use Rattle.std.specs.Option.{option_map}
 use Rattle.sy_terms.specs.Values.{Val}
 use Rattle.sy_terms.specs.Meaning.{Function}
 use Rattle.sy_grammar_base.specs.Trees.{Syntax}
-use Rattle.sy_bank_rows.specs.Banks.{Lost, Merged, IsDropped}
+use Rattle.sy_bank_rows.specs.Banks.{Entry, Lost, Merged, IsDropped}
 use Rattle.sy_bank.specs.Answers.{OnBank, IfFull}
 use Rattle.sy_bank.specs.Bank.{merged_of}
 use Rattle.sy_bank.specs.Promised.{IsBank, BankIsFull, IsNextBank, Stays}
@@ -34,6 +34,10 @@ end-stays number syntax defined pool cap first before Want stays next = tt
 pub handed-on : {T N : Type 0} (number : N → Val) (fact : Merged → Type 0) (answer : Result (Bank T N) (BankEnd T N)) (end : BankEnd T N) → IsErrAnd answer (λ e. e ≡ end) → OnBank number (Err end) fact → OnBank number answer fact
 handed-on number fact (Ok bank) end told holds = absurd told
 handed-on {T} {N} number fact (Err e) end told holds = subst (λ (x : BankEnd T N). OnBank number (Err x) fact) (sym told) holds
+
+pub handed-on-full : {T N : Type 0} (number : N → Val) (fact : Merged → ℕ → Entry → Type 0) (answer : Result (Bank T N) (BankEnd T N)) (end : BankEnd T N) → IsErrAnd answer (λ e. e ≡ end) → IfFull number (Err end) fact → IfFull number answer fact
+handed-on-full number fact (Ok bank) end told holds = absurd told
+handed-on-full {T} {N} number fact (Err e) end told holds = subst (λ (x : BankEnd T N). IfFull number (Err x) fact) (sym told) holds
 
 -- a term that is there was dropped
 pub some-dropped : {X Y : Type 0} (f : X → Y) (dropped : Option X) → is_some dropped ≡ true → option_map f dropped ≡ None → ⊥

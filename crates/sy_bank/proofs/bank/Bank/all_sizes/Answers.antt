@@ -10,8 +10,9 @@ use Rattle.sy_bank_level.specs.Task.{level_of}
 use Rattle.sy_bank_rows.specs.Rows.{ArePointsOf}
 use Rattle.sy_bank_laws.proofs.Next.{whole-covers}
 use Rattle.sy_bank.specs.Bank.{merged_of}
-use Rattle.sy_bank.specs.Promised.{Stays}
-use Rattle.sy_bank.proofs.Ends.{end-stays, handed-on, some-dropped}
+use Rattle.sy_bank.specs.Promised.{Stays, IsBank, BankIsFull}
+use Rattle.sy_bank.proofs.Ends.{end-bank, end-stays, handed-on, handed-on-full, some-dropped}
+use Rattle.sy_bank.proofs.Exits.{never-ok}
 use Rattle.sy_bank.proofs.bank.Bank.all_sizes.Goals as goal
 use Rattle.sy_bank.proofs.bank.Bank.all_sizes.Goals.{then-loop-bank-test+else-len-upto, else-loop-bank-test}
 
@@ -47,3 +48,30 @@ returns-clause-whole g c =
           (omega (arith, w.if-len-upto.false, w.len.ensures, c.loop-bank.bank.levels.ok.0, length-map c.loop-bank.bank.levels.items (level_of number), c.loop-bank.invariant.up))
       | else-loop-bank-test w ↦ λ none_lost. absurd (some-dropped (lost_of number) c.loop-bank.bank.dropped w.loop-bank-test.ensures none_lost)
     ]
+
+pub returns-in_err-bank-clause-whole : goal.returns-in_err-bank-clause-whole
+returns-in_err-bank-clause-whole g c = never-ok c.from_residual.result c.in_err-bank.field-0.0 c.from_residual.ensures.1
+
+pub returns-in_err-bank-clause-built : goal.returns-in_err-bank-clause-built
+returns-in_err-bank-clause-built g c = never-ok c.from_residual.result c.in_err-bank.field-0.0 c.from_residual.ensures.1
+
+pub returns-in_err-bank-clause-full : goal.returns-in_err-bank-clause-full
+returns-in_err-bank-clause-full g c =
+    let number = g.T.Theory.denotes in
+    handed-on-full number (BankIsFull (syntax_from number c.args.grammar.now) (functions (bodies number c.args.defs.now)) (vals_of number c.args.pool.now) c.args.cap) c.from_residual.result c.in_err-bank.field-0.0 c.from_residual.ensures.1 c.in_err-bank.ensures.full
+
+pub returns-in_err-bank-clause-bank : goal.returns-in_err-bank-clause-bank
+returns-in_err-bank-clause-bank g c =
+    let number = g.T.Theory.denotes in
+    let first = merged_of number c.args.self in
+    let syntax = syntax_from number c.args.grammar.now in
+    let defined = functions (bodies number c.args.defs.now) in
+    let pool = vals_of number c.args.pool.now in
+    handed-on number (IsBank syntax defined pool first.points c.args.self.upto c.args.cap) c.from_residual.result c.in_err-bank.field-0.0 c.from_residual.ensures.1
+    (end-bank number syntax defined pool first.points c.args.self.upto c.args.cap (merged_of number c.loop-bank.bank) c.in_err-bank.field-0.0 c.loop-bank.invariant.over c.loop-bank.invariant.up c.in_err-bank.ensures.next c.in_err-bank.ensures.full)
+
+pub returns-clause-built : goal.returns-clause-built
+returns-clause-built g c = c.loop-bank.invariant.built
+
+pub returns-clause-stays : goal.returns-clause-stays
+returns-clause-stays g c = c.loop-bank.invariant.stays
