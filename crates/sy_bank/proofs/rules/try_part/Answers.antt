@@ -22,13 +22,13 @@ pub returns-clause-stop : goal.returns-clause-stop
 returns-clause-stop g c = c.choose.ensures.stop
 
 pub returns-in_err-copied_part-clause-steady : goal.returns-in_err-copied_part-clause-steady
-returns-in_err-copied_part-clause-steady g c = not-ok c.from_residual.result Want c.from_residual.ensures.1
+returns-in_err-copied_part-clause-steady g c = not-ok _ c.from_residual.result Want c.from_residual.ensures.1
 
 pub returns-in_err-copied_part-clause-grows : goal.returns-in_err-copied_part-clause-grows
-returns-in_err-copied_part-clause-grows g c = not-ok c.from_residual.result Want c.from_residual.ensures.1
+returns-in_err-copied_part-clause-grows g c = not-ok _ c.from_residual.result Want c.from_residual.ensures.1
 
 pub returns-in_err-copied_part-clause-tried : goal.returns-in_err-copied_part-clause-tried
-returns-in_err-copied_part-clause-tried g c = not-ok c.from_residual.result Want c.from_residual.ensures.1
+returns-in_err-copied_part-clause-tried g c = not-ok _ c.from_residual.result Want c.from_residual.ensures.1
 
 pub returns-in_err-copied_part-clause-stop : goal.returns-in_err-copied_part-clause-stop
 returns-in_err-copied_part-clause-stop g c =
@@ -36,13 +36,13 @@ returns-in_err-copied_part-clause-stop g c =
     ends (IsStop number (world g.T.Theory.owned number c.args.task.now) (level_state_of number c.args.filling.now)) c.from_residual.result Want c.from_residual.ensures.1 tt
 
 pub returns-in_err-part-clause-steady : goal.returns-in_err-part-clause-steady
-returns-in_err-part-clause-steady g c = not-ok c.from_residual-in_err-part.result Want c.from_residual-in_err-part.ensures.1
+returns-in_err-part-clause-steady g c = not-ok _ c.from_residual-in_err-part.result Want c.from_residual-in_err-part.ensures.1
 
 pub returns-in_err-part-clause-grows : goal.returns-in_err-part-clause-grows
-returns-in_err-part-clause-grows g c = not-ok c.from_residual-in_err-part.result Want c.from_residual-in_err-part.ensures.1
+returns-in_err-part-clause-grows g c = not-ok _ c.from_residual-in_err-part.result Want c.from_residual-in_err-part.ensures.1
 
 pub returns-in_err-part-clause-tried : goal.returns-in_err-part-clause-tried
-returns-in_err-part-clause-tried g c = not-ok c.from_residual-in_err-part.result Want c.from_residual-in_err-part.ensures.1
+returns-in_err-part-clause-tried g c = not-ok _ c.from_residual-in_err-part.result Want c.from_residual-in_err-part.ensures.1
 
 pub returns-in_err-part-clause-stop : goal.returns-in_err-part-clause-stop
 returns-in_err-part-clause-stop g c =

@@ -50,10 +50,10 @@ returns-clause-whole g c =
     ]
 
 pub returns-in_err-bank-clause-whole : goal.returns-in_err-bank-clause-whole
-returns-in_err-bank-clause-whole g c = never-ok c.from_residual.result c.in_err-bank.field-0.0 c.from_residual.ensures.1
+returns-in_err-bank-clause-whole g c = never-ok _ c.from_residual.result c.in_err-bank.field-0.0 c.from_residual.ensures.1
 
 pub returns-in_err-bank-clause-built : goal.returns-in_err-bank-clause-built
-returns-in_err-bank-clause-built g c = never-ok c.from_residual.result c.in_err-bank.field-0.0 c.from_residual.ensures.1
+returns-in_err-bank-clause-built g c = never-ok _ c.from_residual.result c.in_err-bank.field-0.0 c.from_residual.ensures.1
 
 pub returns-in_err-bank-clause-full : goal.returns-in_err-bank-clause-full
 returns-in_err-bank-clause-full g c =
