@@ -3,39 +3,15 @@ ghost use Rattle.std.specs.Prelude.{◌≡◌, ◌<◌, ◌^◌, IsTrue, Some, �
 ghost use Rattle.sy_clauses.specs.declared.Lit.{Lit};
 ghost use Rattle.sy_cdcl.specs.Answer.{VarsFit};
 
+use crate::rows::{field, number};
 use std::alloc::Global;
 use std::process::Abort;
 use sy_cdcl::{Solved, solve};
 use sy_clauses::{Cnf, Line, Lit, Log, Step, check};
 use sy_terms::Seq;
 
-/// What the solver finds.
-enum Found {
-    /// A log that the checker accepts.
-    Refuted,
-    /// These values.
-    Model(&'static [bool]),
-    /// So many learned clauses, where no more are allowed.
-    Spent(usize),
-}
-
-/// A formula, how many clauses may be learned, and what is found.
-struct Case {
-    vars: u32,
-    clauses: &'static [&'static [(u32, bool)]],
-    learned: u32,
-    found: Found,
-}
-
-/// A formula, a log, of each line the first clause and the steps, and whether the checker accepts it.
-struct Claim {
-    vars: u32,
-    clauses: &'static [&'static [(u32, bool)]],
-    lines: &'static [(u32, &'static [(u32, u32)])],
-    is_accepted: bool,
-}
-
-fn clause<R: Abort>(rt: &R, alloc: Global, literals: &[(u32, bool)]) -> Seq<Lit> {
+/// The clause of these literals.
+fn clause(rt: &impl Abort, alloc: Global, literals: &[(u32, bool)]) -> Seq<Lit> {
     let mut out = Seq::new(alloc);
     for (var, positive) in literals {
         let (var, positive) = (*var, *positive);
@@ -44,29 +20,51 @@ fn clause<R: Abort>(rt: &R, alloc: Global, literals: &[(u32, bool)]) -> Seq<Lit>
     out
 }
 
-fn formula<R: Abort>(rt: &R, alloc: Global, vars: u32, rows: &[&[(u32, bool)]]) -> Cnf {
-    let mut clauses = Seq::new(alloc);
-    for literals in rows {
-        let clause = clause(rt, alloc, literals);
-        clauses.push(clause).expect(rt, "a clause");
+/// The clause of these letters, of which `a` is the first variable, and `A` its negation.
+fn lettered(rt: &impl Abort, alloc: Global, letters: &str) -> Seq<Lit> {
+    let mut out = Seq::new(alloc);
+    for letter in letters.as_bytes() {
+        let positive = letter.is_ascii_lowercase();
+        let first = if positive { b'a' } else { b'A' };
+        let var = u32::from(letter.wrapping_sub(first));
+        out.push(Lit { var, positive }).expect(rt, letters);
     }
+    out
+}
+
+/// The row's formula: how many variables it has, and its clauses, with spaces between them.
+fn formula(rt: &impl Abort, alloc: Global, row: &str) -> Cnf {
+    let mut clauses = Seq::new(alloc);
+    for letters in field(row, 1).split(' ') {
+        let clause = lettered(rt, alloc, letters);
+        clauses.push(clause).expect(rt, row);
+    }
+    let vars = number(row, 0);
     Cnf { vars, clauses }
 }
 
-fn line<R: Abort>(rt: &R, alloc: Global, first: u32, resolved: &[(u32, u32)]) -> Line {
+/// The line of this text: its first clause, and its steps, each with the digits of a variable and of a clause.
+fn line(rt: &impl Abort, alloc: Global, text: &str) -> Line {
+    let (first, digits) = text.split_once(' ').unwrap_or((text, ""));
     let mut steps = Seq::new(alloc);
-    for (var, with) in resolved {
-        let (var, with) = (*var, *with);
-        steps.push(Step { var, with }).expect(rt, "a step");
+    for word in digits.split_whitespace() {
+        let number: u32 = word.parse().unwrap_or(0);
+        let (var, with) = (number / 10, number % 10);
+        steps.push(Step { var, with }).expect(rt, text);
     }
+    let first = first.parse().unwrap_or(0);
     Line { first, steps }
 }
 
-fn log<R: Abort>(rt: &R, alloc: Global, rows: &[(u32, &[(u32, u32)])]) -> Log {
+/// The log of this text, with semicolons between its lines.
+fn log(rt: &impl Abort, alloc: Global, text: &str) -> Log {
     let mut lines = Seq::new(alloc);
-    for (first, resolved) in rows {
-        let line = line(rt, alloc, *first, resolved);
-        lines.push(line).expect(rt, "a line");
+    if text.is_empty() {
+        return Log { lines };
+    }
+    for text in text.split(';') {
+        let line = line(rt, alloc, text);
+        lines.push(line).expect(rt, text);
     }
     Log { lines }
 }
@@ -96,38 +94,48 @@ fn fits(cnf: &Cnf) -> bool
     cnf.clauses.len() < 2_147_483_648
 }
 
-/// Whether the solver that may learn so many clauses finds this.
-fn finds<R: Abort>(rt: &R, alloc: Global, cnf: &Cnf, learned: u32, found: &Found) -> bool {
-    if learned >= 2_147_483_648 {
-        return false;
+/// Whether the values are these signs, 1 for true.
+fn are_values(values: &[bool], signs: &str) -> bool {
+    let mut are_told = values.len() == signs.len();
+    for (value, sign) in values.iter().zip(signs.as_bytes()) {
+        are_told &= *value == (*sign == b'1');
     }
-    if !fits(cnf) {
-        return false;
-    }
-    let solved = solve(alloc, cnf, learned).expect(rt, "an answer");
-    let is_found = match (found, &solved) {
-        (Found::Refuted, Solved::Refuted(log)) => check(alloc, cnf, log).expect(rt, "a check"),
-        (Found::Model(wanted), Solved::Model(values)) => values.as_slice() == *wanted,
-        (Found::Spent(count), Solved::Fuel(log)) => log.lines.len() == *count,
-        _ => false,
+    are_told
+}
+
+/// Whether the solver that may learn so many clauses finds what is told: `refuted`, by a log that the checker accepts; the
+/// values of a model; or `spent` and how many clauses were learned, where no more are allowed.
+fn finds(rt: &impl Abort, alloc: Global, cnf: &Cnf, learned: u32, told: &str) -> bool {
+    assert!(rt; learned < 2_147_483_648);
+    assert!(rt; fits(cnf));
+    let solved = solve(alloc, cnf, learned).expect(rt, told);
+    let is_found = match &solved {
+        Solved::Refuted(log) => told == "refuted" && check(alloc, cnf, log).expect(rt, told),
+        Solved::Model(values) => are_values(values.as_slice(), told),
+        Solved::Fuel(log) => match told.strip_prefix("spent ") {
+            Some(count) => count.parse::<usize>() == Ok(log.lines.len()),
+            None => false,
+        },
     };
     drop(solved);
     is_found
 }
 
-fn is_found<R: Abort>(rt: &R, alloc: Global, case: &Case) -> bool {
-    let cnf = formula(rt, alloc, case.vars, case.clauses);
-    finds(rt, alloc, &cnf, case.learned, &case.found)
+/// Whether the solver finds what the row tells.
+pub fn is_found(rt: &impl Abort, alloc: Global, row: &str) -> bool {
+    let cnf = formula(rt, alloc, row);
+    finds(rt, alloc, &cnf, number(row, 2), field(row, 3))
 }
 
-fn is_right<R: Abort>(rt: &R, alloc: Global, claim: &Claim) -> bool {
-    let cnf = formula(rt, alloc, claim.vars, claim.clauses);
-    let log = log(rt, alloc, claim.lines);
-    check(alloc, &cnf, &log).expect(rt, "a check") == claim.is_accepted
+/// Whether the checker accepts the row's log of its formula just where the row tells so.
+pub fn is_right(rt: &impl Abort, alloc: Global, row: &str) -> bool {
+    let cnf = formula(rt, alloc, row);
+    let log = log(rt, alloc, field(row, 2));
+    check(alloc, &cnf, &log).expect(rt, row) == (field(row, 3) == "accepted")
 }
 
 /// Appends that the first variable, if it is true, makes the second true.
-fn append_link<R: Abort>(rt: &R, alloc: Global, clauses: &mut Seq<Seq<Lit>>, from: u32, to: u32) {
+fn append_link(rt: &impl Abort, alloc: Global, clauses: &mut Seq<Seq<Lit>>, from: u32, to: u32) {
     let clause = clause(rt, alloc, &[(from, false), (to, true)]);
     clauses.push(clause).expect(rt, "a clause");
 }
@@ -135,7 +143,7 @@ fn append_link<R: Abort>(rt: &R, alloc: Global, clauses: &mut Seq<Seq<Lit>>, fro
 /// A chain of implications over 400,001 variables, its even links last to first and then its odd ones, from a true variable
 /// to a contradiction: a scan over all clauses, from either end, gains about two values a pass, so it would need about
 /// 200,000 passes.
-fn scattered<R: Abort>(rt: &R, alloc: Global) -> Cnf {
+fn scattered(rt: &impl Abort, alloc: Global) -> Cnf {
     let mut clauses = Seq::new(alloc);
     for k in 0..400_000 {
         let i = if k < 200_000 {
@@ -154,7 +162,7 @@ fn scattered<R: Abort>(rt: &R, alloc: Global) -> Cnf {
 }
 
 /// A chain of implications over 200,001 variables in order, from a true one to a false one.
-fn ordered<R: Abort>(rt: &R, alloc: Global) -> Cnf {
+fn ordered(rt: &impl Abort, alloc: Global) -> Cnf {
     let mut clauses = Seq::new(alloc);
     let first = clause(rt, alloc, &[(0, true)]);
     clauses.push(first).expect(rt, "a clause");
@@ -168,7 +176,7 @@ fn ordered<R: Abort>(rt: &R, alloc: Global) -> Cnf {
 }
 
 /// The chain's refutation in one line of many steps.
-fn whole<R: Abort>(rt: &R, alloc: Global) -> Log {
+fn whole(rt: &impl Abort, alloc: Global) -> Log {
     let mut steps = Seq::new(alloc);
     for var in 0..200_001 {
         let with = var + 1;
@@ -180,197 +188,60 @@ fn whole<R: Abort>(rt: &R, alloc: Global) -> Log {
 }
 
 /// The chain's refutation in many lines of one step.
-fn stepwise<R: Abort>(rt: &R, alloc: Global) -> Log {
+fn stepwise(rt: &impl Abort, alloc: Global) -> Log {
     let mut lines = Seq::new(alloc);
-    for i in 0..200_001 {
-        let first = if i == 0 { 0 } else { 200_001 + i };
-        let line = line(rt, alloc, first, &[(i, i + 1)]);
-        lines.push(line).expect(rt, "a line");
+    for var in 0..200_001 {
+        let first = if var == 0 { 0 } else { 200_001 + var };
+        let with = var + 1;
+        let mut steps = Seq::new(alloc);
+        steps.push(Step { var, with }).expect(rt, "a step");
+        lines.push(Line { first, steps }).expect(rt, "a line");
     }
     Log { lines }
 }
 
-/// Whether the log refutes the chain in order. The time is linear.
-fn refutes_ordered<R: Abort>(rt: &R, alloc: Global, log: Log) -> bool {
+/// Whether the chain in order is refuted by one line, or by one for each step. The time is linear.
+pub fn refutes_ordered(rt: &impl Abort, alloc: Global, is_whole: bool) -> bool {
+    let log = if is_whole {
+        whole(rt, alloc)
+    } else {
+        stepwise(rt, alloc)
+    };
     check(alloc, &ordered(rt, alloc), &log).expect(rt, "a check")
 }
 
 /// Whether the solver refutes the long chain.
-fn refutes_scattered<R: Abort>(rt: &R, alloc: Global) -> bool {
-    finds(rt, alloc, &scattered(rt, alloc), 1, &Found::Refuted)
+pub fn refutes_scattered(rt: &impl Abort, alloc: Global) -> bool {
+    finds(rt, alloc, &scattered(rt, alloc), 1, "refuted")
 }
 
-/// Three pigeons in two holes; pigeon p sits in hole h where variable 2 * p + h is true.
-const PIGEONS: &[&[(u32, bool)]] = &[
-    &[(0, true), (1, true)],
-    &[(2, true), (3, true)],
-    &[(4, true), (5, true)],
-    &[(0, false), (2, false)],
-    &[(0, false), (4, false)],
-    &[(2, false), (4, false)],
-    &[(1, false), (3, false)],
-    &[(1, false), (5, false)],
-    &[(3, false), (5, false)],
-];
+/// A formula, its number of variables first; how many clauses may be learned, and what is found: of three pigeons in two
+/// holes, where pigeon p sits in hole h if variable 2 * p + h is true; of one of two without the first; and of a literal and
+/// its negation.
+pub const FORMULAS: &str = "\
+6|ab cd ef AC AE CE BD BF DF|1000|refuted
+6|ab cd ef AC AE CE BD BF DF|1|spent 1
+2|ab A|10|01
+1|a A|1|refuted
+1|a A|0|spent 0
+";
 
-/// A literal and its negation.
-const BOTH: &[&[(u32, bool)]] = &[&[(0, true)], &[(0, false)]];
-
-const CASES: &[Case] = &[
-    Case {
-        vars: 6,
-        clauses: PIGEONS,
-        learned: 1000,
-        found: Found::Refuted,
-    },
-    Case {
-        vars: 6,
-        clauses: PIGEONS,
-        learned: 1,
-        found: Found::Spent(1),
-    },
-    Case {
-        vars: 2,
-        clauses: &[&[(0, true), (1, true)], &[(0, false)]],
-        learned: 10,
-        found: Found::Model(&[false, true]),
-    },
-    Case {
-        vars: 1,
-        clauses: BOTH,
-        learned: 1,
-        found: Found::Refuted,
-    },
-    Case {
-        vars: 1,
-        clauses: BOTH,
-        learned: 0,
-        found: Found::Spent(0),
-    },
-];
-
-/// One of two, and neither.
-const NEITHER: &[&[(u32, bool)]] = &[&[(0, true), (1, true)], &[(0, false)], &[(1, false)]];
-
-/// An empty clause behind another: it is refuted by no line, and by none that leads away from it.
-const EMPTY: &[&[(u32, bool)]] = &[&[(0, true)], &[]];
-
-const CLAIMS: &[Claim] = &[
-    Claim {
-        vars: 2,
-        clauses: NEITHER,
-        lines: &[(0, &[(0, 1), (1, 2)])],
-        is_accepted: true,
-    },
-    Claim {
-        vars: 2,
-        clauses: NEITHER,
-        lines: &[(1, &[(0, 0), (1, 2)])],
-        is_accepted: true,
-    },
-    Claim {
-        vars: 2,
-        clauses: NEITHER,
-        lines: &[(0, &[(1, 2)]), (1, &[(0, 3)])],
-        is_accepted: true,
-    },
-    Claim {
-        vars: 2,
-        clauses: NEITHER,
-        lines: &[],
-        is_accepted: false,
-    },
-    Claim {
-        vars: 2,
-        clauses: NEITHER,
-        lines: &[(0, &[(0, 1)])],
-        is_accepted: false,
-    },
-    Claim {
-        vars: 2,
-        clauses: NEITHER,
-        lines: &[(0, &[(0, 1), (1, 2)]), (1, &[])],
-        is_accepted: false,
-    },
-    Claim {
-        vars: 2,
-        clauses: NEITHER,
-        lines: &[(0, &[(0, 2)])],
-        is_accepted: false,
-    },
-    Claim {
-        vars: 2,
-        clauses: NEITHER,
-        lines: &[(0, &[(0, 3)])],
-        is_accepted: false,
-    },
-    Claim {
-        vars: 2,
-        clauses: NEITHER,
-        lines: &[(3, &[])],
-        is_accepted: false,
-    },
-    Claim {
-        vars: 2,
-        clauses: NEITHER,
-        lines: &[(0, &[(1, 2)]), (1, &[(0, 4)])],
-        is_accepted: false,
-    },
-    Claim {
-        vars: 1,
-        clauses: BOTH,
-        lines: &[],
-        is_accepted: false,
-    },
-    Claim {
-        vars: 1,
-        clauses: BOTH,
-        lines: &[(0, &[(0, 1)])],
-        is_accepted: true,
-    },
-    Claim {
-        vars: 1,
-        clauses: EMPTY,
-        lines: &[],
-        is_accepted: true,
-    },
-    Claim {
-        vars: 1,
-        clauses: EMPTY,
-        lines: &[(1, &[])],
-        is_accepted: true,
-    },
-    Claim {
-        vars: 1,
-        clauses: EMPTY,
-        lines: &[(0, &[])],
-        is_accepted: false,
-    },
-];
-
-/// Asserts that what each case tells is found.
-fn assert_cases<R: Abort>(rt: &R, alloc: Global, cases: &[Case]) {
-    let mut number: u32 = 0;
-    for case in cases {
-        assert!(rt; is_found(rt, alloc, case), "case {number}");
-        number = number.saturating_add(1);
-    }
-}
-
-/// Asserts that each claim is right.
-fn assert_claims<R: Abort>(rt: &R, alloc: Global, claims: &[Claim]) {
-    let mut number: u32 = 0;
-    for claim in claims {
-        assert!(rt; is_right(rt, alloc, claim), "claim {number}");
-        number = number.saturating_add(1);
-    }
-}
-
-#[test]
-fn formulas_and_logs(rt: HostRuntime) {
-    assert_cases(&rt, rt.alloc(), CASES);
-    assert_claims(&rt, rt.alloc(), CLAIMS);
-    assert!(rt; refutes_scattered(&rt, rt.alloc()));
-    assert!(rt; refutes_ordered(&rt, rt.alloc(), whole(&rt, rt.alloc())));
-    assert!(rt; refutes_ordered(&rt, rt.alloc(), stepwise(&rt, rt.alloc())));
-}
+/// Formulas with logs, and whether these are accepted: of one of two and neither; of a literal and its negation; and of an
+/// empty clause behind another, which is refuted by no line, and by none that leads away from it.
+pub const LOGS: &str = "\
+2|ab A B|0 01 12|accepted
+2|ab A B|1 00 12|accepted
+2|ab A B|0 12;1 03|accepted
+2|ab A B||refused
+2|ab A B|0 01|refused
+2|ab A B|0 01 12;1|refused
+2|ab A B|0 02|refused
+2|ab A B|0 03|refused
+2|ab A B|3|refused
+2|ab A B|0 12;1 04|refused
+1|a A||refused
+1|a A|0 01|accepted
+1|a ||accepted
+1|a |1|accepted
+1|a |0|refused
+";

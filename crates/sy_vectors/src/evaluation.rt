@@ -1,13 +1,13 @@
 // Values of terms: those of each operator at constants, partial values that leave 128 bits, the divisions that SMT-LIB made
 // total, bindings, definitions, and the calls of a function to be found.
 ghost use Rattle.std.specs.Prelude.{◌≡◌, ◌∷◌, [], IsTrue, Some};
-ghost use Rattle.sy_terms.specs.Denoted.{expr_of};
+ghost use Rattle.sy_terms.specs.Denoted.{expr_of, vals_of, AreValid};
 ghost use Rattle.sy_terms.specs.Definitions.{DefinitionsFit};
 ghost use Rattle.sy_terms.specs.Fitting.{sort_in};
+ghost use Rattle.sy_terms_laws.specs.Evaluation.{TermFits, scope_with};
 ghost use Rattle.sy_meaning.specs.Signatures.{scope_and_wanted};
 
 use crate::terms::{one, term, value};
-use crate::{integers, words};
 use std::alloc::Global;
 use std::process::Abort;
 use sy_meaning::{
@@ -16,7 +16,7 @@ use sy_meaning::{
 use sy_terms::{Def, Defs, Seq, Sort, Term, Theory, Value, same_value};
 
 /// Terms over the greatest integer and 5, where the definition adds 1.
-const INTEGERS: &str = "\
+pub const INTEGERS: &str = "\
 + a 1 neg/1 1 none
 - neg/1 a 1 -170141183460469231731687303715884105728
 neg -/2 neg/1 a 1 none
@@ -33,7 +33,7 @@ D a none
 ";
 
 /// Terms over the vectors #xf9, #x02 and #x00, where the definition is `bvnot`.
-const VECTORS: &str = "\
+pub const VECTORS: &str = "\
 bvudiv a c 8:255
 bvurem a c 8:249
 bvsmod a b 8:1
@@ -47,7 +47,7 @@ D b 8:253
 ";
 
 /// By hand: three arguments, and values that differ.
-const MORE: &str = "\
+pub const MORE: &str = "\
 bvadd 8:200 8:100 8:7 8:51
 bvor 8:200 8:100 8:7 8:239
 bvsub 8:200 8:100 8:7 mismatch
@@ -57,7 +57,7 @@ distinct 8:200 8:100 8:7 true
 
 /// Terms over the vector #x00 that call a function whose body is `bvnot`, where the definition is `bvneg`, with their values
 /// and the arguments of the calls that are noted.
-const CALLS: &str = "\
+pub const CALLS: &str = "\
 F F/1 a|8:0|8:0 8:255
 ite =/2 a 8:0 F/1 a F/1 8:1|8:255|8:0 8:1
 bvand F/1 a F/1 a|8:255|8:0
@@ -99,7 +99,7 @@ fn one_definition<T: Theory>(rt: &impl Abort, alloc: Global, sort: Sort, text: &
 }
 
 /// The values between spaces.
-fn values<T: Theory>(rt: &impl Abort, alloc: Global, text: &str) -> Vec<Value<T::Num>> {
+pub fn values<T: Theory>(rt: &impl Abort, alloc: Global, text: &str) -> Vec<Value<T::Num>> {
     let mut values = Vec::new(alloc);
     for word in text.split(' ') {
         if let Some(value) = value::<T>(word) {
@@ -117,50 +117,50 @@ fn is_told<T: Theory>(text: &str, found: &Value<T::Num>) -> bool {
     }
 }
 
-/// Whether the row's term has the value that its last word tells: `none` where one on the way leaves the range, `mismatch`
-/// where the term has no sort.
-fn is_right<T: Theory>(
+/// Whether the term has the value that is told: `none` where one on the way leaves the range, `mismatch` where the term has no
+/// sort.
+fn is_valued<T: Theory>(
     rt: &impl Abort,
     alloc: Global,
     defs: &Defs<T>,
     values: &[Value<T::Num>],
-    row: &str,
+    term: &Term<T>,
+    told: &str,
 ) -> bool
     requires { DefinitionsFit T.owned T.denotes defs.now }
 {
-    let (text, told) = row.rsplit_once(' ').unwrap_or((row, ""));
     let sorts = value_sorts::<T>(alloc, values)
-        .expect(rt, row)
-        .expect(rt, row);
-    let term = term::<T>(rt, alloc, text);
-    let found = term_sort(alloc, defs.as_slice(), &[], sorts.as_slice(), &term).expect(rt, row);
+        .expect(rt, told)
+        .expect(rt, told);
+    let found = term_sort(alloc, defs.as_slice(), &[], sorts.as_slice(), term).expect(rt, told);
     let Some(_) = found else {
-        drop(term);
         return told == "mismatch";
     };
-    let is_right = match evaluate(alloc, defs, values, &term) {
+    match evaluate(alloc, defs, values, term) {
         Ok(found) => is_told::<T>(told, &found),
         Err(Eval::Range) => told == "none",
         Err(Eval::Want) => panic!(rt; "memory"),
-    };
-    drop(term);
-    is_right
+    }
 }
 
-/// Asserts that each row is right, where the definition and the arguments are these.
-fn assert_rows<T: Theory>(
+/// Whether the row's term has the value that its last word tells, where the definition and the arguments are these.
+fn is_right<T: Theory>(
     rt: &impl Abort,
     alloc: Global,
     sort: Sort,
     definition: &str,
     arguments: &str,
-    rows: &str,
-) {
+    row: &str,
+) -> bool {
+    let (text, told) = row.rsplit_once(' ').unwrap_or((row, ""));
     let defs = one_definition::<T>(rt, alloc, sort, definition);
     let values = values::<T>(rt, alloc, arguments);
-    for row in rows.lines() {
-        assert!(rt; is_right(rt, alloc, &defs, values.as_slice(), row), "{row}");
-    }
+    let term = term::<T>(rt, alloc, text);
+    let is_right = is_valued(rt, alloc, &defs, values.as_slice(), &term, told);
+    drop(term);
+    drop(values);
+    drop(defs);
+    is_right
 }
 
 /// Whether the trace has just the calls of the first function at these values.
@@ -181,6 +181,31 @@ fn is_traced<T: Theory>(trace: &Trace<T>, calls: &str) -> bool {
     trace.len() == count
 }
 
+/// Asserts that the values are valid and that the term has a sort at them, where the function to be found takes one argument of
+/// this sort and gives one.
+fn assert_fitting<T: Theory>(
+    rt: &impl Abort,
+    alloc: Global,
+    defs: &Defs<T>,
+    sort: Sort,
+    values: &[Value<T::Num>],
+    term: &Term<T>,
+)
+    ensures values { AreValid T.denotes values.now }
+    ensures term { TermFits (scope_with T.owned defs.now (record { takes = sort ∷ []; gives = sort } ∷ [])) (vals_of T.denotes values.now) (expr_of T.denotes term.now) }
+{
+    let sorts = value_sorts::<T>(alloc, values)
+        .expect(rt, "memory")
+        .expect(rt, "values");
+    let takes = one(rt, alloc, sort);
+    let wanted = [Signature { takes, gives: sort }];
+    let found = term_sort(alloc, defs.as_slice(), &wanted, sorts.as_slice(), term);
+    let found = found.expect(rt, "memory");
+    let Some(_) = found else {
+        panic!(rt; "no sort")
+    };
+}
+
 /// Whether the row's term has its value where the function to be found has this body, and notes just its calls.
 fn notes<T: Theory>(
     rt: &impl Abort,
@@ -196,40 +221,46 @@ fn notes<T: Theory>(
     let (text, rest) = row.split_once('|').unwrap_or((row, ""));
     let (told, calls) = rest.split_once('|').unwrap_or((rest, ""));
     let values = values::<T>(rt, alloc, "8:0");
-    let sorts = value_sorts::<T>(alloc, values.as_slice())
-        .expect(rt, row)
-        .expect(rt, row);
+    let values = values.as_slice();
     let term = term::<T>(rt, alloc, text);
-    let takes = one(rt, alloc, sort);
-    let wanted = [Signature { takes, gives: sort }];
+    assert_fitting(rt, alloc, defs, sort, values, &term);
     let bodies = one(rt, alloc, body);
-    let found = term_sort(alloc, defs.as_slice(), &wanted, sorts.as_slice(), &term).expect(rt, row);
-    let Some(_) = found else {
-        return false;
-    };
     let mut trace = Trace::new(alloc);
-    match evaluate_with(alloc, defs, &bodies, values.as_slice(), &term, &mut trace) {
-        Ok(found) => is_told::<T>(told, &found) && is_traced::<T>(&trace, calls),
+    let has_value = match evaluate_with(alloc, defs, &bodies, values, &term, &mut trace) {
+        Ok(found) => is_told::<T>(told, &found),
         Err(_) => false,
-    }
+    };
+    let is_right = has_value && is_traced::<T>(&trace, calls);
+    drop(trace);
+    drop(bodies);
+    drop(term);
+    is_right
 }
 
-#[test]
-fn values_of_terms(rt: HostRuntime) {
+/// Whether the row has its value and notes its calls, where the definition and the body are its own.
+fn is_noted(rt: &impl Abort, alloc: Global, row: &str) -> bool {
     let bits = Sort::Bits(8);
-    let over = "170141183460469231731687303715884105727 5";
-    let alloc = rt.alloc();
-    assert_rows::<IntTheory>(&rt, alloc, Sort::Int, "+ a 1", over, INTEGERS);
-    assert_rows::<IntTheory>(&rt, alloc, Sort::Int, "a", "", integers::ROWS);
-    assert_rows::<BvTheory>(&rt, alloc, bits, "bvnot a", "8:249 8:2 8:0", VECTORS);
-    assert_rows::<BvTheory>(&rt, alloc, bits, "a", "", words::ROWS);
-    assert_rows::<BvTheory>(&rt, alloc, bits, "a", "", MORE);
-    let defs = one_definition::<BvTheory>(&rt, alloc, bits, "bvneg a");
-    for row in CALLS.lines() {
-        let body = fitting::<BvTheory>(&rt, alloc, &defs, bits, "bvnot a");
-        assert!(rt;
-            notes::<BvTheory>(&rt, alloc, &defs, bits, body, row),
-            "{row}"
-        );
+    let defs = one_definition::<BvTheory>(rt, alloc, bits, "bvneg a");
+    let body = fitting::<BvTheory>(rt, alloc, &defs, bits, "bvnot a");
+    let is_noted = notes::<BvTheory>(rt, alloc, &defs, bits, body, row);
+    drop(defs);
+    is_noted
+}
+
+/// Whether the row of this table is right.
+pub fn is_told_by(rt: &impl Abort, alloc: Global, table: &str, row: &str) -> bool {
+    let bits = Sort::Bits(8);
+    match table {
+        "terms over integers" => {
+            let arguments = "170141183460469231731687303715884105727 5";
+            is_right::<IntTheory>(rt, alloc, Sort::Int, "+ a 1", arguments, row)
+        }
+        "terms over vectors" => {
+            let arguments = "8:249 8:2 8:0";
+            is_right::<BvTheory>(rt, alloc, bits, "bvnot a", arguments, row)
+        }
+        "calls" => is_noted(rt, alloc, row),
+        "integers" => is_right::<IntTheory>(rt, alloc, Sort::Int, "a", "", row),
+        _ => is_right::<BvTheory>(rt, alloc, bits, "a", "", row),
     }
 }

@@ -1,5 +1,5 @@
 // Worked examples of public calls of several areas, and each operator's sorts, spelling and values, by terms and by circuits;
-// `sy_vectors_..` have the examples of one area.
+// `sy_vectors_scope` has those of files and of the command line.
 #![tactic(auto)]
 
 #[cfg(test)]
@@ -11,13 +11,23 @@ mod clauses;
 #[cfg(test)]
 mod conditions;
 #[cfg(test)]
+mod cuts;
+#[cfg(test)]
 mod defaults;
 #[cfg(test)]
 mod evaluation;
 #[cfg(test)]
+mod facts;
+#[cfg(test)]
+mod forms;
+#[cfg(test)]
+mod fractions;
+#[cfg(test)]
 mod gates;
 #[cfg(test)]
 mod grammars;
+#[cfg(test)]
+mod integer_answers;
 #[cfg(test)]
 mod integers;
 #[cfg(test)]
@@ -33,8 +43,14 @@ mod points;
 #[cfg(test)]
 mod queries;
 #[cfg(test)]
+mod rows;
+#[cfg(test)]
 mod sorts;
 #[cfg(test)]
+mod tables;
+#[cfg(test)]
 mod terms;
+#[cfg(test)]
+mod trees;
 #[cfg(test)]
 mod words;

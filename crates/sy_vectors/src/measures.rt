@@ -2,11 +2,10 @@
 use crate::terms::term;
 use std::alloc::Global;
 use std::process::Abort;
-use sy_meaning::{BvTheory, IntTheory};
 use sy_terms::{Term, Theory};
 
 /// Integers that differ in one place each, with their sizes and depths.
-const INTEGERS: &str = "\
+pub const INTEGERS: &str = "\
 a|1|1
 b|1|1
 0|1|1
@@ -21,7 +20,7 @@ let/1 a neg b|4|3
 ";
 
 /// Vectors that differ in one place each.
-const VECTORS: &str = "\
+pub const VECTORS: &str = "\
 a|1|1
 b|1|1
 8:0|1|1
@@ -51,33 +50,29 @@ fn is_equal<T: Theory>(rt: &impl Abort, alloc: Global, text: &str, copy: &Term<T
     is_equal
 }
 
+/// Whether the copy is equal to the term of this one of the rows alone.
+fn is_alone<T: Theory>(
+    rt: &impl Abort,
+    alloc: Global,
+    rows: &str,
+    row: &str,
+    copy: &Term<T>,
+) -> bool {
+    let mut is_alone = true;
+    for other in rows.lines() {
+        let (text, _) = other.split_once('|').unwrap_or((other, ""));
+        is_alone &= is_equal(rt, alloc, text, copy) == (row == other);
+    }
+    is_alone
+}
+
 /// Whether a copy of the row's term has its size and depth, and is equal to the term of this one of the rows alone.
-fn is_right<T: Theory>(rt: &impl Abort, alloc: Global, rows: &str, row: &str) -> bool {
+pub fn is_right<T: Theory>(rt: &impl Abort, alloc: Global, rows: &str, row: &str) -> bool {
     let (text, told) = row.split_once('|').unwrap_or((row, ""));
     let original = term::<T>(rt, alloc, text);
     let copy = original.copy(alloc).expect(rt, row);
     drop(original);
-    let mut is_right = is_measured(&copy, told);
-    for other in rows.lines() {
-        let (text, _) = other.split_once('|').unwrap_or((other, ""));
-        is_right = is_right && is_equal(rt, alloc, text, &copy) == (row == other);
-    }
+    let is_right = is_measured(&copy, told) && is_alone(rt, alloc, rows, row, &copy);
     drop(copy);
     is_right
-}
-
-#[test]
-fn copies_are_equal_to_their_terms_alone(rt: HostRuntime) {
-    for row in INTEGERS.lines() {
-        assert!(rt;
-            is_right::<IntTheory>(&rt, rt.alloc(), INTEGERS, row),
-            "{row}"
-        );
-    }
-    for row in VECTORS.lines() {
-        assert!(rt;
-            is_right::<BvTheory>(&rt, rt.alloc(), VECTORS, row),
-            "{row}"
-        );
-    }
 }

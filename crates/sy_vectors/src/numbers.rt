@@ -1,10 +1,14 @@
 // Numbers of the theory of vectors, and its operators at two places at once.
 use crate::operators::operator;
+use std::process::Abort;
 use sy_meaning::{BvTheory, Word};
 use sy_terms::{Applied, Sort, Sorted, Theory, Value};
 
 /// Whether the word 200 of eight bits is that number, and the sorts have just the numbers that they should.
-fn are_numbered(s: Word) -> bool {
+pub fn are_numbered() -> bool {
+    let Some(s) = Word::new(8, 200) else {
+        return false;
+    };
     BvTheory::value_sort(&Value::Num(s)) == Sort::Bits(8)
         && BvTheory::number(s) == 200
         && BvTheory::of_number(Sort::Bits(8), 200) == Some(s)
@@ -14,8 +18,37 @@ fn are_numbered(s: Word) -> bool {
 }
 
 /// The operators of two vectors.
-const PAIRS: &str =
-    "= distinct concat bvand bvor bvxor bvadd bvmul bvsub bvnand bvnor bvxnor bvcomp bvudiv bvurem bvsdiv bvsrem bvsmod bvshl bvlshr bvashr bvult bvule bvugt bvuge bvslt bvsle bvsgt bvsge";
+pub const PAIRS: &str = "\
+=
+distinct
+concat
+bvand
+bvor
+bvxor
+bvadd
+bvmul
+bvsub
+bvnand
+bvnor
+bvxnor
+bvcomp
+bvudiv
+bvurem
+bvsdiv
+bvsrem
+bvsmod
+bvshl
+bvlshr
+bvashr
+bvult
+bvule
+bvugt
+bvuge
+bvslt
+bvsle
+bvsgt
+bvsge
+";
 
 /// Whether the operator has at two pairs at once the values that it has at each.
 fn is_alike(word: &str, s: Word, t: Word, u: Word) -> bool {
@@ -37,13 +70,10 @@ fn is_alike(word: &str, s: Word, t: Word, u: Word) -> bool {
     unfit.is_none() && first == Applied::Is(values[0]) && second == Applied::Is(values[1])
 }
 
-#[test]
-fn numbers_of_sorts_at_each_place(rt: HostRuntime) {
-    let s = Word::new(8, 200).expect(&rt, "a word");
-    let t = Word::new(8, 7).expect(&rt, "a word");
-    let u = Word::new(8, 0).expect(&rt, "a word");
-    assert!(rt; are_numbered(s));
-    for word in PAIRS.split(' ') {
-        assert!(rt; is_alike(word, s, t, u), "{word}");
-    }
+/// Whether the operator is alike at these pairs.
+pub fn is_right(rt: &impl Abort, word: &str) -> bool {
+    let s = Word::new(8, 200).expect(rt, "a word");
+    let t = Word::new(8, 7).expect(rt, "a word");
+    let u = Word::new(8, 0).expect(rt, "a word");
+    is_alike(word, s, t, u)
 }

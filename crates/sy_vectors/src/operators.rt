@@ -59,11 +59,13 @@ const WORDS: [(Op, &str); 54] = [
     (Op::Neg, "-"),
 ];
 
-#[test]
-fn operators_are_spelled_as_in_files(rt: HostRuntime) {
+/// Whether the operators are spelled as in files.
+pub fn are_spelled() -> bool {
+    let mut are_spelled = true;
     for (op, word) in &WORDS {
-        assert!(rt; spell(op) == *word, "{word}");
+        are_spelled &= spell(op) == *word;
     }
+    are_spelled
 }
 
 /// The operator of a word alone: `-` is the difference, and `neg` the negated integer.

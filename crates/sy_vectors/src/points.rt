@@ -36,7 +36,7 @@ fn bodies<R: Abort>(rt: &R, alloc: Global) -> Bodies<IntTheory> {
 }
 
 /// Whether two pairs are kept and no third.
-fn keeps_pairs<R: Abort>(rt: &R, alloc: Global) -> bool {
+pub fn keeps_pairs<R: Abort>(rt: &R, alloc: Global) -> bool {
     let mut stored = Stored::<IntTheory>::new(alloc);
     for number in [5, 7] {
         stored
@@ -47,14 +47,8 @@ fn keeps_pairs<R: Abort>(rt: &R, alloc: Global) -> bool {
 }
 
 /// Whether one of two tuples is added.
-fn adds_one_of_two<R: Abort>(rt: &R, alloc: Global) -> bool {
+pub fn adds_one_of_two<R: Abort>(rt: &R, alloc: Global) -> bool {
     let first = tuple(rt, alloc, &[1, 2]);
     let second = tuple(rt, alloc, &[1, 3]);
     adds_one(rt, alloc, &first, &second)
-}
-
-#[test]
-fn points_and_pairs(rt: HostRuntime) {
-    assert!(rt; adds_one_of_two(&rt, rt.alloc()));
-    assert!(rt; keeps_pairs(&rt, rt.alloc()));
 }

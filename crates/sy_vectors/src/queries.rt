@@ -1,147 +1,166 @@
-// Queries as texts, a character for each node, in postfix.
+// Queries as texts, a character for each node, which stands before those that it takes.
+use crate::terms::node;
 use std::alloc::Global;
 use std::process::Abort;
-use sy_meaning::{BvTheory, Word};
-use sy_query::Query;
-use sy_terms::{Op, Seq, Sort, Term, Terms, Value};
+use sy_query::{Limits, Query};
+use sy_terms::{Seq, Sort, Term, Theory};
 
-/// The sort of this sign: `b` for truth values, a digit for vectors of so many bits, and `@` and `p` for those of 16 and 64.
+/// Ample limits.
+pub const LIMITS: Limits = Limits {
+    size: 12,
+    rounds: 256,
+    points: 512,
+    bank: 20_000,
+    weight: 400_000,
+    clauses: 20_000,
+    nodes: 4_000,
+    pivots: 10_000,
+};
+
+/// The words of signs over vectors, where a digit and `F` are vectors of four bits.
+pub const VECTORS: &str = "\
+A a
+B b
+C c
+T true
+0 4:0
+1 4:1
+2 4:2
+3 4:3
+4 4:4
+5 4:5
+6 4:6
+7 4:7
+8 4:8
+9 4:9
+F 4:15
+L let/1
+! not/1
+& and/2
+v or/2
+^ xor/2
+i =>/2
+? ite/3
+= =/2
+# distinct/2
+~ bvnot/1
+n bvneg/1
+w bvand/2
+o bvor/2
+x bvxor/2
+W bvnand/2
+O bvnor/2
+X bvxnor/2
++ bvadd/2
+- bvsub/2
+* bvmul/2
+P bvadd/3
+M bvmul/3
+/ bvudiv/2
+% bvurem/2
+d bvsdiv/2
+r bvsrem/2
+m bvsmod/2
+l bvshl/2
+g bvlshr/2
+a bvashr/2
+< bvult/2
+> bvugt/2
+u bvule/2
+U bvuge/2
+s bvslt/2
+S bvsgt/2
+t bvsle/2
+G bvsge/2
+p bvcomp/2
+c concat/2
+e extract,6,3/1
+z rotate_left,1/1
+y rotate_right,3/1
+Z zero_extend,4/1
+N sign_extend,4/1
+R repeat,2/1
+";
+
+/// The words of signs over integers, where `M` is the greatest number of 128 bits, `N` the least, and `m` is -1.
+pub const INTEGERS: &str = "\
+A a
+B b
+C c
+T true
+0 0
+1 1
+2 2
+3 3
+4 4
+5 5
+6 6
+7 7
+8 8
+9 9
+M 170141183460469231731687303715884105727
+N -170141183460469231731687303715884105728
+m -1
+l let/1
+! not/1
+& and/2
+v or/2
+^ xor/2
+i =>/2
+? ite/3
+= =/2
++ +/2
+- -/2
+* */2
+< </2
+L <=/2
+> >/2
+G >=/2
+";
+
+/// The word of this sign; the empty one where there is none.
+fn word_of(words: &str, sign: u8) -> &str {
+    for row in words.lines() {
+        let (known, word) = row.split_once(' ').unwrap_or((row, ""));
+        if known.as_bytes().get(0).copied() == Some(sign) {
+            return word;
+        }
+    }
+    ""
+}
+
+/// The term of this text.
+fn term<T: Theory>(rt: &impl Abort, alloc: Global, words: &str, text: &str) -> Term<T> {
+    let mut stack = Vec::new(alloc);
+    for sign in text.as_bytes().iter().rev() {
+        let node = node(rt, alloc, &mut stack, word_of(words, *sign));
+        stack.push(node).expect(rt, text);
+    }
+    stack.pop().expect(rt, text)
+}
+
+/// The sort of this sign: `b` for truth values, `i` for integers, a digit for vectors of so many bits, and `@` and `p` for
+/// those of 16 and 64.
 fn sort_of(sign: u8) -> Sort {
     match sign {
         b'b' => Sort::Bool,
+        b'i' => Sort::Int,
         digit => Sort::Bits(digit.wrapping_sub(b'0')),
     }
 }
 
-/// The vector of four bits.
-fn vector(bits: u64) -> Term<BvTheory> {
-    match Word::new(4, bits) {
-        Some(word) => Term::Const(Value::Num(word)),
-        None => Term::Const(Value::Truth(false)),
-    }
-}
-
-/// Takes so many of the last terms.
-fn last<R: Abort>(
-    rt: &R,
+/// The query of these variables' sorts and this body, whose signs have these words.
+pub fn query<T: Theory>(
+    rt: &impl Abort,
     alloc: Global,
-    stack: &mut Vec<Term<BvTheory>>,
-    count: usize,
-) -> Terms<BvTheory> {
-    let first = stack.len().saturating_sub(count);
-    let mut terms = Terms::new(alloc);
-    for _ in 0..count {
-        if first < stack.len() {
-            terms.push(stack.remove(first)).expect(rt, "a term");
-        }
-    }
-    terms
-}
-
-/// The operator of this sign, and how many arguments it takes.
-fn operator(sign: u8) -> Option<(Op, usize)> {
-    match sign {
-        b'!' => Some((Op::Not, 1)),
-        b'&' => Some((Op::And, 2)),
-        b'|' => Some((Op::Or, 2)),
-        b'^' => Some((Op::Xor, 2)),
-        b'i' => Some((Op::Implies, 2)),
-        b'?' => Some((Op::Ite, 3)),
-        b'=' => Some((Op::Equal, 2)),
-        b'#' => Some((Op::Distinct, 2)),
-        b'~' => Some((Op::BvNot, 1)),
-        b'n' => Some((Op::BvNeg, 1)),
-        b'w' => Some((Op::BvAnd, 2)),
-        b'o' => Some((Op::BvOr, 2)),
-        b'x' => Some((Op::BvXor, 2)),
-        b'W' => Some((Op::BvNand, 2)),
-        b'O' => Some((Op::BvNor, 2)),
-        b'X' => Some((Op::BvXnor, 2)),
-        b'+' => Some((Op::BvAdd, 2)),
-        b'-' => Some((Op::BvSub, 2)),
-        b'*' => Some((Op::BvMul, 2)),
-        b'P' => Some((Op::BvAdd, 3)),
-        b'M' => Some((Op::BvMul, 3)),
-        b'/' => Some((Op::BvUdiv, 2)),
-        b'%' => Some((Op::BvUrem, 2)),
-        b'd' => Some((Op::BvSdiv, 2)),
-        b'r' => Some((Op::BvSrem, 2)),
-        b'm' => Some((Op::BvSmod, 2)),
-        b'l' => Some((Op::BvShl, 2)),
-        b'g' => Some((Op::BvLshr, 2)),
-        b'a' => Some((Op::BvAshr, 2)),
-        b'<' => Some((Op::BvUlt, 2)),
-        b'>' => Some((Op::BvUgt, 2)),
-        b'u' => Some((Op::BvUle, 2)),
-        b'U' => Some((Op::BvUge, 2)),
-        b's' => Some((Op::BvSlt, 2)),
-        b'S' => Some((Op::BvSgt, 2)),
-        b't' => Some((Op::BvSle, 2)),
-        b'G' => Some((Op::BvSge, 2)),
-        b'p' => Some((Op::BvComp, 2)),
-        b'c' => Some((Op::Concat, 2)),
-        b'e' => Some((Op::Extract(6, 3), 1)),
-        b'z' => Some((Op::RotateLeft(1), 1)),
-        b'y' => Some((Op::RotateRight(3), 1)),
-        b'Z' => Some((Op::ZeroExtend(4), 1)),
-        b'N' => Some((Op::SignExtend(4), 1)),
-        b'R' => Some((Op::Repeat(2), 1)),
-        _ => None,
-    }
-}
-
-/// The term that ends with this sign: `A`, `B` and `C` are variables, `T` is true, `L` binds the term before the last in
-/// the last, `F` is the greatest vector of four bits, and a digit the vector of its number.
-fn term<R: Abort>(
-    rt: &R,
-    alloc: Global,
-    sign: u8,
-    stack: &mut Vec<Term<BvTheory>>,
-) -> Term<BvTheory> {
-    if let Some((op, count)) = operator(sign) {
-        return Term::App(op, last(rt, alloc, stack, count));
-    }
-    match sign {
-        b'A' => Term::Var(0),
-        b'B' => Term::Var(1),
-        b'C' => Term::Var(2),
-        b'T' => Term::Const(Value::Truth(true)),
-        b'F' => vector(15),
-        b'L' => {
-            let inner = stack.pop().unwrap_or(Term::Var(0));
-            let inner = Box::new(alloc, inner).expect(rt, "a term");
-            Term::Let(last(rt, alloc, stack, 1), inner)
-        }
-        digit => vector(u64::from(digit.wrapping_sub(b'0'))),
-    }
-}
-
-/// The term of this text.
-fn term_of<R: Abort>(rt: &R, alloc: Global, body: &str) -> Term<BvTheory> {
-    let mut stack = Vec::new(alloc);
-    for sign in body.as_bytes() {
-        let term = term(rt, alloc, *sign, &mut stack);
-        stack.push(term).expect(rt, body);
-    }
-    stack.pop().unwrap_or(Term::Var(0))
-}
-
-/// The query of these variables' sorts and this body.
-pub fn query<R: Abort>(rt: &R, alloc: Global, sorts: &str, body: &str) -> Query<BvTheory> {
+    words: &str,
+    sorts: &str,
+    body: &str,
+) -> Query<T> {
     let mut vars = Seq::new(alloc);
     for sign in sorts.as_bytes() {
         vars.push(sort_of(*sign)).expect(rt, sorts);
     }
-    let body = term_of(rt, alloc, body);
-    Query { vars, body }
-}
-
-/// The query of two vectors of a width and this body.
-pub fn query_of_width<R: Abort>(rt: &R, alloc: Global, width: u8, body: &str) -> Query<BvTheory> {
-    let mut vars = Seq::new(alloc);
-    for _ in 0..2 {
-        vars.push(Sort::Bits(width)).expect(rt, body);
-    }
-    let body = term_of(rt, alloc, body);
+    let body = term::<T>(rt, alloc, words, body);
     Query { vars, body }
 }

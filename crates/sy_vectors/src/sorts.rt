@@ -5,7 +5,7 @@ use std::process::Abort;
 use sy_terms::{Fun, Op, Sort, Sorted, operator_sort};
 
 /// A sort, where that of vectors is its width.
-fn sort(rt: &impl Abort, text: &str) -> Sort {
+pub fn sort(rt: &impl Abort, text: &str) -> Sort {
     match text {
         "Bool" => Sort::Bool,
         "Int" => Sort::Int,
@@ -14,14 +14,14 @@ fn sort(rt: &impl Abort, text: &str) -> Sort {
 }
 
 /// Whether the operator's sort is the row's last word.
-fn is_right(rt: &impl Abort, alloc: Global, row: &str) -> bool {
+pub fn is_right(rt: &impl Abort, alloc: Global, row: &str) -> bool {
     let (word, rest) = row.split_once(' ').unwrap_or((row, ""));
     let (arguments, told) = rest.rsplit_once(' ').unwrap_or((rest, ""));
-    let op = operator(word).expect(rt, row);
     let mut sorts = Vec::new(alloc);
     for argument in arguments.split(' ') {
         sorts.push(sort(rt, argument)).expect(rt, row);
     }
+    let op = operator(word).expect(rt, row);
     match operator_sort(&op, &sorts) {
         Sorted::Is(found) => sort(rt, told) == found,
         Sorted::BadWidth => told == "width",
@@ -31,7 +31,7 @@ fn is_right(rt: &impl Abort, alloc: Global, row: &str) -> bool {
 
 /// An operator, the sorts of its arguments, and its own, `mismatch` where it doesn't take them, or `width` where its
 /// width would be out of range.
-const ROWS: &str = "\
+pub const ROWS: &str = "\
 - Int Int Int
 concat 33 33 width
 concat 32 32 64
@@ -70,16 +70,8 @@ concat 4 4 4 mismatch
 ";
 
 /// Whether operators and functions are told apart by their indices, and by nothing else.
-fn are_told_apart() -> bool {
+pub fn are_told_apart() -> bool {
     Op::Repeat(2).equals(&Op::Repeat(2))
         && !Op::Repeat(2).equals(&Op::Repeat(3))
         && !Fun::Defined(0).equals(&Fun::Wanted(0))
-}
-
-#[test]
-fn operators_take_and_give_sorts(rt: HostRuntime) {
-    for row in ROWS.lines() {
-        assert!(rt; is_right(&rt, rt.alloc(), row), "{row}");
-    }
-    assert!(rt; are_told_apart());
 }

@@ -1,10 +1,11 @@
 // Small queries, with what facts say of each.
 use crate::forms::form;
-use crate::queries::query;
+use crate::queries::{INTEGERS, query};
 use crate::rows::field;
 use std::alloc::Global;
 use std::process::Abort;
 use sy_linear::{Fact, Known, Path, Test, known};
+use sy_meaning::IntTheory;
 use sy_terms::{Seq, Want};
 
 /// Facts with semicolons between them: `B` where the second variable is true, `!B` where it is false, or a form that is at
@@ -29,7 +30,7 @@ fn path(rt: &impl Abort, alloc: Global, text: &str) -> Path {
 /// What is known of a query over an integer and a truth value: of an open test the first coefficient and the constant.
 pub fn told(rt: &impl Abort, alloc: Global, row: &str) -> Result<String, Want> {
     let path = path(rt, alloc, field(row, 0));
-    let query = query(rt, alloc, "ib", field(row, 1));
+    let query = query::<IntTheory>(rt, alloc, INTEGERS, "ib", field(row, 1));
     let known = known(alloc, &query, &path).expect(rt, "memory");
     drop(query);
     let told = match &known {
@@ -49,16 +50,16 @@ pub fn told(rt: &impl Abort, alloc: Global, row: &str) -> Result<String, Want> {
 
 /// Facts, a body, and what they tell of it.
 pub const ROWS: &str = "\
-|12A*L2A*1L&|2 -1
-2:0 -1|12A*L2A*1L&|-2 1
-2:0 -1;-2:0 1|12A*L2A*1L&|true
--2:0 0|12A*L2A*1L&|false
-|A0L1AL&|-1 0
-|A1+C3Ll|-1 2
-|BMM+AL&|range 3
-|NmL|true
-|N0L|range 0
-|BA0L0AL?|holds 1
-B|BA0L0AL?|-1 0
-!B|BA0L0AL?|1 0
+|&L1*2AL*2A1|2 -1
+2:0 -1|&L1*2AL*2A1|-2 1
+2:0 -1;-2:0 1|&L1*2AL*2A1|true
+-2:0 0|&L1*2AL*2A1|false
+|&LA0L1A|-1 0
+|l+A1LC3|-1 2
+|&BL+MMA|range 3
+|LNm|true
+|LN0|range 0
+|?BLA0L0A|holds 1
+B|?BLA0L0A|-1 0
+!B|?BLA0L0A|1 0
 ";

@@ -1,27 +1,14 @@
 // What the solver of queries over integers answers to small queries.
-use crate::queries::{deep, query};
+use crate::queries::{INTEGERS, LIMITS, query};
 use crate::rows::{field, number};
+use crate::terms::{one, term};
 use std::alloc::Global;
 use std::process::Abort;
 use sy_intsolve::{IntDecide, IntSpent, Tree, fits};
 use sy_linear::check_tree;
 use sy_meaning::IntTheory;
 use sy_query::{Decide, Limits, Query, Verdict};
-use sy_terms::{Value, Want};
-
-/// Limits with so many inner nodes, and so many steps of the simplex method at one leaf.
-fn limits(nodes: u32, pivots: u32) -> Limits {
-    Limits {
-        size: 12,
-        rounds: 256,
-        points: 512,
-        bank: 20_000,
-        weight: 400_000,
-        clauses: 20_000,
-        nodes,
-        pivots,
-    }
-}
+use sy_terms::{Sort, Value, Want};
 
 /// A model: its numbers, 1 for true.
 fn model(rt: &impl Abort, alloc: Global, values: &[Value<i128>]) -> Result<String, Want> {
@@ -36,11 +23,23 @@ fn model(rt: &impl Abort, alloc: Global, values: &[Value<i128>]) -> Result<Strin
     Ok(text)
 }
 
+/// The query whether an integer is above each number below this one, and at most this one.
+fn deep(rt: &impl Abort, alloc: Global, count: u32) -> Query<IntTheory> {
+    let mut text = String::from_str(alloc, "and").expect(rt, "memory");
+    for number in 0..count {
+        write!(text, " >/2 a {number}").expect(rt, "memory");
+    }
+    write!(text, " <=/2 a {count}").expect(rt, "memory");
+    let vars = one(rt, alloc, Sort::Int);
+    let body = term::<IntTheory>(rt, alloc, text.as_str());
+    Query { vars, body }
+}
+
 /// The row's query: the one of its sorts and its body, or a conjunction.
 fn asked(rt: &impl Abort, alloc: Global, row: &str) -> Query<IntTheory> {
     match field(row, 0) {
         "deep" => deep(rt, alloc, number(row, 1)),
-        sorts => query(rt, alloc, sorts, field(row, 1)),
+        sorts => query::<IntTheory>(rt, alloc, INTEGERS, sorts, field(row, 1)),
     }
 }
 
@@ -74,7 +73,11 @@ pub fn told(rt: &impl Abort, alloc: Global, row: &str) -> Result<String, Want> {
         drop(query);
         return String::from_str(alloc, "unfit");
     }
-    let limits = limits(number(row, 2), number(row, 3));
+    let limits = Limits {
+        nodes: number(row, 2),
+        pivots: number(row, 3),
+        ..LIMITS
+    };
     let verdict = IntDecide::new()
         .decide(alloc, &query, &limits)
         .expect(rt, "memory");
@@ -91,37 +94,37 @@ pub fn told(rt: &impl Abort, alloc: Global, row: &str) -> Result<String, Want> {
 /// conjunction of 201 comparisons.
 pub const ROWS: &str = "\
 i|A|9|9|unfit
-b|A1+1=|9|9|unfit
-i|AB=|9|9|unfit
+b|=+A11|9|9|unfit
+i|=AB|9|9|unfit
 |T|1|1|model
-|T!|1|1|never
-bb|AB!&|2|9|model 1 0
-bb|AB^AB=&|3|9|never
-b|AA!&|1|9|never
-ii|AB<BA<&|2|9|never
-ii|AB<BA<&|1|9|spent Nodes
-i|A2*8=|9|9|model 4
-i|A0>A1<&|2|9|never
-i|A7GA7L&|9|9|model 7
-ii|AB<|0|0|any|some
-i|A5=|0|0|model 5
-i|A5>A7<&|0|0|model 6
-ib|A7GA7LB&&|9|9|model 7 1
-ii|2A*2B*1+=|3|9|never
-ii|2A*2B*1+=|2|9|spent Nodes
-ii|3A*6B*+1=|3|9|never
-iii|66+A*399++B*+399++66++C*+7=|4|99|never
-iii|AB+2C*1+=AB-4=&|9|99|never
-ii|7A*5B*+94+95++=A0GB0G&&|40|99|any|some
-ii|AB<BA?A<AB<BA?B<v|9|99|never
-ii|AB<AB?A<AB<BA?B<v|9|99|any|some
-ii|A1-B=A5<i!A5<&|9|99|never
-ii|A5<BA1+=&B6<i!|9|99|never
-ii|A5<BA1+=&B5<i!|9|99|model 4 5
-ii|A99*9*9*>B99*9*9*>&|9|1|spent Pivots
-ii|A99*9*9*>B99*9*9*>&|9|2|any|some
-ii|AB*2*3=|9|9|spent Range
-ii|A2*B=B3=&|40|99|never
+|!T|1|1|never
+bb|&A!B|2|9|model 1 0
+bb|&^AB=AB|3|9|never
+b|&A!A|1|9|never
+ii|&<AB<BA|2|9|never
+ii|&<AB<BA|1|9|spent Nodes
+i|=*A28|9|9|model 4
+i|&>A0<A1|2|9|never
+i|&GA7LA7|9|9|model 7
+ii|<AB|0|0|any|some
+i|=A5|0|0|model 5
+i|&>A5<A7|0|0|model 6
+ib|&GA7&LA7B|9|9|model 7 1
+ii|=*2A+*2B1|3|9|never
+ii|=*2A+*2B1|2|9|spent Nodes
+ii|=+*3A*6B1|3|9|never
+iii|=++*+66A*+3+99B*++3+99+66C7|4|99|never
+iii|&=+AB+*2C1=-AB4|9|99|never
+ii|&=+*7A*5B++94+95&GA0GB0|40|99|any|some
+ii|v<?<ABBAA<?<ABBAB|9|99|never
+ii|v<?<ABABA<?<ABBAB|9|99|any|some
+ii|&!i=-A1B<A5<A5|9|99|never
+ii|!i&<A5=B+A1<B6|9|99|never
+ii|!i&<A5=B+A1<B5|9|99|model 4 5
+ii|&>A***9999>B***9999|9|1|spent Pivots
+ii|&>A***9999>B***9999|9|2|any|some
+ii|=**AB23|9|9|spent Range
+ii|&=*A2B=B3|40|99|never
 deep|200|201|999|model 200
 deep|200|200|999|spent Nodes
 ";

@@ -1,11 +1,12 @@
 // Refutation trees of small queries, with what the checker says of each.
 use crate::forms::form;
 use crate::fractions::fractions;
-use crate::queries::query;
+use crate::queries::{INTEGERS, query};
 use crate::rows::field;
 use std::alloc::Global;
 use std::process::Abort;
 use sy_linear::{CheckEnd, Test, Tree, check_tree};
+use sy_meaning::IntTheory;
 use sy_terms::Want;
 
 /// The last tree.
@@ -66,7 +67,7 @@ fn tree(rt: &impl Abort, alloc: Global, text: &str) -> Tree {
 
 /// The checker's answer on the row's tree of its query over an integer and a truth value.
 pub fn told(rt: &impl Abort, alloc: Global, row: &str) -> Result<String, Want> {
-    let query = query(rt, alloc, "ib", field(row, 0));
+    let query = query::<IntTheory>(rt, alloc, INTEGERS, "ib", field(row, 0));
     let tree = tree(rt, alloc, field(row, 1));
     let checked = check_tree(alloc, &query, &tree);
     drop(tree);
@@ -81,33 +82,33 @@ pub fn told(rt: &impl Abort, alloc: Global, row: &str) -> Result<String, Want> {
 
 /// A body, a tree, and whether it refutes the body: contradictions, cuts, branches, splits, and no tree at all.
 pub const ROWS: &str = "\
-A0L1AL&|farkas 1 1;split 1:0 -1;split -1:0 0|true
-A0L1AL&|farkas 1 0;split 1:0 -1;split -1:0 0|false
-A0L1AL&|farkas 2 2;split 1:0 -1;split -1:0 0|true
-A0L1AL&|farkas 170141183460469231731687303715884105727 170141183460469231731687303715884105727;split 1:0 -1;split -1:0 0|true
-A0L1AL&|farkas 1;split 1:0 -1;split -1:0 0|false
-A0L1AL&|farkas 1 1 1;split 1:0 -1;split -1:0 0|false
-A0L1AL&|farkas -1 -1;split 1:0 -1;split -1:0 0|false
-12A*L2A*1L&|farkas 0 1 2;cut 2 1 0;split -2:0 1;split 2:0 -1|true
-12A*L2A*1L&|farkas 0 1 2;cut 1 1 0;split -2:0 1;split 2:0 -1|false
-12A*L2A*1L&|farkas 0 1 2;cut 0 1 0;split -2:0 1;split 2:0 -1|false
-12A*L2A*1L&|farkas 0 1 2;cut 3 1 0;split -2:0 1;split 2:0 -1|false
-12A*L2A*1L&|farkas 0 1 2;cut 2 1;split -2:0 1;split 2:0 -1|false
-12A*L2A*1L&|farkas 0 1 1;cut 2 1 0;split -2:0 1;split 2:0 -1|false
-12A*L2A*1L&|farkas 0 170141183460469231731687303715884105727 2;cut 2 1 0;split -2:0 1;split 2:0 -1|range 3
-12A*L2A*1L&|farkas 0 1 2;cut 2 170141183460469231731687303715884105727 0;split -2:0 1;split 2:0 -1|range 2
-12A*L2A*1L&|farkas 0 1 2;cut 0 170141183460469231731687303715884105727 0;split -2:0 1;split 2:0 -1|false
-12A*L2A*1L&|farkas 1 0 2;farkas 0 1 2;branch 0 0;split -2:0 1;split 2:0 -1|true
-12A*L2A*1L&|farkas 1 0 2;farkas 0 1 2;branch 0 1;split -2:0 1;split 2:0 -1|false
-12A*L2A*1L&|farkas 1 0 2;farkas 0 1 2;branch 0 -1;split -2:0 1;split 2:0 -1|false
-12A*L2A*1L&|farkas 1 0 2;farkas 0 1 2;branch 1 0;split -2:0 1;split 2:0 -1|false
-12A*L2A*1L&|farkas 1 0 2;farkas 0 1 2;branch 2 0;split -2:0 1;split 2:0 -1|false
-MM+ALB&|shown;split 1:0 0|range 1
-MM+ALB&|shown;split -170141183460469231731687303715884105728:0 0|range 0
-MM+ALB&|shown;split 1:1 0|false
-MM+ALB&|shown;split -170141183460469231731687303715884105728:2 0|false
-MM+ALB&|shown;truth 1|range 1
-MM+ALB&|shown;truth 0|false
-12A*L2A*1L&|shown|false
-12A*L2A*1L&|unfinished|false
+&LA0L1A|farkas 1 1;split 1:0 -1;split -1:0 0|true
+&LA0L1A|farkas 1 0;split 1:0 -1;split -1:0 0|false
+&LA0L1A|farkas 2 2;split 1:0 -1;split -1:0 0|true
+&LA0L1A|farkas 170141183460469231731687303715884105727 170141183460469231731687303715884105727;split 1:0 -1;split -1:0 0|true
+&LA0L1A|farkas 1;split 1:0 -1;split -1:0 0|false
+&LA0L1A|farkas 1 1 1;split 1:0 -1;split -1:0 0|false
+&LA0L1A|farkas -1 -1;split 1:0 -1;split -1:0 0|false
+&L1*2AL*2A1|farkas 0 1 2;cut 2 1 0;split -2:0 1;split 2:0 -1|true
+&L1*2AL*2A1|farkas 0 1 2;cut 1 1 0;split -2:0 1;split 2:0 -1|false
+&L1*2AL*2A1|farkas 0 1 2;cut 0 1 0;split -2:0 1;split 2:0 -1|false
+&L1*2AL*2A1|farkas 0 1 2;cut 3 1 0;split -2:0 1;split 2:0 -1|false
+&L1*2AL*2A1|farkas 0 1 2;cut 2 1;split -2:0 1;split 2:0 -1|false
+&L1*2AL*2A1|farkas 0 1 1;cut 2 1 0;split -2:0 1;split 2:0 -1|false
+&L1*2AL*2A1|farkas 0 170141183460469231731687303715884105727 2;cut 2 1 0;split -2:0 1;split 2:0 -1|range 3
+&L1*2AL*2A1|farkas 0 1 2;cut 2 170141183460469231731687303715884105727 0;split -2:0 1;split 2:0 -1|range 2
+&L1*2AL*2A1|farkas 0 1 2;cut 0 170141183460469231731687303715884105727 0;split -2:0 1;split 2:0 -1|false
+&L1*2AL*2A1|farkas 1 0 2;farkas 0 1 2;branch 0 0;split -2:0 1;split 2:0 -1|true
+&L1*2AL*2A1|farkas 1 0 2;farkas 0 1 2;branch 0 1;split -2:0 1;split 2:0 -1|false
+&L1*2AL*2A1|farkas 1 0 2;farkas 0 1 2;branch 0 -1;split -2:0 1;split 2:0 -1|false
+&L1*2AL*2A1|farkas 1 0 2;farkas 0 1 2;branch 1 0;split -2:0 1;split 2:0 -1|false
+&L1*2AL*2A1|farkas 1 0 2;farkas 0 1 2;branch 2 0;split -2:0 1;split 2:0 -1|false
+&L+MMAB|shown;split 1:0 0|range 1
+&L+MMAB|shown;split -170141183460469231731687303715884105728:0 0|range 0
+&L+MMAB|shown;split 1:1 0|false
+&L+MMAB|shown;split -170141183460469231731687303715884105728:2 0|false
+&L+MMAB|shown;truth 1|range 1
+&L+MMAB|shown;truth 0|false
+&L1*2AL*2A1|shown|false
+&L1*2AL*2A1|unfinished|false
 ";
