@@ -61,11 +61,14 @@ fit_of None b P x e h m = absurd (clash (e ∙ ap not h))
 fit_of (Some a) b P x e h m = m.0
 
 pub choice_unfit : {A : Type 0} → (t : TableauState) (r : ℕ) (v f : Fraction) (o : Option A) (b : Bool) (x : A) → FirstUnclear t (length t.basics) r → v ≡ row_value t r → f ≡ bound t (basic t r) → is_some o ≡ not b → b ≡ true → SomeIff o (CrossesFit v f) x → SomeChoiceUnfit t
-choice_unfit t r v f o b x first v_is f_is e h m = (r, record {
-  first = first;
-  bounded = unclear_bounded t r first.unclear;
-  unfit = subst (λ g. ¬ (CrossesFit (row_value t r) g)) f_is (subst (λ g. ¬ (CrossesFit g f)) v_is (unfit_of o b (CrossesFit v f) x e h m));
-})
+choice_unfit t r v f o b x first v_is f_is e h m = (
+  r,
+  record {
+    first = first;
+    bounded = unclear_bounded t r first.unclear;
+    unfit = subst (λ g. ¬ (CrossesFit (row_value t r) g)) f_is (subst (λ g. ¬ (CrossesFit g f)) v_is (unfit_of o b (CrossesFit v f) x e h m));
+  },
+)
 
 pub is_leaving : {A : Type 0} → (t : TableauState) (r : ℕ) (v f : Fraction) (o : Option A) (b : Bool) (x : A) → FirstUnclear t (length t.basics) r → v ≡ row_value t r → f ≡ bound t (basic t r) → is_some o ≡ not b → b ≡ false → SomeIff o (CrossesFit v f) x → IsLeaving t r
 is_leaving t r v f o b x first v_is f_is e h m = record { first = first; bounded = unclear_bounded t r first.unclear; fits = fits; below = by_lt_z _ _ (λ l. l) (λ l. absurd (first.unclear (inr (fits, λ k. <ℤ_irrefl (<ℤ-≤ℤ_trans k l))))) }

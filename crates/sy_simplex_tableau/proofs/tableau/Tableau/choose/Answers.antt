@@ -46,20 +46,19 @@ returns-in-None c =
     let first = c.in-Some.ensures in
     record {
       leaving = is_leaving t c.in-Some.row c.index-2.result.now c.index-bound.result.now c.compare.result c.is_none.result _ first
-      (value_read t c.in-Some.row c.index-2.result.now c.requires first.row_below c.index-2.ensures)
-      (bound_read t c.in-Some.row c.index.result.now c.index-bound.result.now c.requires first.row_below (unclear_bounded t c.in-Some.row first.unclear) c.index.ensures c.index-bound.ensures)
-      c.is_none.ensures c.if-is_none.false c.compare.ensures;
+          (value_read t c.in-Some.row c.index-2.result.now c.requires first.row_below c.index-2.ensures)
+          (bound_read t c.in-Some.row c.index.result.now c.index-bound.result.now c.requires first.row_below (unclear_bounded t c.in-Some.row first.unclear) c.index.ensures c.index-bound.ensures)
+          c.is_none.ensures c.if-is_none.false c.compare.ensures;
       none = stuck_read t c.in-Some.row c.as_slice.result.now c.as_slice-2.result.now c.as_slice.ensures.value (c.as_slice-2.ensures ∙ row_read t c.in-Some.row c.index-3.result.now c.requires first.row_below c.index-3.ensures) c.in-None.ensures;
     }
 
 pub returns-in-Some-entering_column : goal.returns-in-Some-entering_column
 returns-in-Some-entering_column c =
     let t = tableau_state_of c.args.self.now in
-    let first = c.in-Some.ensures in
-    (
+    let first = c.in-Some.ensures in (
       is_leaving t c.in-Some.row c.index-2.result.now c.index-bound.result.now c.compare.result c.is_none.result _ first
-      (value_read t c.in-Some.row c.index-2.result.now c.requires first.row_below c.index-2.ensures)
-      (bound_read t c.in-Some.row c.index.result.now c.index-bound.result.now c.requires first.row_below (unclear_bounded t c.in-Some.row first.unclear) c.index.ensures c.index-bound.ensures)
-      c.is_none.ensures c.if-is_none.false c.compare.ensures,
+          (value_read t c.in-Some.row c.index-2.result.now c.requires first.row_below c.index-2.ensures)
+          (bound_read t c.in-Some.row c.index.result.now c.index-bound.result.now c.requires first.row_below (unclear_bounded t c.in-Some.row first.unclear) c.index.ensures c.index-bound.ensures)
+          c.is_none.ensures c.if-is_none.false c.compare.ensures,
       entering_read t c.in-Some.row c.as_slice.result.now c.as_slice-2.result.now c.in-Some-entering_column.column c.as_slice.ensures.value (c.as_slice-2.ensures ∙ row_read t c.in-Some.row c.index-3.result.now c.requires first.row_below c.index-3.ensures) c.in-Some-entering_column.ensures,
     )
