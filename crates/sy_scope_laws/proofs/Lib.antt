@@ -6,3 +6,6 @@ pub mod Declaring
 pub mod Synthesising
 pub mod Asking
 pub mod Files
+pub mod Flags
+pub mod Placing
+pub mod Formed

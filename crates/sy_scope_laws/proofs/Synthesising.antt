@@ -33,9 +33,9 @@ use Rattle.sy_forms_laws.specs.Right.{SenseIsThere}
 use Rattle.sy_forms_laws.proofs.Names.{place_among_at}
 use Rattle.sy_forms_laws.proofs.Readings.{chained, any_read, at_read, where_read}
 use Rattle.sy_forms_laws.proofs.Sorts.{Known, sort_known, entry_has}
-use Rattle.sy_scope_rules_laws.specs.Rightly.{argument_setting, ReadsRightly}
-use Rattle.sy_scope_rules_laws.proofs.Formed.{sorts_pass, grammar_fits}
-use Rattle.sy_scope_rules_laws.proofs.Placing.{none_among}
+use Rattle.sy_scope_laws.specs.Rightly.{argument_setting, ReadsRightly}
+use Rattle.sy_scope_laws.proofs.Formed.{sorts_pass, grammar_fits}
+use Rattle.sy_scope_laws.proofs.Placing.{none_among}
 use Rattle.sy_scope_steps.specs.Contexts.{Context, new_sought}
 use Rattle.sy_scope_steps.specs.Steps.{read_grammar, value_sort, synthesise}
 use Rattle.sy_scope_laws.specs.Sound.{defined_in, signatures_wanted, IsDeclared, ContextIsSound}

@@ -37,9 +37,9 @@ use Rattle.sy_forms_laws.proofs.Readings.{at_read}
 use Rattle.sy_forms_laws.proofs.Rules.{RuleFits, rule_fits}
 use Rattle.sy_forms_laws.proofs.Sorts.{sort_known}
 use Rattle.sy_grammar_base.specs.Fits.{with_functions, GoalFits}
-use Rattle.sy_scope_rules_laws.specs.Rightly.{ReadsRightly}
-use Rattle.sy_scope_rules_laws.proofs.Flags.{flags_right}
-use Rattle.sy_scope_rules_laws.proofs.Placing.{grammar_setting, right_among, reserved_among}
+use Rattle.sy_scope_laws.specs.Rightly.{ReadsRightly}
+use Rattle.sy_scope_laws.proofs.Flags.{flags_right}
+use Rattle.sy_scope_laws.proofs.Placing.{grammar_setting, right_among, reserved_among}
 
 both : (a b : Bool) → a ≡ true → b ≡ true → (a && b) ≡ true
 both true true e f = refl

@@ -18,7 +18,7 @@ use Rattle.sy_scope_rules.specs.Grammars.{rules_under, among_nonterminals}
 use Rattle.sy_forms_laws.specs.Fitting.{Setting}
 use Rattle.sy_forms_laws.specs.Right.{EnvironmentIsRight, SenseIsThere}
 use Rattle.sy_forms_laws.proofs.Names.{place_among_at}
-use Rattle.sy_scope_rules_laws.specs.Rightly.{argument_setting}
+use Rattle.sy_scope_laws.specs.Rightly.{argument_setting}
 
 -- a name that isn't reserved
 abbrev pub Free : Logic → Named → Type 0
