@@ -1,7 +1,13 @@
 // The search for bodies that solve a problem.
 #![tactic(auto)]
 
+mod banks;
+mod dropped;
+mod level;
+mod outcome;
+mod round;
 mod search;
+mod trees;
 
 pub use search::{synthesise, synthesise_least};
 pub use sy_loop_outcome::{FailCause, LoopRange, Outcome, fail_name};

@@ -3,16 +3,16 @@ ghost use Rattle.std.specs.Prelude.{◌≡◌, IfOk};
 ghost use Rattle.sy_grammar_base.specs.Fits.{ProblemFits};
 ghost use Rattle.sy_loop_outcome.specs.Right.{IsRightFor};
 ghost use Rattle.sy_loop_bounds.specs.declared.reach.Reach.TheVariants.{Sizes, Joins, Beyond};
-ghost use Rattle.sy_loop_ends.specs.Clauses.{FindsLeastFor};
+ghost use Rattle.sy_loop_claims.specs.Clauses.{FindsLeastFor};
 
+use crate::round::{Round, run_round};
 use std::alloc::{AllocError, Global};
 use sy_grammar_base::Problem;
 use sy_loop_bounds::Reach;
 use sy_loop_candidate::Known;
-use sy_loop_ends::unbegun;
+use sy_loop_claims::{first_size, unbegun};
 use sy_loop_join::plan_of;
 use sy_loop_outcome::Outcome;
-use sy_loop_round::{Round, run_round};
 use sy_points::{Points, Stored};
 use sy_query_decide::Decide;
 use sy_query_limits::Limits;
@@ -79,7 +79,7 @@ fn search<T: Theory, D: Decide<T>>(
     };
     let mut plan = plan_of(alloc, problem, reach)?;
     let mut banks = Vec::new(alloc);
-    let mut level = 0;
+    let mut level = first_size(limits);
     'rounds: loop {
         match run_round(
             alloc, problem, limits, reach, functions, decide, &mut plan, known, banks, level,

@@ -23,8 +23,8 @@ use Rattle.sy_scope_causes.specs.declared.cause.Refused.{Refused}
 use Rattle.sy_scope_steps.specs.Files.{file_read}
 use Rattle.sy_scope_steps.specs.Jobs.{Wish, wished}
 use Rattle.sy_scope_titles.specs.declared.Titles.{Titles}
-use Rattle.sygus_answers.specs.Answers.{RightOutcome}
-use Rattle.sygus_answers.specs.Drills.{AnswersDrill}
+use Rattle.sygus_run.specs.RightAnswers.{RightOutcome}
+use Rattle.sygus_run.specs.DrillAnswers.{AnswersDrill}
 use Rattle.sygus_drill.specs.Examples.{examples}
 use Rattle.sygus_drill.specs.Files.{drill_file}
 use Rattle.sygus_drill_laws.specs.Asked.{Asks, AsksFor}

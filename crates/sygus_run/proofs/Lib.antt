@@ -1,5 +1,12 @@
 pub mod Answerable
+pub mod Beyond
+pub mod Drilled
 pub mod Drilling
 pub mod Ends
+pub mod Found
 pub mod Jobs
+pub mod Left
 pub mod Named
+pub mod RuledOut
+pub mod Seeking
+pub mod Statuses

@@ -25,7 +25,7 @@ use Rattle.sy_loop_outcome_laws.proofs.Ranges.{never_leaves}
 use Rattle.sygus_replies.specs.Replies.{reply_of}
 use Rattle.sygus_replies.specs.Answered.{AreRight}
 use Rattle.sygus_words.specs.declared.settings.Mode.{Mode}
-use Rattle.sygus_answers.specs.Answers.{RightOutcome}
+use Rattle.sygus_run.specs.RightAnswers.{RightOutcome}
 use Rattle.sygus_run.specs.Answers.{is_of_integers, is_of_vectors, IsNotNamed}
 
 -- over integers only the solver names its budgets, and none of its budgets is that of vectors

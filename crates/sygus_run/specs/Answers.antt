@@ -15,7 +15,7 @@ use Rattle.sy_bits.specs.Proofs as bits
 use Rattle.sygus_replies.specs.Replies.{Reply, Defined, Infeasible, Failed, reply_of}
 use Rattle.sygus_replies.specs.Answered.{AreRight}
 use Rattle.sygus_words.specs.declared.settings.Mode.{Mode}
-use Rattle.sygus_answers.specs.Answers.{RightOutcome}
+use Rattle.sygus_run.specs.RightAnswers.{RightOutcome}
 use Rattle.sygus_run.specs.declared.answers.Answers.{Answers}
 use Rattle.sygus_run.specs.declared.answers.Answers.TheVariants.{Idle, Ints, Bits}
 

@@ -14,7 +14,7 @@ use Rattle.sygus_drill.specs.Lines.{drill_line}
 use Rattle.sygus_drill_laws.specs.Asked.{Asks}
 use Rattle.sygus_replies.specs.Replies.{Reply}
 use Rattle.sygus_words.specs.declared.settings.Mode.TheVariants.{Drill}
-use Rattle.sygus_answers.specs.Drills.{drill_end}
+use Rattle.sygus_run.specs.DrillAnswers.{drill_end}
 use Rattle.sygus_run.specs.declared.answers.Answers.{Answers}
 use Rattle.sygus_run.specs.declared.answers.Answers.TheVariants.{Idle}
 use Rattle.sygus_run.specs.Answers.{replies_of, AreRightAnswers, AreOfLogic}

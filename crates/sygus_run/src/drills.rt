@@ -8,6 +8,7 @@ ghost use Rattle.sygus_run.specs.Answers.{replies_of, AreNamedFor};
 ghost use Rattle.sygus_run.specs.Drills.{Drilled, EndsDrill, IsProblemOf};
 
 use crate::answers::{Answers, Ended, unanswered};
+use crate::drill_answers;
 use std::alloc::Global;
 use sy_bits::BvDecide;
 use sy_grammar_base::Problem;
@@ -58,7 +59,7 @@ fn drilled<O: Sink>(alloc: Global, number: u32, limits: &Limits, out: &mut O) ->
         unreachable!();
     };
     let mut decide = BvDecide::new();
-    let solved = sygus_answers::drill(alloc, number, problem, limits, &mut decide, out)?;
+    let solved = drill_answers::drill(alloc, number, problem, limits, &mut decide, out)?;
     Ok(Ended {
         status: solved.status,
         answers: Answers::Bits(solved.answers),

@@ -11,13 +11,13 @@ ghost use Rattle.sygus_replies.specs.Texts.{texts, answer_lines, memory_line};
 ghost use Rattle.sygus_run.specs.Answers.{replies_of, AreRightAnswers, AreOfLogic, AreNamedFor};
 
 use crate::answers::{Answers, Ended};
+use crate::problems::solve;
 use std::alloc::Global;
 use sy_bits::BvDecide;
 use sy_intsolve::IntDecide;
 use sy_io::Sink;
 use sy_query_limits::Limits;
 use sy_scope::Job;
-use sygus_answers::solve;
 use sygus_words::Mode;
 
 /// Answers the problems of a file in order, each by the search of this mode with the solver of the file's logic.

@@ -2,10 +2,13 @@
 #![tactic(auto)]
 
 mod answers;
+mod drill_answers;
 mod drills;
 mod file;
 mod job;
+mod problems;
 mod program;
+mod synthesis;
 
 pub use answers::{Answers, Ended};
 pub use program::run;

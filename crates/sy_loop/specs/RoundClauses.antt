@@ -1,0 +1,43 @@
+-- What clauses say of rounds, for a theory and a solver.
+use Rattle.std.specs.Prelude.{ℕ, List, map}
+use Rattle.sy_terms.specs.declared.theory.Theory.{Ghosts as TheoryOf}
+use Rattle.sy_grammar_base.specs.Questions.{question_of}
+use Rattle.sy_grammar_base.specs.declared.problem.Problem.{Problem}
+use Rattle.sy_query_limits.specs.declared.Limits.{Limits}
+use Rattle.sy_query_decide.specs.declared.decide.Decide.{Ghosts as DecideOf}
+use Rattle.sy_bank.specs.Bank.{merged_of}
+use Rattle.sy_bank.specs.declared.bank.Bank.{Bank}
+use Rattle.sy_loop_bounds.specs.declared.reach.Reach.{Reach}
+use Rattle.sy_loop_history.specs.Stored.{history_of}
+use Rattle.sy_loop_candidate.specs.declared.step.Known.{Known}
+use Rattle.sy_loop_laws.specs.Refuting.{AreDoneBelow}
+use Rattle.sy_loop.specs.Trees.{TreesFollow}
+use Rattle.sy_loop.specs.Rounds.{LesserAreDone, Carries, EndsLeast, LevelFollows, Rounds}
+use Rattle.sy_loop.specs.declared.round.Round.{Round}
+
+-- the banks with which a round goes on may be carried on
+abbrev pub CarriesFor : {T N P S : Type 0} → TheoryOf T N → Problem T N → Limits → Round T P S N → Type 0
+CarriesFor theory problem limits = Carries theory.owned theory.denotes problem limits
+
+module _ {T N : Type 0} (theory : TheoryOf T N) (reach : Reach) (problem : Problem T N) where
+  abbrev pub AreDoneBelowFor : Known T N → ℕ → Type 0
+  AreDoneBelowFor known = AreDoneBelow reach (question_of theory.denotes problem) (history_of theory.denotes known.stored) known.points
+
+  abbrev pub AreDoneFor : {P S : Type 0} → Round T P S N → Type 0
+  AreDoneFor = LesserAreDone theory.denotes reach (question_of theory.denotes problem)
+
+  abbrev pub TreesFollowFor : Known T N → ℕ → List (Bank T N) → Type 0
+  TreesFollowFor known level banks =
+      TreesFollow reach (question_of theory.denotes problem) (history_of theory.denotes known.stored) known.points level (map (merged_of theory.denotes) banks)
+
+  abbrev pub EndsLeastFor : {P S : Type 0} → Round T P S N → Type 0
+  EndsLeastFor = EndsLeast theory.denotes reach (question_of theory.denotes problem)
+
+-- the same size follows, or it is done
+abbrev pub LevelFollowsFor : {T N P S : Type 0} → TheoryOf T N → Reach → Problem T N → Limits → ℕ → Round T P S N → Type 0
+LevelFollowsFor theory reach problem limits = LevelFollows theory.denotes reach (question_of theory.denotes problem) limits
+
+module _ {T N D P S : Type 0} (theory : TheoryOf T N) (solver : DecideOf D T P S N) (reach : Reach) (problem : Problem T N) (limits : Limits) where
+  abbrev pub RoundsFor : Known T N → ℕ → Round T P S N → Type 0
+  RoundsFor known =
+      Rounds theory.owned theory.denotes solver.accepted solver.budget solver.shows reach (question_of theory.denotes problem) limits (history_of theory.denotes known.stored) known.points

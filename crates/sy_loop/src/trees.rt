@@ -1,0 +1,91 @@
+// The bodies of one size, and then conditional trees over kept terms of sizes up to it.
+ghost use Rattle.std.specs.Prelude.{◌<◌, [], length, map, IfOk, OnOk};
+ghost use Rattle.sy_bank.specs.Bank.{merged_of};
+ghost use Rattle.sy_grammar_base.specs.Fits.{ProblemFits};
+ghost use Rattle.sy_loop_candidate.specs.Clauses.{IsKnownFor};
+ghost use Rattle.sy_loop_join.specs.Clauses.{GoesFor, IsOpenFor, IsPlannedFor};
+ghost use Rattle.sy_loop_join.specs.Going.{OnNext};
+ghost use Rattle.sy_loop.specs.LevelClauses.{AllAreRefutedFor, AreHonestFor};
+ghost use Rattle.sy_loop.specs.RoundClauses.{TreesFollowFor};
+
+use crate::level::try_level;
+use std::alloc::Global;
+use sy_bank::Bank;
+use sy_grammar_base::Problem;
+use sy_loop_bounds::Reach;
+use sy_loop_candidate::{Known, Step};
+use sy_loop_join::{Plan, try_trees};
+use sy_query_decide::Decide;
+use sy_query_limits::Limits;
+use sy_terms::{Theory, Want};
+
+/// Tries all bodies of kept terms of the banks whose sizes sum to `level`. Where nothing new is learned, conditional trees
+/// over kept terms of sizes up to it are next.
+pub(crate) fn try_size<T: Theory, D: Decide<T>>(
+    alloc: Global,
+    problem: &Problem<T>,
+    limits: &Limits,
+    reach: Reach,
+    decide: &mut D,
+    plan: &mut Option<Plan<T>>,
+    banks: &[Bank<T>],
+    level: u32,
+    known: &mut Known<T>,
+) -> Result<Step<T, D::Proof, D::Spent>, Want>
+    requires problem { ProblemFits T.Theory problem.now }
+    requires plan { IsPlannedFor T.Theory reach problem.now plan.old }
+    requires banks { AreHonestFor T.Theory problem.now known.old.points banks.now }
+    requires opened { IsOpenFor T.Theory reach problem.now limits.now known.old level }
+    requires known { IsKnownFor T.Theory reach problem.now limits.now known.old }
+    requires room { length known.old.stored.items < limits.now.rounds }
+    ensures plan { OnOk result (IsPlannedFor T.Theory reach problem.now plan.new) }
+    ensures known { OnOk result (IsKnownFor T.Theory reach problem.now limits.now known.new) }
+    ensures step { IfOk result (GoesFor T.Theory D.Decide reach problem.now limits.now known.old known.new) }
+    ensures refuted { IfOk result (OnNext (AllAreRefutedFor T.Theory problem.now known.old [] (map (merged_of T.denotes) banks.now) level)) }
+    ensures trees { IfOk result (OnNext (TreesFollowFor T.Theory reach problem.now known.old level banks.now)) }
+{
+    match try_level(alloc, problem, limits, reach, decide, banks, level, known)? {
+        Step::Next => {}
+        Step::Again => return Ok(Step::Again),
+        Step::End(end) => return Ok(Step::End(end)),
+    }
+    let step = join_kept(
+        alloc, problem, limits, reach, decide, plan, banks, level, known,
+    )?;
+    Ok(step)
+}
+
+/// Tries a conditional tree over kept terms of the one function's bank, where there is a plan.
+fn join_kept<T: Theory, D: Decide<T>>(
+    alloc: Global,
+    problem: &Problem<T>,
+    limits: &Limits,
+    reach: Reach,
+    decide: &mut D,
+    plan: &mut Option<Plan<T>>,
+    banks: &[Bank<T>],
+    level: u32,
+    known: &mut Known<T>,
+) -> Result<Step<T, D::Proof, D::Spent>, Want>
+    requires problem { ProblemFits T.Theory problem.now }
+    requires plan { IsPlannedFor T.Theory reach problem.now plan.old }
+    requires banks { AreHonestFor T.Theory problem.now known.old.points banks.now }
+    requires opened { IsOpenFor T.Theory reach problem.now limits.now known.old level }
+    requires known { IsKnownFor T.Theory reach problem.now limits.now known.old }
+    requires room { length known.old.stored.items < limits.now.rounds }
+    ensures plan { OnOk result (IsPlannedFor T.Theory reach problem.now plan.new) }
+    ensures known { OnOk result (IsKnownFor T.Theory reach problem.now limits.now known.new) }
+    ensures step { IfOk result (GoesFor T.Theory D.Decide reach problem.now limits.now known.old known.new) }
+    ensures trees { IfOk result (OnNext (TreesFollowFor T.Theory reach problem.now known.old level banks.now)) }
+{
+    let Some(plan) = plan else {
+        return Ok(Step::Next);
+    };
+    let Some(bank) = banks.get(0) else {
+        unreachable!();
+    };
+    let step = try_trees(
+        alloc, problem, limits, reach, decide, plan, bank, level, known,
+    )?;
+    Ok(step)
+}

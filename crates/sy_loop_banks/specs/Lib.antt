@@ -1,3 +1,0 @@
-pub mod Banks
-pub mod Clauses
-pub mod Dropping

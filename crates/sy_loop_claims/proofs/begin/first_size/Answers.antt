@@ -1,0 +1,9 @@
+use Rattle.std.proofs.Common.{arith}
+use Rattle.sy_loop_laws.proofs.Done.{begins}
+use Rattle.sy_loop_claims.proofs.begin.first_size.Goals as goal
+
+pub returns-clause-within : goal.returns-clause-within
+returns-clause-within g c = omega arith
+
+pub returns-clause-done : goal.returns-clause-done
+returns-clause-done g c = begins

@@ -1,3 +1,0 @@
-pub mod Choosing
-pub mod Observed
-pub mod Refuting

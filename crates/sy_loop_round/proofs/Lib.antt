@@ -1,4 +1,0 @@
-pub mod Completing
-pub mod Following
-pub mod Honest
-pub mod Rounding

@@ -1,0 +1,17 @@
+// How far the search of each mode goes.
+ghost use Rattle.std.specs.Prelude.{◌≡◌, ◌↔◌, IsTrue};
+ghost use Rattle.sy_loop_bounds.specs.declared.reach.Reach.TheVariants.{Joins};
+ghost use Rattle.sygus_modes.specs.Reaches.{reach_of};
+
+use sygus_words::Mode;
+
+/// Whether the search of this mode tries conditional trees.
+pub fn tries_trees(mode: Mode) -> bool
+    ensures { IsTrue result ↔ reach_of mode ≡ Joins }
+{
+    match mode {
+        Mode::Solve => true,
+        Mode::Least => false,
+        Mode::Drill(_) => true,
+    }
+}

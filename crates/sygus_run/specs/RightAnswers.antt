@@ -1,0 +1,41 @@
+-- Which answers are right.
+use Rattle.std.specs.Prelude.{Bool, List, map}
+use Rattle.sy_terms.specs.Values.{Val}
+use Rattle.sy_terms.specs.declared.op.Op.{Op}
+use Rattle.sy_terms.specs.declared.theory.Theory.{Ghosts as TheoryOf}
+use Rattle.sy_grammar_base.specs.Questions.{Question, question_of}
+use Rattle.sy_grammar_base.specs.declared.problem.Problem.{Problem}
+use Rattle.sy_query_limits.specs.declared.FailName.{FailName}
+use Rattle.sy_query_limits.specs.declared.Limits.{Limits}
+use Rattle.sy_query_base.specs.Asked.{Query}
+use Rattle.sy_query_decide.specs.declared.decide.Decide.{Ghosts as DecideOf}
+use Rattle.sy_loop_bounds.specs.declared.reach.Reach.TheVariants.{Sizes}
+use Rattle.sy_loop_outcome.specs.Right.{IsRight}
+use Rattle.sy_loop_outcome.specs.declared.outcome.Outcome.{Outcome}
+use Rattle.sy_loop.specs.Least.{FindsLeast}
+use Rattle.sygus_run.specs.Finding.{FindsBeyond}
+use Rattle.sygus_modes.specs.Reaches.{reach_of}
+use Rattle.sygus_words.specs.declared.settings.Mode.{Mode}
+use Rattle.sygus_words.specs.declared.settings.Mode.TheVariants.{Solve, Least, Drill}
+use Rattle.sygus_replies.specs.Answered.{AreRight}
+
+-- bodies that are found are of the least bound in which any solve the problem: in modes `solve` and `drill`, unless a bank was
+-- full or a number had left the 128 bits before
+abbrev pub FindsWell : {T P S N : Type 0} → (N → Val) → Mode → Limits → Question → Outcome T P S N → Type 0
+FindsWell number Solve limits question outcome = FindsBeyond number question limits outcome
+FindsWell number Least limits question outcome = FindsLeast number Sizes question outcome
+FindsWell number (Drill n) limits question outcome = FindsBeyond number question limits outcome
+
+-- the outcome is right within these limits, and so are bodies that are found
+pub record RightOutcome {T P S N : Type 0} (owned : Op → Bool) (number : N → Val) (accepted : Query → P → Type 0) (budget : S → FailName) (shows : Query → Limits → FailName → S → Type 0)
+    (mode : Mode) (limits : Limits) (question : Question) (outcome : Outcome T P S N) : Type 0 where
+  pub right : IsRight owned number accepted budget shows (reach_of mode) question limits outcome
+  pub well : FindsWell number mode limits question outcome
+
+-- the same for a theory and a solver
+abbrev pub RightOutcomeFor : {T N D P S : Type 0} → TheoryOf T N → DecideOf D T P S N → Mode → Limits → Question → Outcome T P S N → Type 0
+RightOutcomeFor theory solver = RightOutcome theory.owned theory.denotes solver.accepted solver.budget solver.shows
+
+-- these outcomes are right for the first problems, in order
+abbrev pub AreRightFor : {T N D P S : Type 0} → TheoryOf T N → DecideOf D T P S N → Mode → Limits → List (Problem T N) → List (Outcome T P S N) → Type 0
+AreRightFor theory solver mode limits problems outcomes = AreRight (RightOutcomeFor theory solver mode limits) (map (question_of theory.denotes) problems) outcomes
