@@ -19,7 +19,7 @@ use Rattle.sy_grammar_base.specs.declared.problem.Problem.{Problem}
 use Rattle.sy_grammar_laws.proofs.Candidates.{bodies_fit}
 use Rattle.sy_bank_rows.specs.Banks.{Entry, Merged, kept_at}
 use Rattle.sy_loop_candidate.proofs.Ending.{members}
-use Rattle.sy_loop_samples.specs.Banked.{IsOneBank}
+use Rattle.sy_loop_beyond.specs.Banked.{IsOneBank}
 
 -- members within a bound fit as bodies
 pub within_fit : {T N : Type 0} (owned : Op → Bool) (numeric : Sort → Bool) (number : N → Val) (problem : Problem T N) (bound : ℕ) (bodies : List (Term T N)) → QuestionFits owned numeric (question_of number problem) → (numeric sorts.Int ≡ true → owned ops.Neg ≡ true) →

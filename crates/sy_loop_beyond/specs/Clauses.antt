@@ -18,7 +18,7 @@ use Rattle.sy_bank.specs.Bank.{merged_of}
 use Rattle.sy_bank.specs.declared.bank.Bank.{Bank}
 use Rattle.sy_loop_history.specs.Solutions.{IsSolution}
 use Rattle.sy_loop_history.specs.Stored.{history_of}
-use Rattle.sy_loop_samples.specs.Banked.{IsOneBank}
+use Rattle.sy_loop_beyond.specs.Banked.{IsOneBank}
 use Rattle.sy_loop_beyond.specs.Exceeding.{MeetsFullBank}
 
 module _ {T N : Type 0} (theory : TheoryOf T N) (problem : Problem T N) where

@@ -1,2 +1,3 @@
+pub mod Banked
 pub mod Clauses
 pub mod Exceeding

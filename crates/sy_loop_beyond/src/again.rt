@@ -3,12 +3,13 @@ ghost use Rattle.std.specs.Prelude.{◌≡◌, length, IfOk, IfSome, OnOk};
 ghost use Rattle.sy_grammar_base.specs.Fits.{ProblemFits};
 ghost use Rattle.sy_loop_beyond.specs.Clauses.{AreAssignedFor, IsBankFor, IsFoundFor};
 
+use crate::banks::bank_over;
 use crate::body::Task;
+use crate::mixed::mixed_assignment;
 use crate::scanning::solve_scanned;
 use crate::search::solve_kept;
 use crate::tuples::wished_tuples;
 use sy_bank::Bank;
-use sy_loop_samples::{bank_over, mixed_assignment};
 use sy_query_decide::Decide;
 use sy_terms::{Bodies, Theory, Values, Want};
 

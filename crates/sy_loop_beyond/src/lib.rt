@@ -3,13 +3,17 @@
 
 mod again;
 mod assignments;
+mod banks;
 mod body;
 mod columns;
 mod guess;
 mod judging;
+mod mixed;
+mod points;
 mod scanning;
 mod search;
 mod shapes;
 mod tuples;
+mod wishes;
 
 pub use search::{solve_anew, solve_beyond};

@@ -9,11 +9,11 @@ use crate::body::{MOST_SPENT, Task, try_body};
 use crate::columns::{columns, number, point_of};
 use crate::guess::guessed_term;
 use crate::shapes::{pools_of, shapes_of};
+use crate::wishes::{Wish, wishes_at};
 use std::alloc::Global;
 use sy_bank::Bank;
 use sy_grammar_base::Grammar;
 use sy_loop_scan::{Scan, Shape};
-use sy_loop_wanted::{Wish, wishes_at};
 use sy_query_decide::Decide;
 use sy_terms::{Bodies, Theory, Value, Values, Want};
 

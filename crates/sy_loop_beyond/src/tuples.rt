@@ -6,7 +6,7 @@ ghost use Rattle.sy_loop_beyond.specs.Clauses.{AreAssignedFor};
 
 use crate::body::Task;
 use crate::columns::point_of;
-use sy_loop_wanted::wishes_at;
+use crate::wishes::wishes_at;
 use sy_terms::{Theory, Value, Values, Want};
 
 /// How many tuples there are at most.

@@ -1,7 +1,7 @@
 // How far a search goes.
 
 /// Which bodies a search counts as in bound, and whether it has to take the sizes in order.
-#[derive(Clone, Copy, Debug, PartialEq, Eq)]
+#[derive(Clone, Copy)]
 pub enum Reach {
     /// Bodies whose sizes sum to at most the bound.
     Sizes,

@@ -9,7 +9,7 @@ use sy_points::{Added, Points};
 use sy_terms::{Theory, Want};
 
 /// What became of the calls that a candidate asks for.
-#[derive(Clone, Copy, Debug, PartialEq, Eq)]
+#[derive(Clone, Copy)]
 pub(crate) enum Adding {
     /// All were there.
     There,

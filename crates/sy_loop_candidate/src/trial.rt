@@ -17,7 +17,7 @@ use sy_query_base::Limits;
 use sy_terms::{Bodies, Theory, Want};
 
 /// What became of bodies that were tried.
-#[derive(Clone, Copy, Debug, PartialEq, Eq)]
+#[derive(Clone, Copy)]
 pub(crate) enum Trial {
     /// They meet the problem at every stored assignment, and all that they ask there was there.
     Due,

@@ -21,7 +21,7 @@ use sy_points::{Points, Stored};
 use sy_terms::{Seq, Theory, Value, Want};
 
 /// Under the leaf of this number a constraint leaves the 128 bits at the stored assignment of this place.
-#[derive(Clone, Copy, Debug, PartialEq, Eq)]
+#[derive(Clone, Copy)]
 pub struct Leaving {
     pub leaf: usize,
     pub place: usize,

@@ -18,7 +18,7 @@ use sy_query_base::Limits;
 use sy_terms::{Theory, Value, Values, Want, same_values};
 
 /// A constraint that rests on a point of the function to be found, at a stored assignment: the number of each.
-#[derive(Clone, Copy, Debug, PartialEq, Eq)]
+#[derive(Clone, Copy)]
 pub struct Rest {
     pub constraint: usize,
     pub place: usize,

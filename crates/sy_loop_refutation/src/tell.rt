@@ -16,7 +16,7 @@ use sy_points::Points;
 use sy_terms::{Term, Theory, Value, Want};
 
 /// What rows tell of a term.
-#[derive(Clone, Copy, Debug, PartialEq, Eq)]
+#[derive(Clone, Copy)]
 pub(crate) enum Told {
     /// It is true.
     True,

@@ -9,7 +9,7 @@ use sy_seq::{Seq, Want};
 const COUNT: u32 = 1000;
 
 /// An argument, and the value that is wanted there.
-#[derive(Clone, Copy, Debug, PartialEq, Eq)]
+#[derive(Clone, Copy)]
 pub struct Example {
     pub argument: u8,
     pub value: u8,

@@ -10,7 +10,7 @@ use sy_seq::Want;
 use sy_text::write_numeral;
 
 /// How the problem of a number ended.
-#[derive(Clone, Copy, Debug, PartialEq, Eq)]
+#[derive(Clone, Copy)]
 pub enum DrillEnd {
     /// By a definition, which meets so many of the 1,000 examples.
     Met(u32),

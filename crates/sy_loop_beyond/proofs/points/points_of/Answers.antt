@@ -1,6 +1,6 @@
 use Rattle.std.proofs.Common.{◌∙◌, sym}
-use Rattle.sy_loop_samples.proofs.Tuples.{copied_point}
-use Rattle.sy_loop_samples.proofs.points.points_of.Goals as goal
+use Rattle.sy_loop_beyond.proofs.Copied.{copied_point}
+use Rattle.sy_loop_beyond.proofs.points.points_of.Goals as goal
 
 pub loop-tuple-preserved : goal.loop-tuple-preserved
 loop-tuple-preserved g c =

@@ -10,8 +10,8 @@ use Rattle.sy_grammar_base.specs.Questions.{goal_of, question_of}
 use Rattle.sy_bank_rows.specs.Rows.{ArePointsOf}
 use Rattle.sy_grammar_laws.proofs.Problems.{problem_definitions, problem_grammars}
 use Rattle.sy_loop_candidate.proofs.Items.{has_place}
-use Rattle.sy_loop_samples.proofs.One.{one_goal}
-use Rattle.sy_loop_samples.proofs.banks.bank_over.Goals as goal
+use Rattle.sy_loop_beyond.proofs.One.{one_goal}
+use Rattle.sy_loop_beyond.proofs.banks.bank_over.Goals as goal
 
 pub bank_of-requires-clause-definitions : goal.bank_of-requires-clause-definitions
 bank_of-requires-clause-definitions g c = problem_definitions g.T.Theory.owned g.T.Theory.numeric g.T.Theory.denotes c.args.problem.now c.requires.problem

@@ -10,7 +10,7 @@ ghost use Rattle.sy_grammar_base.specs.Questions.{question_of};
 ghost use Rattle.sy_bank_rows.specs.Rows.{ArePointsOf};
 ghost use Rattle.sy_bank.specs.Bank.{merged_of};
 ghost use Rattle.sy_bank.specs.Promised.{IsBank};
-ghost use Rattle.sy_loop_samples.specs.Banked.{IsOneBank};
+ghost use Rattle.sy_loop_beyond.specs.Banked.{IsOneBank};
 
 use crate::points::points_of;
 use std::alloc::Global;
@@ -21,7 +21,7 @@ use sy_terms::{Seq, Theory, Values, Want};
 /// A bank of the one function to be found over these tuples, of terms up to the size `upto` and of at most `cap` terms: all
 /// of them, or as many as there was room for. `None` where a tuple isn't of the function's arguments. `Want` comes where
 /// memory runs out, and where 32 bits don't count the tuples or the arguments.
-pub fn bank_over<T: Theory>(
+pub(crate) fn bank_over<T: Theory>(
     alloc: Global,
     problem: &Problem<T>,
     tuples: &[Values<T>],

@@ -1,7 +1,7 @@
 use Rattle.sy_terms.specs.Denoted.{expr_of, vals_of}
 use Rattle.sy_grammar_laws.proofs.Problems.{problem_definitions}
-use Rattle.sy_loop_wanted.proofs.Fitting.{fits_where}
-use Rattle.sy_loop_wanted.proofs.wishes.value_of.Goals as goal
+use Rattle.sy_loop_beyond.proofs.Fitting.{fits_where}
+use Rattle.sy_loop_beyond.proofs.wishes.value_of.Goals as goal
 
 pub evaluate-requires-clause-definitions : goal.evaluate-requires-clause-definitions
 evaluate-requires-clause-definitions g c = problem_definitions g.T.Theory.owned g.T.Theory.numeric g.T.Theory.denotes c.args.problem.now c.requires.problem

@@ -1,7 +1,7 @@
 use Rattle.std.proofs.Common.{◌∙◌, refl, sym}
 use Rattle.sy_meaning.proofs.Sorts.{pointwise_same}
 use Rattle.sy_terms_laws.proofs.Equations.{same_sorts_is}
-use Rattle.sy_loop_samples.proofs.points.are_same.Goals as goal
+use Rattle.sy_loop_beyond.proofs.points.are_same.Goals as goal
 
 pub returns : goal.returns
 returns c = λ yes.
