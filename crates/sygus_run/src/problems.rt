@@ -123,8 +123,8 @@ pub(crate) fn sought<T: Theory, D: Decide<T>>(
         let outcome = synthesise_beyond(alloc, problem, limits, decide)?;
         return Ok(outcome);
     }
-    let outcome = synthesise_least(alloc, problem, limits, decide)?;
-    Ok(outcome)
+    let least = synthesise_least(alloc, problem, limits, decide)?;
+    Ok(least)
 }
 
 /// Why no more problems are answered.

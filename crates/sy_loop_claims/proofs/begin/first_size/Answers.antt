@@ -3,7 +3,7 @@ use Rattle.sy_loop_laws.proofs.Done.{begins}
 use Rattle.sy_loop_claims.proofs.begin.first_size.Goals as goal
 
 pub returns-clause-within : goal.returns-clause-within
-returns-clause-within g c = omega arith
+returns-clause-within g = omega arith
 
 pub returns-clause-done : goal.returns-clause-done
-returns-clause-done g c = begins
+returns-clause-done g = begins
