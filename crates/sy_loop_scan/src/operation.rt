@@ -41,14 +41,10 @@ impl Operation {
     /// The shape at this place; `None` where there is none, or scans don't know its operator.
     pub(crate) fn at(shapes: &[Shape], pools: &[Pool], place: usize) -> Option<Operation> {
         let shape = shapes.get(place)?;
-        let way = way_of(shape)?;
-        let first = *shape.operands.get(0)? as usize;
-        let second = match shape.operands.get(1) {
-            Some(second) => *second as usize,
-            None => first,
-        };
+        let (first, second) = pools_of(shape.operands.as_slice())?;
         let pool = pools.get(first)?;
         let seconds = pools.get(second)?.sizes.len();
+        let way = way_of(shape)?;
         Some(Operation {
             way,
             operator: shape.operator,
@@ -68,6 +64,16 @@ impl Operation {
             Way::Single | Way::Judged | Way::Multiplied => 1,
         }
     }
+}
+
+/// The pools of the first and the second operand; where there is one operand, its pool is both.
+fn pools_of(operands: &[u32]) -> Option<(usize, usize)> {
+    let first = *operands.get(0)? as usize;
+    let second = match operands.get(1) {
+        Some(second) => *second as usize,
+        None => first,
+    };
+    Some((first, second))
 }
 
 /// How many bits stand for a value of the sort.

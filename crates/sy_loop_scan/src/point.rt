@@ -20,8 +20,7 @@ impl Point {
         let mut agreeing = 0usize;
         for column in columns {
             let copy = lowest_of(alloc, column.as_slice())?;
-            let same = copy.iter().filter(|value| **value == wanted).count();
-            agreeing = agreeing.saturating_add(same);
+            agreeing = agreeing.saturating_add(count_of(copy.as_slice(), wanted));
             copies.push(copy)?;
         }
         Ok(Point {
@@ -53,6 +52,17 @@ fn lowest_of(alloc: Global, numbers: &[i128]) -> Result<Vec<u64>, Want> {
         found.push(lowest(*number))?;
     }
     Ok(found)
+}
+
+/// How many of the numbers are this one.
+fn count_of(numbers: &[u64], number: u64) -> usize {
+    let mut count = 0usize;
+    for other in numbers {
+        if *other == number {
+            count = count.saturating_add(1);
+        }
+    }
+    count
 }
 
 /// Puts the point among the others, behind those with which as few values agree, since such tell most.

@@ -81,13 +81,10 @@ impl Seconds {
         let Some(value) = point.value(operation.first, first) else {
             return Ok(());
         };
-        let column = point.column(operation.second);
         for second in self.serving.iter().rev() {
-            let Some(other) = column.get(*second) else {
-                continue;
-            };
-            let there = pair_value(&operation.operator, operation.bits, value, *other);
-            if there == Some(point.wanted) && is_wanted(others, operation, first, *second) {
+            if is_served(point, operation, value, *second)
+                && is_wanted(others, operation, first, *second)
+            {
                 found.push(*second)?;
             }
         }
@@ -162,6 +159,16 @@ pub(crate) fn may_lead(points: &[Point], operation: &Operation, place: usize) ->
         }
     }
     true
+}
+
+/// Whether the second part gives the first one, of this value, the wanted value at the point.
+fn is_served(point: &Point, operation: &Operation, value: u64, second: usize) -> bool {
+    match point.value(operation.second, second) {
+        Some(other) => {
+            pair_value(&operation.operator, operation.bits, value, other) == Some(point.wanted)
+        }
+        None => false,
+    }
 }
 
 /// Whether the combination has the wanted values at these points.

@@ -92,7 +92,7 @@ pub(crate) fn pair_value(operator: &Op, bits: u32, first: u64, second: u64) -> O
         Op::BvShl => shifted_left(first, second, bits),
         Op::BvLshr => shifted_right(first, second),
         Op::BvAshr => shifted_signed(first, second, bits),
-        _ => return compared(operator, bits, first, second).map(u64::from),
+        _ => u64::from(compared(operator, bits, first, second)?),
     };
     Some(value)
 }
