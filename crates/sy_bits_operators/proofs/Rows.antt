@@ -220,6 +220,9 @@ one-round n i r g h e =
 rounds : (n i c : ℕ) → i < n → i * c + c ≤ n * c
 rounds n i c h = let m : (i + 1) * c ≤ n * c = mul-le-mul_right c (omega arith) in omega (arith, m)
 
+pub row-room : (n i g old now most : ℕ) → i < n → now ≤ old + i * (2 * g + 1) → old + n * (2 * g + 1) < most → now + 2 * g + 1 < most
+row-room n i g old now most h k room = let m = rounds n i (2 * g + 1) h in omega (arith, m, k, room)
+
 pub distinct-cost : (list : List Signal) (i : ℕ) (signal : Signal) (old now : ℕ) → are_alike (signal_sorts list) ≡ true → i < length list → signal ≡ get_or list i signal → now ≤ old + i * (length list * same_gates (first_width (signal_sorts list))) →
     now + length (take (length list - (i + 1)) (drop (i + 1) list)) * same_gates (sort_width (signal_sort signal)) + 1 ≤ old + (i + 1) * (length list * same_gates (first_width (signal_sorts list)))
 distinct-cost list i signal old now e h is k =

@@ -401,3 +401,9 @@ pub last_inside : (es : List Entry) (c : Clause) (last : Option Lit) (vars lists
     ((v : ℕ) (s : Bool) → c v s ≡ true → v < vars) → lists ≡ 2 * vars → IfSome last (λ l. list_of l < lists)
 last_inside es c None vars lists f b e = search rules
 last_inside es c (Some l) vars lists f b e = list_of-lt l vars lists (b l.var l.positive f.has) e
+
+-- where a list has nothing, it has ended
+pub past : {X : Type 0} → (xs : List X) (k : ℕ) → slice_get xs k ≡ None → length xs ≤ k
+past [] k h = omega arith
+past (x ∷ xs) zero h = cc
+past (x ∷ xs) (suc k) h = omega (arith, past xs k h)

@@ -1,5 +1,5 @@
 -- What becomes of a clause by its number, from what becomes of it by its literals.
-use Rattle.std.proofs.Common.{◌≡◌, ℕ, true, List, Option, Some, sym, subst, ◌∙◌, ◌⊎◌, inr, ⊎_elim}
+use Rattle.std.proofs.Common.{◌≡◌, ℕ, true, List, Option, Some, None, sym, subst, ◌∙◌, ◌⊎◌, inr, ⊎_elim}
 use Rattle.std.specs.Prelude.{slice_get}
 use Rattle.sy_clauses.specs.declared.Lit.{Lit}
 use Rattle.sy_clauses.specs.Clauses.{Clause}
@@ -46,3 +46,23 @@ suits_at clauses values pairs l other n c pair (Move new place) at had stays has
 }
 suits_at clauses values pairs l other n c pair (Force forced) at had stays has s = record { clause = c; at = at; unit = s }
 suits_at clauses values pairs l other n c pair Conflict at had stays has s = record { clause = c; at = at; all_false = s }
+
+-- a clause that isn't there, or watches nothing, or is true stays as it is
+pub stays_unpaired : (clauses : List Clause) (values : Partial) (pairs : List (Option Pair)) (l : Lit) (n : ℕ) → pair_of pairs n ≡ None →
+    SuitsAt clauses values pairs l n Stay
+stays_unpaired clauses values pairs l n none d p here had = cc
+
+pub stays_unknown : (clauses : List Clause) (values : Partial) (pairs : List (Option Pair)) (l : Lit) (n : ℕ) → slice_get clauses n ≡ None →
+    SuitsAt clauses values pairs l n Stay
+stays_unknown clauses values pairs l n none d p here had = cc
+
+pub stays_true : (clauses : List Clause) (t : Trail) (head : ℕ) (values : Partial) (pairs : List (Option Pair)) (l other : Lit) (n : ℕ) (pair : Pair) →
+    AllWatched clauses t head pairs → pair_of pairs n ≡ Some pair → (other ≡ pair.first) ⊎ (other ≡ pair.second) →
+    values other.var ≡ Some other.positive → SuitsAt clauses values pairs l n Stay
+stays_true clauses t head values pairs l other n pair all had one true_now d p here given =
+    inr record {
+      var = other.var;
+      positive = other.positive;
+      has = pair_within clauses t head pairs n d pair other all here had one;
+      is_true = true_now;
+    }

@@ -1,5 +1,5 @@
 // Learning from a conflict.
-ghost use Rattle.std.specs.Prelude.{◌≡◌, ◌<◌, ◌≤◌, ℕ, Bool, true, not, Some, None, OnOk, IfOk, MatchBool, length, vec_len};
+ghost use Rattle.std.specs.Prelude.{◌≡◌, ◌<◌, ◌≤◌, ℕ, Bool, true, not, Some, None, [], OnOk, IfOk, MatchBool, length, vec_len};
 ghost use Rattle.sy_clauses.specs.Clauses.{known_clauses, line_clause, IsEmpty};
 ghost use Rattle.sy_clauses.specs.Marking.{clause_of, MarksAreListed};
 ghost use Rattle.sy_cdcl.specs.Trails.{kept_values, entries_values, TrailIsReady, LevelsSettled};
@@ -42,6 +42,58 @@ pub struct Learned {
     pub last: Option<Lit>,
 }
 
+/// Marks the conflict's clause, and resolves it with the reasons of its literals, from the one that became
+/// false last on, until at most one is of the present level; that literal. The steps are listed.
+fn resolve_back(
+    trail: &Trail,
+    cnf: &Cnf,
+    derived: &[Seq<Lit>],
+    marks: &mut Marks,
+    steps: &mut Seq<Step>,
+    conflict: u32,
+) -> Result<Option<Lit>, Want>
+    requires ready { TrailIsReady (known_clauses cnf.now.clauses derived.now) trail.now }
+    requires levels { LevelsSettled (known_clauses cnf.now.clauses derived.now) trail.now }
+    requires conflict { IsConflict (known_clauses cnf.now.clauses derived.now) (kept_values trail.now.values.items) conflict }
+    requires empty { IsEmpty (clause_of marks.old) }
+    requires listed { MarksAreListed marks.old }
+    requires new { steps.old ≡ [] }
+    ensures line { OnOk result (line_clause (known_clauses cnf.now.clauses derived.now) (record { first = conflict; steps = steps.new }) ≡ Some (clause_of marks.new)) }
+    ensures learned { IfOk result (λ last. IsLearned trail.now (clause_of marks.new) last) }
+    ensures vars { OnOk result ((v : ℕ) (s : Bool) → clause_of marks.new v s ≡ true → v < vec_len trail.now.values) }
+    ensures listed { OnOk result (MarksAreListed marks.new) }
+{
+    let Some(clause) = clause_at(cnf, derived, conflict) else {
+        return Ok(None);
+    };
+    marks.load(clause)?;
+    let start = trail.level_start();
+    let mut top = trail.entries.len();
+    while top > start {
+        top -= 1;
+        let entry = trail.entry_at(top);
+        if !falsifies(entry, marks) {
+            continue;
+        }
+        if is_last(trail, start, top, marks) {
+            return Ok(Some(Lit {
+                var: entry.literal.var,
+                positive: !entry.literal.positive,
+            }));
+        }
+        let Some(number) = entry.reason else {
+            continue;
+        };
+        let step = Step {
+            var: entry.literal.var,
+            with: number,
+        };
+        advance(marks, cnf, derived, step)?;
+        steps.push(step)?;
+    }
+    Ok(None)
+}
+
 /// Marks a clause that the conflict teaches. At the lowest level it is empty. At another it has one
 /// literal of the present level, which is answered; all others are false at lower levels.
 pub fn analyze(
@@ -62,43 +114,13 @@ pub fn analyze(
     ensures vars { OnOk result ((v : ℕ) (s : Bool) → clause_of marks.new v s ≡ true → v < vec_len trail.now.values) }
     ensures listed { OnOk result (MarksAreListed marks.new) }
 {
-    let mut line = Line {
+    let mut steps = Seq::new(alloc);
+    let last = resolve_back(trail, cnf, derived, marks, &mut steps, conflict)?;
+    let line = Line {
         first: conflict,
-        steps: Seq::new(alloc),
+        steps,
     };
-    let Some(clause) = clause_at(cnf, derived, conflict) else {
-        return Ok(Learned { line, last: None });
-    };
-    marks.load(clause)?;
-    let start = trail.level_start();
-    let mut top = trail.entries.len();
-    while top > start {
-        top -= 1;
-        let entry = trail.entry_at(top);
-        if !falsifies(entry, marks) {
-            continue;
-        }
-        if is_last(trail, start, top, marks) {
-            let literal = Lit {
-                var: entry.literal.var,
-                positive: !entry.literal.positive,
-            };
-            return Ok(Learned {
-                line,
-                last: Some(literal),
-            });
-        }
-        let Some(number) = entry.reason else {
-            continue;
-        };
-        let step = Step {
-            var: entry.literal.var,
-            with: number,
-        };
-        advance(marks, cnf, derived, step)?;
-        line.steps.push(step)?;
-    }
-    Ok(Learned { line, last: None })
+    Ok(Learned { line, last })
 }
 
 /// Goes back to the lowest level at which all marked literals but this one are false.

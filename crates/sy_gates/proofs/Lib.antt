@@ -4,6 +4,7 @@ pub mod Rooms
 pub mod Encoding
 pub mod Ways
 pub mod Places
+pub mod Copies
 pub mod Products
 pub mod Quotients
 pub mod Shifts

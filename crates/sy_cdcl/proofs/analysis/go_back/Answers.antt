@@ -1,4 +1,5 @@
-use Rattle.std.proofs.Common.{◌∙◌, sym, subst, arith, ◌<◌, length, List}
+use Rattle.std.proofs.Common.{◌∙◌, sym, ap, subst, arith, ◌<◌, ◌≤◌, ◌-◌, length, length-take, List}
+use Rattle.std.proofs.lemmas.Option.{slice_get_within}
 use Rattle.sy_clauses.specs.Clauses.{known_clauses}
 use Rattle.sy_clauses.specs.Marking.{clause_of}
 use Rattle.sy_clauses.specs.New.{IsUnit}
@@ -53,3 +54,57 @@ returns-then-any_falsifies-clause-lowest c =
     let l = w.from in let m = w.to in
     record { place = w.place; entry = w.entry; from = omega arith; to = omega arith; at = w.at; hit = w.hit }) in
     open_below known t (clause_of c.args.marks.now) c.args.literal.var c.args.literal.positive deep i.ready i.unit some
+
+pub leave_level-requires-clause-level : goal.leave_level-requires-clause-level
+leave_level-requires-clause-level c = c.requires.deep
+
+pub leave_level-requires-clause-assignment : goal.leave_level-requires-clause-assignment
+leave_level-requires-clause-assignment c = c.requires.ready.assignment
+
+pub any_falsifies-requires : goal.any_falsifies-requires
+any_falsifies-requires c =
+    let y = c.len-in-loop-trail.ensures in
+    let z = c.loop-trail.trail.entries.ok.0 in
+    omega arith
+
+pub loop-trail-smaller : goal.loop-trail-smaller
+loop-trail-smaller c =
+    let starts = c.loop-trail.trail.starts.items in
+    let deep : 0 < length starts = omega arith in
+    omega (arith, deep, ap length c.leave_level-in-loop-trail.ensures.starts, length-take (length starts - 1) starts)
+
+pub returns-then-any_falsifies-clause-ready : goal.returns-then-any_falsifies-clause-ready
+returns-then-any_falsifies-clause-ready c = c.loop-trail.invariant.ready
+
+pub returns-then-any_falsifies-clause-levels : goal.returns-then-any_falsifies-clause-levels
+returns-then-any_falsifies-clause-levels c = c.loop-trail.invariant.levels
+
+pub returns-then-any_falsifies-clause-vars : goal.returns-then-any_falsifies-clause-vars
+returns-then-any_falsifies-clause-vars c = c.loop-trail.invariant.vars
+
+pub returns-then-any_falsifies-clause-unit : goal.returns-then-any_falsifies-clause-unit
+returns-then-any_falsifies-clause-unit c = c.loop-trail.invariant.unit
+
+pub returns-then-any_falsifies-clause-back : goal.returns-then-any_falsifies-clause-back
+returns-then-any_falsifies-clause-back c = c.loop-trail.invariant.back
+
+pub returns-clause-ready : goal.returns-clause-ready
+returns-clause-ready c = c.loop-trail.invariant.ready
+
+pub returns-clause-levels : goal.returns-clause-levels
+returns-clause-levels c = c.loop-trail.invariant.levels
+
+pub returns-clause-vars : goal.returns-clause-vars
+returns-clause-vars c = c.loop-trail.invariant.vars
+
+pub returns-clause-unit : goal.returns-clause-unit
+returns-clause-unit c = c.loop-trail.invariant.unit
+
+-- at the lowest level there is none below
+pub returns-clause-lowest : goal.returns-clause-lowest
+returns-clause-lowest c k n h =
+    let w = slice_get_within c.loop-trail.trail.starts.items k n h in
+    absurd (omega arith)
+
+pub returns-clause-back : goal.returns-clause-back
+returns-clause-back c = c.loop-trail.invariant.back

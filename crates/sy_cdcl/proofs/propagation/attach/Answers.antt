@@ -5,8 +5,8 @@ use Rattle.sy_cdcl.specs.Storing.{clauses_in}
 use Rattle.sy_clauses.specs.New.{IsFalse}
 use Rattle.sy_cdcl.specs.Trails.{kept_values}
 use Rattle.sy_cdcl.specs.Watching.{IsAttached}
-use Rattle.sy_cdcl.proofs.Push.{extends_trans, vars_kept}
-use Rattle.sy_cdcl.proofs.Attaching.{attached_all}
+use Rattle.sy_cdcl.proofs.Push.{extends_refl, extends_trans, vars_kept}
+use Rattle.sy_cdcl.proofs.Attaching.{attached_all, past}
 use Rattle.sy_cdcl.proofs.propagation.attach.Goals as goal
 
 pub loop-number-preserved : goal.loop-number-preserved
@@ -30,3 +30,41 @@ returns-clause-ends c =
     let n = c.requires.count in
     let end = c.loop-number.auto.number-end in
     attached_all known c.loop-number.trail c.loop-number.watches c.loop-number.number i.attached (omega arith) (omega arith)
+
+pub loop-number-init : goal.loop-number-init
+loop-number-init c = record {
+  ready = c.requires.ready;
+  extends = extends_refl c.args.trail.now;
+  vars = c.requires.vars;
+  attached = c.requires.attached;
+}
+
+-- each number below the count has a clause
+pub loop-number-preserved-in_default : goal.loop-number-preserved-in_default
+loop-number-preserved-in_default c =
+    let beyond = past (clauses_in c.args.store.now) c.loop-number.number c.in_default.ensures in
+    absurd (omega (arith, beyond, c.requires.count, c.loop-number-test.true))
+
+pub returns-then-not-branch-clause-ready : goal.returns-then-not-branch-clause-ready
+returns-then-not-branch-clause-ready c = c.in_ok-attach_clause.ensures.ready
+
+pub returns-then-not-branch-clause-extends : goal.returns-then-not-branch-clause-extends
+returns-then-not-branch-clause-extends c =
+    extends_trans c.args.trail.now c.loop-number.trail c.attach_clause.new.trail c.loop-number.invariant.extends c.in_ok-attach_clause.ensures.extends
+
+pub returns-then-not-branch-clause-ends : goal.returns-then-not-branch-clause-ends
+returns-then-not-branch-clause-ends c =
+    let known = clauses_in c.args.store.now in
+    let t = c.attach_clause.new.trail in
+    record {
+      clause = literals c.in-Some.clause.now;
+      at = c.in-Some.ensures;
+      all_false = subst (λ (b : Bool). MatchBool b (IsAttached known t c.attach_clause.new.watches (c.loop-number.number + 1))
+          (IsFalse (kept_values t.values.items) (literals c.in-Some.clause.now))) c.if-not-branch.true c.in_ok-attach_clause.ensures.ends;
+    }
+
+pub returns-clause-ready : goal.returns-clause-ready
+returns-clause-ready c = c.loop-number.invariant.ready
+
+pub returns-clause-extends : goal.returns-clause-extends
+returns-clause-extends c = c.loop-number.invariant.extends

@@ -5,6 +5,7 @@ use Rattle.sy_cdcl.specs.Storing.{clauses_in}
 use Rattle.sy_clauses.specs.New.{HasTrue, IsFalse}
 use Rattle.sy_cdcl.specs.Trails.{kept_values}
 use Rattle.sy_cdcl.proofs.Listing.{list_of-lt}
+use Rattle.sy_cdcl.proofs.Push.{extends_refl}
 use Rattle.sy_cdcl.proofs.Attaching.{attached_paired, attached_skipped}
 use Rattle.sy_cdcl.proofs.propagation.attach_clause.Goals as goal
 
@@ -38,3 +39,17 @@ returns-clause-ends c =
     (subst (λ (b : Bool). MatchBool b (HasTrue (kept_values c.settle.new.trail.values.items) (literals c.args.clause.now))
     (IsFalse (kept_values c.settle.new.trail.values.items) (literals c.args.clause.now))) c.if-not-branch.false c.in_ok-settle.ensures.ends)
     c.skip.ensures.lists c.in_ok-skip.ensures.pairs c.skip.ensures.head
+
+pub returns-in_default-clause-extends : goal.returns-in_default-clause-extends
+returns-in_default-clause-extends c = extends_refl c.args.trail.now
+
+pub returns-in_default-clause-ends : goal.returns-in_default-clause-ends
+returns-in_default-clause-ends c = λ v s h. (let e = c.in_default.ensures v s in cc)
+
+pub returns-in-Some-another-clause-extends : goal.returns-in-Some-another-clause-extends
+returns-in-Some-another-clause-extends c = extends_refl c.args.trail.now
+
+pub returns-then-not-branch-clause-ends : goal.returns-then-not-branch-clause-ends
+returns-then-not-branch-clause-ends c =
+    subst (λ (b : Bool). MatchBool b (HasTrue (kept_values c.settle.new.trail.values.items) (literals c.args.clause.now))
+    (IsFalse (kept_values c.settle.new.trail.values.items) (literals c.args.clause.now))) c.if-not-branch.true c.in_ok-settle.ensures.ends

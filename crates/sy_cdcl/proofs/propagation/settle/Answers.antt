@@ -2,6 +2,7 @@ use Rattle.std.proofs.Common.{Some}
 use Rattle.sy_clauses.specs.Clauses.{literals}
 use Rattle.sy_cdcl.specs.Trails.{kept_values}
 use Rattle.sy_cdcl.proofs.Inspect.{only_unit}
+use Rattle.sy_cdcl.proofs.Push.{extends_refl}
 use Rattle.sy_cdcl.proofs.Visiting.{true_last}
 use Rattle.sy_cdcl.proofs.propagation.settle.Goals as goal
 
@@ -20,3 +21,9 @@ returns-in_ok-force-in-Open-clause-ends c = record {
   is_true = true_last _ c.args.trail.now c.force.new.trail record { literal = c.args.literal; reason = Some c.args.number }
       c.in_ok-force-in-Open.ensures.ready c.in_ok-force-in-Open.ensures.entries;
 }
+
+pub returns-in-False-clause-extends : goal.returns-in-False-clause-extends
+returns-in-False-clause-extends c = extends_refl c.args.trail.now
+
+pub returns-in-True-clause-extends : goal.returns-in-True-clause-extends
+returns-in-True-clause-extends c = extends_refl c.args.trail.now
