@@ -1,5 +1,6 @@
 use Rattle.std.proofs.Common.{arith, refl}
 use Rattle.std.proofs.lemmas.List.{take_more}
+use Rattle.std.proofs.lemmas.Result.{IfOk-from_err}
 use Rattle.sy_grammar_base.specs.Grown.{tree_of-Node}
 use Rattle.sy_bank_rows.proofs.Copies.{trees_of-last}
 use Rattle.sy_bank_rows.proofs.build.+copied.Goals as goal
@@ -11,3 +12,15 @@ pub copied_derivations-loop-derivation-preserved : goal.copied_derivations-loop-
 copied_derivations-loop-derivation-preserved g t c =
     let more = take_more c.as_slice-derivation-items.result.now c.loop-derivation.derivation-index c.derivation-item.result (grind arith) in
     rw (more, ← c.derivation-item.is, c.in_ok-push.ensures.ok, trees_of-last, trees_of-last, c.loop-derivation.invariant, c.in_ok-copy.ensures) refl
+
+pub copied_derivation-returns-in_err-copies-in-Node : goal.copied_derivation-returns-in_err-copies-in-Node
+copied_derivation-returns-in_err-copies-in-Node g t c = IfOk-from_err c.from_residual.result _ c.from_residual.ensures.0
+
+pub copied_derivations-returns-in_err-copies : goal.copied_derivations-returns-in_err-copies
+copied_derivations-returns-in_err-copies g t c = IfOk-from_err c.from_residual.result _ c.from_residual.ensures.0
+
+pub copied_derivations-returns-in_err-copy : goal.copied_derivations-returns-in_err-copy
+copied_derivations-returns-in_err-copy g t c = IfOk-from_err c.from_residual-in_err-copy.result _ c.from_residual-in_err-copy.ensures.0
+
+pub copied_derivations-returns-in_err-push : goal.copied_derivations-returns-in_err-push
+copied_derivations-returns-in_err-push g t c = IfOk-from_err c.from_residual-in_err-push.result _ c.from_residual-in_err-push.ensures.0
