@@ -1,8 +1,8 @@
-use Rattle.std.proofs.Common.{arith, refl}
-use Rattle.std.proofs.lemmas.List.{take_more}
+use Rattle.std.proofs.Common.{arith, ap, refl, ◌∙◌}
+use Rattle.std.proofs.lemmas.List.{take_all, take_more}
 use Rattle.std.proofs.lemmas.Result.{IfOk-from_err}
 use Rattle.sy_grammar_base.specs.Grown.{tree_of-Node}
-use Rattle.sy_bank_rows.specs.Shared.{tree_from-Leaf, tree_from-Filled}
+use Rattle.sy_bank_rows.specs.Shared.{shared_trees, tree_from-Leaf, tree_from-Filled}
 use Rattle.sy_bank_rows.proofs.Copies.{trees_of-last, trees_from-last}
 use Rattle.sy_bank_rows.proofs.grown.+derivation.Goals as goal
 
@@ -31,3 +31,11 @@ Growns::derivations-returns-in_err-derivation g t c = IfOk-from_err c.from_resid
 
 pub Growns::derivations-returns-in_err-push : goal.Growns::derivations-returns-in_err-push
 Growns::derivations-returns-in_err-push g t c = IfOk-from_err c.from_residual-in_err-push.result _ c.from_residual-in_err-push.ensures.0
+
+pub Growns::derivations-loop-grown-init : goal.Growns::derivations-loop-grown-init
+Growns::derivations-loop-grown-init g t c = rw (c.in_ok-derivations.ensures) refl
+
+pub Growns::derivations-returns : goal.Growns::derivations-returns
+Growns::derivations-returns g t c =
+    let all = take_all c.loop-grown.grown-index c.as_slice-all.result.now c.loop-grown-test.false in
+    rw (← c.as_slice-all.ensures) (c.loop-grown.invariant ∙ ap (shared_trees g.T.Theory.denotes) all)
