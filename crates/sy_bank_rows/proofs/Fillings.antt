@@ -1,5 +1,5 @@
 -- What patterns become, and lists of patterns filled one by one.
-use Rattle.std.proofs.Common.{◌≡◌, ℕ, ◌+◌, ◌<◌, get_or, List, [], ◌∷◌, ◌++◌, length, take, drop, refl, ap, sym, ◌∙◌, arith, length-append, map, slice_get, None, min}
+use Rattle.std.proofs.Common.{◌≡◌, ℕ, ◌+◌, ◌<◌, get_or, List, [], ◌∷◌, ◌++◌, length, take, drop, refl, ap, sym, ◌∙◌, arith, length-append, map, slice_get, None, Some, min}
 use Rattle.std.proofs.lemmas.List.{drop-take, drop-drop, drop_min, take-take, take_more}
 use Rattle.std.proofs.Math.Nat.{min_comm}
 use Rattle.std.proofs.lemmas.Option.{none-some}
@@ -102,3 +102,8 @@ left-next number parts i part terms left used within is left_is used_is =
 pub first-missing : {T N : Type 0} (number : N → Val) (terms : List (Term T N)) → None ≡ slice_get terms 0 → expr.Variable 0 ≡ first_of (map (expr_of number) terms)
 first-missing number [] missing = refl
 first-missing number (term ∷ terms) missing = absurd (none-some term missing)
+
+-- where there is one
+pub first-there : {T N : Type 0} (number : N → Val) (terms : List (Term T N)) (term copy : Term T N) → Some term ≡ slice_get terms 0 → expr_of number copy ≡ expr_of number term → expr_of number copy ≡ first_of (map (expr_of number) terms)
+first-there number [] term copy at is = absurd (none-some term (sym at))
+first-there number (first ∷ terms) term copy at is = let same : term ≡ first = cc in is ∙ ap (expr_of number) same

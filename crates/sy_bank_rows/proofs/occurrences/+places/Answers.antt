@@ -1,6 +1,7 @@
-use Rattle.std.proofs.Common.{arith}
-use Rattle.std.proofs.lemmas.List.{take_more}
-use Rattle.sy_grammar_base.specs.Written.{pattern_of-Const, pattern_of-Var, pattern_of-Non, pattern_of-App, pattern_of-Call, all_occurring-last}
+use Rattle.std.proofs.Common.{arith, ap, length, min, ◌∙◌}
+use Rattle.std.proofs.lemmas.List.{take_all, take_more}
+use Rattle.sy_grammar_base.specs.Patterns.{all_occurring}
+use Rattle.sy_grammar_base.specs.Written.{patterns_of, pattern_of-Const, pattern_of-Var, pattern_of-Non, pattern_of-App, pattern_of-Call, all_occurring-last}
 use Rattle.sy_bank_rows.proofs.occurrences.+places.Goals as goal
 
 pub places-returns-in-Const : goal.places-returns-in-Const
@@ -22,3 +23,11 @@ pub places_of-loop-part-preserved : goal.places_of-loop-part-preserved
 places_of-loop-part-preserved g t c =
     let more = take_more c.as_slice-part-items.result.now c.loop-part.part-index c.part-item.result (grind arith) in
     rw (more, ← c.part-item.is, all_occurring-last) (grind arith)
+
+pub places_of-loop-part-init : goal.places_of-loop-part-init
+places_of-loop-part-init g t c = omega arith
+
+pub places_of-returns : goal.places_of-returns
+places_of-returns g t c =
+    let all = take_all c.loop-part.part-index c.as_slice-part-items.result.now c.loop-part-test.false in
+    rw (← c.as_slice-part-items.ensures) (c.loop-part.invariant ∙ ap (λ parts. min c.args.cap (length (all_occurring (patterns_of g.T.Theory.denotes parts)))) all)
