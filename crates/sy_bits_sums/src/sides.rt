@@ -1,6 +1,6 @@
 // Sums as differences of sums.
-ghost use Rattle.std.specs.Prelude.{◌≡◌, ◌≤◌, ◌+◌, ℕ, IfOk};
-ghost use Rattle.sy_bits_sums.specs.Polynomials.{total, Agree};
+ghost use Rattle.std.specs.Prelude.{◌≡◌, ◌≤◌, ◌+◌, ◌*◌, ℕ, IfOk, OnOk};
+ghost use Rattle.sy_bits_sums.specs.Polynomials.{total, monomial_value, Agree};
 
 use crate::modular::greatest;
 use crate::monomial::Monomial;
@@ -30,6 +30,18 @@ fn signs(width: u32, monomial: &Monomial) -> (u64, u64)
 }
 
 impl Sum {
+    /// Adds the product of a monomial and a number.
+    fn add_product(&mut self, alloc: Global, monomial: &Monomial, number: u64) -> Result<(), Want>
+        requires { self.old.width ≤ 64 }
+        ensures width { self.new.width ≡ self.old.width }
+        ensures value { OnOk result ((values : ℕ → ℕ) → Agree self.old.width (total values self.new.monomials.items) (total values self.old.monomials.items + monomial_value values monomial.now * number)) }
+    {
+        let by = Monomial::number(alloc, number);
+        let product = monomial.times(alloc, self.width, &by)?;
+        self.add(product)?;
+        Ok(())
+    }
+
     /// The sum as a difference of two, modulo 2 to the power of the width: its monomials whose coefficients are in the
     /// lower half of the numbers of the width, less the others and the number alone, with the opposite sign.
     pub fn sides(&self, alloc: Global, width: u32) -> Result<Sides, Want>
@@ -42,12 +54,8 @@ impl Sum {
         let mut right = Sum::new(alloc, width);
         for monomial in self.monomials.as_slice() {
             let (on_left, on_right) = signs(width, monomial);
-            let left_sign = Monomial::number(alloc, on_left);
-            let plus = monomial.times(alloc, width, &left_sign)?;
-            left.add(plus)?;
-            let right_sign = Monomial::number(alloc, on_right);
-            let minus = monomial.times(alloc, width, &right_sign)?;
-            right.add(minus)?;
+            left.add_product(alloc, monomial, on_left)?;
+            right.add_product(alloc, monomial, on_right)?;
         }
         Ok(Sides { left, right })
     }

@@ -1,4 +1,7 @@
-use Rattle.std.proofs.Common.{arith, ◌∙◌}
+use Rattle.std.proofs.Common.{arith, ◌+◌, ◌*◌, ◌∙◌, List, subst}
+use Rattle.std.proofs.lemmas.List.{take_all}
+use Rattle.sy_bits_sums.specs.declared.monomial.Monomial.{Monomial}
+use Rattle.sy_bits_sums.specs.Polynomials.{total, monomial_value, Agree}
 use Rattle.sy_bits_sums.proofs.Adding.{more}
 use Rattle.sy_bits_sums.proofs.sum.Sum.add_multiple.Goals as goal
 
@@ -7,3 +10,9 @@ loop-monomial-preserved c = record {
   width = c.in_ok-add.ensures.width ∙ c.loop-monomial.invariant.width;
   value = λ values. more c.args.self.now.width values c.as_slice-monomial-items.result.now c.loop-monomial.monomial-index c.monomial-item.result _ _ _ _ _ (omega arith) c.monomial-item.is (c.loop-monomial.invariant.value values) (rw c.loop-monomial.invariant.width at (c.in_ok-multiple.ensures.value values)) (rw c.loop-monomial.invariant.width at (c.in_ok-add.ensures.value values));
 }
+
+pub returns-clause-value : goal.returns-clause-value
+returns-clause-value c = λ values.
+    subst (λ (zs : List Monomial). Agree c.args.self.now.width (total values c.loop-monomial.self.monomials.items) (total values c.args.self.now.monomials.items + total values zs * monomial_value values c.args.by.now))
+    (take_all c.loop-monomial.monomial-index c.as_slice-monomial-items.result.now (omega arith) ∙ c.as_slice-monomial-items.ensures.value)
+    (c.loop-monomial.invariant.value values)
