@@ -136,3 +136,18 @@ three_are number (x ∷ y ∷ z ∷ w ∷ rest) a b c many first second third = 
 pub some_then : {X : Type 0} {P Q : X → Type 0} (found : Option X) → IfSome found P → ((x : X) → P x → Q x) → IfSome found Q
 some_then None has gives = has
 some_then (Some x) has gives = gives x has
+
+-- lists to which so many terms were appended one by one
+pub one_appended : {T N : Type 0} (number : N → Val) (terms with_one : List (Term T N)) (a : Term T N) (first : Expr) → terms ≡ [] → with_one ≡ terms ++ a ∷ [] → expr_of number a ≡ first → exprs_of number with_one ≡ more first none
+one_appended number terms with_one a first empty one is_a = rw (one, empty) (ap (λ e. more e none) is_a)
+
+pub two_appended : {T N : Type 0} (number : N → Val) (terms with_one with_two : List (Term T N)) (a b : Term T N) (first second : Expr) → terms ≡ [] → with_one ≡ terms ++ a ∷ [] → with_two ≡ with_one ++ b ∷ [] →
+    expr_of number a ≡ first → expr_of number b ≡ second → exprs_of number with_two ≡ more first (more second none)
+two_appended number terms with_one with_two a b first second empty one two is_a is_b =
+    rw (two, one, empty) (ap (λ e. more e (more (expr_of number b) none)) is_a ∙ ap (λ e. more first (more e none)) is_b)
+
+pub three_appended : {T N : Type 0} (number : N → Val) (terms with_one with_two with_three : List (Term T N)) (a b c : Term T N) (first second third : Expr) → terms ≡ [] → with_one ≡ terms ++ a ∷ [] → with_two ≡ with_one ++ b ∷ [] →
+    with_three ≡ with_two ++ c ∷ [] → expr_of number a ≡ first → expr_of number b ≡ second → expr_of number c ≡ third → exprs_of number with_three ≡ more first (more second (more third none))
+three_appended number terms with_one with_two with_three a b c first second third empty one two three is_a is_b is_c =
+    rw (three, two, one, empty)
+    (ap (λ e. more e (more (expr_of number b) (more (expr_of number c) none))) is_a ∙ ap (λ e. more first (more e (more (expr_of number c) none))) is_b ∙ ap (λ e. more first (more second (more e none))) is_c)

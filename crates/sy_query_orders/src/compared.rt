@@ -4,7 +4,7 @@ ghost use Rattle.sy_terms.specs.Denoted.{expr_of, exprs_of};
 ghost use Rattle.sy_terms.specs.Expr.{Apply, more, none};
 ghost use Rattle.sy_query_orders.specs.Alike.{IsAlike, chosen, comparison};
 
-use crate::terms::{binary, choice};
+use crate::terms::binary;
 use std::alloc::Global;
 use sy_terms::{Op, Term, Terms, Theory, Want};
 
@@ -36,11 +36,25 @@ pub(crate) fn applied<T: Theory>(
 ) -> Result<Term<T>, Want>
     ensures { IfOk result (λ term. IsAlike (expr_of T.denotes term) (Apply operator (exprs_of T.denotes arguments.items.items))) }
 {
+    match sides_compared(alloc, operator, &arguments)? {
+        Some(found) => Ok(found),
+        None => Ok(Term::App(operator, arguments)),
+    }
+}
+
+/// The choice between comparisons, where the operator compares a small term with a choice.
+fn sides_compared<T: Theory>(
+    alloc: Global,
+    operator: Op,
+    arguments: &Terms<T>,
+) -> Result<Option<Term<T>>, Want>
+    ensures { IfOk result (λ found. IfSome found (λ term. IsAlike (expr_of T.denotes term) (Apply operator (exprs_of T.denotes arguments.now.items.items)))) }
+{
     if !compares(operator) || arguments.len() != 2 {
-        return Ok(Term::App(operator, arguments));
+        return Ok(None);
     }
     let (Some(first), Some(second)) = (arguments.get(0), arguments.get(1)) else {
-        return Ok(Term::App(operator, arguments));
+        return Ok(None);
     };
     if first.size(SMALL + 1) <= SMALL {
         let comparison = Comparison {
@@ -49,7 +63,7 @@ pub(crate) fn applied<T: Theory>(
             is_first: true,
         };
         let term = compared(alloc, &comparison, second)?;
-        return Ok(term);
+        return Ok(Some(term));
     }
     if second.size(SMALL + 1) <= SMALL {
         let comparison = Comparison {
@@ -58,9 +72,9 @@ pub(crate) fn applied<T: Theory>(
             is_first: false,
         };
         let term = compared(alloc, &comparison, first)?;
-        return Ok(term);
+        return Ok(Some(term));
     }
-    Ok(Term::App(operator, arguments))
+    Ok(None)
 }
 
 /// Whether the operator compares its two arguments.
@@ -92,11 +106,14 @@ fn compared<'a, T: Theory>(
         let found = both(alloc, with, term)?;
         return Ok(found);
     };
+    let mut arguments = Terms::with_capacity(alloc, 3)?;
     let test = parts.test.copy(alloc)?;
+    arguments.push(test)?;
     let there = compared(alloc, with, parts.there)?;
+    arguments.push(there)?;
     let here = compared(alloc, with, parts.here)?;
-    let found = choice(alloc, test, there, here)?;
-    Ok(found)
+    arguments.push(here)?;
+    Ok(Term::App(Op::Ite, arguments))
 }
 
 /// The arguments of the term, where it is a choice.
@@ -141,12 +158,10 @@ fn both<'a, T: Theory>(
 ) -> Result<Term<T>, Want>
     ensures { IfOk result (λ found. expr_of T.denotes found ≡ comparison with.now.operator (expr_of T.denotes with.now.known.now) with.now.is_first (expr_of T.denotes term.now)) }
 {
-    let known = with.known.copy(alloc)?;
-    let term = term.copy(alloc)?;
-    let found = if with.is_first {
-        binary(alloc, with.operator, known, term)?
-    } else {
-        binary(alloc, with.operator, term, known)?
-    };
+    if with.is_first {
+        let found = binary(alloc, with.operator, with.known, term)?;
+        return Ok(found);
+    }
+    let found = binary(alloc, with.operator, term, with.known)?;
     Ok(found)
 }

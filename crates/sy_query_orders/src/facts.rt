@@ -1,9 +1,10 @@
 // Facts of the order of vectors, for which a search of truth values alone works long.
 ghost use Rattle.std.specs.Prelude.{◌≡◌, IfOk, OnOk};
 ghost use Rattle.sy_terms.specs.Denoted.{expr_of, exprs_of};
+ghost use Rattle.sy_terms.specs.Expr.{Apply, more, none};
+ghost use Rattle.sy_terms.specs.declared.op.Op.TheVariants as ops;
 ghost use Rattle.sy_query_orders.specs.Alike.{IsFact, SayTheSame, SaysTheSame, related};
 
-use crate::terms::{binary, unary};
 use crate::triples::Triple;
 use std::alloc::Global;
 use sy_terms::{Op, Term, Terms, Theory, Want};
@@ -39,29 +40,48 @@ fn add_facts<T: Theory>(alloc: Global, of: Triple, parts: &mut Terms<T>) -> Resu
 fn transitive<T: Theory>(alloc: Global, of: Triple) -> Result<Term<T>, Want>
     ensures { IfOk result (λ term. IsFact (expr_of T.denotes term)) }
 {
-    let lower = order(alloc, Op::BvUle, of.first, of.second)?;
-    let upper = order(alloc, Op::BvUle, of.second, of.third)?;
-    let both = binary(alloc, Op::And, lower, upper)?;
+    let mut parts = Terms::with_capacity(alloc, 2)?;
+    let both = steps(alloc, Op::BvUle, of.first, of.second, of.third)?;
+    parts.push(both)?;
     let outer = order(alloc, Op::BvUle, of.first, of.third)?;
-    let term = binary(alloc, Op::Implies, both, outer)?;
-    Ok(term)
+    parts.push(outer)?;
+    Ok(Term::App(Op::Implies, parts))
 }
 
 /// That the first and the second aren't less than each other.
 fn antisymmetric<T: Theory>(alloc: Global, of: Triple) -> Result<Term<T>, Want>
     ensures { IfOk result (λ term. IsFact (expr_of T.denotes term)) }
 {
-    let below = order(alloc, Op::BvUlt, of.first, of.second)?;
-    let above = order(alloc, Op::BvUlt, of.second, of.first)?;
-    let both = binary(alloc, Op::And, below, above)?;
-    let term = unary(alloc, Op::Not, both)?;
-    Ok(term)
+    let mut parts = Terms::with_capacity(alloc, 1)?;
+    let both = steps(alloc, Op::BvUlt, of.first, of.second, of.first)?;
+    parts.push(both)?;
+    Ok(Term::App(Op::Not, parts))
+}
+
+/// The comparison of the first variable with the second, and of the second with the third.
+fn steps<T: Theory>(
+    alloc: Global,
+    operator: Op,
+    first: u32,
+    second: u32,
+    third: u32,
+) -> Result<Term<T>, Want>
+    ensures { IfOk result (λ term. expr_of T.denotes term ≡ Apply ops.And (more (related operator first second) (more (related operator second third) none))) }
+{
+    let mut both = Terms::with_capacity(alloc, 2)?;
+    let lower = order(alloc, operator, first, second)?;
+    both.push(lower)?;
+    let upper = order(alloc, operator, second, third)?;
+    both.push(upper)?;
+    Ok(Term::App(Op::And, both))
 }
 
 /// The comparison of two variables.
 fn order<T: Theory>(alloc: Global, operator: Op, first: u32, second: u32) -> Result<Term<T>, Want>
     ensures { IfOk result (λ term. expr_of T.denotes term ≡ related operator first second) }
 {
-    let term = binary(alloc, operator, Term::Var(first), Term::Var(second))?;
-    Ok(term)
+    let mut sides = Terms::with_capacity(alloc, 2)?;
+    sides.push(Term::Var(first))?;
+    sides.push(Term::Var(second))?;
+    Ok(Term::App(operator, sides))
 }

@@ -40,13 +40,26 @@ fn ordered_body<T: Theory>(
     ensures { IfOk result (λ found. SaysTheSameAt many (expr_of T.denotes found) (expr_of T.denotes body.now)) }
 {
     let count = counted(0, many)?;
-    let mut names = variables(alloc, 0, count)?;
-    let body = written(alloc, most, count, &mut names, body)?;
-    let body = apart(alloc, &body)?;
+    let body = body_apart(alloc, most, count, body)?;
     let triples = triples(alloc, count, &body)?;
     if triples.is_empty() {
         return Ok(body);
     }
     let body = with_facts(alloc, body, triples.as_slice())?;
     Ok(body)
+}
+
+/// The same, without what is said of orders.
+fn body_apart<T: Theory>(
+    alloc: Global,
+    most: u64,
+    count: u32,
+    body: &Term<T>,
+) -> Result<Term<T>, Want>
+    ensures { IfOk result (λ found. SaysTheSameAt count (expr_of T.denotes found) (expr_of T.denotes body.now)) }
+{
+    let mut names = variables(alloc, 0, count)?;
+    let body = written(alloc, most, count, &mut names, body)?;
+    let found = apart(alloc, &body)?;
+    Ok(found)
 }

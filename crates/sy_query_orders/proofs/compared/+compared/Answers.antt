@@ -1,7 +1,7 @@
-use Rattle.std.proofs.Common.{arith, ◌<◌}
+use Rattle.std.proofs.Common.{arith, refl, ◌<◌}
 use Rattle.sy_terms.specs.Expr.{nodes}
-use Rattle.sy_terms.specs.Denoted.{expr_of}
-use Rattle.sy_query_orders.proofs.Meanings.{choice_apart, here_falls, there_falls}
+use Rattle.sy_terms.specs.Denoted.{expr_of, expr_of-App}
+use Rattle.sy_query_orders.proofs.Meanings.{choice_apart, here_falls, there_falls, three_appended}
 use Rattle.sy_query_orders.proofs.compared.+compared.Goals as goal
 
 pub compared-requires : goal.compared-requires
@@ -16,5 +16,7 @@ compared-requires-2 g t c κs within =
 
 pub returns : goal.returns
 returns g t c =
-    rw (c.in_ok-found-2.ensures, c.in_ok-test.ensures, c.in-Some.ensures)
-    (choice_apart c.args.with.now.operator (expr_of g.T.Theory.denotes c.args.with.now.known.now) c.args.with.now.is_first _ _ _ _ _ c.in_ok-there.ensures c.in_ok-here.ensures)
+    let number = g.T.Theory.denotes in
+    let arguments = three_appended number _ _ _ _ c.in_ok-test.test c.in_ok-there.there c.in_ok-here.here _ _ _ c.in_ok-arguments.ensures c.in_ok-push.ensures.ok c.in_ok-push-2.ensures.ok c.in_ok-push-3.ensures.ok c.in_ok-test.ensures refl refl in
+    rw (expr_of-App, arguments, c.in-Some.ensures)
+    (choice_apart c.args.with.now.operator (expr_of number c.args.with.now.known.now) c.args.with.now.is_first _ _ _ _ _ c.in_ok-there.ensures c.in_ok-here.ensures)

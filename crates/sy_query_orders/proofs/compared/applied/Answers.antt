@@ -1,20 +1,9 @@
-use Rattle.std.proofs.Common.{arith, refl, ◌≡◌, length}
+use Rattle.std.proofs.Common.{refl}
 use Rattle.sy_terms.specs.Denoted.{expr_of-App}
-use Rattle.sy_query_orders.proofs.Meanings.{two_are}
 use Rattle.sy_query_orders.proofs.compared.applied.Goals as goal
 
-pub returns-then-not-compares : goal.returns-then-not-compares
-returns-then-not-compares g c = rw (expr_of-App) (λ defined wanted values. refl)
+pub returns-in-Some : goal.returns-in-Some
+returns-in-Some g c = rw c.in-Some.is at c.in_ok-found.ensures
 
-pub returns-then-size-le-SMALL : goal.returns-then-size-le-SMALL
-returns-then-size-le-SMALL g c =
-    let many : length c.args.arguments.items.items ≡ 2 = omega (arith, c.len.ensures, c.if-len-ne2.false) in
-    rw (two_are g.T.Theory.denotes c.args.arguments.items.items c.in-Some-Some.first.now c.in-Some-Some.second.now many c.in-Some-Some.ensures c.in-Some-Some.ensures') (c.in_ok-term.ensures)
-
-pub returns-then-size-le-SMALL-2 : goal.returns-then-size-le-SMALL-2
-returns-then-size-le-SMALL-2 g c =
-    let many : length c.args.arguments.items.items ≡ 2 = omega (arith, c.len.ensures, c.if-len-ne2.false) in
-    rw (two_are g.T.Theory.denotes c.args.arguments.items.items c.in-Some-Some.first.now c.in-Some-Some.second.now many c.in-Some-Some.ensures c.in-Some-Some.ensures') (c.in_ok-term-2.ensures)
-
-pub returns : goal.returns
-returns g c = rw (expr_of-App) (λ defined wanted values. refl)
+pub returns-in-None : goal.returns-in-None
+returns-in-None g c = rw (expr_of-App) (λ defined wanted values. refl)

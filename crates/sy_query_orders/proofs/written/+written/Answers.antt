@@ -1,6 +1,7 @@
 -- Each clause is a part of what proofs/Replaced.antt says of the term's form.
 use Rattle.std.proofs.Common.{arith, ◌∙◌, refl, sym, ap, take}
 use Rattle.std.proofs.lemmas.List.{take_more}
+use Rattle.std.proofs.lemmas.Result.{IfOk-from_err}
 use Rattle.sy_terms.specs.Denoted.{expr_of-Const, expr_of-Var, expr_of-App, expr_of-Call, expr_of-Let, exprs_of}
 use Rattle.sy_terms_laws.proofs.Steps.{app-falls, call-falls, let-falls, all-falls}
 use Rattle.sy_query_orders.specs.Replaced.{are_plain}
@@ -104,3 +105,93 @@ all_written-loop-term-preserved g t c =
       replaced = rw (longer, ← c.term-item.is, c.in_ok-push.ensures.ok)
           (law.more_replaced number c.args.count (exprs_of number c.args.names.now.items) c.loop-term.all.items.items (take c.loop-term.term-index c.args.terms.now) c.in_ok-found.found c.term-item.result c.loop-term.invariant.replaced is);
     }
+
+pub written-returns-in_err-found-in-Var-clause-kept : goal.written-returns-in_err-found-in-Var-clause-kept
+written-returns-in_err-found-in-Var-clause-kept g t c = IfOk-from_err c.from_residual.result _ c.from_residual.ensures.0
+
+pub written-returns-in_err-found-in-Var-clause-replaced : goal.written-returns-in_err-found-in-Var-clause-replaced
+written-returns-in_err-found-in-Var-clause-replaced g t c = IfOk-from_err c.from_residual.result _ c.from_residual.ensures.0
+
+pub written-returns-in_err-arguments-in-App-clause-kept : goal.written-returns-in_err-arguments-in-App-clause-kept
+written-returns-in_err-arguments-in-App-clause-kept g t c = IfOk-from_err c.from_residual-in_err-arguments-in-App.result _ c.from_residual-in_err-arguments-in-App.ensures.0
+
+pub written-returns-in_err-arguments-in-App-clause-replaced : goal.written-returns-in_err-arguments-in-App-clause-replaced
+written-returns-in_err-arguments-in-App-clause-replaced g t c = IfOk-from_err c.from_residual-in_err-arguments-in-App.result _ c.from_residual-in_err-arguments-in-App.ensures.0
+
+pub written-returns-in_err-arguments-in-Call-clause-kept : goal.written-returns-in_err-arguments-in-Call-clause-kept
+written-returns-in_err-arguments-in-Call-clause-kept g t c = IfOk-from_err c.from_residual-in_err-arguments-in-Call.result _ c.from_residual-in_err-arguments-in-Call.ensures.0
+
+pub written-returns-in_err-arguments-in-Call-clause-replaced : goal.written-returns-in_err-arguments-in-Call-clause-replaced
+written-returns-in_err-arguments-in-Call-clause-replaced g t c = IfOk-from_err c.from_residual-in_err-arguments-in-Call.result _ c.from_residual-in_err-arguments-in-Call.ensures.0
+
+pub written-returns-in_err-bound-in-Let-clause-kept : goal.written-returns-in_err-bound-in-Let-clause-kept
+written-returns-in_err-bound-in-Let-clause-kept g t c = IfOk-from_err c.from_residual-in_err-bound-in-Let.result _ c.from_residual-in_err-bound-in-Let.ensures.0
+
+pub written-returns-in_err-bound-in-Let-clause-replaced : goal.written-returns-in_err-bound-in-Let-clause-replaced
+written-returns-in_err-bound-in-Let-clause-replaced g t c = IfOk-from_err c.from_residual-in_err-bound-in-Let.result _ c.from_residual-in_err-bound-in-Let.ensures.0
+
+pub written-returns-in_err-stands-in-Let-clause-kept : goal.written-returns-in_err-stands-in-Let-clause-kept
+written-returns-in_err-stands-in-Let-clause-kept g t c = IfOk-from_err c.from_residual-in_err-stands-in-Let.result _ c.from_residual-in_err-stands-in-Let.ensures.0
+
+pub written-returns-in_err-stands-in-Let-clause-replaced : goal.written-returns-in_err-stands-in-Let-clause-replaced
+written-returns-in_err-stands-in-Let-clause-replaced g t c = IfOk-from_err c.from_residual-in_err-stands-in-Let.result _ c.from_residual-in_err-stands-in-Let.ensures.0
+
+pub written-returns-in_err-append-in-Let-clause-kept : goal.written-returns-in_err-append-in-Let-clause-kept
+written-returns-in_err-append-in-Let-clause-kept g t c = IfOk-from_err c.from_residual-in_err-append-in-Let.result _ c.from_residual-in_err-append-in-Let.ensures.0
+
+pub written-returns-in_err-append-in-Let-clause-replaced : goal.written-returns-in_err-append-in-Let-clause-replaced
+written-returns-in_err-append-in-Let-clause-replaced g t c = IfOk-from_err c.from_residual-in_err-append-in-Let.result _ c.from_residual-in_err-append-in-Let.ensures.0
+
+pub written-returns-in_err-found-in-Let-clause-kept : goal.written-returns-in_err-found-in-Let-clause-kept
+written-returns-in_err-found-in-Let-clause-kept g t c = IfOk-from_err c.from_residual-in_err-found-in-Let.result _ c.from_residual-in_err-found-in-Let.ensures.0
+
+pub written-returns-in_err-found-in-Let-clause-replaced : goal.written-returns-in_err-found-in-Let-clause-replaced
+written-returns-in_err-found-in-Let-clause-replaced g t c = IfOk-from_err c.from_residual-in_err-found-in-Let.result _ c.from_residual-in_err-found-in-Let.ensures.0
+
+pub written-returns-in_err-many-in-Let-clause-kept : goal.written-returns-in_err-many-in-Let-clause-kept
+written-returns-in_err-many-in-Let-clause-kept g t c = IfOk-from_err c.from_residual-in_err-many-in-Let.result _ c.from_residual-in_err-many-in-Let.ensures.0
+
+pub written-returns-in_err-many-in-Let-clause-replaced : goal.written-returns-in_err-many-in-Let-clause-replaced
+written-returns-in_err-many-in-Let-clause-replaced g t c = IfOk-from_err c.from_residual-in_err-many-in-Let.result _ c.from_residual-in_err-many-in-Let.ensures.0
+
+pub written-returns-in_err-stands-in-Let-2-clause-kept : goal.written-returns-in_err-stands-in-Let-2-clause-kept
+written-returns-in_err-stands-in-Let-2-clause-kept g t c = IfOk-from_err c.from_residual-in_err-stands-in-Let-2.result _ c.from_residual-in_err-stands-in-Let-2.ensures.0
+
+pub written-returns-in_err-stands-in-Let-2-clause-replaced : goal.written-returns-in_err-stands-in-Let-2-clause-replaced
+written-returns-in_err-stands-in-Let-2-clause-replaced g t c = IfOk-from_err c.from_residual-in_err-stands-in-Let-2.result _ c.from_residual-in_err-stands-in-Let-2.ensures.0
+
+pub written-returns-in_err-append-in-Let-2-clause-kept : goal.written-returns-in_err-append-in-Let-2-clause-kept
+written-returns-in_err-append-in-Let-2-clause-kept g t c = IfOk-from_err c.from_residual-in_err-append-in-Let-2.result _ c.from_residual-in_err-append-in-Let-2.ensures.0
+
+pub written-returns-in_err-append-in-Let-2-clause-replaced : goal.written-returns-in_err-append-in-Let-2-clause-replaced
+written-returns-in_err-append-in-Let-2-clause-replaced g t c = IfOk-from_err c.from_residual-in_err-append-in-Let-2.result _ c.from_residual-in_err-append-in-Let-2.ensures.0
+
+pub written-returns-in_err-inner-in-Let-clause-kept : goal.written-returns-in_err-inner-in-Let-clause-kept
+written-returns-in_err-inner-in-Let-clause-kept g t c = IfOk-from_err c.from_residual-in_err-inner-in-Let.result _ c.from_residual-in_err-inner-in-Let.ensures.0
+
+pub written-returns-in_err-inner-in-Let-clause-replaced : goal.written-returns-in_err-inner-in-Let-clause-replaced
+written-returns-in_err-inner-in-Let-clause-replaced g t c = IfOk-from_err c.from_residual-in_err-inner-in-Let.result _ c.from_residual-in_err-inner-in-Let.ensures.0
+
+pub written-returns-in_err-new-in-Let-clause-kept : goal.written-returns-in_err-new-in-Let-clause-kept
+written-returns-in_err-new-in-Let-clause-kept g t c = IfOk-from_err c.from_residual-in_err-new-in-Let.result _ c.from_residual-in_err-new-in-Let.ensures.0
+
+pub written-returns-in_err-new-in-Let-clause-replaced : goal.written-returns-in_err-new-in-Let-clause-replaced
+written-returns-in_err-new-in-Let-clause-replaced g t c = IfOk-from_err c.from_residual-in_err-new-in-Let.result _ c.from_residual-in_err-new-in-Let.ensures.0
+
+pub all_written-returns-in_err-all-clause-kept : goal.all_written-returns-in_err-all-clause-kept
+all_written-returns-in_err-all-clause-kept g t c = IfOk-from_err c.from_residual.result _ c.from_residual.ensures.0
+
+pub all_written-returns-in_err-all-clause-replaced : goal.all_written-returns-in_err-all-clause-replaced
+all_written-returns-in_err-all-clause-replaced g t c = IfOk-from_err c.from_residual.result _ c.from_residual.ensures.0
+
+pub all_written-returns-in_err-found-clause-kept : goal.all_written-returns-in_err-found-clause-kept
+all_written-returns-in_err-found-clause-kept g t c = IfOk-from_err c.from_residual-in_err-found.result _ c.from_residual-in_err-found.ensures.0
+
+pub all_written-returns-in_err-found-clause-replaced : goal.all_written-returns-in_err-found-clause-replaced
+all_written-returns-in_err-found-clause-replaced g t c = IfOk-from_err c.from_residual-in_err-found.result _ c.from_residual-in_err-found.ensures.0
+
+pub all_written-returns-in_err-push-clause-kept : goal.all_written-returns-in_err-push-clause-kept
+all_written-returns-in_err-push-clause-kept g t c = IfOk-from_err c.from_residual-in_err-push.result _ c.from_residual-in_err-push.ensures.0
+
+pub all_written-returns-in_err-push-clause-replaced : goal.all_written-returns-in_err-push-clause-replaced
+all_written-returns-in_err-push-clause-replaced g t c = IfOk-from_err c.from_residual-in_err-push.result _ c.from_residual-in_err-push.ensures.0
