@@ -29,10 +29,7 @@ impl Model for Names {
 pub(crate) fn key_of(alloc: Global, name: &[u8]) -> Result<Vec<u8>, Want>
     ensures { IfOk result (λ key. key.items ≡ name.now) }
 {
-    let mut key = Vec::with_capacity(alloc, name.len())?;
-    for byte in name {
-        key.push(*byte)?;
-    }
+    let key = name.to_vec(alloc)?;
     Ok(key)
 }
 
