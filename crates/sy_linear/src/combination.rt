@@ -70,6 +70,52 @@ pub(crate) fn number_of(coefficient: &(u32, i128)) -> i128
     coefficient.1
 }
 
+/// Fills the empty list with the shares and a multiple of the coefficients.
+fn put_coefficients(
+    all: &mut Seq<Share>,
+    factor: &Frac,
+    coefficients: &[(u32, i128)],
+    shares: &[Share],
+) -> Result<(), FormEnd>
+    requires { all.old ≡ [] }
+    ensures ok { OnOk result (spec.plus_coefficients factor.now coefficients.now shares.now ≡ Some all.new) }
+    ensures unfit { IsErrOf result FormEnd.OutOfRange → spec.plus_coefficients factor.now coefficients.now shares.now ≡ None }
+{
+    let mut cs = coefficients;
+    let mut qs = shares;
+    while let Some((first, others)) = cs.split_first() {
+        let variable = first.0;
+        let number = number_of(first);
+        let Some((share, later)) = qs.split_first() else {
+            let Some(weight) = multiple(factor, number) else {
+                return Err(FormEnd::OutOfRange);
+            };
+            push_share(all, variable, weight)?;
+            cs = others;
+            continue;
+        };
+        if variable < share.variable {
+            let Some(weight) = multiple(factor, number) else {
+                return Err(FormEnd::OutOfRange);
+            };
+            push_share(all, variable, weight)?;
+            cs = others;
+        } else if share.variable < variable {
+            push_share(all, share.variable, share.weight)?;
+            qs = later;
+        } else {
+            let Some(weight) = plus_multiple(factor, number, &share.weight) else {
+                return Err(FormEnd::OutOfRange);
+            };
+            push_share(all, variable, weight)?;
+            cs = others;
+            qs = later;
+        }
+    }
+    push_all(all, qs)?;
+    Ok(())
+}
+
 /// The shares with a multiple of the coefficients.
 fn plus_coefficients(
     alloc: Global,
@@ -81,39 +127,13 @@ fn plus_coefficients(
     ensures unfit { IsErrOf result FormEnd.OutOfRange → spec.plus_coefficients factor.now coefficients.now shares.now ≡ None }
 {
     let mut all = Seq::new(alloc);
-    let mut cs = coefficients;
-    let mut qs = shares;
-    while let Some((first, others)) = cs.split_first() {
-        let variable = first.0;
-        let number = number_of(first);
-        let Some((share, later)) = qs.split_first() else {
-            let Some(weight) = multiple(factor, number) else {
-                return Err(FormEnd::OutOfRange);
-            };
-            push_share(&mut all, variable, weight)?;
-            cs = others;
-            continue;
-        };
-        if variable < share.variable {
-            let Some(weight) = multiple(factor, number) else {
-                return Err(FormEnd::OutOfRange);
-            };
-            push_share(&mut all, variable, weight)?;
-            cs = others;
-        } else if share.variable < variable {
-            push_share(&mut all, share.variable, share.weight)?;
-            qs = later;
-        } else {
-            let Some(weight) = plus_multiple(factor, number, &share.weight) else {
-                return Err(FormEnd::OutOfRange);
-            };
-            push_share(&mut all, variable, weight)?;
-            cs = others;
-            qs = later;
+    match put_coefficients(&mut all, factor, coefficients, shares) {
+        Ok(()) => Ok(all),
+        Err(end) => {
+            drop(all);
+            Err(end)
         }
     }
-    push_all(&mut all, qs)?;
-    Ok(all)
 }
 
 /// Appends copies of all shares.

@@ -5,7 +5,7 @@ use mir.Val.{SFits}
 use Rattle.std.proofs.lemmas.Int.{to_z-of_z}
 use Rattle.sy_linear.specs.Exact.{whole_multiple, checked_plus_multiple}
 use Rattle.sy_linear.proofs.Folding.{no_items, alone_is, new_is, old_is, both_is, sum_kept, sum_unfit, sum_end}
-use Rattle.sy_linear.proofs.combination.plus_coefficients.Goals as goal
+use Rattle.sy_linear.proofs.combination.put_coefficients.Goals as goal
 
 pub returns-in_default-multiple-clause-unfit : goal.returns-in_default-multiple-clause-unfit
 returns-in_default-multiple-clause-unfit c h =
