@@ -36,6 +36,19 @@ fn push_all(
     Ok(true)
 }
 
+/// The lesser variable of the two coefficients, and its coefficient in the sum of the first and so many times the second.
+fn least(first: Coefficient, factor: i128, second: Coefficient) -> (u32, Option<i128>) {
+    let (variable, number) = first;
+    let (other, addend) = second;
+    if variable < other {
+        (variable, Some(number))
+    } else if other < variable {
+        (other, factor.checked_mul(addend))
+    } else {
+        (variable, total(number, factor, addend))
+    }
+}
+
 /// Appends the coefficients of the first list, and those of the second so many times; whether they fit.
 fn merge(
     list: &mut Seq<Coefficient>,
@@ -46,27 +59,46 @@ fn merge(
     let mut i = 0;
     let mut j = 0;
     while i < first.len() && j < second.len() {
-        let (a, number) = first[i];
-        let (b, other) = second[j];
-        let fits = if a < b {
-            i += 1;
-            push(list, a, Some(number))?
-        } else if b < a {
-            j += 1;
-            push(list, b, factor.checked_mul(other))?
-        } else {
-            i += 1;
-            j += 1;
-            push(list, a, total(number, factor, other))?
-        };
-        if !fits {
+        let (one, other) = (first[i], second[j]);
+        let (variable, number) = least(one, factor, other);
+        if !push(list, variable, number)? {
             return Ok(false);
+        }
+        if one.0 <= other.0 {
+            i += 1;
+        }
+        if other.0 <= one.0 {
+            j += 1;
         }
     }
     if !push_all(list, 1, &first[i..])? {
         return Ok(false);
     }
     push_all(list, factor, &second[j..])
+}
+
+/// The form of the coefficients and the constant, where they fit.
+fn finished(
+    coefs: Seq<Coefficient>,
+    constant: i128,
+    fits: Result<bool, Want>,
+) -> Result<Option<Form>, Want> {
+    match fits {
+        Ok(true) => Ok(Some(Form { coefs, constant })),
+        Ok(false) => {
+            drop(coefs);
+            Ok(None)
+        }
+        Err(want) => {
+            drop(coefs);
+            Err(want)
+        }
+    }
+}
+
+/// The first number, the second so many times, and the third.
+fn total_of_three(first: i128, factor: i128, second: i128, third: i128) -> Option<i128> {
+    total(first, factor, second)?.checked_add(third)
 }
 
 /// The first form, the second so many times, and the number; none where it doesn't fit.
@@ -77,10 +109,7 @@ pub(crate) fn combined(
     second: &Form,
     number: i128,
 ) -> Result<Option<Form>, Want> {
-    let Some(constant) = total(first.constant, factor, second.constant) else {
-        return Ok(None);
-    };
-    let Some(constant) = constant.checked_add(number) else {
+    let Some(constant) = total_of_three(first.constant, factor, second.constant, number) else {
         return Ok(None);
     };
     let mut coefs = Seq::new(alloc);
@@ -89,12 +118,8 @@ pub(crate) fn combined(
         first.coefs.as_slice(),
         factor,
         second.coefs.as_slice(),
-    )?;
-    if fits {
-        Ok(Some(Form { coefs, constant }))
-    } else {
-        Ok(None)
-    }
+    );
+    finished(coefs, constant, fits)
 }
 
 /// The form so many times, and the number; none where it doesn't fit.
@@ -108,11 +133,8 @@ pub(crate) fn scaled(
         return Ok(None);
     };
     let mut coefs = Seq::new(alloc);
-    if push_all(&mut coefs, factor, form.coefs.as_slice())? {
-        Ok(Some(Form { coefs, constant }))
-    } else {
-        Ok(None)
-    }
+    let fits = push_all(&mut coefs, factor, form.coefs.as_slice());
+    finished(coefs, constant, fits)
 }
 
 /// The form that is at least 0 exactly where this one isn't; none where it doesn't fit.

@@ -69,6 +69,18 @@ impl Guide {
         }
     }
 
+    /// Counts a listed test, and where it is the first time in its group, that group.
+    fn tally(&mut self, occurrence: Occurrence) {
+        let group = self.mark_of(occurrence.node).group;
+        let is_first = match self.tallies.get_mut(occurrence.test) {
+            Some(tally) => tally.add(group),
+            None => false,
+        };
+        if is_first && let Some(size) = self.sizes.get_mut(group) {
+            *size = size.saturating_add(1);
+        }
+    }
+
     /// Counts the listed tests, and for each group those that are listed in it.
     pub(crate) fn count(&mut self) -> Result<(), Want> {
         let tests = self.tests();
@@ -77,16 +89,8 @@ impl Guide {
         self.sizes.clear();
         self.sizes.resize(self.marks.len(), 0)?;
         for at in 0..self.listed.len() {
-            let Some(occurrence) = self.listed.get(at).copied() else {
-                continue;
-            };
-            let group = self.mark_of(occurrence.node).group;
-            let is_first = match self.tallies.get_mut(occurrence.test) {
-                Some(tally) => tally.add(group),
-                None => false,
-            };
-            if is_first && let Some(size) = self.sizes.get_mut(group) {
-                *size = size.saturating_add(1);
+            if let Some(occurrence) = self.listed.get(at).copied() {
+                self.tally(occurrence);
             }
         }
         Ok(())

@@ -124,6 +124,17 @@ impl Guide {
         }
     }
 
+    /// Notes what it tells of tests, and of differences of variables, that the form is at least 0.
+    fn take_form(&mut self, alloc: Global, form: &Form) -> Result<(), Want> {
+        if let Some(edge) = edge_of(form) {
+            self.zones.add(edge);
+        }
+        if let Some((test, truth)) = self.find(alloc, form)? {
+            self.note(test, truth);
+        }
+        Ok(())
+    }
+
     /// Notes what the facts tell of the tests, and of differences of variables.
     fn take(&mut self, alloc: Global, facts: &[Fact]) -> Result<(), Want> {
         let tests = self.tests();
@@ -132,14 +143,7 @@ impl Guide {
         self.zones.clear(self.variables.len())?;
         for fact in facts {
             match fact {
-                Fact::AtLeast(form) => {
-                    if let Some(edge) = edge_of(form) {
-                        self.zones.add(edge);
-                    }
-                    if let Some((test, truth)) = self.find(alloc, form)? {
-                        self.note(test, truth);
-                    }
-                }
+                Fact::AtLeast(form) => self.take_form(alloc, form)?,
                 Fact::Is(variable, truth) => self.note(*variable as usize, *truth),
             }
         }

@@ -23,6 +23,14 @@ fn from(sights: &[Sight], base: usize) -> &[Sight] {
     }
 }
 
+/// The sight at this place; nothing where there is none.
+fn sight_at(sights: &[Sight], place: usize) -> Sight {
+    match sights.get(place) {
+        Some(sight) => *sight,
+        None => Sight::Open,
+    }
+}
+
 impl Guide {
     /// Passes the nodes of a term.
     fn skip(&mut self) {
@@ -95,12 +103,9 @@ impl Guide {
         }
     }
 
-    /// The sight at this place; nothing where there is none.
+    /// What is told of the term at this place; nothing where there is none.
     fn sight(&self, place: usize) -> Sight {
-        match self.sights.get(place) {
-            Some(sight) => *sight,
-            None => Sight::Open,
-        }
+        sight_at(self.sights.as_slice(), place)
     }
 
     /// What is told of a comparison of each term from this place on with the one after it.
@@ -199,13 +204,31 @@ impl Guide {
         }
     }
 
+    /// The same, and nothing is kept of what is told of the terms.
+    fn closed(
+        &mut self,
+        alloc: Global,
+        node: usize,
+        operator: &Op,
+        base: usize,
+    ) -> Result<Sight, Want> {
+        let sight = self.applied(alloc, node, operator, base)?;
+        self.sights.truncate(base);
+        Ok(sight)
+    }
+
+    /// What is told of a term; where it is known, the open tests that were listed since then aren't asked.
+    fn settled(&mut self, sight: Sight, listed: usize) -> Sight {
+        if matches!(sight, Sight::Settled(_)) {
+            self.listed.truncate(listed);
+        }
+        sight
+    }
+
     /// What is told of a name; a variable of truth values that is open is listed.
     fn named(&mut self, number: u32, node: usize) -> Result<Sight, Want> {
         let number = number as usize;
-        let sight = match self.names.get(number) {
-            Some(sight) => *sight,
-            None => Sight::Open,
-        };
+        let sight = sight_at(self.names.as_slice(), number);
         if matches!(sight, Sight::Open) && number < self.variables.len() {
             return self.asked(number, node);
         }
@@ -226,9 +249,7 @@ impl Guide {
             Term::App(operator, arguments) => {
                 let base = self.sights.len();
                 self.walk_row(alloc, arguments)?;
-                let sight = self.applied(alloc, node, operator, base)?;
-                self.sights.truncate(base);
-                sight
+                self.closed(alloc, node, operator, base)?
             }
             Term::Call(_, _) => {
                 self.next = node;
@@ -243,10 +264,7 @@ impl Guide {
                 sight
             }
         };
-        if matches!(sight, Sight::Settled(_)) {
-            self.listed.truncate(listed);
-        }
-        Ok(sight)
+        Ok(self.settled(sight, listed))
     }
 
     /// Appends what is told of the terms.

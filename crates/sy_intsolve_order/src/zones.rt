@@ -140,18 +140,23 @@ impl Zones {
         }
     }
 
+    /// The least value of so many times a variable, where bounds on it give one.
+    fn least_part(&self, number: i128, variable: u32) -> Option<i128> {
+        let place = place_of(variable);
+        let part = if number > 0 {
+            self.limit(0, place)?.checked_neg()?
+        } else {
+            self.limit(place, 0)?
+        };
+        number.checked_mul(part)
+    }
+
     /// The least value of so many times the form, where bounds on its variables give one.
     fn least(&self, factor: i128, form: &Form) -> Option<i128> {
         let mut sum = factor.checked_mul(form.constant)?;
         for coefficient in form.coefs.as_slice() {
             let number = factor.checked_mul(coefficient.1)?;
-            let place = place_of(coefficient.0);
-            let part = if number > 0 {
-                self.limit(0, place)?.checked_neg()?
-            } else {
-                self.limit(place, 0)?
-            };
-            sum = sum.checked_add(number.checked_mul(part)?)?;
+            sum = sum.checked_add(self.least_part(number, coefficient.0)?)?;
         }
         Some(sum)
     }
