@@ -1,5 +1,5 @@
 -- What the ends of a run show of the forms.
-use Rattle.std.specs.Prelude.{◌≡◌, ◌≢◌, ℕ, ◌<◌, ◌+◌, ◌⊎◌, List, [], ◌∷◌, ◌++◌, length, get_or, ℤ, pos, ◌<ℤ◌}
+use Rattle.std.specs.Prelude.{◌≡◌, ◌≢◌, ℕ, ◌<◌, ◌≤◌, ◌+◌, ◌⊎◌, List, [], ◌∷◌, ◌++◌, length, get_or, ℤ, pos, ◌<ℤ◌}
 use Rattle.std.proofs.Common.{sym, ◌∙◌, ap₂, subst, arith, inl, inr}
 use Rattle.std.proofs.lemmas.List.{get_or_read}
 use Rattle.std.proofs.lemmas.Int.{ints}
@@ -10,6 +10,9 @@ use Rattle.sy_simplex_tableau.specs.Rows.{at, AreLowest}
 use Rattle.sy_simplex_tableau.proofs.Exact.{opposite_lowest, whole_lowest}
 use Rattle.sy_simplex_tableau.proofs.Zeros.{zero_lowest}
 use Rattle.sy_simplex_tableau.specs.States.{TableauState, variable_of_column, coef, IsShaped, BoundsAreMet, IsStuck, IsLeaving, IsEntering, IsPivot}
+use Rattle.sy_simplex.specs.declared.answer.Feasible.{Feasible}
+use Rattle.sy_simplex.specs.declared.answer.Feasible.TheVariants.{Point, Conflict, Pivots, Range}
+use Rattle.sy_simplex.specs.Answers.{AnswerIsSound, TellsFeasible, IsPointAnswer, IsConflictAnswer}
 use Rattle.sy_simplex.specs.Problems.{system_of, numbers}
 use Rattle.sy_simplex.specs.Runs.{Ran, stepped, IsPoint, IsMultiplier, AreRowMultipliers}
 use Rattle.sy_simplex.proofs.Sound.{IsSteady, ran_steady, point_meets, point_is_corner}
@@ -39,6 +42,31 @@ pub conflict_sound : (vars : ℕ) (forms : List Form) (steps : List (ℕ × ℕ)
 conflict_sound vars forms steps t r ms ran stuck given =
     let h : IsSteady vars forms t = ran_steady vars forms steps t ran in
     (given.len ∙ h.bounds_length, given_refute vars forms t h r stuck ms given, multipliers_lowest t r ms h.shape stuck.leaving.first.row_below given)
+
+-- the same of answers, and that the run ends so
+pub point_answer_sound : (vars : ℕ) (forms : List Form) (steps : List (ℕ × ℕ)) (t : TableauState) (answer : Feasible) → Ran vars forms steps t → BoundsAreMet t → IsPointAnswer t answer → AnswerIsSound vars forms answer
+point_answer_sound vars forms steps t (Point p) ran met h = point_sound vars forms steps t p ran met h
+point_answer_sound vars forms steps t (Conflict m) ran met h = absurd h
+point_answer_sound vars forms steps t (Pivots run) ran met h = absurd h
+point_answer_sound vars forms steps t (Range run) ran met h = absurd h
+
+pub point_answer_exact : (vars : ℕ) (forms : List Form) (pivots : ℕ) (steps : List (ℕ × ℕ)) (t : TableauState) (answer : Feasible) → Ran vars forms steps t → length steps ≤ pivots → BoundsAreMet t → IsPointAnswer t answer → TellsFeasible vars forms pivots answer
+point_answer_exact vars forms pivots steps t (Point p) ran within met h = record { steps = steps; state = t; ran = ran; within = within; met = met; point_is = h }
+point_answer_exact vars forms pivots steps t (Conflict m) ran within met h = absurd h
+point_answer_exact vars forms pivots steps t (Pivots run) ran within met h = absurd h
+point_answer_exact vars forms pivots steps t (Range run) ran within met h = absurd h
+
+pub conflict_answer_sound : (vars : ℕ) (forms : List Form) (steps : List (ℕ × ℕ)) (t : TableauState) (r : ℕ) (answer : Feasible) → Ran vars forms steps t → IsStuck t r → IsConflictAnswer t r answer → AnswerIsSound vars forms answer
+conflict_answer_sound vars forms steps t r (Point p) ran stuck h = absurd h
+conflict_answer_sound vars forms steps t r (Conflict m) ran stuck h = conflict_sound vars forms steps t r m ran stuck h
+conflict_answer_sound vars forms steps t r (Pivots run) ran stuck h = absurd h
+conflict_answer_sound vars forms steps t r (Range run) ran stuck h = absurd h
+
+pub conflict_answer_exact : (vars : ℕ) (forms : List Form) (pivots : ℕ) (steps : List (ℕ × ℕ)) (t : TableauState) (r : ℕ) (answer : Feasible) → Ran vars forms steps t → length steps ≤ pivots → IsStuck t r → IsConflictAnswer t r answer → TellsFeasible vars forms pivots answer
+conflict_answer_exact vars forms pivots steps t r (Point p) ran within stuck h = absurd h
+conflict_answer_exact vars forms pivots steps t r (Conflict m) ran within stuck h = record { steps = steps; state = t; ran = ran; within = within; row = r; stuck = stuck }
+conflict_answer_exact vars forms pivots steps t r (Pivots run) ran within stuck h = absurd h
+conflict_answer_exact vars forms pivots steps t r (Range run) ran within stuck h = absurd h
 
 -- the coefficient by which a column enters isn't 0
 pub entering_nonzero : (t : TableauState) (r e : ℕ) → IsEntering t r e → (coef t r e).num ≢ pos 0

@@ -1,6 +1,7 @@
 -- The initial tableau, made form by form.
 use Rattle.std.specs.Prelude.{◌≡◌, ℕ, ◌<◌, ◌+◌, ◌++◌, ◌∷◌, [], List, length, get_or, pos, neg_ℤ}
-use Rattle.std.proofs.Common.{refl, sym, ◌∙◌, ap, subst, arith, length-append, inl, inr, ◌⊎◌, true, false, ◌≢◌}
+use Rattle.std.specs.Result.{IsErrAnd}
+use Rattle.std.proofs.Common.{Result, Ok, Err, refl, sym, ◌∙◌, ap, subst, arith, length-append, inl, inr, ◌⊎◌, true, false, ◌≢◌}
 use Rattle.std.proofs.Math.Dec.{eqb}
 use Rattle.std.proofs.lemmas.Bool.Decides.{eqb_tells}
 use Rattle.sy_frac.specs.Fraction.{Fraction, IsInRange}
@@ -11,22 +12,17 @@ use Rattle.sy_simplex_tableau.specs.States.{TableauState}
 use Rattle.sy_simplex_tableau.proofs.Pushed.{each_pushed}
 use Rattle.sy_simplex.specs.Problems.{form}
 use Rattle.sy_simplex.specs.Runs.{FormFits, IsInitial}
-use Rattle.sy_simplex.specs.Beginnings.{AreZeros, IsFullRow, CoefficientsFit, FormsFit}
+use Rattle.sy_simplex_tableau.specs.declared.fault.Fault.TheVariants as faults
+use Rattle.sy_simplex.specs.Beginnings.{AreCounted, AreZeros, IsBegun, IsFullRow, CoefficientsFit, FormsFit}
 
--- the numbers below n, in order
-pub record AreCounted (n : ℕ) (xs : List ℕ) : Type 0 where
-  pub len : length xs ≡ n
-  pub each : (i : ℕ) → i < n → get_or xs i 0 ≡ i
+-- an error that `?` hands on is the same
+pub same_fault : {T E : Type 0} (r : Result T E) (e f : E) → IsErrAnd r (λ end. end ≡ e) → r ≡ Err f → e ≡ f
+same_fault (Ok x) e f told h = absurd told
+same_fault (Err y) e f told h = cc
 
--- rows, their variables and the bounds for the first n forms
-pub record IsBegun (vars : ℕ) (forms : List Form) (n : ℕ) (basics : List ℕ) (rows : List (List Fraction)) (bounds : List Fraction) : Type 0 where
-  pub basics_length : length basics ≡ n
-  pub basics_are : (i : ℕ) → i < n → get_or basics i 0 ≡ vars + i
-  pub rows_length : length rows ≡ n
-  pub full : (i : ℕ) → i < n → IsFullRow vars (form forms i).coefs (get_or rows i [])
-  pub bounds_length : length bounds ≡ n
-  pub bounds_are : (i : ℕ) → i < n → at bounds i ≡ fraction_of_whole (neg_ℤ (form forms i).constant)
-  pub fit : (i : ℕ) → i < n → FormFits (form forms i)
+-- want of memory is no misfit
+pub no_misfit : faults.Want ≡ faults.Unfit → ⊥
+no_misfit e = cc
 
 pub length_pushed : {A : Type 0} → (xs ys : List A) (x : A) (n : ℕ) → ys ≡ xs ++ x ∷ [] → length xs ≡ n → length ys ≡ n + 1
 length_pushed xs ys x n e h = ap length e ∙ length-append xs (x ∷ []) ∙ ap (λ m. m + 1) h

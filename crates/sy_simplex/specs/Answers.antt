@@ -6,7 +6,8 @@ use Rattle.sy_simplex_tableau.specs.Rows.{AreLowest}
 use Rattle.sy_simplex.specs.declared.answer.Feasible.{Feasible}
 use Rattle.sy_simplex.specs.declared.answer.Feasible.TheVariants.{Point, Conflict, Pivots, Range}
 use Rattle.sy_simplex.specs.Problems.{system_of, numbers}
-use Rattle.sy_simplex.specs.Runs.{EndsAt, EndsStuck, RunIsSpent, IsOutOfRange}
+use Rattle.sy_simplex_tableau.specs.States.{TableauState}
+use Rattle.sy_simplex.specs.Runs.{IsPoint, AreRowMultipliers, EndsAt, EndsStuck, RunIsSpent, IsOutOfRange}
 
 -- the point meets every form and is a corner of them; the multipliers, fractions in lowest terms, refute them
 abbrev pub AnswerIsSound : ℕ → List Form → Feasible → Type 0
@@ -29,3 +30,16 @@ IsSameAnswer (Conflict m) (Conflict n) = Unit {0}
 IsSameAnswer (Pivots r) (Pivots s) = r.steps ≡ s.steps
 IsSameAnswer (Range r) (Range s) = r.steps ≡ s.steps
 IsSameAnswer _ _ = ⊥
+
+-- the answer is the point of this tableau, or the multipliers by its row
+abbrev pub IsPointAnswer : TableauState → Feasible → Type 0
+IsPointAnswer t (Point p) = IsPoint t p
+IsPointAnswer t (Conflict m) = ⊥
+IsPointAnswer t (Pivots run) = ⊥
+IsPointAnswer t (Range run) = ⊥
+
+abbrev pub IsConflictAnswer : TableauState → ℕ → Feasible → Type 0
+IsConflictAnswer t r (Point p) = ⊥
+IsConflictAnswer t r (Conflict m) = AreRowMultipliers t r m
+IsConflictAnswer t r (Pivots run) = ⊥
+IsConflictAnswer t r (Range run) = ⊥

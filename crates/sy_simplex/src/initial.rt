@@ -1,11 +1,11 @@
 // The initial tableau.
-ghost use Rattle.std.specs.Prelude.{◌≡◌, ◌<◌, ◌^◌, length, IfOk, IsErrOf, MatchOption};
+ghost use Rattle.std.specs.Prelude.{◌≡◌, ◌<◌, ◌^◌, length, IfOk, OnOk, IsErrOf, MatchOption};
 ghost use Rattle.sy_frac.specs.Fraction.{IsInRange};
 ghost use Rattle.sy_simplex_tableau.specs.Operations.{fraction_of_whole as whole_fraction};
 ghost use Rattle.sy_simplex_tableau.specs.Stated.{tableau_state_of};
 ghost use Rattle.sy_simplex.specs.Problems.{AreForms, IsForm};
 ghost use Rattle.sy_simplex.specs.Runs.{IsInitial};
-ghost use Rattle.sy_simplex.specs.Beginnings.{AreZeros, IsFullRow, CoefficientsFit, FormsFit, SomeUnfit};
+ghost use Rattle.sy_simplex.specs.Beginnings.{AreCounted, AreZeros, IsBegun, IsFullRow, CoefficientsFit, FormsFit, SomeUnfit};
 
 use std::alloc::Global;
 use sy_frac::Frac;
@@ -18,6 +18,18 @@ fn fraction(number: &i128) -> Option<Frac>
 {
     let value = *number;
     whole(value)
+}
+
+/// The numbers below this one.
+fn counted(alloc: Global, count: u32) -> Result<Vec<u32>, Fault>
+    ensures ok { IfOk result (λ all. AreCounted count all.items) }
+    ensures fits { IsErrOf result Fault.Unfit → ⊥ }
+{
+    let mut all = Vec::new(alloc);
+    for number in 0..count {
+        all.push(number)?;
+    }
+    Ok(all)
 }
 
 /// So many zeros.
@@ -49,24 +61,23 @@ fn full_row(alloc: Global, vars: u32, form: &Form) -> Result<Vec<Frac>, Fault>
     Ok(row)
 }
 
-/// The initial tableau: each row is a form's, and everything stands at 0. `Unfit` exactly where a coefficient or
-/// constant of a form doesn't fit.
-pub(crate) fn initial(alloc: Global, vars: u32, forms: &[Form]) -> Result<Tableau, Fault>
+/// Appends the variable, the row and the bound of each form; `Unfit` exactly where a coefficient or constant of a form
+/// doesn't fit.
+fn begin(
+    alloc: Global,
+    vars: u32,
+    forms: &[Form],
+    basics: &mut Vec<u32>,
+    rows: &mut Vec<Row>,
+    bounds: &mut Vec<Frac>,
+) -> Result<(), Fault>
     requires forms { AreForms vars forms.now }
     requires few_vars { vars < 2 ^ 31 }
     requires few_forms { length forms.now < 2 ^ 31 }
-    ensures fits { IfOk result (λ tableau. FormsFit forms.now) }
-    ensures ok { IfOk result (λ tableau. IsInitial vars forms.now (tableau_state_of tableau)) }
+    requires none { IsBegun vars forms.now 0 basics.old.items rows.old.items bounds.old.items }
+    ensures begun { OnOk result (IsBegun vars forms.now (length forms.now) basics.new.items rows.new.items bounds.new.items) }
     ensures unfit { IsErrOf result Fault.Unfit → SomeUnfit forms.now }
 {
-    let mut columns = Vec::new(alloc);
-    for column in 0..vars {
-        columns.push(column)?;
-    }
-    let values = zeros(alloc, forms.len())?;
-    let mut basics = Vec::new(alloc);
-    let mut rows = Vec::new(alloc);
-    let mut bounds = Vec::new(alloc);
     for at in 0..forms.len() {
         let form = &forms[at];
         let row = match full_row(alloc, vars, form) {
@@ -80,12 +91,33 @@ pub(crate) fn initial(alloc: Global, vars: u32, forms: &[Form]) -> Result<Tablea
         };
         bounds.push(negated(&constant))?;
     }
-    Ok(Tableau {
-        vars,
-        columns,
-        basics,
-        rows,
-        values,
-        bounds,
-    })
+    Ok(())
+}
+
+/// The initial tableau: each row is a form's, and everything stands at 0. `Unfit` exactly where a coefficient or
+/// constant of a form doesn't fit.
+pub(crate) fn initial(alloc: Global, vars: u32, forms: &[Form]) -> Result<Tableau, Fault>
+    requires forms { AreForms vars forms.now }
+    requires few_vars { vars < 2 ^ 31 }
+    requires few_forms { length forms.now < 2 ^ 31 }
+    ensures fits { IfOk result (λ tableau. FormsFit forms.now) }
+    ensures ok { IfOk result (λ tableau. IsInitial vars forms.now (tableau_state_of tableau)) }
+    ensures unfit { IsErrOf result Fault.Unfit → SomeUnfit forms.now }
+{
+    let columns = counted(alloc, vars)?;
+    let values = zeros(alloc, forms.len())?;
+    let mut basics = Vec::new(alloc);
+    let mut rows = Vec::new(alloc);
+    let mut bounds = Vec::new(alloc);
+    match begin(alloc, vars, forms, &mut basics, &mut rows, &mut bounds) {
+        Ok(()) => Ok(Tableau {
+            vars,
+            columns,
+            basics,
+            rows,
+            values,
+            bounds,
+        }),
+        Err(fault) => Err(fault),
+    }
 }

@@ -1,7 +1,9 @@
 // The run from the initial tableau to its answer.
 ghost use Rattle.std.specs.Prelude.{◌<◌, ◌^◌, ◌↔◌, length, IfOk, IsTrue};
+ghost use Rattle.sy_simplex_tableau.specs.States.{IsShaped};
+ghost use Rattle.sy_simplex_tableau.specs.Stated.{tableau_state_of};
 ghost use Rattle.sy_simplex.specs.Problems.{AreForms};
-ghost use Rattle.sy_simplex.specs.Answers.{AnswerIsSound, TellsFeasible};
+ghost use Rattle.sy_simplex.specs.Answers.{AnswerIsSound, TellsFeasible, IsPointAnswer, IsConflictAnswer};
 
 use crate::answer::{Ended, Feasible, Run};
 use crate::ends::{multipliers, point};
@@ -9,13 +11,47 @@ use crate::initial::initial;
 use std::alloc::{AllocError, Global};
 use sy_linear_forms::Form;
 use sy_seq::{Seq, Want};
-use sy_simplex_tableau::{Choice, Fault};
+use sy_simplex_tableau::{Choice, Fault, Tableau};
 
 /// Whether there are fewer than 2^31 variables, and as few forms.
 fn are_few(vars: u32, forms: &[Form]) -> bool
     ensures { IsTrue result ↔ ((vars < 2 ^ 31) × (length forms.now < 2 ^ 31)) }
 {
     vars < 1 << 31 && forms.len() < 1 << 31
+}
+
+/// The end of a run at a tableau all of whose bounds are met.
+fn at_corner(alloc: Global, tableau: Tableau) -> Result<Ended, Want>
+    requires { IsShaped (tableau_state_of tableau) }
+    ensures { IfOk result (λ end. IsPointAnswer (tableau_state_of tableau) end.answer) }
+{
+    match point(alloc, &tableau) {
+        Ok(values) => Ok(Ended {
+            answer: Feasible::Point(values),
+            last: Some(tableau),
+        }),
+        Err(want) => {
+            drop(tableau);
+            Err(want)
+        }
+    }
+}
+
+/// The end of a run at a row that can't be raised.
+fn stuck(alloc: Global, tableau: Tableau, row: usize) -> Result<Ended, Want>
+    requires shaped { IsShaped (tableau_state_of tableau) }
+    requires row_below { row < length (tableau_state_of tableau).basics }
+    requires few_vars { (tableau_state_of tableau).vars < 2 ^ 31 }
+    requires few_forms { length (tableau_state_of tableau).bounds < 2 ^ 31 }
+    ensures { IfOk result (λ end. IsConflictAnswer (tableau_state_of tableau) row end.answer) }
+{
+    let found = multipliers(alloc, &tableau, row);
+    drop(tableau);
+    let all = found?;
+    Ok(Ended {
+        answer: Feasible::Conflict(all),
+        last: None,
+    })
 }
 
 /// Decides whether some rational point meets `e >= 0` for every form, in at most `pivots` steps.
@@ -42,29 +78,33 @@ pub fn ended(alloc: Global, vars: u32, bounds: &Seq<Form>, pivots: u32) -> Resul
                 last: None,
             });
         },
-        Err(Fault::Want) => return Err(AllocError),
+        Err(Fault::Want) => {
+            drop(steps);
+            return Err(AllocError);
+        },
     };
     loop {
         match tableau.choose() {
             None => {
+                drop(tableau);
                 return Ok(Ended {
                     answer: Feasible::Range(Run { steps }),
                     last: None,
                 });
             },
             Some(Choice::Met) => {
-                let answer = Feasible::Point(point(alloc, &tableau)?);
-                return Ok(Ended {
-                    answer,
-                    last: Some(tableau),
-                });
+                drop(steps);
+                let end = at_corner(alloc, tableau)?;
+                return Ok(end);
             },
             Some(Choice::Stuck(row)) => {
-                let answer = Feasible::Conflict(multipliers(alloc, &tableau, row)?);
-                return Ok(Ended { answer, last: None });
+                drop(steps);
+                let end = stuck(alloc, tableau, row)?;
+                return Ok(end);
             },
             Some(Choice::Exchange(row, column)) => {
                 if steps.len() == pivots as usize {
+                    drop(tableau);
                     return Ok(Ended {
                         answer: Feasible::Pivots(Run { steps }),
                         last: None,
@@ -72,14 +112,26 @@ pub fn ended(alloc: Global, vars: u32, bounds: &Seq<Form>, pivots: u32) -> Resul
                 }
                 let step = (tableau.basics[row], tableau.columns[column]);
                 match tableau.exchange(alloc, row, column) {
-                    Ok(()) => steps.push(step)?,
+                    Ok(()) => match steps.push(step) {
+                        Ok(()) => {},
+                        Err(want) => {
+                            drop(tableau);
+                            drop(steps);
+                            return Err(want);
+                        },
+                    },
                     Err(Fault::Unfit) => {
+                        drop(tableau);
                         return Ok(Ended {
                             answer: Feasible::Range(Run { steps }),
                             last: None,
                         });
                     },
-                    Err(Fault::Want) => return Err(AllocError),
+                    Err(Fault::Want) => {
+                        drop(tableau);
+                        drop(steps);
+                        return Err(AllocError);
+                    },
                 }
             },
         }

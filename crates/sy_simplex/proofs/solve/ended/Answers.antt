@@ -4,7 +4,7 @@ use Rattle.sy_simplex_tableau.specs.States.{BoundsAreMet, IsStuck, IsLeaving, Is
 use Rattle.sy_simplex_tableau.specs.Stated.{tableau_state_of}
 use Rattle.sy_simplex.specs.Beginnings.{SomeUnfit, FormsFit}
 use Rattle.sy_simplex.specs.Runs.{Ran, begun, IsInitial, IsOutOfRange, form_unfit, choice_unfit, step_unfit}
-use Rattle.sy_simplex.proofs.Answering.{ran_shaped, ran_few, point_sound, conflict_sound, ran_more}
+use Rattle.sy_simplex.proofs.Answering.{ran_shaped, ran_few, point_answer_sound, point_answer_exact, conflict_answer_sound, conflict_answer_exact, entering_nonzero, ran_more}
 use Rattle.sy_simplex.proofs.Begun.{length_pushed}
 use Rattle.sy_simplex.proofs.solve.ended.Goals as goal
 
@@ -13,8 +13,8 @@ returns-in-Err-Unfit-clause-exact c =
     let some : SomeUnfit c.args.bounds.now = subst SomeUnfit c.as_slice-forms.ensures (c.initial.ensures.unfit (cc)) in
     subst (IsOutOfRange c.args.vars c.args.bounds.now c.args.pivots) (sym c.new-steps.ensures) (form_unfit some.0 some.1 some.2)
 
-pub loop-steps-init : goal.loop-steps-init
-loop-steps-init c =
+pub loop-tableau-init : goal.loop-tableau-init
+loop-tableau-init c =
     let fits : FormsFit c.args.bounds.now = subst FormsFit c.as_slice-forms.ensures c.in-Ok.ensures.fits in
     let first : IsInitial c.args.vars c.args.bounds.now (tableau_state_of c.in-Ok.tableau) = subst (λ forms. IsInitial c.args.vars forms (tableau_state_of c.in-Ok.tableau)) c.as_slice-forms.ensures c.in-Ok.ensures.ok in
     record {
@@ -23,59 +23,125 @@ loop-steps-init c =
     }
 
 pub choose-requires : goal.choose-requires
-choose-requires c = ran_shaped c.args.vars c.args.bounds.now c.loop-steps.steps _ c.loop-steps.invariant.ran
+choose-requires c = ran_shaped c.args.vars c.args.bounds.now c.loop-tableau.steps _ c.loop-tableau.invariant.ran
 
 pub returns-in-None-clause-exact : goal.returns-in-None-clause-exact
-returns-in-None-clause-exact c = choice_unfit (tableau_state_of c.loop-steps.tableau) c.loop-steps.invariant.ran c.loop-steps.invariant.within c.in-None.ensures
+returns-in-None-clause-exact c = choice_unfit (tableau_state_of c.loop-tableau.tableau) c.loop-tableau.invariant.ran c.loop-tableau.invariant.within c.in-None.ensures
 
-pub point-requires : goal.point-requires
-point-requires c = ran_shaped c.args.vars c.args.bounds.now c.loop-steps.steps _ c.loop-steps.invariant.ran
+pub at_corner-requires : goal.at_corner-requires
+at_corner-requires c = ran_shaped c.args.vars c.args.bounds.now c.loop-tableau.steps _ c.loop-tableau.invariant.ran
 
 pub returns-in-Some-Met-clause-sound : goal.returns-in-Some-Met-clause-sound
 returns-in-Some-Met-clause-sound c =
-    let t = tableau_state_of c.loop-steps.tableau in
+    let t = tableau_state_of c.loop-tableau.tableau in
     let met : BoundsAreMet t = subst (IsChoice t) c.in-Some-Met.field-0-is c.in-Some-Met.ensures in
-    point_sound c.args.vars c.args.bounds.now c.loop-steps.steps t c.in_ok-point-in-Some-Met.field-0 c.loop-steps.invariant.ran met c.in_ok-point-in-Some-Met.ensures
+    point_answer_sound c.args.vars c.args.bounds.now c.loop-tableau.steps t c.in_ok-end-in-Some-Met.end.answer c.loop-tableau.invariant.ran met c.in_ok-end-in-Some-Met.ensures
 
-pub multipliers-requires-clause-shaped : goal.multipliers-requires-clause-shaped
-multipliers-requires-clause-shaped c = ran_shaped c.args.vars c.args.bounds.now c.loop-steps.steps _ c.loop-steps.invariant.ran
+pub returns-in-Some-Met-clause-exact : goal.returns-in-Some-Met-clause-exact
+returns-in-Some-Met-clause-exact c =
+    let t = tableau_state_of c.loop-tableau.tableau in
+    let met : BoundsAreMet t = subst (IsChoice t) c.in-Some-Met.field-0-is c.in-Some-Met.ensures in
+    point_answer_exact c.args.vars c.args.bounds.now c.args.pivots c.loop-tableau.steps t c.in_ok-end-in-Some-Met.end.answer c.loop-tableau.invariant.ran c.loop-tableau.invariant.within met c.in_ok-end-in-Some-Met.ensures
 
-pub multipliers-requires-clause-few_vars : goal.multipliers-requires-clause-few_vars
-multipliers-requires-clause-few_vars c =
+pub stuck-requires-clause-shaped : goal.stuck-requires-clause-shaped
+stuck-requires-clause-shaped c = ran_shaped c.args.vars c.args.bounds.now c.loop-tableau.steps _ c.loop-tableau.invariant.ran
+
+pub stuck-requires-clause-few_vars : goal.stuck-requires-clause-few_vars
+stuck-requires-clause-few_vars c =
     let few : (c.args.vars < 2 ^ 31) × (length c.as_slice-forms.result.now < 2 ^ 31) = c.are_few.ensures.0 c.if-not-are_few.false in
-    (ran_few c.args.vars c.args.bounds.now c.loop-steps.steps (tableau_state_of c.loop-steps.tableau) (2 ^ 31) c.loop-steps.invariant.ran few.0 (subst (λ fs. length fs < 2 ^ 31) c.as_slice-forms.ensures few.1)).0
+    (ran_few c.args.vars c.args.bounds.now c.loop-tableau.steps (tableau_state_of c.loop-tableau.tableau) (2 ^ 31) c.loop-tableau.invariant.ran few.0 (subst (λ fs. length fs < 2 ^ 31) c.as_slice-forms.ensures few.1)).0
 
-pub multipliers-requires-clause-few_forms : goal.multipliers-requires-clause-few_forms
-multipliers-requires-clause-few_forms c =
+pub stuck-requires-clause-few_forms : goal.stuck-requires-clause-few_forms
+stuck-requires-clause-few_forms c =
     let few : (c.args.vars < 2 ^ 31) × (length c.as_slice-forms.result.now < 2 ^ 31) = c.are_few.ensures.0 c.if-not-are_few.false in
-    (ran_few c.args.vars c.args.bounds.now c.loop-steps.steps (tableau_state_of c.loop-steps.tableau) (2 ^ 31) c.loop-steps.invariant.ran few.0 (subst (λ fs. length fs < 2 ^ 31) c.as_slice-forms.ensures few.1)).1
+    (ran_few c.args.vars c.args.bounds.now c.loop-tableau.steps (tableau_state_of c.loop-tableau.tableau) (2 ^ 31) c.loop-tableau.invariant.ran few.0 (subst (λ fs. length fs < 2 ^ 31) c.as_slice-forms.ensures few.1)).1
 
 pub returns-in-Some-Stuck-clause-sound : goal.returns-in-Some-Stuck-clause-sound
 returns-in-Some-Stuck-clause-sound c =
-    let t = tableau_state_of c.loop-steps.tableau in
+    let t = tableau_state_of c.loop-tableau.tableau in
     let stuck : IsStuck t c.in-Some-Stuck.row = subst (IsChoice t) c.in-Some-Stuck.field-0-is c.in-Some-Stuck.ensures in
-    conflict_sound c.args.vars c.args.bounds.now c.loop-steps.steps t c.in-Some-Stuck.row c.in_ok-multipliers-in-Some-Stuck.field-0 c.loop-steps.invariant.ran stuck c.in_ok-multipliers-in-Some-Stuck.ensures
+    conflict_answer_sound c.args.vars c.args.bounds.now c.loop-tableau.steps t c.in-Some-Stuck.row c.in_ok-end-in-Some-Stuck.end.answer c.loop-tableau.invariant.ran stuck c.in_ok-end-in-Some-Stuck.ensures
+
+pub returns-in-Some-Stuck-clause-exact : goal.returns-in-Some-Stuck-clause-exact
+returns-in-Some-Stuck-clause-exact c =
+    let t = tableau_state_of c.loop-tableau.tableau in
+    let stuck : IsStuck t c.in-Some-Stuck.row = subst (IsChoice t) c.in-Some-Stuck.field-0-is c.in-Some-Stuck.ensures in
+    conflict_answer_exact c.args.vars c.args.bounds.now c.args.pivots c.loop-tableau.steps t c.in-Some-Stuck.row c.in_ok-end-in-Some-Stuck.end.answer c.loop-tableau.invariant.ran c.loop-tableau.invariant.within stuck c.in_ok-end-in-Some-Stuck.ensures
 
 pub exchange-requires-clause-shaped : goal.exchange-requires-clause-shaped
-exchange-requires-clause-shaped c = ran_shaped c.args.vars c.args.bounds.now c.loop-steps.steps _ c.loop-steps.invariant.ran
+exchange-requires-clause-shaped c = ran_shaped c.args.vars c.args.bounds.now c.loop-tableau.steps _ c.loop-tableau.invariant.ran
 
-pub loop-steps-preserved : goal.loop-steps-preserved
-loop-steps-preserved c =
-    let t = tableau_state_of c.loop-steps.tableau in
+pub loop-tableau-preserved : goal.loop-tableau-preserved
+loop-tableau-preserved c =
+    let t = tableau_state_of c.loop-tableau.tableau in
     let r = c.in-Some-Exchange.row in
     let e = c.in-Some-Exchange.column in
     let chosen : IsLeaving t r × IsEntering t r e = subst (IsChoice t) c.in-Some-Exchange.field-0-is c.in-Some-Exchange.ensures in
-    let pushed = c.in_ok-push-in-Ok-exchange.ensures.ok in
-    let longer : length c.push.new.self ≡ length c.loop-steps.steps + 1 = length_pushed c.loop-steps.steps c.push.new.self _ _ pushed refl in
+    let pushed = c.in-Ok-push.ensures.ok in
+    let longer : length c.push.new.self ≡ length c.loop-tableau.steps + 1 = length_pushed c.loop-tableau.steps c.push.new.self _ _ pushed refl in
     record {
-      ran = ran_more c.args.vars c.args.bounds.now c.loop-steps.steps c.push.new.self t (tableau_state_of c.exchange.new.self) r e c.index.result.now c.index-in-Some-Exchange.result.now c.loop-steps.invariant.ran chosen.0 chosen.1 c.in-Ok-exchange.ensures.ok c.index.ensures c.index-in-Some-Exchange.ensures pushed;
-      within = omega (arith, longer, c.len.ensures, c.if-len-pivots.false, c.loop-steps.invariant.within);
+      ran = ran_more c.args.vars c.args.bounds.now c.loop-tableau.steps c.push.new.self t (tableau_state_of c.exchange.new.self) r e c.index.result.now c.index-in-Some-Exchange.result.now c.loop-tableau.invariant.ran chosen.0 chosen.1 c.in-Ok-exchange.ensures.ok c.index.ensures c.index-in-Some-Exchange.ensures pushed;
+      within = omega (arith, longer, c.len.ensures, c.if-len-pivots.false, c.loop-tableau.invariant.within);
     }
 
 pub returns-in-Err-Unfit-exchange-clause-exact : goal.returns-in-Err-Unfit-exchange-clause-exact
 returns-in-Err-Unfit-exchange-clause-exact c =
-    let t = tableau_state_of c.loop-steps.tableau in
+    let t = tableau_state_of c.loop-tableau.tableau in
     let r = c.in-Some-Exchange.row in
     let e = c.in-Some-Exchange.column in
     let chosen : IsLeaving t r × IsEntering t r e = subst (IsChoice t) c.in-Some-Exchange.field-0-is c.in-Some-Exchange.ensures in
-    step_unfit t r e c.loop-steps.invariant.ran (omega (arith, c.len.ensures, c.if-len-pivots.false, c.loop-steps.invariant.within)) chosen.0 chosen.1 (c.exchange.ensures.unfit (cc))
+    step_unfit t r e c.loop-tableau.invariant.ran (omega (arith, c.len.ensures, c.if-len-pivots.false, c.loop-tableau.invariant.within)) chosen.0 chosen.1 (c.exchange.ensures.unfit (cc))
+
+pub exchange-requires-clause-row_below : goal.exchange-requires-clause-row_below
+exchange-requires-clause-row_below c =
+    let t = tableau_state_of c.loop-tableau.tableau in
+    let r = c.in-Some-Exchange.row in
+    let e = c.in-Some-Exchange.column in
+    let chosen : IsLeaving t r × IsEntering t r e = subst (IsChoice t) c.in-Some-Exchange.field-0-is c.in-Some-Exchange.ensures in
+    chosen.0.first.row_below
+
+pub exchange-requires-clause-column_below : goal.exchange-requires-clause-column_below
+exchange-requires-clause-column_below c =
+    let t = tableau_state_of c.loop-tableau.tableau in
+    let r = c.in-Some-Exchange.row in
+    let e = c.in-Some-Exchange.column in
+    let chosen : IsLeaving t r × IsEntering t r e = subst (IsChoice t) c.in-Some-Exchange.field-0-is c.in-Some-Exchange.ensures in
+    chosen.1.column_below
+
+pub exchange-requires-clause-bounded : goal.exchange-requires-clause-bounded
+exchange-requires-clause-bounded c =
+    let t = tableau_state_of c.loop-tableau.tableau in
+    let r = c.in-Some-Exchange.row in
+    let e = c.in-Some-Exchange.column in
+    let chosen : IsLeaving t r × IsEntering t r e = subst (IsChoice t) c.in-Some-Exchange.field-0-is c.in-Some-Exchange.ensures in
+    chosen.0.bounded
+
+pub exchange-requires-clause-nonzero : goal.exchange-requires-clause-nonzero
+exchange-requires-clause-nonzero c =
+    let t = tableau_state_of c.loop-tableau.tableau in
+    let r = c.in-Some-Exchange.row in
+    let e = c.in-Some-Exchange.column in
+    let chosen : IsLeaving t r × IsEntering t r e = subst (IsChoice t) c.in-Some-Exchange.field-0-is c.in-Some-Exchange.ensures in
+    entering_nonzero t r e chosen.1
+
+pub stuck-requires-clause-row_below : goal.stuck-requires-clause-row_below
+stuck-requires-clause-row_below c =
+    let t = tableau_state_of c.loop-tableau.tableau in
+    let stuck : IsStuck t c.in-Some-Stuck.row = subst (IsChoice t) c.in-Some-Stuck.field-0-is c.in-Some-Stuck.ensures in
+    stuck.leaving.first.row_below
+
+pub returns-then-len-pivots-clause-exact : goal.returns-then-len-pivots-clause-exact
+returns-then-len-pivots-clause-exact c =
+    let t = tableau_state_of c.loop-tableau.tableau in
+    let r = c.in-Some-Exchange.row in
+    let e = c.in-Some-Exchange.column in
+    let chosen : IsLeaving t r × IsEntering t r e = subst (IsChoice t) c.in-Some-Exchange.field-0-is c.in-Some-Exchange.ensures in
+    record {
+      state = t;
+      ran = c.loop-tableau.invariant.ran;
+      all = omega (arith, c.len.ensures, c.if-len-pivots.true);
+      row = r;
+      entering = e;
+      leaves = chosen.0;
+      enters = chosen.1;
+    }

@@ -3,8 +3,8 @@ use Rattle.sy_simplex_tableau.specs.Stated.{tableau_state_of}
 use Rattle.sy_simplex.specs.Runs.{Ran}
 use Rattle.sy_simplex.proofs.solve.ended.Given as goal
 
-abbrev pub invariant-loop-steps : goal.invariant-loop-steps
-invariant-loop-steps l = record { ran : Ran l.vars l.bounds l.steps (tableau_state_of l.tableau); within : length l.steps ≤ l.pivots }
+abbrev pub invariant-loop-tableau : goal.invariant-loop-tableau
+invariant-loop-tableau l = record { ran : Ran l.vars l.bounds l.steps (tableau_state_of l.tableau); within : length l.steps ≤ l.pivots }
 
-abbrev pub decreases-loop-steps : goal.decreases-loop-steps
-decreases-loop-steps l = l.pivots - length l.steps
+abbrev pub decreases-loop-tableau : goal.decreases-loop-tableau
+decreases-loop-tableau l = l.pivots - length l.steps
