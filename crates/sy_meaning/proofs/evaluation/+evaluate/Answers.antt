@@ -2,6 +2,7 @@ use Rattle.std.proofs.Common.{arith, refl, ◌≡◌, [], ◌+◌, IfOk, ap, ◌
 use Rattle.std.specs.Result.{IsErrAnd}
 use Rattle.std.proofs.lemmas.Grind.{common_steps}
 use Rattle.std.proofs.lemmas.List.{take_all}
+use Rattle.std.proofs.lemmas.Result.{IfOk-from_err}
 use Rattle.sy_terms.specs.Expr.{nodes}
 use Rattle.sy_terms.specs.Denoted.{expr_of}
 use Rattle.sy_terms_laws.proofs.Steps as step
@@ -16,6 +17,15 @@ use Rattle.sy_meaning.proofs.evaluation.+evaluate.Goals as goal
 kept-error : {T E : Type 0} (r : Result T E) (e f : E) → IsErrAnd r (λ end. end ≡ e) → r ≡ Err f → e ≡ f
 kept-error (Ok x) e f told h = absurd told
 kept-error (Err y) e f told h = cc
+
+-- where an error is handed on, nothing is owed of an answer
+no_answer : {T E : Type 0} (P : Type 0) (r : Result T E) (e : E) → IsErrAnd r (λ end. end ≡ e) → OnOk r P
+no_answer P (Ok x) e told = absurd told
+no_answer P (Err y) e told = tt
+
+-- nor of another error
+other_error : {T E P : Type 0} (r : Result T E) (e f : E) → IsErrAnd r (λ end. end ≡ e) → (e ≡ f → ⊥) → r ≡ Err f → P
+other_error r e f told apart h = absurd (apart (kept-error r e f told h))
 
 ok_then : {T E : Type 0} {P Q : T → Type 0} (r : Result T E) → IfOk r P → ((x : T) → P x → Q x) → IfOk r Q
 ok_then (Ok x) h f = f x h
@@ -377,3 +387,87 @@ evaluate_all-returns-clause-calls g t c =
     let found = c.loop-term.invariant.2 wanted bodies (rw (c.as_slice-term-items.ensures) fit) in
     let all = take_all c.loop-term.term-index c.as_slice-term-items.result.now (omega arith) in
     rw (all, c.as_slice-term-items.ensures) at found
+
+pub evaluate_under-returns-in_err-found-in-App-clause-ok : goal.evaluate_under-returns-in_err-found-in-App-clause-ok
+evaluate_under-returns-in_err-found-in-App-clause-ok g t c = IfOk-from_err c.from_residual.result _ c.from_residual.ensures.0
+
+pub evaluate_under-returns-in_err-found-in-App-clause-traced : goal.evaluate_under-returns-in_err-found-in-App-clause-traced
+evaluate_under-returns-in_err-found-in-App-clause-traced g t c = no_answer _ c.from_residual.result _ c.from_residual.ensures.1
+
+pub evaluate_under-returns-in_err-found-in-App-clause-calls : goal.evaluate_under-returns-in_err-found-in-App-clause-calls
+evaluate_under-returns-in_err-found-in-App-clause-calls g t c = no_answer _ c.from_residual.result _ c.from_residual.ensures.1
+
+pub evaluate_under-returns-in_err-found-in-Call-clause-ok : goal.evaluate_under-returns-in_err-found-in-Call-clause-ok
+evaluate_under-returns-in_err-found-in-Call-clause-ok g t c = IfOk-from_err c.from_residual-in_err-found-in-Call.result _ c.from_residual-in_err-found-in-Call.ensures.0
+
+pub evaluate_under-returns-in_err-found-in-Call-clause-traced : goal.evaluate_under-returns-in_err-found-in-Call-clause-traced
+evaluate_under-returns-in_err-found-in-Call-clause-traced g t c = no_answer _ c.from_residual-in_err-found-in-Call.result _ c.from_residual-in_err-found-in-Call.ensures.1
+
+pub evaluate_under-returns-in_err-found-in-Call-clause-calls : goal.evaluate_under-returns-in_err-found-in-Call-clause-calls
+evaluate_under-returns-in_err-found-in-Call-clause-calls g t c = no_answer _ c.from_residual-in_err-found-in-Call.result _ c.from_residual-in_err-found-in-Call.ensures.1
+
+pub evaluate_under-returns-in_err-note-in-Wanted-clause-ok : goal.evaluate_under-returns-in_err-note-in-Wanted-clause-ok
+evaluate_under-returns-in_err-note-in-Wanted-clause-ok g t c = IfOk-from_err c.from_residual-in_err-note-in-Wanted.result _ c.from_residual-in_err-note-in-Wanted.ensures.0
+
+pub evaluate_under-returns-in_err-note-in-Wanted-clause-range : goal.evaluate_under-returns-in_err-note-in-Wanted-clause-range
+evaluate_under-returns-in_err-note-in-Wanted-clause-range g t c h = other_error c.from_residual-in_err-note-in-Wanted.result _ _ c.from_residual-in_err-note-in-Wanted.ensures.1 (λ same. cc) h
+
+pub evaluate_under-returns-in_err-note-in-Wanted-clause-traced : goal.evaluate_under-returns-in_err-note-in-Wanted-clause-traced
+evaluate_under-returns-in_err-note-in-Wanted-clause-traced g t c = no_answer _ c.from_residual-in_err-note-in-Wanted.result _ c.from_residual-in_err-note-in-Wanted.ensures.1
+
+pub evaluate_under-returns-in_err-note-in-Wanted-clause-calls : goal.evaluate_under-returns-in_err-note-in-Wanted-clause-calls
+evaluate_under-returns-in_err-note-in-Wanted-clause-calls g t c = no_answer _ c.from_residual-in_err-note-in-Wanted.result _ c.from_residual-in_err-note-in-Wanted.ensures.1
+
+pub evaluate_under-returns-in_err-found-in-Let-clause-ok : goal.evaluate_under-returns-in_err-found-in-Let-clause-ok
+evaluate_under-returns-in_err-found-in-Let-clause-ok g t c = IfOk-from_err c.from_residual-in_err-found-in-Let.result _ c.from_residual-in_err-found-in-Let.ensures.0
+
+pub evaluate_under-returns-in_err-found-in-Let-clause-traced : goal.evaluate_under-returns-in_err-found-in-Let-clause-traced
+evaluate_under-returns-in_err-found-in-Let-clause-traced g t c = no_answer _ c.from_residual-in_err-found-in-Let.result _ c.from_residual-in_err-found-in-Let.ensures.1
+
+pub evaluate_under-returns-in_err-found-in-Let-clause-calls : goal.evaluate_under-returns-in_err-found-in-Let-clause-calls
+evaluate_under-returns-in_err-found-in-Let-clause-calls g t c = no_answer _ c.from_residual-in_err-found-in-Let.result _ c.from_residual-in_err-found-in-Let.ensures.1
+
+pub evaluate_under-returns-in_err-longer-in-Let-clause-ok : goal.evaluate_under-returns-in_err-longer-in-Let-clause-ok
+evaluate_under-returns-in_err-longer-in-Let-clause-ok g t c = IfOk-from_err c.from_residual-in_err-longer-in-Let.result _ c.from_residual-in_err-longer-in-Let.ensures.0
+
+pub evaluate_under-returns-in_err-longer-in-Let-clause-range : goal.evaluate_under-returns-in_err-longer-in-Let-clause-range
+evaluate_under-returns-in_err-longer-in-Let-clause-range g t c h = other_error c.from_residual-in_err-longer-in-Let.result _ _ c.from_residual-in_err-longer-in-Let.ensures.1 (λ same. cc) h
+
+pub evaluate_under-returns-in_err-longer-in-Let-clause-traced : goal.evaluate_under-returns-in_err-longer-in-Let-clause-traced
+evaluate_under-returns-in_err-longer-in-Let-clause-traced g t c = no_answer _ c.from_residual-in_err-longer-in-Let.result _ c.from_residual-in_err-longer-in-Let.ensures.1
+
+pub evaluate_under-returns-in_err-longer-in-Let-clause-calls : goal.evaluate_under-returns-in_err-longer-in-Let-clause-calls
+evaluate_under-returns-in_err-longer-in-Let-clause-calls g t c = no_answer _ c.from_residual-in_err-longer-in-Let.result _ c.from_residual-in_err-longer-in-Let.ensures.1
+
+pub evaluate_all-returns-in_err-found-clause-ok : goal.evaluate_all-returns-in_err-found-clause-ok
+evaluate_all-returns-in_err-found-clause-ok g t c = IfOk-from_err c.from_residual.result _ c.from_residual.ensures.0
+
+pub evaluate_all-returns-in_err-found-clause-range : goal.evaluate_all-returns-in_err-found-clause-range
+evaluate_all-returns-in_err-found-clause-range g t c h = other_error c.from_residual.result _ _ c.from_residual.ensures.1 (λ same. cc) h
+
+pub evaluate_all-returns-in_err-found-clause-traced : goal.evaluate_all-returns-in_err-found-clause-traced
+evaluate_all-returns-in_err-found-clause-traced g t c = no_answer _ c.from_residual.result _ c.from_residual.ensures.1
+
+pub evaluate_all-returns-in_err-found-clause-calls : goal.evaluate_all-returns-in_err-found-clause-calls
+evaluate_all-returns-in_err-found-clause-calls g t c = no_answer _ c.from_residual.result _ c.from_residual.ensures.1
+
+pub evaluate_all-returns-in_err-value-clause-ok : goal.evaluate_all-returns-in_err-value-clause-ok
+evaluate_all-returns-in_err-value-clause-ok g t c = IfOk-from_err c.from_residual-in_err-value.result _ c.from_residual-in_err-value.ensures.0
+
+pub evaluate_all-returns-in_err-value-clause-traced : goal.evaluate_all-returns-in_err-value-clause-traced
+evaluate_all-returns-in_err-value-clause-traced g t c = no_answer _ c.from_residual-in_err-value.result _ c.from_residual-in_err-value.ensures.1
+
+pub evaluate_all-returns-in_err-value-clause-calls : goal.evaluate_all-returns-in_err-value-clause-calls
+evaluate_all-returns-in_err-value-clause-calls g t c = no_answer _ c.from_residual-in_err-value.result _ c.from_residual-in_err-value.ensures.1
+
+pub evaluate_all-returns-in_err-push-clause-ok : goal.evaluate_all-returns-in_err-push-clause-ok
+evaluate_all-returns-in_err-push-clause-ok g t c = IfOk-from_err c.from_residual-in_err-push.result _ c.from_residual-in_err-push.ensures.0
+
+pub evaluate_all-returns-in_err-push-clause-range : goal.evaluate_all-returns-in_err-push-clause-range
+evaluate_all-returns-in_err-push-clause-range g t c h = other_error c.from_residual-in_err-push.result _ _ c.from_residual-in_err-push.ensures.1 (λ same. cc) h
+
+pub evaluate_all-returns-in_err-push-clause-traced : goal.evaluate_all-returns-in_err-push-clause-traced
+evaluate_all-returns-in_err-push-clause-traced g t c = no_answer _ c.from_residual-in_err-push.result _ c.from_residual-in_err-push.ensures.1
+
+pub evaluate_all-returns-in_err-push-clause-calls : goal.evaluate_all-returns-in_err-push-clause-calls
+evaluate_all-returns-in_err-push-clause-calls g t c = no_answer _ c.from_residual-in_err-push.result _ c.from_residual-in_err-push.ensures.1

@@ -1,4 +1,5 @@
 use Rattle.std.proofs.Common.{arith, ◌++◌, ap, sym, ◌∙◌, Result, Ok, Err, IfOk}
+use Rattle.std.proofs.lemmas.Result.{IfOk-from_err}
 use Rattle.sy_terms_laws.proofs.Steps as step
 use Rattle.sy_meaning.proofs.Sorts as sorts
 use Rattle.sy_meaning.proofs.fitting.+term_sort.Goals as goal
@@ -86,3 +87,24 @@ pub term_sorts-loop-term-preserved : goal.term_sorts-loop-term-preserved
 term_sorts-loop-term-preserved g t c =
     let is = rw (c.in-Some.is) at c.in_ok-sort.ensures in
     rw (c.in_ok-push-in-Some.ensures.items) (sorts.sorts_in-next g.T.Theory.denotes _ _ c.as_slice-term-items.result.now c.loop-term.term-index c.term-item.result c.loop-term.found.items c.in-Some.sort (omega arith) c.term-item.is c.loop-term.invariant (sym is))
+
+pub term_sort-returns-in_err-found-in-App : goal.term_sort-returns-in_err-found-in-App
+term_sort-returns-in_err-found-in-App g t c = IfOk-from_err c.from_residual.result _ c.from_residual.ensures.0
+
+pub term_sort-returns-in_err-found-in-Call : goal.term_sort-returns-in_err-found-in-Call
+term_sort-returns-in_err-found-in-Call g t c = IfOk-from_err c.from_residual-in_err-found-in-Call.result _ c.from_residual-in_err-found-in-Call.ensures.0
+
+pub term_sort-returns-in_err-found-in-Let : goal.term_sort-returns-in_err-found-in-Let
+term_sort-returns-in_err-found-in-Let g t c = IfOk-from_err c.from_residual-in_err-found-in-Let.result _ c.from_residual-in_err-found-in-Let.ensures.0
+
+pub term_sort-returns-in_err-longer-in-Some-found-2 : goal.term_sort-returns-in_err-longer-in-Some-found-2
+term_sort-returns-in_err-longer-in-Some-found-2 g t c = IfOk-from_err c.from_residual-in_err-longer-in-Some-found-2.result _ c.from_residual-in_err-longer-in-Some-found-2.ensures.0
+
+pub term_sorts-returns-in_err-found : goal.term_sorts-returns-in_err-found
+term_sorts-returns-in_err-found g t c = IfOk-from_err c.from_residual.result _ c.from_residual.ensures.0
+
+pub term_sorts-returns-in_err-sort : goal.term_sorts-returns-in_err-sort
+term_sorts-returns-in_err-sort g t c = IfOk-from_err c.from_residual-in_err-sort.result _ c.from_residual-in_err-sort.ensures.0
+
+pub term_sorts-returns-in_err-push-in-Some : goal.term_sorts-returns-in_err-push-in-Some
+term_sorts-returns-in_err-push-in-Some g t c = IfOk-from_err c.from_residual-in_err-push-in-Some.result _ c.from_residual-in_err-push-in-Some.ensures.0

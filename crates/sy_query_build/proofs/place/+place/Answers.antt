@@ -2,6 +2,7 @@ use Rattle.std.proofs.Common.{refl, arith, ap, ◌∙◌, Err, ◌+◌, ◌++◌
 use Rattle.std.proofs.lemmas.Grind.{common_steps}
 use Rattle.std.proofs.lemmas.List.{take_all}
 use Rattle.std.proofs.Math.Seq.{take-append_seam}
+use Rattle.std.proofs.lemmas.Result.{IfOk-from_err}
 use Rattle.sy_query_base.specs.Weights.{query_scope}
 use Rattle.sy_terms_laws.proofs.Steps as laws
 use Rattle.sy_terms_laws.proofs.Lists.{weight}
@@ -429,3 +430,63 @@ bind-returns-in_err-term-clause-heavy g t c h =
     let longer = c.in_ok-extend_from_slice.ensures.items ∙ ap (λ rest. c.args.room.now.sorts.items ++ rest) c.as_slice.ensures.value in
     let heavy = rw longer at (c.in_err-term.ensures.heavy (ap Err (walk.kept-error c.from_residual-in_err-term.result _ _ c.from_residual-in_err-term.ensures.1 h))) in
     omega (arith, heavy)
+
+pub place-returns-in_err-found-in-App-clause-ok : goal.place-returns-in_err-found-in-App-clause-ok
+place-returns-in_err-found-in-App-clause-ok g t c = IfOk-from_err c.from_residual.result _ c.from_residual.ensures.0
+
+pub place-returns-in_err-found-in-App-clause-kept : goal.place-returns-in_err-found-in-App-clause-kept
+place-returns-in_err-found-in-App-clause-kept g t c = IfOk-from_err c.from_residual.result _ c.from_residual.ensures.0
+
+pub place-returns-in_err-found-in-Call-clause-ok : goal.place-returns-in_err-found-in-Call-clause-ok
+place-returns-in_err-found-in-Call-clause-ok g t c = IfOk-from_err c.from_residual-in_err-found-in-Call.result _ c.from_residual-in_err-found-in-Call.ensures.0
+
+pub place-returns-in_err-found-in-Call-clause-kept : goal.place-returns-in_err-found-in-Call-clause-kept
+place-returns-in_err-found-in-Call-clause-kept g t c = IfOk-from_err c.from_residual-in_err-found-in-Call.result _ c.from_residual-in_err-found-in-Call.ensures.0
+
+pub place-returns-in_err-found-in-Let-clause-ok : goal.place-returns-in_err-found-in-Let-clause-ok
+place-returns-in_err-found-in-Let-clause-ok g t c = IfOk-from_err c.from_residual-in_err-found-in-Let.result _ c.from_residual-in_err-found-in-Let.ensures.0
+
+pub place-returns-in_err-found-in-Let-clause-kept : goal.place-returns-in_err-found-in-Let-clause-kept
+place-returns-in_err-found-in-Let-clause-kept g t c = IfOk-from_err c.from_residual-in_err-found-in-Let.result _ c.from_residual-in_err-found-in-Let.ensures.0
+
+pub place_all-returns-in_err-term-clause-ok : goal.place_all-returns-in_err-term-clause-ok
+place_all-returns-in_err-term-clause-ok g t c = IfOk-from_err c.from_residual-in_err-term.result _ c.from_residual-in_err-term.ensures.0
+
+pub place_all-returns-in_err-term-clause-kept : goal.place_all-returns-in_err-term-clause-kept
+place_all-returns-in_err-term-clause-kept g t c = IfOk-from_err c.from_residual-in_err-term.result _ c.from_residual-in_err-term.ensures.0
+
+pub place_all-returns-in_err-sorts-clause-ok : goal.place_all-returns-in_err-sorts-clause-ok
+place_all-returns-in_err-sorts-clause-ok g t c = IfOk-from_err c.from_residual.result _ c.from_residual.ensures.0
+
+pub place_all-returns-in_err-sorts-clause-kept : goal.place_all-returns-in_err-sorts-clause-kept
+place_all-returns-in_err-sorts-clause-kept g t c = IfOk-from_err c.from_residual.result _ c.from_residual.ensures.0
+
+pub place_all-returns-in_err-push-clause-ok : goal.place_all-returns-in_err-push-clause-ok
+place_all-returns-in_err-push-clause-ok g t c = IfOk-from_err c.from_residual-in_err-push.result _ c.from_residual-in_err-push.ensures.0
+
+pub place_all-returns-in_err-push-clause-kept : goal.place_all-returns-in_err-push-clause-kept
+place_all-returns-in_err-push-clause-kept g t c = IfOk-from_err c.from_residual-in_err-push.result _ c.from_residual-in_err-push.ensures.0
+
+pub place_all-returns-in_err-push-2-clause-ok : goal.place_all-returns-in_err-push-2-clause-ok
+place_all-returns-in_err-push-2-clause-ok g t c = IfOk-from_err c.from_residual-in_err-push-2.result _ c.from_residual-in_err-push-2.ensures.0
+
+pub place_all-returns-in_err-push-2-clause-kept : goal.place_all-returns-in_err-push-2-clause-kept
+place_all-returns-in_err-push-2-clause-kept g t c = IfOk-from_err c.from_residual-in_err-push-2.result _ c.from_residual-in_err-push-2.ensures.0
+
+pub bind-returns-in_err-extend_from_slice-clause-ok : goal.bind-returns-in_err-extend_from_slice-clause-ok
+bind-returns-in_err-extend_from_slice-clause-ok g t c = IfOk-from_err c.from_residual.result _ c.from_residual.ensures.0
+
+pub bind-returns-in_err-extend_from_slice-clause-kept : goal.bind-returns-in_err-extend_from_slice-clause-kept
+bind-returns-in_err-extend_from_slice-clause-kept g t c = IfOk-from_err c.from_residual.result _ c.from_residual.ensures.0
+
+pub bind-returns-in_err-new-clause-ok : goal.bind-returns-in_err-new-clause-ok
+bind-returns-in_err-new-clause-ok g t c = IfOk-from_err c.from_residual-in_err-new.result _ c.from_residual-in_err-new.ensures.0
+
+pub bind-returns-in_err-new-clause-kept : goal.bind-returns-in_err-new-clause-kept
+bind-returns-in_err-new-clause-kept g t c = IfOk-from_err c.from_residual-in_err-new.result _ c.from_residual-in_err-new.ensures.0
+
+pub bind-returns-in_err-term-clause-ok : goal.bind-returns-in_err-term-clause-ok
+bind-returns-in_err-term-clause-ok g t c = IfOk-from_err c.from_residual-in_err-term.result _ c.from_residual-in_err-term.ensures.0
+
+pub bind-returns-in_err-term-clause-kept : goal.bind-returns-in_err-term-clause-kept
+bind-returns-in_err-term-clause-kept g t c = IfOk-from_err c.from_residual-in_err-term.result _ c.from_residual-in_err-term.ensures.0

@@ -1,4 +1,5 @@
 use Rattle.std.proofs.Common.{arith, ap, ◌∙◌, sym, subst, refl, Err, map}
+use Rattle.std.proofs.lemmas.Result.{IfOk-from_err}
 use Rattle.sy_terms.specs.Denoted.{expr_of}
 use Rattle.sy_terms.specs.declared.op.Op.TheVariants as ops
 use Rattle.sy_grammar_base.specs.Questions.{question_of}
@@ -114,3 +115,63 @@ pub place_all-requires-2-clause-small : goal.place_all-requires-2-clause-small
 place_all-requires-2-clause-small g c =
     let taken = c.in_ok-assumptions.ensures.ok.weight in
     omega (arith, taken, c.new-room.ensures.weight, c.ranges.limit)
+
+pub returns-in_err-assumptions-clause-query : goal.returns-in_err-assumptions-clause-query
+returns-in_err-assumptions-clause-query g c = IfOk-from_err c.from_residual-in_err-assumptions.result _ c.from_residual-in_err-assumptions.ensures.0
+
+pub returns-in_err-assumptions-clause-fits : goal.returns-in_err-assumptions-clause-fits
+returns-in_err-assumptions-clause-fits g c = IfOk-from_err c.from_residual-in_err-assumptions.result _ c.from_residual-in_err-assumptions.ensures.0
+
+pub returns-in_err-assumptions-clause-violations : goal.returns-in_err-assumptions-clause-violations
+returns-in_err-assumptions-clause-violations g c = IfOk-from_err c.from_residual-in_err-assumptions.result _ c.from_residual-in_err-assumptions.ensures.0
+
+pub returns-in_err-assumptions-clause-light : goal.returns-in_err-assumptions-clause-light
+returns-in_err-assumptions-clause-light g c = IfOk-from_err c.from_residual-in_err-assumptions.result _ c.from_residual-in_err-assumptions.ensures.0
+
+pub returns-in_err-constraints-clause-query : goal.returns-in_err-constraints-clause-query
+returns-in_err-constraints-clause-query g c = IfOk-from_err c.from_residual-in_err-constraints.result _ c.from_residual-in_err-constraints.ensures.0
+
+pub returns-in_err-constraints-clause-fits : goal.returns-in_err-constraints-clause-fits
+returns-in_err-constraints-clause-fits g c = IfOk-from_err c.from_residual-in_err-constraints.result _ c.from_residual-in_err-constraints.ensures.0
+
+pub returns-in_err-constraints-clause-violations : goal.returns-in_err-constraints-clause-violations
+returns-in_err-constraints-clause-violations g c = IfOk-from_err c.from_residual-in_err-constraints.result _ c.from_residual-in_err-constraints.ensures.0
+
+pub returns-in_err-constraints-clause-light : goal.returns-in_err-constraints-clause-light
+returns-in_err-constraints-clause-light g c = IfOk-from_err c.from_residual-in_err-constraints.result _ c.from_residual-in_err-constraints.ensures.0
+
+pub returns-in_err-to_vec-clause-query : goal.returns-in_err-to_vec-clause-query
+returns-in_err-to_vec-clause-query g c = IfOk-from_err c.from_residual.result _ c.from_residual.ensures.0
+
+pub returns-in_err-to_vec-clause-fits : goal.returns-in_err-to_vec-clause-fits
+returns-in_err-to_vec-clause-fits g c = IfOk-from_err c.from_residual.result _ c.from_residual.ensures.0
+
+pub returns-in_err-to_vec-clause-violations : goal.returns-in_err-to_vec-clause-violations
+returns-in_err-to_vec-clause-violations g c = IfOk-from_err c.from_residual.result _ c.from_residual.ensures.0
+
+pub returns-in_err-to_vec-clause-light : goal.returns-in_err-to_vec-clause-light
+returns-in_err-to_vec-clause-light g c = IfOk-from_err c.from_residual.result _ c.from_residual.ensures.0
+
+pub returns-in_err-body-clause-query : goal.returns-in_err-body-clause-query
+returns-in_err-body-clause-query g c = IfOk-from_err c.from_residual-in_err-body.result _ c.from_residual-in_err-body.ensures.0
+
+pub returns-in_err-body-clause-fits : goal.returns-in_err-body-clause-fits
+returns-in_err-body-clause-fits g c = IfOk-from_err c.from_residual-in_err-body.result _ c.from_residual-in_err-body.ensures.0
+
+pub returns-in_err-body-clause-violations : goal.returns-in_err-body-clause-violations
+returns-in_err-body-clause-violations g c = IfOk-from_err c.from_residual-in_err-body.result _ c.from_residual-in_err-body.ensures.0
+
+pub returns-in_err-body-clause-light : goal.returns-in_err-body-clause-light
+returns-in_err-body-clause-light g c = IfOk-from_err c.from_residual-in_err-body.result _ c.from_residual-in_err-body.ensures.0
+
+pub returns-in_err-vars-clause-query : goal.returns-in_err-vars-clause-query
+returns-in_err-vars-clause-query g c = IfOk-from_err c.from_residual-in_err-vars.result _ c.from_residual-in_err-vars.ensures.0
+
+pub returns-in_err-vars-clause-fits : goal.returns-in_err-vars-clause-fits
+returns-in_err-vars-clause-fits g c = IfOk-from_err c.from_residual-in_err-vars.result _ c.from_residual-in_err-vars.ensures.0
+
+pub returns-in_err-vars-clause-violations : goal.returns-in_err-vars-clause-violations
+returns-in_err-vars-clause-violations g c = IfOk-from_err c.from_residual-in_err-vars.result _ c.from_residual-in_err-vars.ensures.0
+
+pub returns-in_err-vars-clause-light : goal.returns-in_err-vars-clause-light
+returns-in_err-vars-clause-light g c = IfOk-from_err c.from_residual-in_err-vars.result _ c.from_residual-in_err-vars.ensures.0

@@ -1,4 +1,5 @@
 use Rattle.std.proofs.Common.{arith, ap, ◌∙◌, Err}
+use Rattle.std.proofs.lemmas.Result.{IfOk-from_err}
 use Rattle.sy_query_build.proofs.Itself as itself
 use Rattle.sy_query_build.proofs.Walking.{kept-error, not-error}
 use Rattle.sy_query_build.proofs.queries.weigh.Goals as goal
@@ -43,3 +44,15 @@ returns-clause-light g c = omega arith
 
 pub returns-clause-heavy : goal.returns-clause-heavy
 returns-clause-heavy g c h = absurd cc
+
+pub returns-in_err-_placed-clause-weight : goal.returns-in_err-_placed-clause-weight
+returns-in_err-_placed-clause-weight g c = IfOk-from_err c.from_residual-in_err-_placed.result _ c.from_residual-in_err-_placed.ensures.0
+
+pub returns-in_err-_placed-clause-light : goal.returns-in_err-_placed-clause-light
+returns-in_err-_placed-clause-light g c = IfOk-from_err c.from_residual-in_err-_placed.result _ c.from_residual-in_err-_placed.ensures.0
+
+pub returns-in_err-to_vec-clause-weight : goal.returns-in_err-to_vec-clause-weight
+returns-in_err-to_vec-clause-weight g c = IfOk-from_err c.from_residual.result _ c.from_residual.ensures.0
+
+pub returns-in_err-to_vec-clause-light : goal.returns-in_err-to_vec-clause-light
+returns-in_err-to_vec-clause-light g c = IfOk-from_err c.from_residual.result _ c.from_residual.ensures.0
