@@ -3,6 +3,8 @@ ghost use Rattle.std.specs.Prelude.{◌≡◌, ◌<◌, length, map, IfOk, OnOk,
 ghost use Rattle.sy_terms.specs.Denoted.{expr_of};
 ghost use Rattle.sy_loop_candidate.specs.Traces.{TuplesGrow};
 ghost use Rattle.sy_grammar_base.specs.Fits.{ProblemFits};
+ghost use Rattle.sy_query_base.specs.Asked.{QueryFits, query_of};
+ghost use Rattle.sy_query_decide.specs.Answers.{Answers};
 ghost use Rattle.sy_loop_candidate.specs.Clauses.{DecidesFor, FitAsBodies, IsKnownFor, StepFollowsFor, IsDueFor};
 
 use crate::asks::ask_at;
@@ -12,7 +14,7 @@ use crate::step::{End, Known, Step};
 use std::alloc::Global;
 use sy_grammar_base::Problem;
 use sy_loop_bounds::Reach;
-use sy_query_base::Limits;
+use sy_query_base::{Limits, Query};
 use sy_query_build::{Built, build};
 use sy_query_decide::{Decide, Verdict};
 use sy_terms::{Bodies, Theory, Want};
@@ -44,7 +46,7 @@ pub fn decide_due<T: Theory, D: Decide<T>>(
         Err(Built::Heavy) => return Ok(Step::End(End::Weight(bodies))),
         Err(Built::Want) => return Err(Want {}),
     };
-    match decide.decide(alloc, &query, limits)? {
+    match decide_query(alloc, limits, decide, query)? {
         Verdict::Never(proof) => Ok(Step::End(End::Found(bodies, proof))),
         Verdict::Model(values) => {
             let place = known.stored.len();
@@ -57,6 +59,21 @@ pub fn decide_due<T: Theory, D: Decide<T>>(
         }
         Verdict::Spent(spent) => Ok(Step::End(End::Decide(bodies, spent))),
     }
+}
+
+/// What the solver answers to the query.
+pub fn decide_query<T: Theory, D: Decide<T>>(
+    alloc: Global,
+    limits: &Limits,
+    decide: &mut D,
+    query: Query<T>,
+) -> Result<Verdict<T, D::Proof, D::Spent>, Want>
+    requires { QueryFits T.owned T.numeric (query_of T.denotes query) }
+    ensures { IfOk result (Answers T.denotes D.accepted D.budget D.shows (query_of T.denotes query) limits.now) }
+{
+    let answer = decide.decide(alloc, &query, limits);
+    drop(query);
+    answer
 }
 
 /// Adds what the stored bodies of this place ask at their assignment to the points.

@@ -38,8 +38,8 @@ returns-then-len-limits-clause-step g c =
     c.in-Ok.ensures.query c.in-Ok.ensures.violations (rw c.in-Model.is at c.in_ok-proof.ensures) c.requires.known.honest c.requires.room c.requires.due in
     (rounds_more c.args.reach (question_of g.T.Theory.denotes c.args.problem.now) c.args.limits.now (map (expr_of g.T.Theory.denotes) c.args.bodies) (history_of g.T.Theory.denotes c.args.known.now.stored) (history_of g.T.Theory.denotes c.push.new.self) c.len.result more (omega (arith, c.len.ensures, length-map c.push.new.self.items (counterexample_of g.T.Theory.denotes))) (omega (arith, c.if-len-limits.true)), λ traced. tt)
 
-pub returns-in-Model-clause-step : goal.returns-in-Model-clause-step
-returns-in-Model-clause-step g c =
+pub returns-in_ok-step-in-Model-clause-step : goal.returns-in_ok-step-in-Model-clause-step
+returns-in_ok-step-in-Model-clause-step g c =
     let more = stored_more g.T.Theory.denotes c.args.reach (question_of g.T.Theory.denotes c.args.problem.now) c.args.limits.now c.args.known.now.stored c.push.new.self c.in-Model.values c.args.bodies (query_of g.T.Theory.denotes c.in-Ok.query) c.in_ok-push-in-Model.ensures.ok
     c.in-Ok.ensures.query c.in-Ok.ensures.violations (rw c.in-Model.is at c.in_ok-proof.ensures) c.requires.known.honest c.requires.room c.requires.due in
     followed g.T.Theory.owned g.T.Theory.denotes g.D.Decide.accepted g.D.Decide.budget g.D.Decide.shows c.args.reach (question_of g.T.Theory.denotes c.args.problem.now) c.args.limits.now (map (expr_of g.T.Theory.denotes) c.args.bodies) (history_of g.T.Theory.denotes c.args.known.now.stored) (history_of g.T.Theory.denotes c.follow.new.known.stored)
@@ -61,8 +61,8 @@ returns-in-Err-Heavy-clause-step g c = (
 pub follow-requires-clause-room : goal.follow-requires-clause-room
 follow-requires-clause-room g c = omega (arith, c.if-len-limits.false, c.len.ensures)
 
-pub returns-clause-step : goal.returns-clause-step
-returns-clause-step g c = (
+pub returns-in-Spent-clause-step : goal.returns-in-Spent-clause-step
+returns-in-Spent-clause-step g c = (
   record {
     honest = c.requires.known.honest;
     room = room_in g.T.Theory.denotes c.args.known.now.stored c.args.limits.now.rounds c.requires.room;
