@@ -437,6 +437,13 @@ fn learn(alloc: Global, state: &mut State, cnf: &Cnf, fuel: u32) -> Result<End, 
     Ok(End::Spent)
 }
 
+/// The lines that were derived. The rest of the state is let go of.
+fn log_of(state: State) -> Log
+    ensures { result ≡ record { lines = state.lines } }
+{
+    Log { lines: state.lines }
+}
+
 /// Decides the formula, with at most `fuel` learned clauses.
 ///
 /// `Refuted` has a log of at most `fuel` lines that [`check`](sy_clauses::check) accepts, `Model` a
@@ -452,7 +459,7 @@ pub fn solve(alloc: Global, cnf: &Cnf, fuel: u32) -> Result<Solved, Want>
 {
     let mut state = fresh_state(alloc, cnf)?;
     let end = learn(alloc, &mut state, cnf, fuel)?;
-    let log = Log { lines: state.lines };
+    let log = log_of(state);
     match end {
         End::Empty => Ok(Solved::Refuted(log)),
         End::Model(values) => Ok(Solved::Model(values)),
