@@ -1,9 +1,9 @@
 -- Lists that are seen alike, and sorts of values of functions that fit.
-use Rattle.std.specs.Prelude.{ℕ, zero, suc, ◌+◌, ◌<◌, Bool, true, ◌&&◌, nat_le, nat_lt, ◌^◌, List, [], ◌∷◌, ◌++◌, map, length, slice_get, Some, ◌≡◌, refl, All}
+use Rattle.std.specs.Prelude.{ℕ, zero, suc, ◌+◌, ◌<◌, ◌≤◌, Bool, true, ◌&&◌, nat_le, nat_lt, ◌^◌, List, [], ◌∷◌, ◌++◌, map, length, slice_get, Some, ◌≡◌, refl, All}
 use Rattle.std.specs.Option.{option_map}
 use Rattle.std.specs.List.{list_all}
 use Rattle.std.proofs.Common.{arith, ap, sym, ◌∙◌, subst, get_or, take}
-use Rattle.std.proofs.lemmas.List.{take_more}
+use Rattle.std.proofs.lemmas.List.{take_more, take_all}
 use Rattle.std.proofs.lemmas.List.Elements.{All-head, All-tail}
 use Rattle.sy_terms.specs.Fitting.{Scope, Signature}
 use Rattle.sy_terms.specs.declared.op.Op.{Op}
@@ -41,10 +41,35 @@ map_last : {A B : Type 0} (f : A → B) (xs : List A) (x : A) → map f (xs ++ x
 map_last f [] x = refl
 map_last f (y ∷ xs) x = ap (λ rest. f y ∷ rest) (map_last f xs x)
 
+-- what was taken, with one more
+taken_last : {A : Type 0} (xs : List A) (i : ℕ) (x : A) → i < length xs → x ≡ get_or xs i x → take (i + 1) xs ≡ take i xs ++ x ∷ []
+taken_last xs i x within read = take_more xs i x within ∙ ap (λ y. take i xs ++ y ∷ []) (sym read)
+
+-- what is seen of it, with one more
+seen_last : {A B C : Type 0} (f : B → C) (g : A → B) (xs : List A) (i : ℕ) (x : A) → i < length xs → x ≡ get_or xs i x → map f (map g (take (i + 1) xs)) ≡ map f (map g (take i xs)) ++ f (g x) ∷ []
+seen_last f g xs i x within read = ap (λ ys. map f (map g ys)) (taken_last xs i x within read) ∙ ap (map f) (map_last g (take i xs) x) ∙ map_last f (map g (take i xs)) (g x)
+
 -- lists that are seen alike, with one more each
 pub more_alike : {A B C D : Type 0} (h : D → C) (f : B → C) (g : A → B) (now done : List D) (d : D) (xs : List A) (i : ℕ) (x : A) → now ≡ done ++ d ∷ [] → i < length xs → x ≡ get_or xs i x → map h done ≡ map f (map g (take i xs)) → h d ≡ f (g x)
     → map h now ≡ map f (map g (take (i + 1) xs))
 more_alike h f g now done d xs i x is within read same alike =
-    let longer : take (i + 1) xs ≡ take i xs ++ x ∷ [] = take_more xs i x within ∙ ap (λ y. take i xs ++ y ∷ []) (sym read) in
-    let right : map f (map g (take (i + 1) xs)) ≡ map f (map g (take i xs)) ++ f (g x) ∷ [] = ap (λ ys. map f (map g ys)) longer ∙ ap (map f) (map_last g (take i xs) x) ∙ map_last f (map g (take i xs)) (g x) in
-    ap (map h) is ∙ map_last h done d ∙ (λ k. same k ++ alike k ∷ []) ∙ sym right
+    ap (map h) is ∙ map_last h done d ∙ (λ k. same k ++ alike k ∷ []) ∙ sym (seen_last f g xs i x within read)
+
+-- a list of what is seen, with one more
+pub more_seen : {A B C : Type 0} (f : B → C) (g : A → B) (now done : List C) (d : C) (xs : List A) (i : ℕ) (x : A) → now ≡ done ++ d ∷ [] → i < length xs → x ≡ get_or xs i x → done ≡ map f (map g (take i xs)) → d ≡ f (g x)
+    → now ≡ map f (map g (take (i + 1) xs))
+more_seen f g now done d xs i x is within read same alike =
+    is ∙ (λ k. same k ++ alike k ∷ []) ∙ sym (seen_last f g xs i x within read)
+
+-- the same of what is seen at once
+pub more_made : {A C : Type 0} (f : A → C) (now done : List C) (d : C) (xs : List A) (i : ℕ) (x : A) → now ≡ done ++ d ∷ [] → i < length xs → x ≡ get_or xs i x → done ≡ map f (take i xs) → d ≡ f x
+    → now ≡ map f (take (i + 1) xs)
+more_made f now done d xs i x is within read same alike =
+    is ∙ (λ k. same k ++ alike k ∷ []) ∙ sym (ap (map f) (taken_last xs i x within read) ∙ map_last f (take i xs) x)
+
+-- where no more is left, all is seen
+pub all_seen : {A B C : Type 0} (f : B → C) (g : A → B) (made : List C) (xs : List A) (i : ℕ) → length xs ≤ i → made ≡ map f (map g (take i xs)) → made ≡ map f (map g xs)
+all_seen f g made xs i past same = same ∙ ap (λ ys. map f (map g ys)) (take_all i xs past)
+
+pub all_made : {A C : Type 0} (f : A → C) (made : List C) (xs : List A) (i : ℕ) → length xs ≤ i → made ≡ map f (take i xs) → made ≡ map f xs
+all_made f made xs i past same = same ∙ ap (map f) (take_all i xs past)

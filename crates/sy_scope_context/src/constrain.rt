@@ -21,8 +21,10 @@ impl<T: Theory> Context<T> {
         ensures logic { OnOk result (self.new.logic ≡ self.old.logic) }
     {
         let phrase = self.read_in(alloc, Role::Constraint, &[], Sort::Bool, term)?;
-        note_literals(alloc, &mut self.pool, &phrase)?;
-        self.constraints.push(Condition::Written(phrase))?;
+        let noted = note_literals(alloc, &mut self.pool, &phrase);
+        let kept = self.constraints.push(Condition::Written(phrase));
+        noted?;
+        kept?;
         Ok(())
     }
 
@@ -33,8 +35,10 @@ impl<T: Theory> Context<T> {
         ensures logic { OnOk result (self.new.logic ≡ self.old.logic) }
     {
         let phrase = self.read_in(alloc, Role::Assumption, &[], Sort::Bool, term)?;
-        note_literals(alloc, &mut self.pool, &phrase)?;
-        self.assumptions.push(phrase)?;
+        let noted = note_literals(alloc, &mut self.pool, &phrase);
+        let kept = self.assumptions.push(phrase);
+        noted?;
+        kept?;
         Ok(())
     }
 }

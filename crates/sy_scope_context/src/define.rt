@@ -1,12 +1,15 @@
 // Definitions.
-ghost use Rattle.std.specs.Prelude.{◌≡◌, None, true, OnOk};
+ghost use Rattle.std.specs.Prelude.{◌≡◌, ◌++◌, ◌∷◌, [], None, true, OnOk};
 ghost use Rattle.sy_text.specs.Views.{item_of};
+ghost use Rattle.sy_terms.specs.declared.term.Fun.TheVariants as funs;
+ghost use Rattle.sy_forms_names.specs.declared.names.Entity.TheVariants as entity;
 ghost use Rattle.sy_forms_names.specs.Environments.{entry_under};
 ghost use Rattle.sy_forms_phrases.specs.Meant.{phrase_of};
 ghost use Rattle.sy_forms_phrases.specs.Measured.{measures_of};
 ghost use Rattle.sy_forms_phrases.specs.Measures.{is_within_limits, literals_in};
 ghost use Rattle.sy_forms_items.specs.Readings.{ReadingGives};
 ghost use Rattle.sy_terms.specs.Logics.{Serves};
+ghost use Rattle.sy_scope_rules.specs.Lists.{sorts_of_names};
 ghost use Rattle.sy_scope_pool.specs.Kept.{pool_of};
 ghost use Rattle.sy_scope_pool.specs.Pools.{pooled};
 ghost use Rattle.sy_scope_commands.specs.Asked.{spelled_of};
@@ -15,7 +18,7 @@ ghost use Rattle.sy_scope_steps.specs.Steps as spec;
 
 use crate::context::{Context, Definition};
 use std::alloc::Global;
-use sy_forms::{Entity, Measures, Phrase, ReadEnd, Role, copied, read_sort};
+use sy_forms::{Entity, Measures, Names, Phrase, ReadEnd, Role, copied, read_sort};
 use sy_scope_commands::Spelled;
 use sy_scope_pool::Pool;
 use sy_scope_rules::{Naming, read_named, sorts_of};
@@ -49,23 +52,53 @@ fn measure<T: Theory>(measures: &mut Measures, body: &Phrase<T>) -> Result<(), W
     Ok(())
 }
 
+/// Adds what a definition that has a new name and a small body declares, where there are so many before it.
+fn declare_definition<T: Theory>(
+    alloc: Global,
+    names: &mut Names,
+    measures: &mut Measures,
+    pool: &mut Pool<T>,
+    count: usize,
+    definition: &Definition<T>,
+) -> Result<(), Want>
+    requires new { entry_under definition.now.name names.old.entities ≡ None }
+    requires small { is_within_limits (measures_of measures.old) (phrase_of T.denotes definition.now.body) ≡ true }
+    ensures entities { OnOk result (names.new.entities ≡ names.old.entities ++ (definition.now.name, entity.Function (funs.Defined count) (sorts_of_names definition.now.arguments) definition.now.sort) ∷ []) }
+    ensures sorts { names.new.sorts ≡ names.old.sorts }
+    ensures measures { OnOk result (measures_of measures.new ≡ spec.measured (measures_of measures.old) (phrase_of T.denotes definition.now.body)) }
+    ensures pool { OnOk result (pool_of T.denotes pool.new ≡ pooled (pool_of T.denotes pool.old) (literals_in (phrase_of T.denotes definition.now.body))) }
+{
+    let Ok(number) = u32::try_from(count) else {
+        return Err(Want {});
+    };
+    let takes = sorts_of(alloc, definition.arguments.as_slice())?;
+    let entity = Entity::Function(Fun::Defined(number), takes, definition.sort);
+    names.add_entity(definition.name.as_slice(), entity)?;
+    measure(measures, &definition.body)?;
+    note_literals(alloc, pool, &definition.body)?;
+    Ok(())
+}
+
 impl<T: Theory> Context<T> {
-    /// Adds a definition that has a new name and a small body.
+    /// Adds a definition that has a new name and a small body. It stands in the list before any way out, so that nothing
+    /// of it is dropped here.
     fn add_definition(&mut self, alloc: Global, definition: Definition<T>) -> Result<(), Want>
         requires new { entry_under definition.name self.old.names.entities ≡ None }
         requires small { is_within_limits (measures_of self.old.measures) (phrase_of T.denotes definition.body) ≡ true }
         ensures step { OnOk result (context_of T.denotes self.new ≡ spec.with_definition (context_of T.denotes self.old) (definition_of T.denotes definition)) }
         ensures logic { OnOk result (self.new.logic ≡ self.old.logic) }
     {
-        let Ok(number) = u32::try_from(self.definitions.len()) else {
-            return Err(Want {});
-        };
-        let takes = sorts_of(alloc, definition.arguments.as_slice())?;
-        let entity = Entity::Function(Fun::Defined(number), takes, definition.sort);
-        self.names.add_entity(definition.name.as_slice(), entity)?;
-        measure(&mut self.measures, &definition.body)?;
-        note_literals(alloc, &mut self.pool, &definition.body)?;
-        self.definitions.push(definition)?;
+        let declared = declare_definition(
+            alloc,
+            &mut self.names,
+            &mut self.measures,
+            &mut self.pool,
+            self.definitions.len(),
+            &definition,
+        );
+        let kept = self.definitions.push(definition);
+        declared?;
+        kept?;
         Ok(())
     }
 
@@ -91,8 +124,8 @@ impl<T: Theory> Context<T> {
         };
         let arguments = read_named(alloc, &naming, arguments)?;
         let sort = read_sort(self.logic, &self.names, sort)?;
-        let body = self.read_in(alloc, Role::Body, arguments.as_slice(), sort, body)?;
         let name = copied(alloc, name.name)?;
+        let body = self.read_in(alloc, Role::Body, arguments.as_slice(), sort, body)?;
         self.add_definition(
             alloc,
             Definition {

@@ -175,6 +175,9 @@ impl<T: Theory> Context<T> {
         if first >= 1 << 31 {
             return Err(Want {});
         }
+        append(&mut self.variables, state)?;
+        append(&mut self.variables, state)?;
+        self.fresh += 2 * state.len();
         let three = expand(
             alloc,
             count,
@@ -184,12 +187,12 @@ impl<T: Theory> Context<T> {
             parts.invariant,
             first,
         )?;
-        append(&mut self.variables, state)?;
-        append(&mut self.variables, state)?;
-        self.fresh += 2 * state.len();
-        self.constraints.push(Condition::Expanded(three.starts))?;
-        self.constraints.push(Condition::Expanded(three.keeps))?;
-        self.constraints.push(Condition::Expanded(three.ends))?;
+        let starts = self.constraints.push(Condition::Expanded(three.starts));
+        let keeps = self.constraints.push(Condition::Expanded(three.keeps));
+        let ends = self.constraints.push(Condition::Expanded(three.ends));
+        starts?;
+        keeps?;
+        ends?;
         Ok(())
     }
 

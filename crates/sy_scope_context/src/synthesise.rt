@@ -1,28 +1,59 @@
 // Functions to be found.
-ghost use Rattle.std.specs.Prelude.{◌≡◌, None, OnOk, IfOk};
+ghost use Rattle.std.specs.Prelude.{◌≡◌, ◌++◌, ◌∷◌, [], None, OnOk, IfOk};
 ghost use Rattle.std.specs.Option.{option_map};
 ghost use Rattle.sy_text.specs.Views.{item_of};
 ghost use Rattle.sy_terms.specs.Denoted.{vals_of};
+ghost use Rattle.sy_terms.specs.declared.term.Fun.TheVariants as funs;
+ghost use Rattle.sy_forms_names.specs.declared.names.Entity.TheVariants as entity;
 ghost use Rattle.sy_forms_names.specs.Environments.{entry_under};
 ghost use Rattle.sy_forms_items.specs.Readings.{ReadingGives};
 ghost use Rattle.sy_terms.specs.Logics.{Serves};
 ghost use Rattle.sy_scope_commands.specs.Asked.{spelled_of, rulebook_of};
+ghost use Rattle.sy_scope_rules.specs.Lists.{sorts_of_names};
+ghost use Rattle.sy_scope_pool.specs.Kept.{pool_of};
+ghost use Rattle.sy_scope_pool.specs.Pools.{pooled};
 ghost use Rattle.sy_scope_steps.specs.Contexts as contexts;
 ghost use Rattle.sy_scope_context.specs.Seen.{context_of, sought_of, ruled_of};
 ghost use Rattle.sy_scope_steps.specs.Steps as spec;
 
 use crate::context::{Context, Ruled, Sought};
 use std::alloc::Global;
-use sy_forms::{Entity, Named, ReadEnd, copied, read_sort};
+use sy_forms::{Entity, Named, Names, ReadEnd, copied, read_sort};
 use sy_scope_causes::Cause;
 use sy_scope_commands::{Rulebook, Spelled};
+use sy_scope_pool::Pool;
 use sy_scope_rules::{Naming, read_named, read_rulebook, sorts_of};
 use sy_scope_steps::new_name;
-use sy_terms::{Fun, Seq, Sort, Theory, Values, Want};
+use sy_terms::{Fun, Seq, Sort, Theory, Value, Want};
 use sy_text::{Sexp, Sexps};
 
 /// How many functions to be found a file may have.
 const SOUGHT_MAX: usize = 4;
+
+/// Adds what a function to be found that has a new name declares, where there are so many before it, and the values that
+/// its grammar writes.
+fn declare_sought<T: Theory>(
+    alloc: Global,
+    names: &mut Names,
+    pool: &mut Pool<T>,
+    count: usize,
+    sought: &Sought<T>,
+    values: &[Value<T::Num>],
+) -> Result<(), Want>
+    requires { entry_under sought.now.name names.old.entities ≡ None }
+    ensures entities { OnOk result (names.new.entities ≡ names.old.entities ++ (sought.now.name, entity.Function (funs.Wanted count) (sorts_of_names sought.now.arguments) sought.now.sort) ∷ []) }
+    ensures sorts { names.new.sorts ≡ names.old.sorts }
+    ensures pool { OnOk result (pool_of T.denotes pool.new ≡ pooled (pool_of T.denotes pool.old) (vals_of T.denotes values.now)) }
+{
+    let Ok(number) = u32::try_from(count) else {
+        return Err(Want {});
+    };
+    let takes = sorts_of(alloc, sought.arguments.as_slice())?;
+    let entity = Entity::Function(Fun::Wanted(number), takes, sought.sort);
+    names.add_entity(sought.name.as_slice(), entity)?;
+    pool.add(values)?;
+    Ok(())
+}
 
 impl<T: Theory> Context<T> {
     /// The grammar that is written, if any, of a function with these arguments and of this sort.
@@ -68,25 +99,29 @@ impl<T: Theory> Context<T> {
         }
     }
 
-    /// Adds a function to be found that has a new name, and the values that its grammar writes.
+    /// Adds a function to be found that has a new name, and the values that its grammar writes. It stands in the list
+    /// before any way out, so that nothing of it is dropped here.
     fn add_sought(
         &mut self,
         alloc: Global,
         sought: Sought<T>,
-        values: Values<T>,
+        values: &[Value<T::Num>],
     ) -> Result<(), Want>
         requires { entry_under sought.name self.old.names.entities ≡ None }
-        ensures step { OnOk result (context_of T.denotes self.new ≡ spec.with_sought (context_of T.denotes self.old) (sought_of T.denotes self.old.logic sought) (vals_of T.denotes values)) }
+        ensures step { OnOk result (context_of T.denotes self.new ≡ spec.with_sought (context_of T.denotes self.old) (sought_of T.denotes self.old.logic sought) (vals_of T.denotes values.now)) }
         ensures logic { OnOk result (self.new.logic ≡ self.old.logic) }
     {
-        let Ok(number) = u32::try_from(self.sought.len()) else {
-            return Err(Want {});
-        };
-        let takes = sorts_of(alloc, sought.arguments.as_slice())?;
-        let entity = Entity::Function(Fun::Wanted(number), takes, sought.sort);
-        self.names.add_entity(sought.name.as_slice(), entity)?;
-        self.pool.add(values.as_slice())?;
-        self.sought.push(sought)?;
+        let declared = declare_sought(
+            alloc,
+            &mut self.names,
+            &mut self.pool,
+            self.sought.len(),
+            &sought,
+            values,
+        );
+        let kept = self.sought.push(sought);
+        declared?;
+        kept?;
         Ok(())
     }
 
@@ -122,15 +157,17 @@ impl<T: Theory> Context<T> {
         };
         let arguments = read_named(alloc, &naming, arguments)?;
         let sort = self.value_sort(sort)?;
-        let ruled = self.read_grammar(alloc, arguments.as_slice(), sort, rules)?;
         let name = copied(alloc, name.name)?;
+        let ruled = self.read_grammar(alloc, arguments.as_slice(), sort, rules)?;
         let sought = Sought {
             name,
             arguments,
             sort,
             groups: ruled.groups,
         };
-        self.add_sought(alloc, sought, ruled.values)?;
+        let added = self.add_sought(alloc, sought, ruled.values.as_slice());
+        drop(ruled.values);
+        added?;
         Ok(())
     }
 }
