@@ -11,10 +11,10 @@ rounds-init g c =
     record {
       known = rw c.new.ensures (nothing_known c.args.reach (question_of g.T.Theory.denotes c.args.problem.now) c.args.limits.now c.in_ok-new.field-0 c.len-functions.result all c.in_ok-new.ensures.tuples c.in_ok-new.ensures.limit);
       room = rw c.new.ensures (omega (arith, c.if-limits-eq0.false));
-      within = c.first_size.ensures.within;
+      within = c.first_size-level.ensures.within;
       plan = c.in_ok-plan.ensures;
-      carried = rw c.new-banks.ensures.items (none_carried g.T.Theory.owned g.T.Theory.denotes c.args.problem.now c.args.limits.now c.first_size.result);
-      done = c.first_size.ensures.done c.args.reach (question_of g.T.Theory.denotes c.args.problem.now) _ _;
+      carried = rw c.new-banks.ensures.items (none_carried g.T.Theory.owned g.T.Theory.denotes c.args.problem.now c.args.limits.now c.first_size-level.result);
+      done = c.first_size-level.ensures.done c.args.reach (question_of g.T.Theory.denotes c.args.problem.now) _ _;
     }
 
 pub run_round-requires-clause-functions : goal.run_round-requires-clause-functions
