@@ -41,7 +41,7 @@ use Rattle.sy_loop.specs.Banks.{IsBankOf, IsWholeOf, IsFullOf, AreBanks, BanksAr
 use Rattle.sy_loop_outcome.specs.Right.{HasLeftRange}
 use Rattle.sy_loop_outcome.specs.declared.outcome.LoopRange.{LoopRange}
 use Rattle.sy_loop_outcome.specs.declared.outcome.LoopRange.TheVariants.{Member, Checked}
-use Rattle.sy_loop_drop.specs.Dropping.{IsPlaced, IsDroppedBy}
+use Rattle.sy_loop_claims.specs.Dropping.{IsPlaced, IsDroppedBy}
 use Rattle.sy_bank_level.proofs.Kept.{at-end}
 
 -- a function's grammar fits

@@ -14,7 +14,7 @@ use sy_bank::Bank;
 use sy_grammar_base::Problem;
 use sy_loop_bounds::Reach;
 use sy_loop_candidate::Known;
-use sy_loop_drop::term_of;
+use sy_loop_claims::term_of;
 use sy_loop_outcome::LoopRange;
 use sy_query_limits::Limits;
 use sy_terms::{Theory, Want};

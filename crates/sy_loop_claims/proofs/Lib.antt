@@ -1,2 +1,3 @@
+mod Losing
 pub mod Beginning
 pub mod Summing

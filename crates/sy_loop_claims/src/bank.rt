@@ -1,5 +1,4 @@
 // A bank of one function to be found, up to a size.
-#![tactic(auto)]
 
 ghost use Rattle.std.specs.Prelude.{◌≡◌, true, map, IfOk};
 ghost use Rattle.sy_terms.specs.Denoted.{vals_of};

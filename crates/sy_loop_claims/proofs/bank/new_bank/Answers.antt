@@ -1,4 +1,4 @@
-use Rattle.sy_loop_build.proofs.new_bank.Goals as goal
+use Rattle.sy_loop_claims.proofs.bank.new_bank.Goals as goal
 
 pub returns-clause-bank : goal.returns-clause-bank
 returns-clause-bank g c = c.build.ensures.bank

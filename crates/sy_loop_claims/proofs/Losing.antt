@@ -14,7 +14,7 @@ use Rattle.sy_bank.specs.Bank.{merged_of}
 use Rattle.sy_bank.specs.declared.bank.Bank.{Bank}
 use Rattle.sy_loop_outcome.specs.declared.outcome.LoopRange.{LoopRange}
 use Rattle.sy_loop_outcome.specs.declared.outcome.LoopRange.TheVariants.{Member}
-use Rattle.sy_loop_drop.specs.Dropping.{IsPlaced, IsDroppedBy}
+use Rattle.sy_loop_claims.specs.Dropping.{IsPlaced, IsDroppedBy}
 
 pub dropped_by : {T N : Type 0} (number : N → Val) (function : ℕ) (bank : Bank T N) (points : List (List (Value N))) (dropped : Dropped T N) (tuple copy : List (Value N)) (term : Term T N) → map (vals_of number) points ≡ (merged_of number bank).points → Some (lost_of number dropped) ≡ (merged_of number bank).dropped →
     dropped.point < length points → tuple ≡ get_or points dropped.point tuple → copy ≡ tuple → expr_of number term ≡ expr_of number dropped.term → let left : LoopRange T N = Member function term copy in IsDroppedBy number function (merged_of number bank) left

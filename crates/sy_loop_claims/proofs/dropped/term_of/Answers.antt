@@ -1,5 +1,5 @@
-use Rattle.sy_loop_drop.proofs.Losing.{dropped_by, placed_within}
-use Rattle.sy_loop_drop.proofs.dropped.term_of.Goals as goal
+use Rattle.sy_loop_claims.proofs.Losing.{dropped_by, placed_within}
+use Rattle.sy_loop_claims.proofs.dropped.term_of.Goals as goal
 
 pub bounds-points-place : goal.bounds-points-place
 bounds-points-place g c = placed_within g.T.Theory.denotes c.args.bank.now c.points-points.result.now c.in-Some.dropped.now c.requires c.in-Some.ensures c.points-points.ensures
