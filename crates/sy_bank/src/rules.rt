@@ -9,12 +9,11 @@ ghost use Rattle.sy_bank_offer.specs.Tasks.{IsTask, IsRule};
 ghost use Rattle.sy_bank_laws.specs.Tried.{IsTried, AllAreTried, IsFilled};
 
 use std::rc::Rc;
-use sy_bank_chains::pass_chains;
 use sy_bank_leaves::{LeafRule, constants, variables};
 use sy_bank_level::{Filling, Stop, Task};
 use sy_bank_offer::Template;
 use sy_bank_rows::copied_part;
-use sy_bank_rules::choose;
+use sy_bank_rules::{choose, pass_chains};
 use sy_grammar_base::{Part, Rule};
 use sy_terms::Theory;
 

@@ -1,3 +1,5 @@
 pub mod Begun
+pub mod Entries
 pub mod Items
 pub mod Least
+pub mod Passed

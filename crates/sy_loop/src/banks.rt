@@ -19,8 +19,8 @@ use sy_bank::{Bank, BankEnd};
 use sy_bank_rows::Kept;
 use sy_grammar_base::{Problem, Wanted};
 use sy_loop_bounds::Reach;
-use sy_loop_claims::new_bank;
 use sy_loop_candidate::Known;
+use sy_loop_claims::new_bank;
 use sy_query_limits::Limits;
 use sy_terms::{Seq, Theory, Values, Want, same_values};
 

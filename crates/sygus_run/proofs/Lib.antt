@@ -1,5 +1,7 @@
 pub mod Answerable
 pub mod Beyond
+pub mod Closed
+pub mod Counting
 pub mod Drilled
 pub mod Drilling
 pub mod Ends

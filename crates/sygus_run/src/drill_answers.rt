@@ -6,13 +6,14 @@ ghost use Rattle.sy_grammar_base.specs.Fits.{ProblemFits};
 ghost use Rattle.sy_grammar_base.specs.Questions.{question_of};
 ghost use Rattle.sygus_drill.specs.Examples as made;
 ghost use Rattle.sygus_drill.specs.Lines as lines;
-ghost use Rattle.sygus_drill_count.specs.Counts.{AlwaysFit};
+ghost use Rattle.sygus_run.specs.Counts.{AlwaysFit};
 ghost use Rattle.sygus_drill_laws.specs.Asked.{AsksFor};
 ghost use Rattle.sygus_replies.specs.Replies.{IsSettled, IsFail, reply_for, replies_for};
 ghost use Rattle.sygus_words.specs.declared.settings.Mode.TheVariants as modes;
 ghost use Rattle.sygus_run.specs.RightAnswers.{RightOutcomeFor};
 ghost use Rattle.sygus_run.specs.DrillAnswers.{AnswersDrill, HasSolution, drill_end};
 
+use crate::count::count_met;
 use crate::problems::{Solved, sought, status_of};
 use crate::synthesis::discard;
 use std::alloc::Global;
@@ -23,7 +24,6 @@ use sy_query_decide::Decide;
 use sy_query_limits::Limits;
 use sy_terms::{Seq, Theory, Want};
 use sygus_drill::{DrillEnd, drill_line};
-use sygus_drill_count::count_met;
 use sygus_words::Mode;
 
 /// Answers the problem of a number's file by the search of mode `solve`, and writes the line that tells how the drill

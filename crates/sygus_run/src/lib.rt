@@ -2,6 +2,7 @@
 #![tactic(auto)]
 
 mod answers;
+mod count;
 mod drill_answers;
 mod drills;
 mod file;

@@ -3,7 +3,7 @@ use Rattle.std.proofs.lemmas.List.{length-map}
 use Rattle.sy_terms.specs.Denoted.{expr_of}
 use Rattle.sy_grammar_base.specs.Questions.{question_of}
 use Rattle.sygus_drill.specs.declared.line.DrillEnd.TheVariants.{Met}
-use Rattle.sygus_drill_count.proofs.Counting.{all_met}
+use Rattle.sygus_run.proofs.Counting.{all_met}
 use Rattle.sygus_run.proofs.drill_answers.end_of.Goals as goal
 
 pub count_met-requires-clause-members : goal.count_met-requires-clause-members
