@@ -7,9 +7,9 @@ use Rattle.sy_terms.specs.Meaning.{Function}
 use Rattle.sy_grammar_base.specs.Trees.{Syntax}
 use Rattle.sy_bank_rows.specs.Banks.{Entry, Lost, Merged, IsDropped}
 use Rattle.sy_bank.specs.Answers.{OnBank, IfFull}
-use Rattle.sy_bank.specs.Bank.{merged_of}
+use Rattle.sy_bank_level.specs.Bank.{merged_of}
 use Rattle.sy_bank.specs.Promised.{IsBank, BankIsFull, IsNextBank, Stays}
-use Rattle.sy_bank.specs.declared.bank.Bank.{Bank}
+use Rattle.sy_bank_level.specs.declared.bank.Bank.{Bank}
 use Rattle.sy_bank.specs.declared.bank.BankEnd.{BankEnd}
 use Rattle.sy_bank.specs.declared.bank.BankEnd.TheVariants.{Full, Want}
 

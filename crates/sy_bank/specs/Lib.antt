@@ -1,5 +1,4 @@
 pub mod Answers
-pub mod Bank
 pub mod Promised
 pub use Rattle.sy_bank_rows.specs.Banks
 pub use Rattle.sy_bank_rows.specs.Covering

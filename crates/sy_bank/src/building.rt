@@ -8,12 +8,13 @@ ghost use Rattle.sy_grammar_base.specs.Grown.{syntax_from};
 ghost use Rattle.sy_bank_rows.specs.Banks.{kept_count};
 ghost use Rattle.sy_bank_rows.specs.Rows.{ArePointsOf};
 ghost use Rattle.sy_bank.specs.Answers.{OnBank, IfFull, BankIsBuilt};
-ghost use Rattle.sy_bank.specs.Bank.{merged_of};
+ghost use Rattle.sy_bank_level.specs.Bank.{merged_of};
 ghost use Rattle.sy_bank.specs.Promised.{IsBank, BankIsWhole, BankIsFull, Stays};
 
-use crate::bank::{Bank, BankEnd};
+use crate::bank::BankEnd;
+use crate::growing::all_sizes;
 use std::alloc::Global;
-use sy_bank_level::Table;
+use sy_bank_level::{Bank, Table};
 use sy_grammar_base::Grammar;
 use sy_terms::{Defs, Seq, Theory, Values, Want, copied_values};
 
@@ -56,37 +57,35 @@ pub fn build<T: Theory>(
         count: 0,
         dropped: None,
     };
-    let whole = bank.all_sizes(alloc, grammar, defs, pool, cap)?;
+    let whole = all_sizes(alloc, bank, grammar, defs, pool, cap)?;
     Ok(whole)
 }
 
-impl<T: Theory> Bank<T> {
-    /// What `build` answers on the bank's points with the new numbers; the kept terms stay where they stood.
-    pub fn grow(
-        self,
-        alloc: Global,
-        grammar: &Grammar<T>,
-        defs: &Defs<T>,
-        pool: &Values<T>,
-        upto: u32,
-        cap: u32,
-    ) -> Result<Bank<T>, BankEnd<T>>
-        requires definitions { DefinitionsFit T.owned T.denotes defs.now }
-        requires formed { is_formed T.numeric (scope_of T.owned defs.now) (syntax_from T.denotes grammar.now) ≡ true }
-        requires points { ArePointsOf grammar.now.args (merged_of T.denotes self).points }
-        requires built { BankIsBuilt T.denotes (scope_of T.owned defs.now) (syntax_from T.denotes grammar.now) (functions (bodies T.denotes defs.now)) (vals_of T.denotes pool.now) self }
-        requires none_lost { (merged_of T.denotes self).dropped ≡ None }
-        requires larger { self.upto ≤ upto }
-        requires room { kept_count (merged_of T.denotes self).levels ≤ cap }
-        ensures bank { OnBank T.denotes result (IsBank (syntax_from T.denotes grammar.now) (functions (bodies T.denotes defs.now)) (vals_of T.denotes pool.now) (merged_of T.denotes self).points upto cap) }
-        ensures whole { IfOk result (λ bank. BankIsWhole (syntax_from T.denotes grammar.now) (functions (bodies T.denotes defs.now)) (vals_of T.denotes pool.now) (merged_of T.denotes bank)) }
-        ensures full { IfFull T.denotes result (BankIsFull (syntax_from T.denotes grammar.now) (functions (bodies T.denotes defs.now)) (vals_of T.denotes pool.now) cap) }
-        ensures built { IfOk result (BankIsBuilt T.denotes (scope_of T.owned defs.now) (syntax_from T.denotes grammar.now) (functions (bodies T.denotes defs.now)) (vals_of T.denotes pool.now)) }
-        ensures stays { OnBank T.denotes result (Stays (merged_of T.denotes self)) }
-    {
-        let mut bank = self;
-        bank.upto = upto;
-        let whole = bank.all_sizes(alloc, grammar, defs, pool, cap)?;
-        Ok(whole)
-    }
+/// What `build` answers on the bank's points with the new numbers; the kept terms stay where they stood.
+pub fn grow<T: Theory>(
+    alloc: Global,
+    begun: Bank<T>,
+    grammar: &Grammar<T>,
+    defs: &Defs<T>,
+    pool: &Values<T>,
+    upto: u32,
+    cap: u32,
+) -> Result<Bank<T>, BankEnd<T>>
+    requires definitions { DefinitionsFit T.owned T.denotes defs.now }
+    requires formed { is_formed T.numeric (scope_of T.owned defs.now) (syntax_from T.denotes grammar.now) ≡ true }
+    requires points { ArePointsOf grammar.now.args (merged_of T.denotes begun).points }
+    requires built { BankIsBuilt T.denotes (scope_of T.owned defs.now) (syntax_from T.denotes grammar.now) (functions (bodies T.denotes defs.now)) (vals_of T.denotes pool.now) begun }
+    requires none_lost { (merged_of T.denotes begun).dropped ≡ None }
+    requires larger { begun.upto ≤ upto }
+    requires room { kept_count (merged_of T.denotes begun).levels ≤ cap }
+    ensures bank { OnBank T.denotes result (IsBank (syntax_from T.denotes grammar.now) (functions (bodies T.denotes defs.now)) (vals_of T.denotes pool.now) (merged_of T.denotes begun).points upto cap) }
+    ensures whole { IfOk result (λ bank. BankIsWhole (syntax_from T.denotes grammar.now) (functions (bodies T.denotes defs.now)) (vals_of T.denotes pool.now) (merged_of T.denotes bank)) }
+    ensures full { IfFull T.denotes result (BankIsFull (syntax_from T.denotes grammar.now) (functions (bodies T.denotes defs.now)) (vals_of T.denotes pool.now) cap) }
+    ensures built { IfOk result (BankIsBuilt T.denotes (scope_of T.owned defs.now) (syntax_from T.denotes grammar.now) (functions (bodies T.denotes defs.now)) (vals_of T.denotes pool.now)) }
+    ensures stays { OnBank T.denotes result (Stays (merged_of T.denotes begun)) }
+{
+    let mut bank = begun;
+    bank.upto = upto;
+    let whole = all_sizes(alloc, bank, grammar, defs, pool, cap)?;
+    Ok(whole)
 }

@@ -11,13 +11,13 @@ ghost use Rattle.sy_bank_rows.specs.Stored.{lost_of};
 ghost use Rattle.sy_bank_level.specs.Task.{level_of, levels_of};
 ghost use Rattle.sy_bank_rows.specs.Rows.{ArePointsOf};
 ghost use Rattle.sy_bank.specs.Answers.{OnBank, IfFull, BankIsBuilt};
-ghost use Rattle.sy_bank.specs.Bank.{merged_of};
+ghost use Rattle.sy_bank_level.specs.Bank.{merged_of};
 ghost use Rattle.sy_bank.specs.Promised.{IsBank, BankIsWhole, BankIsFull, IsNextBank, Stays};
 
-use crate::bank::{Bank, BankEnd};
+use crate::bank::BankEnd;
 use crate::rules::fill;
 use std::alloc::Global;
-use sy_bank_level::{Filling, Level, Stop, Task};
+use sy_bank_level::{Bank, Filling, Level, Stop, Task};
 use sy_grammar_base::Grammar;
 use sy_terms::{Defs, Seq, Theory, Values, Want};
 
@@ -44,95 +44,91 @@ fn closed<T: Theory>(
     })
 }
 
-impl<T: Theory> Bank<T> {
-    /// Adds the kept terms of the next size.
-    pub(crate) fn next_size(
-        self,
-        alloc: Global,
-        grammar: &Grammar<T>,
-        defs: &Defs<T>,
-        pool: &Values<T>,
-        cap: u32,
-    ) -> Result<Bank<T>, BankEnd<T>>
-        requires definitions { DefinitionsFit T.owned T.denotes defs.now }
-        requires formed { is_formed T.numeric (scope_of T.owned defs.now) (syntax_from T.denotes grammar.now) ≡ true }
-        requires points { ArePointsOf grammar.now.args (merged_of T.denotes self).points }
-        requires built { BankIsBuilt T.denotes (scope_of T.owned defs.now) (syntax_from T.denotes grammar.now) (functions (bodies T.denotes defs.now)) (vals_of T.denotes pool.now) self }
-        requires none_lost { (merged_of T.denotes self).dropped ≡ None }
-        requires open { length self.levels.items ≤ self.upto }
-        requires room { kept_count (merged_of T.denotes self).levels ≤ cap }
-        ensures next { OnBank T.denotes result (IsNextBank (syntax_from T.denotes grammar.now) (functions (bodies T.denotes defs.now)) (vals_of T.denotes pool.now) cap (merged_of T.denotes self)) }
-        ensures built { IfOk result (BankIsBuilt T.denotes (scope_of T.owned defs.now) (syntax_from T.denotes grammar.now) (functions (bodies T.denotes defs.now)) (vals_of T.denotes pool.now)) }
-        ensures full { IfFull T.denotes result (BankIsFull (syntax_from T.denotes grammar.now) (functions (bodies T.denotes defs.now)) (vals_of T.denotes pool.now) cap) }
-    {
-        let Bank {
-            points,
-            upto,
-            levels,
-            table,
-            count,
-            dropped,
-        } = self;
-        let mut filling = Filling {
-            fresh: Level::new(alloc, grammar.nons().len())?,
-            table,
-            count,
-            dropped,
-        };
-        let task = Task {
-            alloc,
-            grammar,
-            defs,
-            pool,
-            points: points.as_slice(),
-            levels: levels.as_slice(),
-            size: levels.len() as u32,
-            cap: cap as usize,
-        };
-        match fill(&task, &mut filling) {
-            Ok(()) => {
-                let bank = closed(points, upto, levels, filling)?;
-                Ok(bank)
-            }
-            Err(Stop::Enough) => {
-                let bank = closed(points, upto, levels, filling)?;
-                Ok(bank)
-            }
-            Err(Stop::Full(nonterminal, next)) => {
-                let bank = closed(points, upto, levels, filling)?;
-                Err(BankEnd::Full(bank, nonterminal, next))
-            }
-            Err(Stop::Want) => Err(BankEnd::Want),
+/// Adds the kept terms of the next size.
+pub(crate) fn next_size<T: Theory>(
+    alloc: Global,
+    begun: Bank<T>,
+    grammar: &Grammar<T>,
+    defs: &Defs<T>,
+    pool: &Values<T>,
+    cap: u32,
+) -> Result<Bank<T>, BankEnd<T>>
+    requires definitions { DefinitionsFit T.owned T.denotes defs.now }
+    requires formed { is_formed T.numeric (scope_of T.owned defs.now) (syntax_from T.denotes grammar.now) ≡ true }
+    requires points { ArePointsOf grammar.now.args (merged_of T.denotes begun).points }
+    requires built { BankIsBuilt T.denotes (scope_of T.owned defs.now) (syntax_from T.denotes grammar.now) (functions (bodies T.denotes defs.now)) (vals_of T.denotes pool.now) begun }
+    requires none_lost { (merged_of T.denotes begun).dropped ≡ None }
+    requires open { length begun.levels.items ≤ begun.upto }
+    requires room { kept_count (merged_of T.denotes begun).levels ≤ cap }
+    ensures next { OnBank T.denotes result (IsNextBank (syntax_from T.denotes grammar.now) (functions (bodies T.denotes defs.now)) (vals_of T.denotes pool.now) cap (merged_of T.denotes begun)) }
+    ensures built { IfOk result (BankIsBuilt T.denotes (scope_of T.owned defs.now) (syntax_from T.denotes grammar.now) (functions (bodies T.denotes defs.now)) (vals_of T.denotes pool.now)) }
+    ensures full { IfFull T.denotes result (BankIsFull (syntax_from T.denotes grammar.now) (functions (bodies T.denotes defs.now)) (vals_of T.denotes pool.now) cap) }
+{
+    let Bank {
+        points,
+        upto,
+        levels,
+        table,
+        count,
+        dropped,
+    } = begun;
+    let mut filling = Filling {
+        fresh: Level::new(alloc, grammar.nons().len())?,
+        table,
+        count,
+        dropped,
+    };
+    let task = Task {
+        alloc,
+        grammar,
+        defs,
+        pool,
+        points: points.as_slice(),
+        levels: levels.as_slice(),
+        size: levels.len() as u32,
+        cap: cap as usize,
+    };
+    match fill(&task, &mut filling) {
+        Ok(()) => {
+            let bank = closed(points, upto, levels, filling)?;
+            Ok(bank)
         }
+        Err(Stop::Enough) => {
+            let bank = closed(points, upto, levels, filling)?;
+            Ok(bank)
+        }
+        Err(Stop::Full(nonterminal, next)) => {
+            let bank = closed(points, upto, levels, filling)?;
+            Err(BankEnd::Full(bank, nonterminal, next))
+        }
+        Err(Stop::Want) => Err(BankEnd::Want),
     }
 }
 
-impl<T: Theory> Bank<T> {
-    /// Adds the kept terms of all sizes that are missing, until one is dropped.
-    pub(crate) fn all_sizes(
-        self,
-        alloc: Global,
-        grammar: &Grammar<T>,
-        defs: &Defs<T>,
-        pool: &Values<T>,
-        cap: u32,
-    ) -> Result<Bank<T>, BankEnd<T>>
-        requires definitions { DefinitionsFit T.owned T.denotes defs.now }
-        requires formed { is_formed T.numeric (scope_of T.owned defs.now) (syntax_from T.denotes grammar.now) ≡ true }
-        requires points { ArePointsOf grammar.now.args (merged_of T.denotes self).points }
-        requires built { BankIsBuilt T.denotes (scope_of T.owned defs.now) (syntax_from T.denotes grammar.now) (functions (bodies T.denotes defs.now)) (vals_of T.denotes pool.now) self }
-        requires room { kept_count (merged_of T.denotes self).levels ≤ cap }
-        ensures bank { OnBank T.denotes result (IsBank (syntax_from T.denotes grammar.now) (functions (bodies T.denotes defs.now)) (vals_of T.denotes pool.now) (merged_of T.denotes self).points self.upto cap) }
-        ensures whole { IfOk result (λ bank. BankIsWhole (syntax_from T.denotes grammar.now) (functions (bodies T.denotes defs.now)) (vals_of T.denotes pool.now) (merged_of T.denotes bank)) }
-        ensures full { IfFull T.denotes result (BankIsFull (syntax_from T.denotes grammar.now) (functions (bodies T.denotes defs.now)) (vals_of T.denotes pool.now) cap) }
-        ensures built { IfOk result (BankIsBuilt T.denotes (scope_of T.owned defs.now) (syntax_from T.denotes grammar.now) (functions (bodies T.denotes defs.now)) (vals_of T.denotes pool.now)) }
-        ensures stays { OnBank T.denotes result (Stays (merged_of T.denotes self)) }
-    {
-        let upto = self.upto as usize;
-        let mut bank = self;
-        while bank.dropped.is_none() && bank.levels.len() <= upto {
-            bank = bank.next_size(alloc, grammar, defs, pool, cap)?;
-        }
-        Ok(bank)
+/// Adds the kept terms of all sizes that are missing, until one is dropped.
+pub(crate) fn all_sizes<T: Theory>(
+    alloc: Global,
+    begun: Bank<T>,
+    grammar: &Grammar<T>,
+    defs: &Defs<T>,
+    pool: &Values<T>,
+    cap: u32,
+) -> Result<Bank<T>, BankEnd<T>>
+    requires definitions { DefinitionsFit T.owned T.denotes defs.now }
+    requires formed { is_formed T.numeric (scope_of T.owned defs.now) (syntax_from T.denotes grammar.now) ≡ true }
+    requires points { ArePointsOf grammar.now.args (merged_of T.denotes begun).points }
+    requires built { BankIsBuilt T.denotes (scope_of T.owned defs.now) (syntax_from T.denotes grammar.now) (functions (bodies T.denotes defs.now)) (vals_of T.denotes pool.now) begun }
+    requires room { kept_count (merged_of T.denotes begun).levels ≤ cap }
+    ensures bank { OnBank T.denotes result (IsBank (syntax_from T.denotes grammar.now) (functions (bodies T.denotes defs.now)) (vals_of T.denotes pool.now) (merged_of T.denotes begun).points begun.upto cap) }
+    ensures whole { IfOk result (λ bank. BankIsWhole (syntax_from T.denotes grammar.now) (functions (bodies T.denotes defs.now)) (vals_of T.denotes pool.now) (merged_of T.denotes bank)) }
+    ensures full { IfFull T.denotes result (BankIsFull (syntax_from T.denotes grammar.now) (functions (bodies T.denotes defs.now)) (vals_of T.denotes pool.now) cap) }
+    ensures built { IfOk result (BankIsBuilt T.denotes (scope_of T.owned defs.now) (syntax_from T.denotes grammar.now) (functions (bodies T.denotes defs.now)) (vals_of T.denotes pool.now)) }
+    ensures stays { OnBank T.denotes result (Stays (merged_of T.denotes begun)) }
+{
+    let upto = begun.upto as usize;
+    let mut bank = begun;
+    while bank.dropped.is_none() && bank.levels.len() <= upto {
+        bank = next_size(alloc, bank, grammar, defs, pool, cap)?;
     }
+    Ok(bank)
 }

@@ -6,6 +6,7 @@ mod building;
 mod growing;
 mod rules;
 
-pub use bank::{Bank, BankEnd};
-pub use building::build;
+pub use bank::BankEnd;
+pub use building::{build, grow};
+pub use sy_bank_level::Bank;
 pub use sy_bank_rows::{Dropped, Kept};

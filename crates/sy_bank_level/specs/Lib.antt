@@ -1,3 +1,4 @@
+pub mod Bank
 pub mod Filling
 pub mod Hashing
 pub mod Places

@@ -10,8 +10,8 @@ use Rattle.sy_query_limits.specs.declared.Limits.{Limits}
 use Rattle.sy_points.specs.Asked.{Asked}
 use Rattle.sy_bank_rows.specs.Banks.{Entry, Merged, IsKept}
 use Rattle.sy_bank_rows.specs.Columns.{HasRow}
-use Rattle.sy_bank.specs.Bank.{merged_of}
-use Rattle.sy_bank.specs.declared.bank.Bank.{Bank}
+use Rattle.sy_bank_level.specs.Bank.{merged_of}
+use Rattle.sy_bank_level.specs.declared.bank.Bank.{Bank}
 use Rattle.sy_loop.specs.Banks.{AreBanks, AreCarried}
 use Rattle.sy_loop.specs.Levels.{AreHonest}
 

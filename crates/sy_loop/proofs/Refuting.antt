@@ -14,8 +14,8 @@ use Rattle.sy_bank_rows.specs.Banks.{Entry, Merged, kept_at}
 use Rattle.sy_bank_rows.specs.Covering.{terms}
 use Rattle.sy_bank_rows.specs.Stored.{entry_of, entries_of, chosen_of}
 use Rattle.sy_bank_rows.specs.declared.kept.Kept.{Kept}
-use Rattle.sy_bank.specs.Bank.{merged_of}
-use Rattle.sy_bank.specs.declared.bank.Bank.{Bank}
+use Rattle.sy_bank_level.specs.Bank.{merged_of}
+use Rattle.sy_bank_level.specs.declared.bank.Bank.{Bank}
 use Rattle.sy_loop_history.specs.Histories.{Counterexample}
 use Rattle.sy_loop_history.specs.Trials.{IsRefuted}
 use Rattle.sy_loop.specs.Levels.{AreKeptBodies, AllAreRefuted}

@@ -14,9 +14,9 @@ use Rattle.sy_points.specs.Asked.{Asked, of_function}
 use Rattle.sy_bank_rows.specs.Banks.{Entry, Merged, kept_count}
 use Rattle.sy_bank_rows.specs.Stored.{entry_of}
 use Rattle.sy_bank.specs.Answers.{BankIsBuilt}
-use Rattle.sy_bank.specs.Bank.{merged_of}
+use Rattle.sy_bank_level.specs.Bank.{merged_of}
 use Rattle.sy_bank.specs.Promised.{IsBank, BankIsWhole, BankIsFull}
-use Rattle.sy_bank.specs.declared.bank.Bank.{Bank}
+use Rattle.sy_bank_level.specs.declared.bank.Bank.{Bank}
 use Rattle.sy_bank.specs.declared.bank.BankEnd.{BankEnd}
 use Rattle.sy_bank.specs.declared.bank.BankEnd.TheVariants as ends
 use Rattle.sy_loop.specs.declared.banks.Banks.{Banks}

@@ -8,8 +8,8 @@ use Rattle.sy_grammar_base.specs.Solving.{AreWithin}
 use Rattle.sy_grammar_base.specs.declared.problem.Problem.{Problem}
 use Rattle.sy_points.specs.Asked.{Asked}
 use Rattle.sy_bank_rows.specs.Banks.{Entry, Merged}
-use Rattle.sy_bank.specs.Bank.{merged_of}
-use Rattle.sy_bank.specs.declared.bank.Bank.{Bank}
+use Rattle.sy_bank_level.specs.Bank.{merged_of}
+use Rattle.sy_bank_level.specs.declared.bank.Bank.{Bank}
 use Rattle.sy_loop_history.specs.Stored.{history_of}
 use Rattle.sy_loop_candidate.specs.declared.step.Known.{Known}
 use Rattle.sy_loop.specs.Levels.{AreHonest, BodiesAreBegun, AreChoices, BodiesHaveRows, AllAreRefuted}

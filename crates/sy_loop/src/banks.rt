@@ -7,7 +7,7 @@ ghost use Rattle.sy_grammar_base.specs.Formed.{is_formed};
 ghost use Rattle.sy_grammar_base.specs.Grown.{syntax_from};
 ghost use Rattle.sy_bank_rows.specs.Rows.{ArePointsOf};
 ghost use Rattle.sy_bank.specs.Answers.{OnBank, IfFull, BankIsBuilt};
-ghost use Rattle.sy_bank.specs.Bank.{merged_of};
+ghost use Rattle.sy_bank_level.specs.Bank.{merged_of};
 ghost use Rattle.sy_bank.specs.Promised.{IsBank, BankIsWhole, BankIsFull};
 ghost use Rattle.sy_loop.specs.Banks.{IsFullBank, OnBanks};
 ghost use Rattle.sy_grammar_base.specs.Fits.{ProblemFits};
@@ -15,7 +15,7 @@ ghost use Rattle.sy_loop_candidate.specs.Clauses.{IsKnownFor};
 ghost use Rattle.sy_loop.specs.BankClauses.{AreBuiltFor, AreCarriedFor, IsCarriedFor};
 
 use std::alloc::{AllocError, Global};
-use sy_bank::{Bank, BankEnd};
+use sy_bank::{Bank, BankEnd, grow};
 use sy_bank_rows::Kept;
 use sy_grammar_base::{Problem, Wanted};
 use sy_loop_bounds::Reach;
@@ -92,8 +92,9 @@ fn take_bank<T: Theory>(
 {
     if let Some(bank) = carried {
         if bank.overflow().is_none() && are_same::<T>(bank.points(), points.as_slice()) {
-            return bank.grow(
+            return grow(
                 alloc,
+                bank,
                 &wanted.grammar,
                 &problem.defs,
                 &problem.pool,

@@ -1,7 +1,7 @@
 // Terms that banks dropped.
 ghost use Rattle.std.specs.Prelude.{◌≡◌, ◌<◌, length, map, IfOk, MatchOption};
 ghost use Rattle.sy_grammar_base.specs.Questions.{question_of};
-ghost use Rattle.sy_bank.specs.Bank.{merged_of};
+ghost use Rattle.sy_bank_level.specs.Bank.{merged_of};
 ghost use Rattle.sy_loop_history.specs.Histories.{IsOpenNumber};
 ghost use Rattle.sy_loop_history.specs.Stored.{history_of};
 ghost use Rattle.sy_loop.specs.Dropping.{DroppedNothing};

@@ -1,6 +1,6 @@
 // One round of a search: the bodies of one size together, up to what ends the round.
 ghost use Rattle.std.specs.Prelude.{◌≡◌, ◌≤◌, ◌<◌, [], length, map, IfOk, OnOk};
-ghost use Rattle.sy_bank.specs.Bank.{merged_of};
+ghost use Rattle.sy_bank_level.specs.Bank.{merged_of};
 ghost use Rattle.sy_grammar_base.specs.Fits.{ProblemFits};
 ghost use Rattle.sy_loop_candidate.specs.Clauses.{IsKnownFor};
 ghost use Rattle.sy_loop_bounds.specs.declared.reach.Reach.TheVariants.{Beyond};

@@ -1,6 +1,6 @@
 // The bodies of one size, and then conditional trees over kept terms of sizes up to it.
 ghost use Rattle.std.specs.Prelude.{◌<◌, [], length, map, IfOk, OnOk};
-ghost use Rattle.sy_bank.specs.Bank.{merged_of};
+ghost use Rattle.sy_bank_level.specs.Bank.{merged_of};
 ghost use Rattle.sy_grammar_base.specs.Fits.{ProblemFits};
 ghost use Rattle.sy_loop_candidate.specs.Clauses.{IsKnownFor};
 ghost use Rattle.sy_loop_join.specs.Clauses.{GoesFor, IsOpenFor, IsPlannedFor};

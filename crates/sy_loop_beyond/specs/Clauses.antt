@@ -14,8 +14,8 @@ use Rattle.sy_query_decide.specs.declared.verdict.Verdict.{Verdict}
 use Rattle.sy_query_decide.specs.declared.verdict.Verdict.TheVariants.{Never, Model, Spent}
 use Rattle.sy_points.specs.declared.stored.Stored.{Stored}
 use Rattle.sy_bank_rows.specs.Banks.{Entry}
-use Rattle.sy_bank.specs.Bank.{merged_of}
-use Rattle.sy_bank.specs.declared.bank.Bank.{Bank}
+use Rattle.sy_bank_level.specs.Bank.{merged_of}
+use Rattle.sy_bank_level.specs.declared.bank.Bank.{Bank}
 use Rattle.sy_loop_history.specs.Solutions.{IsSolution}
 use Rattle.sy_loop_history.specs.Stored.{history_of}
 use Rattle.sy_loop_beyond.specs.Banked.{IsOneBank}

@@ -10,8 +10,8 @@ use Rattle.sy_bank_rows.specs.Banks.{Lost}
 use Rattle.sy_bank_rows.specs.Stored.{lost_of}
 use Rattle.sy_bank_rows.specs.declared.kept.Dropped.{Dropped}
 use Rattle.sy_bank.proofs.Places.{place}
-use Rattle.sy_bank.specs.Bank.{merged_of}
-use Rattle.sy_bank.specs.declared.bank.Bank.{Bank}
+use Rattle.sy_bank_level.specs.Bank.{merged_of}
+use Rattle.sy_bank_level.specs.declared.bank.Bank.{Bank}
 use Rattle.sy_loop_outcome.specs.declared.outcome.LoopRange.{LoopRange}
 use Rattle.sy_loop_outcome.specs.declared.outcome.LoopRange.TheVariants.{Member}
 use Rattle.sy_loop_claims.specs.Dropping.{IsPlaced, IsDroppedBy}

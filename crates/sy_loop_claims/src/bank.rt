@@ -8,7 +8,7 @@ ghost use Rattle.sy_grammar_base.specs.Formed.{is_formed};
 ghost use Rattle.sy_grammar_base.specs.Grown.{syntax_from};
 ghost use Rattle.sy_bank_rows.specs.Rows.{ArePointsOf};
 ghost use Rattle.sy_bank.specs.Answers.{OnBank, IfFull, BankIsBuilt};
-ghost use Rattle.sy_bank.specs.Bank.{merged_of};
+ghost use Rattle.sy_bank_level.specs.Bank.{merged_of};
 ghost use Rattle.sy_bank.specs.Promised.{IsBank, BankIsWhole, BankIsFull};
 
 use std::alloc::Global;

@@ -1,6 +1,6 @@
 // Terms that banks dropped.
 ghost use Rattle.std.specs.Prelude.{◌≡◌, IfOk, MatchOption, None};
-ghost use Rattle.sy_bank.specs.Bank.{merged_of};
+ghost use Rattle.sy_bank_level.specs.Bank.{merged_of};
 ghost use Rattle.sy_loop_claims.specs.Dropping.{IsPlaced, IsDroppedBy};
 
 use std::alloc::Global;

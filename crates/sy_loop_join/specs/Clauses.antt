@@ -7,8 +7,8 @@ use Rattle.sy_grammar_base.specs.declared.problem.Problem.{Problem}
 use Rattle.sy_query_limits.specs.declared.Limits.{Limits}
 use Rattle.sy_query_decide.specs.declared.decide.Decide.{Ghosts as DecideOf}
 use Rattle.sy_bank_rows.specs.Stored.{chosen_of}
-use Rattle.sy_bank.specs.Bank.{merged_of}
-use Rattle.sy_bank.specs.declared.bank.Bank.{Bank}
+use Rattle.sy_bank_level.specs.Bank.{merged_of}
+use Rattle.sy_bank_level.specs.declared.bank.Bank.{Bank}
 use Rattle.sy_loop_bounds.specs.declared.reach.Reach.{Reach}
 use Rattle.sy_loop_history.specs.Histories.{IsOpenNumber}
 use Rattle.sy_loop_history.specs.Stored.{history_of}

@@ -15,7 +15,7 @@ use crate::kept::kept_up_to;
 use crate::plan::Plan;
 use crate::served::is_served;
 use std::alloc::{AllocError, Global};
-use sy_bank::Bank;
+use sy_bank_level::Bank;
 use sy_bank_rows::Kept;
 use sy_grammar_base::Problem;
 use sy_loop_bounds::Reach;

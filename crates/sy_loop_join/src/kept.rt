@@ -1,11 +1,11 @@
 // Kept terms up to a size.
 ghost use Rattle.std.specs.Prelude.{◌≡◌, ◌+◌, ◌++◌, IfOk, OnOk};
-ghost use Rattle.sy_bank.specs.Bank.{merged_of};
+ghost use Rattle.sy_bank_level.specs.Bank.{merged_of};
 ghost use Rattle.sy_bank_rows.specs.Stored.{chosen_of, entries_of};
 ghost use Rattle.sy_loop_trees_laws.specs.Trees.{kept_below};
 
 use std::alloc::Global;
-use sy_bank::Bank;
+use sy_bank_level::Bank;
 use sy_bank_rows::Kept;
 use sy_terms::{Theory, Want};
 

@@ -9,7 +9,7 @@ use crate::copies::copied_pair;
 use crate::join::join;
 use crate::plan::Plan;
 use std::alloc::Global;
-use sy_bank::Bank;
+use sy_bank_level::Bank;
 use sy_grammar_base::Problem;
 use sy_loop_bounds::Reach;
 use sy_loop_candidate::{End, Known, Step};

@@ -1,5 +1,5 @@
 // The answers of a search.
-use sy_bank::Bank;
+use sy_bank_level::Bank;
 use sy_bank_rows::Kept;
 use sy_points::Stored;
 use sy_terms::{Bodies, Seq, Term, Theory, Values};

@@ -5,7 +5,7 @@ use crate::points::{points, value};
 use crate::rows::{field, number, one};
 use std::alloc::Global;
 use std::process::Abort;
-use sy_bank::{Bank, BankEnd, build};
+use sy_bank::{Bank, BankEnd, build, grow};
 use sy_grammar_base::{Grammar, Non, well_formed};
 use sy_terms::{Seq, Sort, Theory, Values};
 
@@ -30,7 +30,7 @@ fn bank_of<T: Theory>(
             if bank.overflow().is_some() || bank.upto() >= upto.1 {
                 return Ok(bank);
             }
-            bank.grow(alloc, &grammar, &defs, pool, upto.1, cap)
+            grow(alloc, bank, &grammar, &defs, pool, upto.1, cap)
         }
         end => end,
     }

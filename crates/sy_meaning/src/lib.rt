@@ -1,4 +1,4 @@
-// The meaning of terms, computed, over integers and over bit vectors.
+// The meaning of terms, computed, over any theory.
 #![tactic(auto)]
 
 mod evaluation;
@@ -7,6 +7,4 @@ mod trace;
 
 pub use evaluation::{Eval, evaluate, evaluate_with};
 pub use fitting::{Signature, term_sort, value_sorts};
-pub use sy_meaning_integers::IntTheory;
-pub use sy_meaning_words::{BvTheory, Word};
 pub use trace::Trace;

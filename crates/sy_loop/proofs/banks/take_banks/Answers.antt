@@ -3,7 +3,7 @@ use Rattle.std.specs.Vec.Iter.{into_iter_items, into_iter_len}
 use Rattle.std.proofs.lemmas.List.{length-map, map_push}
 use Rattle.sy_grammar_base.specs.Questions.{question_of, goal_of}
 use Rattle.sy_points.specs.Asked.{tuples_of}
-use Rattle.sy_bank.specs.Bank.{merged_of}
+use Rattle.sy_bank_level.specs.Bank.{merged_of}
 use Rattle.sy_loop_history.specs.Stored.{history_of}
 use Rattle.sy_loop.specs.Banks.{AreCarried}
 use Rattle.sy_grammar_laws.proofs.Problems.{problem_definitions}

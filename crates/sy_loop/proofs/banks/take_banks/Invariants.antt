@@ -1,7 +1,7 @@
 use Rattle.std.proofs.Common.{◌≡◌, map, length, drop}
 use Rattle.std.specs.Vec.Iter.{into_iter_items, into_iter_len}
 use Rattle.sy_grammar_base.specs.Questions.{question_of}
-use Rattle.sy_bank.specs.Bank.{merged_of}
+use Rattle.sy_bank_level.specs.Bank.{merged_of}
 use Rattle.sy_loop.specs.Banks.{AreCarried}
 use Rattle.sy_loop.proofs.Building.{AreFirst}
 use Rattle.sy_loop.proofs.banks.take_banks.Given as goal

@@ -2,7 +2,7 @@ use Rattle.std.proofs.Common.{arith, ◌≡◌, None}
 use Rattle.std.proofs.lemmas.List.Elements.{All-nil}
 use Rattle.sy_grammar_base.specs.Questions.{question_of}
 use Rattle.sy_bank_rows.specs.Banks.{Merged}
-use Rattle.sy_bank.specs.Bank.{merged_of}
+use Rattle.sy_bank_level.specs.Bank.{merged_of}
 use Rattle.sy_loop_history.specs.Stored.{history_of}
 use Rattle.sy_loop_candidate.proofs.Ending.{room_in}
 use Rattle.sy_loop_candidate.proofs.Items.{all_more, all_done}

@@ -1,5 +1,5 @@
 use Rattle.std.proofs.Common.{map, take}
-use Rattle.sy_bank.specs.Bank.{merged_of}
+use Rattle.sy_bank_level.specs.Bank.{merged_of}
 use Rattle.sy_loop.specs.Dropping.{DroppedNothing}
 use Rattle.sy_loop.proofs.dropped.dropped_term.Given as goal
 

@@ -4,7 +4,7 @@ use Rattle.sy_terms.specs.Definitions.{scope_of}
 use Rattle.sy_grammar_base.specs.Questions.{question_of}
 use Rattle.sy_bank_rows.specs.Covering.{terms}
 use Rattle.sy_bank_rows.specs.Stored.{entries_of, chosen_of}
-use Rattle.sy_bank.specs.Bank.{merged_of}
+use Rattle.sy_bank_level.specs.Bank.{merged_of}
 use Rattle.sy_loop_history.specs.Histories.{IsOpenNumber}
 use Rattle.sy_loop_history.specs.Stored.{history_of}
 use Rattle.sy_loop.specs.Levels.{AreHonest, BodiesAreBegun, AreChoices, AllAreRefuted}

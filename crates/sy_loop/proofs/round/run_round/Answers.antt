@@ -2,7 +2,7 @@ use Rattle.std.proofs.Common.{arith, map, [], refl, inl, sym, subst}
 use Rattle.std.proofs.lemmas.List.{length-map}
 use Rattle.sy_grammar_base.specs.Questions.{question_of}
 use Rattle.sy_bank_rows.specs.Stored.{entry_of}
-use Rattle.sy_bank.specs.Bank.{merged_of}
+use Rattle.sy_bank_level.specs.Bank.{merged_of}
 use Rattle.sy_loop_history.specs.Stored.{counterexample_of, history_of}
 use Rattle.sy_loop_candidate.proofs.Ending.{room_in}
 use Rattle.sy_loop_laws.proofs.Done as done

@@ -1,7 +1,7 @@
 use Rattle.std.proofs.Common.{arith, ap, length, List}
 use Rattle.std.proofs.lemmas.List.{length-map}
 use Rattle.sy_grammar_base.specs.Questions.{Goal, goal_of, question_of}
-use Rattle.sy_bank.specs.Bank.{merged_of}
+use Rattle.sy_bank_level.specs.Bank.{merged_of}
 use Rattle.sy_loop_beyond.proofs.Small.{kept_small}
 use Rattle.sy_loop_beyond.proofs.search.solve_onwards.Goals as goal
 

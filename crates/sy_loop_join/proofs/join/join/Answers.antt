@@ -5,7 +5,7 @@ use Rattle.std.proofs.lemmas.Option.{slice_get_within}
 use Rattle.sy_terms.specs.Denoted.{expr_of, vals_of}
 use Rattle.sy_grammar_base.specs.Questions.{question_of}
 use Rattle.sy_points.specs.Asked.{tuples_of}
-use Rattle.sy_bank.specs.Bank.{merged_of}
+use Rattle.sy_bank_level.specs.Bank.{merged_of}
 use Rattle.sy_bank_rows.specs.Stored.{chosen_of, entry_of}
 use Rattle.sy_loop_history.specs.Budgets.{CheckedLeaves}
 use Rattle.sy_loop_history.specs.Histories.{Counterexample}

@@ -4,7 +4,7 @@ use denote.Ref.{Bor}
 use Rattle.sy_terms.specs.Denoted.{vals_of}
 use Rattle.sy_grammar_base.specs.Questions.{question_of}
 use Rattle.sy_points.specs.Asked.{AreDistinct, of_function, tuples_of}
-use Rattle.sy_bank.specs.Bank.{merged_of}
+use Rattle.sy_bank_level.specs.Bank.{merged_of}
 use Rattle.sy_bank_rows.specs.Stored.{chosen_of, entry_of}
 use Rattle.sy_bank_rows.specs.declared.kept.Kept.{Kept}
 use Rattle.sy_loop_history.specs.Stored.{history_of}

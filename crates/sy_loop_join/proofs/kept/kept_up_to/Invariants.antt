@@ -1,5 +1,5 @@
 use Rattle.std.proofs.Common.{◌≡◌}
-use Rattle.sy_bank.specs.Bank.{merged_of}
+use Rattle.sy_bank_level.specs.Bank.{merged_of}
 use Rattle.sy_bank_rows.specs.Stored.{chosen_of}
 use Rattle.sy_loop_trees_laws.specs.Trees.{kept_below}
 use Rattle.sy_loop_join.proofs.kept.kept_up_to.Given as goal

@@ -1,6 +1,6 @@
 use Rattle.std.proofs.Common.{subst}
 use Rattle.sy_grammar_base.specs.Questions.{question_of}
-use Rattle.sy_bank.specs.Bank.{merged_of}
+use Rattle.sy_bank_level.specs.Bank.{merged_of}
 use Rattle.sy_loop_history.specs.Stored.{history_of}
 use Rattle.sy_loop_join.specs.Going.{OnNext}
 use Rattle.sy_loop_join.specs.Joining.{TreesFollowFrom}

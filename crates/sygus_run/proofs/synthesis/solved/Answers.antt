@@ -1,7 +1,7 @@
 use Rattle.std.proofs.Common.{arith, inl}
 use Rattle.std.proofs.lemmas.List.{length-map}
 use Rattle.sy_grammar_base.specs.Questions.{question_of, goal_of}
-use Rattle.sy_bank.specs.Bank.{merged_of}
+use Rattle.sy_bank_level.specs.Bank.{merged_of}
 use Rattle.sy_loop_history.specs.Stored.{history_of}
 use Rattle.sy_loop_beyond.proofs.Overfull.{one_bank, stored_assigned}
 use Rattle.sygus_run.proofs.Beyond.{solves_beyond}

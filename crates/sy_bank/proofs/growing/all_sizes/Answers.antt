@@ -9,12 +9,12 @@ use Rattle.sy_bank_rows.specs.Stored.{lost_of}
 use Rattle.sy_bank_level.specs.Task.{level_of}
 use Rattle.sy_bank_rows.specs.Rows.{ArePointsOf}
 use Rattle.sy_bank_laws.proofs.Next.{whole-covers}
-use Rattle.sy_bank.specs.Bank.{merged_of}
+use Rattle.sy_bank_level.specs.Bank.{merged_of}
 use Rattle.sy_bank.specs.Promised.{Stays, IsBank, BankIsFull}
 use Rattle.sy_bank.proofs.Ends.{end-bank, end-stays, handed-on, handed-on-full, some-dropped}
 use Rattle.sy_bank.proofs.Exits.{never-ok}
-use Rattle.sy_bank.proofs.bank.Bank.all_sizes.Goals as goal
-use Rattle.sy_bank.proofs.bank.Bank.all_sizes.Goals.{then-loop-bank-test+else-len-upto, else-loop-bank-test}
+use Rattle.sy_bank.proofs.growing.all_sizes.Goals as goal
+use Rattle.sy_bank.proofs.growing.all_sizes.Goals.{then-loop-bank-test+else-len-upto, else-loop-bank-test}
 
 pub next_size-requires-clause-points : goal.next_size-requires-clause-points
 next_size-requires-clause-points g c = subst (λ (points : List (List Val)). ArePointsOf c.args.grammar.now.args points) (sym c.loop-bank.invariant.over) c.requires.points
@@ -34,7 +34,7 @@ loop-bank-preserved g c =
 pub returns-in_err-bank-clause-stays : goal.returns-in_err-bank-clause-stays
 returns-in_err-bank-clause-stays g c =
     let number = g.T.Theory.denotes in
-    let first = merged_of number c.args.self in
+    let first = merged_of number c.args.begun in
     handed-on number (Stays first) c.from_residual.result c.in_err-bank.field-0.0 c.from_residual.ensures.1
     (end-stays number (syntax_from number c.args.grammar.now) (functions (bodies number c.args.defs.now)) (vals_of number c.args.pool.now) c.args.cap first (merged_of number c.loop-bank.bank) c.in_err-bank.field-0.0 c.loop-bank.invariant.stays c.in_err-bank.ensures.next)
 
@@ -63,12 +63,12 @@ returns-in_err-bank-clause-full g c =
 pub returns-in_err-bank-clause-bank : goal.returns-in_err-bank-clause-bank
 returns-in_err-bank-clause-bank g c =
     let number = g.T.Theory.denotes in
-    let first = merged_of number c.args.self in
+    let first = merged_of number c.args.begun in
     let syntax = syntax_from number c.args.grammar.now in
     let defined = functions (bodies number c.args.defs.now) in
     let pool = vals_of number c.args.pool.now in
-    handed-on number (IsBank syntax defined pool first.points c.args.self.upto c.args.cap) c.from_residual.result c.in_err-bank.field-0.0 c.from_residual.ensures.1
-    (end-bank number syntax defined pool first.points c.args.self.upto c.args.cap (merged_of number c.loop-bank.bank) c.in_err-bank.field-0.0 c.loop-bank.invariant.over c.loop-bank.invariant.up c.in_err-bank.ensures.next c.in_err-bank.ensures.full)
+    handed-on number (IsBank syntax defined pool first.points c.args.begun.upto c.args.cap) c.from_residual.result c.in_err-bank.field-0.0 c.from_residual.ensures.1
+    (end-bank number syntax defined pool first.points c.args.begun.upto c.args.cap (merged_of number c.loop-bank.bank) c.in_err-bank.field-0.0 c.loop-bank.invariant.over c.loop-bank.invariant.up c.in_err-bank.ensures.next c.in_err-bank.ensures.full)
 
 pub returns-clause-built : goal.returns-clause-built
 returns-clause-built g c = c.loop-bank.invariant.built

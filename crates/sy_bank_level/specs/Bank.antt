@@ -6,7 +6,7 @@ use Rattle.sy_terms.specs.Denoted.{vals_of}
 use Rattle.sy_bank_rows.specs.Banks.{Merged}
 use Rattle.sy_bank_rows.specs.Stored.{lost_of}
 use Rattle.sy_bank_level.specs.Task.{levels_of}
-use Rattle.sy_bank.specs.declared.bank.Bank.{Bank}
+use Rattle.sy_bank_level.specs.declared.bank.Bank.{Bank}
 
 abbrev pub merged_of : {T N : Type 0} → (N → Val) → Bank T N → Merged
 merged_of number bank = record {

@@ -5,9 +5,9 @@ use Rattle.sy_terms.specs.Meaning.{functions}
 use Rattle.sy_grammar_base.specs.Grown.{syntax_from}
 use Rattle.sy_bank_rows.specs.Banks.{kept_count}
 use Rattle.sy_bank.specs.Answers.{BankIsBuilt}
-use Rattle.sy_bank.specs.Bank.{merged_of}
+use Rattle.sy_bank_level.specs.Bank.{merged_of}
 use Rattle.sy_bank.specs.Promised.{Stays}
-use Rattle.sy_bank.proofs.bank.Bank.all_sizes.Given as goal
+use Rattle.sy_bank.proofs.growing.all_sizes.Given as goal
 
 abbrev pub invariant-loop-bank : goal.invariant-loop-bank
 invariant-loop-bank g l = record {
