@@ -21,11 +21,10 @@ use sy_forms::{ReadEnd, is};
 use sy_grammar_base::Problem;
 use sy_meaning_integers::IntTheory;
 use sy_meaning_words::BvTheory;
-use sy_scope_causes::{Cause, Refused};
+use sy_scope_causes::{Cause, Refused, Titles};
 use sy_scope_commands::Request;
 use sy_scope_context::{Asked, Context, check_feature, read_request};
 use sy_scope_ends::{ScopeEnd, ended, numbered};
-use sy_scope_titles::Titles;
 use sy_terms::{Logic, Seq, Theory};
 use sy_text::{Place, Sexp, TextEnd, TextFault, next_command};
 

@@ -9,7 +9,7 @@ ghost use Rattle.sy_scope_steps.specs.Contexts as contexts;
 use crate::context::{Context, Definition, Sought};
 use std::alloc::Global;
 use sy_forms::{Named, copied};
-use sy_scope_titles::{Title, Titles};
+use sy_scope_causes::{Title, Titles};
 use sy_terms::{Seq, Theory, Want};
 use sy_text::Name;
 

@@ -2,7 +2,7 @@
 use Rattle.std.specs.Prelude.{ℕ, suc, ◌+◌, ◌≤◌, List, [], ◌∷◌, ◌++◌, length, map, ◌≡◌, refl}
 use Rattle.std.proofs.Common.{arith, ap, sym, subst}
 use Rattle.std.proofs.lemmas.List.{length-map}
-use Rattle.sy_scope_titles.specs.declared.Title.{Title}
+use Rattle.sy_scope_causes.specs.declared.titles.Title.{Title}
 use Rattle.sy_grammar_base.specs.Questions.{Goal, Question}
 use Rattle.sy_forms_names.specs.declared.names.Named.{Named}
 use Rattle.sy_reply.specs.Writable.{AreTitled}

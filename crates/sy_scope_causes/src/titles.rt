@@ -1,6 +1,4 @@
 // The names that a file declares.
-#![tactic(auto)]
-
 use sy_seq::Seq;
 use sy_text::Name;
 
