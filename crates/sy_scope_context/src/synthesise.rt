@@ -8,8 +8,8 @@ ghost use Rattle.sy_forms_names.specs.declared.names.Entity.TheVariants as entit
 ghost use Rattle.sy_forms_names.specs.Environments.{entry_under};
 ghost use Rattle.sy_forms_items.specs.Readings.{ReadingGives};
 ghost use Rattle.sy_terms.specs.Logics.{Serves};
-ghost use Rattle.sy_scope_commands.specs.Asked.{spelled_of, rulebook_of};
-ghost use Rattle.sy_scope_rules.specs.Lists.{sorts_of_names};
+ghost use Rattle.sy_scope_steps.specs.Asked.{spelled_of, rulebook_of};
+ghost use Rattle.sy_scope_steps.specs.Lists.{sorts_of_names};
 ghost use Rattle.sy_scope_pool.specs.Kept.{pool_of};
 ghost use Rattle.sy_scope_pool.specs.Pools.{pooled};
 ghost use Rattle.sy_scope_steps.specs.Contexts as contexts;
@@ -20,10 +20,8 @@ use crate::context::{Context, Ruled, Sought};
 use std::alloc::Global;
 use sy_forms::{Entity, Named, Names, ReadEnd, copied, read_sort};
 use sy_scope_causes::Cause;
-use sy_scope_commands::{Rulebook, Spelled};
 use sy_scope_pool::Pool;
-use sy_scope_rules::{Naming, read_named, read_rulebook, sorts_of};
-use sy_scope_steps::new_name;
+use sy_scope_steps::{Naming, Rulebook, Spelled, new_name, read_named, read_rulebook, sorts_of};
 use sy_terms::{Fun, Seq, Sort, Theory, Value, Want};
 use sy_text::{Sexp, Sexps};
 

@@ -25,7 +25,7 @@ use Rattle.sy_forms_names.specs.declared.names.Entity.TheVariants as entity
 use Rattle.sy_forms_names.specs.declared.names.Role.TheVariants as role
 use Rattle.sy_forms_names.specs.Environments.{entry_under}
 use Rattle.sy_forms_phrases.specs.Phrases.{Phrase}
-use Rattle.sy_scope_commands.specs.Requests.{Spelled}
+use Rattle.sy_scope_steps.specs.Requests.{Spelled}
 use Rattle.sy_forms_laws.specs.Fitting.{phrase_sort}
 use Rattle.sy_grammar_base.specs.Fits.{with_functions, GoalFits, QuestionFits}
 use Rattle.sy_forms_laws.specs.Right.{Extends}

@@ -19,8 +19,8 @@ use Rattle.sy_forms_names.specs.Environments.{entry_under}
 use Rattle.sy_forms_names.specs.Operators.{is_reserved}
 use Rattle.sy_forms_phrases.specs.Phrases.{Phrase}
 use Rattle.sy_forms_names.specs.Sorts.{read_sort}
-use Rattle.sy_scope_commands.specs.Requests.{Spelled}
-use Rattle.sy_scope_rules.specs.Lists.{sorts_of_names, read_named}
+use Rattle.sy_scope_steps.specs.Requests.{Spelled}
+use Rattle.sy_scope_steps.specs.Lists.{sorts_of_names, read_named}
 use Rattle.sy_forms_laws.specs.Fitting.{phrase_sort}
 use Rattle.sy_grammar_base.specs.Fits.{GoalFits}
 use Rattle.sy_forms_laws.specs.Right.{Extends}

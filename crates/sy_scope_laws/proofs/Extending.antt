@@ -17,7 +17,7 @@ use Rattle.sy_forms_laws.proofs.Growing.{formed_wider}
 use Rattle.sy_forms_laws.proofs.Widening.{fits_wider}
 use Rattle.sy_forms_phrases.specs.Phrases.{Phrase}
 use Rattle.sy_grammar_base.specs.Questions.{Goal}
-use Rattle.sy_scope_rules.specs.Lists.{sorts_of_names}
+use Rattle.sy_scope_steps.specs.Lists.{sorts_of_names}
 use Rattle.sy_scope_steps.specs.Contexts as contexts
 use Rattle.sy_scope_steps.specs.Contexts.{Definition, Sought}
 use Rattle.sy_scope_laws.specs.Sound.{defined_in, signature_of_sought, signatures_wanted, setting_with, IsDeclared, BodiesFitAfter, ConditionFits}

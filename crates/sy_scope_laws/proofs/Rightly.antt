@@ -16,7 +16,7 @@ use Rattle.sy_forms_names.specs.Environments.{Sense, entry_under, or_else, place
 use Rattle.sy_forms_laws.specs.Right.{SenseIsThere, EnvironmentIsRight}
 use Rattle.sy_forms_laws.proofs.Names.{place_among_at}
 use Rattle.sy_forms_laws.proofs.Sorts.{entry_has}
-use Rattle.sy_scope_rules.specs.Lists.{sorts_of_names}
+use Rattle.sy_scope_steps.specs.Lists.{sorts_of_names}
 use Rattle.sy_scope_steps.specs.Contexts.{Context}
 use Rattle.sy_scope_steps.specs.Steps.{environment}
 use Rattle.sy_scope_laws.specs.Sound.{defined_in, signatures_wanted, setting_with, IsDeclared, ContextIsSound}

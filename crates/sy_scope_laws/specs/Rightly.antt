@@ -8,8 +8,8 @@ use Rattle.sy_forms_names.specs.declared.names.Entity.{Entity}
 use Rattle.sy_forms_names.specs.declared.names.Named.{Named}
 use Rattle.sy_forms_names.specs.Environments.{sense_of}
 use Rattle.sy_forms_names.specs.Operators.{is_reserved}
-use Rattle.sy_scope_rules.specs.Lists.{sorts_of_names}
-use Rattle.sy_scope_rules.specs.Grammars.{rules_under}
+use Rattle.sy_scope_steps.specs.Lists.{sorts_of_names}
+use Rattle.sy_scope_steps.specs.Grammars.{rules_under}
 use Rattle.sy_forms_laws.specs.Fitting.{Setting}
 use Rattle.sy_forms_laws.specs.Right.{EnvironmentIsRight}
 

@@ -15,7 +15,7 @@ use Rattle.sy_terms.specs.Logics.{number_sorts, operators_of}
 use Rattle.sy_forms_laws.specs.Fitting.{Setting, phrase_sort}
 use Rattle.sy_grammar_base.specs.Fits.{with_functions, GoalFits, QuestionFits}
 use Rattle.sy_forms_laws.specs.Right.{Extends}
-use Rattle.sy_scope_rules.specs.Lists.{sorts_of_names}
+use Rattle.sy_scope_steps.specs.Lists.{sorts_of_names}
 use Rattle.sy_scope_steps.specs.Contexts as contexts
 use Rattle.sy_scope_steps.specs.Contexts.{Context, Definition, Sought, Condition, beginning, condition_at, goal_sought}
 

@@ -16,7 +16,7 @@ use Rattle.sy_forms_phrases.specs.Measures.{Measures}
 use Rattle.sy_forms_names.specs.Operators.{is_reserved}
 use Rattle.sy_forms_phrases.specs.Phrases.{Phrase, expr_at}
 use Rattle.sy_forms_items.specs.Readings.{Reading, refuse}
-use Rattle.sy_scope_rules.specs.Lists.{sorts_of_names}
+use Rattle.sy_scope_steps.specs.Lists.{sorts_of_names}
 
 -- a definition: its name, its arguments, its value's sort, and its body
 pub record Definition : Type 0 where

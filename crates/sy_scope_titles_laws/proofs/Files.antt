@@ -12,9 +12,9 @@ use Rattle.sy_scope_causes.specs.declared.cause.Refused.{Refused}
 use Rattle.sy_forms_names.specs.declared.names.Role.TheVariants as role
 use Rattle.sy_forms_items.specs.Readings.{Reading, found_or, ◌>>=◌}
 use Rattle.sy_forms_names.specs.Sorts.{read_sort}
-use Rattle.sy_scope_rules.specs.Lists.{read_named}
-use Rattle.sy_scope_commands.specs.Requests as requests
-use Rattle.sy_scope_commands.specs.Requests.{Request, Rulebook, Spelled}
+use Rattle.sy_scope_steps.specs.Lists.{read_named}
+use Rattle.sy_scope_steps.specs.Requests as requests
+use Rattle.sy_scope_steps.specs.Requests.{Request, Rulebook, Spelled}
 use Rattle.sy_forms_laws.proofs.Readings.{chained, unless_refused, any_read}
 use Rattle.sy_scope_steps.specs.Contexts.{Context, Definition, Sought, beginning, with_logic, new_name, new_sought, new_sort_name, has_room, question_at}
 use Rattle.sy_scope_steps.specs.Files.{FileOutcome, command_read, then_next, after_command, file_from, file_read}

@@ -16,9 +16,9 @@ use Rattle.sy_forms_phrases.specs.Measures.{unfolded_size, unfolded_sizes, unfol
 use Rattle.sy_forms.specs.Terms.{atom_term, read_head, head_applied, read_term, read_list, read_terms}
 use Rattle.sy_forms.specs.Rules.{read_rule}
 use Rattle.sy_scope_pool.specs.Pools.{pooled}
-use Rattle.sy_scope_commands.specs.Requests.{request_of}
-use Rattle.sy_scope_rules.specs.Lists.{named_item, read_named}
-use Rattle.sy_scope_rules.specs.Grammars.{read_rules, read_group, read_groups, read_productions}
+use Rattle.sy_scope_steps.specs.Requests.{request_of}
+use Rattle.sy_scope_steps.specs.Lists.{named_item, read_named}
+use Rattle.sy_scope_steps.specs.Grammars.{read_rules, read_group, read_groups, read_productions}
 use Rattle.sy_scope_steps.specs.Contexts.{Context, Condition, Written, beginning, with_logic}
 use Rattle.sy_scope_steps.specs.Steps.{perform_in, perform_first, step, with_question}
 use Rattle.sygus_drill.specs.declared.generator.Example.{Example}
