@@ -20,9 +20,9 @@ use Rattle.sy_scope_steps.specs.Contexts.{Context, Definition, Sought, beginning
 use Rattle.sy_scope_steps.specs.Files.{FileOutcome, command_read, then_next, after_command, file_from, file_read}
 use Rattle.sy_scope_steps.specs.Jobs.{title_of, titles_of}
 use Rattle.sy_scope_steps.specs.Steps.{PlacedRequest, logic_named, first_logic, set_logic, feature_set, set_feature, declare_variable, define_sort, read_in, with_definition, define, value_sort, read_grammar, with_sought, synthesise, constrain, assume, function_named, invariant_parts, with_invariant, constrain_invariant, with_question, check_synth, command_asked, perform_in, perform_first, perform, step}
-use Rattle.sy_scope_titles_laws.specs.Titled.{AreNamed}
+use Rattle.sy_scope_laws.specs.Titled.{AreNamed}
 use Rattle.sy_reply.specs.Writable.{IsTitled}
-use Rattle.sy_scope_titles_laws.proofs.Titles.{function_more, definition_more, titled_now}
+use Rattle.sy_scope_laws.proofs.Titles.{function_more, definition_more, titled_now}
 
 -- whatever is read first
 after_any : {A : Type 0} (read : Reading A) (next : A → Reading Context) → ((x : A) → IfOk (next x) AreNamed) → IfOk (read >>= next) AreNamed
