@@ -6,7 +6,7 @@ use Rattle.sy_terms.specs.declared.sort.Logic.{Logic}
 use Rattle.sy_terms.specs.declared.sort.Sort.{Sort}
 use Rattle.sy_grammar_base.specs.Trees.{Syntax}
 use Rattle.sy_grammar_base.specs.Questions.{question_of}
-use Rattle.sy_forms_names.specs.declared.names.Named.{Named}
+use Rattle.sy_forms_phrases.specs.declared.names.Named.{Named}
 use Rattle.sy_forms_phrases.specs.Meant.{phrase_of}
 use Rattle.sy_forms_phrases.specs.Measured.{measures_of}
 use Rattle.sy_scope_steps.specs.Lists.{sorts_of_names}

@@ -1,7 +1,7 @@
 // Variables, abbreviations of sorts, and terms in a context.
 ghost use Rattle.std.specs.Prelude.{◌≡◌, None, true, OnOk, IfOk};
 ghost use Rattle.sy_text.specs.Views.{item_of};
-ghost use Rattle.sy_forms_names.specs.Environments.{entry_under};
+ghost use Rattle.sy_forms_phrases.specs.Environments.{entry_under};
 ghost use Rattle.sy_forms_phrases.specs.Meant.{phrase_of};
 ghost use Rattle.sy_forms_phrases.specs.Measured.{measures_of};
 ghost use Rattle.sy_forms_phrases.specs.Measures.{is_within_limits};

@@ -2,8 +2,8 @@
 ghost use Rattle.std.specs.Prelude.{◌≡◌, ◌++◌, ◌∷◌, [], None, true, OnOk};
 ghost use Rattle.sy_text.specs.Views.{item_of};
 ghost use Rattle.sy_terms.specs.declared.term.Fun.TheVariants as funs;
-ghost use Rattle.sy_forms_names.specs.declared.names.Entity.TheVariants as entity;
-ghost use Rattle.sy_forms_names.specs.Environments.{entry_under};
+ghost use Rattle.sy_forms_phrases.specs.declared.names.Entity.TheVariants as entity;
+ghost use Rattle.sy_forms_phrases.specs.Environments.{entry_under};
 ghost use Rattle.sy_forms_phrases.specs.Meant.{phrase_of};
 ghost use Rattle.sy_forms_phrases.specs.Measured.{measures_of};
 ghost use Rattle.sy_forms_phrases.specs.Measures.{is_within_limits, literals_in};

@@ -1,7 +1,7 @@
 // The conditions of invariants.
 ghost use Rattle.std.specs.Prelude.{◌≡◌, ◌++◌, ◌*◌, length, true, OnOk, IfOk};
 ghost use Rattle.std.specs.Option.{option_map};
-ghost use Rattle.sy_forms_names.specs.Environments.{entry_under};
+ghost use Rattle.sy_forms_phrases.specs.Environments.{entry_under};
 ghost use Rattle.sy_forms_items.specs.Readings.{ReadingGives};
 ghost use Rattle.sy_scope_steps.specs.Asked.{spelled_of};
 ghost use Rattle.sy_scope_context.specs.Calls.{called_of, parts_of};

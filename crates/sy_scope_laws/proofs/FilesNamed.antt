@@ -9,9 +9,9 @@ use Rattle.sy_terms.specs.declared.sort.Logic.{Logic}
 use Rattle.sy_terms.specs.declared.sort.Sort.TheVariants as sorts
 use Rattle.sy_scope_causes.specs.declared.cause.Cause.TheVariants as cause
 use Rattle.sy_scope_causes.specs.declared.cause.Refused.{Refused}
-use Rattle.sy_forms_names.specs.declared.names.Role.TheVariants as role
+use Rattle.sy_forms_phrases.specs.declared.names.Role.TheVariants as role
 use Rattle.sy_forms_items.specs.Readings.{Reading, found_or, ◌>>=◌}
-use Rattle.sy_forms_names.specs.Sorts.{read_sort}
+use Rattle.sy_forms_phrases.specs.Sorts.{read_sort}
 use Rattle.sy_scope_steps.specs.Lists.{read_named}
 use Rattle.sy_scope_steps.specs.Requests as requests
 use Rattle.sy_scope_steps.specs.Requests.{Request, Rulebook, Spelled}

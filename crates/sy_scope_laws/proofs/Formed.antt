@@ -19,10 +19,10 @@ use Rattle.sy_terms_laws.proofs.Equations.{same_sort_is}
 use Rattle.sy_grammar_base.proofs.Sorting.{same_sort_self}
 use Rattle.sy_grammar_base.specs.Formed.{is_known, nonterminal_fits, is_formed, rule_sort}
 use Rattle.sy_grammar_base.specs.Trees.{Production, Nonterminal, Syntax, is_sort}
-use Rattle.sy_forms_names.specs.declared.names.Entity.{Entity}
-use Rattle.sy_forms_names.specs.declared.names.Named.{Named}
-use Rattle.sy_forms_names.specs.Environments.{Environment}
-use Rattle.sy_forms_names.specs.Operators.{is_reserved}
+use Rattle.sy_forms_phrases.specs.declared.names.Entity.{Entity}
+use Rattle.sy_forms_phrases.specs.declared.names.Named.{Named}
+use Rattle.sy_forms_phrases.specs.Environments.{Environment}
+use Rattle.sy_forms_phrases.specs.Operators.{is_reserved}
 use Rattle.sy_forms_items.specs.Parts.{has_no_items, place_of}
 use Rattle.sy_forms_items.specs.Readings.{refuse, ◌>>=◌}
 use Rattle.sy_forms.specs.Rules.{constant_groups}

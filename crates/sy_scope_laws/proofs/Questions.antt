@@ -10,7 +10,7 @@ use Rattle.sy_terms.specs.declared.sort.Sort.TheVariants as sorts
 use Rattle.sy_terms.specs.Logics.{number_sorts, operators_of}
 use Rattle.sy_grammar_base.specs.Questions.{Goal}
 use Rattle.sy_forms_phrases.specs.Phrases.{Phrase, expr_at}
-use Rattle.sy_forms_names.specs.declared.names.Named.{Named}
+use Rattle.sy_forms_phrases.specs.declared.names.Named.{Named}
 use Rattle.sy_forms_laws.specs.Fitting.{phrase_sort}
 use Rattle.sy_grammar_base.specs.Fits.{with_functions, FitInTurn, GoalFits, QuestionFits}
 use Rattle.sy_forms_laws.proofs.Whole.{term_fits}

@@ -6,8 +6,8 @@ use Rattle.sy_text.specs.declared.atom.Place.{Place}
 use Rattle.sy_terms.specs.declared.sort.Logic.{Logic}
 use Rattle.sy_terms.specs.declared.sort.Sort.{Sort}
 use Rattle.sy_scope_causes.specs.declared.cause.Cause.TheVariants as cause
-use Rattle.sy_forms_names.specs.declared.names.Named.{Named}
-use Rattle.sy_forms_names.specs.Environments.{Environment}
+use Rattle.sy_forms_phrases.specs.declared.names.Named.{Named}
+use Rattle.sy_forms_phrases.specs.Environments.{Environment}
 use Rattle.sy_forms_items.specs.Parts.{place_of, has_no_items}
 use Rattle.sy_forms_items.specs.Readings.{refuse, ◌>>=◌}
 use Rattle.sy_forms.specs.Rules.{read_rule}

@@ -7,10 +7,10 @@ use Rattle.sy_terms.specs.declared.sort.Logic.{Logic}
 use Rattle.sy_terms.specs.declared.sort.Sort.{Sort}
 use Rattle.sy_scope_causes.specs.declared.cause.Cause.TheVariants as cause
 use Rattle.sy_grammar_base.specs.Trees.{Production, Syntax, Nonterminal}
-use Rattle.sy_forms_names.specs.declared.names.Entity.{Entity}
-use Rattle.sy_forms_names.specs.declared.names.Named.{Named}
-use Rattle.sy_forms_names.specs.declared.names.Role.TheVariants as role
-use Rattle.sy_forms_names.specs.Environments.{Environment}
+use Rattle.sy_forms_phrases.specs.declared.names.Entity.{Entity}
+use Rattle.sy_forms_phrases.specs.declared.names.Named.{Named}
+use Rattle.sy_forms_phrases.specs.declared.names.Role.TheVariants as role
+use Rattle.sy_forms_phrases.specs.Environments.{Environment}
 use Rattle.sy_forms_phrases.specs.Measures.{literals_in}
 use Rattle.sy_forms_items.specs.Parts.{symbol, place_of, has_no_items, is_symbol}
 use Rattle.sy_forms_items.specs.Readings.{Reading, refuse, ◌>>=◌}

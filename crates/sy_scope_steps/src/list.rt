@@ -5,7 +5,7 @@ ghost use Rattle.sy_text.specs.Views.{item_of};
 ghost use Rattle.sy_scope_steps.specs.Requests.{symbol_spelled};
 ghost use Rattle.sy_forms_items.specs.Readings.{ReadingGives};
 ghost use Rattle.sy_forms_items.specs.Views.{items_in};
-ghost use Rattle.sy_forms_names.specs.declared.names.Named.{Named};
+ghost use Rattle.sy_forms_phrases.specs.declared.names.Named.{Named};
 ghost use Rattle.sy_scope_steps.specs.Lists as spec;
 
 use std::alloc::Global;

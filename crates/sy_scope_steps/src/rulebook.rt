@@ -1,7 +1,7 @@
 // Written grammars.
 ghost use Rattle.std.specs.Prelude.{◌≡◌};
 ghost use Rattle.sy_forms_items.specs.Readings.{ReadingGives};
-ghost use Rattle.sy_forms_names.specs.Seen.{environment_of};
+ghost use Rattle.sy_forms_phrases.specs.Seen.{environment_of};
 ghost use Rattle.sy_terms.specs.Logics.{Serves};
 ghost use Rattle.sy_scope_steps.specs.Grammars as spec;
 ghost use Rattle.sy_scope_steps.specs.Seen.{written_of};

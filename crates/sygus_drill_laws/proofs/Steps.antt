@@ -9,8 +9,8 @@ use Rattle.sy_terms.specs.Spelling.{spelling}
 use Rattle.sy_terms.specs.declared.op.Op.TheVariants as ops
 use Rattle.sy_terms.specs.declared.sort.Logic.TheVariants.{Bv}
 use Rattle.sy_terms.specs.declared.term.Fun.TheVariants.{Wanted}
-use Rattle.sy_forms_names.specs.declared.names.Entity.TheVariants as entity
-use Rattle.sy_forms_names.specs.Sorts.{read_sort}
+use Rattle.sy_forms_phrases.specs.declared.names.Entity.TheVariants as entity
+use Rattle.sy_forms_phrases.specs.Sorts.{read_sort}
 use Rattle.sy_forms_phrases.specs.Phrases.{Phrase, Literal, Operation, Invocation, none, more, pattern_at, patterns_at}
 use Rattle.sy_forms_phrases.specs.Measures.{unfolded_size, unfolded_sizes, unfolded_depth, unfolded_depths, literals_in, all_literals}
 use Rattle.sy_forms.specs.Terms.{atom_term, read_head, head_applied, read_term, read_list, read_terms}
