@@ -1,3 +1,5 @@
+pub mod Lookups
+pub mod LetNames
 pub mod Conversions
 pub mod Measuring
 pub mod Literals

@@ -18,7 +18,7 @@ use Rattle.sy_terms.specs.Expr.{Constant, Variable, Apply, Invoke, Bind, none, m
 use Rattle.sy_terms.specs.declared.sort.Sort.{Sort}
 use Rattle.sy_terms.specs.declared.term.Fun.TheVariants.{Defined, Wanted}
 use Rattle.sy_text.specs.Spelling.{symbol_text}
-use Rattle.sy_scope_titles.specs.declared.Title.{Title}
+use Rattle.sy_scope_causes.specs.declared.titles.Title.{Title}
 use Rattle.sy_grammar_base.specs.Questions.{Goal, goal_of}
 use Rattle.sy_grammar_base.specs.declared.problem.Wanted.{Wanted as Asked}
 use Rattle.sy_reply.specs.Replies.{line, bracketed, spaced, sort_text, operator_text, value_text, name_text, function_text, called_text, term_text, terms_text, argument_text, arguments_text, definition_text, definitions_text}

@@ -2,8 +2,8 @@
 use Rattle.std.specs.Prelude.{ℕ, List, [], ◌∷◌, ◌++◌, codes, map, true, false, pos, negsuc, slice_get, Option, Some, None}
 use Rattle.std.specs.List.{join_with_byte, concat}
 use Rattle.sy_text.specs.Spelling.{symbol_text, numeral_text, vector_text}
-use Rattle.sy_scope_titles.specs.declared.Title.{Title}
-use Rattle.sy_scope_titles.specs.declared.Titles.{Titles}
+use Rattle.sy_scope_causes.specs.declared.titles.Title.{Title}
+use Rattle.sy_scope_causes.specs.declared.titles.Titles.{Titles}
 use Rattle.sy_terms.specs.Values.{Val, Truth, Whole, Bits}
 use Rattle.sy_terms.specs.Expr.{Expr, Exprs, Constant, Variable, Apply, Invoke, Bind, none, more}
 use Rattle.sy_terms.specs.Spelling.{spelling}

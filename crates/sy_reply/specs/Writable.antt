@@ -1,8 +1,8 @@
 -- What can be written: titles with enough names, and bodies that use nothing else.
 use Rattle.std.specs.Prelude.{ℕ, ◌≡◌, ◌<◌, ◌≤◌, Bool, true, false, List, length, take, pos, negsuc}
 use Rattle.std.specs.List.{AllZip}
-use Rattle.sy_scope_titles.specs.declared.Title.{Title}
-use Rattle.sy_scope_titles.specs.declared.Titles.{Titles}
+use Rattle.sy_scope_causes.specs.declared.titles.Title.{Title}
+use Rattle.sy_scope_causes.specs.declared.titles.Titles.{Titles}
 use Rattle.sy_terms.specs.Values.{Val, Truth, Whole, Bits}
 use Rattle.sy_terms.specs.Expr.{Expr, Exprs, Constant, Variable, Apply, Invoke, Bind, none, more}
 use Rattle.sy_terms.specs.Theories.{valid}

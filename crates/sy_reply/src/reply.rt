@@ -11,7 +11,7 @@ use crate::terms::write_term;
 use std::alloc::Global;
 use sy_grammar_base::{Problem, Wanted};
 use sy_io::Bytes;
-use sy_scope_titles::{Title, Titles};
+use sy_scope_causes::{Title, Titles};
 use sy_seq::Want;
 use sy_terms::{Bodies, Sort, Term, Theory};
 use sy_text::{Name, write_symbol};

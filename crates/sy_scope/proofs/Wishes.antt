@@ -4,7 +4,7 @@ use Rattle.sy_terms.specs.Values.{Val}
 use Rattle.sy_terms.specs.declared.sort.Logic.{Logic}
 use Rattle.sy_grammar_base.specs.Questions.{question_of}
 use Rattle.sy_grammar_base.specs.declared.problem.Problem.{Problem}
-use Rattle.sy_scope_titles.specs.declared.Titles.{Titles}
+use Rattle.sy_scope_causes.specs.declared.titles.Titles.{Titles}
 use Rattle.sy_scope_ends.specs.declared.ScopeEnd.{ScopeEnd}
 use Rattle.sy_scope_ends.specs.declared.ScopeEnd.TheVariants as ends
 use Rattle.sy_scope_steps.specs.Files.{FileOutcome}

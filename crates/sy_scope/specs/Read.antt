@@ -5,7 +5,7 @@ use Rattle.sy_terms.specs.declared.sort.Logic.TheVariants.{Lia, Bv}
 use Rattle.sy_scope_causes.specs.declared.cause.Refused.{Refused}
 use Rattle.sy_grammar_base.specs.Questions.{question_of}
 use Rattle.sy_terms.specs.Values.{Val, Whole}
-use Rattle.sy_scope_titles.specs.declared.Titles.{Titles}
+use Rattle.sy_scope_causes.specs.declared.titles.Titles.{Titles}
 use Rattle.sy_grammar_base.specs.declared.problem.Problem.{Problem}
 use Rattle.sy_meaning_words.specs.Vectors.{vector}
 use Rattle.sy_scope_ends.specs.declared.ScopeEnd.{ScopeEnd}

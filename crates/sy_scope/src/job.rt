@@ -2,7 +2,7 @@
 use sy_grammar_base::Problem;
 use sy_meaning_integers::IntTheory;
 use sy_meaning_words::BvTheory;
-use sy_scope_titles::Titles;
+use sy_scope_causes::Titles;
 use sy_terms::Seq;
 
 /// What a file asks for: a problem for each `check-synth`, in order, and the names of the whole file's functions.

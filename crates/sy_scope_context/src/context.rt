@@ -7,7 +7,7 @@ use std::alloc::Global;
 use sy_forms::{Measures, Named, Names, Phrase};
 use sy_grammar_base::Problem;
 use sy_scope_pool::Pool;
-use sy_scope_rules::Group;
+use sy_scope_steps::Group;
 use sy_terms::{Logic, Seq, Sort, Term, Theory, Values};
 use sy_text::Name;
 

@@ -3,13 +3,13 @@ ghost use Rattle.std.specs.Prelude.{◌≡◌, map, IfOk};
 ghost use Rattle.sy_scope_steps.specs.Jobs as spec;
 ghost use Rattle.sy_scope_context.specs.Seen.{context_of, definition_of, sought_of};
 ghost use Rattle.sy_terms.specs.declared.sort.Logic.{Logic};
-ghost use Rattle.sy_forms_names.specs.declared.names.Named.{Named};
+ghost use Rattle.sy_forms_phrases.specs.declared.names.Named.{Named};
 ghost use Rattle.sy_scope_steps.specs.Contexts as contexts;
 
 use crate::context::{Context, Definition, Sought};
 use std::alloc::Global;
 use sy_forms::{Named, copied};
-use sy_scope_titles::{Title, Titles};
+use sy_scope_causes::{Title, Titles};
 use sy_terms::{Seq, Theory, Want};
 use sy_text::Name;
 

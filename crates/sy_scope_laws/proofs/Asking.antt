@@ -20,12 +20,12 @@ use Rattle.sy_terms_laws.proofs.Equations.{both_true, same_sort_is, same_sorts_i
 use Rattle.sy_grammar_base.specs.Formed.{is_known, is_formed}
 use Rattle.sy_terms.specs.Logics.{number_sorts, operators_of}
 use Rattle.sy_inv.specs.Conditions.{starts, keeps, ends}
-use Rattle.sy_forms_names.specs.declared.names.Entity.{Entity}
-use Rattle.sy_forms_names.specs.declared.names.Entity.TheVariants as entity
-use Rattle.sy_forms_names.specs.declared.names.Role.TheVariants as role
-use Rattle.sy_forms_names.specs.Environments.{entry_under}
+use Rattle.sy_forms_phrases.specs.declared.names.Entity.{Entity}
+use Rattle.sy_forms_phrases.specs.declared.names.Entity.TheVariants as entity
+use Rattle.sy_forms_phrases.specs.declared.names.Role.TheVariants as role
+use Rattle.sy_forms_phrases.specs.Environments.{entry_under}
 use Rattle.sy_forms_phrases.specs.Phrases.{Phrase}
-use Rattle.sy_scope_commands.specs.Requests.{Spelled}
+use Rattle.sy_scope_steps.specs.Requests.{Spelled}
 use Rattle.sy_forms_laws.specs.Fitting.{phrase_sort}
 use Rattle.sy_grammar_base.specs.Fits.{with_functions, GoalFits, QuestionFits}
 use Rattle.sy_forms_laws.specs.Right.{Extends}

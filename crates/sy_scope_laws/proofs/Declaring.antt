@@ -12,15 +12,15 @@ use Rattle.sy_terms.specs.declared.sort.Sort.TheVariants as sorts
 use Rattle.sy_terms.specs.declared.term.Fun.TheVariants as funs
 use Rattle.sy_grammar_base.specs.Formed.{is_known}
 use Rattle.sy_terms.specs.Logics.{number_sorts, operators_of}
-use Rattle.sy_forms_names.specs.declared.names.Entity.{Entity}
-use Rattle.sy_forms_names.specs.declared.names.Entity.TheVariants as entity
-use Rattle.sy_forms_names.specs.declared.names.Role.TheVariants as role
-use Rattle.sy_forms_names.specs.Environments.{entry_under}
-use Rattle.sy_forms_names.specs.Operators.{is_reserved}
+use Rattle.sy_forms_phrases.specs.declared.names.Entity.{Entity}
+use Rattle.sy_forms_phrases.specs.declared.names.Entity.TheVariants as entity
+use Rattle.sy_forms_phrases.specs.declared.names.Role.TheVariants as role
+use Rattle.sy_forms_phrases.specs.Environments.{entry_under}
+use Rattle.sy_forms_phrases.specs.Operators.{is_reserved}
 use Rattle.sy_forms_phrases.specs.Phrases.{Phrase}
-use Rattle.sy_forms_names.specs.Sorts.{read_sort}
-use Rattle.sy_scope_commands.specs.Requests.{Spelled}
-use Rattle.sy_scope_rules.specs.Lists.{sorts_of_names, read_named}
+use Rattle.sy_forms_phrases.specs.Sorts.{read_sort}
+use Rattle.sy_scope_steps.specs.Requests.{Spelled}
+use Rattle.sy_scope_steps.specs.Lists.{sorts_of_names, read_named}
 use Rattle.sy_forms_laws.specs.Fitting.{phrase_sort}
 use Rattle.sy_grammar_base.specs.Fits.{GoalFits}
 use Rattle.sy_forms_laws.specs.Right.{Extends}

@@ -9,3 +9,5 @@ pub mod Files
 pub mod Flags
 pub mod Placing
 pub mod Formed
+pub mod Titles
+pub mod FilesNamed

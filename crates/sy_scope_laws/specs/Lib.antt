@@ -1,3 +1,4 @@
 pub mod Sound
 pub mod Laws
 pub mod Rightly
+pub mod Titled

@@ -2,10 +2,10 @@
 use Rattle.std.specs.Prelude.{ℕ, List, map, Option, Result, Ok, Err}
 use Rattle.sy_terms.specs.declared.sort.Logic.{Logic}
 use Rattle.sy_scope_causes.specs.declared.cause.Refused.{Refused}
-use Rattle.sy_scope_titles.specs.declared.Title.{Title}
-use Rattle.sy_scope_titles.specs.declared.Titles.{Titles}
+use Rattle.sy_scope_causes.specs.declared.titles.Title.{Title}
+use Rattle.sy_scope_causes.specs.declared.titles.Titles.{Titles}
 use Rattle.sy_grammar_base.specs.Questions.{Question}
-use Rattle.sy_forms_names.specs.declared.names.Named.{Named}
+use Rattle.sy_forms_phrases.specs.declared.names.Named.{Named}
 use Rattle.sy_scope_steps.specs.Contexts.{Context, Definition, Sought}
 
 -- the names of the functions, in order of declaration

@@ -1,3 +1,8 @@
+pub mod Requests
+pub mod Asked
+pub mod Lists
+pub mod Grammars
+pub mod Seen
 pub mod Contexts
 pub mod Steps
 pub mod Files

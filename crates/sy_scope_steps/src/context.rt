@@ -1,6 +1,6 @@
 // Room for names, and new names.
 ghost use Rattle.std.specs.Prelude.{◌≡◌, None, IfOk};
-ghost use Rattle.sy_forms_names.specs.Environments.{entry_under};
+ghost use Rattle.sy_forms_phrases.specs.Environments.{entry_under};
 ghost use Rattle.sy_forms_items.specs.Readings.{ReadingGives};
 ghost use Rattle.sy_scope_steps.specs.Contexts as spec;
 ghost use Rattle.sy_scope_steps.specs.Known.{declared};

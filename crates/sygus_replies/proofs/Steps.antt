@@ -10,7 +10,7 @@ use Rattle.sy_terms.specs.declared.op.Op.{Op}
 use Rattle.sy_terms.specs.declared.sort.Sort.{Sort}
 use Rattle.sy_grammar_base.specs.Questions.{Question, question_of}
 use Rattle.sy_grammar_base.specs.declared.problem.Problem.{Problem}
-use Rattle.sy_scope_titles.specs.declared.Titles.{Titles}
+use Rattle.sy_scope_causes.specs.declared.titles.Titles.{Titles}
 use Rattle.sygus_replies.specs.Replies.{Reply}
 use Rattle.sygus_replies.specs.Answerable.{IsAnswerable}
 use Rattle.sygus_replies.specs.Texts.{answer_text, texts, answer_line, answer_lines}

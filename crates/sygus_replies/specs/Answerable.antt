@@ -7,7 +7,7 @@ use Rattle.sy_grammar_base.specs.Fits.{QuestionFits}
 use Rattle.sy_grammar_base.specs.Questions.{Question, question_of}
 use Rattle.sy_grammar_base.specs.Solving.{AreMembers}
 use Rattle.sy_grammar_base.specs.declared.problem.Problem.{Problem}
-use Rattle.sy_scope_titles.specs.declared.Titles.{Titles}
+use Rattle.sy_scope_causes.specs.declared.titles.Titles.{Titles}
 use Rattle.sy_reply.specs.Writable.{IsTitled}
 use Rattle.sygus_replies.specs.Replies.{Reply, Defined, Infeasible, Failed}
 

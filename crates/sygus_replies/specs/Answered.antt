@@ -3,7 +3,7 @@
 use Rattle.std.specs.Prelude.{ℕ, ◌≡◌, ◌≤◌, ◌+◌, ◌++◌, List, [], ◌∷◌, length, take, Option}
 use Rattle.std.specs.Io.KnownBytes.{Appends}
 use Rattle.sy_grammar_base.specs.Questions.{Question}
-use Rattle.sy_scope_titles.specs.declared.Titles.{Titles}
+use Rattle.sy_scope_causes.specs.declared.titles.Titles.{Titles}
 use Rattle.sygus_replies.specs.Replies.{Reply}
 use Rattle.sygus_replies.specs.Texts.{answer_text, texts, answer_line}
 

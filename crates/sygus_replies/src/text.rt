@@ -12,7 +12,7 @@ use sy_loop_outcome::{Outcome, fail_name};
 use sy_query_decide::Decide;
 use sy_reply::reply_text;
 use sy_reply_lines::fail_line;
-use sy_scope_titles::Titles;
+use sy_scope_causes::Titles;
 use sy_terms::{Theory, Want};
 
 /// The text of the reply to a `check-synth`: definitions, or the line `infeasible` or `fail`.

@@ -5,7 +5,7 @@ use Rattle.std.proofs.lemmas.List.Elements.{All-map}
 use Rattle.sy_terms.specs.Values.{Val}
 use Rattle.sy_terms.specs.declared.op.Op.{Op}
 use Rattle.sy_terms.specs.declared.sort.Sort.{Sort}
-use Rattle.sy_scope_titles.specs.declared.Titles.{Titles}
+use Rattle.sy_scope_causes.specs.declared.titles.Titles.{Titles}
 use Rattle.sy_scope_causes.specs.declared.cause.Refused.{Refused}
 use Rattle.sy_grammar_base.specs.Fits.{QuestionFits}
 use Rattle.sy_grammar_base.specs.Questions.{question_of}
@@ -15,8 +15,8 @@ use Rattle.sy_scope_steps.specs.Contexts.{Context}
 use Rattle.sy_scope_steps.specs.Files.{file_read}
 use Rattle.sy_scope_steps.specs.Jobs.{Wish, wish_of, wished}
 use Rattle.sy_reply.specs.Writable.{IsTitled}
-use Rattle.sy_scope_titles_laws.specs.Titled.{AreNamed}
-use Rattle.sy_scope_titles_laws.proofs.Files.{files_named}
+use Rattle.sy_scope_laws.specs.Titled.{AreNamed}
+use Rattle.sy_scope_laws.proofs.FilesNamed.{files_named}
 use Rattle.sygus_replies.specs.Answerable.{IsAnswerable}
 
 -- the context that a file leads to, where it asks for this

@@ -3,7 +3,7 @@ use Rattle.std.proofs.Common.{ℕ, List, []}
 use Rattle.std.specs.Prelude.{Option}
 use Rattle.std.specs.Io.KnownBytes.{Appends}
 use Rattle.sy_grammar_base.specs.Questions.{Question}
-use Rattle.sy_scope_titles.specs.declared.Titles.{Titles}
+use Rattle.sy_scope_causes.specs.declared.titles.Titles.{Titles}
 use Rattle.sygus_replies.specs.Texts.{texts, answer_lines}
 use Rattle.sygus_replies.proofs.Steps.{appended_nothing, texts-none, lines-none}
 

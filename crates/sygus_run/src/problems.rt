@@ -18,7 +18,7 @@ use sy_loop::synthesise_least;
 use sy_loop_outcome::Outcome;
 use sy_query_decide::Decide;
 use sy_query_limits::Limits;
-use sy_scope_titles::Titles;
+use sy_scope_causes::Titles;
 use sy_terms::{Seq, Theory, Want};
 use sygus_modes::tries_trees;
 use sygus_replies::{WriteFault, answer_line, answer_text, last, write_both};
