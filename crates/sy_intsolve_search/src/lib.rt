@@ -3,14 +3,18 @@
 
 mod back;
 mod choosing;
+mod conflict;
 mod cut;
 mod fork;
 mod leaf;
+mod measures;
 mod open;
 mod plan;
+mod rounds;
 mod search;
 mod spent;
 mod state;
+mod subset;
 mod way;
 
 pub use search::solve_query;

@@ -1,7 +1,7 @@
 use Rattle.std.proofs.Common.{arith, refl, subst}
 use Rattle.sy_linear_known.specs.Stored.{linear_query_of}
 use Rattle.sy_intsolve_trees.specs.Growing.{Farkas}
-use Rattle.sy_intsolve_subsets.specs.Telling.{IsNear}
+use Rattle.sy_intsolve_search.specs.Telling.{IsNear}
 use Rattle.sy_intsolve_search.proofs.Ways.{leaf-closed, inner-farkas}
 use Rattle.sy_intsolve_search.proofs.leaf.look.Goals as goal
 

@@ -1,6 +1,6 @@
 use Rattle.std.proofs.Common.{◌<◌, ◌^◌, length, sym, subst}
 use Rattle.sy_intsolve_paths_laws.specs.Paths.{IsPath}
-use Rattle.sy_intsolve_subsets.specs.Telling.{IsNear}
+use Rattle.sy_intsolve_search.specs.Telling.{IsNear}
 use Rattle.sy_intsolve_search.proofs.open.told_by_few.Goals as goal
 
 pub by_few_facts-requires : goal.by_few_facts-requires

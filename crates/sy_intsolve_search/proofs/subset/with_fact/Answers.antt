@@ -2,7 +2,7 @@ use Rattle.std.proofs.Common.{◌∷◌, ◌++◌, [], sym, subst}
 use Rattle.sy_linear_known.specs.declared.path.Fact.TheVariants.{AtLeast}
 use Rattle.sy_intsolve_paths_laws.specs.Paths.{IsPath}
 use Rattle.sy_intsolve_paths_laws.proofs.Paths.{path-form}
-use Rattle.sy_intsolve_subsets.proofs.choosing.with_fact.Goals as goal
+use Rattle.sy_intsolve_search.proofs.subset.with_fact.Goals as goal
 
 pub returns : goal.returns
 returns c vars path chosen =

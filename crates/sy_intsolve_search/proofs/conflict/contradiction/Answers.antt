@@ -1,8 +1,8 @@
 use Rattle.std.proofs.Common.{subst}
 use Rattle.sy_linear.specs.Judging.{contradiction_judged}
 use Rattle.sy_linear_known.specs.Trees.{forms, IsContradiction}
-use Rattle.sy_intsolve_subsets.proofs.Chosen.{told, contradicted}
-use Rattle.sy_intsolve_subsets.proofs.conflict.contradiction.Goals as goal
+use Rattle.sy_intsolve_search.proofs.Chosen.{told, contradicted}
+use Rattle.sy_intsolve_search.proofs.conflict.contradiction.Goals as goal
 
 pub returns-in-Ok-true : goal.returns-in-Ok-true
 returns-in-Ok-true c =

@@ -1,7 +1,7 @@
 use Rattle.std.proofs.Common.{subst}
 use Rattle.sy_intsolve_points.specs.Points.{IsMetBy}
-use Rattle.sy_intsolve_subsets.proofs.Chosen.{at_next}
-use Rattle.sy_intsolve_subsets.proofs.choosing.are_met.Goals as goal
+use Rattle.sy_intsolve_search.proofs.Chosen.{at_next}
+use Rattle.sy_intsolve_search.proofs.subset.are_met.Goals as goal
 
 pub loop-fact-preserved : goal.loop-fact-preserved
 loop-fact-preserved c vars at =

@@ -3,11 +3,11 @@ ghost use Rattle.std.specs.Prelude.{◌<◌, ◌^◌, [], List, length, IfOk};
 ghost use Rattle.sy_terms.specs.declared.sort.Sort.{Sort};
 ghost use Rattle.sy_intsolve_paths_laws.specs.Paths.{IsPath};
 ghost use Rattle.sy_intsolve_points.specs.Points.{IsPointOf};
-ghost use Rattle.sy_intsolve_subsets.specs.Telling.{IsNear, IsToldBy};
+ghost use Rattle.sy_intsolve_search.specs.Telling.{IsNear, IsToldBy};
 
-use crate::choosing::{are_met, with_fact};
 use crate::conflict::contradiction;
 use crate::measures::worst;
+use crate::subset::{are_met, with_fact};
 use std::alloc::Global;
 use sy_frac::Frac;
 use sy_intsolve_points::corner;
@@ -21,7 +21,7 @@ const MOST: u32 = 32;
 
 /// What few facts of a path tell of it.
 #[derive(Drop)]
-pub enum Near {
+pub(crate) enum Near {
     /// A point of the path.
     Point(Seq<Frac>),
     /// A multiplier for each form of the path, none of them negative, that combine the forms to a negative constant.
@@ -32,7 +32,7 @@ pub enum Near {
 
 /// What comes of the chosen facts.
 #[derive(Drop)]
-pub(crate) enum Turn {
+pub(crate) enum Round {
     /// The fact at this place isn't met at their corner.
     On(usize),
     /// This is told.
@@ -40,17 +40,17 @@ pub(crate) enum Turn {
 }
 
 /// What a corner of the chosen facts tells.
-fn by_corner(alloc: Global, facts: &[Fact], point: Seq<Frac>) -> Result<Turn, Want>
+fn by_corner(alloc: Global, facts: &[Fact], point: Seq<Frac>) -> Result<Round, Want>
     ensures { (vars : List Sort) → IsPointOf vars [] point → IfOk result (IsToldBy vars facts.now) }
 {
     let here = point.as_slice();
     if let Some(place) = worst(alloc, facts, here)? {
-        return Ok(Turn::On(place));
+        return Ok(Round::On(place));
     }
     if !are_met(facts, here) {
-        return Ok(Turn::Over(Near::Unknown));
+        return Ok(Round::Over(Near::Unknown));
     }
-    Ok(Turn::Over(Near::Point(point)))
+    Ok(Round::Over(Near::Point(point)))
 }
 
 /// What the chosen facts' multipliers tell.
@@ -59,12 +59,12 @@ fn by_multipliers(
     facts: &[Fact],
     places: &[usize],
     multipliers: &[Frac],
-) -> Result<Turn, Want>
+) -> Result<Round, Want>
     ensures { (vars : List Sort) → IfOk result (IsToldBy vars facts.now) }
 {
     match contradiction(alloc, facts, places, multipliers)? {
-        Some(all) => Ok(Turn::Over(Near::Conflict(all))),
-        None => Ok(Turn::Over(Near::Unknown)),
+        Some(all) => Ok(Round::Over(Near::Conflict(all))),
+        None => Ok(Round::Over(Near::Unknown)),
     }
 }
 
@@ -76,7 +76,7 @@ fn by_chosen(
     chosen: &[Fact],
     places: &[usize],
     pivots: u32,
-) -> Result<Turn, Want>
+) -> Result<Round, Want>
     requires few { length vars.now < 2 ^ 31 }
     requires chosen { IsPath vars.now chosen.now }
     ensures { IfOk result (IsToldBy vars.now facts.now) }
@@ -84,21 +84,26 @@ fn by_chosen(
     let Ended { answer, last: _ } = corner(alloc, vars, chosen, pivots)?;
     match answer {
         Feasible::Point(point) => {
-            let turn = by_corner(alloc, facts, point)?;
-            Ok(turn)
+            let round = by_corner(alloc, facts, point)?;
+            Ok(round)
         }
         Feasible::Conflict(multipliers) => {
-            let turn = by_multipliers(alloc, facts, places, multipliers.as_slice())?;
-            Ok(turn)
+            let round = by_multipliers(alloc, facts, places, multipliers.as_slice())?;
+            Ok(round)
         }
-        Feasible::Pivots(_) | Feasible::Range(_) => Ok(Turn::Over(Near::Unknown)),
+        Feasible::Pivots(_) | Feasible::Range(_) => Ok(Round::Over(Near::Unknown)),
     }
 }
 
 /// A point of the path, or multipliers that refute it, where few of its facts tell: the last one, and then each time the
 /// one that is least met at a corner of those before. Each run of the simplex method takes at most `pivots` steps. `Want`
 /// comes where memory runs out, and nowhere else.
-pub fn by_few_facts(alloc: Global, vars: &[Sort], facts: &[Fact], pivots: u32) -> Result<Near, Want>
+pub(crate) fn by_few_facts(
+    alloc: Global,
+    vars: &[Sort],
+    facts: &[Fact],
+    pivots: u32,
+) -> Result<Near, Want>
     requires few { length vars.now < 2 ^ 31 }
     requires path { IsPath vars.now facts.now }
     ensures { IfOk result (IsNear vars.now facts.now) }
@@ -117,8 +122,8 @@ pub fn by_few_facts(alloc: Global, vars: &[Sort], facts: &[Fact], pivots: u32) -
             places.as_slice(),
             pivots,
         )? {
-            Turn::On(next) => place = next,
-            Turn::Over(told) => return Ok(told),
+            Round::On(next) => place = next,
+            Round::Over(told) => return Ok(told),
         }
     }
     Ok(Near::Unknown)
