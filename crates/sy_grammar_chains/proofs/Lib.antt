@@ -5,6 +5,7 @@ pub mod Improved
 pub mod LeafTables
 pub mod Lists
 pub mod Magnitudes
+pub mod Marked
 pub mod Marks
 pub mod PartSizes
 pub mod Tabled

@@ -32,3 +32,12 @@ returns g c rule to found not =
     let within = slice_get_within (map (production_of number) c.args.rules.now) rule _ found in
     let sized = length-map c.args.rules.now (production_of number) in
     c.loop-rule.invariant rule to (omega (arith, within, sized, c.loop-rule-test.false)) found not
+
+pub returns-then-has_mark : goal.returns-then-has_mark
+returns-then-has_mark g c =
+    let number = g.T.Theory.denotes in
+    let i = c.loop-rule.rule-index in
+    let at = slice_get_read c.args.rules.now _ i c.rule-item.result refl c.loop-rule-test.true c.rule-item.is in
+    let here = mapped_at (production_of number) c.args.rules.now i c.rule-item.result at in
+    let named : production_of number c.rule-item.result ≡ Template (Occurrence c.in-Some.to) = rw c.in-Some.is at c.chain_of.ensures in
+    record { rule = i; at = here ∙ ap Some named; unset = c.has_mark.ensures.0 c.if-has_mark.true }

@@ -1,3 +1,4 @@
+use Rattle.std.proofs.lemmas.Result.{IfOk-from_err}
 use Rattle.sy_grammar_base.specs.Grown.{syntax_from}
 use Rattle.sy_grammar_chains.proofs.Marks.{marking_more, unset_less, marks_done}
 use Rattle.sy_grammar_chains.proofs.chains.reached.Goals as goal
@@ -19,3 +20,6 @@ returns g c =
     let said = rw c.in_default.is at c.next_mark.ensures in
     let full = rw (c.as_slice.ensures.value) at said in
     marks_done (syntax_from g.T.Theory.denotes c.args.g.now) c.args.from c.loop-to.marks.items c.loop-to.invariant full
+
+pub returns-in_err-marks : goal.returns-in_err-marks
+returns-in_err-marks g c = IfOk-from_err c.from_residual.result _ c.from_residual.ensures.0

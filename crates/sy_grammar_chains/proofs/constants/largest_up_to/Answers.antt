@@ -1,5 +1,6 @@
 use Rattle.std.proofs.Common.{◌∙◌, ◌-◌, sym, arith, map, nat_eq}
 use Rattle.std.specs.HashSet.{contains}
+use Rattle.std.proofs.lemmas.Result.{IfOk-from_err}
 use Rattle.sy_terms.specs.Denoted.{val_of}
 use Rattle.sy_grammar_chains.proofs.Held.{held_one}
 use Rattle.sy_grammar_chains.proofs.Magnitudes.{greatest_one, greatest_counted, ones_more}
@@ -30,3 +31,9 @@ returns g c =
           greatest_counted pool c.args.sort c.args.top magnitude c.requires w.loop-magnitude-test.true c.loop-magnitude.invariant.0 (sym held ∙ sym w.are_one.ensures ∙ w.if-are_one.false) c.loop-magnitude.invariant.1
       | else-loop-magnitude-test w ↦ absurd (let below = w.loop-magnitude-test.false in let above = c.if-magnitude-eq0.false in above (omega (arith, below)))
     ])
+
+pub returns-in_err-positive : goal.returns-in_err-positive
+returns-in_err-positive g c = IfOk-from_err c.from_residual.result _ c.from_residual.ensures.0
+
+pub returns-in_err-negative : goal.returns-in_err-negative
+returns-in_err-negative g c = IfOk-from_err c.from_residual-in_err-negative.result _ c.from_residual-in_err-negative.ensures.0

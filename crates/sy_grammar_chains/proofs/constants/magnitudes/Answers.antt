@@ -5,6 +5,7 @@ use Rattle.std.proofs.lemmas.Int.{to_z-of_z}
 use mir.Syntax.{w128}
 use mir.Val.{SFits}
 use Rattle.std.proofs.lemmas.List.{take_more, take_all}
+use Rattle.std.proofs.lemmas.Result.{IfOk-from_err}
 use Rattle.sy_terms.specs.Denoted.{val_of}
 use Rattle.sy_grammar_chains.proofs.Held.{held_more, held_kept, magnitude_abs}
 use Rattle.sy_grammar_chains.proofs.constants.magnitudes.Goals as goal
@@ -32,3 +33,6 @@ pub returns : goal.returns
 returns g c =
     let whole = take_all c.loop-value.value-index c.args.pool.now c.loop-value-test.false in
     rw (whole) at c.loop-value.invariant
+
+pub returns-in_err-insert : goal.returns-in_err-insert
+returns-in_err-insert g c = IfOk-from_err c.from_residual.result _ c.from_residual.ensures.0

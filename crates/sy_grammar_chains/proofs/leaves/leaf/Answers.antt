@@ -1,4 +1,5 @@
 use Rattle.std.proofs.Common.{◌∙◌, ap, map, min}
+use Rattle.std.proofs.lemmas.Result.{IfOk-from_err}
 use Rattle.sy_terms.specs.Denoted.{val_of}
 use Rattle.sy_grammar_chains.specs.Constants.{IsConstantSize}
 use Rattle.sy_grammar_chains.proofs.Best.{best_cut}
@@ -11,3 +12,6 @@ returns-in-Some g c =
 
 pub returns-in-None : goal.returns-in-None
 returns-in-None g c = rw (c.in-AnyConstant.is) (rw c.in-None.is at c.in_ok-size-in-AnyConstant.ensures)
+
+pub returns-in_err-size-in-AnyConstant : goal.returns-in_err-size-in-AnyConstant
+returns-in_err-size-in-AnyConstant g c = IfOk-from_err c.from_residual.result _ c.from_residual.ensures.0

@@ -1,5 +1,6 @@
 use Rattle.std.proofs.Common.{map, take}
 use Rattle.std.proofs.lemmas.List.{take_more, take_all}
+use Rattle.std.proofs.lemmas.Result.{IfOk-from_err}
 use Rattle.sy_terms.specs.Denoted.{val_of}
 use Rattle.sy_grammar_chains.proofs.LeafTables.{leaf_table_none, leaf_table_more, leaf_table_done}
 use Rattle.sy_grammar_chains.proofs.leaves.leaf_table.Goals as goal
@@ -21,3 +22,9 @@ returns g c =
     let number = g.T.Theory.denotes in
     let whole = take_all c.loop-item.item-index c.as_slice-item-items.result.now c.loop-item-test.false in
     leaf_table_done number c.args.g.now (map (val_of number) c.args.pool.now) c.args.limit c.loop-item.table.items (rw (whole, c.as_slice-item-items.ensures, c.nons.ensures) at c.loop-item.invariant)
+
+pub returns-in_err-best : goal.returns-in_err-best
+returns-in_err-best g c = IfOk-from_err c.from_residual.result _ c.from_residual.ensures.0
+
+pub returns-in_err-push : goal.returns-in_err-push
+returns-in_err-push g c = IfOk-from_err c.from_residual-in_err-push.result _ c.from_residual-in_err-push.ensures.0

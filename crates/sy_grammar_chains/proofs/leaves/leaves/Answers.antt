@@ -1,5 +1,6 @@
 use Rattle.std.proofs.Common.{map, take}
 use Rattle.std.proofs.lemmas.List.{take_more, take_all}
+use Rattle.std.proofs.lemmas.Result.{IfOk-from_err}
 use Rattle.sy_terms.specs.Denoted.{val_of}
 use Rattle.sy_grammar_base.specs.Grown.{production_of}
 use Rattle.sy_grammar_chains.proofs.Lists.{mapped-last}
@@ -18,3 +19,6 @@ pub returns : goal.returns
 returns g c =
     let whole = take_all c.loop-rule.rule-index c.args.rules.now c.loop-rule-test.false in
     rw (whole) at c.loop-rule.invariant
+
+pub returns-in_err-next : goal.returns-in_err-next
+returns-in_err-next g c = IfOk-from_err c.from_residual.result _ c.from_residual.ensures.0

@@ -1,4 +1,4 @@
-use Rattle.std.proofs.Common.{refl, arith, map}
+use Rattle.std.proofs.Common.{refl, ap, ◌∙◌, arith, map, Some}
 use Rattle.std.proofs.lemmas.List.{length-map}
 use Rattle.std.proofs.lemmas.Option.{slice_get_read}
 use Rattle.sy_grammar_base.specs.Grown.{production_of}
@@ -27,3 +27,12 @@ returns g c =
     let number = g.T.Theory.denotes in
     let sized = length-map c.args.rules.now (production_of number) in
     rules_done (map (production_of number) c.args.rules.now) c.args.limit c.args.table.now c.args.known c.loop-rule.rule-index (omega (arith, sized, c.loop-rule-test.false)) c.loop-rule.invariant
+
+pub returns-then-exceeds : goal.returns-then-exceeds
+returns-then-exceeds g c =
+    let number = g.T.Theory.denotes in
+    let i = c.loop-rule.rule-index in
+    let at = slice_get_read c.args.rules.now _ i c.rule-item.result refl c.loop-rule-test.true c.rule-item.is in
+    let here = mapped_at (production_of number) c.args.rules.now i c.rule-item.result at in
+    let said = rw c.in-Some.is at c.rule_size.ensures in
+    record { rule = i; pattern = said.0; at = here ∙ ap Some said.1; is = said.2; larger = c.exceeds.ensures.0 c.if-exceeds.true }

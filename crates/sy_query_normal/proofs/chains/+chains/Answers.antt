@@ -1,5 +1,6 @@
 use Rattle.std.proofs.Common.{arith, take}
 use Rattle.std.proofs.lemmas.List.{take_more}
+use Rattle.std.proofs.lemmas.Result.{IfOk-from_err}
 use Rattle.sy_terms.specs.Denoted.{expr_of-App, expr_of-Let}
 use Rattle.sy_meaning_words.specs.Vectors.{vector}
 use Rattle.sy_query_normal.proofs.Folds.{applied_paired, bound_paired, next_paired}
@@ -19,3 +20,27 @@ all_paired-loop-term-preserved t c =
     let more = take_more c.args.terms.now c.loop-term.term-index c.term-item.result (grind arith) in
     rw (more, ← c.term-item.is, c.in_ok-push.ensures.ok)
     (next_paired vector c.loop-term.all.items.items (take c.loop-term.term-index c.args.terms.now) c.in_ok-found.found c.term-item.result c.loop-term.invariant c.in_ok-found.ensures)
+
+pub paired-returns-in_err-arguments-in-App : goal.paired-returns-in_err-arguments-in-App
+paired-returns-in_err-arguments-in-App t c = IfOk-from_err c.from_residual.result _ c.from_residual.ensures.0
+
+pub paired-returns-in_err-found-in-App : goal.paired-returns-in_err-found-in-App
+paired-returns-in_err-found-in-App t c = IfOk-from_err c.from_residual-in_err-found-in-App.result _ c.from_residual-in_err-found-in-App.ensures.0
+
+pub paired-returns-in_err-bound-in-Let : goal.paired-returns-in_err-bound-in-Let
+paired-returns-in_err-bound-in-Let t c = IfOk-from_err c.from_residual-in_err-bound-in-Let.result _ c.from_residual-in_err-bound-in-Let.ensures.0
+
+pub paired-returns-in_err-inner-in-Let : goal.paired-returns-in_err-inner-in-Let
+paired-returns-in_err-inner-in-Let t c = IfOk-from_err c.from_residual-in_err-inner-in-Let.result _ c.from_residual-in_err-inner-in-Let.ensures.0
+
+pub paired-returns-in_err-new-in-Let : goal.paired-returns-in_err-new-in-Let
+paired-returns-in_err-new-in-Let t c = IfOk-from_err c.from_residual-in_err-new-in-Let.result _ c.from_residual-in_err-new-in-Let.ensures.0
+
+pub all_paired-returns-in_err-all : goal.all_paired-returns-in_err-all
+all_paired-returns-in_err-all t c = IfOk-from_err c.from_residual.result _ c.from_residual.ensures.0
+
+pub all_paired-returns-in_err-found : goal.all_paired-returns-in_err-found
+all_paired-returns-in_err-found t c = IfOk-from_err c.from_residual-in_err-found.result _ c.from_residual-in_err-found.ensures.0
+
+pub all_paired-returns-in_err-push : goal.all_paired-returns-in_err-push
+all_paired-returns-in_err-push t c = IfOk-from_err c.from_residual-in_err-push.result _ c.from_residual-in_err-push.ensures.0

@@ -1,5 +1,6 @@
 use Rattle.std.proofs.Common.{[], ◌∷◌, arith, take, ap, ◌∙◌}
 use Rattle.std.proofs.lemmas.List.{take_all, take_more}
+use Rattle.std.proofs.lemmas.Result.{IfOk-from_err}
 use Rattle.sy_terms.specs.Operators.{op_value}
 use Rattle.sy_terms.specs.Denoted.{expr_of, exprs_of}
 use Rattle.sy_terms.specs.Meaning.{meaning, meanings}
@@ -21,3 +22,9 @@ pub returns : goal.returns
 returns c = λ values.
     let whole = take_all c.loop-term.term-index c.args.rest.now (grind arith) in
     c.loop-term.invariant values ∙ ap (λ list. op_value c.args.operator (meaning [] [] values (expr_of vector c.args.first.now) ∷ meaning [] [] values (expr_of vector c.args.second.now) ∷ meanings [] [] values (exprs_of vector list))) whole
+
+pub returns-in_err-whole : goal.returns-in_err-whole
+returns-in_err-whole c = IfOk-from_err c.from_residual.result _ c.from_residual.ensures.0
+
+pub returns-in_err-whole-2 : goal.returns-in_err-whole-2
+returns-in_err-whole-2 c = IfOk-from_err c.from_residual-in_err-whole-2.result _ c.from_residual-in_err-whole-2.ensures.0

@@ -1,5 +1,6 @@
 use Rattle.std.proofs.Common.{[], ◌∷◌, arith, take, ap, ◌∙◌}
 use Rattle.std.proofs.lemmas.List.{take_all, take_more}
+use Rattle.std.proofs.lemmas.Result.{IfOk-from_err}
 use Rattle.sy_terms.specs.Operators.{op_value}
 use Rattle.sy_terms.specs.Denoted.{exprs_of}
 use Rattle.sy_terms.specs.Meaning.{meanings}
@@ -17,3 +18,12 @@ pub returns : goal.returns
 returns c = λ sort law values first.
     let whole = take_all c.loop-term.term-index c.args.terms.now (grind arith) in
     c.loop-term.invariant sort law values first ∙ ap (λ list. op_value c.args.operator (first ∷ meanings [] [] values (exprs_of vector list))) whole
+
+pub returns-in_err-parts : goal.returns-in_err-parts
+returns-in_err-parts c = IfOk-from_err c.from_residual.result _ c.from_residual.ensures.0
+
+pub returns-in_err-more : goal.returns-in_err-more
+returns-in_err-more c = IfOk-from_err c.from_residual-in_err-more.result _ c.from_residual-in_err-more.ensures.0
+
+pub returns-in_err-append : goal.returns-in_err-append
+returns-in_err-append c = IfOk-from_err c.from_residual-in_err-append.result _ c.from_residual-in_err-append.ensures.0

@@ -1,5 +1,6 @@
 use Rattle.std.proofs.Common.{[], ◌∷◌, arith, take, ap, ◌∙◌}
 use Rattle.std.proofs.lemmas.List.{take_all, take_more}
+use Rattle.std.proofs.lemmas.Result.{IfOk-from_err}
 use Rattle.sy_terms.specs.Operators.{op_value}
 use Rattle.sy_terms.specs.Denoted.{exprs_of}
 use Rattle.sy_terms.specs.Meaning.{meanings}
@@ -18,3 +19,12 @@ pub returns : goal.returns
 returns c = λ law values are first fits.
     let whole = take_all c.loop-part.part-index c.args.parts.now (grind arith) in
     c.loop-part.invariant law values are first fits ∙ ap (λ list. op_value c.args.operator (first ∷ meanings [] [] values (exprs_of vector list))) whole
+
+pub returns-in_err-ordered : goal.returns-in_err-ordered
+returns-in_err-ordered c = IfOk-from_err c.from_residual.result _ c.from_residual.ensures.0
+
+pub returns-in_err-has_sort : goal.returns-in_err-has_sort
+returns-in_err-has_sort c = IfOk-from_err c.from_residual-in_err-has_sort.result _ c.from_residual-in_err-has_sort.ensures.0
+
+pub returns-in_err-insert : goal.returns-in_err-insert
+returns-in_err-insert c = IfOk-from_err c.from_residual-in_err-insert.result _ c.from_residual-in_err-insert.ensures.0

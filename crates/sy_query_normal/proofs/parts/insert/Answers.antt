@@ -1,5 +1,6 @@
 use Rattle.std.proofs.Common.{◌≡◌, slice_get, Some, arith, sym, ◌∙◌}
 use Rattle.std.specs.Option.{option_map}
+use Rattle.std.proofs.lemmas.Result.{IfOk-from_err}
 use Rattle.sy_terms.specs.Denoted.{expr_of}
 use Rattle.sy_meaning_words.specs.Vectors.{vector}
 use Rattle.sy_query_normal.proofs.Terms.{put_in, taken_out, left_out}
@@ -21,3 +22,9 @@ pub returns : goal.returns
 returns c = λ sort law values sorted.
     let at : option_map (expr_of vector) (slice_get c.args.parts.now.items c.place_of-place.result) ≡ Some (expr_of vector c.args.part.now) = cc (c.is_at.ensures.is c.if-not-is_at.false) in
     left_out vector sort c.args.operator law values c.args.parts.now.items c.place_of-place.result (expr_of vector c.args.part.now) at (sym c.cancels.ensures ∙ c.if-cancels.false) sorted
+
+pub returns-in_err-copy : goal.returns-in_err-copy
+returns-in_err-copy c = IfOk-from_err c.from_residual.result _ c.from_residual.ensures.0
+
+pub returns-in_err-insert : goal.returns-in_err-insert
+returns-in_err-insert c = IfOk-from_err c.from_residual-in_err-insert.result _ c.from_residual-in_err-insert.ensures.0

@@ -1,4 +1,5 @@
 use Rattle.std.proofs.Common.{[], ◌∷◌, ◌++◌, refl, ap, ◌∙◌}
+use Rattle.std.proofs.lemmas.Result.{IfOk-from_err}
 use Rattle.sy_terms.specs.Operators.{op_value}
 use Rattle.sy_terms.specs.Denoted.{expr_of, exprs_of}
 use Rattle.sy_terms.specs.Meaning.{meanings}
@@ -17,3 +18,15 @@ pub returns-in_ok-push-in-None : goal.returns-in_ok-push-in-None
 returns-in_ok-push-in-None c = λ sort law values first.
     alone_stands vector c.args.operator values first c.push.new.self.items c.in_ok-part-in-None.part (expr_of vector c.args.term.now)
     (c.in_ok-push-in-None.ensures.items ∙ ap (λ list. list ++ c.in_ok-part-in-None.part ∷ []) c.in_ok-parts-in-None.ensures.items) c.in_ok-part-in-None.ensures
+
+pub returns-in_err-parts-in-Some : goal.returns-in_err-parts-in-Some
+returns-in_err-parts-in-Some c = IfOk-from_err c.from_residual.result _ c.from_residual.ensures.0
+
+pub returns-in_err-parts-in-None : goal.returns-in_err-parts-in-None
+returns-in_err-parts-in-None c = IfOk-from_err c.from_residual-in_err-parts-in-None.result _ c.from_residual-in_err-parts-in-None.ensures.0
+
+pub returns-in_err-part-in-None : goal.returns-in_err-part-in-None
+returns-in_err-part-in-None c = IfOk-from_err c.from_residual-in_err-part-in-None.result _ c.from_residual-in_err-part-in-None.ensures.0
+
+pub returns-in_err-push-in-None : goal.returns-in_err-push-in-None
+returns-in_err-push-in-None c = IfOk-from_err c.from_residual-in_err-push-in-None.result _ c.from_residual-in_err-push-in-None.ensures.0

@@ -1,4 +1,5 @@
 use Rattle.std.proofs.Common.{◌∙◌, subst}
+use Rattle.std.proofs.lemmas.Result.{IfOk-from_err}
 use Rattle.sy_terms.specs.Denoted.{expr_of}
 use Rattle.sy_query_base.specs.Asked.{query_of}
 use Rattle.sy_meaning_words.specs.Vectors.{vector}
@@ -12,3 +13,21 @@ returns-clause-same c =
     let is = subst (λ sorts. IsSameOver sorts (expr_of vector c.in_ok-written.written) (expr_of vector c.args.query.now.body)) c.as_slice-2.ensures c.in_ok-written.ensures in
     satisfied-same (query_of vector c.args.query.now) (query_of vector (record { vars = c.in_ok-vars.vars; body = c.in_ok-body.body })) same
     (λ values begin. c.in_ok-body.ensures values ∙ is values begin)
+
+pub returns-in_err-vars-clause-variables : goal.returns-in_err-vars-clause-variables
+returns-in_err-vars-clause-variables c = IfOk-from_err c.from_residual.result _ c.from_residual.ensures.0
+
+pub returns-in_err-vars-clause-same : goal.returns-in_err-vars-clause-same
+returns-in_err-vars-clause-same c = IfOk-from_err c.from_residual.result _ c.from_residual.ensures.0
+
+pub returns-in_err-written-clause-variables : goal.returns-in_err-written-clause-variables
+returns-in_err-written-clause-variables c = IfOk-from_err c.from_residual-in_err-written.result _ c.from_residual-in_err-written.ensures.0
+
+pub returns-in_err-written-clause-same : goal.returns-in_err-written-clause-same
+returns-in_err-written-clause-same c = IfOk-from_err c.from_residual-in_err-written.result _ c.from_residual-in_err-written.ensures.0
+
+pub returns-in_err-body-clause-variables : goal.returns-in_err-body-clause-variables
+returns-in_err-body-clause-variables c = IfOk-from_err c.from_residual-in_err-body.result _ c.from_residual-in_err-body.ensures.0
+
+pub returns-in_err-body-clause-same : goal.returns-in_err-body-clause-same
+returns-in_err-body-clause-same c = IfOk-from_err c.from_residual-in_err-body.result _ c.from_residual-in_err-body.ensures.0

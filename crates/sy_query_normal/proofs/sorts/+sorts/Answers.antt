@@ -1,5 +1,6 @@
 use Rattle.std.proofs.Common.{◌≡◌, [], arith, take, map, subst, sym, ap, ◌∙◌}
 use Rattle.std.proofs.lemmas.List.{take_all, take_more}
+use Rattle.std.proofs.lemmas.Result.{IfOk-from_err}
 use Rattle.sy_terms.specs.Sorts.{sort_of}
 use Rattle.sy_terms.specs.Theories.{sort_of_value}
 use Rattle.sy_terms.specs.Denoted.{expr_of, exprs_of, val_of, expr_of-Const, expr_of-Var}
@@ -42,3 +43,15 @@ application_sort-returns-in-Is t c = λ values sorted.
 pub application_sort-returns-then-gives_truth : goal.application_sort-returns-then-gives_truth
 application_sort-returns-then-gives_truth t c = λ values sorted.
     says_truth c.args.operator (meanings [] [] values (exprs_of vector c.args.terms.now)) (sym c.gives_truth.ensures ∙ c.if-gives_truth.true)
+
+pub sort_of-returns-in_err-found-in-App : goal.sort_of-returns-in_err-found-in-App
+sort_of-returns-in_err-found-in-App t c = IfOk-from_err c.from_residual.result _ c.from_residual.ensures.0
+
+pub application_sort-returns-in_err-found : goal.application_sort-returns-in_err-found
+application_sort-returns-in_err-found t c = IfOk-from_err c.from_residual.result _ c.from_residual.ensures.0
+
+pub application_sort-returns-in_err-sort : goal.application_sort-returns-in_err-sort
+application_sort-returns-in_err-sort t c = IfOk-from_err c.from_residual-in_err-sort.result _ c.from_residual-in_err-sort.ensures.0
+
+pub application_sort-returns-in_err-push : goal.application_sort-returns-in_err-push
+application_sort-returns-in_err-push t c = IfOk-from_err c.from_residual-in_err-push.result _ c.from_residual-in_err-push.ensures.0

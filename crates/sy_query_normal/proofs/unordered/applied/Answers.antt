@@ -1,4 +1,5 @@
 use Rattle.std.proofs.Common.{◌∷◌, arith, ap, sym}
+use Rattle.std.proofs.lemmas.Result.{IfOk-from_err}
 use Rattle.sy_terms.specs.Operators.{op_value}
 use Rattle.sy_terms.specs.Denoted.{expr_of, exprs_of, expr_of-App}
 use Rattle.sy_meaning_words.specs.Vectors.{vector}
@@ -15,3 +16,9 @@ returns-then-parts-eq1 c = λ law values first fits.
 pub returns : goal.returns
 returns c = λ law values first fits.
     sym (application_stands vector c.args.sort c.args.operator law values (expr_of vector _) (exprs_of vector c.in_ok-all.all.items.items) c.args.parts.now (expr_of-App vector c.args.operator c.in_ok-all.all) (sym c.in_ok-all.ensures) (omega arith) first)
+
+pub returns-in_err-term : goal.returns-in_err-term
+returns-in_err-term c = IfOk-from_err c.from_residual.result _ c.from_residual.ensures.0
+
+pub returns-in_err-all : goal.returns-in_err-all
+returns-in_err-all c = IfOk-from_err c.from_residual-in_err-all.result _ c.from_residual-in_err-all.ensures.0
