@@ -5,7 +5,7 @@ use std::alloc::Global;
 use std::process::Abort;
 use sy_bits::{BvDecide, fits};
 use sy_clauses::check;
-use sy_meaning::{BvTheory, Word};
+use sy_meaning_words::{BvTheory, Word};
 use sy_query::{Decide, Limits, Query, Verdict};
 use sy_terms::{Sort, Value};
 

@@ -3,7 +3,8 @@ use crate::rows::{field, number};
 use std::alloc::Global;
 use std::process::Abort;
 use sy_grammar::{Grammar, Part, Parts, Rule, default_grammar, tree_rule};
-use sy_meaning::{BvTheory, IntTheory};
+use sy_meaning_integers::IntTheory;
+use sy_meaning_words::BvTheory;
 use sy_terms::{Logic, Sort, Theory, spell};
 
 /// Whether the text tells the sort.

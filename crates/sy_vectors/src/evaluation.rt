@@ -10,9 +10,9 @@ use crate::rows::field;
 use crate::terms::{one, term, value};
 use std::alloc::Global;
 use std::process::Abort;
-use sy_meaning::{
-    BvTheory, Eval, IntTheory, Signature, Trace, evaluate_with, term_sort, value_sorts,
-};
+use sy_meaning::{Eval, Signature, Trace, evaluate_with, term_sort, value_sorts};
+use sy_meaning_integers::IntTheory;
+use sy_meaning_words::BvTheory;
 use sy_terms::{Bodies, Def, Defs, Seq, Sort, Term, Theory, Value, Values, same_value};
 
 /// Terms over the vector #x00 that call a function whose body is `bvnot`, where the definition is `bvneg`, with their values

@@ -9,7 +9,8 @@ use sy_grammar::{
     Derivation, Derivations, Grammar, Non, Part, Parts, Rule, chain_closure, derivation_size,
     derive, largest, well_formed,
 };
-use sy_meaning::{BvTheory, IntTheory};
+use sy_meaning_integers::IntTheory;
+use sy_meaning_words::BvTheory;
 use sy_terms::{Seq, Sort, Theory};
 
 /// The nonterminal `A` or `B`, the argument, `x`, or a value.

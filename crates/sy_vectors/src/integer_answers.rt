@@ -5,7 +5,7 @@ use std::alloc::Global;
 use std::process::Abort;
 use sy_intsolve::{IntDecide, fits};
 use sy_linear::check_tree;
-use sy_meaning::IntTheory;
+use sy_meaning_integers::IntTheory;
 use sy_query::{Decide, FailName, Limits, Query, Verdict};
 use sy_terms::Value;
 

@@ -1,5 +1,5 @@
 // What only calls show of operators, sorts and numbers.
-use sy_meaning::{BvTheory, Word};
+use sy_meaning_words::{BvTheory, Word};
 use sy_terms::{Fun, Op, Sort, Sorted, Theory, Value, operator_sort};
 
 /// Whether operators and functions are told apart by their indices, and by nothing else.

@@ -5,7 +5,8 @@ use crate::{
 };
 use std::alloc::Global;
 use std::process::Abort;
-use sy_meaning::{BvTheory, IntTheory};
+use sy_meaning_integers::IntTheory;
+use sy_meaning_words::BvTheory;
 
 /// All tables with their names.
 const TABLES: [(&str, &str); 23] = [
