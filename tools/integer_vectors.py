@@ -1,11 +1,12 @@
 #!/usr/bin/env python3
-"""Prints the rows of crates/sy_vectors/src/integers.rt, with values from z3.
+"""Prints the rows of tools/tests/questions/integers.txt, with values from z3.
 
     tools/integer_vectors.py
 
 A left associative operator is written out pair by pair, as SMT-LIB defines it, so that each partial
 value is seen: the row has `none` where one of them lies outside -2^127 to 2^127 - 1. SMT-LIB leaves
-division by 0 open; here `div` gives 0 and `mod` the dividend, and those rows don't ask z3.
+division by 0 open; here `div` gives 0 and `mod` the dividend, and those rows don't ask z3. Those that no file
+can have stand in crates/sy_vectors/src/integers.rt instead: `abs`, `div`, `mod`, and comparisons with a difference out of range.
 """
 import argparse
 import subprocess

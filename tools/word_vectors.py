@@ -1,9 +1,9 @@
 #!/usr/bin/env python3
-"""Prints the rows of crates/sy_vectors/src/words.rt: values of SMT-LIB's operators on bit vectors, as z3 gives them.
+"""Prints the rows of tools/tests/questions/words.txt: values of SMT-LIB's operators on bit vectors, as z3 gives them.
 
     tools/word_vectors.py
 
-It needs z3 on the path.
+It needs z3 on the path. Those that no file can have, rotations by 203, stand in crates/sy_vectors/src/words.rt instead.
 """
 import argparse
 import random

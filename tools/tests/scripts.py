@@ -137,11 +137,14 @@ def measured():
 
 
 def vectors():
-    """The tables of operators' values are what the scripts print, where z3 is there."""
+    """The rows of operators' values, of whole runs and of the crate of examples, are what the scripts print, where z3 is there."""
     for name in ["integer", "word"] if shutil.which("z3") else []:
         table = (TOP / "crates" / "sy_vectors" / "src" / f"{name}s.rt").read_text().partition("= \"\\\n")[2].partition("\";")[0]
-        printed = subprocess.run([TOP / "tools" / f"{name}_vectors.py"], capture_output=True, text=True).stdout
-        yield f"table of {name} vectors", printed == table
+        called = table.replace("|", " ").splitlines()
+        asked = (TOP / "tools" / "tests" / "questions" / f"{name}s.txt").read_text().splitlines()
+        printed = subprocess.run([TOP / "tools" / f"{name}_vectors.py"], capture_output=True, text=True).stdout.splitlines()
+        yield f"table of {name} vectors", [row for row in printed if row in called] == called
+        yield f"questions of {name} vectors", [row for row in printed if row not in called] == asked
 
 
 def checks():

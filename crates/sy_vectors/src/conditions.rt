@@ -2,7 +2,7 @@
 use std::alloc::Global;
 use std::process::Abort;
 use sy_inv::expand;
-use sy_meaning::IntTheory;
+use sy_meaning_integers::IntTheory;
 
 /// Whether the conditions over one variable have their sizes.
 pub fn are_expanded(rt: &impl Abort, alloc: Global) -> bool {

@@ -5,7 +5,7 @@ use crate::rows::field;
 use std::alloc::Global;
 use std::process::Abort;
 use sy_linear::{Fact, Known, Path, Test, known};
-use sy_meaning::IntTheory;
+use sy_meaning_integers::IntTheory;
 use sy_terms::{Seq, Want};
 
 /// Facts with semicolons between them: `B` where the second variable is true, `!B` where it is false, or a form that is at

@@ -2,7 +2,6 @@
 use crate::evaluation::values;
 use crate::operators::operator;
 use crate::rows::{are_numbers, field, number};
-use crate::sorts::sort;
 use crate::terms::{one, term, value};
 use std::alloc::Global;
 use std::process::Abort;
@@ -10,7 +9,8 @@ use sy_grammar::{
     Derivation, Derivations, Grammar, Non, Part, Parts, Rule, chain_closure, derivation_size,
     derive, largest, well_formed,
 };
-use sy_meaning::{BvTheory, IntTheory};
+use sy_meaning_integers::IntTheory;
+use sy_meaning_words::BvTheory;
 use sy_terms::{Seq, Sort, Theory};
 
 /// The nonterminal `A` or `B`, the argument, `x`, or a value.
@@ -54,13 +54,6 @@ fn nonterminals<T: Theory>(rt: &impl Abort, alloc: Global, sort: Sort, text: &st
         nons.push(Non { sort, rules }).expect(rt, texts);
     }
     nons
-}
-
-/// Whether a nonterminal for integers with the row's rule fits, over one truth value, just where the row tells so.
-pub fn fits(rt: &impl Abort, alloc: Global, row: &str) -> bool {
-    let args = one(rt, alloc, Sort::Bool);
-    let nons = nonterminals::<IntTheory>(rt, alloc, Sort::Int, field(row, 0));
-    well_formed(&args, &nons, &Seq::new(alloc)) == (field(row, 1) == "fits")
 }
 
 /// Whether no nonterminal fits.
@@ -151,17 +144,24 @@ fn is_told<T: Theory>(
             None => false,
         },
         "no sum" => found.is_none(),
+        "fits" => true,
+        "fails" => false,
         what => size(rt, alloc, grammar, what == "sum", row) == number(row, 5),
     }
 }
 
-/// Whether the row's nonterminals are a grammar over one argument of their sort, of which what the row tells holds.
+/// Whether the row's nonterminals are a grammar over one argument of their sort, of which what the row tells holds; or whether
+/// they fit over one truth value just where the row tells so.
 pub fn is_right<T: Theory>(rt: &impl Abort, alloc: Global, sort: Sort, row: &str) -> bool {
-    let args = one(rt, alloc, sort);
+    let argument = match field(row, 2) {
+        "fits" | "fails" => Sort::Bool,
+        _ => sort,
+    };
+    let args = one(rt, alloc, argument);
     let nons = nonterminals::<T>(rt, alloc, sort, field(row, 1));
     let defs = Seq::new(alloc);
     if !well_formed(&args, &nons, &defs) {
-        return false;
+        return field(row, 2) == "fails";
     }
     let grammar = Grammar::new(args, nons, &defs);
     let asked = if field(row, 2) == "no sum" {
@@ -179,32 +179,28 @@ pub fn is_right<T: Theory>(rt: &impl Abort, alloc: Global, sort: Sort, row: &str
 
 /// The same over integers, or over vectors of the sort's width.
 pub fn is_right_of_sort(rt: &impl Abort, alloc: Global, row: &str) -> bool {
-    match sort(rt, field(row, 0)) {
-        Sort::Int => is_right::<IntTheory>(rt, alloc, Sort::Int, row),
-        sort => is_right::<BvTheory>(rt, alloc, sort, row),
+    match field(row, 0).parse() {
+        Ok(width) => is_right::<BvTheory>(rt, alloc, Sort::Bits(width), row),
+        Err(_) => is_right::<IntTheory>(rt, alloc, Sort::Int, row),
     }
 }
 
-/// Rules of a nonterminal for integers over one truth value, and whether they fit.
-pub const RULES: &str = "\
-k|fits
-k8|fails
-A|fits
-B|fails
-x|fails
-5|fits
--5|fails
-+ A A A A A|fits
-* A A A A A|fails
-<= A A A A A|fails
-bvadd A A A A A|fails
-";
-
-/// The sort of all nonterminals, their rules, and what is told: what chain rules reach from each; the largest size, by a pool
-/// and up to a cap; the rules by which the argument is derived, or that the sum of the argument with itself isn't; and the
-/// size, up to a cap, of the sum of the argument and a number by a pool of 7, or of a number alone by no pool. Integers have
-/// up to 127 digits, and vectors count theirs where the pool lacks one.
+/// The sort of all nonterminals, their rules, and what is told: whether they fit over one truth value; what chain rules reach
+/// from each; the largest size, by a pool and up to a cap; the rules by which the argument is derived, or that the sum of the
+/// argument with itself isn't; and the size, up to a cap, of the sum of the argument and a number by a pool of 7, or of a number
+/// alone by no pool. Integers have up to 127 digits, and vectors count theirs where the pool lacks one.
 pub const CASES: &str = "\
+Int|k|fits
+Int|k8|fails
+Int|A|fits
+Int|B|fails
+Int|x|fails
+Int|5|fits
+Int|-5|fails
+Int|+ A A A A A|fits
+Int|* A A A A A|fails
+Int|<= A A A A A|fails
+Int|bvadd A A A A A|fails
 Int|B,B;A,x|reaches|0 1;0 1
 Int|B,B;A,x|largest||12|1
 Int|1,+ 1 A|largest||12|none

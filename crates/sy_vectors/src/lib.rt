@@ -1,11 +1,9 @@
-// Worked examples of public calls of several areas, and each operator's sorts, spelling and values, by terms and by circuits;
-// `sy_vectors_scope` has those of files and of the command line.
+// Worked examples of public calls of several areas, as far as no whole run shows what they answer; `sy_vectors_scope` has those
+// of files and of the command line.
 #![tactic(auto)]
 
 #[cfg(test)]
 mod answers;
-#[cfg(test)]
-mod circuits;
 #[cfg(test)]
 mod clauses;
 #[cfg(test)]
@@ -35,11 +33,7 @@ mod joins;
 #[cfg(test)]
 mod measures;
 #[cfg(test)]
-mod numbers;
-#[cfg(test)]
 mod operators;
-#[cfg(test)]
-mod points;
 #[cfg(test)]
 mod queries;
 #[cfg(test)]

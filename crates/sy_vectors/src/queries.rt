@@ -35,22 +35,15 @@ T true
 9 4:9
 F 4:15
 L let/1
-! not/1
 & and/2
 v or/2
-^ xor/2
-i =>/2
 ? ite/3
 = =/2
 # distinct/2
 ~ bvnot/1
 n bvneg/1
 w bvand/2
-o bvor/2
 x bvxor/2
-W bvnand/2
-O bvnor/2
-X bvxnor/2
 + bvadd/2
 - bvsub/2
 * bvmul/2
@@ -58,7 +51,6 @@ P bvadd/3
 M bvmul/3
 / bvudiv/2
 % bvurem/2
-d bvsdiv/2
 r bvsrem/2
 m bvsmod/2
 l bvshl/2
@@ -66,12 +58,7 @@ g bvlshr/2
 a bvashr/2
 < bvult/2
 > bvugt/2
-u bvule/2
-U bvuge/2
 s bvslt/2
-S bvsgt/2
-t bvsle/2
-G bvsge/2
 p bvcomp/2
 c concat/2
 e extract,6,3/1
@@ -79,7 +66,6 @@ z rotate_left,1/1
 y rotate_right,3/1
 Z zero_extend,4/1
 N sign_extend,4/1
-R repeat,2/1
 ";
 
 /// The words of signs over integers, where `M` is the greatest number of 128 bits, `N` the least, and `m` is -1.

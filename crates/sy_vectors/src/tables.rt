@@ -1,37 +1,28 @@
 // The tables, row by row.
 use crate::{
-    answers, circuits, clauses, conditions, cuts, defaults, evaluation, facts, forms, fractions,
-    gates, grammars, integer_answers, integers, joins, measures, numbers, operators, points, sorts,
-    trees, words,
+    answers, clauses, conditions, cuts, defaults, evaluation, facts, forms, fractions, gates,
+    grammars, integer_answers, integers, joins, measures, operators, sorts, trees, words,
 };
 use std::alloc::Global;
 use std::process::Abort;
-use sy_meaning::{BvTheory, IntTheory};
+use sy_meaning_integers::IntTheory;
+use sy_meaning_words::BvTheory;
 
 /// All tables with their names.
-const TABLES: [(&str, &str); 31] = [
-    ("operators at pairs", numbers::PAIRS),
-    ("sorts", sorts::ROWS),
-    ("circuits", circuits::ROWS),
+const TABLES: [(&str, &str); 23] = [
     ("gates", gates::ROWS),
     ("measures of integers", measures::INTEGERS),
     ("measures of vectors", measures::VECTORS),
-    ("terms over integers", evaluation::INTEGERS),
-    ("terms over vectors", evaluation::VECTORS),
     ("calls", evaluation::CALLS),
+    ("calls", words::ROWS),
     ("integers", integers::ROWS),
-    ("vectors", words::ROWS),
-    ("vectors", evaluation::MORE),
-    ("rules", grammars::RULES),
+    ("integers", integers::NAMED),
     ("grammars", grammars::CASES),
     ("default grammars", defaults::ROWS),
     ("joins", joins::ROWS),
     ("formulas", clauses::FORMULAS),
     ("logs", clauses::LOGS),
-    ("queries", answers::ANSWERS),
-    ("queries", answers::EQUAL_GATES),
-    ("queries", answers::SETTLED),
-    ("queries", answers::WEIGHTS),
+    ("queries", answers::ROWS),
     ("queries of each width", answers::THEMSELVES),
     ("fractions", fractions::ROWS),
     ("forms", forms::ROWS),
@@ -41,16 +32,12 @@ const TABLES: [(&str, &str); 31] = [
     ("cuts", cuts::ROWS),
     ("queries over integers", integer_answers::ROWS),
     ("others", OTHERS),
+    ("sorts", SORTS),
 ];
 
 /// What stands in no table.
 const OTHERS: &str = "\
-operators are spelled as in files
-operators are told apart by their indices
-numbers of sorts
 an invariant's conditions
-points
-pairs
 no nonterminal
 a default grammar's choice
 gates of a large table
@@ -60,15 +47,29 @@ a chain by many lines
 forms by calls
 ";
 
-/// Whether this holds.
-fn holds(rt: &impl Abort, alloc: Global, row: &str) -> bool {
+/// What stands in no table of operators and sorts.
+const SORTS: &str = "\
+operators are spelled as in files
+operators are told apart by their indices
+sorts of operators
+numbers of sorts
+";
+
+/// Whether this holds of operators and sorts.
+fn holds_of_sorts(row: &str) -> bool {
     match row {
         "operators are spelled as in files" => operators::are_spelled(),
         "operators are told apart by their indices" => sorts::are_told_apart(),
-        "numbers of sorts" => numbers::are_numbered(),
+        "sorts of operators" => sorts::are_found(),
+        "numbers of sorts" => sorts::are_numbered(),
+        _ => false,
+    }
+}
+
+/// Whether this holds.
+fn holds(rt: &impl Abort, alloc: Global, row: &str) -> bool {
+    match row {
         "an invariant's conditions" => conditions::are_expanded(rt, alloc),
-        "points" => points::adds_one_of_two(rt, alloc),
-        "pairs" => points::keeps_pairs(rt, alloc),
         "no nonterminal" => !grammars::does_nothing_fit(alloc),
         "a default grammar's choice" => defaults::byte_chooses(rt, alloc),
         "gates of a large table" => gates::is_made_once(rt, alloc),
@@ -77,17 +78,6 @@ fn holds(rt: &impl Abort, alloc: Global, row: &str) -> bool {
         "a chain by many lines" => clauses::refutes_ordered(rt, alloc, false),
         "forms by calls" => forms::are_built(rt, alloc),
         _ => false,
-    }
-}
-
-/// Whether the row of this table on terms is right.
-fn is_of_terms(rt: &impl Abort, alloc: Global, table: &str, row: &str) -> bool {
-    match table {
-        "measures of integers" => {
-            measures::is_right::<IntTheory>(rt, alloc, measures::INTEGERS, row)
-        }
-        "measures of vectors" => measures::is_right::<BvTheory>(rt, alloc, measures::VECTORS, row),
-        _ => evaluation::is_told_by(rt, alloc, table, row),
     }
 }
 
@@ -100,9 +90,7 @@ fn is_told(rt: &impl Abort, alloc: Global, table: &str, row: &str) -> bool {
         "systems" => forms::answer(rt, alloc, start),
         "facts" => facts::told(rt, alloc, start),
         "trees" => trees::told(rt, alloc, start),
-        "queries over integers" => integer_answers::told(rt, alloc, start),
-        "cuts" => return cuts::is_right(rt, alloc, start, wanted),
-        _ => return is_of_terms(rt, alloc, table, row),
+        _ => return cuts::is_right(rt, alloc, start, wanted),
     };
     told.expect(rt, "memory").as_str() == wanted
 }
@@ -110,11 +98,13 @@ fn is_told(rt: &impl Abort, alloc: Global, table: &str, row: &str) -> bool {
 /// Whether the row of this table is right.
 fn is_right(rt: &impl Abort, alloc: Global, table: &str, row: &str) -> bool {
     match table {
-        "operators at pairs" => numbers::is_right(rt, row),
-        "sorts" => sorts::is_right(rt, alloc, row),
-        "circuits" => circuits::is_right(rt, alloc, row),
         "gates" => gates::is_right(rt, alloc, row),
-        "rules" => grammars::fits(rt, alloc, row),
+        "measures of integers" => {
+            measures::is_right::<IntTheory>(rt, alloc, measures::INTEGERS, row)
+        }
+        "measures of vectors" => measures::is_right::<BvTheory>(rt, alloc, measures::VECTORS, row),
+        "calls" => evaluation::is_noted(rt, alloc, row),
+        "integers" => evaluation::is_valued(rt, alloc, row),
         "grammars" => grammars::is_right_of_sort(rt, alloc, row),
         "default grammars" => defaults::is_right(rt, alloc, row),
         "joins" => joins::is_right(rt, alloc, row),
@@ -122,7 +112,9 @@ fn is_right(rt: &impl Abort, alloc: Global, table: &str, row: &str) -> bool {
         "logs" => clauses::is_right(rt, alloc, row),
         "queries" => answers::is_right(rt, alloc, row),
         "queries of each width" => answers::is_plain(rt, alloc, row),
+        "queries over integers" => integer_answers::is_right(rt, alloc, row),
         "others" => holds(rt, alloc, row),
+        "sorts" => holds_of_sorts(row),
         _ => is_told(rt, alloc, table, row),
     }
 }

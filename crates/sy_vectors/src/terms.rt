@@ -15,18 +15,29 @@ pub fn one<X: Drop>(rt: &impl Abort, alloc: Global, item: X) -> Seq<X>
     items
 }
 
-/// A truth value, an integer, or a vector's width and number, as `8:200`.
-pub fn value<T: Theory>(text: &str) -> Option<Value<T::Num>> {
-    if text == "true" || text == "false" {
-        return Some(Value::Truth(text == "true"));
-    }
-    let (sort, number) = match text.split_once(':') {
-        Some((width, number)) => (Sort::Bits(width.parse().unwrap_or(0)), number),
-        None => (Sort::Int, text),
+/// An integer, or a vector's width and number, as `8:200`.
+fn number<T: Theory>(text: &str) -> Option<T::Num> {
+    let (width, number) = text.split_once(':').unwrap_or(("", text));
+    let sort = match width.parse() {
+        Ok(width) => Sort::Bits(width),
+        Err(_) => Sort::Int,
     };
-    let number: i128 = number.parse().ok()?;
-    let number = T::of_number(sort, number)?;
-    Some(Value::Num(number))
+    match number.parse() {
+        Ok(number) => T::of_number(sort, number),
+        Err(_) => None,
+    }
+}
+
+/// A truth value, an integer, or a vector's width and number.
+pub fn value<T: Theory>(text: &str) -> Option<Value<T::Num>> {
+    match text {
+        "true" => Some(Value::Truth(true)),
+        "false" => Some(Value::Truth(false)),
+        _ => match number::<T>(text) {
+            Some(number) => Some(Value::Num(number)),
+            None => None,
+        },
+    }
 }
 
 /// Takes so many of the last terms, the last one first.

@@ -6,7 +6,7 @@ use crate::rows::field;
 use std::alloc::Global;
 use std::process::Abort;
 use sy_linear::{CheckEnd, Test, Tree, check_tree};
-use sy_meaning::IntTheory;
+use sy_meaning_integers::IntTheory;
 use sy_terms::Want;
 
 /// The last tree.
