@@ -1,7 +1,8 @@
-use Rattle.std.proofs.Common.{arith, refl}
-use Rattle.std.proofs.lemmas.List.{take_more}
+use Rattle.std.proofs.Common.{◌+◌, ◌∙◌, ap, arith, length, refl}
+use Rattle.std.proofs.lemmas.List.{take_all, take_more}
 use Rattle.std.proofs.lemmas.Option.{slice_get-get_or}
-use Rattle.sy_grammar_base.specs.Written.{pattern_of-Const, pattern_of-Var, pattern_of-Non, pattern_of-App, pattern_of-Call, all_occurring-at, all_occurring-last}
+use Rattle.sy_grammar_base.specs.Patterns.{all_occurring}
+use Rattle.sy_grammar_base.specs.Written.{patterns_of, pattern_of-Const, pattern_of-Var, pattern_of-Non, pattern_of-App, pattern_of-Call, all_occurring-at, all_occurring-last}
 use Rattle.sy_grammar_base.proofs.part.+occurrence.Goals as goal
 
 pub Part::occurrence-returns-in-Const : goal.Part::occurrence-returns-in-Const
@@ -31,3 +32,8 @@ pub Parts::occurrence-loop-part-preserved : goal.Parts::occurrence-loop-part-pre
 Parts::occurrence-loop-part-preserved g t c =
     let more = take_more c.deref-part-items.result.now c.loop-part.part-index c.part-item.result (grind arith) in
     rw (more, ← c.part-item.is, all_occurring-last) (omega (arith, c.in-Err.ensures, c.loop-part.invariant))
+
+pub Parts::occurrence-returns : goal.Parts::occurrence-returns
+Parts::occurrence-returns g t c =
+    let all = take_all c.loop-part.part-index c.deref-part-items.result.now c.loop-part-test.false in
+    rw (← c.deref-part-items.ensures.value) (c.loop-part.invariant ∙ ap (λ parts. length (all_occurring (patterns_of g.T.Theory.denotes parts)) + c.loop-part.rest) all)

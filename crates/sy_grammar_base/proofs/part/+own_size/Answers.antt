@@ -1,6 +1,7 @@
-use Rattle.std.proofs.Common.{arith}
-use Rattle.std.proofs.lemmas.List.{take_more}
-use Rattle.sy_grammar_base.specs.Written.{pattern_of-Const, pattern_of-Var, pattern_of-Non, pattern_of-App, pattern_of-Call, own_sizes-last}
+use Rattle.std.proofs.Common.{arith, ap, min, ◌∙◌}
+use Rattle.std.proofs.lemmas.List.{take_all, take_more}
+use Rattle.sy_grammar_base.specs.Patterns.{own_sizes}
+use Rattle.sy_grammar_base.specs.Written.{patterns_of, pattern_of-Const, pattern_of-Var, pattern_of-Non, pattern_of-App, pattern_of-Call, own_sizes-last}
 use Rattle.sy_grammar_base.proofs.part.+own_size.Goals as goal
 use Rattle.sy_grammar_base.proofs.part.+own_size.Goals.{Part::own_size-in-Const, Part::own_size-in-Var, Part::own_size-in-App, Part::own_size-in-Call}
 
@@ -19,3 +20,11 @@ pub Parts::own_size-loop-part-preserved : goal.Parts::own_size-loop-part-preserv
 Parts::own_size-loop-part-preserved g t c =
     let more = take_more c.deref-part-items.result.now c.loop-part.part-index c.part-item.result (grind arith) in
     rw (more, ← c.part-item.is, own_sizes-last) (grind arith)
+
+pub Parts::own_size-loop-part-init : goal.Parts::own_size-loop-part-init
+Parts::own_size-loop-part-init g t c = omega arith
+
+pub Parts::own_size-returns : goal.Parts::own_size-returns
+Parts::own_size-returns g t c =
+    let all = take_all c.loop-part.part-index c.deref-part-items.result.now c.loop-part-test.false in
+    rw (← c.deref-part-items.ensures.value) (c.loop-part.invariant ∙ ap (λ parts. min c.args.cap (own_sizes (patterns_of g.T.Theory.denotes parts))) all)
