@@ -1,12 +1,12 @@
 // The choice among the open tests that are listed.
-use crate::guide::Guide;
+use crate::asking::Occurrence;
 use crate::marks::Mark;
-use crate::walk::Occurrence;
+use std::alloc::Global;
 use sy_seq::Want;
 
 /// What is counted of a test.
 #[derive(Clone, Copy)]
-pub(crate) struct Tally {
+struct Tally {
     /// How often it is listed.
     count: u32,
     /// The last group but the common one in which it was listed, else 0.
@@ -17,7 +17,7 @@ pub(crate) struct Tally {
 
 impl Tally {
     /// A test that isn't listed.
-    pub(crate) fn none() -> Tally {
+    fn none() -> Tally {
         Tally {
             count: 0,
             group: 0,
@@ -39,58 +39,45 @@ impl Tally {
     }
 }
 
-impl Guide {
-    /// Whether the bounds on differences of variables tell the test.
-    fn is_told(&self, test: usize) -> bool {
-        let Some(number) = test.checked_sub(self.variables.len()) else {
-            return false;
-        };
-        match self.tables.form(number) {
-            Some(form) => self.zones.told(form).is_some(),
-            None => false,
+/// What is known of the node of this number.
+fn mark_of(marks: &[Mark], node: usize) -> Mark {
+    match marks.get(node) {
+        Some(mark) => *mark,
+        None => Mark::root(),
+    }
+}
+
+/// What is counted of the listed tests.
+#[derive(Drop)]
+pub(crate) struct Counts {
+    tallies: Vec<Tally>,
+    /// How many tests are listed in each group.
+    sizes: Vec<u32>,
+}
+
+impl Counts {
+    /// Nothing. It takes no memory.
+    pub(crate) fn new(alloc: Global) -> Counts {
+        Counts {
+            tallies: Vec::new(alloc),
+            sizes: Vec::new(alloc),
         }
     }
 
-    /// The first listed test that these bounds tell.
-    pub(crate) fn forced(&self) -> Option<usize> {
-        for occurrence in self.listed.as_slice() {
-            if self.is_told(occurrence.test) {
-                return Some(occurrence.test);
-            }
-        }
-        None
-    }
-
-    /// What is known of the node of this number.
-    fn mark_of(&self, node: usize) -> Mark {
-        match self.marks.get(node) {
-            Some(mark) => *mark,
-            None => Mark::root(),
-        }
-    }
-
-    /// Counts a listed test, and where it is the first time in its group, that group.
-    fn tally(&mut self, occurrence: Occurrence) {
-        let group = self.mark_of(occurrence.node).group;
-        let is_first = match self.tallies.get_mut(occurrence.test) {
-            Some(tally) => tally.add(group),
-            None => false,
-        };
-        if is_first && let Some(size) = self.sizes.get_mut(group) {
-            *size = size.saturating_add(1);
-        }
-    }
-
-    /// Counts the listed tests, and for each group those that are listed in it.
-    pub(crate) fn count(&mut self) -> Result<(), Want> {
-        let tests = self.tests();
+    /// Counts the listed tests, of so many, and for each group those that are listed in it.
+    fn count(&mut self, tests: usize, marks: &[Mark], listed: &[Occurrence]) -> Result<(), Want> {
         self.tallies.clear();
         self.tallies.resize(tests, Tally::none())?;
         self.sizes.clear();
-        self.sizes.resize(self.marks.len(), 0)?;
-        for at in 0..self.listed.len() {
-            if let Some(occurrence) = self.listed.get(at).copied() {
-                self.tally(occurrence);
+        self.sizes.resize(marks.len(), 0)?;
+        for occurrence in listed {
+            let group = mark_of(marks, occurrence.node).group;
+            let is_first = match self.tallies.get_mut(occurrence.test) {
+                Some(tally) => tally.add(group),
+                None => false,
+            };
+            if is_first && let Some(size) = self.sizes.get_mut(group) {
+                *size = size.saturating_add(1);
             }
         }
         Ok(())
@@ -126,10 +113,10 @@ impl Guide {
     }
 
     /// The group to which the choice is narrowed.
-    fn narrowed(&self) -> Option<usize> {
+    fn narrowed(&self, marks: &[Mark], listed: &[Occurrence]) -> Option<usize> {
         let mut least: Option<Mark> = None;
-        for occurrence in self.listed.as_slice() {
-            let mark = self.mark_of(occurrence.node);
+        for occurrence in listed {
+            let mark = mark_of(marks, occurrence.node);
             let is_less = match &least {
                 Some(other) => self.goes_before(&mark, other),
                 None => true,
@@ -138,13 +125,13 @@ impl Guide {
                 least = Some(mark);
             }
         }
-        least.map(|mark| mark.group)
+        Some(least?.group)
     }
 
     /// Whether the first occurrence goes before the second: by more occurrences of its test, then by phase and rank.
-    fn is_better(&self, first: &Occurrence, second: &Occurrence) -> bool {
+    fn is_better(&self, marks: &[Mark], first: &Occurrence, second: &Occurrence) -> bool {
         let counts = (self.count_of(first.test), self.count_of(second.test));
-        let (mark, other) = (self.mark_of(first.node), self.mark_of(second.node));
+        let (mark, other) = (mark_of(marks, first.node), mark_of(marks, second.node));
         if counts.0 != counts.1 {
             counts.0 > counts.1
         } else if mark.phase != other.phase {
@@ -154,22 +141,33 @@ impl Guide {
         }
     }
 
-    /// The test that is chosen among those that are counted; none where none is listed.
-    pub(crate) fn chosen(&self) -> Option<usize> {
-        let group = self.narrowed()?;
+    /// The best of the listed tests of the group to which the choice is narrowed.
+    fn best(&self, marks: &[Mark], listed: &[Occurrence]) -> Option<usize> {
+        let group = self.narrowed(marks, listed)?;
         let mut best: Option<Occurrence> = None;
-        for occurrence in self.listed.as_slice() {
-            if self.mark_of(occurrence.node).group != group {
+        for occurrence in listed {
+            if mark_of(marks, occurrence.node).group != group {
                 continue;
             }
             let is_better = match &best {
-                Some(other) => self.is_better(occurrence, other),
+                Some(other) => self.is_better(marks, occurrence, other),
                 None => true,
             };
             if is_better {
                 best = Some(*occurrence);
             }
         }
-        best.map(|occurrence| occurrence.test)
+        Some(best?.test)
+    }
+
+    /// The test that is chosen among those that are listed, of so many; none where none is.
+    pub(crate) fn chosen(
+        &mut self,
+        tests: usize,
+        marks: &[Mark],
+        listed: &[Occurrence],
+    ) -> Result<Option<usize>, Want> {
+        self.count(tests, marks, listed)?;
+        Ok(self.best(marks, listed))
     }
 }

@@ -2,6 +2,7 @@
 #![tactic(auto)]
 
 mod arithmetic;
+mod asking;
 mod choice;
 mod guide;
 mod hash;

@@ -58,17 +58,23 @@ pub(crate) fn any_of(sights: &[Sight]) -> Sight {
 
 /// Whether all of them are known truth values.
 pub(crate) fn are_settled(sights: &[Sight]) -> bool {
-    sights
-        .iter()
-        .all(|sight| matches!(sight, Sight::Settled(_)))
+    for sight in sights {
+        if sight.truth().is_none() {
+            return false;
+        }
+    }
+    true
 }
 
 /// How many of them are known true.
 fn count_true(sights: &[Sight]) -> usize {
-    sights
-        .iter()
-        .filter(|sight| matches!(sight, Sight::Settled(true)))
-        .count()
+    let mut count = 0usize;
+    for sight in sights {
+        if matches!(sight, Sight::Settled(true)) {
+            count = count.saturating_add(1);
+        }
+    }
+    count
 }
 
 /// Whether an odd number of known truth values is true.
@@ -91,7 +97,7 @@ pub(crate) fn different(sights: &[Sight]) -> Sight {
 /// Whether known truth values, all but the last of which are premises, make the implication true.
 pub(crate) fn implied(sights: &[Sight]) -> Sight {
     match sights.split_last() {
-        Some((conclusion, premises)) => any_of(&[all_of(premises).opposite(), *conclusion]),
+        Some((conclusion, premises)) => all_of(premises).and(conclusion.opposite()).opposite(),
         None => Sight::Open,
     }
 }

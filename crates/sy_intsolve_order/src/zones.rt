@@ -1,6 +1,7 @@
 // Bounds on differences of variables that facts give.
 use std::alloc::Global;
 use sy_linear_forms::Form;
+use sy_linear_known::Fact;
 use sy_seq::Want;
 
 /// The most variables of which bounds are kept.
@@ -9,7 +10,7 @@ const MOST: usize = 64;
 /// That the number of one place is at most so much above that of another. Place 0 stands for the number 0, and the others
 /// for the variables.
 #[derive(Clone, Copy)]
-pub(crate) struct Edge {
+struct Edge {
     above: usize,
     below: usize,
     limit: i128,
@@ -31,7 +32,7 @@ fn bounded(coefficient: i128, constant: i128, above: usize, below: usize) -> Opt
 }
 
 /// What the form says by being at least 0, where that is a bound on a variable or on a difference of two.
-pub(crate) fn edge_of(form: &Form) -> Option<Edge> {
+fn edge_of(form: &Form) -> Option<Edge> {
     match form.coefs.as_slice() {
         [(variable, factor)] => {
             if *factor > 0 {
@@ -70,7 +71,7 @@ impl Zones {
     }
 
     /// Makes places for so many variables, without bounds; none where there are too many.
-    pub(crate) fn clear(&mut self, variables: usize) -> Result<(), Want> {
+    fn clear(&mut self, variables: usize) -> Result<(), Want> {
         self.side = if variables < MOST {
             variables.saturating_add(1)
         } else {
@@ -107,7 +108,7 @@ impl Zones {
     }
 
     /// Adds the bound, with all that follows from it and the others.
-    pub(crate) fn add(&mut self, edge: Edge) {
+    fn add(&mut self, edge: Edge) {
         for above in 0..self.side {
             let Some(before) = self.limit(above, edge.above) else {
                 continue;
@@ -125,6 +126,19 @@ impl Zones {
         }
     }
 
+    /// Takes the bounds that the facts give on so many variables, and all that follows from them.
+    pub(crate) fn take(&mut self, variables: usize, facts: &[Fact]) -> Result<(), Want> {
+        self.clear(variables)?;
+        for fact in facts {
+            if let Fact::AtLeast(form) = fact
+                && let Some(edge) = edge_of(form)
+            {
+                self.add(edge);
+            }
+        }
+        Ok(())
+    }
+
     /// Whether the bound holds, where the others tell.
     fn holds(&self, edge: Edge) -> Option<bool> {
         if let Some(limit) = self.limit(edge.above, edge.below)
@@ -140,23 +154,18 @@ impl Zones {
         }
     }
 
-    /// The least value of so many times a variable, where bounds on it give one.
-    fn least_part(&self, number: i128, variable: u32) -> Option<i128> {
-        let place = place_of(variable);
-        let part = if number > 0 {
-            self.limit(0, place)?.checked_neg()?
-        } else {
-            self.limit(place, 0)?
-        };
-        number.checked_mul(part)
-    }
-
     /// The least value of so many times the form, where bounds on its variables give one.
     fn least(&self, factor: i128, form: &Form) -> Option<i128> {
         let mut sum = factor.checked_mul(form.constant)?;
         for coefficient in form.coefs.as_slice() {
             let number = factor.checked_mul(coefficient.1)?;
-            sum = sum.checked_add(self.least_part(number, coefficient.0)?)?;
+            let place = place_of(coefficient.0);
+            let part = if number > 0 {
+                self.limit(0, place)?.checked_neg()?
+            } else {
+                self.limit(place, 0)?
+            };
+            sum = sum.checked_add(number.checked_mul(part)?)?;
         }
         Some(sum)
     }
