@@ -1,4 +1,5 @@
 use Rattle.std.proofs.Common.{◌<◌, ◌-◌, ◌^◌, length, arith, refl}
+use Rattle.std.proofs.lemmas.Result.{IfOk-from_err}
 use Rattle.sy_bits_sums.proofs.Agreeing.{multiple-less}
 use Rattle.sy_bits_words.proofs.Laws.{stands-at, kept-at}
 use Rattle.sy_bits_words.proofs.Joining.{both-is, either-is, differ-is, and-sum, or-sum, xor-sum}
@@ -39,3 +40,39 @@ returns-in_ok-differ-in-BvXor-clause-sum c = λ circuit all.
     let joins = either-is circuit c.meeting.new.words c.args.s.now c.args.t.now c.at.result.now.sum c.at-2.result.now.sum c.in_ok-both.both c.requires.same left right c.in_ok-either.either meets c.in_ok-either.ensures.value in
     rw c.in-BvXor.is (xor-sum circuit c.meeting.new.words c.args.s.now c.args.t.now c.in_ok-differ-in-BvXor.differ c.in_ok-differ-in-BvXor.ensures.width c.requires.same
     (differ-is circuit c.meeting.new.words c.args.s.now c.args.t.now c.at.result.now.sum c.at-2.result.now.sum c.in_ok-both.both c.requires.same left right c.in_ok-either.either c.in_ok-differ-in-BvXor.differ (2 ^ length c.args.s.now - 1) refl meets joins (λ values. multiple-less (length c.args.s.now) _ _ _ _ refl (c.in_ok-differ-in-BvXor.ensures.value values))))
+
+pub returns-in_err-first-clause-stand : goal.returns-in_err-first-clause-stand
+returns-in_err-first-clause-stand c = IfOk-from_err c.from_residual.result _ c.from_residual.ensures.0
+
+pub returns-in_err-first-clause-sum : goal.returns-in_err-first-clause-sum
+returns-in_err-first-clause-sum c = IfOk-from_err c.from_residual.result _ c.from_residual.ensures.0
+
+pub returns-in_err-second-clause-stand : goal.returns-in_err-second-clause-stand
+returns-in_err-second-clause-stand c = IfOk-from_err c.from_residual-in_err-second.result _ c.from_residual-in_err-second.ensures.0
+
+pub returns-in_err-second-clause-sum : goal.returns-in_err-second-clause-sum
+returns-in_err-second-clause-sum c = IfOk-from_err c.from_residual-in_err-second.result _ c.from_residual-in_err-second.ensures.0
+
+pub returns-in_err-meet-clause-stand : goal.returns-in_err-meet-clause-stand
+returns-in_err-meet-clause-stand c = IfOk-from_err c.from_residual-in_err-meet.result _ c.from_residual-in_err-meet.ensures.0
+
+pub returns-in_err-meet-clause-sum : goal.returns-in_err-meet-clause-sum
+returns-in_err-meet-clause-sum c = IfOk-from_err c.from_residual-in_err-meet.result _ c.from_residual-in_err-meet.ensures.0
+
+pub returns-in_err-both-clause-stand : goal.returns-in_err-both-clause-stand
+returns-in_err-both-clause-stand c = IfOk-from_err c.from_residual-in_err-both.result _ c.from_residual-in_err-both.ensures.0
+
+pub returns-in_err-both-clause-sum : goal.returns-in_err-both-clause-sum
+returns-in_err-both-clause-sum c = IfOk-from_err c.from_residual-in_err-both.result _ c.from_residual-in_err-both.ensures.0
+
+pub returns-in_err-either-clause-stand : goal.returns-in_err-either-clause-stand
+returns-in_err-either-clause-stand c = IfOk-from_err c.from_residual-in_err-either.result _ c.from_residual-in_err-either.ensures.0
+
+pub returns-in_err-either-clause-sum : goal.returns-in_err-either-clause-sum
+returns-in_err-either-clause-sum c = IfOk-from_err c.from_residual-in_err-either.result _ c.from_residual-in_err-either.ensures.0
+
+pub returns-in_err-differ-in-BvXor-clause-stand : goal.returns-in_err-differ-in-BvXor-clause-stand
+returns-in_err-differ-in-BvXor-clause-stand c = IfOk-from_err c.from_residual-in_err-differ-in-BvXor.result _ c.from_residual-in_err-differ-in-BvXor.ensures.0
+
+pub returns-in_err-differ-in-BvXor-clause-sum : goal.returns-in_err-differ-in-BvXor-clause-sum
+returns-in_err-differ-in-BvXor-clause-sum c = IfOk-from_err c.from_residual-in_err-differ-in-BvXor.result _ c.from_residual-in_err-differ-in-BvXor.ensures.0

@@ -1,3 +1,4 @@
+use Rattle.std.proofs.lemmas.Result.{IfOk-from_err}
 use Rattle.sy_bits_words.specs.Standing.{StandsFor, AllStand, IsSumOf}
 use Rattle.sy_bits_words.proofs.Tables.{all-grown}
 use Rattle.sy_bits_words.proofs.Laws.{serves, made-stands}
@@ -27,3 +28,78 @@ returns-clause-stand c =
     c.in_ok-note.ensures c.applied-2.new.circuit
     (made-stands c.args.circuit.now c.applied-2.new.circuit c.sum_of.new.words c.args.op.now c.args.args.now c.in-Some.sum c.in_ok-signal-2.signal is c.in_ok-signal-2.ensures.grown c.in_ok-signal-2.ensures.inside c.in_ok-signal-2.ensures.sort c.in_ok-signal-2.ensures.value)
     (all-grown c.args.circuit.now c.applied-2.new.circuit c.sum_of.new.words c.in_ok-signal-2.ensures.grown all)
+
+pub returns-in_err-sum-clause-stand : goal.returns-in_err-sum-clause-stand
+returns-in_err-sum-clause-stand c = IfOk-from_err c.from_residual.result _ c.from_residual.ensures.0
+
+pub returns-in_err-sum-clause-cost : goal.returns-in_err-sum-clause-cost
+returns-in_err-sum-clause-cost c = IfOk-from_err c.from_residual.result _ c.from_residual.ensures.0
+
+pub returns-in_err-sum-clause-inside : goal.returns-in_err-sum-clause-inside
+returns-in_err-sum-clause-inside c = IfOk-from_err c.from_residual.result _ c.from_residual.ensures.0
+
+pub returns-in_err-sum-clause-sort : goal.returns-in_err-sum-clause-sort
+returns-in_err-sum-clause-sort c = IfOk-from_err c.from_residual.result _ c.from_residual.ensures.0
+
+pub returns-in_err-sum-clause-value : goal.returns-in_err-sum-clause-value
+returns-in_err-sum-clause-value c = IfOk-from_err c.from_residual.result _ c.from_residual.ensures.0
+
+pub returns-in_err-signal-clause-stand : goal.returns-in_err-signal-clause-stand
+returns-in_err-signal-clause-stand c = IfOk-from_err c.from_residual-in_err-signal.result _ c.from_residual-in_err-signal.ensures.0
+
+pub returns-in_err-signal-clause-cost : goal.returns-in_err-signal-clause-cost
+returns-in_err-signal-clause-cost c = IfOk-from_err c.from_residual-in_err-signal.result _ c.from_residual-in_err-signal.ensures.0
+
+pub returns-in_err-signal-clause-inside : goal.returns-in_err-signal-clause-inside
+returns-in_err-signal-clause-inside c = IfOk-from_err c.from_residual-in_err-signal.result _ c.from_residual-in_err-signal.ensures.0
+
+pub returns-in_err-signal-clause-sort : goal.returns-in_err-signal-clause-sort
+returns-in_err-signal-clause-sort c = IfOk-from_err c.from_residual-in_err-signal.result _ c.from_residual-in_err-signal.ensures.0
+
+pub returns-in_err-signal-clause-value : goal.returns-in_err-signal-clause-value
+returns-in_err-signal-clause-value c = IfOk-from_err c.from_residual-in_err-signal.result _ c.from_residual-in_err-signal.ensures.0
+
+pub returns-in_err-word-clause-stand : goal.returns-in_err-word-clause-stand
+returns-in_err-word-clause-stand c = IfOk-from_err c.from_residual-in_err-word.result _ c.from_residual-in_err-word.ensures.0
+
+pub returns-in_err-word-clause-cost : goal.returns-in_err-word-clause-cost
+returns-in_err-word-clause-cost c = IfOk-from_err c.from_residual-in_err-word.result _ c.from_residual-in_err-word.ensures.0
+
+pub returns-in_err-word-clause-inside : goal.returns-in_err-word-clause-inside
+returns-in_err-word-clause-inside c = IfOk-from_err c.from_residual-in_err-word.result _ c.from_residual-in_err-word.ensures.0
+
+pub returns-in_err-word-clause-sort : goal.returns-in_err-word-clause-sort
+returns-in_err-word-clause-sort c = IfOk-from_err c.from_residual-in_err-word.result _ c.from_residual-in_err-word.ensures.0
+
+pub returns-in_err-word-clause-value : goal.returns-in_err-word-clause-value
+returns-in_err-word-clause-value c = IfOk-from_err c.from_residual-in_err-word.result _ c.from_residual-in_err-word.ensures.0
+
+pub returns-in_err-signal-2-clause-stand : goal.returns-in_err-signal-2-clause-stand
+returns-in_err-signal-2-clause-stand c = IfOk-from_err c.from_residual-in_err-signal-2.result _ c.from_residual-in_err-signal-2.ensures.0
+
+pub returns-in_err-signal-2-clause-cost : goal.returns-in_err-signal-2-clause-cost
+returns-in_err-signal-2-clause-cost c = IfOk-from_err c.from_residual-in_err-signal-2.result _ c.from_residual-in_err-signal-2.ensures.0
+
+pub returns-in_err-signal-2-clause-inside : goal.returns-in_err-signal-2-clause-inside
+returns-in_err-signal-2-clause-inside c = IfOk-from_err c.from_residual-in_err-signal-2.result _ c.from_residual-in_err-signal-2.ensures.0
+
+pub returns-in_err-signal-2-clause-sort : goal.returns-in_err-signal-2-clause-sort
+returns-in_err-signal-2-clause-sort c = IfOk-from_err c.from_residual-in_err-signal-2.result _ c.from_residual-in_err-signal-2.ensures.0
+
+pub returns-in_err-signal-2-clause-value : goal.returns-in_err-signal-2-clause-value
+returns-in_err-signal-2-clause-value c = IfOk-from_err c.from_residual-in_err-signal-2.result _ c.from_residual-in_err-signal-2.ensures.0
+
+pub returns-in_err-note-clause-stand : goal.returns-in_err-note-clause-stand
+returns-in_err-note-clause-stand c = IfOk-from_err c.from_residual-in_err-note.result _ c.from_residual-in_err-note.ensures.0
+
+pub returns-in_err-note-clause-cost : goal.returns-in_err-note-clause-cost
+returns-in_err-note-clause-cost c = IfOk-from_err c.from_residual-in_err-note.result _ c.from_residual-in_err-note.ensures.0
+
+pub returns-in_err-note-clause-inside : goal.returns-in_err-note-clause-inside
+returns-in_err-note-clause-inside c = IfOk-from_err c.from_residual-in_err-note.result _ c.from_residual-in_err-note.ensures.0
+
+pub returns-in_err-note-clause-sort : goal.returns-in_err-note-clause-sort
+returns-in_err-note-clause-sort c = IfOk-from_err c.from_residual-in_err-note.result _ c.from_residual-in_err-note.ensures.0
+
+pub returns-in_err-note-clause-value : goal.returns-in_err-note-clause-value
+returns-in_err-note-clause-value c = IfOk-from_err c.from_residual-in_err-note.result _ c.from_residual-in_err-note.ensures.0

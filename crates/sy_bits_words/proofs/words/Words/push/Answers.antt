@@ -1,4 +1,5 @@
 use Rattle.std.proofs.Common.{◌≡◌, ◌∙◌, ap, ap₂, sym, length, arith}
+use Rattle.std.proofs.lemmas.Result.{IfOk-from_err}
 use Rattle.sy_bits_words.specs.Places.{places_of}
 use Rattle.sy_bits_words.specs.Sums.{sum_content, key_of_sum}
 use Rattle.sy_bits_words.specs.Finding.{key_of_pair}
@@ -30,3 +31,12 @@ invariant_of-self-2 c =
       found-pushed (λ known. key_of_sum (sum_content known.sum)) (places_of c.self.inside.by_sum) (places_of c.add-2.new.self) c.self.inside.known.items c.push.new.self.items c.args.known c.sum_key-sum.result c.len-place.result
           c.in_ok-push.ensures.items c.sum_key-sum.ensures placed c.in_ok-add-2.ensures.ok c.self.invariant.1,
     )
+
+pub returns-in_err-add : goal.returns-in_err-add
+returns-in_err-add c = IfOk-from_err c.from_residual.result _ c.from_residual.ensures.0
+
+pub returns-in_err-add-2 : goal.returns-in_err-add-2
+returns-in_err-add-2 c = IfOk-from_err c.from_residual-in_err-add-2.result _ c.from_residual-in_err-add-2.ensures.0
+
+pub returns-in_err-push : goal.returns-in_err-push
+returns-in_err-push c = IfOk-from_err c.from_residual-in_err-push.result _ c.from_residual-in_err-push.ensures.0
