@@ -5,30 +5,39 @@ ghost use Rattle.std.specs.Prelude.{◌<◌};
 ghost use Rattle.sy_grammar_base.specs.Trees.{IsNumbered};
 ghost use Rattle.sy_grammar_base.specs.Grown.{syntax_from};
 
+use crate::lists::list;
+use crate::rules::{add_operation, grammar_of};
+use crate::terms::{NONE, Node, add_term};
 use crate::words::{WANT, number};
 use std::alloc::Global;
-use sy_grammar_base::{Grammar, Non, Part, Parts, Rule, well_formed};
+use sy_grammar_base::{Grammar, Non, Part, Rule};
 use sy_grammar_derive::derive;
 use sy_meaning_integers::IntTheory;
-use sy_terms::{Op, Seq, Sort, Term, Terms, Theory, Value, Want};
+use sy_terms::{Op, Seq, Sort, Terms, Theory, Value, Want};
 
-/// A rule of the nonterminal `n`: a leaf, a chain rule, or a sum of two nonterminals.
-fn rule(alloc: Global, n: u32, number: u32, count: u32) -> Result<Rule<IntTheory>, Want>
+/// Appends a rule of the nonterminal `n`: a leaf, a chain rule, or a sum of two nonterminals.
+fn add_rule(
+    alloc: Global,
+    n: u32,
+    number: u32,
+    count: u32,
+    rules: &mut Seq<Rule<IntTheory>>,
+) -> Result<(), Want>
     requires { 0 < count }
 {
     let chained = n.wrapping_mul(5).wrapping_add(number) % count;
-    let part = match number {
-        0 => Part::Var(0),
-        1 => Part::Const(Value::Num(1)),
-        2..=5 => Part::Non(chained),
-        _ => {
-            let mut parts = Parts::new(alloc);
-            parts.push(Part::Non(n.wrapping_add(number) % count))?;
-            parts.push(Part::Non(chained))?;
-            Part::App(Op::Add, parts)
-        }
-    };
-    Ok(Rule::Term(part))
+    match number {
+        0 => rules.push(Rule::Term(Part::Var(0))),
+        1 => rules.push(Rule::Term(Part::Const(Value::Num(1)))),
+        2..=5 => rules.push(Rule::Term(Part::Non(chained))),
+        _ => add_operation(
+            alloc,
+            Op::Add,
+            n.wrapping_add(number) % count,
+            chained,
+            rules,
+        ),
+    }
 }
 
 /// So many rules of the nonterminal `n`.
@@ -37,7 +46,7 @@ fn rules_of(alloc: Global, n: u32, rules: u32, count: u32) -> Result<Seq<Rule<In
 {
     let mut all = Seq::new(alloc);
     for number in 0..rules {
-        all.push(rule(alloc, n, number, count)?)?;
+        add_rule(alloc, n, number, count, &mut all)?;
     }
     Ok(all)
 }
@@ -55,42 +64,38 @@ fn nonterminals(alloc: Global, count: u32, rules: u32) -> Result<Seq<Non<IntTheo
     Ok(nons)
 }
 
-/// The sorts of two arguments.
-fn arguments(alloc: Global) -> Result<Seq<Sort>, Want> {
-    let mut sorts = Seq::new(alloc);
-    sorts.push(Sort::Int)?;
-    sorts.push(Sort::Int)?;
-    Ok(sorts)
-}
-
-/// A sum of so many steps, whose last leaf is this variable. Each step adds 1 or the first variable.
-fn sum(alloc: Global, steps: u32, last: u32) -> Result<Term<IntTheory>, Want> {
-    if steps == 0 {
-        return Ok(Term::Var(last));
+/// Appends a sum of so many steps, whose last leaf is this variable. Each step adds 1 or the first variable.
+fn add_sum(alloc: Global, steps: u32, last: u32, terms: &mut Terms<IntTheory>) -> Result<(), Want> {
+    let mut nodes = Vec::new(alloc);
+    nodes.push(Node::Var(0))?;
+    nodes.push(Node::Number(1))?;
+    nodes.push(Node::Var(last))?;
+    let mut top = 2;
+    for step in 0..steps {
+        let leaf = usize::from(step % 3 != 0);
+        let over = Node::Over(Op::Add, [leaf, top, NONE]);
+        top = nodes.len();
+        nodes.push(over)?;
     }
-    let leaf = if (steps - 1) % 3 == 0 {
-        Term::Var(0)
-    } else {
-        Term::Const(Value::Num(1))
-    };
-    let mut terms = Terms::new(alloc);
-    terms.push(leaf)?;
-    terms.push(sum(alloc, steps - 1, last)?)?;
-    Ok(Term::App(Op::Add, terms))
+    add_term(alloc, Sort::Int, nodes.as_slice(), top, terms)
 }
 
-/// Whether a sum of so many steps has a derivation from the grammar.
+/// Whether the term at the place has a derivation from the grammar.
 fn is_derived(
     alloc: Global,
     grammar: &Grammar<IntTheory>,
-    steps: u32,
-    last: u32,
+    bodies: &Terms<IntTheory>,
+    place: usize,
 ) -> Result<bool, Want>
     requires { IsNumbered (syntax_from ⟦<IntTheory as Theory>⟧.denotes grammar.now) }
 {
-    let body = sum(alloc, steps, last)?;
-    let found = derive(alloc, grammar, 0, &body)?;
-    Ok(found.is_some())
+    let Some(body) = bodies.get(place) else {
+        return Ok(false);
+    };
+    let found = derive(alloc, grammar, 0, body)?;
+    let is_derived = found.is_some();
+    drop(found);
+    Ok(is_derived)
 }
 
 /// Whether each of two sums of so many steps has a derivation from the grammar.
@@ -98,39 +103,33 @@ fn both_derived(
     alloc: Global,
     grammar: &Grammar<IntTheory>,
     steps: u32,
-) -> Result<Option<(bool, bool)>, Want>
+) -> Result<(bool, bool), Want>
     requires { IsNumbered (syntax_from ⟦<IntTheory as Theory>⟧.denotes grammar.now) }
 {
-    let first = is_derived(alloc, grammar, steps, 0)?;
-    let second = is_derived(alloc, grammar, steps, 1)?;
-    Ok(Some((first, second)))
+    let mut bodies = Terms::new(alloc);
+    add_sum(alloc, steps, 0, &mut bodies)?;
+    add_sum(alloc, steps, 1, &mut bodies)?;
+    let first = is_derived(alloc, grammar, &bodies, 0)?;
+    let second = is_derived(alloc, grammar, &bodies, 1)?;
+    Ok((first, second))
 }
 
-/// The same of the grammar of these nonterminals; `None` where it isn't well formed.
-fn derived(
-    alloc: Global,
-    args: Seq<Sort>,
-    nons: Seq<Non<IntTheory>>,
-    steps: u32,
-) -> Result<Option<(bool, bool)>, Want> {
-    let defs = Seq::new(alloc);
-    if !well_formed(&args, &nons, &defs) {
-        return Ok(None);
-    }
-    let grammar = Grammar::new(args, nons, &defs);
-    both_derived(alloc, &grammar, steps)
-}
-
-/// The same of a grammar of so many nonterminals and rules for each.
+/// The same of a grammar of so many nonterminals and rules for each; `None` where it isn't well formed.
 fn measured(
     alloc: Global,
     count: u32,
     rules: u32,
     nodes: u32,
 ) -> Result<Option<(bool, bool)>, Want> {
-    let args = arguments(alloc)?;
+    let args = list(alloc, &[Sort::Int, Sort::Int])?;
     let nons = nonterminals(alloc, count, rules)?;
-    derived(alloc, args, nons, nodes / 2)
+    let Some(grammar) = grammar_of(alloc, args, nons) else {
+        return Ok(None);
+    };
+    match both_derived(alloc, &grammar, nodes / 2) {
+        Ok(both) => Ok(Some(both)),
+        Err(want) => Err(want),
+    }
 }
 
 /// Derives bodies from the grammar that the words ask for, and prints what was found.

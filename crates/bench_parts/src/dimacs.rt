@@ -18,48 +18,62 @@ fn literal_of(number: i32) -> Option<Lit> {
     })
 }
 
-/// A formula of which some lines were read, and the clause that has begun.
-#[derive(Drop)]
-struct Reader {
-    cnf: Cnf,
-    clause: Seq<Lit>,
+/// Reads a line of clauses, the first of which has begun; whether all its words are numbers.
+fn add_numbers(
+    alloc: Global,
+    line: &str,
+    cnf: &mut Cnf,
+    clause: &mut Seq<Lit>,
+) -> Result<bool, Want> {
+    for word in line.split_whitespace() {
+        let Ok(number) = word.parse::<i32>() else {
+            return Ok(false);
+        };
+        match literal_of(number) {
+            Some(literal) => clause.push(literal)?,
+            None => cnf.clauses.push(mem::replace(clause, Seq::new(alloc)))?,
+        }
+    }
+    Ok(true)
 }
 
-impl Reader {
-    /// Reads a line of clauses; whether all its words are numbers.
-    fn add_numbers(&mut self, alloc: Global, line: &str) -> Result<bool, Want> {
-        for word in line.split_whitespace() {
-            let Ok(number) = word.parse::<i32>() else {
-                return Ok(false);
-            };
-            match literal_of(number) {
-                Some(literal) => self.clause.push(literal)?,
-                None => {
-                    let clause = mem::replace(&mut self.clause, Seq::new(alloc));
-                    self.cnf.clauses.push(clause)?;
-                }
-            }
-        }
-        Ok(true)
+/// Reads a line, where a clause has begun; whether it is of the form.
+fn add_line(alloc: Global, line: &str, cnf: &mut Cnf, clause: &mut Seq<Lit>) -> Result<bool, Want> {
+    if line.starts_with('c') {
+        return Ok(true);
     }
+    let Some(sizes) = line.strip_prefix("p cnf ") else {
+        return add_numbers(alloc, line, cnf, clause);
+    };
+    let word = sizes.split_whitespace().next().unwrap_or("");
+    match word.parse::<u32>() {
+        Ok(vars) => {
+            cnf.vars = vars;
+            Ok(true)
+        }
+        Err(_) => Ok(false),
+    }
+}
 
-    /// Reads a line; whether it is of the form.
-    fn add_line(&mut self, alloc: Global, line: &str) -> Result<bool, Want> {
-        if line.starts_with('c') {
-            return Ok(true);
-        }
-        let Some(sizes) = line.strip_prefix("p cnf ") else {
-            return self.add_numbers(alloc, line);
-        };
-        let word = sizes.split_whitespace().next().unwrap_or("");
-        match word.parse::<u32>() {
-            Ok(vars) => {
-                self.cnf.vars = vars;
-                Ok(true)
-            }
-            Err(_) => Ok(false),
+/// Reads all lines; whether they are of the form and the last clause ends.
+fn add_lines(
+    alloc: Global,
+    text: &str,
+    cnf: &mut Cnf,
+    clause: &mut Seq<Lit>,
+) -> Result<bool, Want> {
+    for line in text.lines() {
+        if !add_line(alloc, line, cnf, clause)? {
+            return Ok(false);
         }
     }
+    Ok(clause.len() == 0)
+}
+
+/// Reads the text; whether it is of the form.
+fn add_text(alloc: Global, text: &str, cnf: &mut Cnf) -> Result<bool, Want> {
+    let mut clause = Seq::new(alloc);
+    add_lines(alloc, text, cnf, &mut clause)
 }
 
 /// Whether each literal's variable is below `vars`.
@@ -93,21 +107,12 @@ pub(crate) fn read_formula(alloc: Global, text: &str) -> Result<Option<Cnf>, Wan
     ensures vars { IfOk result (λ read. IfSome read VarsFit) }
     ensures clauses_fit { IfOk result (λ read. IfSome read (λ cnf. length cnf.clauses < 2 ^ 31)) }
 {
-    let mut reader = Reader {
-        cnf: Cnf {
-            vars: 0,
-            clauses: Seq::new(alloc),
-        },
-        clause: Seq::new(alloc),
+    let mut cnf = Cnf {
+        vars: 0,
+        clauses: Seq::new(alloc),
     };
-    for line in text.lines() {
-        if !reader.add_line(alloc, line)? {
-            return Ok(None);
-        }
-    }
-    let ended = reader.clause.len() == 0;
-    if ended && fits(&reader.cnf) {
-        Ok(Some(reader.cnf))
+    if add_text(alloc, text, &mut cnf)? && fits(&cnf) {
+        Ok(Some(cnf))
     } else {
         Ok(None)
     }

@@ -1,6 +1,7 @@
 // A scan of combinations of random numbers of 64 bits by one operator: the words are the operator (`and`, `mul` or
 // `add`) and the number of kept terms. All numbers are odd and 0 is wanted at three points, so that no combination by
 // `and` or `mul` has it. It prints how many combinations are named.
+use crate::lists::push;
 use crate::words::{WANT, next, number, word};
 use std::alloc::Global;
 use sy_loop_scan::{Pool, Scan, Shape};
@@ -26,33 +27,54 @@ fn column(alloc: Global, count: u32, seed: u64) -> Result<Vec<i128>, Want> {
     Ok(numbers)
 }
 
-/// A scan of the operator over so many kept terms of size 1.
-fn scan_of(alloc: Global, operator: Op, count: u32) -> Result<Scan, Want> {
+/// The operator over two of the kept terms.
+fn shapes(alloc: Global, operator: Op) -> Result<Vec<Shape>, Want> {
+    let operands = Vec::from_slice(alloc, &[0, 0])?;
     let mut shapes = Vec::new(alloc);
-    shapes.push(Shape {
+    let shape = Shape {
         rule: 0,
         operator,
         size: 1,
-        operands: Vec::from_slice(alloc, &[0, 0])?,
-    })?;
+        operands,
+    };
+    push(&mut shapes, shape)?;
+    Ok(shapes)
+}
+
+/// So many kept terms of size 1.
+fn pools(alloc: Global, count: u32) -> Result<Vec<Pool>, Want> {
     let mut sizes = Vec::new(alloc);
     for _ in 0..count {
         sizes.push(1)?;
     }
     let mut pools = Vec::new(alloc);
-    pools.push(Pool {
+    let pool = Pool {
         sort: Sort::Bits(64),
         sizes,
-    })?;
+    };
+    push(&mut pools, pool)?;
+    Ok(pools)
+}
+
+/// A scan of the operator over so many kept terms.
+fn scan_of(alloc: Global, operator: Op, count: u32) -> Result<Scan, Want> {
+    let shapes = shapes(alloc, operator)?;
+    let pools = pools(alloc, count)?;
     Scan::new(alloc, shapes, pools, 3)
 }
 
-/// Wants 0 at three points, at which the terms have random odd numbers.
+/// Wants 0 at a point, at which the terms have random odd numbers.
+fn add_point(alloc: Global, scan: &mut Scan, count: u32, seed: u64) -> Result<(), Want> {
+    let column = column(alloc, count, seed)?;
+    let mut columns = Vec::new(alloc);
+    push(&mut columns, column)?;
+    scan.add_point(0, columns)
+}
+
+/// Wants 0 at three points.
 fn add_points(alloc: Global, scan: &mut Scan, count: u32) -> Result<(), Want> {
     for seed in 1..4u64 {
-        let mut columns = Vec::new(alloc);
-        columns.push(column(alloc, count, seed)?)?;
-        scan.add_point(0, columns)?;
+        add_point(alloc, scan, count, seed)?;
     }
     Ok(())
 }
@@ -70,10 +92,12 @@ fn guesses(scan: &mut Scan) -> Result<u32, Want> {
 /// How many combinations are named that have the wanted values.
 fn named(alloc: Global, operator: Op, count: u32) -> Result<u32, Want> {
     let mut scan = scan_of(alloc, operator, count)?;
-    match add_points(alloc, &mut scan, count) {
+    let named = match add_points(alloc, &mut scan, count) {
         Ok(()) => guesses(&mut scan),
         Err(want) => Err(want),
-    }
+    };
+    drop(scan);
+    named
 }
 
 /// Scans what the words ask for, and prints how many combinations are named.

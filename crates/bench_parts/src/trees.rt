@@ -3,6 +3,8 @@
 // tests. The tree is one of a small query: so many splits, one below the other, and below them a balanced tree of
 // branches, whose leaves combine all forms above them. It prints whether the query is open and whether the tree is
 // accepted.
+use crate::lists::{boxed, form, list, push};
+use crate::terms::{NONE, Node, add_term};
 use crate::words::{WANT, number};
 use std::alloc::Global;
 use sy_frac::Frac;
@@ -12,61 +14,55 @@ use sy_linear_known::{CheckEnd, Fact, Known, Test, Tree, is_numbered, known_unde
 use sy_meaning_integers::IntTheory;
 use sy_query_base::Query;
 use sy_seq::{Seq, Want};
-use sy_terms::{Op, Sort, Term, Terms, Value};
+use sy_terms::{Op, Sort, Term, Terms};
 
-/// `(<= least (* 1 x))`, of five nodes.
-fn at_least(alloc: Global, least: i128) -> Result<Term<IntTheory>, Want> {
-    let mut factors = Terms::new(alloc);
-    factors.push(Term::Const(Value::Num(1)))?;
-    factors.push(Term::Var(0))?;
-    let mut sides = Terms::new(alloc);
-    sides.push(Term::Const(Value::Num(least)))?;
-    sides.push(Term::App(Op::Mul, factors))?;
-    Ok(Term::App(Op::Le, sides))
+/// Appends `(<= least (* 1 x))`, of five nodes.
+fn add_at_least(alloc: Global, least: i128, tests: &mut Terms<IntTheory>) -> Result<(), Want> {
+    let nodes = [
+        Node::Number(1),
+        Node::Var(0),
+        Node::Number(least),
+        Node::Over(Op::Mul, [0, 1, NONE]),
+        Node::Over(Op::Le, [2, 3, NONE]),
+    ];
+    add_term(alloc, Sort::Int, &nodes, 4, tests)
 }
 
-/// `(<= x 0)`
-fn at_most_zero(alloc: Global) -> Result<Term<IntTheory>, Want> {
-    let mut sides = Terms::new(alloc);
-    sides.push(Term::Var(0))?;
-    sides.push(Term::Const(Value::Num(0)))?;
-    Ok(Term::App(Op::Le, sides))
+/// Appends `(<= x 0)`.
+fn add_at_most_zero(alloc: Global, tests: &mut Terms<IntTheory>) -> Result<(), Want> {
+    let nodes = [
+        Node::Var(0),
+        Node::Number(0),
+        Node::Over(Op::Le, [0, 1, NONE]),
+    ];
+    add_term(alloc, Sort::Int, &nodes, 2, tests)
 }
 
 /// That the variable is at most 0 and at least 1, 2 and so on, in about so many nodes.
 fn tests(alloc: Global, nodes: u32) -> Result<Terms<IntTheory>, Want> {
     let mut tests = Terms::new(alloc);
-    tests.push(at_most_zero(alloc)?)?;
-    tests.push(at_least(alloc, 1)?)?;
+    add_at_most_zero(alloc, &mut tests)?;
+    add_at_least(alloc, 1, &mut tests)?;
     for least in 0..nodes / 5 {
-        tests.push(at_least(alloc, i128::from(least))?)?;
+        add_at_least(alloc, i128::from(least), &mut tests)?;
     }
     Ok(tests)
 }
 
-/// The query for a number that meets all of these tests.
-fn query(alloc: Global, nodes: u32) -> Result<Query<IntTheory>, Want> {
-    let mut vars = Seq::new(alloc);
-    vars.push(Sort::Int)?;
+/// Appends the query for a number that meets all of these tests.
+fn add_query(alloc: Global, nodes: u32, queries: &mut Vec<Query<IntTheory>>) -> Result<(), Want> {
+    let vars = list(alloc, &[Sort::Int])?;
     let tests = tests(alloc, nodes)?;
-    Ok(Query {
-        vars,
-        body: Term::App(Op::And, tests),
-    })
-}
-
-fn form(alloc: Global, coefficient: i128, constant: i128) -> Result<Form, Want> {
-    let mut coefs = Seq::new(alloc);
-    coefs.push((0, coefficient))?;
-    Ok(Form { coefs, constant })
+    let body = Term::App(Op::And, tests);
+    push(queries, Query { vars, body })
 }
 
 /// So many facts that the variable is above a negative number.
 fn facts(alloc: Global, count: u32) -> Result<Vec<Fact>, Want> {
     let mut facts = Vec::new(alloc);
     for number in 0..count {
-        let above = i128::from(number) + 1;
-        facts.push(Fact::AtLeast(form(alloc, 1, above)?))?;
+        let form = form(alloc, &[(0, 1)], i128::from(number) + 1)?;
+        push(&mut facts, Fact::AtLeast(form))?;
     }
     Ok(facts)
 }
@@ -83,41 +79,61 @@ fn multipliers(alloc: Global, count: u32) -> Result<Seq<Frac>, Want> {
     Ok(list)
 }
 
+/// The first two of so many facts contradict each other.
+fn conflict(alloc: Global, facts: u32) -> Result<Box<Tree>, Want> {
+    let multipliers = multipliers(alloc, facts)?;
+    boxed(alloc, Tree::Farkas(multipliers))
+}
+
 /// A balanced tree of branches of this depth, below so many facts.
-fn branches(alloc: Global, depth: u32, above: u32) -> Result<Tree, Want> {
+fn branches(alloc: Global, depth: u32, above: u32) -> Result<Box<Tree>, Want> {
     if depth == 0 {
-        return Ok(Tree::Farkas(multipliers(alloc, above)?));
+        return conflict(alloc, above);
     }
-    let left = Box::new(alloc, branches(alloc, depth - 1, above.saturating_add(1))?)?;
-    let right = Box::new(alloc, branches(alloc, depth - 1, above.saturating_add(1))?)?;
-    Ok(Tree::Branch(0, 0, Seq::new(alloc), left, right))
+    let left = branches(alloc, depth - 1, above.saturating_add(1))?;
+    match branches(alloc, depth - 1, above.saturating_add(1)) {
+        Ok(right) => boxed(alloc, Tree::Branch(0, 0, Seq::new(alloc), left, right)),
+        Err(want) => Err(want),
+    }
 }
 
 /// What is right of a split, under so many facts: the query is false under one or two of them, and three contradict
 /// each other.
-fn beside(alloc: Global, facts: u32) -> Result<Tree, Want> {
+fn beside(alloc: Global, facts: u32) -> Result<Box<Tree>, Want> {
     if facts < 3 {
-        return Ok(Tree::Shown);
+        return boxed(alloc, Tree::Shown);
     }
-    Ok(Tree::Farkas(multipliers(alloc, facts)?))
+    conflict(alloc, facts)
+}
+
+/// The test of the split at this place above so many facts.
+fn test(alloc: Global, place: u32, facts: u32) -> Result<Form, Want> {
+    if place.saturating_add(1) == facts {
+        form(alloc, &[(0, 1)], -1)
+    } else {
+        form(alloc, &[(0, -1)], 0)
+    }
+}
+
+/// The test of that split, and what is right of it.
+fn test_and_right(alloc: Global, place: u32, facts: u32) -> Result<(Form, Box<Tree>), Want> {
+    let test = test(alloc, place, facts)?;
+    let right = beside(alloc, facts.saturating_sub(place))?;
+    Ok((test, right))
 }
 
 /// The tree whose left side is this one, below so many facts.
-fn split(alloc: Global, place: u32, facts: u32, left: Box<Tree>) -> Result<Tree, Want> {
-    let form = if place.saturating_add(1) == facts {
-        form(alloc, 1, -1)?
-    } else {
-        form(alloc, -1, 0)?
-    };
-    let right = Box::new(alloc, beside(alloc, facts.saturating_sub(place))?)?;
-    Ok(Tree::Split(Test::AtLeast(form), Seq::new(alloc), left, right))
+fn split(alloc: Global, place: u32, facts: u32, left: Box<Tree>) -> Result<Box<Tree>, Want> {
+    let (form, right) = test_and_right(alloc, place, facts)?;
+    let tree = Tree::Split(Test::AtLeast(form), Seq::new(alloc), left, right);
+    boxed(alloc, tree)
 }
 
 /// That tree below so many splits, on a variable of at least 1 and at most 0.
 fn tree(alloc: Global, facts: u32, depth: u32) -> Result<Box<Tree>, Want> {
-    let mut tree = Box::new(alloc, branches(alloc, depth, facts)?)?;
+    let mut tree = branches(alloc, depth, facts)?;
     for place in 0..facts {
-        tree = Box::new(alloc, split(alloc, place, facts, tree)?)?;
+        tree = split(alloc, place, facts, tree)?;
     }
     Ok(tree)
 }
@@ -132,36 +148,63 @@ fn is_open_under(
         return Ok(None);
     }
     let known = known_under(alloc, query, path)?;
-    Ok(Some(matches!(&known, Known::Undecided(_))))
+    let is_open = matches!(&known, Known::Undecided(_));
+    drop(known);
+    Ok(Some(is_open))
 }
 
-/// Whether a query of so many nodes is open under so many facts; `None` where it is too large.
-fn is_open(alloc: Global, nodes: u32, count: u32) -> Result<Option<bool>, Want> {
+/// Whether the query is open under so many facts; `None` where it is too large.
+fn is_open(alloc: Global, query: &Query<IntTheory>, count: u32) -> Result<Option<bool>, Want> {
     let path = facts(alloc, count)?;
-    let query = query(alloc, nodes)?;
-    is_open_under(alloc, &query, path.as_slice())
+    is_open_under(alloc, query, path.as_slice())
 }
 
 /// Whether the tree of a small query is accepted.
-fn is_accepted(alloc: Global, count: u32, depth: u32) -> Result<bool, CheckEnd> {
+fn is_accepted(
+    alloc: Global,
+    query: &Query<IntTheory>,
+    count: u32,
+    depth: u32,
+) -> Result<bool, CheckEnd> {
     let tree = tree(alloc, count, depth)?;
-    let query = query(alloc, 0)?;
-    check_tree(alloc, &query, &tree)
+    check_tree(alloc, query, &tree)
 }
 
-/// Whether the query is open under so many facts, and whether the tree of a small query is accepted; `None` where one
-/// of them is too large.
+/// A query of so many nodes, and a small one.
+fn queries(alloc: Global, nodes: u32) -> Result<Vec<Query<IntTheory>>, Want> {
+    let mut queries = Vec::new(alloc);
+    add_query(alloc, nodes, &mut queries)?;
+    add_query(alloc, 0, &mut queries)?;
+    Ok(queries)
+}
+
+/// Whether the first query is open under so many facts, and whether the tree of the second is accepted; `None` where
+/// one of them is too large.
+fn judged(
+    alloc: Global,
+    queries: &[Query<IntTheory>],
+    count: u32,
+    depth: u32,
+) -> Result<Option<(bool, bool)>, CheckEnd> {
+    let [large, small] = queries else {
+        return Ok(None);
+    };
+    let Some(open) = is_open(alloc, large, count)? else {
+        return Ok(None);
+    };
+    let accepted = is_accepted(alloc, small, count, depth)?;
+    Ok(Some((open, accepted)))
+}
+
+/// The same of a query of so many nodes and of a small one.
 fn measured(
     alloc: Global,
     nodes: u32,
     count: u32,
     depth: u32,
 ) -> Result<Option<(bool, bool)>, CheckEnd> {
-    let Some(open) = is_open(alloc, nodes, count)? else {
-        return Ok(None);
-    };
-    let accepted = is_accepted(alloc, count, depth)?;
-    Ok(Some((open, accepted)))
+    let queries = queries(alloc, nodes)?;
+    judged(alloc, queries.as_slice(), count, depth)
 }
 
 /// Judges the query and the tree that the words ask for, and prints what was found.
