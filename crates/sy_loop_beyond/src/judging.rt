@@ -23,8 +23,9 @@ pub(crate) fn meet_all<T: Theory>(
     requires bodies { FitAsBodies T.Theory problem.now bodies.now }
     requires assignments { AreAssignedFor T.Theory problem.now assignments.now }
 {
-    for values in assignments.iter().rev() {
-        if !meet(alloc, problem, bodies, values.as_slice())? {
+    for later in 0..assignments.len() {
+        let place = assignments.len() - 1 - later;
+        if !meet(alloc, problem, bodies, assignments[place].as_slice())? {
             return Ok(false);
         }
     }

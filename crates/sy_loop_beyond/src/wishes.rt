@@ -59,20 +59,10 @@ fn gather<T: Theory>(
             Op::And => gather_parts(alloc, problem, values, parts, true, truth, wishes),
             Op::Or => gather_parts(alloc, problem, values, parts, false, truth, wishes),
             Op::Implies => gather_implied(alloc, problem, values, parts, truth, wishes),
-            Op::Equal => {
-                if truth {
-                    let found = equal_wish(alloc, problem, values, parts.as_slice())?;
-                    push_some(wishes, found)?;
-                }
-                Ok(())
-            }
+            Op::Equal if truth => add_equal(alloc, problem, values, parts.as_slice(), wishes),
             _ => Ok(()),
         },
-        Term::Call(_, _) => {
-            let found = call_wish(alloc, problem, values, term, Value::Truth(truth))?;
-            push_some(wishes, found)?;
-            Ok(())
-        }
+        Term::Call(_, _) => add_call(alloc, problem, values, term, Value::Truth(truth), wishes),
         Term::Const(_) | Term::Var(_) | Term::Let(_, _) => Ok(()),
     }
 }
@@ -127,13 +117,6 @@ fn gather_implied<T: Theory>(
     Ok(())
 }
 
-fn push_some<T: Theory>(wishes: &mut Vec<Wish<T>>, found: Option<Wish<T>>) -> Result<(), Want> {
-    if let Some(wish) = found {
-        wishes.push(wish)?;
-    }
-    Ok(())
-}
-
 /// Whether all of the terms but the one at this place have the truth.
 fn are_others<T: Theory>(
     alloc: Global,
@@ -171,52 +154,70 @@ fn is_value<T: Theory>(
     }
 }
 
-/// What the equality of the terms wants, where there are two, and one is a call.
-fn equal_wish<T: Theory>(
+/// Adds what the equality of the terms wants, where there are two, and one is a call.
+fn add_equal<T: Theory>(
     alloc: Global,
     problem: &Problem<T>,
     values: &[Value<T::Num>],
     terms: &[Term<T>],
-) -> Result<Option<Wish<T>>, Want>
+    wishes: &mut Vec<Wish<T>>,
+) -> Result<(), Want>
     requires problem { ProblemFits T.Theory problem.now }
     requires values { AreValues problem.now.vars (vals_of T.denotes values.now) }
 {
     if terms.len() != 2 {
-        return Ok(None);
+        return Ok(());
     }
     if let Some(value) = value_of(alloc, problem, values, &terms[1])? {
-        let found = call_wish(alloc, problem, values, &terms[0], value)?;
-        return Ok(found);
+        return add_call(alloc, problem, values, &terms[0], value, wishes);
     }
-    let Some(value) = value_of(alloc, problem, values, &terms[0])? else {
-        return Ok(None);
-    };
-    let found = call_wish(alloc, problem, values, &terms[1], value)?;
-    Ok(found)
+    match value_of(alloc, problem, values, &terms[0])? {
+        Some(value) => add_call(alloc, problem, values, &terms[1], value, wishes),
+        None => Ok(()),
+    }
 }
 
-/// The wish that the term has the value, where it is a call of the function to be found at arguments without such calls.
-fn call_wish<T: Theory>(
+/// Adds the wish that the term has the value, where it is a call of the function to be found at arguments without such calls.
+fn add_call<T: Theory>(
     alloc: Global,
     problem: &Problem<T>,
     values: &[Value<T::Num>],
     term: &Term<T>,
     value: Value<T::Num>,
-) -> Result<Option<Wish<T>>, Want>
+    wishes: &mut Vec<Wish<T>>,
+) -> Result<(), Want>
     requires problem { ProblemFits T.Theory problem.now }
     requires values { AreValues problem.now.vars (vals_of T.denotes values.now) }
 {
     let Term::Call(Fun::Wanted(_), arguments) = term else {
-        return Ok(None);
+        return Ok(());
     };
     let mut tuple = Seq::new(alloc);
-    for argument in arguments.as_slice() {
-        match value_of(alloc, problem, values, argument)? {
+    let known = add_values(alloc, problem, values, arguments.as_slice(), &mut tuple)?;
+    if known {
+        wishes.push(Wish { tuple, value })?;
+    }
+    Ok(())
+}
+
+/// Adds the values of the terms up to the first that has none, and answers whether all have one.
+fn add_values<T: Theory>(
+    alloc: Global,
+    problem: &Problem<T>,
+    values: &[Value<T::Num>],
+    terms: &[Term<T>],
+    tuple: &mut Values<T>,
+) -> Result<bool, Want>
+    requires problem { ProblemFits T.Theory problem.now }
+    requires values { AreValues problem.now.vars (vals_of T.denotes values.now) }
+{
+    for term in terms {
+        match value_of(alloc, problem, values, term)? {
             Some(found) => tuple.push(found)?,
-            None => return Ok(None),
+            None => return Ok(false),
         }
     }
-    Ok(Some(Wish { tuple, value }))
+    Ok(true)
 }
 
 /// The value of a term that calls no function to be found; `None` where it calls one, or leaves the 128 bits.
