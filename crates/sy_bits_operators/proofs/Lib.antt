@@ -4,6 +4,7 @@ pub mod Rows
 pub mod Choices
 pub mod Pairs
 pub mod Taken
+pub mod Results
 pub mod Folds
 pub mod Shapes
 pub mod Theories

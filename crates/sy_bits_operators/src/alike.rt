@@ -65,12 +65,12 @@ fn bitwise(
     ensures value { IfOk result (λ r. (v : ℕ → Bool) → FollowsPlan v circuit.new → Bits (length r) (word_number v r) ≡ op_value op.now (Bits (length s.now) (word_number v s.now) ∷ Bits (length t.now) (word_number v t.now) ∷ [])) }
 {
     match op {
-        Op::BvAnd => Ok(circuit.bitwise(alloc, Joint::And, s, t)?),
-        Op::BvOr => Ok(circuit.bitwise(alloc, Joint::Or, s, t)?),
-        Op::BvXor => Ok(circuit.bitwise(alloc, Joint::Xor, s, t)?),
-        Op::BvNand => Ok(circuit.bitwise_inverted(alloc, Joint::And, s, t)?),
-        Op::BvNor => Ok(circuit.bitwise_inverted(alloc, Joint::Or, s, t)?),
-        Op::BvXnor => Ok(circuit.bitwise_inverted(alloc, Joint::Xor, s, t)?),
+        Op::BvAnd => circuit.bitwise(alloc, Joint::And, s, t),
+        Op::BvOr => circuit.bitwise(alloc, Joint::Or, s, t),
+        Op::BvXor => circuit.bitwise(alloc, Joint::Xor, s, t),
+        Op::BvNand => circuit.bitwise_inverted(alloc, Joint::And, s, t),
+        Op::BvNor => circuit.bitwise_inverted(alloc, Joint::Or, s, t),
+        Op::BvXnor => circuit.bitwise_inverted(alloc, Joint::Xor, s, t),
         _ => unreachable!(),
     }
 }
@@ -91,14 +91,14 @@ fn ordered(circuit: &mut Circuit, alloc: Global, op: &Op, s: &[Bit], t: &[Bit]) 
     ensures value { IfOk result (λ r. (v : ℕ → Bool) → FollowsPlan v circuit.new → Truth (bit_value v r) ≡ op_value op.now (Bits (length s.now) (word_number v s.now) ∷ Bits (length t.now) (word_number v t.now) ∷ [])) }
 {
     match op {
-        Op::BvUlt => Ok(circuit.compare(alloc, Order::Less, s, t)?),
-        Op::BvUle => Ok(circuit.compare(alloc, Order::AtMost, s, t)?),
-        Op::BvUgt => Ok(circuit.compare(alloc, Order::Greater, s, t)?),
-        Op::BvUge => Ok(circuit.compare(alloc, Order::AtLeast, s, t)?),
-        Op::BvSlt => Ok(circuit.signed_compare(alloc, Order::Less, s, t)?),
-        Op::BvSle => Ok(circuit.signed_compare(alloc, Order::AtMost, s, t)?),
-        Op::BvSgt => Ok(circuit.signed_compare(alloc, Order::Greater, s, t)?),
-        Op::BvSge => Ok(circuit.signed_compare(alloc, Order::AtLeast, s, t)?),
+        Op::BvUlt => circuit.compare(alloc, Order::Less, s, t),
+        Op::BvUle => circuit.compare(alloc, Order::AtMost, s, t),
+        Op::BvUgt => circuit.compare(alloc, Order::Greater, s, t),
+        Op::BvUge => circuit.compare(alloc, Order::AtLeast, s, t),
+        Op::BvSlt => circuit.signed_compare(alloc, Order::Less, s, t),
+        Op::BvSle => circuit.signed_compare(alloc, Order::AtMost, s, t),
+        Op::BvSgt => circuit.signed_compare(alloc, Order::Greater, s, t),
+        Op::BvSge => circuit.signed_compare(alloc, Order::AtLeast, s, t),
         _ => unreachable!(),
     }
 }
@@ -130,18 +130,18 @@ fn numeric(
     ensures value { IfOk result (λ r. (v : ℕ → Bool) → FollowsPlan v circuit.new → Bits (length r) (word_number v r) ≡ op_value op.now (Bits (length s.now) (word_number v s.now) ∷ Bits (length t.now) (word_number v t.now) ∷ [])) }
 {
     match op {
-        Op::BvAdd => Ok(circuit.add(alloc, s, t)?),
-        Op::BvSub => Ok(circuit.sub(alloc, s, t)?),
-        Op::BvMul => Ok(circuit.mul(alloc, s, t)?),
+        Op::BvAdd => circuit.add(alloc, s, t),
+        Op::BvSub => circuit.sub(alloc, s, t),
+        Op::BvMul => circuit.mul(alloc, s, t),
         Op::BvUdiv => Ok(circuit.divide(alloc, s, t)?.quotient),
         Op::BvUrem => Ok(circuit.divide(alloc, s, t)?.remainder),
-        Op::BvSdiv => Ok(circuit.signed_quotient(alloc, s, t)?),
-        Op::BvSrem => Ok(circuit.signed_remainder(alloc, s, t)?),
-        Op::BvSmod => Ok(circuit.signed_modulo(alloc, s, t)?),
-        Op::BvShl => Ok(circuit.shift_up(alloc, s, t)?),
-        Op::BvLshr => Ok(circuit.shift_down(alloc, s, t)?),
-        Op::BvAshr => Ok(circuit.signed_shift_down(alloc, s, t)?),
-        Op::BvComp => Ok(circuit.comp(alloc, s, t)?),
+        Op::BvSdiv => circuit.signed_quotient(alloc, s, t),
+        Op::BvSrem => circuit.signed_remainder(alloc, s, t),
+        Op::BvSmod => circuit.signed_modulo(alloc, s, t),
+        Op::BvShl => circuit.shift_up(alloc, s, t),
+        Op::BvLshr => circuit.shift_down(alloc, s, t),
+        Op::BvAshr => circuit.signed_shift_down(alloc, s, t),
+        Op::BvComp => circuit.comp(alloc, s, t),
         _ => unreachable!(),
     }
 }
