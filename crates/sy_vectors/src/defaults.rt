@@ -100,7 +100,8 @@ pub fn is_right<R: Abort>(rt: &R, alloc: Global, row: &str) -> bool {
 
 /// Whether the grammar of a byte without arguments has two nonterminals and chooses by its 16th rule.
 pub fn byte_chooses<R: Abort>(rt: &R, alloc: Global) -> bool {
-    let byte = vectors(rt, alloc, "byte");
+    let byte = default_grammar::<BvTheory>(alloc, Logic::Bv, &[], Sort::Bits(8));
+    let byte = byte.expect(rt, "a grammar");
     let chooses = byte.nons().len() == 2 && tree_rule(&byte) == Some(15);
     drop(byte);
     chooses
