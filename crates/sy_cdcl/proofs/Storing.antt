@@ -1,8 +1,8 @@
 -- A store with one clause more, and its clauses by their numbers.
-use Rattle.std.proofs.Common.{◌≡◌, ℕ, zero, suc, ◌≤◌, ◌-◌, ◌+◌, List, [], ◌∷◌, ◌++◌, refl, sym, ap, subst, ◌∙◌, arith, length, length-append, take, drop, map, Some, None, inl, inr, ⊎_elim, ◌⊎◌}
-use Rattle.std.specs.Prelude.{slice_get, option_map}
+use Rattle.std.proofs.Common.{◌≡◌, ℕ, zero, suc, ◌<◌, ◌≤◌, ◌-◌, ◌+◌, List, [], ◌∷◌, ◌++◌, refl, sym, ap, ap₂, subst, ◌∙◌, arith, length, length-append, take, drop, map, Some, None, inl, inr, ⊎_elim, ◌⊎◌}
+use Rattle.std.specs.Prelude.{slice_get, option_map, get_or}
 use Rattle.std.proofs.lemmas.Option.{slice_get-map}
-use Rattle.std.proofs.lemmas.List.{drop-append-le, take-append-le, length-drop, drop_at, take_all, map_push}
+use Rattle.std.proofs.lemmas.List.{drop-append-le, take-append-le, length-drop, drop_at, take_all, take_more, append_assoc, map_push}
 use Rattle.sy_clauses.specs.declared.Lit.{Lit}
 use Rattle.sy_clauses.specs.Clauses.{Clause, literals}
 use Rattle.sy_cdcl.specs.declared.store.Span.{Span}
@@ -72,3 +72,21 @@ clause_got s n span h = slice_get-map (clause_in s.codes.items) s.spans.items n 
 
 pub clause_missing : (s : Store) (n : ℕ) → slice_get s.spans.items n ≡ None → slice_get (clauses_in s) n ≡ None
 clause_missing s n h = slice_get-map (clause_in s.codes.items) s.spans.items n ∙ ap (option_map (clause_in s.codes.items)) h
+
+-- a copy of the next item more
+pub copied_more : {X : Type 0} → (now new before all : List X) (i : ℕ) (d copy : X) → i < length all → copy ≡ get_or all i d →
+    new ≡ now ++ copy ∷ [] → now ≡ before ++ take i all → new ≡ before ++ take (i + 1) all
+copied_more now new before all i d copy within same pushed kept =
+    pushed
+    ∙ ap₂ (λ xs y. xs ++ y ∷ []) kept same
+    ∙ append_assoc before (take i all) (get_or all i d ∷ [])
+    ∙ sym (ap (λ xs. before ++ xs) (take_more all i d within))
+
+-- the next clause more
+pub clauses_more : (now new : List Clause) (all : List (List Lit)) (i : ℕ) (x slice : List Lit) → i < length all → x ≡ get_or all i x → slice ≡ x →
+    new ≡ now ++ literals slice ∷ [] → now ≡ map literals (take i all) → new ≡ map literals (take (i + 1) all)
+clauses_more now new all i x slice within is same pushed kept =
+    pushed
+    ∙ ap₂ (λ cs ys. cs ++ literals ys ∷ []) kept (same ∙ is)
+    ∙ sym (map_push literals (take i all) (get_or all i x))
+    ∙ sym (ap (map literals) (take_more all i x within))

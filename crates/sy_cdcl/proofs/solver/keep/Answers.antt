@@ -1,5 +1,6 @@
 use Rattle.std.proofs.Common.{◌≡◌, ◌∙◌, ℕ, ◌++◌, ◌∷◌, [], List, sym, subst, ap, refl, Some, length, vec_len}
 use Rattle.std.specs.Prelude.{slice_get, MatchOption}
+use Rattle.std.proofs.lemmas.Result.{IfOk-from_err}
 use Rattle.sy_clauses.specs.declared.Lit.{Lit}
 use Rattle.sy_clauses.specs.Clauses.{Clause, literals, known_clauses}
 use Rattle.sy_clauses.specs.New.{Partial, IsUnit}
@@ -88,3 +89,87 @@ returns-clause-stored c =
     let stored : clauses_in c.push.new.self ≡ clauses_in c.args.store.now ++ new ∷ [] =
     subst (λ (ls : List Lit). clauses_in c.push.new.self ≡ clauses_in c.args.store.now ++ literals ls ∷ []) c.as_slice.ensures c.in_ok-push.ensures.clauses in
     stored ∙ ap (λ (ks : List Clause). ks ++ new ∷ []) c.requires.stored ∙ sym grown
+
+pub returns-in_err-push-clause-stored : goal.returns-in_err-push-clause-stored
+returns-in_err-push-clause-stored c = IfOk-from_err c.from_residual.result _ c.from_residual.ensures.0
+
+pub returns-in_err-push-clause-fit : goal.returns-in_err-push-clause-fit
+returns-in_err-push-clause-fit c = IfOk-from_err c.from_residual.result _ c.from_residual.ensures.0
+
+pub returns-in_err-push-clause-derived : goal.returns-in_err-push-clause-derived
+returns-in_err-push-clause-derived c = IfOk-from_err c.from_residual.result _ c.from_residual.ensures.0
+
+pub returns-in_err-push-clause-ready : goal.returns-in_err-push-clause-ready
+returns-in_err-push-clause-ready c = IfOk-from_err c.from_residual.result _ c.from_residual.ensures.0
+
+pub returns-in_err-push-clause-levels : goal.returns-in_err-push-clause-levels
+returns-in_err-push-clause-levels c = IfOk-from_err c.from_residual.result _ c.from_residual.ensures.0
+
+pub returns-in_err-push-clause-watching : goal.returns-in_err-push-clause-watching
+returns-in_err-push-clause-watching c = IfOk-from_err c.from_residual.result _ c.from_residual.ensures.0
+
+pub returns-in_err-push-clause-all : goal.returns-in_err-push-clause-all
+returns-in_err-push-clause-all c = IfOk-from_err c.from_residual.result _ c.from_residual.ensures.0
+
+pub returns-in_err-push-2-clause-stored : goal.returns-in_err-push-2-clause-stored
+returns-in_err-push-2-clause-stored c = IfOk-from_err c.from_residual-in_err-push-2.result _ c.from_residual-in_err-push-2.ensures.0
+
+pub returns-in_err-push-2-clause-fit : goal.returns-in_err-push-2-clause-fit
+returns-in_err-push-2-clause-fit c = IfOk-from_err c.from_residual-in_err-push-2.result _ c.from_residual-in_err-push-2.ensures.0
+
+pub returns-in_err-push-2-clause-derived : goal.returns-in_err-push-2-clause-derived
+returns-in_err-push-2-clause-derived c = IfOk-from_err c.from_residual-in_err-push-2.result _ c.from_residual-in_err-push-2.ensures.0
+
+pub returns-in_err-push-2-clause-ready : goal.returns-in_err-push-2-clause-ready
+returns-in_err-push-2-clause-ready c = IfOk-from_err c.from_residual-in_err-push-2.result _ c.from_residual-in_err-push-2.ensures.0
+
+pub returns-in_err-push-2-clause-levels : goal.returns-in_err-push-2-clause-levels
+returns-in_err-push-2-clause-levels c = IfOk-from_err c.from_residual-in_err-push-2.result _ c.from_residual-in_err-push-2.ensures.0
+
+pub returns-in_err-push-2-clause-watching : goal.returns-in_err-push-2-clause-watching
+returns-in_err-push-2-clause-watching c = IfOk-from_err c.from_residual-in_err-push-2.result _ c.from_residual-in_err-push-2.ensures.0
+
+pub returns-in_err-push-2-clause-all : goal.returns-in_err-push-2-clause-all
+returns-in_err-push-2-clause-all c = IfOk-from_err c.from_residual-in_err-push-2.result _ c.from_residual-in_err-push-2.ensures.0
+
+pub returns-in_err-assign-clause-stored : goal.returns-in_err-assign-clause-stored
+returns-in_err-assign-clause-stored c = IfOk-from_err c.from_residual-in_err-assign.result _ c.from_residual-in_err-assign.ensures.0
+
+pub returns-in_err-assign-clause-fit : goal.returns-in_err-assign-clause-fit
+returns-in_err-assign-clause-fit c = IfOk-from_err c.from_residual-in_err-assign.result _ c.from_residual-in_err-assign.ensures.0
+
+pub returns-in_err-assign-clause-derived : goal.returns-in_err-assign-clause-derived
+returns-in_err-assign-clause-derived c = IfOk-from_err c.from_residual-in_err-assign.result _ c.from_residual-in_err-assign.ensures.0
+
+pub returns-in_err-assign-clause-ready : goal.returns-in_err-assign-clause-ready
+returns-in_err-assign-clause-ready c = IfOk-from_err c.from_residual-in_err-assign.result _ c.from_residual-in_err-assign.ensures.0
+
+pub returns-in_err-assign-clause-levels : goal.returns-in_err-assign-clause-levels
+returns-in_err-assign-clause-levels c = IfOk-from_err c.from_residual-in_err-assign.result _ c.from_residual-in_err-assign.ensures.0
+
+pub returns-in_err-assign-clause-watching : goal.returns-in_err-assign-clause-watching
+returns-in_err-assign-clause-watching c = IfOk-from_err c.from_residual-in_err-assign.result _ c.from_residual-in_err-assign.ensures.0
+
+pub returns-in_err-assign-clause-all : goal.returns-in_err-assign-clause-all
+returns-in_err-assign-clause-all c = IfOk-from_err c.from_residual-in_err-assign.result _ c.from_residual-in_err-assign.ensures.0
+
+pub returns-in_err-watch_lesson-clause-stored : goal.returns-in_err-watch_lesson-clause-stored
+returns-in_err-watch_lesson-clause-stored c = IfOk-from_err c.from_residual-in_err-watch_lesson.result _ c.from_residual-in_err-watch_lesson.ensures.0
+
+pub returns-in_err-watch_lesson-clause-fit : goal.returns-in_err-watch_lesson-clause-fit
+returns-in_err-watch_lesson-clause-fit c = IfOk-from_err c.from_residual-in_err-watch_lesson.result _ c.from_residual-in_err-watch_lesson.ensures.0
+
+pub returns-in_err-watch_lesson-clause-derived : goal.returns-in_err-watch_lesson-clause-derived
+returns-in_err-watch_lesson-clause-derived c = IfOk-from_err c.from_residual-in_err-watch_lesson.result _ c.from_residual-in_err-watch_lesson.ensures.0
+
+pub returns-in_err-watch_lesson-clause-ready : goal.returns-in_err-watch_lesson-clause-ready
+returns-in_err-watch_lesson-clause-ready c = IfOk-from_err c.from_residual-in_err-watch_lesson.result _ c.from_residual-in_err-watch_lesson.ensures.0
+
+pub returns-in_err-watch_lesson-clause-levels : goal.returns-in_err-watch_lesson-clause-levels
+returns-in_err-watch_lesson-clause-levels c = IfOk-from_err c.from_residual-in_err-watch_lesson.result _ c.from_residual-in_err-watch_lesson.ensures.0
+
+pub returns-in_err-watch_lesson-clause-watching : goal.returns-in_err-watch_lesson-clause-watching
+returns-in_err-watch_lesson-clause-watching c = IfOk-from_err c.from_residual-in_err-watch_lesson.result _ c.from_residual-in_err-watch_lesson.ensures.0
+
+pub returns-in_err-watch_lesson-clause-all : goal.returns-in_err-watch_lesson-clause-all
+returns-in_err-watch_lesson-clause-all c = IfOk-from_err c.from_residual-in_err-watch_lesson.result _ c.from_residual-in_err-watch_lesson.ensures.0
