@@ -7,6 +7,7 @@ ghost use Rattle.sy_loop_beyond.specs.Clauses.{AreAssignedFor, AreFoundFor, AreW
 use crate::judging::meet_all;
 use std::alloc::Global;
 use sy_grammar_base::Problem;
+use sy_loop_candidate::decide_query;
 use sy_query_build::{Built, build};
 use sy_query_decide::{Decide, Verdict};
 use sy_query_limits::Limits;
@@ -95,6 +96,6 @@ fn verdict_on<T: Theory, D: Decide<T>>(
         Err(Built::Heavy) => return Ok(None),
         Err(Built::Want) => return Err(Want {}),
     };
-    let verdict = decide.decide(task.alloc, &query, task.limits)?;
+    let verdict = decide_query(task.alloc, task.limits, decide, query)?;
     Ok(Some(verdict))
 }

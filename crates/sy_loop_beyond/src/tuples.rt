@@ -21,8 +21,9 @@ pub(crate) fn wished_tuples<T: Theory>(
     requires assigned { AreAssignedFor T.Theory task.now.problem.now assignments.now }
 {
     let mut tuples = Vec::new(task.alloc);
-    for values in assignments.iter().rev() {
-        add_tuples(task, values.as_slice(), &mut tuples)?;
+    for later in 0..assignments.len() {
+        let place = assignments.len() - 1 - later;
+        add_tuples(task, assignments[place].as_slice(), &mut tuples)?;
     }
     Ok(tuples)
 }
