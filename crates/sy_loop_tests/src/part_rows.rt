@@ -94,11 +94,14 @@ fn has_row<T: Theory>(
     let term = chosen_part(alloc, part, chosen).expect(rt, told);
     assert!(rt; is_integer(rt, alloc, defs, &term));
     drop(term);
-    match part_row(alloc, defs, points, part, chosen) {
+    let found = part_row(alloc, defs, points, part, chosen);
+    let is_told = match &found {
         Ok(row) => are_numbers::<T>(row.as_slice(), told),
-        Err(RowEnd::Lost(point)) => told == "lost" && point == 1,
+        Err(RowEnd::Lost(point)) => told == "lost" && *point == 1,
         Err(RowEnd::Want) => panic!(rt; "memory"),
-    }
+    };
+    drop(found);
+    is_told
 }
 
 /// Whether the values are the numbers between spaces.
@@ -170,7 +173,9 @@ fn is_right<T: Theory>(
 {
     let (text, told) = cut(row);
     let part = part::<T>(rt, alloc, Sort::Int, text);
-    has_row(rt, alloc, defs, points, &part, chosen, told) && is_grown(rt, alloc, part, chosen)
+    let has_row = has_row(rt, alloc, defs, points, &part, chosen, told);
+    let is_grown = is_grown(rt, alloc, part, chosen);
+    has_row & is_grown
 }
 
 /// Asserts that each row is right at the points 3 and the greatest number, where the definition gives the next number.

@@ -3,7 +3,8 @@ use crate::rows::field;
 use crate::{banks, combinations, part_rows, pointwise, refutations, shared_terms};
 use std::alloc::Global;
 use std::process::Abort;
-use sy_meaning::{BvTheory, IntTheory};
+use sy_meaning_integers::IntTheory;
+use sy_meaning_words::BvTheory;
 use sy_terms::Sort;
 
 /// All tables. The first field of a row says what it is about.
