@@ -3,4 +3,5 @@ mod Points
 mod Columns
 mod Told
 mod Memos
+mod Pages
 pub mod Asked

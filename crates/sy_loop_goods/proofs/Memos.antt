@@ -15,8 +15,8 @@ use Rattle.sy_loop_bounds_laws.proofs.Resting.{rest_decides, rests_on_one}
 use Rattle.sy_loop_bounds_laws.proofs.Variables.{many_values}
 use Rattle.sy_loop_candidate.proofs.Items.{has_place}
 use Rattle.sy_loop_history.specs.Histories.{Counterexample}
-use Rattle.sy_loop_memo.specs.Tellings.{HasTelling, Telling}
-use Rattle.sy_loop_memo.specs.declared.memo.Memo.{Memo}
+use Rattle.sy_loop_goods.specs.Tellings.{HasTelling, Telling}
+use Rattle.sy_loop_goods.specs.declared.memo.Memo.{Memo}
 use Rattle.sy_loop_trees_laws.specs.Goods.{assignments_of}
 use Rattle.sy_loop_goods.proofs.Columns.{row_means, same_item}
 use Rattle.sy_loop_goods.proofs.Told.{judges_one}

@@ -11,7 +11,7 @@ use Rattle.sy_bank_rows.specs.Rows.{IsRow}
 use Rattle.sy_points.specs.Asked.{Asked, of_function}
 use Rattle.sy_points.specs.declared.stored.Stored.{Stored}
 use Rattle.sy_loop_history.specs.Stored.{history_of}
-use Rattle.sy_loop_memo.specs.declared.memo.Memo.{Memo}
+use Rattle.sy_loop_goods.specs.declared.memo.Memo.{Memo}
 use Rattle.sy_loop_trees_laws.specs.Goods.{assignments_of, AreGoods}
 use Rattle.sy_loop_goods.specs.Columns.{IsColumn}
 use Rattle.sy_loop_goods.specs.Judged.{JudgesLeaf}

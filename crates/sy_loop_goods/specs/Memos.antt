@@ -6,8 +6,8 @@ use Rattle.sy_terms.specs.Meaning.{functions, meaning}
 use Rattle.sy_grammar_base.specs.Questions.{Question}
 use Rattle.sy_loop_bounds.specs.Resting.{RestsOn}
 use Rattle.sy_loop_goods.specs.Telling.{TellsTruth}
-use Rattle.sy_loop_memo.specs.Tellings.{HasTelling, Telling}
-use Rattle.sy_loop_memo.specs.declared.memo.Memo.{Memo}
+use Rattle.sy_loop_goods.specs.Tellings.{HasTelling, Telling}
+use Rattle.sy_loop_goods.specs.declared.memo.Memo.{Memo}
 
 -- it is so under any body that has this value at the tuple on which the constraint rests
 pub record HoldsForAll (question : Question) (telling : Telling) : Type 0 where

@@ -16,7 +16,7 @@ use std::alloc::{AllocError, Global};
 use sy_bank_rows::Kept;
 use sy_grammar_base::Problem;
 use sy_loop_candidate::is_true;
-use sy_loop_memo::Memo;
+use crate::Memo;
 use sy_meaning::{Eval, Trace, evaluate_with};
 use sy_points::{Points, Stored};
 use sy_terms::{Bodies, Seq, Term, Theory, Value, Want};

@@ -14,7 +14,7 @@ use std::alloc::Global;
 use std::collections::HashMap;
 use sy_bank_rows::Kept;
 use sy_grammar_base::Problem;
-use sy_loop_memo::Memo;
+use crate::Memo;
 use sy_points::{Points, Stored};
 use sy_terms::{Theory, Value, Want, same_value};
 

@@ -4,9 +4,12 @@
 mod goods;
 mod judging;
 mod leaf;
+mod memo;
+mod page;
 mod recall;
 mod rests;
 mod rows;
 
 pub use goods::{Goods, Leaving, good_rows};
+pub use memo::Memo;
 pub use rests::{Rest, Resting, rest_all};

@@ -9,7 +9,7 @@ use crate::judging::Judged;
 use crate::rests::Rest;
 use sy_bank_rows::Kept;
 use sy_grammar_base::Problem;
-use sy_loop_memo::Memo;
+use crate::Memo;
 use sy_points::{Points, Stored};
 use sy_terms::{Theory, Value};
 

@@ -22,7 +22,7 @@ use Rattle.sy_loop_bounds.specs.declared.reach.Reach.{Reach}
 use Rattle.sy_loop_candidate.proofs.Items.{has_place}
 use Rattle.sy_loop_trees.specs.Conditions as conditions
 use Rattle.sy_loop_goods.specs.Memos.{IsMemo}
-use Rattle.sy_loop_memo.specs.declared.memo.Memo.{Memo}
+use Rattle.sy_loop_goods.specs.declared.memo.Memo.{Memo}
 use Rattle.sy_loop_join.specs.Plans.{IsPlan, TriesNoTrees}
 use Rattle.sy_loop_join.specs.declared.plan.Plan.{Plan}
 

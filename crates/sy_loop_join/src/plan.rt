@@ -7,7 +7,7 @@ ghost use Rattle.sy_loop_join.specs.Plans.{TriesTrees};
 use std::alloc::Global;
 use sy_grammar_base::Problem;
 use sy_loop_bounds::Reach;
-use sy_loop_memo::Memo;
+use sy_loop_goods::Memo;
 use sy_loop_pointwise::{Posed, pose};
 use sy_loop_trees::condition_of;
 use sy_terms::{Theory, Want};

@@ -1,7 +1,7 @@
 // What constraints told at assignments.
 ghost use Rattle.std.specs.Prelude.{◌≡◌, ◌⊎◌, IfSome, OnOk};
 ghost use Rattle.sy_terms.specs.Denoted.{val_of, vals_of};
-ghost use Rattle.sy_loop_memo.specs.Tellings.{HasTelling, Telling};
+ghost use Rattle.sy_loop_goods.specs.Tellings.{HasTelling, Telling};
 
 use crate::page::Page;
 use std::alloc::Global;

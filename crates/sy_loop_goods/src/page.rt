@@ -1,7 +1,7 @@
 // What one constraint told at one assignment.
 ghost use Rattle.std.specs.Prelude.{◌≡◌, [], IsTrue, Contains, IfSome, OnOk};
 ghost use Rattle.sy_terms.specs.Denoted.{val_of, vals_of};
-ghost use Rattle.sy_loop_memo.specs.Tellings.{GainsTelling, tellings_of};
+ghost use Rattle.sy_loop_goods.specs.Tellings.{GainsTelling, tellings_of};
 
 use std::alloc::Global;
 use std::collections::HashMap;

@@ -1,6 +1,6 @@
 use Rattle.std.proofs.Common.{refl}
-use Rattle.sy_loop_memo.proofs.Pages.{memo_stays}
-use Rattle.sy_loop_memo.proofs.memo.Memo.widen.Goals as goal
+use Rattle.sy_loop_goods.proofs.Pages.{memo_stays}
+use Rattle.sy_loop_goods.proofs.memo.Memo.widen.Goals as goal
 
 pub loop-place-preserved : goal.loop-place-preserved
 loop-place-preserved g c = λ telling told. c.loop-place.invariant telling (c.in_ok-open.ensures telling told)

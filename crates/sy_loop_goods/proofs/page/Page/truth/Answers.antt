@@ -1,8 +1,8 @@
 use Rattle.std.proofs.Common.{refl}
 use Rattle.std.proofs.lemmas.Option.{slice_get_read}
 use Rattle.sy_terms.specs.Denoted.{val_of, vals_of}
-use Rattle.sy_loop_memo.proofs.Pages.{truth_found}
-use Rattle.sy_loop_memo.proofs.page.Page.truth.Goals as goal
+use Rattle.sy_loop_goods.proofs.Pages.{truth_found}
+use Rattle.sy_loop_goods.proofs.page.Page.truth.Goals as goal
 
 pub returns-then-same_value : goal.returns-then-same_value
 returns-then-same_value g c =

@@ -1,6 +1,6 @@
 use Rattle.sy_terms.specs.Denoted.{vals_of}
-use Rattle.sy_loop_memo.proofs.Pages.{truth_more}
-use Rattle.sy_loop_memo.proofs.page.Page.add.Goals as goal
+use Rattle.sy_loop_goods.proofs.Pages.{truth_more}
+use Rattle.sy_loop_goods.proofs.page.Page.add.Goals as goal
 
 pub returns : goal.returns
 returns g c =

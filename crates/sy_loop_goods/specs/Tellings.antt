@@ -3,8 +3,8 @@ use Rattle.std.specs.Prelude.{ℕ, ◌≡◌, ◌⊎◌, Bool, List, map, Contai
 use Rattle.sy_terms.specs.Values.{Val}
 use Rattle.sy_terms.specs.Denoted.{val_of, vals_of}
 use Rattle.sy_terms.specs.declared.sort.Value.{Value}
-use Rattle.sy_loop_memo.specs.declared.memo.Memo.{Memo}
-use Rattle.sy_loop_memo.specs.declared.page.Page.{Page}
+use Rattle.sy_loop_goods.specs.declared.memo.Memo.{Memo}
+use Rattle.sy_loop_goods.specs.declared.page.Page.{Page}
 
 -- whether the constraint of this number is true at these values of the variables, where the function to be found has this value
 -- at the tuple on which it rests

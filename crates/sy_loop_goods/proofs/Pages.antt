@@ -9,9 +9,9 @@ use Rattle.std.proofs.lemmas.Option.{get_or_from_slice_get, slice_get-map, slice
 use Rattle.sy_terms.specs.Values.{Val}
 use Rattle.sy_terms.specs.Denoted.{val_of, vals_of}
 use Rattle.sy_terms.specs.declared.sort.Value.{Value}
-use Rattle.sy_loop_memo.specs.Tellings.{GainsTelling, HasTelling, Telling, telling_of, tellings_of}
-use Rattle.sy_loop_memo.specs.declared.memo.Memo.{Memo}
-use Rattle.sy_loop_memo.specs.declared.page.Page.{Page}
+use Rattle.sy_loop_goods.specs.Tellings.{GainsTelling, HasTelling, Telling, telling_of, tellings_of}
+use Rattle.sy_loop_goods.specs.declared.memo.Memo.{Memo}
+use Rattle.sy_loop_goods.specs.declared.page.Page.{Page}
 
 -- what a list with one item set has
 contains_set : {X : Type 0} (xs : List X) (i : ℕ) (y x : X) → Contains (slice_set xs i y) x → Contains xs x ⊎ (y ≡ x)
