@@ -1,6 +1,6 @@
-pub mod WrittenOut
 pub mod Applications
+pub mod Bounds
+pub mod Conditional
 pub mod Pointwise
 pub mod Resting
-pub mod Conditional
-pub mod Bounds
+pub mod WrittenOut

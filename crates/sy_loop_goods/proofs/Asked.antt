@@ -11,9 +11,9 @@ use Rattle.sy_grammar_base.specs.Solving.{AreValues}
 use Rattle.sy_points.specs.Asked.{Asked}
 use Rattle.sy_loop_bounds.specs.Pointwise.{IsPointwise}
 use Rattle.sy_loop_bounds.specs.Resting.{RestsOn}
-use Rattle.sy_loop_bounds_laws.proofs.Goodness.{posed_in}
-use Rattle.sy_loop_bounds_laws.proofs.Resting.{rests_asks}
-use Rattle.sy_loop_bounds_laws.proofs.Variables.{many_values}
+use Rattle.sy_loop_bounds.proofs.Goodness.{posed_in}
+use Rattle.sy_loop_bounds.proofs.Resting.{rests_asks}
+use Rattle.sy_loop_bounds.proofs.Variables.{many_values}
 use Rattle.sy_loop_history.specs.Histories.{Counterexample, all_asked_by, trace}
 use Rattle.sy_loop_candidate.specs.Traces.{AsksMore, LeavesRangeAt}
 use Rattle.sy_loop_candidate.proofs.Items.{has_place}

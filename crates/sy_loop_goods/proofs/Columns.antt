@@ -21,7 +21,7 @@ use Rattle.sy_bank_rows.specs.Stored.{chosen_of, entry_of}
 use Rattle.sy_bank_rows.specs.declared.kept.Kept.{Kept}
 use Rattle.sy_loop_bounds.specs.Pointwise.{IsPointwise}
 use Rattle.sy_loop_bounds.specs.Resting.{RestsOn}
-use Rattle.sy_loop_bounds_laws.proofs.Goodness.{bad_alike, good_alike}
+use Rattle.sy_loop_bounds.proofs.Goodness.{bad_alike, good_alike}
 use Rattle.sy_loop_candidate.proofs.Items.{has_place}
 use Rattle.sy_loop_candidate.proofs.Traced.{first_or_later, no_element}
 use Rattle.sy_loop_history.specs.Histories.{Counterexample}

@@ -10,9 +10,9 @@ use Rattle.sy_bank_rows.specs.Banks.{Entry}
 use Rattle.sy_bank_rows.specs.Rows.{IsRow}
 use Rattle.sy_loop_bounds.specs.Pointwise.{IsPointwise}
 use Rattle.sy_loop_bounds.specs.Resting.{RestsOn}
-use Rattle.sy_loop_bounds_laws.proofs.Goodness.{posed_in}
-use Rattle.sy_loop_bounds_laws.proofs.Resting.{rest_decides, rests_on_one}
-use Rattle.sy_loop_bounds_laws.proofs.Variables.{many_values}
+use Rattle.sy_loop_bounds.proofs.Goodness.{posed_in}
+use Rattle.sy_loop_bounds.proofs.Resting.{rest_decides, rests_on_one}
+use Rattle.sy_loop_bounds.proofs.Variables.{many_values}
 use Rattle.sy_loop_candidate.proofs.Items.{has_place}
 use Rattle.sy_loop_history.specs.Histories.{Counterexample}
 use Rattle.sy_loop_goods.specs.Tellings.{HasTelling, Telling}

@@ -20,10 +20,10 @@ use Rattle.sy_loop_bounds.specs.Applications.{applications}
 use Rattle.sy_loop_bounds.specs.Pointwise.{IsPointwise}
 use Rattle.sy_loop_bounds.specs.Resting.{RestsOn}
 use Rattle.sy_loop_bounds.specs.WrittenOut.{written_out}
-use Rattle.sy_loop_bounds_laws.proofs.Applied.{in_nothing}
-use Rattle.sy_loop_bounds_laws.proofs.Goodness.{posed_in}
-use Rattle.sy_loop_bounds_laws.proofs.Resting.{rests_on_one}
-use Rattle.sy_loop_bounds_laws.proofs.Variables.{many_values}
+use Rattle.sy_loop_bounds.proofs.Applied.{in_nothing}
+use Rattle.sy_loop_bounds.proofs.Goodness.{posed_in}
+use Rattle.sy_loop_bounds.proofs.Resting.{rests_on_one}
+use Rattle.sy_loop_bounds.proofs.Variables.{many_values}
 use Rattle.sy_loop_history.specs.Adding.{GainsTuples, IsAsked, room}
 use Rattle.sy_loop_history.specs.Histories.{Counterexample}
 use Rattle.sy_loop_candidate.specs.Known.{IsHeld}

@@ -21,8 +21,8 @@ use Rattle.sy_loop_bounds.specs.Conditional.{yield}
 use Rattle.sy_loop_bounds.specs.Pointwise.{IsPointwise}
 use Rattle.sy_loop_bounds.specs.WrittenOut.{written_out}
 use Rattle.sy_loop_bounds.specs.declared.reach.Reach.{Reach}
-use Rattle.sy_loop_bounds_laws.proofs.Applied.{in_nothing}
-use Rattle.sy_loop_bounds_laws.proofs.Goodness.{rests_or_not}
+use Rattle.sy_loop_bounds.proofs.Applied.{in_nothing}
+use Rattle.sy_loop_bounds.proofs.Goodness.{rests_or_not}
 use Rattle.sy_loop_history.specs.Histories.{Counterexample, IsHonestHistory}
 use Rattle.sy_loop_candidate.specs.Known.{IsKnown}
 use Rattle.sy_loop_candidate.specs.Traces.{MeetAll}

@@ -6,7 +6,7 @@ use Rattle.std.proofs.lemmas.List.Elements.{All-nil, All-cons, All-head, All-tai
 use Rattle.sy_terms.specs.Expr.{Expr, Exprs, Invoke, none}
 use Rattle.sy_terms.specs.declared.term.Fun.TheVariants.{Wanted}
 use Rattle.sy_loop_bounds.specs.Applications.{applications, all_applications}
-use Rattle.sy_loop_bounds_laws.proofs.Applied.{in_nothing}
+use Rattle.sy_loop_bounds.proofs.Applied.{in_nothing}
 use Rattle.sy_loop_subterms.specs.Shapes.{term_of}
 use Rattle.sy_loop_pointwise.specs.Asked.{AreAtOnce, IsTheCall, AreApplications}
 use Rattle.sy_loop_pointwise.specs.declared.asks.Asks.{Asks}

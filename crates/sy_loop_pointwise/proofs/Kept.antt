@@ -8,7 +8,7 @@ use Rattle.sy_terms.specs.Expr.{Expr, Exprs, Constant, Variable, Apply, Invoke, 
 use Rattle.sy_terms.specs.declared.op.Op.{Op}
 use Rattle.sy_terms.specs.declared.term.Fun.TheVariants.{Defined}
 use Rattle.sy_loop_bounds.specs.Applications.{applications, all_applications}
-use Rattle.sy_loop_bounds_laws.proofs.Applied.{applications_append}
+use Rattle.sy_loop_bounds.proofs.Applied.{applications_append}
 use Rattle.sy_loop_subterms.specs.Shapes.{term_of, terms_of}
 use Rattle.sy_loop_subterms.proofs.Lists.{at_more}
 use Rattle.sy_loop_subterms.proofs.Numbered.{terms_of-append}

@@ -21,9 +21,9 @@ use Rattle.sy_grammar_base.specs.Solving.{AreValues}
 use Rattle.sy_loop_bounds.specs.Applications.{applications, all_applications}
 use Rattle.sy_loop_bounds.specs.Pointwise.{IsPosed, IsPointwise}
 use Rattle.sy_loop_bounds.specs.WrittenOut.{written_out}
-use Rattle.sy_loop_bounds_laws.proofs.Plain.{FitsAsCall}
-use Rattle.sy_loop_bounds_laws.proofs.Resting.{application_fits, arguments_leave, is_of_the_one}
-use Rattle.sy_loop_bounds_laws.proofs.Variables.{many_values}
+use Rattle.sy_loop_bounds.proofs.Plain.{FitsAsCall}
+use Rattle.sy_loop_bounds.proofs.Resting.{application_fits, arguments_leave, is_of_the_one}
+use Rattle.sy_loop_bounds.proofs.Variables.{many_values}
 use Rattle.sy_loop_subterms.specs.Shapes.{Shape, AreBelow, subterms, term_of, terms_of}
 use Rattle.sy_loop_pointwise.specs.Asked.{AreArguments, IsTheCall}
 use Rattle.sy_loop_pointwise.specs.Rests.{RestsAt, TermLeavesAt}

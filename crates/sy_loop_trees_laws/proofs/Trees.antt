@@ -16,10 +16,10 @@ use Rattle.sy_loop_bounds.specs.Bounds.{IsJoinedWithin}
 use Rattle.sy_loop_bounds.specs.Pointwise.{IsPointwise}
 use Rattle.sy_loop_bounds.specs.Conditional.{Conditional, Leaf, Test, yield, IsPart, ArePartsWithin, IsTreeRule}
 use Rattle.sy_loop_bounds.specs.declared.reach.Reach.{Reach}
-use Rattle.sy_loop_bounds_laws.proofs.Applied.{in_nothing}
-use Rattle.sy_loop_bounds_laws.proofs.Resting.{nothing_rests_decides}
-use Rattle.sy_loop_bounds_laws.proofs.Goodness.{rests_or_not}
-use Rattle.sy_loop_bounds_laws.proofs.Variables.{many_values}
+use Rattle.sy_loop_bounds.proofs.Applied.{in_nothing}
+use Rattle.sy_loop_bounds.proofs.Resting.{nothing_rests_decides}
+use Rattle.sy_loop_bounds.proofs.Goodness.{rests_or_not}
+use Rattle.sy_loop_bounds.proofs.Variables.{many_values}
 use Rattle.sy_loop_history.specs.Adding.{IsAsked}
 use Rattle.sy_loop_history.specs.Histories.{Counterexample, IsHonestHistory, IsViolatedIn}
 use Rattle.sy_loop_history.specs.Trials.{IsRefuted}

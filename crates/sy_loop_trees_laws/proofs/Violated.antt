@@ -10,7 +10,7 @@ use Rattle.sy_grammar_base.specs.Questions.{Question}
 use Rattle.sy_grammar_base.specs.Solving.{AreValues, IsTrueUnder}
 use Rattle.sy_loop_bounds.specs.Resting.{IsBadAt}
 use Rattle.sy_loop_bounds.specs.declared.reach.Reach.{Reach}
-use Rattle.sy_loop_bounds_laws.proofs.Applied.{in_nothing}
+use Rattle.sy_loop_bounds.proofs.Applied.{in_nothing}
 use Rattle.sy_loop_history.specs.Histories.{Counterexample, IsHonestHistory, IsNextCounterexample, IsViolatedIn}
 use Rattle.sy_loop_laws.specs.Agreeing.{AssumptionsAskNothing}
 use Rattle.sy_loop_laws.proofs.Same.{stands}

@@ -14,9 +14,9 @@ use Rattle.sy_loop_bounds.specs.Applications.{applications, all_applications}
 use Rattle.sy_loop_bounds.specs.WrittenOut.{variables_from, written_out}
 use Rattle.sy_loop_bounds.specs.Pointwise.{IsPosed}
 use Rattle.sy_loop_bounds.specs.Resting.{RestsOn}
-use Rattle.sy_loop_bounds_laws.proofs.Variables.{variables_apply_nothing, variables_are, written_out_means, written_out_computes, written_out_fits}
-use Rattle.sy_loop_bounds_laws.proofs.Applied.{call_of, in_nothing, written_asks}
-use Rattle.sy_loop_bounds_laws.proofs.Plain.{BindsNothing, AllBindNothing, SameAt, written_binds_nothing, all_plain_same, plain_same, applied_alike, applied_compute, FitsAsCall, applied_fit}
+use Rattle.sy_loop_bounds.proofs.Variables.{variables_apply_nothing, variables_are, written_out_means, written_out_computes, written_out_fits}
+use Rattle.sy_loop_bounds.proofs.Applied.{call_of, in_nothing, written_asks}
+use Rattle.sy_loop_bounds.proofs.Plain.{BindsNothing, AllBindNothing, SameAt, written_binds_nothing, all_plain_same, plain_same, applied_alike, applied_compute, FitsAsCall, applied_fit}
 
 -- variables bind nothing
 variables_bind_nothing : (first : ℕ) (sorts : List Sort) → AllBindNothing (variables_from first sorts)

@@ -8,7 +8,7 @@ use Rattle.sy_terms.specs.Meaning.{Function, meanings, asked, all_asked}
 use Rattle.sy_terms.specs.declared.term.Fun.TheVariants.{Defined, Wanted}
 use Rattle.sy_loop_bounds.specs.Applications.{applications, all_applications}
 use Rattle.sy_loop_bounds.specs.WrittenOut.{term_at, written, all_written}
-use Rattle.sy_loop_bounds_laws.proofs.WrittenOut.{all_written_mean, bound_mean}
+use Rattle.sy_loop_bounds.proofs.WrittenOut.{all_written_mean, bound_mean}
 
 -- nothing stands in an empty list
 pub in_nothing : {A : Type 0} (item : A) → (let items : List A = [] in Contains items item) → ⊥

@@ -15,7 +15,7 @@ use Rattle.sy_terms_laws.proofs.Agreement.{same_under, all_same_under}
 use Rattle.sy_terms_laws.proofs.Equations.{both_true, applied_sort_Some, called_sort_Some, with_sort_Some}
 use Rattle.sy_loop_bounds.specs.Applications.{applications, all_applications}
 use Rattle.sy_loop_bounds.specs.WrittenOut.{term_at, written, all_written}
-use Rattle.sy_loop_bounds_laws.proofs.Applied.{in_nothing}
+use Rattle.sy_loop_bounds.proofs.Applied.{in_nothing}
 
 -- no binding stands within
 abbrev mutual

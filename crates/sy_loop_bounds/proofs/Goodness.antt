@@ -12,9 +12,9 @@ use Rattle.sy_loop_bounds.specs.WrittenOut.{written_out}
 use Rattle.sy_loop_bounds.specs.Pointwise.{IsPosed, IsPointwise}
 use Rattle.sy_loop_bounds.specs.Resting.{RestsOn, IsGoodAt, IsBadAt}
 use Rattle.sy_loop_bounds.specs.Conditional.{Conditional, yield, leaf_reached}
-use Rattle.sy_loop_bounds_laws.proofs.Variables.{many_values}
-use Rattle.sy_loop_bounds_laws.proofs.Resting.{rest_decides}
-use Rattle.sy_loop_bounds_laws.proofs.Conditional.{tree_reaches}
+use Rattle.sy_loop_bounds.proofs.Variables.{many_values}
+use Rattle.sy_loop_bounds.proofs.Resting.{rest_decides}
+use Rattle.sy_loop_bounds.proofs.Conditional.{tree_reaches}
 
 -- the arguments of the applications within a constraint of a pointwise problem
 pub posed_in : (question : Question) (constraint : Expr) → IsPointwise question → Contains question.constraints constraint → (arguments : Exprs) × IsPosed (written_out question constraint) arguments

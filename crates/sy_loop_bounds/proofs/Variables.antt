@@ -12,7 +12,7 @@ use Rattle.sy_grammar_base.specs.Questions.{Question}
 use Rattle.sy_grammar_base.specs.Solving.{AreValues}
 use Rattle.sy_loop_bounds.specs.Applications.{applications, all_applications}
 use Rattle.sy_loop_bounds.specs.WrittenOut.{variables_from, written_out}
-use Rattle.sy_loop_bounds_laws.proofs.WrittenOut.{written_means, written_computes, written_fits}
+use Rattle.sy_loop_bounds.proofs.WrittenOut.{written_means, written_computes, written_fits}
 
 -- as many values as sorts
 pub many_values : (sorts : List Sort) (values : List Val) → AreValues sorts values → length values ≡ length sorts

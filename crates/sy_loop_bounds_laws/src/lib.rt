@@ -1,2 +1,0 @@
-// Laws of pointwise problems and of conditional trees.
-#![tactic(auto)]
