@@ -17,7 +17,7 @@ use crate::order::is_before_among;
 use crate::sorts::has_sort;
 use std::alloc::Global;
 use sy_meaning_words::BvTheory;
-use sy_query_copies::copied_terms;
+use sy_query_base::copied_terms;
 use sy_terms::{Op, Sort, Term, Terms, Want};
 
 /// Whether each of the terms stands before the next among them, and none of them is the operator at some.

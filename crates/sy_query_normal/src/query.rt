@@ -8,8 +8,7 @@ use crate::chains::paired;
 use crate::normal::normal;
 use std::alloc::Global;
 use sy_meaning_words::BvTheory;
-use sy_query_base::Query;
-use sy_query_copies::copied_sorts;
+use sy_query_base::{Query, copied_sorts};
 use sy_terms::Want;
 
 /// A query that the same values satisfy, written so that equal terms are more often one term: arguments of `and`, `or`,

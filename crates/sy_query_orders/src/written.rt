@@ -6,7 +6,7 @@ ghost use Rattle.sy_query_orders.specs.Replaced.{IsReplaced, AreReplaced};
 
 use crate::names::{counted, may_stand, named, variables};
 use std::alloc::Global;
-use sy_query_copies::copied_terms;
+use sy_query_base::copied_terms;
 use sy_terms::{Term, Terms, Theory, Want};
 
 /// The term with each name replaced by what it stands for, where `count` values are in force in what is written. A `let`

@@ -2,7 +2,7 @@ use Rattle.std.proofs.Common.{arith, take}
 use Rattle.std.proofs.lemmas.List.{take_more}
 use Rattle.std.proofs.lemmas.Result.{IfOk-from_err}
 use Rattle.sy_meaning_words.specs.Vectors.{vector}
-use Rattle.sy_query_copies.proofs.Lists.{one_more}
+use Rattle.sy_query_base.proofs.Lists.{one_more}
 use Rattle.sy_query_normal.proofs.unordered.copied.Goals as goal
 
 pub loop-term-preserved : goal.loop-term-preserved

@@ -1,7 +1,7 @@
 use Rattle.std.proofs.Common.{arith, take}
 use Rattle.std.proofs.lemmas.List.{take_more}
-use Rattle.sy_query_copies.proofs.Lists.{one_more}
-use Rattle.sy_query_copies.proofs.copies.copied_terms.Goals as goal
+use Rattle.sy_query_base.proofs.Lists.{one_more}
+use Rattle.sy_query_base.proofs.copies.copied_terms.Goals as goal
 
 pub loop-term-preserved : goal.loop-term-preserved
 loop-term-preserved g c =
