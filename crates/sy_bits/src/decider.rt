@@ -1,6 +1,6 @@
 // The solver.
 ghost use Rattle.std.specs.Prelude.{◌≡◌, min, IfOk};
-ghost use Rattle.sy_query_decide.specs.Answers.{Answers};
+ghost use Rattle.sy_query_base.specs.Answers.{Answers};
 ghost use Rattle.sy_query_base.specs.Asked.{query_of};
 ghost use Rattle.sy_meaning_words.specs.Vectors.{vector};
 ghost use Rattle.sy_bits_laws.specs.Clauses.{HasCircuitClauses};
@@ -14,9 +14,8 @@ use sy_bits_circuit::Circuit;
 use sy_bits_clauses::{circuit_of, countable_size};
 use sy_cdcl::{Solved, solve};
 use sy_meaning_words::BvTheory;
-use sy_query_base::Query;
+use sy_query_base::{Decide, Query, Verdict};
 use sy_query_corners::corner_model;
-use sy_query_decide::{Decide, Verdict};
 use sy_query_limits::{FailName, Limits};
 use sy_terms::Want;
 

@@ -10,9 +10,9 @@ use Rattle.sy_terms.specs.declared.sort.Sort.{Sort}
 use Rattle.sy_terms.specs.declared.sort.Sort.TheVariants as sorts
 use Rattle.sy_meaning_integers.specs.Lia.{owned, numeric}
 use Rattle.sy_query_base.specs.Asked.{Query, QueryFits}
-use Rattle.sy_query_decide.specs.declared.verdict.Verdict.{Verdict}
-use Rattle.sy_query_decide.specs.declared.verdict.Verdict.TheVariants as verdicts
-use Rattle.sy_query_decide.specs.Answers.{Answers}
+use Rattle.sy_query_base.specs.declared.verdict.Verdict.{Verdict}
+use Rattle.sy_query_base.specs.declared.verdict.Verdict.TheVariants as verdicts
+use Rattle.sy_query_base.specs.Answers.{Answers}
 use Rattle.sy_linear_known.specs.declared.tree.Tree.{Tree}
 use Rattle.sy_linear_known.specs.Right.{Assigns}
 use Rattle.sy_intsolve_trees.specs.declared.spent.IntSpent.{IntSpent}

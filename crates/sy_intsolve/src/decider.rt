@@ -8,9 +8,8 @@ use sy_intsolve_search::solve_query;
 use sy_intsolve_trees::IntSpent;
 use sy_linear_known::{Tree, is_numbered};
 use sy_meaning_integers::IntTheory;
-use sy_query_base::Query;
+use sy_query_base::{Decide, Query, Verdict};
 use sy_query_corners::corner_model;
-use sy_query_decide::{Decide, Verdict};
 use sy_query_limits::{FailName, Limits};
 use sy_terms::Want;
 

@@ -7,8 +7,8 @@ use borrow.Author.Differences.{at_most_in}
 use Rattle.sy_frac.specs.Fraction.{Fraction, IsLowest}
 use Rattle.sy_frac.specs.Rational.{0ℚ, ◌*ℚ◌, over, value, is_negative_rational, over_negative, product_over_is, zero-*ℚ, zero_not_negative}
 use Rattle.sy_query_limits.specs.declared.Limits.{Limits}
-use Rattle.sy_query_decide.specs.declared.verdict.Verdict.{Verdict}
-use Rattle.sy_query_decide.specs.declared.verdict.Verdict.TheVariants as verdicts
+use Rattle.sy_query_base.specs.declared.verdict.Verdict.{Verdict}
+use Rattle.sy_query_base.specs.declared.verdict.Verdict.TheVariants as verdicts
 use Rattle.sy_terms.specs.declared.sort.Sort.{Sort}
 use Rattle.sy_terms.specs.declared.sort.Sort.TheVariants as sorts
 use Rattle.sy_linear_known.specs.declared.path.Fact.{Fact}

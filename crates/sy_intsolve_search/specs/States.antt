@@ -5,8 +5,8 @@ use Rattle.sy_terms.specs.Denoted.{vals_of}
 use Rattle.sy_terms.specs.Meaning.{meaning}
 use Rattle.sy_terms.specs.declared.sort.Value.{Value}
 use Rattle.sy_query_limits.specs.declared.Limits.{Limits}
-use Rattle.sy_query_decide.specs.declared.verdict.Verdict.{Verdict}
-use Rattle.sy_query_decide.specs.declared.verdict.Verdict.TheVariants as verdicts
+use Rattle.sy_query_base.specs.declared.verdict.Verdict.{Verdict}
+use Rattle.sy_query_base.specs.declared.verdict.Verdict.TheVariants as verdicts
 use Rattle.sy_linear_known.specs.declared.tree.Tree.{Tree}
 use Rattle.sy_linear_known.specs.Right.{Assigns}
 use Rattle.sy_linear_known.specs.Seen.{LinearQuery}

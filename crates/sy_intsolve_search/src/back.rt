@@ -15,8 +15,7 @@ use sy_frac::Frac;
 use sy_intsolve_trees::{Fork, Step, wrapped};
 use sy_linear_known::Tree;
 use sy_meaning_integers::IntTheory;
-use sy_query_base::Query;
-use sy_query_decide::Verdict;
+use sy_query_base::{Query, Verdict};
 use sy_seq::{Seq, Want};
 
 /// What a closed tree at the end of a step makes.

@@ -14,8 +14,7 @@ use sy_intsolve_order::Guide;
 use sy_intsolve_trees::{IntSpent, Order};
 use sy_linear_known::Tree;
 use sy_meaning_integers::IntTheory;
-use sy_query_base::{Limits, Query};
-use sy_query_decide::Verdict;
+use sy_query_base::{Limits, Query, Verdict};
 use sy_seq::Want;
 
 /// A turn of the search.

@@ -24,8 +24,7 @@ use sy_intsolve_points::values_of;
 use sy_intsolve_trees::{IntRange, IntSpent, plugged};
 use sy_linear_known::{Path, Tree};
 use sy_meaning_integers::IntTheory;
-use sy_query_base::Query;
-use sy_query_decide::Verdict;
+use sy_query_base::{Query, Verdict};
 use sy_seq::{Seq, Want};
 use sy_simplex::Run;
 

@@ -4,7 +4,7 @@ use sy_frac::Frac;
 use sy_intsolve_trees::IntSpent;
 use sy_linear_known::Tree;
 use sy_meaning_integers::IntTheory;
-use sy_query_decide::Verdict;
+use sy_query_base::Verdict;
 use sy_seq::Seq;
 
 /// What stands at the end of the way.

@@ -18,7 +18,7 @@ use sy_grammar_base::Problem;
 use sy_loop_bounds::Reach;
 use sy_loop_candidate::{Known, Step, try_candidate};
 use sy_loop_refutation::{Suspects, are_refuted};
-use sy_query_decide::Decide;
+use sy_query_base::Decide;
 use sy_query_limits::Limits;
 use sy_terms::{Bodies, Seq, Theory, Want};
 

@@ -13,7 +13,7 @@ use sy_loop_candidate::{End, Known};
 use sy_loop_claims::{found, left_range};
 use sy_loop_outcome::{FailCause, Outcome};
 use sy_points::Stored;
-use sy_query_decide::Decide;
+use sy_query_base::Decide;
 use sy_query_limits::Limits;
 use sy_terms::{Bodies, Seq, Theory, Values, Want, copied_values};
 

@@ -21,7 +21,7 @@ use sy_loop_candidate::{Known, Step};
 use sy_loop_claims::exhausted;
 use sy_loop_join::Plan;
 use sy_loop_outcome::{FailCause, Outcome};
-use sy_query_decide::Decide;
+use sy_query_base::Decide;
 use sy_query_limits::Limits;
 use sy_terms::{Theory, Want};
 

@@ -14,7 +14,7 @@ use sy_loop_claims::{first_size, unbegun};
 use sy_loop_join::plan_of;
 use sy_loop_outcome::Outcome;
 use sy_points::{Points, Stored};
-use sy_query_decide::Decide;
+use sy_query_base::Decide;
 use sy_query_limits::Limits;
 use sy_terms::{Theory, Want};
 

@@ -9,10 +9,10 @@ use Rattle.sy_grammar_base.specs.declared.problem.Problem.{Problem}
 use Rattle.sy_query_limits.specs.declared.Limits.{Limits}
 use Rattle.sy_query_base.specs.Asked.{Query, IsNever}
 use Rattle.sy_query_base.specs.Queries.{violating, IsViolation}
-use Rattle.sy_query_decide.specs.Answers.{Answers}
-use Rattle.sy_query_decide.specs.declared.decide.Decide.{Ghosts as DecideOf}
-use Rattle.sy_query_decide.specs.declared.verdict.Verdict.{Verdict}
-use Rattle.sy_query_decide.specs.declared.verdict.Verdict.TheVariants.{Never, Model, Spent}
+use Rattle.sy_query_base.specs.Answers.{Answers}
+use Rattle.sy_query_base.specs.declared.decide.Decide.{Ghosts as DecideOf}
+use Rattle.sy_query_base.specs.declared.verdict.Verdict.{Verdict}
+use Rattle.sy_query_base.specs.declared.verdict.Verdict.TheVariants.{Never, Model, Spent}
 use Rattle.sy_loop_candidate.proofs.Ending.{members, solved}
 use Rattle.sy_loop_beyond.specs.Clauses.{AreWithinFor, IsVerdictFor}
 

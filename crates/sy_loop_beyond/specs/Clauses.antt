@@ -9,9 +9,9 @@ use Rattle.sy_grammar_base.specs.Questions.{question_of}
 use Rattle.sy_grammar_base.specs.Solving.{AreValues, AreWithin}
 use Rattle.sy_grammar_base.specs.declared.problem.Problem.{Problem}
 use Rattle.sy_query_limits.specs.declared.Limits.{Limits}
-use Rattle.sy_query_decide.specs.declared.decide.Decide.{Ghosts as DecideOf}
-use Rattle.sy_query_decide.specs.declared.verdict.Verdict.{Verdict}
-use Rattle.sy_query_decide.specs.declared.verdict.Verdict.TheVariants.{Never, Model, Spent}
+use Rattle.sy_query_base.specs.declared.decide.Decide.{Ghosts as DecideOf}
+use Rattle.sy_query_base.specs.declared.verdict.Verdict.{Verdict}
+use Rattle.sy_query_base.specs.declared.verdict.Verdict.TheVariants.{Never, Model, Spent}
 use Rattle.sy_points.specs.declared.stored.Stored.{Stored}
 use Rattle.sy_bank_rows.specs.Banks.{Entry}
 use Rattle.sy_bank_level.specs.Bank.{merged_of}

@@ -10,7 +10,7 @@ use crate::scanning::solve_scanned;
 use crate::search::solve_kept;
 use crate::tuples::wished_tuples;
 use sy_bank::Bank;
-use sy_query_decide::Decide;
+use sy_query_base::Decide;
 use sy_terms::{Bodies, Theory, Values, Want};
 
 /// How many banks are built at most.

@@ -14,7 +14,7 @@ use std::alloc::Global;
 use sy_bank::Bank;
 use sy_grammar_base::Grammar;
 use sy_loop_scan::{Scan, Shape};
-use sy_query_decide::Decide;
+use sy_query_base::Decide;
 use sy_terms::{Bodies, Theory, Value, Values, Want};
 
 /// How many combinations are tried at most.

@@ -13,7 +13,7 @@ use sy_bank::Bank;
 use sy_bank_rows::Kept;
 use sy_grammar_base::Problem;
 use sy_points::Stored;
-use sy_query_decide::Decide;
+use sy_query_base::Decide;
 use sy_query_limits::Limits;
 use sy_terms::{Bodies, Theory, Values, Want};
 

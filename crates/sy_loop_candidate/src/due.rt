@@ -4,7 +4,7 @@ ghost use Rattle.sy_terms.specs.Denoted.{expr_of};
 ghost use Rattle.sy_loop_candidate.specs.Traces.{TuplesGrow};
 ghost use Rattle.sy_grammar_base.specs.Fits.{ProblemFits};
 ghost use Rattle.sy_query_base.specs.Asked.{QueryFits, query_of};
-ghost use Rattle.sy_query_decide.specs.Answers.{Answers};
+ghost use Rattle.sy_query_base.specs.Answers.{Answers};
 ghost use Rattle.sy_loop_candidate.specs.Clauses.{DecidesFor, FitAsBodies, IsKnownFor, StepFollowsFor, IsDueFor};
 
 use crate::asks::ask_at;
@@ -14,9 +14,8 @@ use crate::step::{End, Known, Step};
 use std::alloc::Global;
 use sy_grammar_base::Problem;
 use sy_loop_bounds::Reach;
-use sy_query_base::{Limits, Query};
+use sy_query_base::{Decide, Limits, Query, Verdict};
 use sy_query_build::{Built, build};
-use sy_query_decide::{Decide, Verdict};
 use sy_terms::{Bodies, Theory, Want};
 
 /// Decides the query of bodies that are due, without a look at the stored assignments. An assignment that violates the

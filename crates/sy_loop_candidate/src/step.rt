@@ -12,8 +12,7 @@ use std::alloc::Global;
 use sy_grammar_base::Problem;
 use sy_loop_bounds::Reach;
 use sy_points::{Points, Stored};
-use sy_query_base::Limits;
-use sy_query_decide::Decide;
+use sy_query_base::{Decide, Limits};
 use sy_terms::{Bodies, Theory, Values, Want};
 
 /// What a search knows: the assignments that refuted candidates, and the tuples that candidates ask for.

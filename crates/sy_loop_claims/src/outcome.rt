@@ -14,7 +14,7 @@ use sy_grammar_base::Problem;
 use sy_loop_bounds::Reach;
 use sy_loop_outcome::{FailCause, LoopRange, Outcome};
 use sy_points::Stored;
-use sy_query_decide::Decide;
+use sy_query_base::Decide;
 use sy_query_limits::Limits;
 use sy_terms::{Bodies, Theory, Values, Want};
 

@@ -5,7 +5,7 @@ use Rattle.sy_terms.specs.declared.theory.Theory.{Ghosts as TheoryOf}
 use Rattle.sy_grammar_base.specs.Questions.{question_of}
 use Rattle.sy_grammar_base.specs.declared.problem.Problem.{Problem}
 use Rattle.sy_query_limits.specs.declared.Limits.{Limits}
-use Rattle.sy_query_decide.specs.declared.decide.Decide.{Ghosts as DecideOf}
+use Rattle.sy_query_base.specs.declared.decide.Decide.{Ghosts as DecideOf}
 use Rattle.sy_bank_rows.specs.Stored.{chosen_of}
 use Rattle.sy_bank_level.specs.Bank.{merged_of}
 use Rattle.sy_bank_level.specs.declared.bank.Bank.{Bank}

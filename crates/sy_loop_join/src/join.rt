@@ -22,7 +22,7 @@ use sy_loop_bounds::Reach;
 use sy_loop_candidate::{End, Known, Step, decide_due, try_candidate};
 use sy_loop_goods::{Goods, Memo, Rest, good_rows};
 use sy_loop_trees::{tree_term, truth_rows};
-use sy_query_decide::Decide;
+use sy_query_base::Decide;
 use sy_query_limits::Limits;
 use sy_terms::{Seq, Term, Theory, Want};
 use sy_unify::{Joined, unify};

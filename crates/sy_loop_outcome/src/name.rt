@@ -3,7 +3,7 @@ ghost use Rattle.std.specs.Prelude.{◌≡◌};
 ghost use Rattle.sy_loop_outcome.specs.Names.{fail_name_of};
 
 use crate::outcome::FailCause;
-use sy_query_decide::Decide;
+use sy_query_base::Decide;
 use sy_query_limits::FailName;
 use sy_terms::Theory;
 

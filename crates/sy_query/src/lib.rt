@@ -3,5 +3,5 @@
 
 pub use sy_query_base::Query;
 pub use sy_query_build::{Built, build, weigh};
-pub use sy_query_decide::{Decide, Verdict};
+pub use sy_query_base::{Decide, Verdict};
 pub use sy_query_limits::{FailName, Limits};

@@ -1,4 +1,6 @@
+pub mod Answers
 pub mod Asked
+pub mod Budgets
 pub mod Placed
 pub mod Queries
 pub mod Weights

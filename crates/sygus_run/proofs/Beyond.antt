@@ -7,7 +7,7 @@ use Rattle.sy_terms.specs.declared.theory.Theory.{Ghosts as TheoryOf}
 use Rattle.sy_grammar_base.specs.Questions.{Question, question_of}
 use Rattle.sy_grammar_base.specs.declared.problem.Problem.{Problem}
 use Rattle.sy_query_limits.specs.declared.Limits.{Limits}
-use Rattle.sy_query_decide.specs.declared.decide.Decide.{Ghosts as DecideOf}
+use Rattle.sy_query_base.specs.declared.decide.Decide.{Ghosts as DecideOf}
 use Rattle.sy_loop_bounds.specs.declared.reach.Reach.TheVariants.{Joins}
 use Rattle.sy_loop_history.specs.Histories.{Counterexample}
 use Rattle.sy_loop_outcome.specs.declared.outcome.Outcome.{Outcome}

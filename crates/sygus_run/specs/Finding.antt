@@ -6,7 +6,7 @@ use Rattle.sy_terms.specs.Denoted.{expr_of}
 use Rattle.sy_terms.specs.declared.term.Term.{Term}
 use Rattle.sy_grammar_base.specs.Solving.{AreWithin}
 use Rattle.sy_query_limits.specs.declared.Limits.{Limits}
-use Rattle.sy_query_decide.specs.declared.decide.Decide.{Ghosts as DecideOf}
+use Rattle.sy_query_base.specs.declared.decide.Decide.{Ghosts as DecideOf}
 use Rattle.sy_bank_rows.specs.Banks.{Merged}
 use Rattle.sy_loop_bounds.specs.declared.reach.Reach.TheVariants.{Joins}
 use Rattle.sy_loop_history.specs.Budgets.{MemberLeaves, CheckedLeaves}

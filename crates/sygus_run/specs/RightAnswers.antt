@@ -8,7 +8,7 @@ use Rattle.sy_grammar_base.specs.declared.problem.Problem.{Problem}
 use Rattle.sy_query_limits.specs.declared.FailName.{FailName}
 use Rattle.sy_query_limits.specs.declared.Limits.{Limits}
 use Rattle.sy_query_base.specs.Asked.{Query}
-use Rattle.sy_query_decide.specs.declared.decide.Decide.{Ghosts as DecideOf}
+use Rattle.sy_query_base.specs.declared.decide.Decide.{Ghosts as DecideOf}
 use Rattle.sy_loop_bounds.specs.declared.reach.Reach.TheVariants.{Sizes}
 use Rattle.sy_loop_outcome.specs.Right.{IsRight}
 use Rattle.sy_loop_outcome.specs.declared.outcome.Outcome.{Outcome}

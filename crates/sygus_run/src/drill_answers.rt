@@ -20,7 +20,7 @@ use std::alloc::Global;
 use sy_grammar_base::Problem;
 use sy_io::{Bytes, Sink, write_whole};
 use sy_loop_outcome::{Outcome, fail_name};
-use sy_query_decide::Decide;
+use sy_query_base::Decide;
 use sy_query_limits::Limits;
 use sy_terms::{Seq, Theory, Want};
 use sygus_drill::{DrillEnd, drill_line};

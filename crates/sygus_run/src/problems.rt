@@ -16,7 +16,7 @@ use sy_grammar_base::Problem;
 use sy_io::Sink;
 use sy_loop::synthesise_least;
 use sy_loop_outcome::Outcome;
-use sy_query_decide::Decide;
+use sy_query_base::Decide;
 use sy_query_limits::Limits;
 use sy_scope_causes::Titles;
 use sy_terms::{Seq, Theory, Want};

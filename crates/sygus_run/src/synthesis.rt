@@ -13,7 +13,7 @@ use sy_loop::synthesise;
 use sy_loop_beyond::{solve_anew, solve_beyond};
 use sy_loop_outcome::{FailCause, LoopRange, Outcome};
 use sy_points::Stored;
-use sy_query_decide::Decide;
+use sy_query_base::Decide;
 use sy_query_limits::Limits;
 use sy_terms::{Bodies, Theory, Want};
 

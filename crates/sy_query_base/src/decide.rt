@@ -1,7 +1,7 @@
 // Solvers of queries.
 use crate::verdict::Verdict;
 use std::alloc::Global;
-use sy_query_base::Query;
+use crate::Query;
 use sy_query_limits::{FailName, Limits};
 use sy_terms::{Theory, Want};
 
@@ -18,8 +18,8 @@ pub trait Decide<T: Theory> {
     ghost use Rattle.sy_query_limits.specs.declared.FailName.{FailName};
     ghost use Rattle.sy_query_limits.specs.declared.Limits.{Limits};
     ghost use Rattle.sy_query_base.specs.Asked.{Query, query_of, QueryFits, IsNever};
-    ghost use Rattle.sy_query_decide.specs.Budgets.{is_solver_budget};
-    ghost use Rattle.sy_query_decide.specs.Answers.{Answers};
+    ghost use Rattle.sy_query_base.specs.Budgets.{is_solver_budget};
+    ghost use Rattle.sy_query_base.specs.Answers.{Answers};
 
     /// The proof is accepted for the query.
     ghost accepted: { Query → Self.Proof → Type 0 };
