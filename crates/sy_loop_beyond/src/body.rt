@@ -8,7 +8,7 @@ use crate::judging::meet_all;
 use std::alloc::Global;
 use sy_grammar_base::Problem;
 use sy_loop_candidate::decide_query;
-use sy_query_build::{Built, build};
+use sy_query::{Built, build};
 use sy_query_base::{Decide, Verdict};
 use sy_query_limits::Limits;
 use sy_terms::{Bodies, Seq, Term, Theory, Values, Want};

@@ -5,3 +5,5 @@ pub use Rattle.sy_query_base.specs.Answers
 pub use Rattle.sy_query_base.specs.Budgets
 pub use Rattle.sy_query_limits.specs.declared.FailName
 pub use Rattle.sy_query_limits.specs.declared.Limits
+pub mod Placing
+pub mod Sized

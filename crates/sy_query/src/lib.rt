@@ -1,7 +1,15 @@
 // Queries of problems and bodies, solvers of queries, and the budgets of a search.
 #![tactic(auto)]
 
+mod built;
+mod leaf;
+mod place;
+mod queries;
+mod room;
+mod weight;
+
+pub use built::Built;
+pub use queries::{build, weigh};
 pub use sy_query_base::Query;
-pub use sy_query_build::{Built, build, weigh};
 pub use sy_query_base::{Decide, Verdict};
 pub use sy_query_limits::{FailName, Limits};

@@ -1,0 +1,11 @@
+pub mod Forms
+pub mod Itself
+pub mod Leaves
+pub mod Problem
+pub mod Reaching
+pub mod Sizes
+pub mod Sorted
+pub mod Steps
+pub mod Violation
+pub mod Walking
+pub mod Weighing
