@@ -20,7 +20,7 @@ use crate::invariant::copied;
 use std::alloc::Global;
 use sy_forms::{Phrase, ReadEnd};
 use sy_grammar_base::{Grammar, Problem, Wanted};
-use sy_grammar_defaults::default_grammar;
+use sy_grammar::default_grammar;
 use sy_scope_causes::Cause;
 use sy_scope_steps::{nonterminals, sorts_of};
 use sy_terms::{Def, Defs, Logic, Seq, Sort, Term, Theory, Want};

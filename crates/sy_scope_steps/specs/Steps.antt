@@ -26,7 +26,7 @@ use Rattle.sy_forms_phrases.specs.Sorts.{read_sort}
 use Rattle.sy_forms.specs.Terms.{read_whole}
 use Rattle.sy_scope_steps.specs.Lists.{sorts_of_names, read_named}
 use Rattle.sy_scope_steps.specs.Grammars.{Written, read_rulebook}
-use Rattle.sy_grammar_defaults.specs.Defaults.{default_syntax}
+use Rattle.sy_grammar.specs.Defaults.{default_syntax}
 use Rattle.sy_scope_pool.specs.Pools.{pooled}
 use Rattle.sy_inv.specs.Conditions.{starts, keeps, ends}
 use Rattle.sy_scope_steps.specs.Contexts.{Context, Definition, Sought, Expanded, has_room, new_name, new_sought, new_sort_name, with_logic, question_at}
