@@ -21,7 +21,7 @@ use Rattle.sy_bits.specs.declared.answers.BvSpent.TheVariants.{Clauses}
 use Rattle.sy_loop_outcome.specs.declared.outcome.FailCause.TheVariants.{Size, Rounds, Points, Bank, Weight, Decide, Range}
 use Rattle.sy_loop_outcome.specs.declared.outcome.Outcome.{Outcome}
 use Rattle.sy_loop_outcome.specs.declared.outcome.Outcome.TheVariants.{Found, Infeasible, Fail}
-use Rattle.sy_loop_outcome_laws.proofs.Ranges.{never_leaves}
+use Rattle.sygus_run.proofs.Ranges.{never_leaves}
 use Rattle.sygus_replies.specs.Replies.{reply_of}
 use Rattle.sygus_replies.specs.Answered.{AreRight}
 use Rattle.sygus_words.specs.declared.settings.Mode.{Mode}

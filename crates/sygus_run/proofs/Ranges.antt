@@ -27,7 +27,7 @@ use Rattle.sy_terms.specs.Denoted.{expr_of, vals_of}
 use Rattle.sy_loop_outcome.specs.Right.{HasLeftRange}
 use Rattle.sy_loop_outcome.specs.declared.outcome.LoopRange.{LoopRange}
 use Rattle.sy_loop_outcome.specs.declared.outcome.LoopRange.TheVariants.{Member, Checked}
-use Rattle.sy_loop_outcome_laws.proofs.Computing.{AreTotal, none_total, more_total, computes, body_total, definitions_total}
+use Rattle.sygus_run.proofs.Computing.{AreTotal, none_total, more_total, computes, body_total, definitions_total}
 
 -- what derives a term is a nonterminal of the grammar
 found_sort : (found : Option Nonterminal) (rule : ℕ) (children : List ℕ → Option (List Expr)) (term : Expr) → node_yield (rule_of found rule) children ≡ Some term → (sort : Sort) × (option_map (λ (x : Nonterminal). x.sort) found ≡ Some sort)
