@@ -10,6 +10,5 @@ mod weight;
 
 pub use built::Built;
 pub use queries::{build, weigh};
-pub use sy_query_base::Query;
-pub use sy_query_base::{Decide, Verdict};
+pub use sy_query_base::{Decide, Query, Verdict};
 pub use sy_query_limits::{FailName, Limits};
