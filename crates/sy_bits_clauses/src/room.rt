@@ -7,8 +7,8 @@ ghost use Rattle.sy_bits_laws.specs.Clauses.{query_size};
 
 use std::alloc::{AllocError, Global};
 use sy_meaning_words::BvTheory;
-use sy_query_base::Query;
 use sy_query::{Built, weigh};
+use sy_query_base::Query;
 use sy_terms::{Sort, Want};
 
 /// The greatest size of a query whose circuit clauses are sure to be fewer than 2^31: they are at most 1000 for each

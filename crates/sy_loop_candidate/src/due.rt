@@ -14,8 +14,8 @@ use crate::step::{End, Known, Step};
 use std::alloc::Global;
 use sy_grammar_base::Problem;
 use sy_loop_bounds::Reach;
-use sy_query_base::{Decide, Limits, Query, Verdict};
 use sy_query::{Built, build};
+use sy_query_base::{Decide, Limits, Query, Verdict};
 use sy_terms::{Bodies, Theory, Want};
 
 /// Decides the query of bodies that are due, without a look at the stored assignments. An assignment that violates the

@@ -8,6 +8,7 @@ ghost use Rattle.sy_loop_bounds.specs.Pointwise.{IsPointwise};
 ghost use Rattle.sy_loop_goods.specs.Clauses.{AreAssignedFor, AreRestsFor, AreLeavesFor, AreGoodsFor, IsColumnFor, IsLeavingFor, IsMemoFor};
 ghost use Rattle.sy_loop_goods.specs.Judged.{good_of, leaving_of};
 
+use crate::Memo;
 use crate::judging::Judged;
 use crate::leaf::judge_leaf;
 use crate::rests::{Rest, rests_on};
@@ -16,7 +17,6 @@ use std::alloc::Global;
 use std::collections::HashMap;
 use sy_bank_rows::Kept;
 use sy_grammar_base::Problem;
-use crate::Memo;
 use sy_points::{Points, Stored};
 use sy_terms::{Seq, Theory, Value, Want};
 

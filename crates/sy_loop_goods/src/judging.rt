@@ -10,13 +10,13 @@ ghost use Rattle.sy_loop_candidate.specs.Clauses.{FitAsBodies};
 ghost use Rattle.sy_loop_goods.specs.Clauses.{AreAssignedFor, IsMemoFor, IsRestFor, IsRowFor, JudgesFor};
 ghost use Rattle.sy_loop_goods.specs.Telling.{TellsTruth};
 
+use crate::Memo;
 use crate::recall::{judged_by, value_at};
 use crate::rests::Rest;
 use std::alloc::{AllocError, Global};
 use sy_bank_rows::Kept;
 use sy_grammar_base::Problem;
 use sy_loop_candidate::is_true;
-use crate::Memo;
 use sy_meaning::{Eval, Trace, evaluate_with};
 use sy_points::{Points, Stored};
 use sy_terms::{Bodies, Seq, Term, Theory, Value, Want};

@@ -7,6 +7,7 @@ ghost use Rattle.sy_loop_bounds.specs.Pointwise.{IsPointwise};
 ghost use Rattle.sy_loop_goods.specs.Clauses.{AreAssignedFor, AreLeavesFor, IsMemoFor, IsRestFor, JudgesLeafFor};
 ghost use Rattle.sy_loop_goods.specs.Judged.{IsCopied};
 
+use crate::Memo;
 use crate::judging::{Judged, body_of, judge};
 use crate::recall::{judged_by, recall, value_at};
 use crate::rests::Rest;
@@ -14,7 +15,6 @@ use std::alloc::Global;
 use std::collections::HashMap;
 use sy_bank_rows::Kept;
 use sy_grammar_base::Problem;
-use crate::Memo;
 use sy_points::{Points, Stored};
 use sy_terms::{Theory, Value, Want, same_value};
 

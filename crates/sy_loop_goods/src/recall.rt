@@ -5,11 +5,11 @@ ghost use Rattle.sy_bank_rows.specs.Stored.{entry_of};
 ghost use Rattle.sy_loop_goods.specs.Clauses.{IsMemoFor, IsRestFor, IsRowFor, JudgesFor};
 ghost use Rattle.sy_loop_goods.specs.Judged as spec;
 
+use crate::Memo;
 use crate::judging::Judged;
 use crate::rests::Rest;
 use sy_bank_rows::Kept;
 use sy_grammar_base::Problem;
-use crate::Memo;
 use sy_points::{Points, Stored};
 use sy_terms::{Theory, Value};
 

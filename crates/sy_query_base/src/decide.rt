@@ -1,7 +1,7 @@
 // Solvers of queries.
+use crate::Query;
 use crate::verdict::Verdict;
 use std::alloc::Global;
-use crate::Query;
 use sy_query_limits::{FailName, Limits};
 use sy_terms::{Theory, Want};
 
