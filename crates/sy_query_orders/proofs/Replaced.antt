@@ -195,6 +195,21 @@ let_kept number count many names stands bound terms found inner plain so next ar
     kept_replaced number count many (exprs_of number names) (exprs_of number stands) terms bound found inner plain so next are
     (subst (λ all. IsReplaced (count + many) all found inner) (exprs_of_append number names stands) is)
 
+-- the same where no value more is in force
+
+none_more : (n : ℕ) → n ≡ n + 0
+none_more n = omega arith
+
+pub plain_put : {T N : Type 0} (number : N → Val) (count : ℕ) (names stands bound : List (Term T N)) → are_plain count (exprs_of number names) ≡ true →
+    exprs_of number stands ≡ exprs_of number bound → are_plain count (exprs_of number bound) ≡ true → are_plain (count + 0) (exprs_of number (names ++ stands)) ≡ true
+plain_put number count names stands bound first same second =
+    subst (λ n. are_plain n (exprs_of number (names ++ stands)) ≡ true) (none_more count) (plain_out number count names stands bound first same (sym second))
+
+pub let_put : {T N : Type 0} (number : N → Val) (count : ℕ) (names stands : List (Term T N)) (bound terms : Exprs) (found inner : Expr) → exprs_of number stands ≡ bound → AreReplaced count (exprs_of number names) bound terms →
+    IsReplaced (count + 0) (exprs_of number (names ++ stands)) found inner → IsReplaced count (exprs_of number names) found (Bind terms inner)
+let_put number count names stands bound terms found inner same are is =
+    let_out number count names stands bound terms found inner same are (subst (λ n. IsReplaced n (exprs_of number (names ++ stands)) found inner) (sym (none_more count)) is)
+
 -- what a name stands for
 
 pub name_is : {T N : Type 0} (number : N → Val) (names : List (Term T N)) (position : ℕ) (term found : Term T N) → position < length names → term ≡ get_or names position term → expr_of number found ≡ expr_of number term →
@@ -267,9 +282,9 @@ pub all_next : (count many : ℕ) (terms : Exprs) → MeanFirst count many terms
 all_next count many terms first defined wanted values later short long = first defined wanted values later short (omega (arith, long)) ∙ take_all many later (omega (arith, long))
 
 -- names that were longer, cut back to those before
-pub cut_back : {X : Type 0} (old before after longer last stands : List X) (n : ℕ) → last ≡ take n after → after ≡ longer → longer ≡ before ++ stands → n ≡ length before → before ≡ old → last ≡ old
-cut_back old before after longer last stands n cut same appended count kept =
-    cut ∙ ap (take n) (same ∙ appended) ∙ ap (λ k. take k (before ++ stands)) count ∙ take-append_seam before stands ∙ kept
+pub cut_back : {X : Type 0} (old before after longer last : List X) (n : ℕ) → last ≡ take n after → after ≡ longer → take (length before) longer ≡ before → n ≡ length before → before ≡ old → last ≡ old
+cut_back old before after longer last n cut same back count kept =
+    cut ∙ ap (take n) same ∙ ap (λ k. take k longer) count ∙ back ∙ kept
 
 -- a body over variables that stand for themselves
 

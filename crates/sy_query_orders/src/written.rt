@@ -1,8 +1,8 @@
 // Terms in which lets of small terms are written out.
-ghost use Rattle.std.specs.Prelude.{◌≡◌, true, IfOk, OnOk};
+ghost use Rattle.std.specs.Prelude.{◌≡◌, ◌+◌, ◌<◌, ◌^◌, true, length, take, IsTrue, IfOk, OnOk};
 ghost use Rattle.sy_terms.specs.Denoted.{expr_of, exprs_of};
 ghost use Rattle.sy_query_orders.specs.Replaced as spec;
-ghost use Rattle.sy_query_orders.specs.Replaced.{IsReplaced, AreReplaced};
+ghost use Rattle.sy_query_orders.specs.Replaced.{IsReplaced, AreReplaced, AreNamed};
 
 use crate::names::{counted, may_stand, named, variables};
 use std::alloc::Global;
@@ -41,19 +41,12 @@ pub(crate) fn written<T: Theory>(
         Term::Let(bound, inner) => {
             let bound = all_written(alloc, most, count, names, bound.as_slice())?;
             let outer = names.len();
-            if may_stand(most, count, bound.as_slice()) {
-                let mut stands = copied_terms(alloc, bound.as_slice())?;
-                names.append(&mut stands)?;
-                let found = written(alloc, most, count, names, inner)?;
-                names.truncate(outer);
-                return Ok(found);
-            }
-            let many = counted(count, bound.len())?;
-            let mut stands = variables(alloc, count, many)?;
-            names.append(&mut stands)?;
+            let stand = may_stand(most, count, bound.as_slice());
+            let many = name_all(alloc, stand, count, names, bound.as_slice())?;
             let inner = written(alloc, most, count + many, names, inner)?;
             names.truncate(outer);
-            Ok(Term::Let(bound, Box::new(alloc, inner)?))
+            let found = let_of(alloc, stand, bound, inner)?;
+            Ok(found)
         }
     }
 }
@@ -77,4 +70,47 @@ fn all_written<T: Theory>(
         all.push(found)?;
     }
     Ok(all)
+}
+
+/// Adds what the names of a `let` stand for: copies of its terms, where these may stand in the names' places, and else the
+/// variables after the first `count`. How many variables these are.
+fn name_all<T: Theory>(
+    alloc: Global,
+    stand: bool,
+    count: u32,
+    names: &mut Vec<Term<T>>,
+    bound: &[Term<T>],
+) -> Result<u32, Want>
+    requires names { spec.are_plain count (exprs_of T.denotes names.old.items) ≡ true }
+    requires bound { IsTrue stand → spec.are_plain count (exprs_of T.denotes bound.now) ≡ true }
+    ensures counted { IfOk result (λ many. count + many < 2 ^ 32) }
+    ensures kept { OnOk result (take (length names.old.items) names.new.items ≡ names.old.items) }
+    ensures plain { IfOk result (λ many. spec.are_plain (count + many) (exprs_of T.denotes names.new.items) ≡ true) }
+    ensures named { IfOk result (λ many. AreNamed stand count many (exprs_of T.denotes names.old.items) (exprs_of T.denotes names.new.items) (exprs_of T.denotes bound.now)) }
+{
+    if stand {
+        let mut copies = copied_terms(alloc, bound)?;
+        names.append(&mut copies)?;
+        return Ok(0);
+    }
+    let many = counted(count, bound.len())?;
+    let mut next = variables(alloc, count, many)?;
+    names.append(&mut next)?;
+    Ok(many)
+}
+
+/// A `let` of these terms; what is under it, where they stand in the places of its names.
+fn let_of<T: Theory>(
+    alloc: Global,
+    stand: bool,
+    bound: Terms<T>,
+    inner: Term<T>,
+) -> Result<Term<T>, Want>
+    ensures { IfOk result (λ found. expr_of T.denotes found ≡ spec.let_of stand (exprs_of T.denotes bound.items.items) (expr_of T.denotes inner)) }
+{
+    if stand {
+        return Ok(inner);
+    }
+    let inner = Box::new(alloc, inner)?;
+    Ok(Term::Let(bound, inner))
 }

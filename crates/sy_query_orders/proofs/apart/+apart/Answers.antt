@@ -1,4 +1,4 @@
-use Rattle.std.proofs.Common.{arith, refl, take}
+use Rattle.std.proofs.Common.{refl, take}
 use Rattle.std.proofs.lemmas.List.{take_all, take_more}
 use Rattle.std.proofs.lemmas.Result.{IfOk-from_err}
 use Rattle.sy_terms.specs.Denoted.{expr_of-App, expr_of-Call, expr_of-Let}
@@ -21,7 +21,7 @@ apart-returns-in_ok-new-in-Let g t c =
 pub all_apart-loop-term-preserved : goal.all_apart-loop-term-preserved
 all_apart-loop-term-preserved g t c =
     let number = g.T.Theory.denotes in
-    let more = take_more c.args.terms.now c.loop-term.term-index c.term-item.result (grind arith) in
+    let more = take_more c.args.terms.now c.loop-term.term-index c.term-item.result c.loop-term-test.true in
     rw (more, ← c.term-item.is, c.in_ok-push.ensures.ok)
     (more_alike number c.loop-term.all.items.items (take c.loop-term.term-index c.args.terms.now) c.in_ok-found.found c.term-item.result c.loop-term.invariant c.in_ok-found.ensures)
 

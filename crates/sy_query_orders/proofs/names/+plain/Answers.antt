@@ -1,4 +1,4 @@
-use Rattle.std.proofs.Common.{arith, ap, sym, refl, ◌∙◌, take}
+use Rattle.std.proofs.Common.{ap, sym, refl, ◌∙◌, take}
 use Rattle.std.proofs.lemmas.List.{take_more}
 use Rattle.sy_terms.specs.Denoted.{expr_of, expr_of-Const, expr_of-Var, expr_of-App, expr_of-Call, expr_of-Let}
 use Rattle.sy_query_orders.specs.Replaced.{is_plain, are_plain}
@@ -28,7 +28,7 @@ is_plain-returns-in-Let g t c = rw (c.in-Let.is, expr_of-Let) refl
 pub are_plain-returns-then-not-is_plain : goal.are_plain-returns-then-not-is_plain
 are_plain-returns-then-not-is_plain g t c =
     let number = g.T.Theory.denotes in
-    sym (not_plain number c.args.count c.args.terms.now c.loop-term.term-index c.term-item.result (grind arith)
+    sym (not_plain number c.args.count c.args.terms.now c.loop-term.term-index c.term-item.result c.loop-term-test.true
     (ap (λ term. is_plain c.args.count (expr_of number term)) (sym c.term-item.is) ∙ sym c.is_plain.ensures ∙ c.if-not-is_plain.true))
 
 pub are_plain-loop-term-init : goal.are_plain-loop-term-init
@@ -37,6 +37,6 @@ are_plain-loop-term-init g t c = refl
 
 pub are_plain-loop-term-preserved : goal.are_plain-loop-term-preserved
 are_plain-loop-term-preserved g t c =
-    let more = take_more c.args.terms.now c.loop-term.term-index c.term-item.result (grind arith) in
+    let more = take_more c.args.terms.now c.loop-term.term-index c.term-item.result c.loop-term-test.true in
     rw (more, ← c.term-item.is)
     (plain_more g.T.Theory.denotes c.args.count (take c.loop-term.term-index c.args.terms.now) c.term-item.result c.loop-term.invariant (sym c.is_plain.ensures ∙ c.if-not-is_plain.false))

@@ -1,4 +1,5 @@
 use Rattle.std.proofs.Common.{◌≡◌, refl, arith}
+use Rattle.std.proofs.lemmas.Result.{IfOk-from_err}
 use Rattle.sy_query_orders.specs.Replaced.{are_plain}
 use Rattle.sy_query_orders.proofs.Replaced.{none_first, more_first, more_within, all_next}
 use Rattle.sy_query_orders.proofs.names.variables.Goals as goal
@@ -24,3 +25,15 @@ pub returns-clause-plain : goal.returns-clause-plain
 returns-clause-plain g c =
     let e : c.loop-i.i ≡ c.args.many = omega arith in
     rw e at c.loop-i.invariant.plain
+
+pub returns-in_err-terms-clause-next : goal.returns-in_err-terms-clause-next
+returns-in_err-terms-clause-next g c = IfOk-from_err c.from_residual.result _ c.from_residual.ensures.0
+
+pub returns-in_err-terms-clause-plain : goal.returns-in_err-terms-clause-plain
+returns-in_err-terms-clause-plain g c = IfOk-from_err c.from_residual.result _ c.from_residual.ensures.0
+
+pub returns-in_err-push-clause-next : goal.returns-in_err-push-clause-next
+returns-in_err-push-clause-next g c = IfOk-from_err c.from_residual-in_err-push.result _ c.from_residual-in_err-push.ensures.0
+
+pub returns-in_err-push-clause-plain : goal.returns-in_err-push-clause-plain
+returns-in_err-push-clause-plain g c = IfOk-from_err c.from_residual-in_err-push.result _ c.from_residual-in_err-push.ensures.0

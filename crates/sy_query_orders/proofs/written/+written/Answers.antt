@@ -43,47 +43,29 @@ written-all_written-requires-in-Let g t c κs within =
     let first = falls.0 in
     (rw (c.as_slice-in-Let.ensures) (omega (arith, first, c.decreases)), (within.0, (within.1, c.requires)))
 
+pub written-name_all-requires-clause-names : goal.written-name_all-requires-clause-names
+written-name_all-requires-clause-names g t c = rw c.in_ok-bound-in-Let.ensures.kept c.requires
+
+pub written-name_all-requires-clause-bound : goal.written-name_all-requires-clause-bound
+written-name_all-requires-clause-bound g t c = λ stand.
+    ap (λ terms. are_plain c.args.count (exprs_of g.T.Theory.denotes terms)) (c.as_slice-in-Let-3.ensures ∙ sym c.as_slice-in-Let-2.ensures) ∙ c.may_stand-stand.ensures stand
+
 pub written-written-requires : goal.written-written-requires
 written-written-requires g t c κs within =
-    let number = g.T.Theory.denotes in
-    let falls = let-falls number c.args.term.now c.in-Let.bound c.in-Let.inner 0 c.in-Let.is in
+    let falls = let-falls g.T.Theory.denotes c.args.term.now c.in-Let.bound c.in-Let.inner 0 c.in-Let.is in
     let second = falls.1 in
-    let same = c.in_ok-stands-in-Let.ensures ∙ ap (exprs_of number) c.as_slice-then-may_stand.ensures in
-    let plain = sym (c.may_stand.ensures c.if-may_stand.true) ∙ ap (λ terms. are_plain c.args.count (exprs_of number terms)) c.as_slice-in-Let-2.ensures in
-    let all = law.plain_out number c.args.count c.args.names.now.items c.in_ok-stands-in-Let.stands.items c.in_ok-bound-in-Let.bound.items.items c.requires same plain in
-    (rw c.deref.ensures (omega (arith, second, c.decreases)), (within.0, (within.1, rw (c.in_ok-append-in-Let.ensures.items, c.in_ok-bound-in-Let.ensures.kept) all)))
+    (rw c.deref.ensures (omega (arith, second, c.decreases)), (within.0, (within.1, c.in_ok-many-in-Let.ensures.plain)))
 
-pub written-returns-then-may_stand-clause-replaced : goal.written-returns-then-may_stand-clause-replaced
-written-returns-then-may_stand-clause-replaced g t c =
-    let number = g.T.Theory.denotes in
-    let same = c.in_ok-stands-in-Let.ensures ∙ ap (exprs_of number) c.as_slice-then-may_stand.ensures in
+pub written-returns-in_ok-found-in-Let-clause-replaced : goal.written-returns-in_ok-found-in-Let-clause-replaced
+written-returns-in_ok-found-in-Let-clause-replaced g t c =
     let are = rw c.as_slice-in-Let.ensures at c.in_ok-bound-in-Let.ensures.replaced in
-    let is = rw (c.in_ok-append-in-Let.ensures.items, c.in_ok-bound-in-Let.ensures.kept, c.deref.ensures) at c.in_ok-found-in-Let.ensures.replaced in
-    rw (c.in-Let.is, expr_of-Let) (law.let_out number c.args.count c.args.names.now.items c.in_ok-stands-in-Let.stands.items _ _ _ _ same are is)
+    let is = rw c.deref.ensures at c.in_ok-inner-in-Let.ensures.replaced in
+    let named = rw (c.as_slice-in-Let-3.ensures, c.in_ok-bound-in-Let.ensures.kept) at c.in_ok-many-in-Let.ensures.named in
+    rw (c.in-Let.is, expr_of-Let, c.in_ok-found-in-Let.ensures) (named _ _ _ are is)
 
-pub written-returns-then-may_stand-clause-kept : goal.written-returns-then-may_stand-clause-kept
-written-returns-then-may_stand-clause-kept g t c =
-    law.cut_back _ _ _ _ _ _ _ c.truncate.ensures.items c.in_ok-found-in-Let.ensures.kept c.in_ok-append-in-Let.ensures.items (c.len-outer.ensures ∙ c.all_written-in-Let.new.names.ok.0) c.in_ok-bound-in-Let.ensures.kept
-
-pub written-written-requires-in-Let : goal.written-written-requires-in-Let
-written-written-requires-in-Let g t c κs within =
-    let number = g.T.Theory.denotes in
-    let falls = let-falls number c.args.term.now c.in-Let.bound c.in-Let.inner 0 c.in-Let.is in
-    let second = falls.1 in
-    let all = law.plain_kept number c.args.count c.in_ok-many-in-Let.many c.args.names.now.items c.in_ok-stands-in-Let-2.stands.items c.requires c.in_ok-stands-in-Let-2.ensures.plain in
-    (rw c.deref-in-Let.ensures (omega (arith, second, c.decreases)), (within.0, (within.1, rw (c.in_ok-append-in-Let-2.ensures.items, c.in_ok-bound-in-Let.ensures.kept) all)))
-
-pub written-returns-in_ok-new-in-Let-clause-replaced : goal.written-returns-in_ok-new-in-Let-clause-replaced
-written-returns-in_ok-new-in-Let-clause-replaced g t c =
-    let number = g.T.Theory.denotes in
-    let are = rw c.as_slice-in-Let.ensures at c.in_ok-bound-in-Let.ensures.replaced in
-    let is = rw (c.in_ok-append-in-Let-2.ensures.items, c.in_ok-bound-in-Let.ensures.kept, c.deref-in-Let.ensures) at c.in_ok-inner-in-Let.ensures.replaced in
-    rw (c.in-Let.is, expr_of-Let, expr_of-Let, c.in_ok-new-in-Let.ensures.ok)
-    (law.let_kept number c.args.count c.in_ok-many-in-Let.many c.args.names.now.items c.in_ok-stands-in-Let-2.stands.items c.in_ok-bound-in-Let.bound.items.items _ _ _ c.requires (c.in_ok-many-in-Let.ensures.0 ∙ c.len.ensures) c.in_ok-stands-in-Let-2.ensures.next are is)
-
-pub written-returns-in_ok-new-in-Let-clause-kept : goal.written-returns-in_ok-new-in-Let-clause-kept
-written-returns-in_ok-new-in-Let-clause-kept g t c =
-    law.cut_back _ _ _ _ _ _ _ c.truncate-in-Let.ensures.items c.in_ok-inner-in-Let.ensures.kept c.in_ok-append-in-Let-2.ensures.items (c.len-outer.ensures ∙ c.all_written-in-Let.new.names.ok.0) c.in_ok-bound-in-Let.ensures.kept
+pub written-returns-in_ok-found-in-Let-clause-kept : goal.written-returns-in_ok-found-in-Let-clause-kept
+written-returns-in_ok-found-in-Let-clause-kept g t c =
+    law.cut_back _ _ _ _ _ _ c.truncate.ensures.items c.in_ok-inner-in-Let.ensures.kept c.in_ok-many-in-Let.ensures.kept (c.len-outer.ensures ∙ c.all_written-in-Let.new.names.ok.0) c.in_ok-bound-in-Let.ensures.kept
 
 -- ---- terms, one by one
 
@@ -130,18 +112,6 @@ written-returns-in_err-bound-in-Let-clause-kept g t c = IfOk-from_err c.from_res
 pub written-returns-in_err-bound-in-Let-clause-replaced : goal.written-returns-in_err-bound-in-Let-clause-replaced
 written-returns-in_err-bound-in-Let-clause-replaced g t c = IfOk-from_err c.from_residual-in_err-bound-in-Let.result _ c.from_residual-in_err-bound-in-Let.ensures.0
 
-pub written-returns-in_err-stands-in-Let-clause-kept : goal.written-returns-in_err-stands-in-Let-clause-kept
-written-returns-in_err-stands-in-Let-clause-kept g t c = IfOk-from_err c.from_residual-in_err-stands-in-Let.result _ c.from_residual-in_err-stands-in-Let.ensures.0
-
-pub written-returns-in_err-stands-in-Let-clause-replaced : goal.written-returns-in_err-stands-in-Let-clause-replaced
-written-returns-in_err-stands-in-Let-clause-replaced g t c = IfOk-from_err c.from_residual-in_err-stands-in-Let.result _ c.from_residual-in_err-stands-in-Let.ensures.0
-
-pub written-returns-in_err-append-in-Let-clause-kept : goal.written-returns-in_err-append-in-Let-clause-kept
-written-returns-in_err-append-in-Let-clause-kept g t c = IfOk-from_err c.from_residual-in_err-append-in-Let.result _ c.from_residual-in_err-append-in-Let.ensures.0
-
-pub written-returns-in_err-append-in-Let-clause-replaced : goal.written-returns-in_err-append-in-Let-clause-replaced
-written-returns-in_err-append-in-Let-clause-replaced g t c = IfOk-from_err c.from_residual-in_err-append-in-Let.result _ c.from_residual-in_err-append-in-Let.ensures.0
-
 pub written-returns-in_err-found-in-Let-clause-kept : goal.written-returns-in_err-found-in-Let-clause-kept
 written-returns-in_err-found-in-Let-clause-kept g t c = IfOk-from_err c.from_residual-in_err-found-in-Let.result _ c.from_residual-in_err-found-in-Let.ensures.0
 
@@ -154,29 +124,11 @@ written-returns-in_err-many-in-Let-clause-kept g t c = IfOk-from_err c.from_resi
 pub written-returns-in_err-many-in-Let-clause-replaced : goal.written-returns-in_err-many-in-Let-clause-replaced
 written-returns-in_err-many-in-Let-clause-replaced g t c = IfOk-from_err c.from_residual-in_err-many-in-Let.result _ c.from_residual-in_err-many-in-Let.ensures.0
 
-pub written-returns-in_err-stands-in-Let-2-clause-kept : goal.written-returns-in_err-stands-in-Let-2-clause-kept
-written-returns-in_err-stands-in-Let-2-clause-kept g t c = IfOk-from_err c.from_residual-in_err-stands-in-Let-2.result _ c.from_residual-in_err-stands-in-Let-2.ensures.0
-
-pub written-returns-in_err-stands-in-Let-2-clause-replaced : goal.written-returns-in_err-stands-in-Let-2-clause-replaced
-written-returns-in_err-stands-in-Let-2-clause-replaced g t c = IfOk-from_err c.from_residual-in_err-stands-in-Let-2.result _ c.from_residual-in_err-stands-in-Let-2.ensures.0
-
-pub written-returns-in_err-append-in-Let-2-clause-kept : goal.written-returns-in_err-append-in-Let-2-clause-kept
-written-returns-in_err-append-in-Let-2-clause-kept g t c = IfOk-from_err c.from_residual-in_err-append-in-Let-2.result _ c.from_residual-in_err-append-in-Let-2.ensures.0
-
-pub written-returns-in_err-append-in-Let-2-clause-replaced : goal.written-returns-in_err-append-in-Let-2-clause-replaced
-written-returns-in_err-append-in-Let-2-clause-replaced g t c = IfOk-from_err c.from_residual-in_err-append-in-Let-2.result _ c.from_residual-in_err-append-in-Let-2.ensures.0
-
 pub written-returns-in_err-inner-in-Let-clause-kept : goal.written-returns-in_err-inner-in-Let-clause-kept
 written-returns-in_err-inner-in-Let-clause-kept g t c = IfOk-from_err c.from_residual-in_err-inner-in-Let.result _ c.from_residual-in_err-inner-in-Let.ensures.0
 
 pub written-returns-in_err-inner-in-Let-clause-replaced : goal.written-returns-in_err-inner-in-Let-clause-replaced
 written-returns-in_err-inner-in-Let-clause-replaced g t c = IfOk-from_err c.from_residual-in_err-inner-in-Let.result _ c.from_residual-in_err-inner-in-Let.ensures.0
-
-pub written-returns-in_err-new-in-Let-clause-kept : goal.written-returns-in_err-new-in-Let-clause-kept
-written-returns-in_err-new-in-Let-clause-kept g t c = IfOk-from_err c.from_residual-in_err-new-in-Let.result _ c.from_residual-in_err-new-in-Let.ensures.0
-
-pub written-returns-in_err-new-in-Let-clause-replaced : goal.written-returns-in_err-new-in-Let-clause-replaced
-written-returns-in_err-new-in-Let-clause-replaced g t c = IfOk-from_err c.from_residual-in_err-new-in-Let.result _ c.from_residual-in_err-new-in-Let.ensures.0
 
 pub all_written-returns-in_err-all-clause-kept : goal.all_written-returns-in_err-all-clause-kept
 all_written-returns-in_err-all-clause-kept g t c = IfOk-from_err c.from_residual.result _ c.from_residual.ensures.0
