@@ -1,7 +1,8 @@
 -- Finding shapes, and tables with one shape more.
 use Rattle.std.proofs.Common.{◌≡◌, ℕ, ◌+◌, ◌<◌, ◌≤◌, List, [], ◌∷◌, ◌++◌, length, refl, ap, sym, ◌∙◌, subst, Option, Some, None, slice_get, get_or, take, inl, inr, Bool, true, false}
-use Rattle.std.specs.Prelude.{Contains, MatchOption, nat_eq, if◌then◌else◌}
+use Rattle.std.specs.Prelude.{◌↔◌, Contains, MatchOption, nat_eq, if◌then◌else◌}
 use Rattle.std.proofs.lemmas.Bool.{true≢false, eq-eqb}
+use Rattle.std.proofs.lemmas.Option.{none-some, same_Some}
 use Rattle.std.proofs.lemmas.List.{take_all}
 use Rattle.std.proofs.lemmas.List.Elements.{Contains-append_left, Contains-push}
 use Rattle.sy_loop_subterms.specs.Shapes.{Shape, AreBelow, numbers_of}
@@ -9,6 +10,13 @@ use Rattle.sy_loop_subterms.specs.Keys.{key_of}
 use Rattle.sy_loop_subterms.specs.Places.{KeyIsAdded}
 use Rattle.sy_loop_subterms.specs.Tables.{TableIsWhole}
 use Rattle.sy_loop_subterms.proofs.Lists.{in_nothing, in_more, at_more}
+
+-- what stands at a place is the shape where the two are alike, and nowhere beyond all places
+pub there-alike : (found : Option Shape) (other shape : Shape) (b : Bool) → found ≡ Some other → (b ≡ true ↔ other ≡ shape) → (b ≡ true ↔ found ≡ Some shape)
+there-alike found other shape b at alike = ((λ e. at ∙ ap Some (alike.0 e)), (λ e. alike.1 (same_Some other shape (sym at ∙ e))))
+
+pub nowhere : (found : Option Shape) (shape : Shape) → found ≡ None → (false ≡ true ↔ found ≡ Some shape)
+nowhere found shape past = ((λ e. absurd (true≢false (sym e))), (λ e. absurd (none-some shape (sym past ∙ e))))
 
 -- the shape is at none of these numbers
 abbrev pub IsAtNone : List Shape → Shape → List ℕ → Type 0

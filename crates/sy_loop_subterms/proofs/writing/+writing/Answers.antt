@@ -1,5 +1,6 @@
 use Rattle.std.proofs.Common.{arith, ◌∙◌, ap, ◌++◌}
 use Rattle.std.proofs.lemmas.List.{take_all}
+use Rattle.std.proofs.lemmas.Result.{IfOk-from_err}
 use Rattle.sy_terms.specs.Denoted.{val_of, expr_of, exprs_of, expr_of-Const, expr_of-Var, expr_of-App, expr_of-Call, expr_of-Let}
 use Rattle.sy_loop_subterms.proofs.Shaped.{below_more}
 use Rattle.sy_loop_subterms.proofs.Numbered.{constant_numbered, apply_numbered, call_numbered, let_numbered, none_numbered, next_numbered}
@@ -50,3 +51,36 @@ pub numbers_of-returns : goal.numbers_of-returns
 numbers_of-returns g t c =
     let all = take_all c.loop-term.term-index c.as_slice-term-items.result.now c.loop-term-test.false in
     rw (all, c.as_slice-term-items.ensures) at c.loop-term.invariant.numbered
+
+pub number_of-returns-in_err-number-in-Const : goal.number_of-returns-in_err-number-in-Const
+number_of-returns-in_err-number-in-Const g t c = IfOk-from_err c.from_residual.result _ c.from_residual.ensures.0
+
+pub number_of-returns-in_err-number-in-Var : goal.number_of-returns-in_err-number-in-Var
+number_of-returns-in_err-number-in-Var g t c = IfOk-from_err c.from_residual-in_err-number-in-Var.result _ c.from_residual-in_err-number-in-Var.ensures.0
+
+pub number_of-returns-in_err-numbers-in-App : goal.number_of-returns-in_err-numbers-in-App
+number_of-returns-in_err-numbers-in-App g t c = IfOk-from_err c.from_residual-in_err-numbers-in-App.result _ c.from_residual-in_err-numbers-in-App.ensures.0
+
+pub number_of-returns-in_err-number-in-App : goal.number_of-returns-in_err-number-in-App
+number_of-returns-in_err-number-in-App g t c = IfOk-from_err c.from_residual-in_err-number-in-App.result _ c.from_residual-in_err-number-in-App.ensures.0
+
+pub number_of-returns-in_err-numbers-in-Call : goal.number_of-returns-in_err-numbers-in-Call
+number_of-returns-in_err-numbers-in-Call g t c = IfOk-from_err c.from_residual-in_err-numbers-in-Call.result _ c.from_residual-in_err-numbers-in-Call.ensures.0
+
+pub number_of-returns-in_err-number-in-Call : goal.number_of-returns-in_err-number-in-Call
+number_of-returns-in_err-number-in-Call g t c = IfOk-from_err c.from_residual-in_err-number-in-Call.result _ c.from_residual-in_err-number-in-Call.ensures.0
+
+pub number_of-returns-in_err-numbers-in-Let : goal.number_of-returns-in_err-numbers-in-Let
+number_of-returns-in_err-numbers-in-Let g t c = IfOk-from_err c.from_residual-in_err-numbers-in-Let.result _ c.from_residual-in_err-numbers-in-Let.ensures.0
+
+pub number_of-returns-in_err-longer-in-Let : goal.number_of-returns-in_err-longer-in-Let
+number_of-returns-in_err-longer-in-Let g t c = IfOk-from_err c.from_residual-in_err-longer-in-Let.result _ c.from_residual-in_err-longer-in-Let.ensures.0
+
+pub number_of-returns-in_err-number-in-Let : goal.number_of-returns-in_err-number-in-Let
+number_of-returns-in_err-number-in-Let g t c = IfOk-from_err c.from_residual-in_err-number-in-Let.result _ c.from_residual-in_err-number-in-Let.ensures.0
+
+pub numbers_of-returns-in_err-number : goal.numbers_of-returns-in_err-number
+numbers_of-returns-in_err-number g t c = IfOk-from_err c.from_residual.result _ c.from_residual.ensures.0
+
+pub numbers_of-returns-in_err-push : goal.numbers_of-returns-in_err-push
+numbers_of-returns-in_err-push g t c = IfOk-from_err c.from_residual-in_err-push.result _ c.from_residual-in_err-push.ensures.0

@@ -1,5 +1,6 @@
 use Rattle.std.proofs.Common.{arith, ◌≡◌, ◌∙◌, ap, Some}
 use Rattle.std.specs.Prelude.{slice_get}
+use Rattle.std.proofs.lemmas.Result.{IfOk-from_err}
 use Rattle.sy_terms.specs.Denoted.{expr_of}
 use Rattle.sy_loop_subterms.specs.Shapes.{Argument}
 use Rattle.sy_loop_subterms.proofs.Numbered.{no_variables, more_variables, all_variables}
@@ -23,3 +24,21 @@ returns-clause-is g c = λ sorts many.
     let l = c.loop-position in
     let inside = rw (c.as_slice.ensures.value) at c.in_ok-number-2.ensures in
     all_variables l.table c.number_of.new.table l.names.items l.position (expr_of g.T.Theory.denotes c.args.term.now) c.in_ok-number-2.number sorts l.invariant inside (omega (arith, many, l.auto.position-end, c.loop-position-test.false))
+
+pub returns-in_err-number-clause-within : goal.returns-in_err-number-clause-within
+returns-in_err-number-clause-within g c = IfOk-from_err c.from_residual.result _ c.from_residual.ensures.0
+
+pub returns-in_err-number-clause-is : goal.returns-in_err-number-clause-is
+returns-in_err-number-clause-is g c = IfOk-from_err c.from_residual.result _ c.from_residual.ensures.0
+
+pub returns-in_err-push-clause-within : goal.returns-in_err-push-clause-within
+returns-in_err-push-clause-within g c = IfOk-from_err c.from_residual-in_err-push.result _ c.from_residual-in_err-push.ensures.0
+
+pub returns-in_err-push-clause-is : goal.returns-in_err-push-clause-is
+returns-in_err-push-clause-is g c = IfOk-from_err c.from_residual-in_err-push.result _ c.from_residual-in_err-push.ensures.0
+
+pub returns-in_err-number-2-clause-within : goal.returns-in_err-number-2-clause-within
+returns-in_err-number-2-clause-within g c = IfOk-from_err c.from_residual-in_err-number-2.result _ c.from_residual-in_err-number-2.ensures.0
+
+pub returns-in_err-number-2-clause-is : goal.returns-in_err-number-2-clause-is
+returns-in_err-number-2-clause-is g c = IfOk-from_err c.from_residual-in_err-number-2.result _ c.from_residual-in_err-number-2.ensures.0

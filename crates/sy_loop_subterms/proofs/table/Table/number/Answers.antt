@@ -1,10 +1,12 @@
 use Rattle.std.proofs.Common.{◌∙◌, ◌≡◌, ℕ, sym, ap, subst, slice_get, length, Some, ◌++◌, ◌∷◌, []}
 use Rattle.std.proofs.lemmas.List.{map_push, length-map}
+use Rattle.std.proofs.lemmas.Result.{IfOk-from_err}
 use Rattle.sy_loop_subterms.specs.Shapes.{AreBelow, numbers_of}
 use Rattle.sy_loop_subterms.specs.Denoted.{shape_of, shapes_of}
 use Rattle.sy_loop_subterms.specs.Places.{key_places}
 use Rattle.sy_loop_subterms.specs.Tables.{TableIsWhole}
 use Rattle.sy_loop_subterms.proofs.Lists.{at_end}
+use Rattle.sy_loop_subterms.proofs.Shaped.{unchanged}
 use Rattle.sy_loop_subterms.proofs.Tables.{whole-same, whole-added, whole-more}
 use Rattle.sy_loop_subterms.proofs.table.Table.number.Goals as goal
 
@@ -40,3 +42,24 @@ returns-clause-at g c =
     let at : slice_get (shapes_of number c.push.new.self.items) c.in-Ok.number ≡ Some shape =
     rw (c.in_ok-push.ensures.items, map_push (shape_of number) c.self.inside.shapes.items c.args.shape) (subst (λ n. slice_get (shapes ++ shape ∷ []) n ≡ Some shape) (sym (ends g c)) (at_end shapes shape)) in
     at
+
+pub returns-in_err-add-clause-at : goal.returns-in_err-add-clause-at
+returns-in_err-add-clause-at g c = IfOk-from_err c.from_residual.result _ c.from_residual.ensures.0
+
+pub returns-in_err-add-clause-extends : goal.returns-in_err-add-clause-extends
+returns-in_err-add-clause-extends g c = IfOk-from_err c.from_residual.result _ c.from_residual.ensures.0
+
+pub returns-in_err-add-clause-are : goal.returns-in_err-add-clause-are
+returns-in_err-add-clause-are g c = IfOk-from_err c.from_residual.result _ c.from_residual.ensures.0
+
+pub returns-in_err-push-clause-at : goal.returns-in_err-push-clause-at
+returns-in_err-push-clause-at g c = IfOk-from_err c.from_residual-in_err-push.result _ c.from_residual-in_err-push.ensures.0
+
+pub returns-in_err-push-clause-extends : goal.returns-in_err-push-clause-extends
+returns-in_err-push-clause-extends g c = IfOk-from_err c.from_residual-in_err-push.result _ c.from_residual-in_err-push.ensures.0
+
+pub returns-in_err-push-clause-are : goal.returns-in_err-push-clause-are
+returns-in_err-push-clause-are g c = IfOk-from_err c.from_residual-in_err-push.result _ c.from_residual-in_err-push.ensures.0
+
+pub returns-in-Some-clause-extends : goal.returns-in-Some-clause-extends
+returns-in-Some-clause-extends g c = unchanged _
