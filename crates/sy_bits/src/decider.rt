@@ -3,7 +3,7 @@ ghost use Rattle.std.specs.Prelude.{◌≡◌, min, IfOk};
 ghost use Rattle.sy_query_base.specs.Answers.{Answers};
 ghost use Rattle.sy_query_base.specs.Asked.{query_of};
 ghost use Rattle.sy_meaning_words.specs.Vectors.{vector};
-ghost use Rattle.sy_bits_laws.specs.Clauses.{HasCircuitClauses};
+ghost use Rattle.sy_bits_terms.specs.Clauses.{HasCircuitClauses};
 ghost use Rattle.sy_cdcl.specs.Answer.{AnswersFormula};
 ghost use Rattle.sy_bits.specs.Proofs as proofs;
 ghost use Rattle.sy_bits.specs.Soundness.{sound};

@@ -7,8 +7,8 @@ use Rattle.sy_gates.specs.Circuits.{lit_value}
 use Rattle.sy_gates.specs.Models.{values_of, but_last, ExtendsInOneWay}
 use Rattle.sy_query_base.specs.Asked.{Query, Satisfies}
 use Rattle.sy_bits_operators.specs.Signals.{total_width}
-use Rattle.sy_bits_laws.specs.Assignments.{assignment}
-use Rattle.sy_bits_laws.specs.Clauses.{Blasted, HasCircuitClauses, query_size}
+use Rattle.sy_bits_terms.specs.Assignments.{assignment}
+use Rattle.sy_bits_terms.specs.Clauses.{Blasted, HasCircuitClauses, query_size}
 use Rattle.sy_bits_clauses.specs.Alike.{SpeaksFor}
 
 -- two such queries, one after the other

@@ -2,7 +2,7 @@
 use Rattle.std.specs.Prelude.{ℕ, ◌≡◌, ◌↔◌, List}
 use Rattle.sy_terms.specs.Values.{Val}
 use Rattle.sy_query_base.specs.Asked.{Query, Satisfies}
-use Rattle.sy_bits_laws.specs.Clauses.{Blasted, HasCircuitClauses, query_size}
+use Rattle.sy_bits_terms.specs.Clauses.{Blasted, HasCircuitClauses, query_size}
 
 -- the circuit's clauses say what each query of this size says that has the same variables and that the same values satisfy
 pub record SpeaksFor (query : Query) (size : ℕ) (circuit : Blasted) : Type 0 where

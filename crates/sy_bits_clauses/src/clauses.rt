@@ -3,7 +3,7 @@ ghost use Rattle.std.specs.Prelude.{◌≡◌, ◌≤◌, ◌<◌, ◌*◌, ◌^
 ghost use Rattle.sy_query_base.specs.Asked.{query_of, QueryFits};
 ghost use Rattle.sy_meaning_words.specs.Vectors.{vector, owned, is_bits};
 ghost use Rattle.sy_cdcl.specs.Answer.{VarsFit};
-ghost use Rattle.sy_bits_laws.specs.Clauses.{HasCircuitClauses, query_size};
+ghost use Rattle.sy_bits_terms.specs.Clauses.{HasCircuitClauses, query_size};
 ghost use Rattle.sy_bits_clauses.specs.Alike.{SpeaksFor};
 
 use crate::fitting::fits;

@@ -3,7 +3,7 @@ ghost use Rattle.std.specs.Prelude.{◌≡◌, ◌+◌, ◌*◌, ◌≤◌, ◌<
 ghost use Rattle.sy_query_base.specs.Asked.{query_of, QueryFits};
 ghost use Rattle.sy_meaning_words.specs.Vectors.{vector, owned, is_bits};
 ghost use Rattle.sy_bits_operators.specs.Signals as signals;
-ghost use Rattle.sy_bits_laws.specs.Clauses.{query_size};
+ghost use Rattle.sy_bits_terms.specs.Clauses.{query_size};
 
 use std::alloc::{AllocError, Global};
 use sy_meaning_words::BvTheory;

@@ -25,7 +25,7 @@ use Rattle.sy_bits_operators.specs.Signals.{signal_sort, signal_sorts, signal_bo
 use Rattle.sy_bits_operators.specs.Costs.{gates}
 use Rattle.sy_bits_operators.proofs.Kept.{kept}
 use Rattle.sy_bits_operators.proofs.Rows.{bound-last}
-use Rattle.sy_bits_laws.proofs.Bounded.{few}
+use Rattle.sy_bits_terms.proofs.Bounded.{few}
 
 -- the first bits of a word of input variables
 pub record IsInput (i : ℕ) (word : List Bit) : Type 0 where

@@ -27,10 +27,10 @@ use Rattle.sy_bits_operators.specs.Costs.{gates}
 use Rattle.sy_bits_operators.proofs.Kept.{kept}
 use Rattle.sy_bits_operators.proofs.Rows.{bound-at, bound-last}
 use Rattle.sy_bits_operators.proofs.Folds.{value-sort}
-use Rattle.sy_bits_laws.specs.Fitting.{scope, TermHasSort, HaveSorts, most_gates, all_most_gates}
-use Rattle.sy_bits_laws.proofs.Reading.{total_width-last}
-use Rattle.sy_bits_laws.proofs.Terms as law
-use Rattle.sy_bits_laws.proofs.Rows as row
+use Rattle.sy_bits_terms.specs.Fitting.{scope, TermHasSort, HaveSorts, most_gates, all_most_gates}
+use Rattle.sy_bits_terms.proofs.Reading.{total_width-last}
+use Rattle.sy_bits_terms.proofs.Parts as law
+use Rattle.sy_bits_terms.proofs.Rows as row
 
 -- the signal stands for the term, in the circuit that has grown
 pub record Encoded (old new : Plan) (signals : List Signal) (term : Expr) (signal : Signal) : Type 0 where

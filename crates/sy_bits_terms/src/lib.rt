@@ -1,4 +1,4 @@
-// The circuits of terms over bit vectors.
+// The circuits of terms over bit vectors, and what the clauses of a query's circuit say and cost.
 #![tactic(auto)]
 
 mod leaves;

@@ -7,7 +7,7 @@ ghost use Rattle.sy_meaning_words.specs.Vectors.{vector};
 ghost use Rattle.sy_gates.specs.Circuits.{variables, FollowsPlan, GrownCircuit};
 ghost use Rattle.sy_bits_operators.specs.Signals.{signal_value, signal_values, signal_sort, signal_sorts, signal_bound, signals_bound, sort_width, total_width, has_signals, AllHaveSignals};
 ghost use Rattle.sy_bits_words.specs.Standing.{AllStand};
-ghost use Rattle.sy_bits_laws.specs.Fitting.{scope, TermHasSort, HaveSorts, most_gates, all_most_gates};
+ghost use Rattle.sy_bits_terms.specs.Fitting.{scope, TermHasSort, HaveSorts, most_gates, all_most_gates};
 
 use crate::leaves::{constant_signal, copied};
 use std::alloc::Global;

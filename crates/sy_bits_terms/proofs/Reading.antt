@@ -13,7 +13,7 @@ use Rattle.sy_terms.specs.declared.sort.Sort.{Sort}
 use Rattle.sy_terms.specs.declared.sort.Sort.TheVariants as sorts
 use Rattle.sy_grammar_base.specs.Solving.{AreValues}
 use Rattle.sy_bits_operators.specs.Signals.{has_signals, AllHaveSignals, sort_width, total_width}
-use Rattle.sy_bits_laws.specs.Assignments.{number_of_bits, value_of_bits, assignment}
+use Rattle.sy_bits_terms.specs.Assignments.{number_of_bits, value_of_bits, assignment}
 
 pub double-pow : (n : ℕ) → 2 ^ (n + 1) ≡ 2 * 2 ^ n
 double-pow n = rw (add-one, pow-succ' 2 n) refl

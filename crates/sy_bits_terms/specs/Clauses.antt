@@ -11,7 +11,7 @@ use Rattle.sy_query_base.specs.Asked.{Query, Satisfies, query_weight}
 use Rattle.sy_terms.specs.declared.sort.Sort.{Sort}
 use Rattle.sy_meaning_words.specs.Vectors.{owned}
 use Rattle.sy_bits_operators.specs.Signals.{total_width}
-use Rattle.sy_bits_laws.specs.Assignments.{assignment}
+use Rattle.sy_bits_terms.specs.Assignments.{assignment}
 
 -- a query's weight and the widths of its variables
 abbrev pub query_size : Query → ℕ

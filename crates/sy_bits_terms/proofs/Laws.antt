@@ -17,9 +17,9 @@ use Rattle.sy_terms.specs.declared.sort.Sort.{Sort}
 use Rattle.sy_terms.specs.declared.sort.Sort.TheVariants as sorts
 use Rattle.sy_meaning_words.specs.Vectors.{owned, is_bits}
 use Rattle.sy_bits_operators.specs.Signals.{AllHaveSignals, has_signals, total_width}
-use Rattle.sy_bits_laws.specs.Assignments.{assignment}
-use Rattle.sy_bits_laws.specs.Clauses.{HasCircuitClauses}
-use Rattle.sy_bits_laws.proofs.Reading.{written, assignment-front}
+use Rattle.sy_bits_terms.specs.Assignments.{assignment}
+use Rattle.sy_bits_terms.specs.Clauses.{HasCircuitClauses}
+use Rattle.sy_bits_terms.proofs.Reading.{written, assignment-front}
 
 -- models of a list of clauses and one more
 

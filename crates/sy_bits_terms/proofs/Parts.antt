@@ -19,8 +19,8 @@ use Rattle.sy_query_base.specs.Weights.{weight, weights, operator_weight, sort_w
 use Rattle.sy_terms_laws.proofs.Equations.{if_Some, applied_sort_Some, after_Some, with_sort_Some, called_sort_Some}
 use Rattle.sy_bits_operators.specs.Signals.{has_signals, AllHaveSignals, sort_width, total_width}
 use Rattle.sy_bits_operators.specs.Costs.{gates}
-use Rattle.sy_bits_laws.specs.Fitting.{scope, TermHasSort, HaveSorts, most_gates, all_most_gates}
-use Rattle.sy_bits_laws.proofs.Bounded.{few, weighs, lightest}
+use Rattle.sy_bits_terms.specs.Fitting.{scope, TermHasSort, HaveSorts, most_gates, all_most_gates}
+use Rattle.sy_bits_terms.proofs.Bounded.{few, weighs, lightest}
 
 -- a constant
 
