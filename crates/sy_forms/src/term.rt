@@ -50,8 +50,9 @@ impl<T: Theory> Bounds<T> {
     fn push(&mut self, last: Bound<T>) -> Result<(), Want>
         ensures { OnOk result (bounds_of T.denotes self.new ≡ spec.bound_behind (bounds_of T.denotes self.old) (bound_of T.denotes last)) }
     {
+        let kept = self.terms.push(last.phrase);
         self.names.push(last.named)?;
-        self.terms.push(last.phrase)?;
+        kept?;
         Ok(())
     }
 }
