@@ -1,42 +1,30 @@
 // A bank of ten operators over four arguments of 32 bits, built at random points: the words are the numbers of points,
 // of sizes and of terms that are kept at most. It prints how many terms were tried and how many are kept; the status is 4
 // where it gets full.
-ghost use Rattle.std.specs.Prelude.{◌≡◌, ◌∷◌, [], true, map, IfOk, IfSome};
-ghost use Rattle.sy_terms.specs.Definitions.{scope_of};
-ghost use Rattle.sy_terms.specs.Denoted.{vals_of, AreValid};
-ghost use Rattle.sy_terms.specs.Theories.{sort_of_value};
-ghost use Rattle.sy_grammar_base.specs.Formed.{is_formed};
-ghost use Rattle.sy_grammar_base.specs.Grown.{syntax_from};
+ghost use Rattle.std.specs.Prelude.{◌≡◌, ◌∷◌, [], true, All, map, IfOk, IfSome};
+ghost use Rattle.sy_terms.specs.Denoted.{val_of, vals_of, AreValid};
+ghost use Rattle.sy_terms.specs.Theories.{valid, sort_of_value};
+ghost use Rattle.sy_terms.specs.declared.op.Op.TheVariants as ops;
+ghost use Rattle.sy_terms.specs.declared.sort.Sort.TheVariants as sorts;
 ghost use Rattle.sy_bank.specs.Rows.{ArePointsOf};
 
-use crate::evaluate::value;
-use crate::lists::list;
-use crate::rules::{add_operation, grammar_of};
 use crate::words::{WANT, next, number};
 use std::alloc::Global;
 use sy_bank::{Bank, BankEnd, build};
-use sy_grammar_base::{Grammar, Non, Part, Rule};
+use sy_grammar_base::{Grammar, Non, Part, Parts, Rule, well_formed};
 use sy_meaning_words::BvTheory;
 use sy_terms::{Op, Seq, Sort, Theory, Value, Values, Want};
 
 /// The status where the bank gets full.
 const FULL: u8 = 4;
 
-/// The upper half of the state.
-fn upper(state: u64) -> u32 {
-    (state >> 32) as u32
-}
-
-/// Four random values.
-fn four<T: Theory>(sort: Sort, state: u64) -> Option<[Value<T::Num>; 4]>
-    ensures valid { IfSome result (λ values. AreValid T.denotes values) }
-    ensures sorts { IfSome result (λ values. map sort_of_value (vals_of T.denotes values) ≡ sort ∷ sort ∷ sort ∷ sort ∷ []) }
+/// A random value of the sort, from the upper half of the state.
+fn value<T: Theory>(sort: Sort, state: u64) -> Option<Value<T::Num>>
+    ensures valid { IfSome result (λ v. valid (val_of T.denotes v) ≡ true) }
+    ensures sort { IfSome result (λ v. sort_of_value (val_of T.denotes v) ≡ sort) }
 {
-    let first = value::<T>(sort, upper(state))?;
-    let second = value::<T>(sort, upper(next(state)))?;
-    let third = value::<T>(sort, upper(next(next(state))))?;
-    let fourth = value::<T>(sort, upper(next(next(next(state)))))?;
-    Some([first, second, third, fourth])
+    let number = T::of_number(sort, i128::from(state >> 32))?;
+    Some(Value::Num(number))
 }
 
 /// A point of four random values.
@@ -44,10 +32,23 @@ fn point<T: Theory>(alloc: Global, sort: Sort, state: u64) -> Result<Option<Valu
     ensures valid { IfOk result (λ found. IfSome found (λ point. AreValid T.denotes point)) }
     ensures sorts { IfOk result (λ found. IfSome found (λ point. map sort_of_value (vals_of T.denotes point) ≡ sort ∷ sort ∷ sort ∷ sort ∷ [])) }
 {
-    let Some(values) = four::<T>(sort, state) else {
+    let Some(first) = value::<T>(sort, state) else {
         return Ok(None);
     };
-    let point = list(alloc, &values)?;
+    let Some(second) = value::<T>(sort, next(state)) else {
+        return Ok(None);
+    };
+    let Some(third) = value::<T>(sort, next(next(state))) else {
+        return Ok(None);
+    };
+    let Some(fourth) = value::<T>(sort, next(next(next(state)))) else {
+        return Ok(None);
+    };
+    let mut point = Seq::new(alloc);
+    point.push(first)?;
+    point.push(second)?;
+    point.push(third)?;
+    point.push(fourth)?;
     Ok(Some(point))
 }
 
@@ -67,6 +68,18 @@ fn points<T: Theory>(alloc: Global, sort: Sort, count: u32) -> Result<Seq<Values
     Ok(points)
 }
 
+/// The sort, four times.
+fn four(alloc: Global, sort: Sort) -> Result<Seq<Sort>, Want>
+    ensures { IfOk result (λ sorts. sorts ≡ sort ∷ sort ∷ sort ∷ sort ∷ []) }
+{
+    let mut sorts = Seq::new(alloc);
+    sorts.push(sort)?;
+    sorts.push(sort)?;
+    sorts.push(sort)?;
+    sorts.push(sort)?;
+    Ok(sorts)
+}
+
 /// The nonterminal of the arguments, and of the operators over itself.
 fn nonterminals<T: Theory>(
     alloc: Global,
@@ -78,7 +91,10 @@ fn nonterminals<T: Theory>(
         rules.push(Rule::Term(Part::Var(position)))?;
     }
     for operator in operators {
-        add_operation(alloc, *operator, 0, 0, &mut rules)?;
+        let mut parts = Parts::new(alloc);
+        parts.push(Part::Non(0))?;
+        parts.push(Part::Non(0))?;
+        rules.push(Rule::Term(Part::App(*operator, parts)))?;
     }
     let mut nons = Seq::new(alloc);
     nons.push(Non { sort, rules })?;
@@ -112,34 +128,17 @@ fn counted<T: Theory>(bank: &Bank<T>, operators: usize) -> (usize, usize) {
 
 /// What is counted of the bank that was built; `None` where it got full.
 fn counted_if_whole<T: Theory>(
+    alloc: Global,
     built: Result<Bank<T>, BankEnd<T>>,
     operators: usize,
 ) -> Result<Option<(usize, usize)>, Want> {
-    let counts = match &built {
+    // in a box, since it takes long to prove that a bank is let go of in place
+    let built = Box::new(alloc, built)?;
+    match &*built {
         Ok(bank) => Ok(Some(counted(bank, operators))),
         Err(BankEnd::Full(_, _, _)) => Ok(None),
         Err(BankEnd::Want) => Err(Want {}),
-    };
-    drop(built);
-    counts
-}
-
-/// What is counted of the grammar's bank over the points; `None` where it gets full.
-fn counted_over<T: Theory>(
-    alloc: Global,
-    grammar: &Grammar<T>,
-    points: &Seq<Values<T>>,
-    operators: usize,
-    upto: u32,
-    cap: u32,
-) -> Result<Option<(usize, usize)>, Want>
-    requires formed { is_formed T.numeric (scope_of T.owned []) (syntax_from T.denotes grammar.now) ≡ true }
-    requires points { ArePointsOf grammar.now.args (map (vals_of T.denotes) points.now) }
-{
-    let pool = Seq::new(alloc);
-    let defs = Seq::new(alloc);
-    let built = build(alloc, grammar, &defs, &pool, points, upto, cap);
-    counted_if_whole(built, operators)
+    }
 }
 
 /// What is counted of the bank; `None` where it gets full or the grammar isn't well formed.
@@ -150,14 +149,23 @@ fn measured<T: Theory>(
     count: u32,
     upto: u32,
     cap: u32,
-) -> Result<Option<(usize, usize)>, Want> {
-    let args = list(alloc, &[sort, sort, sort, sort])?;
+) -> Result<Option<(usize, usize)>, Want>
+    requires { T.numeric sorts.Int ≡ true → T.owned ops.Neg ≡ true }
+{
+    let args = four(alloc, sort)?;
     let nons = nonterminals::<T>(alloc, sort, operators)?;
-    let Some(grammar) = grammar_of(alloc, args, nons) else {
-        return Ok(None);
-    };
     let points = points::<T>(alloc, sort, count)?;
-    counted_over(alloc, &grammar, &points, operators.len(), upto, cap)
+    let pool = Seq::new(alloc);
+    let defs = Seq::new(alloc);
+    if !well_formed(&args, &nons, &defs) {
+        return Ok(None);
+    }
+    let grammar = Grammar::new(args, nons, &defs);
+    counted_if_whole(
+        alloc,
+        build(alloc, &grammar, &defs, &pool, &points, upto, cap),
+        operators.len(),
+    )
 }
 
 /// The same over vectors of 32 bits.

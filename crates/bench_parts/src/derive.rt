@@ -6,14 +6,26 @@ ghost use Rattle.sy_grammar_base.specs.Trees.{IsNumbered};
 ghost use Rattle.sy_grammar_base.specs.Grown.{syntax_from};
 
 use crate::lists::list;
-use crate::rules::{add_operation, grammar_of};
 use crate::terms::{NONE, Node, add_term};
 use crate::words::{WANT, number};
 use std::alloc::Global;
-use sy_grammar_base::{Grammar, Non, Part, Rule};
+use sy_grammar_base::{Grammar, Non, Part, Parts, Rule, well_formed};
 use sy_grammar_derive::derive;
 use sy_meaning_integers::IntTheory;
 use sy_terms::{Op, Seq, Sort, Terms, Theory, Value, Want};
+
+/// Appends the rule of a sum of two nonterminals.
+fn add_sum_rule(
+    alloc: Global,
+    first: u32,
+    second: u32,
+    rules: &mut Seq<Rule<IntTheory>>,
+) -> Result<(), Want> {
+    let mut parts = Parts::new(alloc);
+    parts.push(Part::Non(first))?;
+    parts.push(Part::Non(second))?;
+    rules.push(Rule::Term(Part::App(Op::Add, parts)))
+}
 
 /// Appends a rule of the nonterminal `n`: a leaf, a chain rule, or a sum of two nonterminals.
 fn add_rule(
@@ -30,13 +42,7 @@ fn add_rule(
         0 => rules.push(Rule::Term(Part::Var(0))),
         1 => rules.push(Rule::Term(Part::Const(Value::Num(1)))),
         2..=5 => rules.push(Rule::Term(Part::Non(chained))),
-        _ => add_operation(
-            alloc,
-            Op::Add,
-            n.wrapping_add(number) % count,
-            chained,
-            rules,
-        ),
+        _ => add_sum_rule(alloc, n.wrapping_add(number) % count, chained, rules),
     }
 }
 
@@ -62,6 +68,11 @@ fn nonterminals(alloc: Global, count: u32, rules: u32) -> Result<Seq<Non<IntTheo
         })?;
     }
     Ok(nons)
+}
+
+/// The sorts of two arguments.
+fn arguments(alloc: Global) -> Result<Seq<Sort>, Want> {
+    list(alloc, &[Sort::Int, Sort::Int])
 }
 
 /// Appends a sum of so many steps, whose last leaf is this variable. Each step adds 1 or the first variable.
@@ -103,7 +114,7 @@ fn both_derived(
     alloc: Global,
     grammar: &Grammar<IntTheory>,
     steps: u32,
-) -> Result<(bool, bool), Want>
+) -> Result<Option<(bool, bool)>, Want>
     requires { IsNumbered (syntax_from ⟦<IntTheory as Theory>⟧.denotes grammar.now) }
 {
     let mut bodies = Terms::new(alloc);
@@ -111,25 +122,34 @@ fn both_derived(
     add_sum(alloc, steps, 1, &mut bodies)?;
     let first = is_derived(alloc, grammar, &bodies, 0)?;
     let second = is_derived(alloc, grammar, &bodies, 1)?;
-    Ok((first, second))
+    Ok(Some((first, second)))
 }
 
-/// The same of a grammar of so many nonterminals and rules for each; `None` where it isn't well formed.
+/// The same of the grammar of these nonterminals; `None` where it isn't well formed.
+fn derived(
+    alloc: Global,
+    args: Seq<Sort>,
+    nons: Seq<Non<IntTheory>>,
+    steps: u32,
+) -> Result<Option<(bool, bool)>, Want> {
+    let defs = Seq::new(alloc);
+    if !well_formed(&args, &nons, &defs) {
+        return Ok(None);
+    }
+    let grammar = Grammar::new(args, nons, &defs);
+    both_derived(alloc, &grammar, steps)
+}
+
+/// The same of a grammar of so many nonterminals and rules for each.
 fn measured(
     alloc: Global,
     count: u32,
     rules: u32,
     nodes: u32,
 ) -> Result<Option<(bool, bool)>, Want> {
-    let args = list(alloc, &[Sort::Int, Sort::Int])?;
+    let args = arguments(alloc)?;
     let nons = nonterminals(alloc, count, rules)?;
-    let Some(grammar) = grammar_of(alloc, args, nons) else {
-        return Ok(None);
-    };
-    match both_derived(alloc, &grammar, nodes / 2) {
-        Ok(both) => Ok(Some(both)),
-        Err(want) => Err(want),
-    }
+    derived(alloc, args, nons, nodes / 2)
 }
 
 /// Derives bodies from the grammar that the words ask for, and prints what was found.

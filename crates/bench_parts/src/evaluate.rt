@@ -1,22 +1,19 @@
 // One random term that is evaluated many times: the words are the theory (`bv` or `lia`), the number of leaves, and how
 // often. It prints how many nodes the term has, and the sum of the values.
-ghost use Rattle.std.specs.Prelude.{◌≡◌, ◌∷◌, [], true, All, map, IfSome, Some};
-ghost use Rattle.sy_terms.specs.Definitions.{DefinitionsFit, scope_of};
-ghost use Rattle.sy_terms.specs.Denoted.{val_of, vals_of, expr_of, AreValid};
-ghost use Rattle.sy_terms.specs.Fitting.{sort_in};
+ghost use Rattle.std.specs.Prelude.{◌≡◌, ◌∷◌, [], true, All, map, IfOk, IfSome};
+ghost use Rattle.sy_terms.specs.Denoted.{val_of, vals_of, AreValid};
 ghost use Rattle.sy_terms.specs.Theories.{valid, sort_of_value};
-ghost use Rattle.sy_terms.specs.declared.sort.Sort.{Sort};
 
 use crate::random::{Kit, add_random_term};
 use crate::words::{REFUSED, WANT, number, word};
 use std::alloc::Global;
-use sy_meaning::{Eval, evaluate, term_sort};
+use sy_meaning::{Eval, Signature, evaluate, term_sort};
 use sy_meaning_integers::IntTheory;
 use sy_meaning_words::BvTheory;
 use sy_terms::{Defs, Op, Seq, Sort, Term, Terms, Theory, Value, Want};
 
 /// The value of the sort that is this number.
-pub(crate) fn value<T: Theory>(sort: Sort, number: u32) -> Option<Value<T::Num>>
+fn value<T: Theory>(sort: Sort, number: u32) -> Option<Value<T::Num>>
     ensures valid { IfSome result (λ v. valid (val_of T.denotes v) ≡ true) }
     ensures sort { IfSome result (λ v. sort_of_value (val_of T.denotes v) ≡ sort) }
 {
@@ -25,33 +22,49 @@ pub(crate) fn value<T: Theory>(sort: Sort, number: u32) -> Option<Value<T::Num>>
 }
 
 /// The values of the three variables.
-fn values<T: Theory>(sort: Sort, round: u32) -> Option<[Value<T::Num>; 3]>
-    ensures valid { IfSome result (λ vs. AreValid T.denotes vs) }
-    ensures sorts { IfSome result (λ vs. map sort_of_value (vals_of T.denotes vs) ≡ sort ∷ sort ∷ sort ∷ []) }
+fn values<T: Theory>(
+    alloc: Global,
+    sort: Sort,
+    round: u32,
+) -> Result<Option<Vec<Value<T::Num>>>, Want>
+    ensures valid { IfOk result (λ found. IfSome found (λ vs. AreValid T.denotes vs.items)) }
+    ensures sorts { IfOk result (λ found. IfSome found (λ vs. map sort_of_value (vals_of T.denotes vs.items) ≡ sort ∷ sort ∷ sort ∷ [])) }
 {
-    let first = value::<T>(sort, round)?;
-    let second = value::<T>(sort, round / 3)?;
-    let third = value::<T>(sort, round ^ 21)?;
-    Some([first, second, third])
+    let Some(first) = value::<T>(sort, round) else {
+        return Ok(None);
+    };
+    let Some(second) = value::<T>(sort, round / 3) else {
+        return Ok(None);
+    };
+    let Some(third) = value::<T>(sort, round ^ 21) else {
+        return Ok(None);
+    };
+    let mut all = Vec::with_capacity(alloc, 3)?;
+    all.push(first)?;
+    all.push(second)?;
+    all.push(third)?;
+    Ok(Some(all))
 }
 
-/// The sum of the term's values at so many assignments; `None` where the sort has no such values.
+/// The sum of the term's values at so many assignments; `None` where it doesn't fit three variables of the sort.
 fn sum_of_values<T: Theory>(
     alloc: Global,
     sort: Sort,
-    defs: &Defs<T>,
     term: &Term<T>,
     rounds: u32,
-) -> Result<Option<i128>, Want>
-    requires definitions { DefinitionsFit T.owned T.denotes defs.now }
-    requires fits { (found : Sort) × (sort_in (scope_of T.owned defs.now) (sort ∷ sort ∷ sort ∷ []) (expr_of T.denotes term.now) ≡ Some found) }
-{
+) -> Result<Option<i128>, Want> {
+    let defs: Defs<T> = Seq::new(alloc);
+    let wanted: Seq<Signature> = Seq::new(alloc);
+    let sorts = [sort, sort, sort];
+    let Some(_) = term_sort(alloc, defs.as_slice(), wanted.as_slice(), &sorts, term)? else {
+        return Ok(None);
+    };
     let mut total = 0i128;
     for round in 0..rounds {
-        let Some(values) = values::<T>(sort, round) else {
+        let Some(values) = values::<T>(alloc, sort, round)? else {
             return Ok(None);
         };
-        match evaluate(alloc, defs, &values, term) {
+        match evaluate(alloc, &defs, values.as_slice(), term) {
             Ok(Value::Num(number)) => total = total.wrapping_add(T::number(number)),
             Ok(Value::Truth(_)) => (),
             Err(Eval::Range) => (),
@@ -59,23 +72,6 @@ fn sum_of_values<T: Theory>(
         }
     }
     Ok(Some(total))
-}
-
-/// The same; `None` also where the term doesn't fit three variables of the sort.
-fn sum_of_term<T: Theory>(
-    alloc: Global,
-    sort: Sort,
-    defs: &Defs<T>,
-    term: &Term<T>,
-    rounds: u32,
-) -> Result<Option<i128>, Want>
-    requires definitions { DefinitionsFit T.owned T.denotes defs.now }
-{
-    let sorts = [sort, sort, sort];
-    let Some(_) = term_sort(alloc, defs.as_slice(), &[], &sorts, term)? else {
-        return Ok(None);
-    };
-    sum_of_values(alloc, sort, defs, term, rounds)
 }
 
 /// The number of nodes, and the sum of the term's values.
@@ -90,8 +86,7 @@ fn measured<T: Theory>(
     let Some(term) = terms.get(0) else {
         return Ok(None);
     };
-    let defs = Seq::new(alloc);
-    match sum_of_term(alloc, kit.sort, &defs, term, rounds) {
+    match sum_of_values(alloc, kit.sort, term, rounds) {
         Ok(Some(total)) => Ok(Some((term.size(u64::MAX), total))),
         Ok(None) => Ok(None),
         Err(want) => Err(want),

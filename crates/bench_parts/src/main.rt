@@ -9,7 +9,6 @@ mod dimacs;
 mod evaluate;
 mod lists;
 mod random;
-mod rules;
 mod scan;
 mod simplex;
 mod terms;
