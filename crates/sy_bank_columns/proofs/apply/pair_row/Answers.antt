@@ -1,5 +1,6 @@
 use Rattle.std.proofs.Common.{◌≡◌, ◌∙◌, ◌++◌, ap, arith, length, sym}
 use Rattle.std.proofs.Math.Seq.{take-append_seam}
+use Rattle.std.proofs.lemmas.Result.{IfOk-from_err}
 use Rattle.sy_terms.specs.Denoted.{vals_of}
 use Rattle.sy_terms.specs.Pairs.{IsFirstUnfit}
 use Rattle.sy_bank_columns.specs.declared.ends.RowEnd.TheVariants.{Want}
@@ -37,3 +38,9 @@ pub returns-in-Some-clause-lost : goal.returns-in-Some-clause-lost
 returns-in-Some-clause-lost g c =
     let same : c.as_mut_slice.result.now ≡ c.args.first.now = c.as_mut_slice.ensures.value ∙ c.in_ok-extend_from_slice.ensures.items ∙ ap (λ front. front ++ c.args.first.now) c.in_ok-found.ensures.items in
     loss-at c.lost_at.result c.in-Some.place (IsFirstUnfit c.args.operator.now (vals_of g.T.Theory.denotes c.args.first.now) (vals_of g.T.Theory.denotes c.args.second.now)) c.lost_at.ensures (rw same at c.in-Some.ensures)
+
+pub returns-in_err-found-clause-ok : goal.returns-in_err-found-clause-ok
+returns-in_err-found-clause-ok g c = IfOk-from_err c.from_residual.result _ c.from_residual.ensures.0
+
+pub returns-in_err-extend_from_slice-clause-ok : goal.returns-in_err-extend_from_slice-clause-ok
+returns-in_err-extend_from_slice-clause-ok g c = IfOk-from_err c.from_residual-in_err-extend_from_slice.result _ c.from_residual-in_err-extend_from_slice.ensures.0

@@ -1,5 +1,6 @@
 use Rattle.std.proofs.Common.{◌≤◌, ◌∙◌, [], ◌∷◌, ap, sym, arith, length, map, subst, refl}
 use Rattle.std.proofs.lemmas.List.{length-map, take_all}
+use Rattle.std.proofs.lemmas.Result.{IfOk-from_err}
 use Rattle.sy_terms.specs.Expr.{Apply}
 use Rattle.sy_terms.specs.Denoted.{val_of, vals_of}
 use Rattle.sy_terms.specs.Meaning.{functions}
@@ -508,3 +509,33 @@ part_rows-returns-clause-ok g t c =
     let ts = terms (chosen_of number c.args.chosen.now) in
     let all = take_all c.loop-part.part-index c.as_slice-part-items.result.now c.loop-part-test.false ∙ c.as_slice-part-items.ensures in
     subst (λ items. HaveRows scope defined points (all_filled (patterns_of number items) ts) (map (λ row. vals_of number (row_values row)) c.loop-part.rows.items)) all c.loop-part.invariant.rows
+
+pub part_row-returns-in_err-row-in-Ok-clause-ok : goal.part_row-returns-in_err-row-in-Ok-clause-ok
+part_row-returns-in_err-row-in-Ok-clause-ok g t c = IfOk-from_err c.from_residual-in_err-row-in-Ok.result _ c.from_residual-in_err-row-in-Ok.ensures.0
+
+pub part_row-returns-in_err-row-in-Ok-part_rows-clause-ok : goal.part_row-returns-in_err-row-in-Ok-part_rows-clause-ok
+part_row-returns-in_err-row-in-Ok-part_rows-clause-ok g t c = IfOk-from_err c.from_residual-in_err-row-in-Ok-part_rows.result _ c.from_residual-in_err-row-in-Ok-part_rows.ensures.0
+
+pub part_row-returns-in_err-row-in-len2-clause-ok : goal.part_row-returns-in_err-row-in-len2-clause-ok
+part_row-returns-in_err-row-in-len2-clause-ok g t c = IfOk-from_err c.from_residual-in_err-row-in-len2.result _ c.from_residual-in_err-row-in-len2.ensures.0
+
+pub part_pair-returns-in_err-left-clause-ok : goal.part_pair-returns-in_err-left-clause-ok
+part_pair-returns-in_err-left-clause-ok g t c = IfOk-from_err c.from_residual.result _ c.from_residual.ensures.0
+
+pub part_pair-returns-in_err-right-clause-ok : goal.part_pair-returns-in_err-right-clause-ok
+part_pair-returns-in_err-right-clause-ok g t c = IfOk-from_err c.from_residual-in_err-right.result _ c.from_residual-in_err-right.ensures.0
+
+pub part_pair-returns-in_err-row-clause-ok : goal.part_pair-returns-in_err-row-clause-ok
+part_pair-returns-in_err-row-clause-ok g t c = IfOk-from_err c.from_residual-in_err-row.result _ c.from_residual-in_err-row.ensures.0
+
+pub part_row-returns-in_err-row-in-Const-clause-ok : goal.part_row-returns-in_err-row-in-Const-clause-ok
+part_row-returns-in_err-row-in-Const-clause-ok g t c = IfOk-from_err c.from_residual.result _ c.from_residual.ensures.0
+
+pub part_row-returns-in_err-row-in-Var-clause-ok : goal.part_row-returns-in_err-row-in-Var-clause-ok
+part_row-returns-in_err-row-in-Var-clause-ok g t c = IfOk-from_err c.from_residual-in_err-row-in-Var.result _ c.from_residual-in_err-row-in-Var.ensures.0
+
+pub part_rows-returns-in_err-rows-clause-ok : goal.part_rows-returns-in_err-rows-clause-ok
+part_rows-returns-in_err-rows-clause-ok g t c = IfOk-from_err c.from_residual.result _ c.from_residual.ensures.0
+
+pub part_rows-returns-in_err-push-in-Ok-clause-ok : goal.part_rows-returns-in_err-push-in-Ok-clause-ok
+part_rows-returns-in_err-push-in-Ok-clause-ok g t c = IfOk-from_err c.from_residual-in_err-push-in-Ok.result _ c.from_residual-in_err-push-in-Ok.ensures.0
