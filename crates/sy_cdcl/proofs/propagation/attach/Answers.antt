@@ -1,5 +1,6 @@
 use Rattle.std.proofs.Common.{Bool, ◌+◌, arith, subst}
 use Rattle.std.specs.Prelude.{MatchBool}
+use Rattle.std.proofs.lemmas.Result.{IfOk-from_err}
 use Rattle.sy_clauses.specs.Clauses.{literals}
 use Rattle.sy_cdcl.specs.Storing.{clauses_in}
 use Rattle.sy_clauses.specs.New.{IsFalse}
@@ -68,3 +69,12 @@ returns-clause-ready c = c.loop-number.invariant.ready
 
 pub returns-clause-extends : goal.returns-clause-extends
 returns-clause-extends c = c.loop-number.invariant.extends
+
+pub returns-in_err-attach_clause-clause-ready : goal.returns-in_err-attach_clause-clause-ready
+returns-in_err-attach_clause-clause-ready c = IfOk-from_err c.from_residual.result _ c.from_residual.ensures.0
+
+pub returns-in_err-attach_clause-clause-extends : goal.returns-in_err-attach_clause-clause-extends
+returns-in_err-attach_clause-clause-extends c = IfOk-from_err c.from_residual.result _ c.from_residual.ensures.0
+
+pub returns-in_err-attach_clause-clause-ends : goal.returns-in_err-attach_clause-clause-ends
+returns-in_err-attach_clause-clause-ends c = IfOk-from_err c.from_residual.result _ c.from_residual.ensures.0

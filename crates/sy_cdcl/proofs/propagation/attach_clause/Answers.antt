@@ -1,5 +1,6 @@
 use Rattle.std.proofs.Common.{Bool, subst}
 use Rattle.std.specs.Prelude.{MatchBool}
+use Rattle.std.proofs.lemmas.Result.{IfOk-from_err}
 use Rattle.sy_clauses.specs.Clauses.{literals}
 use Rattle.sy_cdcl.specs.Storing.{clauses_in}
 use Rattle.sy_clauses.specs.New.{HasTrue, IsFalse}
@@ -53,3 +54,21 @@ pub returns-then-not-branch-clause-ends : goal.returns-then-not-branch-clause-en
 returns-then-not-branch-clause-ends c =
     subst (λ (b : Bool). MatchBool b (HasTrue (kept_values c.settle.new.trail.values.items) (literals c.args.clause.now))
     (IsFalse (kept_values c.settle.new.trail.values.items) (literals c.args.clause.now))) c.if-not-branch.true c.in_ok-settle.ensures.ends
+
+pub returns-in_err-settle-clause-ready : goal.returns-in_err-settle-clause-ready
+returns-in_err-settle-clause-ready c = IfOk-from_err c.from_residual-in_err-settle.result _ c.from_residual-in_err-settle.ensures.0
+
+pub returns-in_err-settle-clause-extends : goal.returns-in_err-settle-clause-extends
+returns-in_err-settle-clause-extends c = IfOk-from_err c.from_residual-in_err-settle.result _ c.from_residual-in_err-settle.ensures.0
+
+pub returns-in_err-settle-clause-ends : goal.returns-in_err-settle-clause-ends
+returns-in_err-settle-clause-ends c = IfOk-from_err c.from_residual-in_err-settle.result _ c.from_residual-in_err-settle.ensures.0
+
+pub returns-in_err-skip-clause-ready : goal.returns-in_err-skip-clause-ready
+returns-in_err-skip-clause-ready c = IfOk-from_err c.from_residual-in_err-skip.result _ c.from_residual-in_err-skip.ensures.0
+
+pub returns-in_err-skip-clause-extends : goal.returns-in_err-skip-clause-extends
+returns-in_err-skip-clause-extends c = IfOk-from_err c.from_residual-in_err-skip.result _ c.from_residual-in_err-skip.ensures.0
+
+pub returns-in_err-skip-clause-ends : goal.returns-in_err-skip-clause-ends
+returns-in_err-skip-clause-ends c = IfOk-from_err c.from_residual-in_err-skip.result _ c.from_residual-in_err-skip.ensures.0

@@ -1,5 +1,6 @@
 use Rattle.std.proofs.Common.{◌≡◌, ◌+◌, ◌<◌, ℕ, arith, refl, subst, Option, length}
 use Rattle.std.specs.Prelude.{MatchOption}
+use Rattle.std.proofs.lemmas.Result.{IfOk-from_err}
 use Rattle.sy_cdcl.specs.Storing.{clauses_in}
 use Rattle.sy_cdcl.specs.Trails.{kept_values}
 use Rattle.sy_cdcl.specs.Status.{IsConflict}
@@ -39,3 +40,15 @@ returns-clause-ends c =
     let within = i.watching.head in
     let whole : c.loop-watches.watches.head ≡ length c.loop-watches.trail.entries.items = omega (arith, c.loop-watches.trail.entries.ok.0) in
     (whole, all_settled known c.loop-watches.trail c.loop-watches.watches i.ready i.watching whole)
+
+pub returns-in_err-number-clause-ready : goal.returns-in_err-number-clause-ready
+returns-in_err-number-clause-ready c = IfOk-from_err c.from_residual.result _ c.from_residual.ensures.0
+
+pub returns-in_err-number-clause-extends : goal.returns-in_err-number-clause-extends
+returns-in_err-number-clause-extends c = IfOk-from_err c.from_residual.result _ c.from_residual.ensures.0
+
+pub returns-in_err-number-clause-watching : goal.returns-in_err-number-clause-watching
+returns-in_err-number-clause-watching c = IfOk-from_err c.from_residual.result _ c.from_residual.ensures.0
+
+pub returns-in_err-number-clause-ends : goal.returns-in_err-number-clause-ends
+returns-in_err-number-clause-ends c = IfOk-from_err c.from_residual.result _ c.from_residual.ensures.0

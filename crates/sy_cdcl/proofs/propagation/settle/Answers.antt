@@ -1,4 +1,5 @@
 use Rattle.std.proofs.Common.{Some}
+use Rattle.std.proofs.lemmas.Result.{IfOk-from_err}
 use Rattle.sy_clauses.specs.Clauses.{literals}
 use Rattle.sy_cdcl.specs.Trails.{kept_values}
 use Rattle.sy_cdcl.proofs.Inspect.{only_unit}
@@ -27,3 +28,12 @@ returns-in-False-clause-extends c = extends_refl c.args.trail.now
 
 pub returns-in-True-clause-extends : goal.returns-in-True-clause-extends
 returns-in-True-clause-extends c = extends_refl c.args.trail.now
+
+pub returns-in_err-force-in-Open-clause-ready : goal.returns-in_err-force-in-Open-clause-ready
+returns-in_err-force-in-Open-clause-ready c = IfOk-from_err c.from_residual.result _ c.from_residual.ensures.0
+
+pub returns-in_err-force-in-Open-clause-extends : goal.returns-in_err-force-in-Open-clause-extends
+returns-in_err-force-in-Open-clause-extends c = IfOk-from_err c.from_residual.result _ c.from_residual.ensures.0
+
+pub returns-in_err-force-in-Open-clause-ends : goal.returns-in_err-force-in-Open-clause-ends
+returns-in_err-force-in-Open-clause-ends c = IfOk-from_err c.from_residual.result _ c.from_residual.ensures.0

@@ -1,6 +1,7 @@
 use Rattle.std.proofs.Common.{◌≡◌, ◌∙◌, ◌+◌, ℕ, sym, subst, arith, Some, None}
 use Rattle.std.specs.Prelude.{slice_get}
 use Rattle.std.proofs.lemmas.Option.{slice_get_within}
+use Rattle.std.proofs.lemmas.Result.{IfOk-from_err}
 use Rattle.sy_cdcl.specs.Storing.{clauses_in}
 use Rattle.sy_cdcl.specs.Watching.{list_at, AllWatched}
 use Rattle.sy_cdcl.proofs.Listing.{list_within, list_of-lt}
@@ -96,3 +97,33 @@ returns-clause-ends c =
     let all = visiting_last (clauses_in c.args.store.now) c.args.trail.now c.loop-number.trail c.loop-number.watches
     c.args.watches.now.head c.list_index-list.result c.loop-number.place c.args.entry i none in
     subst (λ (h : ℕ). AllWatched (clauses_in c.args.store.now) c.loop-number.trail (h + 1) c.loop-number.watches.pairs.items) (sym i.unmoved) all
+
+pub returns-in_err-change-in-Move-clause-ready : goal.returns-in_err-change-in-Move-clause-ready
+returns-in_err-change-in-Move-clause-ready c = IfOk-from_err c.from_residual.result _ c.from_residual.ensures.0
+
+pub returns-in_err-change-in-Move-clause-extends : goal.returns-in_err-change-in-Move-clause-extends
+returns-in_err-change-in-Move-clause-extends c = IfOk-from_err c.from_residual.result _ c.from_residual.ensures.0
+
+pub returns-in_err-change-in-Move-clause-watching : goal.returns-in_err-change-in-Move-clause-watching
+returns-in_err-change-in-Move-clause-watching c = IfOk-from_err c.from_residual.result _ c.from_residual.ensures.0
+
+pub returns-in_err-change-in-Move-clause-head : goal.returns-in_err-change-in-Move-clause-head
+returns-in_err-change-in-Move-clause-head c = IfOk-from_err c.from_residual.result _ c.from_residual.ensures.0
+
+pub returns-in_err-change-in-Move-clause-ends : goal.returns-in_err-change-in-Move-clause-ends
+returns-in_err-change-in-Move-clause-ends c = IfOk-from_err c.from_residual.result _ c.from_residual.ensures.0
+
+pub returns-in_err-force-in-Force-clause-ready : goal.returns-in_err-force-in-Force-clause-ready
+returns-in_err-force-in-Force-clause-ready c = IfOk-from_err c.from_residual-in_err-force-in-Force.result _ c.from_residual-in_err-force-in-Force.ensures.0
+
+pub returns-in_err-force-in-Force-clause-extends : goal.returns-in_err-force-in-Force-clause-extends
+returns-in_err-force-in-Force-clause-extends c = IfOk-from_err c.from_residual-in_err-force-in-Force.result _ c.from_residual-in_err-force-in-Force.ensures.0
+
+pub returns-in_err-force-in-Force-clause-watching : goal.returns-in_err-force-in-Force-clause-watching
+returns-in_err-force-in-Force-clause-watching c = IfOk-from_err c.from_residual-in_err-force-in-Force.result _ c.from_residual-in_err-force-in-Force.ensures.0
+
+pub returns-in_err-force-in-Force-clause-head : goal.returns-in_err-force-in-Force-clause-head
+returns-in_err-force-in-Force-clause-head c = IfOk-from_err c.from_residual-in_err-force-in-Force.result _ c.from_residual-in_err-force-in-Force.ensures.0
+
+pub returns-in_err-force-in-Force-clause-ends : goal.returns-in_err-force-in-Force-clause-ends
+returns-in_err-force-in-Force-clause-ends c = IfOk-from_err c.from_residual-in_err-force-in-Force.result _ c.from_residual-in_err-force-in-Force.ensures.0

@@ -1,5 +1,6 @@
 use Rattle.std.proofs.Common.{◌≡◌, ◌∙◌, ℕ, ◌+◌, ◌-◌, ◌<◌, List, sym, ap, subst, arith, Some, not, true}
 use Rattle.std.specs.Prelude.{slice_get}
+use Rattle.std.proofs.lemmas.Result.{IfOk-from_err}
 use Rattle.sy_clauses.specs.declared.Step.{Step}
 use Rattle.sy_clauses.specs.Clauses.{Clause, known_clauses, line_clause, after_step, resolved, literals}
 use Rattle.sy_clauses.specs.Marking.{clause_of}
@@ -162,3 +163,33 @@ returns-clause-short c =
     let known = known_clauses c.args.cnf.now.clauses c.args.derived.now in
     let zero : c.loop-top.top ≡ 0 = omega (arith, c.loop-top-test.false) in
     subst (λ (n : ℕ). IsShort known t.entries.items n (level_start t.starts.items) (clause_of c.loop-top.marks)) zero c.loop-top.invariant.short
+
+pub returns-in_err-advance-clause-line : goal.returns-in_err-advance-clause-line
+returns-in_err-advance-clause-line c = IfOk-from_err c.from_residual.result _ c.from_residual.ensures.0
+
+pub returns-in_err-advance-clause-unit : goal.returns-in_err-advance-clause-unit
+returns-in_err-advance-clause-unit c = IfOk-from_err c.from_residual.result _ c.from_residual.ensures.0
+
+pub returns-in_err-advance-clause-within : goal.returns-in_err-advance-clause-within
+returns-in_err-advance-clause-within c = IfOk-from_err c.from_residual.result _ c.from_residual.ensures.0
+
+pub returns-in_err-advance-clause-short : goal.returns-in_err-advance-clause-short
+returns-in_err-advance-clause-short c = IfOk-from_err c.from_residual.result _ c.from_residual.ensures.0
+
+pub returns-in_err-advance-clause-listed : goal.returns-in_err-advance-clause-listed
+returns-in_err-advance-clause-listed c = IfOk-from_err c.from_residual.result _ c.from_residual.ensures.0
+
+pub returns-in_err-push-clause-line : goal.returns-in_err-push-clause-line
+returns-in_err-push-clause-line c = IfOk-from_err c.from_residual-in_err-push.result _ c.from_residual-in_err-push.ensures.0
+
+pub returns-in_err-push-clause-unit : goal.returns-in_err-push-clause-unit
+returns-in_err-push-clause-unit c = IfOk-from_err c.from_residual-in_err-push.result _ c.from_residual-in_err-push.ensures.0
+
+pub returns-in_err-push-clause-within : goal.returns-in_err-push-clause-within
+returns-in_err-push-clause-within c = IfOk-from_err c.from_residual-in_err-push.result _ c.from_residual-in_err-push.ensures.0
+
+pub returns-in_err-push-clause-short : goal.returns-in_err-push-clause-short
+returns-in_err-push-clause-short c = IfOk-from_err c.from_residual-in_err-push.result _ c.from_residual-in_err-push.ensures.0
+
+pub returns-in_err-push-clause-listed : goal.returns-in_err-push-clause-listed
+returns-in_err-push-clause-listed c = IfOk-from_err c.from_residual-in_err-push.result _ c.from_residual-in_err-push.ensures.0

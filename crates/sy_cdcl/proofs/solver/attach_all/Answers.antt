@@ -1,5 +1,6 @@
 use Rattle.std.proofs.Common.{List, ◌∙◌, ap, sym, subst, length, vec_len}
 use Rattle.std.proofs.lemmas.List.{length-map}
+use Rattle.std.proofs.lemmas.Result.{IfOk-from_err}
 use Rattle.sy_clauses.specs.Clauses.{Clause, literals}
 use Rattle.sy_cdcl.specs.Trails.{VarsBelow}
 use Rattle.sy_cdcl.proofs.Ends.{attach_vars, option_map_facts}
@@ -24,3 +25,6 @@ returns-clause-ends c =
     (sound_first c.args.cnf.now s c.attach.new.trail c.attach.new.watches c.requires.fresh c.requires.vars e.ready e.extends)
     (λ n k. stuck_first c.args.cnf.now s c.attach.new.trail c.attach.new.watches n c.requires.fresh e.ready e.extends k)
     e.ends
+
+pub returns-in_err-conflict-clause-ends : goal.returns-in_err-conflict-clause-ends
+returns-in_err-conflict-clause-ends c = IfOk-from_err c.from_residual.result _ c.from_residual.ensures.0

@@ -1,5 +1,6 @@
 use Rattle.std.proofs.Common.{◌≡◌, List, Option, ℕ, sym, subst, vec_len}
 use Rattle.std.specs.Prelude.{MatchOption}
+use Rattle.std.proofs.lemmas.Result.{IfOk-from_err}
 use Rattle.sy_clauses.specs.Clauses.{Clause}
 use Rattle.sy_clauses.specs.New.{AllSettled}
 use Rattle.sy_cdcl.specs.Trails.{VarsBelow, TrailIsReady, LevelsSettled, AllValued, kept_values}
@@ -37,3 +38,9 @@ returns-clause-ends c =
     subst (λ (ks : List Clause). MatchOption c.in_ok-conflict.conflict
     (AllSettled (kept_values t.values.items) ks × AllValued c.args.cnf.now.vars t)
     (λ number. IsConflict ks (kept_values t.values.items) number)) c.requires.sound.stored c.in_ok-conflict.ensures.ends
+
+pub returns-in_err-conflict-clause-sound : goal.returns-in_err-conflict-clause-sound
+returns-in_err-conflict-clause-sound c = IfOk-from_err c.from_residual.result _ c.from_residual.ensures.0
+
+pub returns-in_err-conflict-clause-ends : goal.returns-in_err-conflict-clause-ends
+returns-in_err-conflict-clause-ends c = IfOk-from_err c.from_residual.result _ c.from_residual.ensures.0

@@ -1,5 +1,6 @@
 use Rattle.std.proofs.Common.{◌∙◌, ap, subst, Option, ℕ, length, arith}
 use Rattle.std.specs.Prelude.{MatchOption}
+use Rattle.std.proofs.lemmas.Result.{IfOk-from_err}
 use Rattle.sy_cdcl.specs.States.{StateIsSound, IsFinalConflict}
 use Rattle.sy_cdcl.proofs.Courses.{end_idle, end_spent}
 use Rattle.sy_cdcl.proofs.solver.learn.Goals as goal
@@ -23,3 +24,12 @@ returns c =
     let test = c.loop-learned-test.false in
     let end = c.loop-learned.auto.learned-end in
     end_spent c.args.cnf.now c.loop-learned.state c.args.fuel i.sound (omega arith)
+
+pub returns-in_err-conflict : goal.returns-in_err-conflict
+returns-in_err-conflict c = IfOk-from_err c.from_residual.result _ c.from_residual.ensures.0
+
+pub returns-in_err-found : goal.returns-in_err-found
+returns-in_err-found c = IfOk-from_err c.from_residual-in_err-found.result _ c.from_residual-in_err-found.ensures.0
+
+pub returns-in_err-more : goal.returns-in_err-more
+returns-in_err-more c = IfOk-from_err c.from_residual-in_err-more.result _ c.from_residual-in_err-more.ensures.0

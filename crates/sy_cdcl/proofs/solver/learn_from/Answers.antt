@@ -1,4 +1,5 @@
 use Rattle.std.proofs.Common.{◌≡◌, ◌∙◌, ap, subst, sym, arith, List, Option, ℕ, Bool, true, ◌<◌, ◌++◌, ◌∷◌, [], length, length-append, map, Some, None}
+use Rattle.std.proofs.lemmas.Result.{IfOk-from_err}
 use Rattle.sy_clauses.specs.declared.Lit.{Lit}
 use Rattle.sy_clauses.specs.declared.Line.{Line}
 use Rattle.sy_clauses.specs.Clauses.{Clause, known_clauses, literals, all_clauses, line_clause, Refutes}
@@ -67,3 +68,27 @@ returns-clause-ends c =
           (each_new_more (length cnf.clauses) known clause i.fresh new);
       count = omega (arith, wide, count, long);
     }
+
+pub returns-in_err-taught-clause-lines : goal.returns-in_err-taught-clause-lines
+returns-in_err-taught-clause-lines c = IfOk-from_err c.from_residual.result _ c.from_residual.ensures.0
+
+pub returns-in_err-taught-clause-ends : goal.returns-in_err-taught-clause-ends
+returns-in_err-taught-clause-ends c = IfOk-from_err c.from_residual.result _ c.from_residual.ensures.0
+
+pub returns-in_err-clause-clause-lines : goal.returns-in_err-clause-clause-lines
+returns-in_err-clause-clause-lines c = IfOk-from_err c.from_residual-in_err-clause.result _ c.from_residual-in_err-clause.ensures.0
+
+pub returns-in_err-clause-clause-ends : goal.returns-in_err-clause-clause-ends
+returns-in_err-clause-clause-ends c = IfOk-from_err c.from_residual-in_err-clause.result _ c.from_residual-in_err-clause.ensures.0
+
+pub returns-in_err-push-2-clause-lines : goal.returns-in_err-push-2-clause-lines
+returns-in_err-push-2-clause-lines c = IfOk-from_err c.from_residual-in_err-push-2.result _ c.from_residual-in_err-push-2.ensures.0
+
+pub returns-in_err-push-2-clause-ends : goal.returns-in_err-push-2-clause-ends
+returns-in_err-push-2-clause-ends c = IfOk-from_err c.from_residual-in_err-push-2.result _ c.from_residual-in_err-push-2.ensures.0
+
+pub returns-in_err-keep-clause-lines : goal.returns-in_err-keep-clause-lines
+returns-in_err-keep-clause-lines c = IfOk-from_err c.from_residual-in_err-keep.result _ c.from_residual-in_err-keep.ensures.0
+
+pub returns-in_err-keep-clause-ends : goal.returns-in_err-keep-clause-ends
+returns-in_err-keep-clause-ends c = IfOk-from_err c.from_residual-in_err-keep.result _ c.from_residual-in_err-keep.ensures.0

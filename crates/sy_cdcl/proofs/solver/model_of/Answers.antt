@@ -1,6 +1,7 @@
 use Rattle.std.proofs.Common.{◌∙◌, ap, subst, sym, arith, List, Bool, length}
 use Rattle.std.specs.Prelude.{slice_index_or, false}
 use Rattle.std.proofs.lemmas.List.{length-map}
+use Rattle.std.proofs.lemmas.Result.{IfOk-from_err}
 use Rattle.sy_clauses.specs.Clauses.{IsModel}
 use Rattle.sy_cdcl.specs.Answer.{or_false}
 use Rattle.sy_cdcl.proofs.Ends.{model_of}
@@ -19,3 +20,6 @@ returns c =
       model = subst (λ (vs : List Bool). IsModel (λ v. slice_index_or vs v false) cnf.clauses) (sym made)
           (model_of cnf.vars s.trail.values.items cnf.clauses s.derived.items c.requires.sound.vars c.requires.settled c.requires.valued);
     }
+
+pub returns-in_err-values : goal.returns-in_err-values
+returns-in_err-values c = IfOk-from_err c.from_residual.result _ c.from_residual.ensures.0

@@ -1,4 +1,5 @@
 use Rattle.std.proofs.Common.{◌≡◌, subst, sym, List, Some}
+use Rattle.std.proofs.lemmas.Result.{IfOk-from_err}
 use Rattle.sy_clauses.specs.declared.Lit.{Lit}
 use Rattle.sy_clauses.specs.declared.Line.{Line}
 use Rattle.sy_clauses.specs.Clauses.{known_clauses, line_clause, Refutes}
@@ -19,3 +20,15 @@ returns-clause-refutes c =
     subst (λ (ls : List Line). Refutes cnf record { lines = ls }) (sym c.in_ok-push.ensures.ok)
     (refutes_more cnf s.lines c.in_ok-taught.taught.line known clause (numbered_first cnf s.lines s.derived.items c.requires.none i.derived) line
     (learned_empty s.trail clause c.in_ok-taught.taught.last i.lowest c.in_ok-taught.ensures.learned))
+
+pub returns-in_err-taught-clause-refutes : goal.returns-in_err-taught-clause-refutes
+returns-in_err-taught-clause-refutes c = IfOk-from_err c.from_residual.result _ c.from_residual.ensures.0
+
+pub returns-in_err-taught-clause-one : goal.returns-in_err-taught-clause-one
+returns-in_err-taught-clause-one c = IfOk-from_err c.from_residual.result _ c.from_residual.ensures.0
+
+pub returns-in_err-push-clause-refutes : goal.returns-in_err-push-clause-refutes
+returns-in_err-push-clause-refutes c = IfOk-from_err c.from_residual-in_err-push.result _ c.from_residual-in_err-push.ensures.0
+
+pub returns-in_err-push-clause-one : goal.returns-in_err-push-clause-one
+returns-in_err-push-clause-one c = IfOk-from_err c.from_residual-in_err-push.result _ c.from_residual-in_err-push.ensures.0

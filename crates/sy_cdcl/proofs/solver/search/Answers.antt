@@ -1,5 +1,6 @@
 use Rattle.std.proofs.Common.{◌≡◌, ◌∙◌, ℕ, Option, sym, subst, length}
 use Rattle.std.specs.Prelude.{MatchOption}
+use Rattle.std.proofs.lemmas.Result.{IfOk-from_err}
 use Rattle.sy_cdcl.specs.Storing.{clauses_in}
 use Rattle.sy_clauses.specs.New.{AllSettled}
 use Rattle.sy_cdcl.specs.Trails.{VarsBelow, kept_values}
@@ -43,3 +44,33 @@ loop-conflict-preserved c =
       all = e.vars ∙ c.in_ok-conflict.ensures.extends.vars ∙ c.loop-conflict.invariant.all;
       watching = watching_decided known t c.decide.new.trail w _ c.in_ok-conflict.ensures.watching quiet.0 e.entries e.starts e.vars;
     }
+
+pub returns-in_err-conflict-clause-ready : goal.returns-in_err-conflict-clause-ready
+returns-in_err-conflict-clause-ready c = IfOk-from_err c.from_residual.result _ c.from_residual.ensures.0
+
+pub returns-in_err-conflict-clause-levels : goal.returns-in_err-conflict-clause-levels
+returns-in_err-conflict-clause-levels c = IfOk-from_err c.from_residual.result _ c.from_residual.ensures.0
+
+pub returns-in_err-conflict-clause-all : goal.returns-in_err-conflict-clause-all
+returns-in_err-conflict-clause-all c = IfOk-from_err c.from_residual.result _ c.from_residual.ensures.0
+
+pub returns-in_err-conflict-clause-watching : goal.returns-in_err-conflict-clause-watching
+returns-in_err-conflict-clause-watching c = IfOk-from_err c.from_residual.result _ c.from_residual.ensures.0
+
+pub returns-in_err-conflict-clause-ends : goal.returns-in_err-conflict-clause-ends
+returns-in_err-conflict-clause-ends c = IfOk-from_err c.from_residual.result _ c.from_residual.ensures.0
+
+pub returns-in_err-decide-clause-ready : goal.returns-in_err-decide-clause-ready
+returns-in_err-decide-clause-ready c = IfOk-from_err c.from_residual-in_err-decide.result _ c.from_residual-in_err-decide.ensures.0
+
+pub returns-in_err-decide-clause-levels : goal.returns-in_err-decide-clause-levels
+returns-in_err-decide-clause-levels c = IfOk-from_err c.from_residual-in_err-decide.result _ c.from_residual-in_err-decide.ensures.0
+
+pub returns-in_err-decide-clause-all : goal.returns-in_err-decide-clause-all
+returns-in_err-decide-clause-all c = IfOk-from_err c.from_residual-in_err-decide.result _ c.from_residual-in_err-decide.ensures.0
+
+pub returns-in_err-decide-clause-watching : goal.returns-in_err-decide-clause-watching
+returns-in_err-decide-clause-watching c = IfOk-from_err c.from_residual-in_err-decide.result _ c.from_residual-in_err-decide.ensures.0
+
+pub returns-in_err-decide-clause-ends : goal.returns-in_err-decide-clause-ends
+returns-in_err-decide-clause-ends c = IfOk-from_err c.from_residual-in_err-decide.result _ c.from_residual-in_err-decide.ensures.0

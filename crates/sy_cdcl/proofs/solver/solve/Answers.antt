@@ -1,4 +1,5 @@
 use Rattle.std.proofs.Common.{subst}
+use Rattle.std.proofs.lemmas.Result.{IfOk-from_err}
 use Rattle.sy_cdcl.specs.declared.solver.End.{End}
 use Rattle.sy_cdcl.specs.Answer.{IsRunEnd}
 use Rattle.sy_cdcl.proofs.solver.solve.Goals as goal
@@ -16,3 +17,15 @@ pub returns-in-Spent-clause-answer : goal.returns-in-Spent-clause-answer
 returns-in-Spent-clause-answer c =
     let i = subst (λ (e : End). IsRunEnd c.args.cnf.now c.args.fuel record { lines = c.learn.new.state.lines } e) c.in-Spent.is c.in_ok-end.ensures in
     rw c.log_of-log.ensures (i.0, i.1)
+
+pub returns-in_err-state-clause-answer : goal.returns-in_err-state-clause-answer
+returns-in_err-state-clause-answer c = IfOk-from_err c.from_residual.result _ c.from_residual.ensures.0
+
+pub returns-in_err-state-clause-enough : goal.returns-in_err-state-clause-enough
+returns-in_err-state-clause-enough c = IfOk-from_err c.from_residual.result _ c.from_residual.ensures.0
+
+pub returns-in_err-end-clause-answer : goal.returns-in_err-end-clause-answer
+returns-in_err-end-clause-answer c = IfOk-from_err c.from_residual-in_err-end.result _ c.from_residual-in_err-end.ensures.0
+
+pub returns-in_err-end-clause-enough : goal.returns-in_err-end-clause-enough
+returns-in_err-end-clause-enough c = IfOk-from_err c.from_residual-in_err-end.result _ c.from_residual-in_err-end.ensures.0

@@ -1,5 +1,6 @@
 use Rattle.std.specs.Prelude.{◌≡◌, IfOk}
 use Rattle.std.proofs.Common.{ap, subst, ◌∙◌}
+use Rattle.std.proofs.lemmas.Result.{IfOk-from_err}
 use Rattle.sy_linear_known.specs.Sights.{told}
 use Rattle.sy_linear_known.proofs.Applied as applied
 use Rattle.sy_linear_known.proofs.application.value_of.Goals as goal
@@ -54,3 +55,9 @@ returns-in_ok-compared-in-Distinct c = subst (λ m. IfOk c.by_truths_or-in-Disti
 
 pub returns-in_default : goal.returns-in_default
 returns-in_default c = c.unfit.ensures ∙ applied.applied-unfit c.args.path.now c.args.operator.now c.args.sights.now c.in_default.not-And c.in_default.not-Or c.in_default.not-Not c.in_default.not-Xor c.in_default.not-Implies c.in_default.not-Equal c.in_default.not-Distinct c.in_default.not-Ite c.in_default.not-Neg c.in_default.not-Add c.in_default.not-Sub c.in_default.not-Mul c.in_default.not-Le c.in_default.not-Lt c.in_default.not-Ge c.in_default.not-Gt
+
+pub returns-in_err-compared-in-Equal : goal.returns-in_err-compared-in-Equal
+returns-in_err-compared-in-Equal c = IfOk-from_err c.from_residual.result _ c.from_residual.ensures.0
+
+pub returns-in_err-compared-in-Distinct : goal.returns-in_err-compared-in-Distinct
+returns-in_err-compared-in-Distinct c = IfOk-from_err c.from_residual-in_err-compared-in-Distinct.result _ c.from_residual-in_err-compared-in-Distinct.ensures.0

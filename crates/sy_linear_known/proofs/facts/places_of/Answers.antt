@@ -1,5 +1,6 @@
 use Rattle.std.specs.Prelude.{nat_eq}
 use Rattle.std.specs.HashMap.{get}
+use Rattle.std.proofs.lemmas.Result.{IfOk-from_err}
 use Rattle.sy_linear_known.proofs.Keying.{keyed-next, keyed-last}
 use Rattle.sy_linear_known.proofs.facts.places_of.Goals as goal
 
@@ -11,3 +12,6 @@ loop-fact-preserved c =
 
 pub returns : goal.returns
 returns c = keyed-last (get nat_eq c.loop-fact.places) c.args.facts.now c.loop-fact.fact-index c.loop-fact-test.false c.loop-fact.invariant
+
+pub returns-in_err-note : goal.returns-in_err-note
+returns-in_err-note c = IfOk-from_err c.from_residual.result _ c.from_residual.ensures.0

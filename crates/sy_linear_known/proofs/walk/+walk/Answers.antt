@@ -1,4 +1,5 @@
 use Rattle.std.proofs.Common.{◌≡◌, ◌+◌, ◌++◌, drop, arith, refl, sym, ap, ap₂, ◌∙◌}
+use Rattle.std.proofs.lemmas.Result.{IfOk-from_err}
 use Rattle.sy_terms.specs.Values.{Whole}
 use Rattle.sy_terms.specs.Expr.{nodes, nodes_of}
 use Rattle.sy_terms.specs.Denoted.{expr_of, exprs_of}
@@ -156,3 +157,75 @@ walk-returns-in-Ok-clause-fits t c = ap (λ s. sight_fits s.sight) c.after.ensur
 
 pub walk-returns-in-Call-clause-fits : goal.walk-returns-in-Call-clause-fits
 walk-returns-in-Call-clause-fits t c = ap (λ s. sight_fits s.sight) c.unfit.ensures
+
+pub walk-returns-in_err-seen-in-Var-clause-seen : goal.walk-returns-in_err-seen-in-Var-clause-seen
+walk-returns-in_err-seen-in-Var-clause-seen t c = IfOk-from_err c.from_residual.result _ c.from_residual.ensures.0
+
+pub walk-returns-in_err-seen-in-Var-clause-fits : goal.walk-returns-in_err-seen-in-Var-clause-fits
+walk-returns-in_err-seen-in-Var-clause-fits t c = IfOk-from_err c.from_residual.result _ c.from_residual.ensures.0
+
+pub walk-returns-in_err-seen-in-Var-clause-names : goal.walk-returns-in_err-seen-in-Var-clause-names
+walk-returns-in_err-seen-in-Var-clause-names t c = IfOk-from_err c.from_residual.result _ c.from_residual.ensures.0
+
+pub walk-returns-in_err-seen-in-Var-clause-next : goal.walk-returns-in_err-seen-in-Var-clause-next
+walk-returns-in_err-seen-in-Var-clause-next t c = IfOk-from_err c.from_residual.result _ c.from_residual.ensures.0
+
+pub walk-returns-in_err-below-in-App-clause-seen : goal.walk-returns-in_err-below-in-App-clause-seen
+walk-returns-in_err-below-in-App-clause-seen t c = IfOk-from_err c.from_residual-in_err-below-in-App.result _ c.from_residual-in_err-below-in-App.ensures.0
+
+pub walk-returns-in_err-below-in-App-clause-fits : goal.walk-returns-in_err-below-in-App-clause-fits
+walk-returns-in_err-below-in-App-clause-fits t c = IfOk-from_err c.from_residual-in_err-below-in-App.result _ c.from_residual-in_err-below-in-App.ensures.0
+
+pub walk-returns-in_err-below-in-App-clause-names : goal.walk-returns-in_err-below-in-App-clause-names
+walk-returns-in_err-below-in-App-clause-names t c = IfOk-from_err c.from_residual-in_err-below-in-App.result _ c.from_residual-in_err-below-in-App.ensures.0
+
+pub walk-returns-in_err-below-in-App-clause-next : goal.walk-returns-in_err-below-in-App-clause-next
+walk-returns-in_err-below-in-App-clause-next t c = IfOk-from_err c.from_residual-in_err-below-in-App.result _ c.from_residual-in_err-below-in-App.ensures.0
+
+pub walk-returns-in_err-seen-in-App-clause-seen : goal.walk-returns-in_err-seen-in-App-clause-seen
+walk-returns-in_err-seen-in-App-clause-seen t c = IfOk-from_err c.from_residual-in_err-seen-in-App.result _ c.from_residual-in_err-seen-in-App.ensures.0
+
+pub walk-returns-in_err-seen-in-App-clause-fits : goal.walk-returns-in_err-seen-in-App-clause-fits
+walk-returns-in_err-seen-in-App-clause-fits t c = IfOk-from_err c.from_residual-in_err-seen-in-App.result _ c.from_residual-in_err-seen-in-App.ensures.0
+
+pub walk-returns-in_err-seen-in-App-clause-names : goal.walk-returns-in_err-seen-in-App-clause-names
+walk-returns-in_err-seen-in-App-clause-names t c = IfOk-from_err c.from_residual-in_err-seen-in-App.result _ c.from_residual-in_err-seen-in-App.ensures.0
+
+pub walk-returns-in_err-seen-in-App-clause-next : goal.walk-returns-in_err-seen-in-App-clause-next
+walk-returns-in_err-seen-in-App-clause-next t c = IfOk-from_err c.from_residual-in_err-seen-in-App.result _ c.from_residual-in_err-seen-in-App.ensures.0
+
+pub walk-returns-in_err-below-in-Let-clause-seen : goal.walk-returns-in_err-below-in-Let-clause-seen
+walk-returns-in_err-below-in-Let-clause-seen t c = IfOk-from_err c.from_residual-in_err-below-in-Let.result _ c.from_residual-in_err-below-in-Let.ensures.0
+
+pub walk-returns-in_err-below-in-Let-clause-fits : goal.walk-returns-in_err-below-in-Let-clause-fits
+walk-returns-in_err-below-in-Let-clause-fits t c = IfOk-from_err c.from_residual-in_err-below-in-Let.result _ c.from_residual-in_err-below-in-Let.ensures.0
+
+pub walk-returns-in_err-below-in-Let-clause-names : goal.walk-returns-in_err-below-in-Let-clause-names
+walk-returns-in_err-below-in-Let-clause-names t c = IfOk-from_err c.from_residual-in_err-below-in-Let.result _ c.from_residual-in_err-below-in-Let.ensures.0
+
+pub walk-returns-in_err-below-in-Let-clause-next : goal.walk-returns-in_err-below-in-Let-clause-next
+walk-returns-in_err-below-in-Let-clause-next t c = IfOk-from_err c.from_residual-in_err-below-in-Let.result _ c.from_residual-in_err-below-in-Let.ensures.0
+
+pub walk-returns-in_err-found-in-Let-clause-seen : goal.walk-returns-in_err-found-in-Let-clause-seen
+walk-returns-in_err-found-in-Let-clause-seen t c = IfOk-from_err c.from_residual-in_err-found-in-Let.result _ c.from_residual-in_err-found-in-Let.ensures.0
+
+pub walk-returns-in_err-found-in-Let-clause-fits : goal.walk-returns-in_err-found-in-Let-clause-fits
+walk-returns-in_err-found-in-Let-clause-fits t c = IfOk-from_err c.from_residual-in_err-found-in-Let.result _ c.from_residual-in_err-found-in-Let.ensures.0
+
+pub walk-returns-in_err-found-in-Let-clause-names : goal.walk-returns-in_err-found-in-Let-clause-names
+walk-returns-in_err-found-in-Let-clause-names t c = IfOk-from_err c.from_residual-in_err-found-in-Let.result _ c.from_residual-in_err-found-in-Let.ensures.0
+
+pub walk-returns-in_err-found-in-Let-clause-next : goal.walk-returns-in_err-found-in-Let-clause-next
+walk-returns-in_err-found-in-Let-clause-next t c = IfOk-from_err c.from_residual-in_err-found-in-Let.result _ c.from_residual-in_err-found-in-Let.ensures.0
+
+pub walk_all-returns-in_err-found-in-Ok-clause-found : goal.walk_all-returns-in_err-found-in-Ok-clause-found
+walk_all-returns-in_err-found-in-Ok-clause-found t c = IfOk-from_err c.from_residual.result _ c.from_residual.ensures.0
+
+pub walk_all-returns-in_err-found-in-Ok-clause-fits : goal.walk_all-returns-in_err-found-in-Ok-clause-fits
+walk_all-returns-in_err-found-in-Ok-clause-fits t c = IfOk-from_err c.from_residual.result _ c.from_residual.ensures.0
+
+pub walk_all-returns-in_err-found-in-Ok-clause-names : goal.walk_all-returns-in_err-found-in-Ok-clause-names
+walk_all-returns-in_err-found-in-Ok-clause-names t c = IfOk-from_err c.from_residual.result _ c.from_residual.ensures.0
+
+pub walk_all-returns-in_err-found-in-Ok-clause-next : goal.walk_all-returns-in_err-found-in-Ok-clause-next
+walk_all-returns-in_err-found-in-Ok-clause-next t c = IfOk-from_err c.from_residual.result _ c.from_residual.ensures.0
