@@ -2,6 +2,7 @@ use Rattle.std.proofs.Common.{◌≡◌, ◌<◌, length, arith, ap, ◌∙◌, 
 use Rattle.std.specs.Prelude.{IfErr}
 use Rattle.std.specs.Result.{IsErrAnd}
 use Rattle.std.proofs.lemmas.List.{length-map}
+use Rattle.std.proofs.lemmas.Result.{IfOk-from_err}
 use Rattle.sy_grammar_base.specs.Grown.{nonterminal_of}
 use Rattle.sy_bank_rows.specs.Stored.{entry_of}
 use Rattle.sy_bank_level.specs.Filling.{EntryIsRight}
@@ -54,3 +55,21 @@ of-requires g c = omega (arith, c.requires.known, c.requires.steady.wide, length
 
 pub push-requires : goal.push-requires
 push-requires g c = omega (arith, c.requires.known, c.requires.steady.wide, length-map c.args.task.now.grammar.now.nons (nonterminal_of g.T.Theory.denotes))
+
+pub returns-in_err-add-clause-steady : goal.returns-in_err-add-clause-steady
+returns-in_err-add-clause-steady g c = IfOk-from_err c.from_residual.result _ c.from_residual.ensures.0
+
+pub returns-in_err-add-clause-grows : goal.returns-in_err-add-clause-grows
+returns-in_err-add-clause-grows g c = IfOk-from_err c.from_residual.result _ c.from_residual.ensures.0
+
+pub returns-in_err-add-clause-done : goal.returns-in_err-add-clause-done
+returns-in_err-add-clause-done g c = IfOk-from_err c.from_residual.result _ c.from_residual.ensures.0
+
+pub returns-in_err-push-clause-steady : goal.returns-in_err-push-clause-steady
+returns-in_err-push-clause-steady g c = IfOk-from_err c.from_residual-in_err-push.result _ c.from_residual-in_err-push.ensures.0
+
+pub returns-in_err-push-clause-grows : goal.returns-in_err-push-clause-grows
+returns-in_err-push-clause-grows g c = IfOk-from_err c.from_residual-in_err-push.result _ c.from_residual-in_err-push.ensures.0
+
+pub returns-in_err-push-clause-done : goal.returns-in_err-push-clause-done
+returns-in_err-push-clause-done g c = IfOk-from_err c.from_residual-in_err-push.result _ c.from_residual-in_err-push.ensures.0

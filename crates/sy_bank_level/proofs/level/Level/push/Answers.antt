@@ -1,6 +1,7 @@
 use Rattle.std.proofs.Common.{◌<◌, length, arith, refl, ap, ◌∙◌}
 use Rattle.std.proofs.lemmas.List.{length-map}
 use Rattle.std.proofs.lemmas.Result.{err_from_is_err_and}
+use Rattle.std.proofs.lemmas.Result.{IfOk-from_err}
 use Rattle.sy_bank_rows.specs.Stored.{entry_of, entries_of}
 use Rattle.sy_bank_level.proofs.Hashes.{pushed-view, mapped-last, set-same}
 use Rattle.sy_bank_level.proofs.level.Level.push.Goals as goal
@@ -19,3 +20,6 @@ pub returns-in_err-push-clause-err : goal.returns-in_err-push-clause-err
 returns-in_err-push-clause-err g c =
     let p = err_from_is_err_and c.from_residual.result c.from_residual.ensures.1 in
     rw p.1 (rw (c.in_err-push.ensures.err, set-same c.args.self.now.lists.items c.args.nonterminal c.index_mut.result.now c.index_mut.ensures.value) refl)
+
+pub returns-in_err-push-clause-ok : goal.returns-in_err-push-clause-ok
+returns-in_err-push-clause-ok g c = IfOk-from_err c.from_residual.result _ c.from_residual.ensures.0
