@@ -60,7 +60,7 @@ pub fn decide_due<T: Theory, D: Decide<T>>(
     }
 }
 
-/// What the solver answers to the query.
+/// What the solver answers to the query, within the limits. `Want` comes where the solver has too little memory.
 pub fn decide_query<T: Theory, D: Decide<T>>(
     alloc: Global,
     limits: &Limits,

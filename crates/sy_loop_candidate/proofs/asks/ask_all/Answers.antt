@@ -1,6 +1,7 @@
 use Rattle.std.proofs.Common.{map, arith, refl}
 use Rattle.std.proofs.lemmas.List.Elements.{All-nil}
 use Rattle.std.proofs.lemmas.List.{length-map}
+use Rattle.std.proofs.lemmas.Result.{IfOk-from_err}
 use Rattle.sy_terms.specs.Denoted.{expr_of}
 use Rattle.sy_grammar_base.specs.Questions.{question_of}
 use Rattle.sy_loop_history.specs.Histories.{Counterexample}
@@ -59,3 +60,12 @@ loop-place-init g c = record {
   widens = widens_not (question_of g.T.Theory.denotes c.args.problem.now) (history_of g.T.Theory.denotes c.args.stored.now) (map (expr_of g.T.Theory.denotes) c.args.bodies.now) c.args.points.now;
   so_far = refl;
 }
+
+pub returns-in_err-adding-clause-held : goal.returns-in_err-adding-clause-held
+returns-in_err-adding-clause-held g c = IfOk-from_err c.from_residual.result _ c.from_residual.ensures.0
+
+pub returns-in_err-adding-clause-widens : goal.returns-in_err-adding-clause-widens
+returns-in_err-adding-clause-widens g c = IfOk-from_err c.from_residual.result _ c.from_residual.ensures.0
+
+pub returns-in_err-adding-clause-answer : goal.returns-in_err-adding-clause-answer
+returns-in_err-adding-clause-answer g c = IfOk-from_err c.from_residual.result _ c.from_residual.ensures.0

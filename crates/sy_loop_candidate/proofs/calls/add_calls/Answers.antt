@@ -1,4 +1,5 @@
 use Rattle.std.proofs.Common.{◌<◌, length, arith, refl, sym, ◌∙◌}
+use Rattle.std.proofs.lemmas.Result.{IfOk-from_err}
 use Rattle.sy_terms.specs.Denoted.{vals_of}
 use Rattle.sy_loop_candidate.proofs.Traced.{no_element}
 use Rattle.sy_loop_candidate.proofs.Items.{has_place}
@@ -56,3 +57,9 @@ returns-clause-gains g c = c.loop-place.invariant.gains
 pub returns-clause-answer : goal.returns-clause-answer
 returns-clause-answer g c =
     adds_all c.args.calls.now c.args.points.now c.loop-place.points c.loop-place.place c.loop-place.adding (omega (arith, c.loop-place-test.false, c.len-place-end.ensures)) c.loop-place.invariant.there c.loop-place.invariant.changed
+
+pub returns-in_err-add-clause-gains : goal.returns-in_err-add-clause-gains
+returns-in_err-add-clause-gains g c = IfOk-from_err c.from_residual.result _ c.from_residual.ensures.0
+
+pub returns-in_err-add-clause-answer : goal.returns-in_err-add-clause-answer
+returns-in_err-add-clause-answer g c = IfOk-from_err c.from_residual.result _ c.from_residual.ensures.0

@@ -1,5 +1,7 @@
 use Rattle.std.proofs.Common.{map, arith, ap, sym, subst, Err}
 use Rattle.std.proofs.lemmas.List.{length-map}
+use Rattle.std.proofs.lemmas.Result.{IfOk-from_err}
+use Rattle.sy_loop_candidate.proofs.Asking.{grows_not}
 use Rattle.sy_terms.specs.Denoted.{expr_of}
 use Rattle.sy_grammar_base.specs.Questions.{question_of}
 use Rattle.sy_query_base.specs.Asked.{query_of}
@@ -71,3 +73,57 @@ returns-in-Spent-clause-step g c = (
   },
   λ traced. traced,
 )
+
+pub returns-in_err-proof-clause-known : goal.returns-in_err-proof-clause-known
+returns-in_err-proof-clause-known g c = IfOk-from_err c.from_residual.result _ c.from_residual.ensures.0
+
+pub returns-in_err-proof-clause-grows : goal.returns-in_err-proof-clause-grows
+returns-in_err-proof-clause-grows g c = IfOk-from_err c.from_residual.result _ c.from_residual.ensures.0
+
+pub returns-in_err-proof-clause-step : goal.returns-in_err-proof-clause-step
+returns-in_err-proof-clause-step g c = IfOk-from_err c.from_residual.result _ c.from_residual.ensures.0
+
+pub returns-in_err-push-in-Model-clause-known : goal.returns-in_err-push-in-Model-clause-known
+returns-in_err-push-in-Model-clause-known g c = IfOk-from_err c.from_residual-in_err-push-in-Model.result _ c.from_residual-in_err-push-in-Model.ensures.0
+
+pub returns-in_err-push-in-Model-clause-grows : goal.returns-in_err-push-in-Model-clause-grows
+returns-in_err-push-in-Model-clause-grows g c = IfOk-from_err c.from_residual-in_err-push-in-Model.result _ c.from_residual-in_err-push-in-Model.ensures.0
+
+pub returns-in_err-push-in-Model-clause-step : goal.returns-in_err-push-in-Model-clause-step
+returns-in_err-push-in-Model-clause-step g c = IfOk-from_err c.from_residual-in_err-push-in-Model.result _ c.from_residual-in_err-push-in-Model.ensures.0
+
+pub returns-in_err-step-in-Model-clause-known : goal.returns-in_err-step-in-Model-clause-known
+returns-in_err-step-in-Model-clause-known g c = IfOk-from_err c.from_residual-in_err-step-in-Model.result _ c.from_residual-in_err-step-in-Model.ensures.0
+
+pub returns-in_err-step-in-Model-clause-grows : goal.returns-in_err-step-in-Model-clause-grows
+returns-in_err-step-in-Model-clause-grows g c = IfOk-from_err c.from_residual-in_err-step-in-Model.result _ c.from_residual-in_err-step-in-Model.ensures.0
+
+pub returns-in_err-step-in-Model-clause-step : goal.returns-in_err-step-in-Model-clause-step
+returns-in_err-step-in-Model-clause-step g c = IfOk-from_err c.from_residual-in_err-step-in-Model.result _ c.from_residual-in_err-step-in-Model.ensures.0
+
+pub returns-in-Err-Heavy-clause-known : goal.returns-in-Err-Heavy-clause-known
+returns-in-Err-Heavy-clause-known g c = c.requires.known
+
+pub returns-in-Err-Heavy-clause-grows : goal.returns-in-Err-Heavy-clause-grows
+returns-in-Err-Heavy-clause-grows g c = grows_not c.args.known.now.points
+
+pub returns-in-Never-clause-known : goal.returns-in-Never-clause-known
+returns-in-Never-clause-known g c = c.requires.known
+
+pub returns-in-Never-clause-grows : goal.returns-in-Never-clause-grows
+returns-in-Never-clause-grows g c = grows_not c.args.known.now.points
+
+pub returns-in-Spent-clause-known : goal.returns-in-Spent-clause-known
+returns-in-Spent-clause-known g c = c.requires.known
+
+pub returns-in-Spent-clause-grows : goal.returns-in-Spent-clause-grows
+returns-in-Spent-clause-grows g c = grows_not c.args.known.now.points
+
+pub returns-then-len-limits-clause-grows : goal.returns-then-len-limits-clause-grows
+returns-then-len-limits-clause-grows g c = grows_not c.args.known.now.points
+
+pub returns-in_ok-step-in-Model-clause-known : goal.returns-in_ok-step-in-Model-clause-known
+returns-in_ok-step-in-Model-clause-known g c = c.in_ok-step-in-Model.ensures.known
+
+pub returns-in_ok-step-in-Model-clause-grows : goal.returns-in_ok-step-in-Model-clause-grows
+returns-in_ok-step-in-Model-clause-grows g c = c.in_ok-step-in-Model.ensures.grows

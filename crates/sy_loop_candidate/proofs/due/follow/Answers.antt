@@ -1,4 +1,5 @@
 use Rattle.std.proofs.Common.{arith, List, map}
+use Rattle.std.proofs.lemmas.Result.{IfOk-from_err}
 use Rattle.sy_terms.specs.Denoted.{expr_of, vals_of}
 use Rattle.sy_terms.specs.declared.sort.Value.{Value}
 use Rattle.sy_terms.specs.declared.term.Term.{Term}
@@ -101,3 +102,39 @@ returns-in_default-asked-clause-grows g c =
 
 pub unreachable-requires : goal.unreachable-requires
 unreachable-requires g c = omega (arith, c.requires.place, c.in_default.ensures)
+
+pub returns-in_err-asked-clause-stored : goal.returns-in_err-asked-clause-stored
+returns-in_err-asked-clause-stored g c = IfOk-from_err c.from_residual.result _ c.from_residual.ensures.0
+
+pub returns-in_err-asked-clause-known : goal.returns-in_err-asked-clause-known
+returns-in_err-asked-clause-known g c = IfOk-from_err c.from_residual.result _ c.from_residual.ensures.0
+
+pub returns-in_err-asked-clause-grows : goal.returns-in_err-asked-clause-grows
+returns-in_err-asked-clause-grows g c = IfOk-from_err c.from_residual.result _ c.from_residual.ensures.0
+
+pub returns-in_err-asked-clause-step : goal.returns-in_err-asked-clause-step
+returns-in_err-asked-clause-step g c = IfOk-from_err c.from_residual.result _ c.from_residual.ensures.0
+
+pub returns-in_err-copy-in-Full-clause-stored : goal.returns-in_err-copy-in-Full-clause-stored
+returns-in_err-copy-in-Full-clause-stored g c = IfOk-from_err c.from_residual-in_err-copy-in-Full.result _ c.from_residual-in_err-copy-in-Full.ensures.0
+
+pub returns-in_err-copy-in-Full-clause-known : goal.returns-in_err-copy-in-Full-clause-known
+returns-in_err-copy-in-Full-clause-known g c = IfOk-from_err c.from_residual-in_err-copy-in-Full.result _ c.from_residual-in_err-copy-in-Full.ensures.0
+
+pub returns-in_err-copy-in-Full-clause-grows : goal.returns-in_err-copy-in-Full-clause-grows
+returns-in_err-copy-in-Full-clause-grows g c = IfOk-from_err c.from_residual-in_err-copy-in-Full.result _ c.from_residual-in_err-copy-in-Full.ensures.0
+
+pub returns-in_err-copy-in-Full-clause-step : goal.returns-in_err-copy-in-Full-clause-step
+returns-in_err-copy-in-Full-clause-step g c = IfOk-from_err c.from_residual-in_err-copy-in-Full.result _ c.from_residual-in_err-copy-in-Full.ensures.0
+
+pub returns-in_err-assignment-in-Full-clause-stored : goal.returns-in_err-assignment-in-Full-clause-stored
+returns-in_err-assignment-in-Full-clause-stored g c = IfOk-from_err c.from_residual-in_err-assignment-in-Full.result _ c.from_residual-in_err-assignment-in-Full.ensures.0
+
+pub returns-in_err-assignment-in-Full-clause-known : goal.returns-in_err-assignment-in-Full-clause-known
+returns-in_err-assignment-in-Full-clause-known g c = IfOk-from_err c.from_residual-in_err-assignment-in-Full.result _ c.from_residual-in_err-assignment-in-Full.ensures.0
+
+pub returns-in_err-assignment-in-Full-clause-grows : goal.returns-in_err-assignment-in-Full-clause-grows
+returns-in_err-assignment-in-Full-clause-grows g c = IfOk-from_err c.from_residual-in_err-assignment-in-Full.result _ c.from_residual-in_err-assignment-in-Full.ensures.0
+
+pub returns-in_err-assignment-in-Full-clause-step : goal.returns-in_err-assignment-in-Full-clause-step
+returns-in_err-assignment-in-Full-clause-step g c = IfOk-from_err c.from_residual-in_err-assignment-in-Full.result _ c.from_residual-in_err-assignment-in-Full.ensures.0

@@ -1,6 +1,7 @@
 use Rattle.std.proofs.Common.{map, subst, arith}
 use Rattle.std.proofs.lemmas.List.{length-map}
 use Rattle.std.proofs.lemmas.Option.{slice_get_within}
+use Rattle.std.proofs.lemmas.Result.{IfOk-from_err}
 use Rattle.sy_terms.specs.Denoted.{expr_of, vals_of}
 use Rattle.sy_grammar_base.specs.Questions.{question_of}
 use Rattle.sy_loop_history.specs.Stored.{counterexample_of, history_of}
@@ -97,3 +98,42 @@ assignment_at-requires-in-Leaves g c =
     let leaves : LeavesRangeAt (question_of number c.args.problem.now) history (map (expr_of number) c.args.bodies) c.in-Leaves.place = rw c.in-Leaves.is at c.in_ok-try_bodies.ensures.answer in
     let within = slice_get_within history c.in-Leaves.place leaves.counterexample leaves.at in
     omega (arith, within, length-map c.args.known.now.stored.items (counterexample_of number))
+
+pub returns-in_err-try_bodies-clause-known : goal.returns-in_err-try_bodies-clause-known
+returns-in_err-try_bodies-clause-known g c = IfOk-from_err c.from_residual.result _ c.from_residual.ensures.0
+
+pub returns-in_err-try_bodies-clause-grows : goal.returns-in_err-try_bodies-clause-grows
+returns-in_err-try_bodies-clause-grows g c = IfOk-from_err c.from_residual.result _ c.from_residual.ensures.0
+
+pub returns-in_err-try_bodies-clause-step : goal.returns-in_err-try_bodies-clause-step
+returns-in_err-try_bodies-clause-step g c = IfOk-from_err c.from_residual.result _ c.from_residual.ensures.0
+
+pub returns-in_err-step-in-Due-clause-known : goal.returns-in_err-step-in-Due-clause-known
+returns-in_err-step-in-Due-clause-known g c = IfOk-from_err c.from_residual-in_err-step-in-Due.result _ c.from_residual-in_err-step-in-Due.ensures.0
+
+pub returns-in_err-step-in-Due-clause-grows : goal.returns-in_err-step-in-Due-clause-grows
+returns-in_err-step-in-Due-clause-grows g c = IfOk-from_err c.from_residual-in_err-step-in-Due.result _ c.from_residual-in_err-step-in-Due.ensures.0
+
+pub returns-in_err-step-in-Due-clause-step : goal.returns-in_err-step-in-Due-clause-step
+returns-in_err-step-in-Due-clause-step g c = IfOk-from_err c.from_residual-in_err-step-in-Due.result _ c.from_residual-in_err-step-in-Due.ensures.0
+
+pub returns-in_err-assignment-in-Full-clause-known : goal.returns-in_err-assignment-in-Full-clause-known
+returns-in_err-assignment-in-Full-clause-known g c = IfOk-from_err c.from_residual-in_err-assignment-in-Full.result _ c.from_residual-in_err-assignment-in-Full.ensures.0
+
+pub returns-in_err-assignment-in-Full-clause-grows : goal.returns-in_err-assignment-in-Full-clause-grows
+returns-in_err-assignment-in-Full-clause-grows g c = IfOk-from_err c.from_residual-in_err-assignment-in-Full.result _ c.from_residual-in_err-assignment-in-Full.ensures.0
+
+pub returns-in_err-assignment-in-Full-clause-step : goal.returns-in_err-assignment-in-Full-clause-step
+returns-in_err-assignment-in-Full-clause-step g c = IfOk-from_err c.from_residual-in_err-assignment-in-Full.result _ c.from_residual-in_err-assignment-in-Full.ensures.0
+
+pub returns-in_err-assignment-in-Leaves-clause-known : goal.returns-in_err-assignment-in-Leaves-clause-known
+returns-in_err-assignment-in-Leaves-clause-known g c = IfOk-from_err c.from_residual-in_err-assignment-in-Leaves.result _ c.from_residual-in_err-assignment-in-Leaves.ensures.0
+
+pub returns-in_err-assignment-in-Leaves-clause-grows : goal.returns-in_err-assignment-in-Leaves-clause-grows
+returns-in_err-assignment-in-Leaves-clause-grows g c = IfOk-from_err c.from_residual-in_err-assignment-in-Leaves.result _ c.from_residual-in_err-assignment-in-Leaves.ensures.0
+
+pub returns-in_err-assignment-in-Leaves-clause-step : goal.returns-in_err-assignment-in-Leaves-clause-step
+returns-in_err-assignment-in-Leaves-clause-step g c = IfOk-from_err c.from_residual-in_err-assignment-in-Leaves.result _ c.from_residual-in_err-assignment-in-Leaves.ensures.0
+
+pub returns-in_ok-step-in-Due-clause-known : goal.returns-in_ok-step-in-Due-clause-known
+returns-in_ok-step-in-Due-clause-known g c = c.in_ok-step-in-Due.ensures.known

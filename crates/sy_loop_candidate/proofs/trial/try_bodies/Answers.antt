@@ -1,5 +1,6 @@
 use Rattle.std.proofs.Common.{List, map, arith, refl, sym, subst}
 use Rattle.std.proofs.lemmas.List.Elements.{All-nil}
+use Rattle.std.proofs.lemmas.Result.{IfOk-from_err}
 use Rattle.sy_terms.specs.Denoted.{expr_of}
 use Rattle.sy_terms.specs.declared.sort.Value.{Value}
 use Rattle.sy_terms.specs.declared.term.Term.{Term}
@@ -93,3 +94,30 @@ returns-in-Leaves-clause-widens g c =
 
 pub returns-clause-widens : goal.returns-clause-widens
 returns-clause-widens g c = rw c.loop-place.invariant.same at c.in_ok-trial.ensures.widens
+
+pub returns-in_err-judge-clause-held : goal.returns-in_err-judge-clause-held
+returns-in_err-judge-clause-held g c = IfOk-from_err c.from_residual.result _ c.from_residual.ensures.0
+
+pub returns-in_err-judge-clause-widens : goal.returns-in_err-judge-clause-widens
+returns-in_err-judge-clause-widens g c = IfOk-from_err c.from_residual.result _ c.from_residual.ensures.0
+
+pub returns-in_err-judge-clause-answer : goal.returns-in_err-judge-clause-answer
+returns-in_err-judge-clause-answer g c = IfOk-from_err c.from_residual.result _ c.from_residual.ensures.0
+
+pub returns-in_err-adding-in-False-clause-held : goal.returns-in_err-adding-in-False-clause-held
+returns-in_err-adding-in-False-clause-held g c = IfOk-from_err c.from_residual-in_err-adding-in-False.result _ c.from_residual-in_err-adding-in-False.ensures.0
+
+pub returns-in_err-adding-in-False-clause-widens : goal.returns-in_err-adding-in-False-clause-widens
+returns-in_err-adding-in-False-clause-widens g c = IfOk-from_err c.from_residual-in_err-adding-in-False.result _ c.from_residual-in_err-adding-in-False.ensures.0
+
+pub returns-in_err-adding-in-False-clause-answer : goal.returns-in_err-adding-in-False-clause-answer
+returns-in_err-adding-in-False-clause-answer g c = IfOk-from_err c.from_residual-in_err-adding-in-False.result _ c.from_residual-in_err-adding-in-False.ensures.0
+
+pub returns-in_err-trial-clause-held : goal.returns-in_err-trial-clause-held
+returns-in_err-trial-clause-held g c = IfOk-from_err c.from_residual-in_err-trial.result _ c.from_residual-in_err-trial.ensures.0
+
+pub returns-in_err-trial-clause-widens : goal.returns-in_err-trial-clause-widens
+returns-in_err-trial-clause-widens g c = IfOk-from_err c.from_residual-in_err-trial.result _ c.from_residual-in_err-trial.ensures.0
+
+pub returns-in_err-trial-clause-answer : goal.returns-in_err-trial-clause-answer
+returns-in_err-trial-clause-answer g c = IfOk-from_err c.from_residual-in_err-trial.result _ c.from_residual-in_err-trial.ensures.0

@@ -1,5 +1,6 @@
 use Rattle.std.proofs.Common.{map}
 use Rattle.std.proofs.lemmas.List.Elements.{All-nil}
+use Rattle.std.proofs.lemmas.Result.{IfOk-from_err}
 use Rattle.sy_terms.specs.Denoted.{expr_of, vals_of}
 use Rattle.sy_grammar_base.specs.Questions.{question_of}
 use Rattle.sy_grammar_base.specs.Solving.{IsTrueUnder}
@@ -30,3 +31,6 @@ loop-term-preserved g c =
 pub returns : goal.returns
 returns g c =
     all_done (IsTrueUnder (question_of g.T.Theory.denotes c.args.problem.now) (map (expr_of g.T.Theory.denotes) c.args.bodies.now) (vals_of g.T.Theory.denotes c.args.values.now)) (expr_of g.T.Theory.denotes) c.args.terms.now c.loop-term.term-index c.loop-term-test.false c.loop-term.invariant
+
+pub returns-in_err-truth_of : goal.returns-in_err-truth_of
+returns-in_err-truth_of g c = IfOk-from_err c.from_residual.result _ c.from_residual.ensures.0

@@ -1,4 +1,5 @@
 use Rattle.std.proofs.Common.{map}
+use Rattle.std.proofs.lemmas.Result.{IfOk-from_err}
 use Rattle.sy_terms.specs.Denoted.{expr_of, vals_of}
 use Rattle.sy_grammar_base.specs.Questions.{question_of}
 use Rattle.sy_grammar_laws.proofs.Problems.{problem_assumptions, problem_constraints}
@@ -28,3 +29,9 @@ all_true-requires-clause-terms g c =
 pub all_true-requires-2-clause-terms : goal.all_true-requires-2-clause-terms
 all_true-requires-2-clause-terms g c =
     rw c.as_slice-2.ensures (problem_constraints g.T.Theory.owned g.T.Theory.numeric g.T.Theory.denotes c.args.problem.now c.requires.problem)
+
+pub returns-in_err-all_true : goal.returns-in_err-all_true
+returns-in_err-all_true g c = IfOk-from_err c.from_residual.result _ c.from_residual.ensures.0
+
+pub returns-in_err-judged : goal.returns-in_err-judged
+returns-in_err-judged g c = IfOk-from_err c.from_residual-in_err-judged.result _ c.from_residual-in_err-judged.ensures.0
