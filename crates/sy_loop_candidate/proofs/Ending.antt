@@ -25,7 +25,7 @@ use Rattle.sy_loop_bounds.specs.Bounds.{IsJoinedWithin}
 use Rattle.sy_loop_bounds.specs.Conditional.{yield}
 use Rattle.sy_loop_bounds.specs.declared.reach.Reach.{Reach}
 use Rattle.sy_loop_bounds.specs.declared.reach.Reach.TheVariants.{Sizes, Joins, Beyond}
-use Rattle.sy_loop_bounds_laws.proofs.Conditional.{tree_is_member}
+use Rattle.sy_loop_bounds.proofs.Conditional.{tree_is_member}
 use Rattle.sy_loop_history.specs.Histories.{Counterexample, IsCandidate, IsDue, IsFewJoined, IsNextCounterexample, IsHonestHistory, IsMet, MayTry, trace}
 use Rattle.sy_loop_history.proofs.Staying.{candidate_stays, met_stays}
 use Rattle.sy_loop_history.specs.Budgets as budgets
