@@ -68,7 +68,7 @@ end_all() {
 
 build_in_room() {
     furnish >"$log" 2>&1 || return 1
-    # 208 processor minutes, of which a quarter lies in one chain of crates, and some for what waits
+    # some 172 processor minutes, of which a quarter lies in one chain of crates, and some for what waits
     minutes=$((220 / processors))
     [ "$minutes" -ge 45 ] || minutes=45
     say "proving and building $total crates; from nothing this takes some $minutes minutes"
