@@ -7,8 +7,8 @@ use Rattle.sy_text.specs.declared.atom.Place.{Place}
 use Rattle.sy_scope_causes.specs.declared.cause.Cause.TheVariants as cause
 use Rattle.sy_forms_items.specs.declared.fault.ReadEnd.{ReadEnd}
 use Rattle.sy_forms_items.specs.declared.fault.ReadEnd.TheVariants as ends
-use Rattle.sy_forms_phrases.specs.declared.names.Named.{Named}
-use Rattle.sy_forms_phrases.specs.Environments.{Environment}
+use Rattle.sy_forms_names.specs.declared.names.Named.{Named}
+use Rattle.sy_forms_names.specs.Environments.{Environment}
 use Rattle.sy_forms_items.specs.Parts.{is_symbol, indexed_name}
 use Rattle.sy_forms_phrases.specs.Phrases.{Several, no_terms, behind}
 use Rattle.sy_forms_items.specs.Readings.{Reading, ReadingGives, ReadingFails, refuse, ◌>>=◌}

@@ -10,7 +10,8 @@ ghost use Rattle.sy_forms.specs.Terms as spec;
 ghost use Rattle.sy_forms_items.specs.Views.{indexed_of};
 
 use sy_forms_items::{Indices, ReadEnd};
-use sy_forms_phrases::{Typed, is_width, literal};
+use sy_forms_names::is_width;
+use sy_forms_phrases::{Typed, literal};
 use sy_scope_causes::Cause;
 use sy_terms::{Logic, Sort, Theory, Value};
 use sy_text::{Name, Place};

@@ -12,9 +12,9 @@ use Rattle.sy_terms.specs.declared.sort.Sort.TheVariants as sorts
 use Rattle.sy_scope_causes.specs.declared.cause.Cause.TheVariants as cause
 use Rattle.sy_grammar_base.specs.Formed.{is_known}
 use Rattle.sy_terms.specs.Logics.{IsTheoryOf}
-use Rattle.sy_forms_phrases.specs.Environments.{entry_under}
+use Rattle.sy_forms_names.specs.Environments.{entry_under}
 use Rattle.sy_forms_items.specs.Parts.{symbol_in, is_symbol, indexed_name}
-use Rattle.sy_forms_phrases.specs.Sorts.{int_in, sort_named, is_width, vector_sort, indexed_sort, sort_by_name, read_sort}
+use Rattle.sy_forms_names.specs.Sorts.{int_in, sort_named, is_width, vector_sort, indexed_sort, sort_by_name, read_sort}
 use Rattle.sy_forms_items.specs.declared.parts.Indices.{Indices}
 use Rattle.sy_forms_items.specs.declared.parts.Indices.TheVariants.{One, Two, More}
 use Rattle.sy_forms_laws.proofs.Readings.{unless_refused, where_found}

@@ -6,7 +6,7 @@ use Rattle.sy_terms.specs.declared.sort.Logic.TheVariants.{Lia}
 use Rattle.sy_terms.specs.declared.sort.Sort.{Sort}
 use Rattle.sy_grammar_base.specs.Formed.{gives_constants, rule_sort}
 use Rattle.sy_grammar_base.specs.Trees.{Syntax}
-use Rattle.sy_forms_phrases.specs.Environments.{Environment, sense_of}
+use Rattle.sy_forms_names.specs.Environments.{Environment, sense_of}
 use Rattle.sy_forms_phrases.specs.Measures.{Measures}
 use Rattle.sy_forms_phrases.specs.Phrases.{Phrase, expr_at}
 use Rattle.sy_forms.specs.Rules.{Ruling, production_at, is_constant_rule, read_rule}

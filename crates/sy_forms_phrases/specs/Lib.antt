@@ -1,9 +1,3 @@
-pub mod Environments
-pub mod Table
-pub mod Operators
-pub mod Sorts
-pub mod Seen
-pub mod Locals
 pub mod Phrases
 pub mod Meant
 pub mod Measures

@@ -6,5 +6,4 @@ pub use Rattle.sy_grammar_base.specs.Solving
 pub use Rattle.sy_grammar_base.specs.Trees
 pub use Rattle.sy_grammar_chains.specs.Chains
 pub use Rattle.sy_grammar_chains.specs.Greatest
-pub mod Defaults
-pub mod Occurrences
+pub use Rattle.sy_grammar_defaults.specs.Defaults

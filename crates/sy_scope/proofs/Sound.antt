@@ -10,7 +10,7 @@ use Rattle.sy_terms.specs.declared.sort.Sort.{Sort}
 use Rattle.sy_terms.specs.Logics.{IsTheoryOf, number_sorts, operators_of}
 use Rattle.sy_grammar_base.specs.Fits.{GoalFits}
 use Rattle.sy_forms_items.specs.Readings.{Reading}
-use Rattle.sy_scope_steps.specs.Contexts.{Context, beginning, with_logic, goal_sought}
+use Rattle.sy_scope_names.specs.Contexts.{Context, beginning, with_logic, goal_sought}
 use Rattle.sy_scope_steps.specs.Steps.{step}
 use Rattle.sy_scope_laws.specs.Sound.{defined_in, ContextIsSound, SoundBy, Sound}
 use Rattle.sy_scope_laws.proofs.Files.{begun_sound, step_sound}

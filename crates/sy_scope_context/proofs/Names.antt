@@ -5,12 +5,12 @@ use Rattle.std.proofs.lemmas.Bool.{le-ltb}
 use Rattle.sy_text.specs.declared.atom.Place.{Place}
 use Rattle.sy_terms.specs.declared.sort.Logic.{Logic}
 use Rattle.sy_scope_causes.specs.declared.cause.Cause.TheVariants as cause
-use Rattle.sy_forms_phrases.specs.Environments.{entry_under}
-use Rattle.sy_forms_phrases.specs.Operators.{is_reserved}
+use Rattle.sy_forms_names.specs.Environments.{entry_under}
+use Rattle.sy_forms_names.specs.Operators.{is_reserved}
 use Rattle.sy_forms_items.specs.Readings.{Reading, ReadingFails, refuse, ◌>>=◌}
 use Rattle.sy_forms_items.specs.declared.fault.ReadEnd.{ReadEnd}
 use Rattle.sy_forms.proofs.Forms as form
-use Rattle.sy_scope_steps.specs.Contexts.{Context, has_room, new_name, new_sought}
+use Rattle.sy_scope_names.specs.Contexts.{Context, has_room, new_name, new_sought}
 
 -- the name, where there are fewer than four functions
 abbrev pub with_room : Context → Place → List ℕ → Reading (List ℕ)

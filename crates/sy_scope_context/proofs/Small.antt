@@ -7,7 +7,7 @@ use Rattle.sy_text.specs.declared.atom.Place.{Place}
 use Rattle.sy_terms.specs.Sorts.{same_sort}
 use Rattle.sy_terms.specs.declared.sort.Sort.{Sort}
 use Rattle.sy_scope_causes.specs.declared.cause.Cause.TheVariants as cause
-use Rattle.sy_forms_phrases.specs.Environments.{Environment}
+use Rattle.sy_forms_names.specs.Environments.{Environment}
 use Rattle.sy_forms_phrases.specs.Measures.{Measures, is_within_limits, unfolded_size, unfolded_depth}
 use Rattle.sy_forms_items.specs.Parts.{place_of}
 use Rattle.sy_forms_phrases.specs.Phrases.{Phrase, Typed}

@@ -3,7 +3,7 @@ use Rattle.std.specs.Prelude.{Bool, map, All}
 use Rattle.sy_terms.specs.declared.op.Op.{Op}
 use Rattle.sy_terms.specs.declared.sort.Sort.{Sort}
 use Rattle.sy_grammar_base.specs.Fits.{GoalFits}
-use Rattle.sy_scope_steps.specs.Contexts.{Context, definition_signature, goal_sought}
+use Rattle.sy_scope_names.specs.Contexts.{Context, definition_signature, goal_sought}
 
 -- the grammars are well formed, and each is that of its function's arguments and value
 abbrev pub GoalsFit : (Op → Bool) → (Sort → Bool) → Context → Type 0

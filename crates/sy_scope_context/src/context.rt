@@ -1,6 +1,6 @@
 // What the commands so far declare and ask for.
 ghost use Rattle.std.specs.Prelude.{◌≡◌};
-ghost use Rattle.sy_scope_steps.specs.Contexts as spec;
+ghost use Rattle.sy_scope_names.specs.Contexts as spec;
 ghost use Rattle.sy_scope_context.specs.Seen.{context_of};
 
 use std::alloc::Global;

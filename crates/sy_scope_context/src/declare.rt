@@ -1,20 +1,21 @@
 // Variables, abbreviations of sorts, and terms in a context.
 ghost use Rattle.std.specs.Prelude.{◌≡◌, None, true, OnOk, IfOk};
 ghost use Rattle.sy_text.specs.Views.{item_of};
-ghost use Rattle.sy_forms_phrases.specs.Environments.{entry_under};
+ghost use Rattle.sy_forms_names.specs.Environments.{entry_under};
 ghost use Rattle.sy_forms_phrases.specs.Meant.{phrase_of};
 ghost use Rattle.sy_forms_phrases.specs.Measured.{measures_of};
 ghost use Rattle.sy_forms_phrases.specs.Measures.{is_within_limits};
 ghost use Rattle.sy_forms_items.specs.Readings.{ReadingGives};
 ghost use Rattle.sy_terms.specs.Logics.{Serves};
-ghost use Rattle.sy_scope_steps.specs.Asked.{spelled_of};
+ghost use Rattle.sy_scope_commands.specs.Asked.{spelled_of};
 ghost use Rattle.sy_scope_context.specs.Seen.{context_of};
 ghost use Rattle.sy_scope_steps.specs.Steps as spec;
 
 use crate::context::Context;
 use std::alloc::Global;
 use sy_forms::{Entity, Environment, Named, Phrase, ReadEnd, Role, read_sort, read_whole};
-use sy_scope_steps::{Spelled, new_name, new_sort_name};
+use sy_scope_commands::Spelled;
+use sy_scope_names::{new_name, new_sort_name};
 use sy_terms::{Sort, Theory, Want};
 use sy_text::Sexp;
 

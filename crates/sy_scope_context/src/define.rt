@@ -2,25 +2,26 @@
 ghost use Rattle.std.specs.Prelude.{◌≡◌, ◌++◌, ◌∷◌, [], None, true, OnOk};
 ghost use Rattle.sy_text.specs.Views.{item_of};
 ghost use Rattle.sy_terms.specs.declared.term.Fun.TheVariants as funs;
-ghost use Rattle.sy_forms_phrases.specs.declared.names.Entity.TheVariants as entity;
-ghost use Rattle.sy_forms_phrases.specs.Environments.{entry_under};
+ghost use Rattle.sy_forms_names.specs.declared.names.Entity.TheVariants as entity;
+ghost use Rattle.sy_forms_names.specs.Environments.{entry_under};
 ghost use Rattle.sy_forms_phrases.specs.Meant.{phrase_of};
 ghost use Rattle.sy_forms_phrases.specs.Measured.{measures_of};
 ghost use Rattle.sy_forms_phrases.specs.Measures.{is_within_limits, literals_in};
 ghost use Rattle.sy_forms_items.specs.Readings.{ReadingGives};
 ghost use Rattle.sy_terms.specs.Logics.{Serves};
-ghost use Rattle.sy_scope_steps.specs.Lists.{sorts_of_names};
+ghost use Rattle.sy_scope_names.specs.Lists.{sorts_of_names};
 ghost use Rattle.sy_scope_pool.specs.Kept.{pool_of};
 ghost use Rattle.sy_scope_pool.specs.Pools.{pooled};
-ghost use Rattle.sy_scope_steps.specs.Asked.{spelled_of};
+ghost use Rattle.sy_scope_commands.specs.Asked.{spelled_of};
 ghost use Rattle.sy_scope_context.specs.Seen.{context_of, definition_of};
 ghost use Rattle.sy_scope_steps.specs.Steps as spec;
 
 use crate::context::{Context, Definition};
 use std::alloc::Global;
 use sy_forms::{Entity, Measures, Names, Phrase, ReadEnd, Role, copied, read_sort};
+use sy_scope_commands::Spelled;
+use sy_scope_names::{Naming, new_name, read_named, sorts_of};
 use sy_scope_pool::Pool;
-use sy_scope_steps::{Naming, Spelled, new_name, read_named, sorts_of};
 use sy_terms::{Fun, Seq, Theory, Want};
 use sy_text::{Sexp, Sexps};
 

@@ -1,13 +1,13 @@
 // The conditions of invariants.
 ghost use Rattle.std.specs.Prelude.{◌≡◌, ◌++◌, ◌*◌, length, true, OnOk, IfOk};
 ghost use Rattle.std.specs.Option.{option_map};
-ghost use Rattle.sy_forms_phrases.specs.Environments.{entry_under};
+ghost use Rattle.sy_forms_names.specs.Environments.{entry_under};
 ghost use Rattle.sy_forms_items.specs.Readings.{ReadingGives};
-ghost use Rattle.sy_scope_steps.specs.Asked.{spelled_of};
+ghost use Rattle.sy_scope_commands.specs.Asked.{spelled_of};
 ghost use Rattle.sy_scope_context.specs.Calls.{called_of, parts_of};
-ghost use Rattle.sy_scope_steps.specs.Contexts as contexts;
+ghost use Rattle.sy_scope_names.specs.Contexts as contexts;
 ghost use Rattle.sy_scope_context.specs.Seen.{context_of};
-ghost use Rattle.sy_scope_steps.specs.Known.{declared};
+ghost use Rattle.sy_scope_names.specs.Known.{declared};
 ghost use Rattle.sy_scope_steps.specs.Steps as spec;
 
 use crate::context::{Condition, Context};
@@ -15,7 +15,8 @@ use std::alloc::Global;
 use sy_forms::{Entity, Names, ReadEnd, same_sorts};
 use sy_inv::expand;
 use sy_scope_causes::Cause;
-use sy_scope_steps::{Spelled, has_room};
+use sy_scope_commands::Spelled;
+use sy_scope_names::has_room;
 use sy_terms::{Fun, Seq, Sort, Theory, Want, same_sort};
 use sy_text::Place;
 

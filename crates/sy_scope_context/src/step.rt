@@ -3,7 +3,7 @@ ghost use Rattle.std.specs.Prelude.{◌≡◌, OnOk, Some};
 ghost use Rattle.sy_text.specs.Views.{item_of};
 ghost use Rattle.sy_terms.specs.Logics.{IsTheoryOf, Serves};
 ghost use Rattle.sy_forms_items.specs.Readings.{ReadingGives};
-ghost use Rattle.sy_scope_steps.specs.Asked.{spelled_of};
+ghost use Rattle.sy_scope_commands.specs.Asked.{spelled_of};
 ghost use Rattle.sy_scope_context.specs.Calls.{asked_of};
 ghost use Rattle.sy_scope_context.specs.Seen.{context_of};
 ghost use Rattle.sy_scope_steps.specs.Steps as spec;
@@ -14,7 +14,7 @@ use crate::invariant::Spellings;
 use std::alloc::Global;
 use sy_forms::{ReadEnd, Rest, is, place_of, symbol};
 use sy_scope_causes::Cause;
-use sy_scope_steps::{Request, Spelled, command_named, request_of};
+use sy_scope_commands::{Request, Spelled, command_named, request_of};
 use sy_terms::Theory;
 use sy_text::{Place, Sexp};
 

@@ -3,8 +3,8 @@ ghost use Rattle.std.specs.Prelude.{◌≡◌, map, IfOk};
 ghost use Rattle.sy_scope_steps.specs.Jobs as spec;
 ghost use Rattle.sy_scope_context.specs.Seen.{context_of, definition_of, sought_of};
 ghost use Rattle.sy_terms.specs.declared.sort.Logic.{Logic};
-ghost use Rattle.sy_forms_phrases.specs.declared.names.Named.{Named};
-ghost use Rattle.sy_scope_steps.specs.Contexts as contexts;
+ghost use Rattle.sy_forms_names.specs.declared.names.Named.{Named};
+ghost use Rattle.sy_scope_names.specs.Contexts as contexts;
 
 use crate::context::{Context, Definition, Sought};
 use std::alloc::Global;

@@ -19,18 +19,19 @@ use Rattle.sy_terms_laws.proofs.Equations.{same_sort_is}
 use Rattle.sy_grammar_base.proofs.Sorting.{same_sort_self}
 use Rattle.sy_grammar_base.specs.Formed.{is_known, nonterminal_fits, is_formed, rule_sort}
 use Rattle.sy_grammar_base.specs.Trees.{Production, Nonterminal, Syntax, is_sort}
-use Rattle.sy_forms_phrases.specs.declared.names.Entity.{Entity}
-use Rattle.sy_forms_phrases.specs.declared.names.Named.{Named}
-use Rattle.sy_forms_phrases.specs.Environments.{Environment}
-use Rattle.sy_forms_phrases.specs.Operators.{is_reserved}
+use Rattle.sy_forms_names.specs.declared.names.Entity.{Entity}
+use Rattle.sy_forms_names.specs.declared.names.Named.{Named}
+use Rattle.sy_forms_names.specs.Environments.{Environment}
+use Rattle.sy_forms_names.specs.Operators.{is_reserved}
 use Rattle.sy_forms_items.specs.Parts.{has_no_items, place_of}
 use Rattle.sy_forms_items.specs.Readings.{refuse, ◌>>=◌}
 use Rattle.sy_forms.specs.Rules.{constant_groups}
-use Rattle.sy_scope_steps.specs.Requests.{Listed, Rulebook}
-use Rattle.sy_scope_steps.specs.Lists.{sorts_of_names, named_item, counted, sort_of_pair, first_sort, starts_with, read_named, read_predeclared}
+use Rattle.sy_scope_commands.specs.Requests.{Listed, Rulebook}
+use Rattle.sy_scope_names.specs.Lists.{sorts_of_names, named_item, counted, sort_of_pair, first_sort, starts_with, read_named, read_predeclared}
 use Rattle.sy_scope_steps.specs.Grammars.{Written, rules_under, among_nonterminals, written_as, nothing_grown, read_groups, read_productions, read_rulebook}
-use Rattle.sy_scope_steps.proofs.Named.{IsNamed, AreNamed, named_read}
-use Rattle.sy_scope_steps.proofs.Read.{bind_ok, if_ok, unless_ok, AreRules, IsGroup, AreGroups, groups_read}
+use Rattle.sy_scope_names.proofs.Named.{IsNamed, AreNamed, named_read}
+use Rattle.sy_scope_names.proofs.Earlier.{bind_ok, if_ok, unless_ok}
+use Rattle.sy_scope_steps.proofs.Read.{AreRules, IsGroup, AreGroups, groups_read}
 use Rattle.sy_forms_laws.specs.Fitting.{Setting}
 use Rattle.sy_forms_laws.specs.Right.{EnvironmentIsRight, IsOfGrammar}
 use Rattle.sy_forms_laws.proofs.Readings.{at_read}

@@ -1,7 +1,7 @@
 -- Questions whose functions and definitions have names.
 use Rattle.std.specs.Prelude.{ℕ, ◌≤◌, List, length, All, IfOk}
 use Rattle.sy_reply.specs.Writable.{IsTitled}
-use Rattle.sy_scope_steps.specs.Contexts.{Context}
+use Rattle.sy_scope_names.specs.Contexts.{Context}
 use Rattle.sy_scope_steps.specs.Files.{file_read}
 use Rattle.sy_scope_steps.specs.Jobs.{titles_of}
 

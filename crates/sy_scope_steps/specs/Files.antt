@@ -7,7 +7,7 @@ use Rattle.sy_scope_causes.specs.declared.cause.Cause.TheVariants as cause
 use Rattle.sy_scope_causes.specs.declared.cause.Refused.{Refused}
 use Rattle.sy_forms_items.specs.declared.fault.Fault.{Fault}
 use Rattle.sy_forms_items.specs.Readings.{Reading}
-use Rattle.sy_scope_steps.specs.Contexts.{Context, beginning}
+use Rattle.sy_scope_names.specs.Contexts.{Context, beginning}
 use Rattle.sy_scope_steps.specs.Steps.{step}
 
 -- the fault of the command of this number

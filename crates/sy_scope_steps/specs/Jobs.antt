@@ -5,8 +5,8 @@ use Rattle.sy_scope_causes.specs.declared.cause.Refused.{Refused}
 use Rattle.sy_scope_causes.specs.declared.titles.Title.{Title}
 use Rattle.sy_scope_causes.specs.declared.titles.Titles.{Titles}
 use Rattle.sy_grammar_base.specs.Questions.{Question}
-use Rattle.sy_forms_phrases.specs.declared.names.Named.{Named}
-use Rattle.sy_scope_steps.specs.Contexts.{Context, Definition, Sought}
+use Rattle.sy_forms_names.specs.declared.names.Named.{Named}
+use Rattle.sy_scope_names.specs.Contexts.{Context, Definition, Sought}
 
 -- the names of the functions, in order of declaration
 abbrev pub headed : List ℕ → List Named → Title

@@ -6,10 +6,10 @@ use Rattle.sy_terms.specs.Denoted.{vals_of}
 use Rattle.sy_grammar_base.specs.Trees.{Production, Nonterminal}
 use Rattle.sy_forms.specs.Rulings.{ruling_of}
 use Rattle.sy_forms.specs.Rules.{production_at}
-use Rattle.sy_forms_phrases.specs.declared.names.Named.{Named}
+use Rattle.sy_forms_names.specs.declared.names.Named.{Named}
 use Rattle.sy_forms.specs.declared.rule.Ruling.{Ruling}
 use Rattle.sy_scope_steps.specs.Grammars as spec
-use Rattle.sy_scope_steps.specs.Lists.{sorts_of_names}
+use Rattle.sy_scope_names.specs.Lists.{sorts_of_names}
 use Rattle.sy_scope_steps.specs.declared.group.Collected.{Collected}
 use Rattle.sy_scope_steps.specs.declared.group.Grouped.{Grouped}
 use Rattle.sy_scope_steps.specs.declared.groups.Group.{Group}

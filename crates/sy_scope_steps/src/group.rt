@@ -5,7 +5,7 @@ ghost use Rattle.sy_text.specs.Views.{item_of};
 ghost use Rattle.sy_terms.specs.Denoted.{vals_of};
 ghost use Rattle.sy_forms.specs.Rulings.{ruling_of};
 ghost use Rattle.sy_forms_items.specs.Readings.{ReadingGives};
-ghost use Rattle.sy_forms_phrases.specs.Seen.{environment_of};
+ghost use Rattle.sy_forms_names.specs.Seen.{environment_of};
 ghost use Rattle.sy_terms.specs.Logics.{Serves};
 ghost use Rattle.sy_forms_items.specs.Views.{items_in};
 ghost use Rattle.sy_scope_steps.specs.Grammars as spec;

@@ -2,7 +2,7 @@ use Rattle.std.proofs.Common.{map}
 use Rattle.sy_terms.specs.Definitions.{signature}
 use Rattle.sy_grammar_base.specs.Questions as questions
 use Rattle.sy_grammar_base.specs.Fits.{GoalFits}
-use Rattle.sy_scope_steps.specs.Contexts as contexts
+use Rattle.sy_scope_names.specs.Contexts as contexts
 use Rattle.sy_scope_context.specs.Seen.{sought_of}
 use Rattle.sy_scope_context.proofs.Alike.{holds_at, more_alike}
 use Rattle.sy_scope_context.proofs.check.all_wanted.Goals as goal

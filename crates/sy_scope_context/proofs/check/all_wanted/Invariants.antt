@@ -1,6 +1,6 @@
 use Rattle.std.proofs.Common.{◌≡◌, map, take}
 use Rattle.sy_grammar_base.specs.Questions as questions
-use Rattle.sy_scope_steps.specs.Contexts as contexts
+use Rattle.sy_scope_names.specs.Contexts as contexts
 use Rattle.sy_scope_context.specs.Seen.{sought_of}
 use Rattle.sy_scope_context.proofs.check.all_wanted.Given as goal
 

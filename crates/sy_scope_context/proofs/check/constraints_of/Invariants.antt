@@ -1,6 +1,6 @@
 use Rattle.std.proofs.Common.{◌≡◌, map, take}
 use Rattle.sy_terms.specs.Denoted.{expr_of}
-use Rattle.sy_scope_steps.specs.Contexts.{condition_at}
+use Rattle.sy_scope_names.specs.Contexts.{condition_at}
 use Rattle.sy_scope_context.specs.Seen.{condition_of}
 use Rattle.sy_scope_context.proofs.check.constraints_of.Given as goal
 

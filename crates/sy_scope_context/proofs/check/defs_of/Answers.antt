@@ -1,6 +1,6 @@
 use Rattle.std.proofs.Common.{map}
 use Rattle.sy_terms.specs.Definitions.{signature, body, bodies}
-use Rattle.sy_scope_steps.specs.Contexts.{definition_signature, body_of}
+use Rattle.sy_scope_names.specs.Contexts.{definition_signature, body_of}
 use Rattle.sy_scope_context.specs.Seen.{definition_of}
 use Rattle.sy_scope_context.proofs.Alike.{more_alike, all_seen}
 use Rattle.sy_scope_context.proofs.check.defs_of.Goals as goal

@@ -1,6 +1,6 @@
 use Rattle.std.proofs.Common.{map}
 use Rattle.sy_terms.specs.Definitions.{signature}
-use Rattle.sy_scope_steps.specs.Contexts.{goal_sought}
+use Rattle.sy_scope_names.specs.Contexts.{goal_sought}
 use Rattle.sy_scope_context.specs.Seen.{sought_of}
 use Rattle.sy_scope_context.proofs.Alike.{value_known}
 use Rattle.sy_scope_context.proofs.check.grammar_in.Goals as goal

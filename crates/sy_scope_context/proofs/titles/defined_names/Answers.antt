@@ -1,4 +1,4 @@
-use Rattle.sy_scope_steps.specs.Contexts.{Definition}
+use Rattle.sy_scope_names.specs.Contexts.{Definition}
 use Rattle.sy_scope_context.specs.Seen.{definition_of}
 use Rattle.sy_scope_context.proofs.Alike.{more_seen, all_seen}
 use Rattle.sy_scope_context.proofs.titles.defined_names.Goals as goal

@@ -1,5 +1,5 @@
 use Rattle.std.proofs.Common.{◌≡◌, map, take}
-use Rattle.sy_scope_steps.specs.Contexts.{Definition}
+use Rattle.sy_scope_names.specs.Contexts.{Definition}
 use Rattle.sy_scope_context.specs.Seen.{definition_of}
 use Rattle.sy_scope_context.proofs.titles.defined_names.Given as goal
 

@@ -1,4 +1,4 @@
-use Rattle.sy_forms_phrases.specs.declared.names.Named.{Named}
+use Rattle.sy_forms_names.specs.declared.names.Named.{Named}
 use Rattle.sy_scope_context.proofs.Alike.{more_made, all_made}
 use Rattle.sy_scope_context.proofs.titles.names_of.Goals as goal
 

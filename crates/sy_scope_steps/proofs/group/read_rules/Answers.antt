@@ -6,7 +6,7 @@ use Rattle.sy_scope_causes.specs.declared.cause.Cause.TheVariants as cause
 use Rattle.sy_forms.specs.Rulings.{ruling_of}
 use Rattle.sy_forms_items.specs.Readings.{refuse}
 use Rattle.sy_forms.specs.Rules.{read_rule}
-use Rattle.sy_forms_phrases.specs.Seen.{environment_of}
+use Rattle.sy_forms_names.specs.Seen.{environment_of}
 use Rattle.sy_forms_items.specs.Views.{items_in}
 use Rattle.sy_forms.proofs.Forms as form
 use Rattle.sy_scope_steps.specs.Grammars as spec

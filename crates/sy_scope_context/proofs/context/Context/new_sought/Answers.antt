@@ -1,7 +1,7 @@
 use Rattle.std.proofs.Common.{◌∙◌, ap, sym, subst, arith}
 use Rattle.std.proofs.lemmas.List.{length-map}
 use Rattle.std.proofs.lemmas.Result.{err_from_is_err_and}
-use Rattle.sy_scope_steps.specs.Contexts.{new_name}
+use Rattle.sy_scope_names.specs.Contexts.{new_name}
 use Rattle.sy_scope_context.specs.Seen.{context_of, sought_of}
 use Rattle.sy_scope_context.proofs.Names.{sought_fails, sought_full}
 use Rattle.sy_forms_items.specs.Readings.{ReadingFails}

@@ -1,7 +1,7 @@
 use Rattle.std.proofs.Common.{◌≡◌, ◌∙◌, ap, map, length, arith}
 use Rattle.sy_forms_phrases.specs.Meant.{phrase_of}
 use Rattle.sy_forms_phrases.specs.Phrases.{expr_at}
-use Rattle.sy_scope_steps.specs.Contexts.{definition_signature, body_of, goal_sought, condition_at}
+use Rattle.sy_scope_names.specs.Contexts.{definition_signature, body_of, goal_sought, condition_at}
 use Rattle.sy_scope_context.specs.Seen.{definition_of, sought_of, condition_of}
 use Rattle.sy_scope_context.proofs.context.Context.problem.Goals as goal
 
