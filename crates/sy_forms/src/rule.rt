@@ -4,7 +4,7 @@ ghost use Rattle.std.specs.Option.{option_map};
 ghost use Rattle.sy_text.specs.Items.{listed};
 ghost use Rattle.sy_text.specs.Views.{item_of};
 ghost use Rattle.sy_forms_phrases.specs.Measured.{measures_of};
-ghost use Rattle.sy_forms.specs.Rulings.{ruling_of};
+ghost use Rattle.sy_forms_phrases.specs.Rulings.{ruling_of};
 ghost use Rattle.sy_forms_phrases.specs.Meant.{phrase_of, typed_of};
 ghost use Rattle.sy_forms_items.specs.Readings.{ReadingGives};
 ghost use Rattle.sy_forms.specs.Rules as spec;
@@ -18,21 +18,10 @@ use crate::term::read_term;
 use std::alloc::Global;
 use sy_forms_items::{ReadEnd, Rest, is_symbol, numeral, place_of};
 use sy_forms_names::{Environment, Locals, Named, read_sort};
-use sy_forms_phrases::{Measures, Phrase, Typed, is_small};
+use sy_forms_phrases::{Measures, Phrase, Ruling, Typed, is_small};
 use sy_scope_causes::Cause;
 use sy_terms::{Seq, Sort, Theory, Want, same_sort};
 use sy_text::{Place, Sexp, Sexps};
-
-/// A rule as it is read.
-#[derive(Drop)]
-pub enum Ruling<T: Theory> {
-    /// A grammar term.
-    Template(Phrase<T>),
-    /// `(Constant s)`: every constant of the sort.
-    EachConstant(Sort),
-    /// `(Variable s)`: every argument of the sort.
-    EachVariable(Sort),
-}
 
 /// The item as a term outside of any `let`.
 fn read_outermost<T: Theory>(

@@ -23,7 +23,8 @@ use Rattle.sy_forms_names.specs.Environments.{Environment, Sense, sense_of}
 use Rattle.sy_forms_items.specs.Parts.{place_of, numeral, numeral_in, is_symbol}
 use Rattle.sy_forms_phrases.specs.Phrases as phrase
 use Rattle.sy_forms_phrases.specs.Phrases.{Typed, Several, no_terms, behind, pattern_at, patterns_at}
-use Rattle.sy_forms.specs.Rules.{Ruling, Template, EachConstant, EachVariable, production_at, sort_behind, sort_for_all, rule_for_all, rule_term, rule_list, read_rule, is_negated_numeral, is_int_rule, is_constant_rule}
+use Rattle.sy_forms_phrases.specs.Productions.{Ruling, Template, EachConstant, EachVariable, production_at}
+use Rattle.sy_forms.specs.Rules.{sort_behind, sort_for_all, rule_for_all, rule_term, rule_list, read_rule, is_negated_numeral, is_int_rule, is_constant_rule}
 use Rattle.sy_forms_names.specs.Sorts.{read_sort}
 use Rattle.sy_forms.specs.Terms.{Head, Operator, read_term, read_list, read_terms, read_head, atom_term, numeral_term, name_head, head_applied}
 use Rattle.sy_forms_laws.specs.Fitting.{Setting}

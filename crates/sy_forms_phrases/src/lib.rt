@@ -5,10 +5,12 @@
 mod convert;
 mod measure;
 mod phrase;
+mod ruling;
 mod written;
 
 pub use measure::{Measures, is_small};
 pub use phrase::{
     Phrase, Phrases, Typed, binding, invocation, literal, local, nonterminal, operation, position,
 };
+pub use ruling::Ruling;
 pub use written::is_neg;

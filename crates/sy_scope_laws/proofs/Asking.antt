@@ -36,7 +36,8 @@ use Rattle.sy_forms_laws.proofs.Terms.{whole_fits}
 use Rattle.sy_forms_laws.proofs.Whole.{term_fits}
 use Rattle.sy_scope_names.specs.Contexts as contexts
 use Rattle.sy_scope_names.specs.Contexts.{Context, Sought, Condition, Expanded, question_at, goal_sought, has_room}
-use Rattle.sy_scope_steps.specs.Steps.{environment, read_in, constrain, assume, Called, called_function, function_named, invariant_number, called_definition, as_invariant, as_condition, Parts, with_invariant, invariant_parts, constrain_invariant, with_question, check_synth}
+use Rattle.sy_scope_names.specs.Changes.{Called, called_function, function_named, invariant_number, called_definition, as_invariant, as_condition, Parts, with_invariant, invariant_parts, constrain_invariant, with_question, check_synth}
+use Rattle.sy_scope_steps.specs.Steps.{environment, read_in, constrain, assume}
 use Rattle.sy_scope_laws.specs.Sound.{defined_in, signatures_wanted, signature_of_sought, setting_with, IsDeclared, ConditionFits, ContextIsSound}
 use Rattle.sy_scope_laws.proofs.Conditions.{AreFrom, IsInvariant, starts_fits, keeps_fits, ends_fits}
 use Rattle.sy_scope_laws.proofs.Declaring.{declared_all}

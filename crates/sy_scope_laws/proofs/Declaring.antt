@@ -28,7 +28,8 @@ use Rattle.sy_forms_laws.proofs.Readings.{chained, unless_refused, where_not_ref
 use Rattle.sy_forms_laws.proofs.Sorts.{Known, sort_known}
 use Rattle.sy_forms_laws.proofs.Terms.{whole_fits}
 use Rattle.sy_scope_names.specs.Contexts.{Context, Definition, Sought, new_name, new_sought, new_sort_name, has_room, goal_sought}
-use Rattle.sy_scope_steps.specs.Steps.{with_variable, declare_variable, define_sort, read_in, with_definition, define, with_sought, environment}
+use Rattle.sy_scope_names.specs.Changes.{with_variable, declare_variable, define_sort, with_definition, with_sought}
+use Rattle.sy_scope_steps.specs.Steps.{read_in, define, environment}
 use Rattle.sy_scope_laws.specs.Sound.{defined_in, signatures_wanted, setting_with, IsDeclared, ConditionFits, ContextIsSound}
 use Rattle.sy_scope_laws.proofs.Extending.{extends_itself, extends_last, last_at, extends_defined, extends_wanted, defined_at, wanted_at, declared_wider, condition_wider, goal_wider, phrase_wider, fit_after-last, list_all-append}
 use Rattle.sy_scope_laws.proofs.Rightly.{body_right}

@@ -23,7 +23,8 @@ use Rattle.sy_forms_laws.proofs.Readings.{chained, weaker, any_read}
 use Rattle.sy_grammar_base.specs.Formed.{is_known}
 use Rattle.sy_scope_names.specs.Contexts.{Context, Sought, beginning, with_logic, goal_sought}
 use Rattle.sy_scope_steps.specs.Files.{FileOutcome, command_read, then_next, after_command, file_from, file_read}
-use Rattle.sy_scope_steps.specs.Steps.{PlacedRequest, logic_named, first_logic, set_logic, feature_set, set_feature, command_asked, perform_in, perform_first, perform, step}
+use Rattle.sy_scope_names.specs.Changes.{PlacedRequest, logic_named, first_logic, set_logic, feature_set, set_feature, command_asked}
+use Rattle.sy_scope_steps.specs.Steps.{perform_in, perform_first, perform, step}
 use Rattle.sy_scope_laws.specs.Sound.{setting_with, IsDeclared, ConditionFits, ContextIsSound, SoundBy, Sound}
 use Rattle.sy_scope_laws.proofs.Asking.{constrain_sound, assume_sound, invariants_sound, check_sound}
 use Rattle.sy_scope_laws.proofs.Declaring.{declare_sound, define_sort_sound, define_sound}

@@ -18,8 +18,9 @@ use Rattle.sy_scope_commands.specs.Requests.{Request, Rulebook, Spelled}
 use Rattle.sy_forms_laws.proofs.Readings.{chained, unless_refused, any_read}
 use Rattle.sy_scope_names.specs.Contexts.{Context, Definition, Sought, beginning, with_logic, new_name, new_sought, new_sort_name, has_room, question_at}
 use Rattle.sy_scope_steps.specs.Files.{FileOutcome, command_read, then_next, after_command, file_from, file_read}
-use Rattle.sy_scope_steps.specs.Jobs.{title_of, titles_of}
-use Rattle.sy_scope_steps.specs.Steps.{PlacedRequest, logic_named, first_logic, set_logic, feature_set, set_feature, declare_variable, define_sort, read_in, with_definition, define, value_sort, read_grammar, with_sought, synthesise, constrain, assume, function_named, invariant_parts, with_invariant, constrain_invariant, with_question, check_synth, command_asked, perform_in, perform_first, perform, step}
+use Rattle.sy_scope_names.specs.Jobs.{title_of, titles_of}
+use Rattle.sy_scope_names.specs.Changes.{PlacedRequest, logic_named, first_logic, set_logic, feature_set, set_feature, declare_variable, define_sort, with_definition, value_sort, with_sought, function_named, invariant_parts, with_invariant, constrain_invariant, with_question, check_synth, command_asked}
+use Rattle.sy_scope_steps.specs.Steps.{read_in, define, read_grammar, synthesise, constrain, assume, perform_in, perform_first, perform, step}
 use Rattle.sy_scope_laws.specs.Titled.{AreNamed}
 use Rattle.sy_reply.specs.Writable.{IsTitled}
 use Rattle.sy_scope_laws.proofs.Titles.{function_more, definition_more, titled_now}

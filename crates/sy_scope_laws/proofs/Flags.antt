@@ -11,7 +11,8 @@ use Rattle.sy_grammar_base.specs.Trees.{Production, Nonterminal}
 use Rattle.sy_forms_names.specs.declared.names.Named.{Named}
 use Rattle.sy_forms_names.specs.Environments.{Environment, sense_of}
 use Rattle.sy_forms_items.specs.Parts.{has_no_items, is_symbol, symbol}
-use Rattle.sy_forms.specs.Rules.{production_at, is_constant_rule, are_constant, constant_rules, constant_parts, is_constant_group, constant_groups, has_sort}
+use Rattle.sy_forms_phrases.specs.Productions.{production_at}
+use Rattle.sy_forms.specs.Rules.{is_constant_rule, are_constant, constant_rules, constant_parts, is_constant_group, constant_groups, has_sort}
 use Rattle.sy_forms.specs.Terms.{flag_at}
 use Rattle.sy_scope_steps.specs.Grammars.{Grouped, nonempty, group_with, grouped_in, grouped}
 use Rattle.sy_scope_steps.proofs.Read.{IsRule, AreRules, AreGroups}

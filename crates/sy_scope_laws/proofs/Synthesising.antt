@@ -37,7 +37,8 @@ use Rattle.sy_scope_laws.specs.Rightly.{argument_setting, ReadsRightly}
 use Rattle.sy_scope_laws.proofs.Formed.{sorts_pass, grammar_fits}
 use Rattle.sy_scope_laws.proofs.Placing.{none_among}
 use Rattle.sy_scope_names.specs.Contexts.{Context, new_sought}
-use Rattle.sy_scope_steps.specs.Steps.{read_grammar, value_sort, synthesise}
+use Rattle.sy_scope_names.specs.Changes.{value_sort}
+use Rattle.sy_scope_steps.specs.Steps.{read_grammar, synthesise}
 use Rattle.sy_scope_laws.specs.Sound.{defined_in, signatures_wanted, IsDeclared, ContextIsSound}
 use Rattle.sy_scope_laws.proofs.Declaring.{IsFree, new_sought_free, sought_sound}
 

@@ -12,7 +12,8 @@ use Rattle.sy_forms_names.specs.declared.names.Named.{Named}
 use Rattle.sy_forms_names.specs.Environments.{Environment}
 use Rattle.sy_forms_items.specs.Parts.{place_of}
 use Rattle.sy_forms_items.specs.Readings.{Reading, refuse, ◌>>=◌}
-use Rattle.sy_forms.specs.Rules.{Ruling, production_at, read_rule}
+use Rattle.sy_forms_phrases.specs.Productions.{Ruling, production_at}
+use Rattle.sy_forms.specs.Rules.{read_rule}
 use Rattle.sy_scope_names.proofs.Earlier.{bind_ok, if_ok, unless_ok}
 use Rattle.sy_scope_steps.specs.Grammars.{Collected, Grouped, GrownGrammar, with_rule, read_rules, grouped, is_group_of, opened, with_group, grammar_extended, read_grouped, read_group, read_groups}
 

@@ -14,7 +14,8 @@ use Rattle.sy_forms_names.specs.Environments.{Environment}
 use Rattle.sy_forms_phrases.specs.Measures.{literals_in}
 use Rattle.sy_forms_items.specs.Parts.{symbol, place_of, has_no_items, is_symbol}
 use Rattle.sy_forms_items.specs.Readings.{Reading, refuse, ◌>>=◌}
-use Rattle.sy_forms.specs.Rules.{Ruling, Template, EachConstant, EachVariable, production_at, read_rule, constant_groups, has_sort}
+use Rattle.sy_forms_phrases.specs.Productions.{Ruling, Template, EachConstant, EachVariable, production_at}
+use Rattle.sy_forms.specs.Rules.{read_rule, constant_groups, has_sort}
 use Rattle.sy_scope_commands.specs.Requests.{Listed, Rulebook}
 use Rattle.sy_scope_names.specs.Lists.{sorts_of_names, read_predeclared}
 

@@ -12,18 +12,12 @@ ghost use Rattle.sy_scope_steps.specs.Seen.{collected_of, grouped_of, grown_gram
 
 use crate::group::{Collected, Grouped, group_parts, read_rules};
 use std::alloc::Global;
-use sy_forms::{Environment, Named, ReadEnd, Rest, Ruling, is_symbol, place_of, read_sort};
+use sy_forms::{Environment, Named, ReadEnd, Rest, is_symbol, place_of, read_sort};
 use sy_scope_causes::Cause;
+use sy_scope_names::Group;
 use sy_seq::{Seq, Want};
 use sy_terms::{Sort, Theory, Values, same_sort};
 use sy_text::{Place, Sexp, Sexps};
-
-/// A nonterminal: the sort of what it derives, and its rules as they are read.
-#[derive(Drop)]
-pub struct Group<T: Theory> {
-    pub sort: Sort,
-    pub rules: Seq<Ruling<T>>,
-}
 
 /// The nonterminals whose rules were read.
 #[derive(Drop)]

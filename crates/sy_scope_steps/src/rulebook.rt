@@ -7,12 +7,12 @@ ghost use Rattle.sy_scope_steps.specs.Grammars as spec;
 ghost use Rattle.sy_scope_steps.specs.Seen.{written_of};
 ghost use Rattle.sy_scope_commands.specs.Asked.{rulebook_of};
 
-use crate::groups::{Group, read_groups};
+use crate::groups::read_groups;
 use std::alloc::Global;
 use sy_forms::{Environment, Named, ReadEnd, Rest, Role, constant_groups};
 use sy_scope_causes::Cause;
 use sy_scope_commands::Rulebook;
-use sy_scope_names::{Naming, read_predeclared};
+use sy_scope_names::{Group, Naming, read_predeclared};
 use sy_seq::Seq;
 use sy_terms::{Sort, Theory, Values};
 use sy_text::{Place, Sexps};

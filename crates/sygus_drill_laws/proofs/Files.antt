@@ -15,8 +15,8 @@ use Rattle.sy_forms_phrases.specs.Phrases.{expr_at, exprs_at}
 use Rattle.sy_scope_pool.specs.Pools.{pooled}
 use Rattle.sy_scope_names.specs.Contexts.{Context, Condition, Written, beginning, with_logic, condition_at, question_at}
 use Rattle.sy_scope_steps.specs.Files.{file_from, file_read, command_read, read_as, after_command}
-use Rattle.sy_scope_steps.specs.Jobs.{wish_of, wished}
-use Rattle.sy_scope_steps.specs.Steps.{with_question}
+use Rattle.sy_scope_names.specs.Jobs.{wish_of, wished}
+use Rattle.sy_scope_names.specs.Changes.{with_question}
 use Rattle.sygus_drill.specs.Examples.{examples, example_of, state_at}
 use Rattle.sygus_drill.specs.Files.{drill_file, function, line, constraint}
 use Rattle.sygus_drill.specs.declared.generator.Example.{Example}

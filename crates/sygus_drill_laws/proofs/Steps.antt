@@ -20,7 +20,8 @@ use Rattle.sy_scope_commands.specs.Requests.{request_of}
 use Rattle.sy_scope_names.specs.Lists.{named_item, read_named}
 use Rattle.sy_scope_steps.specs.Grammars.{read_rules, read_group, read_groups, read_productions}
 use Rattle.sy_scope_names.specs.Contexts.{Context, Condition, Written, beginning, with_logic}
-use Rattle.sy_scope_steps.specs.Steps.{perform_in, perform_first, step, with_question}
+use Rattle.sy_scope_names.specs.Changes.{with_question}
+use Rattle.sy_scope_steps.specs.Steps.{perform_in, perform_first, step}
 use Rattle.sygus_drill.specs.declared.generator.Example.{Example}
 use Rattle.sygus_drill_laws.specs.Asked.{byte, grammar}
 use Rattle.sygus_drill_laws.proofs.Laid.{item_in, placed}
