@@ -17,7 +17,7 @@ use sy_inv::expand;
 use sy_scope_causes::Cause;
 use sy_scope_steps::{Spelled, has_room};
 use sy_terms::{Fun, Seq, Sort, Theory, Want, same_sort};
-use sy_text::Place;
+use sy_text_items::Place;
 
 /// A function, and its signature.
 #[derive(Clone, Copy)]

@@ -1,9 +1,9 @@
 -- Requests apart from memory.
 use Rattle.std.specs.Option.{option_map}
 use Rattle.std.specs.Borrow.{Bor}
-use Rattle.sy_text.specs.Items.{Item}
-use Rattle.sy_text.specs.declared.sexp.Sexp.{Sexp}
-use Rattle.sy_text.specs.Views.{item_of}
+use Rattle.sy_text_items.specs.Items.{Item}
+use Rattle.sy_text_items.specs.declared.sexp.Sexp.{Sexp}
+use Rattle.sy_text_items.specs.Views.{item_of}
 use Rattle.sy_scope_steps.specs.Requests as spec
 use Rattle.sy_scope_steps.specs.declared.request.Spelled.{Spelled}
 use Rattle.sy_scope_steps.specs.declared.request.Listed.{Listed}

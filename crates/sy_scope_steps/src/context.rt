@@ -8,7 +8,7 @@ ghost use Rattle.sy_scope_steps.specs.Known.{declared};
 use sy_forms::{Names, ReadEnd, is, is_reserved};
 use sy_scope_causes::Cause;
 use sy_terms::Logic;
-use sy_text::Place;
+use sy_text_items::Place;
 
 /// How many declared names and fresh variables a file may have.
 const NAMES_MAX: usize = 4096;

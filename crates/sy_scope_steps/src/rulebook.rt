@@ -16,7 +16,7 @@ use sy_forms::{Environment, Named, ReadEnd, Rest, Role, constant_groups};
 use sy_scope_causes::Cause;
 use sy_seq::Seq;
 use sy_terms::{Sort, Theory, Values};
-use sy_text::{Place, Sexps};
+use sy_text_items::{Place, Sexps};
 
 /// A grammar that was read: its nonterminals, and the values that were written in its rules, in the order of writing.
 #[derive(Drop)]
