@@ -1,9 +1,9 @@
 -- Reading of terms, by the form of what is read.
 use Rattle.std.proofs.Common.{◌≡◌, refl, ap, List, [], ◌∷◌, ◌++◌, true, false, take, length}
 use Rattle.std.specs.Prelude.{Result, Ok, Err, OnOk, codes}
-use Rattle.sy_text.specs.Items.{Item, leaf, group, Items, none, more}
-use Rattle.sy_text.specs.declared.atom.Atom.{Atom}
-use Rattle.sy_text.specs.declared.atom.Place.{Place}
+use Rattle.sy_text_items.specs.Items.{Item, leaf, group, Items, none, more}
+use Rattle.sy_text_items.specs.declared.atom.Atom.{Atom}
+use Rattle.sy_text_items.specs.declared.atom.Place.{Place}
 use Rattle.sy_scope_causes.specs.declared.cause.Cause.TheVariants as cause
 use Rattle.sy_forms_items.specs.declared.fault.ReadEnd.{ReadEnd}
 use Rattle.sy_forms_items.specs.declared.fault.ReadEnd.TheVariants as ends

@@ -16,7 +16,7 @@ use sy_forms_names::{at_count, same_sorts};
 use sy_forms_phrases::{Phrase, Phrases, Typed, invocation, is_neg, operation};
 use sy_scope_causes::Cause;
 use sy_terms::{Op, Seq, Sort, Sorted, Theory, Want, operator_sort};
-use sy_text::Place;
+use sy_text_items::Place;
 
 /// Phrases with their sorts.
 #[derive(Drop)]

@@ -25,7 +25,7 @@ use sy_scope_causes::Cause;
 use sy_scope_names::sorts_of;
 use sy_scope_steps::nonterminals;
 use sy_terms::{Def, Defs, Logic, Seq, Sort, Term, Theory, Want};
-use sy_text::Place;
+use sy_text_items::Place;
 
 /// How many `check-synth` a file may have.
 const QUESTIONS_MAX: usize = 16;

@@ -1,6 +1,6 @@
 // Constraints and assumptions.
 ghost use Rattle.std.specs.Prelude.{◌≡◌, OnOk};
-ghost use Rattle.sy_text.specs.Views.{item_of};
+ghost use Rattle.sy_text_items.specs.Views.{item_of};
 ghost use Rattle.sy_forms_items.specs.Readings.{ReadingGives};
 ghost use Rattle.sy_terms.specs.Logics.{Serves};
 ghost use Rattle.sy_scope_context.specs.Seen.{context_of};
@@ -11,7 +11,7 @@ use crate::define::note_literals;
 use std::alloc::Global;
 use sy_forms::{ReadEnd, Role};
 use sy_terms::{Sort, Theory};
-use sy_text::Sexp;
+use sy_text_items::Sexp;
 
 impl<T: Theory> Context<T> {
     /// `constraint`: a term of sort `Bool`.

@@ -9,7 +9,7 @@ use sy_grammar_base::Problem;
 use sy_scope_pool::Pool;
 use sy_scope_steps::Group;
 use sy_terms::{Logic, Seq, Sort, Term, Theory, Values};
-use sy_text::Name;
+use sy_text_items::Name;
 
 /// A definition: its name, its arguments, its value's sort, and its body.
 #[derive(Drop)]

@@ -1,7 +1,7 @@
 // Variables, abbreviations of sorts, and terms in a context.
 ghost use Rattle.std.specs.Prelude.{◌≡◌, None, true, OnOk, IfOk};
-ghost use Rattle.sy_text.specs.Views.{item_of};
 ghost use Rattle.sy_forms_names.specs.Environments.{entry_under};
+ghost use Rattle.sy_text_items.specs.Views.{item_of};
 ghost use Rattle.sy_forms_phrases.specs.Meant.{phrase_of};
 ghost use Rattle.sy_forms_phrases.specs.Measured.{measures_of};
 ghost use Rattle.sy_forms_phrases.specs.Measures.{is_within_limits};
@@ -17,7 +17,7 @@ use sy_forms::{Entity, Environment, Named, Phrase, ReadEnd, Role, read_sort, rea
 use sy_scope_commands::Spelled;
 use sy_scope_names::{new_name, new_sort_name};
 use sy_terms::{Sort, Theory, Want};
-use sy_text::Sexp;
+use sy_text_items::Sexp;
 
 impl<T: Theory> Context<T> {
     /// Declares a variable that has a new name.

@@ -1,6 +1,6 @@
 // Definitions.
 ghost use Rattle.std.specs.Prelude.{◌≡◌, ◌++◌, ◌∷◌, [], None, true, OnOk};
-ghost use Rattle.sy_text.specs.Views.{item_of};
+ghost use Rattle.sy_text_items.specs.Views.{item_of};
 ghost use Rattle.sy_terms.specs.declared.term.Fun.TheVariants as funs;
 ghost use Rattle.sy_forms_names.specs.declared.names.Entity.TheVariants as entity;
 ghost use Rattle.sy_forms_names.specs.Environments.{entry_under};
@@ -23,7 +23,7 @@ use sy_scope_commands::Spelled;
 use sy_scope_names::{Naming, new_name, read_named, sorts_of};
 use sy_scope_pool::Pool;
 use sy_terms::{Fun, Seq, Theory, Want};
-use sy_text::{Sexp, Sexps};
+use sy_text_items::{Sexp, Sexps};
 
 /// Adds the values that are written in a phrase.
 pub(crate) fn note_literals<T: Theory>(

@@ -1,6 +1,6 @@
 // Commands.
 ghost use Rattle.std.specs.Prelude.{◌≡◌, OnOk, Some};
-ghost use Rattle.sy_text.specs.Views.{item_of};
+ghost use Rattle.sy_text_items.specs.Views.{item_of};
 ghost use Rattle.sy_terms.specs.Logics.{IsTheoryOf, Serves};
 ghost use Rattle.sy_forms_items.specs.Readings.{ReadingGives};
 ghost use Rattle.sy_scope_commands.specs.Asked.{spelled_of};
@@ -16,7 +16,7 @@ use sy_forms::{ReadEnd, Rest, is, place_of, symbol};
 use sy_scope_causes::Cause;
 use sy_scope_commands::{Request, Spelled, command_named, request_of};
 use sy_terms::Theory;
-use sy_text::{Place, Sexp};
+use sy_text_items::{Place, Sexp};
 
 /// `set-feature`: grammars alone can be switched on; else `Feature` at the keyword.
 pub fn check_feature(feature: Spelled<'_>, on: bool) -> Result<(), ReadEnd>

@@ -11,7 +11,7 @@ use std::alloc::Global;
 use sy_forms::{Named, copied};
 use sy_scope_causes::{Title, Titles};
 use sy_terms::{Seq, Theory, Want};
-use sy_text::Name;
+use sy_text_items::Name;
 
 /// The names of arguments, in order.
 fn names_of(alloc: Global, arguments: &[Named]) -> Result<Seq<Name>, Want>

@@ -5,8 +5,8 @@ use Rattle.std.specs.Prelude.{Ok, Option, codes, ◌^◌, ◌&&◌, nat_eq, nat_
 use Rattle.std.specs.List.{list_all}
 use Rattle.std.proofs.lemmas.Bool.{eqb-true, lt-ltb, le-leb}
 use Rattle.std.proofs.lemmas.List.Elements.{All-nil, All-head, All-tail, All-cons}
-use Rattle.sy_text.specs.Items.{Item, leaf, group, Items, none, more, listed}
-use Rattle.sy_text.specs.declared.atom.Place.{Place}
+use Rattle.sy_text_items.specs.Items.{Item, leaf, group, Items, none, more, listed}
+use Rattle.sy_text_items.specs.declared.atom.Place.{Place}
 use Rattle.sy_terms.specs.Fitting.{Scope, Signature}
 use Rattle.sy_terms.specs.Spelling.{spelling}
 use Rattle.sy_terms.specs.declared.op.Op.{Op}

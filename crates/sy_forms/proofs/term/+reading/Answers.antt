@@ -1,7 +1,7 @@
 use Rattle.std.proofs.Common.{◌∙◌, refl, sym, ap, arith, length, take, ◌++◌}
 use Rattle.std.proofs.lemmas.Result.{err_from_is_err_and}
-use Rattle.sy_text.specs.Items.{Items, listed}
-use Rattle.sy_text.specs.Views.{item_of}
+use Rattle.sy_text_items.specs.Items.{Items, listed}
+use Rattle.sy_text_items.specs.Views.{item_of}
 use Rattle.sy_forms.specs.Gathered.{several_of, bounds_of, bound_of}
 use Rattle.sy_forms_phrases.specs.Meant.{typed_of}
 use Rattle.sy_forms_phrases.specs.Phrases.{behind}

@@ -1,5 +1,5 @@
 use Rattle.std.proofs.Common.{◌∙◌, sym}
-use Rattle.sy_text.specs.Views.{item_of}
+use Rattle.sy_text_items.specs.Views.{item_of}
 use Rattle.sy_forms_items.specs.Views.{items_in}
 use Rattle.sy_forms.proofs.Forms as form
 use Rattle.sy_scope_names.proofs.Listing.{pair_two}

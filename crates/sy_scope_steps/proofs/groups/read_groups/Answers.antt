@@ -1,7 +1,7 @@
 use Rattle.std.proofs.Common.{◌+◌, ◌∙◌, sym, arith, drop}
 use Rattle.std.proofs.lemmas.Result.{err_from_is_err_and}
-use Rattle.sy_text.specs.Views.{item_of}
 use Rattle.sy_forms_names.specs.Seen.{environment_of}
+use Rattle.sy_text_items.specs.Views.{item_of}
 use Rattle.sy_forms_items.specs.Views.{items_in}
 use Rattle.sy_forms.proofs.Forms as form
 use Rattle.sy_forms_names.proofs.Lookups.{found_at, drop-at}
