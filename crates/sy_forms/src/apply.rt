@@ -16,7 +16,8 @@ use sy_forms_phrases::{
     Phrase, Phrases, Typed, at_count, invocation, is_neg, operation, same_sorts,
 };
 use sy_scope_causes::Cause;
-use sy_terms::{Op, Seq, Sort, Sorted, Theory, Want, operator_sort};
+use sy_terms::{Op, Seq, Sort, Sorted, Theory, Want};
+use sy_terms_operators::operator_sort;
 use sy_text::Place;
 
 /// Phrases with their sorts.

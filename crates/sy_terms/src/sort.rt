@@ -1,7 +1,7 @@
 // Logics, sorts, and values over a theory's numbers.
 
 /// A logic: linear integer arithmetic, or fixed-size bit vectors.
-#[derive(Clone, Copy, Debug, PartialEq, Eq)]
+#[derive(Clone, Copy, PartialEq, Eq)]
 pub enum Logic {
     /// Core and Ints, in which no product has two factors that vary.
     Lia,
@@ -10,7 +10,7 @@ pub enum Logic {
 }
 
 /// A sort: truth values, unbounded integers, or bit vectors of a width from 1 to 64.
-#[derive(Clone, Copy, Debug, PartialEq, Eq)]
+#[derive(Clone, Copy, PartialEq, Eq)]
 pub enum Sort {
     /// Truth values.
     Bool,
@@ -21,7 +21,7 @@ pub enum Sort {
 }
 
 /// A value: a truth value, or a number of a theory.
-#[derive(Clone, Copy, Debug, PartialEq, Eq, Hash)]
+#[derive(Clone, Copy, PartialEq, Eq, Hash)]
 pub enum Value<N> {
     /// Of sort `Bool`.
     Truth(bool),

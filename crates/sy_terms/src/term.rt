@@ -10,7 +10,7 @@ use std::alloc::Global;
 use sy_seq::{Seq, Want};
 
 /// A function that a term calls: a definition, or a function to be found.
-#[derive(Clone, Copy, Debug, PartialEq, Eq)]
+#[derive(Clone, Copy, PartialEq, Eq)]
 pub enum Fun {
     /// The definition of this number.
     Defined(u32),

@@ -5,7 +5,7 @@ use crate::sorts::Sorted;
 use std::hash::Hash;
 
 /// What an operator gives on a machine's numbers.
-#[derive(Clone, Copy, Debug, PartialEq, Eq)]
+#[derive(Clone, Copy, PartialEq, Eq)]
 pub enum Applied<N> {
     /// The value.
     Is(Value<N>),
