@@ -15,8 +15,9 @@ use sy_forms_items::ReadEnd;
 use sy_forms_names::{at_count, same_sorts};
 use sy_forms_phrases::{Phrase, Phrases, Typed, invocation, is_neg, operation};
 use sy_scope_causes::Cause;
-use sy_terms::{Op, Seq, Sort, Sorted, Theory, Want, operator_sort};
-use sy_text::Place;
+use sy_terms::{Op, Seq, Sort, Sorted, Theory, Want};
+use sy_terms_operators::operator_sort;
+use sy_text_items::Place;
 
 /// Phrases with their sorts.
 #[derive(Drop)]

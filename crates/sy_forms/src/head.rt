@@ -1,7 +1,7 @@
 // Names as terms, and heads of lists.
 ghost use Rattle.std.specs.Prelude.{◌≡◌};
 ghost use Rattle.std.specs.Option.{option_map};
-ghost use Rattle.sy_text.specs.Views.{item_of};
+ghost use Rattle.sy_text_items.specs.Views.{item_of};
 ghost use Rattle.sy_forms_phrases.specs.Meant.{typed_of};
 ghost use Rattle.sy_forms_items.specs.Readings.{ReadingGives};
 ghost use Rattle.sy_forms_names.specs.Seen.{environment_of, sense_in};
@@ -20,7 +20,7 @@ use sy_forms_names::{
 use sy_forms_phrases::{Phrases, Typed, invocation, literal, local, nonterminal, position};
 use sy_scope_causes::Cause;
 use sy_terms::{Fun, Logic, Op, Sort, Theory, Value};
-use sy_text::{Atom, Name, Place, Sexp};
+use sy_text_items::{Atom, Name, Place, Sexp};
 
 /// A name that stands for nothing that is declared.
 fn undeclared_term<T: Theory>(logic: Logic, place: Place, name: &[u8]) -> Result<Typed<T>, ReadEnd>

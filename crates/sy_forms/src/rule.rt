@@ -1,8 +1,8 @@
 // Whole terms, rules of grammars, and which nonterminals derive numerals alone.
 ghost use Rattle.std.specs.Prelude.{◌≡◌, List, [], ◌∷◌, IfOk};
 ghost use Rattle.std.specs.Option.{option_map};
-ghost use Rattle.sy_text.specs.Items.{listed};
-ghost use Rattle.sy_text.specs.Views.{item_of};
+ghost use Rattle.sy_text_items.specs.Items.{listed};
+ghost use Rattle.sy_text_items.specs.Views.{item_of};
 ghost use Rattle.sy_forms_phrases.specs.Measured.{measures_of};
 ghost use Rattle.sy_forms_phrases.specs.Rulings.{ruling_of};
 ghost use Rattle.sy_forms_phrases.specs.Meant.{phrase_of, typed_of};
@@ -21,7 +21,7 @@ use sy_forms_names::{Environment, Locals, Named, read_sort};
 use sy_forms_phrases::{Measures, Phrase, Ruling, Typed, is_small};
 use sy_scope_causes::Cause;
 use sy_terms::{Seq, Sort, Theory, Want, same_sort};
-use sy_text::{Place, Sexp, Sexps};
+use sy_text_items::{Place, Sexp, Sexps};
 
 /// The item as a term outside of any `let`.
 fn read_outermost<T: Theory>(

@@ -1,6 +1,6 @@
 // Terms.
 ghost use Rattle.std.specs.Prelude.{◌≡◌, Ok, OnOk, take};
-ghost use Rattle.sy_text.specs.Views.{item_of};
+ghost use Rattle.sy_text_items.specs.Views.{item_of};
 ghost use Rattle.sy_forms.specs.Gathered.{several_of, bounds_of, bound_of};
 ghost use Rattle.sy_forms_phrases.specs.Meant.{phrase_of, phrases_of, typed_of};
 ghost use Rattle.sy_forms_phrases.specs.Phrases as phrases;
@@ -20,7 +20,7 @@ use sy_forms_names::{Environment, Locals, Named, Role};
 use sy_forms_phrases::{Phrase, Phrases, Typed, binding};
 use sy_scope_causes::Cause;
 use sy_terms::{Theory, Want};
-use sy_text::{Name, Place, Sexp};
+use sy_text_items::{Name, Place, Sexp};
 
 /// A binding: the name with its term's sort, and the term.
 #[derive(Drop)]

@@ -2,11 +2,11 @@
 use Rattle.std.specs.Prelude.{ℕ, ◌^◌, nat_lt, pos, Bool, true, false, List, [], ◌∷◌, Option, Some, None, Ok, ⊤, ◌≡◌, refl, codes, is_some, if◌then◌else◌, IfOk}
 use Rattle.std.proofs.Common.{ap, sym, subst, ◌∙◌}
 use Rattle.std.proofs.lemmas.Slice.Eq.{bytes_eq-Decides}
-use Rattle.sy_text.specs.Items as items
-use Rattle.sy_text.specs.Items.{Item, leaf, group, Items}
-use Rattle.sy_text.specs.declared.atom.Atom.{Atom}
-use Rattle.sy_text.specs.declared.atom.Atom.TheVariants as atoms
-use Rattle.sy_text.specs.declared.atom.Place.{Place}
+use Rattle.sy_text_items.specs.Items as items
+use Rattle.sy_text_items.specs.Items.{Item, leaf, group, Items}
+use Rattle.sy_text_items.specs.declared.atom.Atom.{Atom}
+use Rattle.sy_text_items.specs.declared.atom.Atom.TheVariants as atoms
+use Rattle.sy_text_items.specs.declared.atom.Place.{Place}
 use Rattle.sy_scope_causes.specs.declared.cause.Cause.TheVariants as cause
 use Rattle.sy_terms.specs.Spelling.{spelling}
 use Rattle.sy_terms.specs.Values.{Val, Whole}

@@ -1,11 +1,11 @@
 -- Terms that are read fit.
 use Rattle.std.specs.Prelude.{ℕ, ◌^◌, nat_lt, pos, Bool, true, false, ◌++◌, List, [], ◌∷◌, length, Option, Some, None, Ok, ⊤, ◌≡◌, refl, bytes_eq, codes, if◌then◌else◌, IfOk}
 use Rattle.std.proofs.Common.{ap, sym, subst, ◌∙◌}
-use Rattle.sy_text.specs.Items as items
-use Rattle.sy_text.specs.Items.{Item, leaf, group, Items}
-use Rattle.sy_text.specs.declared.atom.Atom.{Atom}
-use Rattle.sy_text.specs.declared.atom.Atom.TheVariants as atoms
-use Rattle.sy_text.specs.declared.atom.Place.{Place}
+use Rattle.sy_text_items.specs.Items as items
+use Rattle.sy_text_items.specs.Items.{Item, leaf, group, Items}
+use Rattle.sy_text_items.specs.declared.atom.Atom.{Atom}
+use Rattle.sy_text_items.specs.declared.atom.Atom.TheVariants as atoms
+use Rattle.sy_text_items.specs.declared.atom.Place.{Place}
 use Rattle.sy_scope_causes.specs.declared.cause.Cause.TheVariants as cause
 use Rattle.sy_terms.specs.Values.{Val, Truth, Whole, Bits}
 use Rattle.sy_terms.specs.Theories.{valid, value_at, sort_of_value}

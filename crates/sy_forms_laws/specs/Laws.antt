@@ -1,6 +1,6 @@
 -- What is read fits.
 use Rattle.std.specs.Prelude.{Bool, [], length, Some, None, codes, true, ◌≡◌, IfOk}
-use Rattle.sy_text.specs.Items.{Item}
+use Rattle.sy_text_items.specs.Items.{Item}
 use Rattle.sy_terms.specs.Fitting.{sort_in}
 use Rattle.sy_terms.specs.declared.sort.Logic.TheVariants.{Lia}
 use Rattle.sy_terms.specs.declared.sort.Sort.{Sort}

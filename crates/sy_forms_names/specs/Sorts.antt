@@ -1,7 +1,7 @@
 -- Sorts: `Bool`; `Int` in LIA; `(_ BitVec w)` in BV; an abbreviation.
 use Rattle.std.specs.Prelude.{ℕ, List, Bool, ◌&&◌, Option, Some, None, bytes_eq, codes, nat_le, Ok, if◌then◌else◌}
-use Rattle.sy_text.specs.Items.{Item, leaf, group, Items, none, more}
-use Rattle.sy_text.specs.declared.atom.Place.{Place}
+use Rattle.sy_text_items.specs.Items.{Item, leaf, group, Items, none, more}
+use Rattle.sy_text_items.specs.declared.atom.Place.{Place}
 use Rattle.sy_terms.specs.declared.sort.Logic.{Logic}
 use Rattle.sy_terms.specs.declared.sort.Logic.TheVariants.{Lia, Bv}
 use Rattle.sy_terms.specs.declared.sort.Sort.{Sort}

@@ -1,7 +1,7 @@
 // What names stand for.
 use sy_seq::Seq;
 use sy_terms::{Fun, Sort};
-use sy_text::Name;
+use sy_text_items::Name;
 
 /// Where a term stands, which says what it may name.
 #[derive(Clone, Copy, Debug, PartialEq, Eq)]

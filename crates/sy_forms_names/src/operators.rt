@@ -3,7 +3,8 @@ ghost use Rattle.std.specs.Prelude.{◌≡◌, true, is_some};
 ghost use Rattle.sy_forms_names.specs.Operators as spec;
 
 use sy_forms_items::{Indices, is};
-use sy_terms::{Logic, Op, spell};
+use sy_terms::{Logic, Op};
+use sy_terms_operators::spell;
 
 const CORE: [Op; 8] = [
     Op::Not,

@@ -1,6 +1,6 @@
 // Sorts.
 ghost use Rattle.std.specs.Prelude.{◌≡◌};
-ghost use Rattle.sy_text.specs.Views.{item_of};
+ghost use Rattle.sy_text_items.specs.Views.{item_of};
 ghost use Rattle.sy_terms.specs.Fitting as fitting;
 ghost use Rattle.sy_forms_items.specs.Parts as parts;
 ghost use Rattle.sy_forms_names.specs.Sorts as spec;
@@ -10,7 +10,7 @@ use crate::table::Names;
 use sy_forms_items::{Fault, Indices, Rest, indexed_name, is, is_symbol, symbol_in};
 use sy_scope_causes::Cause;
 use sy_terms::{Logic, Sort, same_sort};
-use sy_text::{Place, Sexp};
+use sy_text_items::{Place, Sexp};
 
 /// Whether the number is a width, from 1 to 64.
 pub fn is_width(n: u128) -> bool

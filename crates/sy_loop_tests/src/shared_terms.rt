@@ -6,7 +6,8 @@ use std::rc::Rc;
 use sy_bank_rows::{Grown, Growns, Kept, copied_part, filled_part};
 use sy_grammar_base::{Derivation, Part};
 use sy_meaning_integers::IntTheory;
-use sy_terms::{Fun, Seq, Sort, Term, Value, spell};
+use sy_terms::{Fun, Seq, Sort, Term, Value};
+use sy_terms_operators::spell;
 
 /// What the part becomes of the first and second term.
 fn filled(

@@ -7,8 +7,9 @@ ghost use Rattle.sy_reply.specs.Writable.{is_plain_value};
 
 use sy_io::Bytes;
 use sy_seq::Want;
-use sy_terms::{Op, Sort, Theory, Value, spell};
-use sy_text::{write_numeral, write_vector};
+use sy_terms::{Op, Sort, Theory, Value};
+use sy_terms_operators::spell;
+use sy_text_writer::{write_numeral, write_vector};
 
 /// Appends a sort.
 #[tactic(auto, unfolding(crate::specs::Replies::sort_text, crate::specs::Replies::bracketed))]

@@ -2,7 +2,7 @@
 use Rattle.std.specs.Prelude.{Bool, List, map, Some, Ok, ◌≡◌, All, IfOk}
 use Rattle.std.proofs.Common.{sym, subst}
 use Rattle.std.proofs.lemmas.List.Elements.{All-map}
-use Rattle.sy_text.specs.Items.{Item}
+use Rattle.sy_text_items.specs.Items.{Item}
 use Rattle.sy_terms.specs.Fitting.{Signature}
 use Rattle.sy_terms.specs.declared.op.Op.{Op}
 use Rattle.sy_terms.specs.declared.sort.Logic.{Logic}

@@ -1,15 +1,15 @@
 -- Requests apart from memory.
 use Rattle.std.specs.Option.{option_map}
 use Rattle.std.specs.Borrow.{Bor}
-use Rattle.sy_text.specs.Items.{Item}
-use Rattle.sy_text.specs.declared.sexp.Sexp.{Sexp}
-use Rattle.sy_text.specs.Views.{item_of}
 use Rattle.sy_scope_commands.specs.Requests as spec
 use Rattle.sy_scope_commands.specs.declared.request.Spelled.{Spelled}
 use Rattle.sy_scope_commands.specs.declared.request.Listed.{Listed}
 use Rattle.sy_scope_commands.specs.declared.request.Rulebook.{Rulebook}
 use Rattle.sy_scope_commands.specs.declared.request.Request.{Request}
 use Rattle.sy_scope_commands.specs.declared.request.Request.TheVariants as requests
+use Rattle.sy_text_items.specs.Items.{Item}
+use Rattle.sy_text_items.specs.declared.sexp.Sexp.{Sexp}
+use Rattle.sy_text_items.specs.Views.{item_of}
 
 -- items of a list
 abbrev pub two_of : Bor Sexp × Bor Sexp → Item × Item

@@ -1,10 +1,10 @@
 -- Commands by their names, and the number and kinds of their parts.
 use Rattle.std.specs.Prelude.{ℕ, List, Bool, true, false, Option, Some, None, bytes_eq, codes, if◌then◌else◌}
 use Rattle.std.specs.Option.{option_map}
-use Rattle.sy_text.specs.Items.{Item, leaf, group, Items, none, more}
-use Rattle.sy_text.specs.declared.atom.Atom.{Atom}
-use Rattle.sy_text.specs.declared.atom.Atom.TheVariants as atoms
-use Rattle.sy_text.specs.declared.atom.Place.{Place}
+use Rattle.sy_text_items.specs.Items.{Item, leaf, group, Items, none, more}
+use Rattle.sy_text_items.specs.declared.atom.Atom.{Atom}
+use Rattle.sy_text_items.specs.declared.atom.Atom.TheVariants as atoms
+use Rattle.sy_text_items.specs.declared.atom.Place.{Place}
 use Rattle.sy_forms_items.specs.Parts.{symbol, place_of, has_no_items}
 use Rattle.sy_scope_commands.specs.declared.commands.Command.{Command}
 use Rattle.sy_scope_commands.specs.declared.commands.Command.TheVariants.{SetLogic, SetFeature, SetInfo, SetOption, DeclareVar, DefineSort, DefineFun, SynthFun, SynthInv, Constraint, Assume, InvConstraint, CheckSynth}

@@ -1,7 +1,7 @@
 // The parts of each command.
 ghost use Rattle.std.specs.Prelude.{◌≡◌};
 ghost use Rattle.std.specs.Option.{option_map};
-ghost use Rattle.sy_text.specs.Views.{item_of};
+ghost use Rattle.sy_text_items.specs.Views.{item_of};
 ghost use Rattle.sy_forms_items.specs.Views.{items_in};
 ghost use Rattle.sy_scope_commands.specs.Asked.{two_of, three_of, four_of, five_of, request_in, rulebook_of};
 ghost use Rattle.sy_scope_commands.specs.Requests as spec;
@@ -11,7 +11,7 @@ use crate::request::{
     Request, Rulebook, is_no_parameters, keyword, list_in, rulebook_in, spelling, switch,
 };
 use sy_forms_items::Rest;
-use sy_text::Sexp;
+use sy_text_items::Sexp;
 
 /// The only item.
 fn one<'a>(parts: Rest<'a>) -> Option<&'a Sexp>

@@ -1,12 +1,12 @@
 // What a command asks for, by its parts.
 ghost use Rattle.std.specs.Prelude.{◌≡◌};
 ghost use Rattle.std.specs.Option.{option_map};
-ghost use Rattle.sy_text.specs.Views.{item_of};
 ghost use Rattle.sy_scope_commands.specs.Asked.{spelled_of, listed_of, rulebook_of};
 ghost use Rattle.sy_scope_commands.specs.Requests as spec;
+ghost use Rattle.sy_text_items.specs.Views.{item_of};
 
 use sy_forms_items::{Rest, is, place_of, symbol};
-use sy_text::{Atom, Name, Place, Sexp, Sexps};
+use sy_text_items::{Atom, Name, Place, Sexp, Sexps};
 
 /// A symbol or a keyword of the file, and where it stands.
 #[derive(Clone, Copy)]

@@ -2,8 +2,8 @@
 use Rattle.std.proofs.Common.{◌≡◌, ◌∙◌, ◌≤◌, refl, sym, ap, arith, ℕ, Bool, true, false, []}
 use Rattle.std.specs.Prelude.{Ok, Err, cond, min, nat_le, ◌&&◌}
 use Rattle.std.proofs.lemmas.Bool.{leb-true}
-use Rattle.sy_text.specs.Items.{Item}
-use Rattle.sy_text.specs.declared.atom.Place.{Place}
+use Rattle.sy_text_items.specs.Items.{Item}
+use Rattle.sy_text_items.specs.declared.atom.Place.{Place}
 use Rattle.sy_terms.specs.Sorts.{same_sort}
 use Rattle.sy_terms.specs.declared.sort.Sort.{Sort}
 use Rattle.sy_scope_causes.specs.declared.cause.Cause.TheVariants as cause

@@ -1,6 +1,6 @@
 // Commands.
 ghost use Rattle.std.specs.Prelude.{◌≡◌, OnOk, Some};
-ghost use Rattle.sy_text.specs.Views.{item_of};
+ghost use Rattle.sy_text_items.specs.Views.{item_of};
 ghost use Rattle.sy_forms_items.specs.Readings.{ReadingGives};
 ghost use Rattle.sy_terms.specs.Logics.{IsTheoryOf, Serves};
 ghost use Rattle.sy_scope_declared.specs.Calls.{asked_of};
@@ -17,7 +17,7 @@ use sy_scope_causes::Cause;
 use sy_scope_commands::Request;
 use sy_scope_declared::{Asked, Context, Spellings, check_feature, read_request};
 use sy_terms::Theory;
-use sy_text::Sexp;
+use sy_text_items::Sexp;
 
 /// Takes the context to the next by what a command asks for, or tells the command's first condition that doesn't hold.
 /// After an `Err` the context is of no further use.

@@ -1,6 +1,6 @@
 // Constraints and assumptions.
 ghost use Rattle.std.specs.Prelude.{◌≡◌, OnOk};
-ghost use Rattle.sy_text.specs.Views.{item_of};
+ghost use Rattle.sy_text_items.specs.Views.{item_of};
 ghost use Rattle.sy_forms_items.specs.Readings.{ReadingGives};
 ghost use Rattle.sy_terms.specs.Logics.{Serves};
 ghost use Rattle.sy_scope_declared.specs.Seen.{context_of};
@@ -12,7 +12,7 @@ use sy_forms_items::ReadEnd;
 use sy_forms_names::Role;
 use sy_scope_declared::{Condition, Context, note_literals};
 use sy_terms::{Sort, Theory};
-use sy_text::Sexp;
+use sy_text_items::Sexp;
 
 /// `constraint`: a term of sort `Bool`.
 pub(crate) fn constrain<T: Theory>(

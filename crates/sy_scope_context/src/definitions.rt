@@ -1,6 +1,6 @@
 // Terms in a context, and definitions.
 ghost use Rattle.std.specs.Prelude.{◌≡◌, true, OnOk, IfOk};
-ghost use Rattle.sy_text.specs.Views.{item_of};
+ghost use Rattle.sy_text_items.specs.Views.{item_of};
 ghost use Rattle.sy_forms_items.specs.Readings.{ReadingGives};
 ghost use Rattle.sy_forms_phrases.specs.Meant.{phrase_of};
 ghost use Rattle.sy_forms_phrases.specs.Measured.{measures_of};
@@ -19,7 +19,7 @@ use sy_scope_commands::Spelled;
 use sy_scope_declared::{Context, Definition};
 use sy_scope_names::{Naming, new_name, read_named};
 use sy_terms::{Sort, Theory};
-use sy_text::{Sexp, Sexps};
+use sy_text_items::{Sexp, Sexps};
 
 /// The whole term of the sort that the item is, over these arguments.
 pub(crate) fn read_in<T: Theory>(

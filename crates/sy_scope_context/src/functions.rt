@@ -1,7 +1,7 @@
 // Functions to be found.
 ghost use Rattle.std.specs.Prelude.{◌≡◌, OnOk};
 ghost use Rattle.std.specs.Option.{option_map};
-ghost use Rattle.sy_text.specs.Views.{item_of};
+ghost use Rattle.sy_text_items.specs.Views.{item_of};
 ghost use Rattle.sy_forms_items.specs.Readings.{ReadingGives};
 ghost use Rattle.sy_terms.specs.Logics.{Serves};
 ghost use Rattle.sy_scope_commands.specs.Asked.{spelled_of, rulebook_of};
@@ -17,7 +17,7 @@ use sy_scope_declared::{Context, Sought};
 use sy_scope_names::{Group, Naming, read_named};
 use sy_scope_steps::read_rulebook;
 use sy_terms::{Seq, Sort, Theory, Values};
-use sy_text::{Sexp, Sexps};
+use sy_text_items::{Sexp, Sexps};
 
 /// A grammar: the nonterminals that are written, where there are any, and the values that are written in them.
 #[derive(Drop)]

@@ -25,7 +25,7 @@ use sy_grammar_defaults::default_grammar;
 use sy_scope_causes::Cause;
 use sy_scope_names::{nonterminals, sorts_of};
 use sy_terms::{Def, Defs, Logic, Seq, Term, Theory, Want};
-use sy_text::Place;
+use sy_text_items::Place;
 
 /// How many `check-synth` a file may have.
 const QUESTIONS_MAX: usize = 16;

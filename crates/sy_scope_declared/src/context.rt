@@ -10,7 +10,7 @@ use sy_grammar_base::Problem;
 use sy_scope_names::Group;
 use sy_scope_pool::Pool;
 use sy_terms::{Logic, Seq, Sort, Term, Theory};
-use sy_text::Name;
+use sy_text_items::Name;
 
 /// A definition: its name, its arguments, its value's sort, and its body.
 #[derive(Drop)]

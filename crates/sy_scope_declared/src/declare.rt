@@ -1,6 +1,6 @@
 // Variables, abbreviations of sorts, and terms in a context.
 ghost use Rattle.std.specs.Prelude.{◌≡◌, None, OnOk};
-ghost use Rattle.sy_text.specs.Views.{item_of};
+ghost use Rattle.sy_text_items.specs.Views.{item_of};
 ghost use Rattle.sy_forms_names.specs.Environments.{entry_under};
 ghost use Rattle.sy_forms_items.specs.Readings.{ReadingGives};
 ghost use Rattle.sy_scope_commands.specs.Asked.{spelled_of};
@@ -13,7 +13,7 @@ use sy_forms_names::{Entity, read_sort};
 use sy_scope_commands::Spelled;
 use sy_scope_names::{new_name, new_sort_name};
 use sy_terms::{Sort, Theory, Want};
-use sy_text::Sexp;
+use sy_text_items::Sexp;
 
 impl<T: Theory> Context<T> {
     /// Declares a variable that has a new name.

@@ -18,7 +18,7 @@ use sy_scope_causes::Cause;
 use sy_scope_commands::Spelled;
 use sy_scope_names::has_room;
 use sy_terms::{Fun, Seq, Sort, Theory, Want, same_sort};
-use sy_text::Place;
+use sy_text_items::Place;
 
 /// A function, and its signature.
 #[derive(Clone, Copy)]

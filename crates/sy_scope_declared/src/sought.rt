@@ -1,7 +1,7 @@
 // What a function to be found adds.
 ghost use Rattle.std.specs.Prelude.{◌≡◌, ◌++◌, ◌∷◌, [], None, OnOk, IfOk};
 ghost use Rattle.std.specs.Option.{option_map};
-ghost use Rattle.sy_text.specs.Views.{item_of};
+ghost use Rattle.sy_text_items.specs.Views.{item_of};
 ghost use Rattle.sy_terms.specs.Denoted.{vals_of};
 ghost use Rattle.sy_terms.specs.declared.term.Fun.TheVariants as funs;
 ghost use Rattle.sy_forms_names.specs.declared.names.Entity.TheVariants as entity;
@@ -23,7 +23,7 @@ use sy_scope_commands::Spelled;
 use sy_scope_names::{new_name, sorts_of};
 use sy_scope_pool::Pool;
 use sy_terms::{Fun, Sort, Theory, Value, Want};
-use sy_text::Sexp;
+use sy_text_items::Sexp;
 
 /// How many functions to be found a file may have.
 const SOUGHT_MAX: usize = 4;

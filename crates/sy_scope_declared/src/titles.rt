@@ -12,7 +12,7 @@ use sy_forms_items::copied;
 use sy_forms_names::Named;
 use sy_scope_causes::{Title, Titles};
 use sy_terms::{Seq, Theory, Want};
-use sy_text::Name;
+use sy_text_items::Name;
 
 /// The names of arguments, in order.
 fn names_of(alloc: Global, arguments: &[Named]) -> Result<Seq<Name>, Want>

@@ -1,8 +1,8 @@
 -- Commands that declare keep contexts sound.
 use Rattle.std.specs.Prelude.{ℕ, Bool, true, false, ◌||◌, nat_lt, List, [], ◌∷◌, ◌++◌, length, Some, Ok, is_some, ◌≡◌, refl, All, ⊤, IfOk}
 use Rattle.std.proofs.lemmas.List.Elements.{All-push, All-weaker}
-use Rattle.sy_text.specs.Items.{Item, Items}
-use Rattle.sy_text.specs.declared.atom.Place.{Place}
+use Rattle.sy_text_items.specs.Items.{Item, Items}
+use Rattle.sy_text_items.specs.declared.atom.Place.{Place}
 use Rattle.sy_scope_causes.specs.declared.cause.Cause.TheVariants as cause
 use Rattle.sy_terms.specs.Fitting.{Signature}
 use Rattle.sy_terms.specs.Values.{Val}

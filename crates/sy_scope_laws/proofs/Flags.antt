@@ -2,7 +2,7 @@
 use Rattle.std.proofs.Common.{◌≡◌, ◌∙◌, refl, sym, ap, subst, ℕ, zero, suc, List, [], ◌∷◌, Bool, true, false, Some, None, slice_get}
 use Rattle.std.specs.Prelude.{codes, ◌&&◌, is_some, if◌then◌else◌}
 use Rattle.std.specs.List.{list_all}
-use Rattle.sy_text.specs.Items.{Item, leaf, group, Items, none, more, listed}
+use Rattle.sy_text_items.specs.Items.{Item, leaf, group, Items, none, more, listed}
 use Rattle.sy_terms.specs.declared.sort.Logic.TheVariants.{Lia}
 use Rattle.sy_terms.specs.declared.sort.Sort.{Sort}
 use Rattle.sy_terms_laws.proofs.Equations.{both_true, if_Some}

@@ -5,8 +5,8 @@ use Rattle.std.specs.Prelude.{Ok, Option, codes, ◌^◌, ◌&&◌, nat_eq, nat_
 use Rattle.std.specs.List.{list_all}
 use Rattle.std.proofs.lemmas.Bool.{eqb-true, lt-ltb, le-leb}
 use Rattle.std.proofs.lemmas.List.Elements.{All-nil, All-head, All-tail, All-cons}
-use Rattle.sy_text.specs.Items.{Item, leaf, group, Items, none, more, listed}
-use Rattle.sy_text.specs.declared.atom.Place.{Place}
+use Rattle.sy_text_items.specs.Items.{Item, leaf, group, Items, none, more, listed}
+use Rattle.sy_text_items.specs.declared.atom.Place.{Place}
 use Rattle.sy_terms.specs.Fitting.{Scope, Signature}
 use Rattle.sy_terms.specs.Spelling.{spelling}
 use Rattle.sy_terms.specs.declared.op.Op.{Op}
@@ -16,7 +16,7 @@ use Rattle.sy_terms.specs.declared.sort.Logic.TheVariants.{Lia, Bv}
 use Rattle.sy_terms.specs.declared.sort.Sort.{Sort}
 use Rattle.sy_scope_causes.specs.declared.cause.Cause.TheVariants as cause
 use Rattle.sy_terms_laws.proofs.Equations.{same_sort_is}
-use Rattle.sy_grammar_base.proofs.Sorting.{same_sort_self}
+use Rattle.sy_grammar_checks.proofs.Sorting.{same_sort_self}
 use Rattle.sy_grammar_base.specs.Formed.{is_known, nonterminal_fits, is_formed, rule_sort}
 use Rattle.sy_grammar_base.specs.Trees.{Production, Nonterminal, Syntax, is_sort}
 use Rattle.sy_forms_names.specs.declared.names.Entity.{Entity}

@@ -3,7 +3,7 @@ use Rattle.std.proofs.Common.{◌≡◌, ◌+◌, refl, sym, subst, ℕ, List, [
 use Rattle.std.specs.Prelude.{Option, bytes_eq, if◌then◌else◌}
 use Rattle.std.proofs.lemmas.List.Elements.{All-head, All-tail}
 use Rattle.std.proofs.lemmas.Slice.Eq.{bytes_eq-Decides}
-use Rattle.sy_text.specs.Items.{Items, listed}
+use Rattle.sy_text_items.specs.Items.{Items, listed}
 use Rattle.sy_terms.specs.Fitting.{Scope}
 use Rattle.sy_terms.specs.declared.sort.Logic.{Logic}
 use Rattle.sy_terms.specs.declared.sort.Sort.{Sort}

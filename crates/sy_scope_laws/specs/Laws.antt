@@ -1,6 +1,6 @@
 -- What files ask fits.
 use Rattle.std.specs.Prelude.{ℕ, Bool, List, Some, ◌≡◌, All, IfOk}
-use Rattle.sy_text.specs.Items.{Item}
+use Rattle.sy_text_items.specs.Items.{Item}
 use Rattle.sy_terms.specs.declared.op.Op.{Op}
 use Rattle.sy_terms.specs.declared.sort.Logic.{Logic}
 use Rattle.sy_terms.specs.declared.sort.Sort.{Sort}

@@ -1,7 +1,7 @@
 -- What was read first, where all was read.
 use Rattle.std.proofs.Common.{◌≡◌, refl, Bool, true, false, cond}
 use Rattle.std.specs.Prelude.{Ok, Err}
-use Rattle.sy_text.specs.declared.atom.Place.{Place}
+use Rattle.sy_text_items.specs.declared.atom.Place.{Place}
 use Rattle.sy_scope_causes.specs.declared.cause.Cause.{Cause}
 use Rattle.sy_forms_items.specs.Readings.{Reading, refuse, ◌>>=◌}
 

@@ -1,6 +1,6 @@
 -- What the commands so far declare and ask for.
 use Rattle.std.specs.Prelude.{ℕ, ◌+◌, List, [], map, length, Bool, ◌||◌, nat_le, nat_lt, is_some, Option, Some, None, Ok, bytes_eq, codes, if◌then◌else◌}
-use Rattle.sy_text.specs.declared.atom.Place.{Place}
+use Rattle.sy_text_items.specs.declared.atom.Place.{Place}
 use Rattle.sy_terms.specs.Values.{Val}
 use Rattle.sy_terms.specs.Expr.{Expr}
 use Rattle.sy_terms.specs.Fitting.{Signature}

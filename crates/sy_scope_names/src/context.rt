@@ -9,7 +9,7 @@ use sy_forms_items::{ReadEnd, is};
 use sy_forms_names::{Names, is_reserved};
 use sy_scope_causes::Cause;
 use sy_terms::Logic;
-use sy_text::Place;
+use sy_text_items::Place;
 
 /// How many declared names and fresh variables a file may have.
 const NAMES_MAX: usize = 4096;

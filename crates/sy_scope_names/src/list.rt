@@ -1,8 +1,8 @@
 // Lists of names with sorts.
 ghost use Rattle.std.specs.Prelude.{◌≡◌, List, [], IfOk};
 ghost use Rattle.std.specs.Option.{option_map};
-ghost use Rattle.sy_text.specs.Views.{item_of};
 ghost use Rattle.sy_scope_commands.specs.Requests.{symbol_spelled};
+ghost use Rattle.sy_text_items.specs.Views.{item_of};
 ghost use Rattle.sy_forms_items.specs.Readings.{ReadingGives};
 ghost use Rattle.sy_forms_items.specs.Views.{items_in};
 ghost use Rattle.sy_forms_names.specs.declared.names.Named.{Named};
@@ -14,7 +14,7 @@ use sy_forms_names::{Named, Names, is_reserved, place_among, read_sort};
 use sy_scope_causes::Cause;
 use sy_seq::{Seq, Want};
 use sy_terms::{Logic, Sort};
-use sy_text::{Name, Place, Sexp, Sexps};
+use sy_text_items::{Name, Place, Sexp, Sexps};
 
 /// How many names a list may have.
 const NAMED_MAX: usize = 64;

@@ -1,7 +1,7 @@
 // Predeclarations of nonterminals.
 ghost use Rattle.std.specs.Prelude.{◌≡◌};
 ghost use Rattle.std.specs.Option.{option_map};
-ghost use Rattle.sy_text.specs.Views.{item_of};
+ghost use Rattle.sy_text_items.specs.Views.{item_of};
 ghost use Rattle.sy_forms_items.specs.Readings.{ReadingGives};
 ghost use Rattle.sy_forms_items.specs.Views.{items_in};
 ghost use Rattle.sy_scope_names.specs.Lists as spec;
@@ -13,7 +13,7 @@ use sy_forms_names::Named;
 use sy_scope_causes::Cause;
 use sy_seq::Seq;
 use sy_terms::{Sort, same_sort};
-use sy_text::{Place, Sexp, Sexps};
+use sy_text_items::{Place, Sexp, Sexps};
 
 /// The sort of a list of a name and a sort.
 fn sort_of_pair(item: &Sexp) -> Option<&Sexp>

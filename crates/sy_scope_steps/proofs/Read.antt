@@ -2,8 +2,8 @@
 use Rattle.std.proofs.Common.{◌≡◌, ◌≤◌, ◌+◌, ◌∙◌, refl, sym, ap, arith, List, [], ◌∷◌, ◌++◌, length, Bool, true, false, cond, Some, None}
 use Rattle.std.specs.Prelude.{Ok, Err, nat_lt, Option}
 use Rattle.std.proofs.lemmas.Bool.{ltb-true}
-use Rattle.sy_text.specs.Items.{Item, Items, none, more, listed}
-use Rattle.sy_text.specs.declared.atom.Place.{Place}
+use Rattle.sy_text_items.specs.Items.{Item, Items, none, more, listed}
+use Rattle.sy_text_items.specs.declared.atom.Place.{Place}
 use Rattle.sy_terms.specs.declared.sort.Sort.{Sort}
 use Rattle.sy_scope_causes.specs.declared.cause.Cause.{Cause}
 use Rattle.sy_scope_causes.specs.declared.cause.Cause.TheVariants as cause

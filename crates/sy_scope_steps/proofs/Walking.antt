@@ -1,7 +1,7 @@
 -- Readers of rules and groups, at the end of the list and at one item more.
 use Rattle.std.proofs.Common.{◌≡◌, ◌≤◌, refl, arith, ℕ, List, [], ◌∷◌, ◌++◌, length, drop, true, false, None, zero, suc}
 use Rattle.std.specs.Prelude.{Ok, nat_lt}
-use Rattle.sy_text.specs.Items.{Item, Items, none, more}
+use Rattle.sy_text_items.specs.Items.{Item, Items, none, more}
 use Rattle.sy_terms.specs.declared.sort.Sort.{Sort}
 use Rattle.sy_scope_causes.specs.declared.cause.Cause.TheVariants as cause
 use Rattle.sy_forms_names.specs.declared.names.Named.{Named}

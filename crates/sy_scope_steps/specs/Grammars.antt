@@ -1,7 +1,7 @@
 -- Written grammars: a predeclaration of nonterminals, and a group of rules for each.
 use Rattle.std.specs.Prelude.{ℕ, ◌+◌, List, [], ◌∷◌, ◌++◌, length, Bool, ◌&&◌, nat_lt, nat_eq, is_some, Option, Some, None, Ok, if◌then◌else◌}
-use Rattle.sy_text.specs.Items.{Item, leaf, group, Items, none, more, listed}
-use Rattle.sy_text.specs.declared.atom.Place.{Place}
+use Rattle.sy_text_items.specs.Items.{Item, leaf, group, Items, none, more, listed}
+use Rattle.sy_text_items.specs.declared.atom.Place.{Place}
 use Rattle.sy_terms.specs.Values.{Val}
 use Rattle.sy_terms.specs.declared.sort.Logic.{Logic}
 use Rattle.sy_terms.specs.declared.sort.Sort.{Sort}

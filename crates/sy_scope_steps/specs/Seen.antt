@@ -1,6 +1,6 @@
 -- What is read of a grammar, apart from memory.
 use Rattle.std.specs.Prelude.{List, map}
-use Rattle.sy_text.specs.Views.{item_of}
+use Rattle.sy_text_items.specs.Views.{item_of}
 use Rattle.sy_terms.specs.Values.{Val}
 use Rattle.sy_terms.specs.Denoted.{vals_of}
 use Rattle.sy_forms_names.specs.declared.names.Named.{Named}

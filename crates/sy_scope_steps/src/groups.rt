@@ -1,7 +1,7 @@
 // Groups of rules, one for each nonterminal.
 ghost use Rattle.std.specs.Prelude.{◌≡◌, OnOk};
 ghost use Rattle.std.specs.Option.{option_map};
-ghost use Rattle.sy_text.specs.Views.{item_of};
+ghost use Rattle.sy_text_items.specs.Views.{item_of};
 ghost use Rattle.sy_forms_items.specs.Readings.{ReadingGives};
 ghost use Rattle.sy_forms.specs.Rules as rules;
 ghost use Rattle.sy_forms_names.specs.Seen.{environment_of};
@@ -17,7 +17,7 @@ use sy_scope_causes::Cause;
 use sy_scope_names::Group;
 use sy_seq::{Seq, Want};
 use sy_terms::{Sort, Theory, Values, same_sort};
-use sy_text::{Place, Sexp, Sexps};
+use sy_text_items::{Place, Sexp, Sexps};
 
 /// The nonterminals whose rules were read.
 #[derive(Drop)]

@@ -15,7 +15,7 @@ use sy_scope_commands::Rulebook;
 use sy_scope_names::{Group, Naming, read_predeclared};
 use sy_seq::Seq;
 use sy_terms::{Sort, Theory, Values};
-use sy_text::{Place, Sexps};
+use sy_text_items::{Place, Sexps};
 
 /// A grammar that was read: its nonterminals, and the values that were written in its rules, in the order of writing.
 #[derive(Drop)]

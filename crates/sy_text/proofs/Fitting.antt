@@ -4,18 +4,17 @@ use Rattle.std.specs.Prelude.{IfOk, IfSome}
 use Rattle.std.proofs.lemmas.Grind.{common_steps}
 use Rattle.std.proofs.Math.Nat.{le_trans}
 use Rattle.std.specs.List.{fold}
-use Rattle.sy_text.specs.declared.atom.Atom.{Atom}
-use Rattle.sy_text.specs.declared.atom.Atom.TheVariants.{Symbol, Keyword, Numeral, Decimal, Bits, Text}
-use Rattle.sy_text.specs.declared.sexp.Sexp.{Sexp}
+use Rattle.sy_text_items.specs.declared.atom.Atom.{Atom}
+use Rattle.sy_text_items.specs.declared.atom.Atom.TheVariants.{Symbol, Keyword, Numeral, Decimal, Bits, Text}
+use Rattle.sy_text_items.specs.declared.sexp.Sexp.{Sexp}
 use Rattle.sy_text.specs.declared.fault.TextEnd.{TextEnd}
-use Rattle.sy_text.specs.Items.{Item, leaf, group, Items, none, more}
-use Rattle.sy_text.specs.Views.{item_of}
-use Rattle.sy_text.specs.Lexicon.{space, letter, mark, digit, binary_digit, hexadecimal_digit, symbol_byte, quotable, bar_content, digit_value}
+use Rattle.sy_text_items.specs.Items.{Item, leaf, group, Items, none, more}
+use Rattle.sy_text_items.specs.Views.{item_of}
+use Rattle.sy_text_items.specs.Lexicon.{space, letter, mark, digit, binary_digit, hexadecimal_digit, symbol_byte, quotable, bar_content, digit_value}
 use Rattle.sy_text.specs.Spelling.{all_bytes, bare, AtomFits, ItemFits, ItemsFit}
 use Rattle.sy_text.specs.Grammar.{IsVector, IsAtom, IsItem, AreItems, StandsInFront}
 use Rattle.sy_text.proofs.Again.{and_both}
-use Rattle.sy_text.proofs.Values.{next, step, nothing, hexadecimal_small, binary_small}
-use Rattle.sy_text.proofs.Digits.{pow_of_pow}
+use Rattle.sy_text.proofs.Values.{next, step, nothing, hexadecimal_small, binary_small, pow_of_pow}
 
 -- ---- atoms
 

@@ -2,14 +2,14 @@
 use Rattle.std.proofs.Common.{◌≡◌, ℕ, zero, suc, ◌+◌, ◌-◌, ◌<◌, ◌≤◌, Bool, true, false, cond, not, ◌&&◌, nat_eq, List, [], ◌∷◌, ◌++◌, length, Option, Some, None, Result, Ok, Err, refl, sym, ap, subst, ◌∙◌, inl, inr, arith, append_assoc}
 use Rattle.std.specs.Prelude.{IfOk, IfSome, IfNone}
 use Rattle.std.proofs.lemmas.Bool.{eqb-true, eqb-false}
-use Rattle.sy_text.specs.declared.sexp.Sexp.{Sexp}
-use Rattle.sy_text.specs.declared.fault.TextFault.{TextFault}
-use Rattle.sy_text.specs.declared.fault.TextFault.TheVariants.{Unclosed, Stray, TooDeep}
+use Rattle.sy_text_items.specs.declared.sexp.Sexp.{Sexp}
+use Rattle.sy_text_items.specs.declared.fault.TextFault.{TextFault}
+use Rattle.sy_text_items.specs.declared.fault.TextFault.TheVariants.{Unclosed, Stray, TooDeep}
 use Rattle.sy_text.specs.declared.fault.TextEnd.{TextEnd}
 use Rattle.sy_text.specs.declared.fault.TextEnd.TheVariants as ends
-use Rattle.sy_text.specs.Items.{Item, Items, none, more}
-use Rattle.sy_text.specs.Views.{item_of, command_of}
-use Rattle.sy_text.specs.Lexicon.{space, line_end}
+use Rattle.sy_text_items.specs.Items.{Item, Items, none, more}
+use Rattle.sy_text_items.specs.Views.{item_of, command_of}
+use Rattle.sy_text_items.specs.Lexicon.{space, line_end}
 use Rattle.sy_text.specs.Reading.{TextGives, after_layout, atom_at, item_by, item_joined, items_at, command_at}
 use Rattle.sy_text.specs.Grammar.{is_layout, is_blank, IsItem, AreItems, StandsInFront, EndsBlank}
 use Rattle.sy_text.proofs.Shorter.{ok, err, no_err, from_ok, chosen, past_err, bind_ok}

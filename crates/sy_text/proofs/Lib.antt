@@ -1,11 +1,8 @@
-pub mod Lists
 pub mod Values
 pub mod Shorter
 pub mod Nested
-pub mod Written
 pub mod Again
 pub mod Nests
-pub mod Digits
 pub mod Found
 pub mod FoundItems
 pub mod Fitting

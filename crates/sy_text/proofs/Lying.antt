@@ -2,14 +2,14 @@
 use Rattle.std.proofs.Common.{◌≡◌, ℕ, zero, suc, ◌+◌, ◌-◌, ◌<◌, ◌≤◌, Bool, true, false, cond, nat_eq, nat_lt, ◌&&◌, List, [], ◌∷◌, ◌++◌, length, drop, Option, Some, None, Result, Ok, Err, refl, sym, subst, arith}
 use Rattle.std.specs.Prelude.{IfOk, IfSome, IfErr}
 use Rattle.std.specs.List.{prefix_len}
-use Rattle.sy_text.specs.declared.atom.Atom.{Atom}
-use Rattle.sy_text.specs.declared.sexp.Sexp.{Sexp}
-use Rattle.sy_text.specs.declared.fault.TextFault.{TextFault}
+use Rattle.sy_text_items.specs.declared.atom.Atom.{Atom}
+use Rattle.sy_text_items.specs.declared.sexp.Sexp.{Sexp}
+use Rattle.sy_text_items.specs.declared.fault.TextFault.{TextFault}
 use Rattle.sy_text.specs.declared.fault.TextEnd.{TextEnd}
 use Rattle.sy_text.specs.declared.fault.TextEnd.TheVariants as ends
-use Rattle.sy_text.specs.Items.{Item, leaf, group, Items, Placed, AllPlaced}
-use Rattle.sy_text.specs.Views.{item_of, command_of}
-use Rattle.sy_text.specs.Lexicon.{digit, binary_digit, hexadecimal_digit, symbol_byte, quotable, bar_content, separator}
+use Rattle.sy_text_items.specs.Items.{Item, leaf, group, Items, Placed, AllPlaced}
+use Rattle.sy_text_items.specs.Views.{item_of, command_of}
+use Rattle.sy_text_items.specs.Lexicon.{digit, binary_digit, hexadecimal_digit, symbol_byte, quotable, bar_content, separator}
 use Rattle.sy_text.specs.Reading.{offset_of, FaultBelow, ◌>>=◌, TextGives, after_layout, missing, may_follow, ended, literal_read, symbol_at, closing_bar, barred_at, text_at, keyword_at, vector_of, hexadecimal_at, binary_at, vector_at, decimal_at, integer_at, number_at, numeral_at, atom_at, item_by, item_joined, items_at, command_at}
 use Rattle.sy_text.proofs.Shorter.{drop_le}
 use Rattle.sy_text.proofs.Nested.{Inside, layout_within, turn, turn_is, item_shorter, items_shorter, front_item, command_turn, command_is}

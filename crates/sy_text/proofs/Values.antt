@@ -1,10 +1,10 @@
 -- The numbers that digits stand for.
-use Rattle.std.proofs.Common.{mul_assoc, ◌≡◌, ℕ, suc, ◌+◌, ◌*◌, ◌^◌, ◌<◌, ◌≤◌, Bool, true, false, cond, List, [], ◌∷◌, length, take, drop, get_or, refl, sym, ap, subst, ◌∙◌, arith, drop-cons, MatchOption, Option, None}
+use Rattle.std.proofs.Common.{mul_assoc, ◌≡◌, ℕ, zero, suc, ◌+◌, ◌*◌, ◌^◌, ◌<◌, ◌≤◌, Bool, true, false, cond, List, [], ◌∷◌, length, take, drop, get_or, refl, sym, ap, subst, ◌∙◌, arith, drop-cons, MatchOption, Option, None}
 use Rattle.std.proofs.Math.Nat.{le_trans, mul-le-mul_right, pow-succ', pow-zero, pow-le-pow_right}
 use Rattle.std.specs.List.{fold, prefix_len}
 use Rattle.std.proofs.lemmas.List.Folds.{length-prefix_len}
 use Rattle.std.proofs.lemmas.Grind.{common_steps}
-use Rattle.sy_text.specs.Lexicon.{digit_value, value_in, hexadecimal_digit, binary_digit}
+use Rattle.sy_text_items.specs.Lexicon.{digit_value, value_in, hexadecimal_digit, binary_digit}
 
 abbrev pub next : ℕ → ℕ → ℕ → ℕ
 next base n d = base * n + digit_value d
@@ -77,3 +77,9 @@ binary_fits xs digits e fits =
     let few : prefix_len binary_digit xs ≤ 64 = omega arith in
     let P : List ℕ → Type 0 = λ ds. value_in 2 ds < 2 ^ 64 in
     subst P (sym e) (omega (arith, below binary_digit 2 0 xs binary_small, pow-le-pow_right some few))
+
+pub pow_of_pow : (k : ℕ) → 2 ^ (4 * k) ≡ 16 ^ k
+pow_of_pow zero = refl
+pow_of_pow (suc k) =
+    let e : 4 * suc k ≡ suc (suc (suc (suc (4 * k)))) = omega arith in
+    rw e (omega (arith, pow-succ' 2 (suc (suc (suc (4 * k)))), pow-succ' 2 (suc (suc (4 * k))), pow-succ' 2 (suc (4 * k)), pow-succ' 2 (4 * k), pow-succ' 16 k, pow_of_pow k))

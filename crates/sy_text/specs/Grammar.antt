@@ -1,14 +1,14 @@
 -- The grammar of text, by cases on what is spelled. Places take no part.
 use Rattle.std.specs.Prelude.{◌≡◌, ℕ, ◌+◌, ◌-◌, ◌*◌, ◌^◌, ◌<◌, ◌≤◌, ◌⊎◌, Bool, true, false, not, ◌&&◌, nat_eq, List, [], ◌∷◌, ◌++◌, length, if◌then◌else◌, Option, Some, None, Result, Ok, Err}
-use Rattle.sy_text.specs.declared.atom.Atom.{Atom}
-use Rattle.sy_text.specs.declared.atom.Atom.TheVariants.{Symbol, Keyword, Numeral, Decimal, Bits, Text}
-use Rattle.sy_text.specs.declared.fault.TextFault.{TextFault}
-use Rattle.sy_text.specs.Items.{Item, leaf, group, Items, none, more}
-use Rattle.sy_text.specs.Lexicon.{space, line_end, binary_digit, hexadecimal_digit, symbol_byte, quotable, bar_content, value_in}
+use Rattle.sy_text_items.specs.declared.atom.Atom.{Atom}
+use Rattle.sy_text_items.specs.declared.atom.Atom.TheVariants.{Symbol, Keyword, Numeral, Decimal, Bits, Text}
+use Rattle.sy_text_items.specs.declared.fault.TextFault.{TextFault}
+use Rattle.sy_text_items.specs.Items.{Item, leaf, group, Items, none, more}
+use Rattle.sy_text_items.specs.Lexicon.{space, line_end, binary_digit, hexadecimal_digit, symbol_byte, quotable, bar_content, value_in}
 use Rattle.sy_text.specs.Spelling.{all_bytes, bare, doubled, is_numeral, is_decimal}
 use Rattle.sy_text.specs.Reading.{may_follow}
-use Rattle.sy_text.specs.Views.{item_of}
-use Rattle.sy_text.specs.declared.sexp.Sexp.{Sexp}
+use Rattle.sy_text_items.specs.Views.{item_of}
+use Rattle.sy_text_items.specs.declared.sexp.Sexp.{Sexp}
 use Rattle.sy_text.specs.declared.fault.TextEnd.{TextEnd}
 use Rattle.sy_text.specs.declared.fault.TextEnd.TheVariants as ends
 

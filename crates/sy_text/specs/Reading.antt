@@ -2,14 +2,14 @@
 -- What is read is a value and the bytes behind it. An offset is the number of all bytes less those that are left.
 use Rattle.std.specs.Prelude.{◌≡◌, ℕ, zero, suc, ◌+◌, ◌-◌, ◌*◌, ◌^◌, ◌<◌, Bool, true, false, not, ◌&&◌, nat_eq, nat_lt, List, [], ◌∷◌, ◌++◌, length, take, drop, Option, Some, None, Result, Ok, Err, if◌then◌else◌}
 use Rattle.std.specs.List.{prefix_len}
-use Rattle.sy_text.specs.declared.atom.Atom.{Atom}
-use Rattle.sy_text.specs.declared.atom.Atom.TheVariants.{Symbol, Keyword, Numeral, Decimal, Bits, Text}
-use Rattle.sy_text.specs.declared.fault.TextFault.{TextFault}
-use Rattle.sy_text.specs.declared.fault.TextFault.TheVariants.{BadByte, Unclosed, Stray, LiteralRange, TooDeep}
+use Rattle.sy_text_items.specs.declared.atom.Atom.{Atom}
+use Rattle.sy_text_items.specs.declared.atom.Atom.TheVariants.{Symbol, Keyword, Numeral, Decimal, Bits, Text}
+use Rattle.sy_text_items.specs.declared.fault.TextFault.{TextFault}
+use Rattle.sy_text_items.specs.declared.fault.TextFault.TheVariants.{BadByte, Unclosed, Stray, LiteralRange, TooDeep}
 use Rattle.sy_text.specs.declared.fault.TextEnd.{TextEnd}
 use Rattle.sy_text.specs.declared.fault.TextEnd.TheVariants as ends
-use Rattle.sy_text.specs.Items.{Item, leaf, group, Items, none, more}
-use Rattle.sy_text.specs.Lexicon.{space, line_end, digit, binary_digit, hexadecimal_digit, symbol_byte, quotable, bar_content, separator, value_in}
+use Rattle.sy_text_items.specs.Items.{Item, leaf, group, Items, none, more}
+use Rattle.sy_text_items.specs.Lexicon.{space, line_end, digit, binary_digit, hexadecimal_digit, symbol_byte, quotable, bar_content, separator, value_in}
 
 -- the offset of a fault
 abbrev pub offset_of : TextFault → ℕ

@@ -2,18 +2,17 @@
 ghost use Rattle.std.specs.Prelude.{◌≡◌, ◌≤◌, ◌<◌, ◌+◌, ◌-◌, ◌*◌, ◌^◌, ◌∷◌, [], length, suc, drop, IfOk, MatchOption};
 ghost use Rattle.std.specs.Prelude.{ℕ, List, ◌++◌, true, false, IfSome, IfNone, IfErr};
 ghost use Rattle.sy_text.specs.Grammar.{is_layout, is_blank, IsItem, StandsInFront, Reads, EndsBlank};
-ghost use Rattle.sy_text.specs.Items.{Item, Placed};
+ghost use Rattle.sy_text_items.specs.Items.{Item, Placed};
 ghost use Rattle.sy_text.specs.Reading as reading;
 ghost use Rattle.sy_text.specs.Reading.{TextGives, FaultBelow, after_layout};
 ghost use Rattle.sy_text.specs.Spelling.{ItemFits};
-ghost use Rattle.sy_text.specs.Views.{item_of, command_of};
+ghost use Rattle.sy_text_items.specs.Views.{item_of, command_of};
 
-use crate::atom::Place;
-use crate::fault::{TextEnd, TextFault};
+use crate::fault::TextEnd;
 use crate::lexicon::skip_layout;
 use crate::reader::read_atom;
-use crate::sexp::{Sexp, Sexps};
 use std::alloc::Global;
+use sy_text_items::{Place, Sexp, Sexps, TextFault};
 
 /// How many lists may be open at once.
 const OPEN_MAX: usize = 1200;

@@ -1,18 +1,18 @@
 // Reading one atom, from left to right.
 ghost use Rattle.std.specs.Prelude.{◌≡◌, ◌≤◌, ◌<◌, ◌+◌, ◌-◌, ◌*◌, ◌^◌, ◌++◌, length, IfOk, OnOk, OnErr, MatchOption, false, []};
 ghost use Rattle.std.specs.List.{prefix_len};
-ghost use Rattle.sy_text.specs.Lexicon.{value_in, symbol_byte, bar_content, digit, hexadecimal_digit, binary_digit};
+ghost use Rattle.sy_text_items.specs.Lexicon.{value_in, symbol_byte, bar_content, digit, hexadecimal_digit, binary_digit};
 ghost use Rattle.sy_text.specs.Reading as reading;
 ghost use Rattle.sy_text.specs.Reading.{TextGives};
 
-use crate::atom::{Atom, Name};
-use crate::fault::{TextEnd, TextFault};
+use crate::fault::TextEnd;
 use crate::lexicon::{
     digit_value, is_bar_content, is_binary_digit, is_digit, is_hexadecimal_digit, is_quotable,
     is_separator, is_symbol_byte,
 };
 use std::alloc::Global;
 use sy_seq::{Seq, Want};
+use sy_text_items::{Atom, Name, TextFault};
 
 /// The greatest numeral.
 const NUMERAL_MAX: u128 = (1 << 127) - 1;

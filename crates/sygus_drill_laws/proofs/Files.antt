@@ -3,8 +3,8 @@ use Rattle.std.proofs.Common.{◌≡◌, ℕ, zero, suc, ◌+◌, ◌-◌, ◌%�
 use Rattle.std.specs.Prelude.{codes}
 use Rattle.std.proofs.lemmas.List.{append-nil}
 use Rattle.std.specs.List.{flat_map, range_with_len}
-use Rattle.sy_text.specs.Items.{Item}
-use Rattle.sy_text.specs.Lexicon.{space}
+use Rattle.sy_text_items.specs.Items.{Item}
+use Rattle.sy_text_items.specs.Lexicon.{space}
 use Rattle.sy_text.specs.Reading.{command_at, after_layout}
 use Rattle.sy_text.specs.Spelling.{parted}
 use Rattle.sy_text.proofs.Nested.{command_none}

@@ -1,7 +1,7 @@
 -- A file is read command by command.
 use Rattle.std.proofs.Common.{◌≡◌, ℕ, suc, ◌+◌, ◌-◌, ◌≤◌, true, false, List, ◌++◌, length, drop, Option, Some, Result, Ok, ap, ◌∙◌, arith, length-append}
 use Rattle.std.proofs.Math.Seq.{drop-append_seam}
-use Rattle.sy_text.specs.Items.{Item}
+use Rattle.sy_text_items.specs.Items.{Item}
 use Rattle.sy_text.specs.Grammar.{is_layout}
 use Rattle.sy_text.specs.Reading.{command_at}
 use Rattle.sy_text.specs.Spelling.{parted}

@@ -1,5 +1,5 @@
 use Rattle.std.proofs.Common.{◌≡◌, ◌≤◌, ◌+◌, ◌∙◌, ℕ, zero, suc, List, [], ◌∷◌, ◌++◌, length, drop, refl, sym, ap, arith}
-use Rattle.sy_text.specs.Items.{listed}
+use Rattle.sy_text_items.specs.Items.{listed}
 use Rattle.sy_forms.specs.Rules.{constant_groups}
 use Rattle.sy_forms_names.specs.Seen.{environment_of}
 use Rattle.sy_forms_items.specs.Views.{items_in}

@@ -1,6 +1,6 @@
 use Rattle.std.proofs.Common.{◌≡◌, ◌≤◌, ◌+◌, ◌*◌, length}
-use Rattle.sy_text.specs.Items.{item_size, items_size, listed}
-use Rattle.sy_text.specs.Views.{item_of}
+use Rattle.sy_text_items.specs.Items.{item_size, items_size, listed}
+use Rattle.sy_text_items.specs.Views.{item_of}
 use Rattle.sy_forms.specs.Gathered.{several_of, bounds_of}
 use Rattle.sy_forms_phrases.specs.Phrases.{no_terms}
 use Rattle.sy_forms_names.specs.Seen.{environment_of}

@@ -1,7 +1,7 @@
 use Rattle.std.proofs.Common.{◌≡◌, ◌<◌, ◌≤◌, ◌∙◌, ap, sym, subst, length, refl, Some, Ok}
 use Rattle.std.specs.Prelude.{IfSome}
 use Rattle.std.proofs.lemmas.Result.{err_from_is_err_and}
-use Rattle.sy_text.specs.Views.{item_of, command_of}
+use Rattle.sy_text_items.specs.Views.{item_of, command_of}
 use Rattle.sy_terms.specs.Logics.{IsTheoryOf, Serves}
 use Rattle.sy_terms.specs.declared.sort.Logic.{Logic}
 use Rattle.sy_scope_steps.specs.Files.{file_read}

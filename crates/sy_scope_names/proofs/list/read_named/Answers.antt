@@ -1,13 +1,13 @@
 use Rattle.std.proofs.Common.{◌∙◌, sym, ap, arith, length, List}
 use Rattle.std.proofs.lemmas.Bool.{le-ltb, lt-ltb}
 use Rattle.std.proofs.lemmas.Result.{err_from_is_err_and}
-use Rattle.sy_text.specs.Views.{item_of}
+use Rattle.sy_text_items.specs.Views.{item_of}
 use Rattle.sy_scope_causes.specs.declared.cause.Cause.TheVariants as cause
 use Rattle.sy_forms_names.specs.declared.names.Named.{Named}
 use Rattle.sy_forms_items.specs.Parts.{place_of}
 use Rattle.sy_forms_items.specs.Readings.{refuse}
 use Rattle.sy_forms_items.specs.Views.{items_in}
-use Rattle.sy_forms.proofs.Forms as form
+use Rattle.sy_forms_items.proofs.Readings as readings
 use Rattle.sy_scope_names.specs.Lists as spec
 use Rattle.sy_scope_names.proofs.Listing.{named_none, named_more, named_full, named_room}
 use Rattle.sy_scope_names.proofs.list.read_named.Goals as goal
@@ -18,7 +18,7 @@ returns-in_err-named c =
     let n = c.args.naming.now in
     let more = named_more n.names.now.sorts n.logic n.taken.now c.loop-item.done (items_in c.loop-item.left) (item_of c.in-Some.item.now) (items_in c.in-Some.rest) c.in-Some.ensures in
     let same = ap (λ l. spec.named_item n.names.now.sorts n.logic n.taken.now l (item_of c.in-Some.item.now)) (sym c.as_slice.ensures) in
-    rw (p.1, p.2) (form.fails_same c.in_err-named.field-0.0 _ _ (sym c.loop-item.invariant ∙ more) (form.fails_bind c.in_err-named.field-0.0 _ _ (form.fails_same c.in_err-named.field-0.0 _ _ same c.in_err-named.ensures)))
+    rw (p.1, p.2) (readings.fails_same c.in_err-named.field-0.0 _ _ (sym c.loop-item.invariant ∙ more) (readings.fails_bind c.in_err-named.field-0.0 _ _ (readings.fails_same c.in_err-named.field-0.0 _ _ same c.in_err-named.ensures)))
 
 pub returns-then-len-ge-NAMED_MAX : goal.returns-then-len-ge-NAMED_MAX
 returns-then-len-ge-NAMED_MAX c =

@@ -1,8 +1,8 @@
 use Rattle.std.proofs.Common.{false, ◌-◌, length, drop, ap, sym, ◌∙◌, eq-eqb, ℕ, List, Result, Some}
 use Rattle.std.proofs.lemmas.Result.{err_from_is_err_and}
-use Rattle.sy_text.specs.declared.fault.TextFault.{TextFault}
-use Rattle.sy_text.specs.declared.fault.TextFault.TheVariants.{Stray}
-use Rattle.sy_text.specs.Items.{Item}
+use Rattle.sy_text_items.specs.declared.fault.TextFault.{TextFault}
+use Rattle.sy_text_items.specs.declared.fault.TextFault.TheVariants.{Stray}
+use Rattle.sy_text_items.specs.Items.{Item}
 use Rattle.sy_text.specs.Reading.{◌>>=◌, after_layout}
 use Rattle.sy_text.proofs.Shorter.{ok, err}
 use Rattle.sy_text.proofs.Nested.{front_item, command_none, command_stray, command_item, fails_same, fails_bind, test_no}
