@@ -1,6 +1,6 @@
 // Writing sorts, operators and values.
 ghost use Rattle.std.specs.Prelude.{◌≡◌, ◌++◌, ◌∷◌, map, true, OnOk, codes};
-ghost use Rattle.sy_text.specs.Spelling.{numeral_text};
+ghost use Rattle.sy_text_reader.specs.Spelling.{numeral_text};
 ghost use Rattle.sy_terms.specs.Denoted.{val_of};
 ghost use Rattle.sy_reply.specs.Replies as replies;
 ghost use Rattle.sy_reply.specs.Writable.{is_plain_value};

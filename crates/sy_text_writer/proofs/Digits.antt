@@ -9,12 +9,12 @@ use Rattle.sy_text_items.specs.declared.atom.Atom.{Atom}
 use Rattle.sy_text_items.specs.declared.atom.Atom.TheVariants.{Symbol, Keyword, Numeral, Decimal, Bits, Text}
 use Rattle.sy_text_items.specs.Items.{Item, leaf, group, Items, none, more}
 use Rattle.sy_text_items.specs.Lexicon.{space, digit, binary_digit, hexadecimal_digit, bar_content, separator, digit_value, value_in}
-use Rattle.sy_text.specs.Reading.{may_follow}
-use Rattle.sy_text.specs.Spelling.{all_bytes, bare, is_numeral, digit_of, digits_of, decimal_len, vector_text, symbol_text, atom_text, item_text, inner_text, others_text, AtomFits, ItemFits, ItemsFit, parted}
-use Rattle.sy_text.specs.Grammar.{is_layout, no_quote, IsAtom, IsItem, AreItems}
-use Rattle.sy_text.proofs.Values.{next, pow_of_pow}
-use Rattle.sy_text.proofs.Again.{and_both}
-use Rattle.sy_text.proofs.Nested.{test_no}
+use Rattle.sy_text_reader.specs.Reading.{may_follow}
+use Rattle.sy_text_reader.specs.Spelling.{all_bytes, bare, is_numeral, digit_of, digits_of, decimal_len, vector_text, symbol_text, atom_text, item_text, inner_text, others_text, AtomFits, ItemFits, ItemsFit, parted}
+use Rattle.sy_text_reader.specs.Grammar.{is_layout, no_quote, IsAtom, IsItem, AreItems}
+use Rattle.sy_text_reader.proofs.Values.{next, pow_of_pow}
+use Rattle.sy_text_reader.proofs.Again.{and_both}
+use Rattle.sy_text_reader.proofs.Nested.{test_no}
 
 below2 : (P : ℕ → Type 0) → P 0 → P 1 → (m : ℕ) → m < 2 → P m
 below2 P p0 p1 zero lt = p0

@@ -1,7 +1,7 @@
 -- Writing items one after the other.
 use Rattle.std.proofs.Common.{◌≡◌, ℕ, zero, suc, ◌+◌, ◌<◌, ◌≤◌, List, [], ◌∷◌, ◌++◌, length, Some, slice_get, refl, sym, ap, ◌∙◌, arith, append_assoc, Result, Ok, Err, OnOk}
 use Rattle.sy_text_items.specs.Items.{Item, Items, none, more, listed, item_size, items_size}
-use Rattle.sy_text.specs.Spelling.{item_text, inner_text, others_text}
+use Rattle.sy_text_reader.specs.Spelling.{item_text, inner_text, others_text}
 
 -- the items from a place on
 abbrev pub behind : ℕ → Items → Items

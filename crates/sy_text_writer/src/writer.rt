@@ -1,19 +1,19 @@
 // Writing items.
 ghost use Rattle.std.specs.Prelude.{◌≡◌, ◌≤◌, ◌<◌, ◌+◌, ◌*◌, ◌^◌, ◌++◌, length, OnOk, IfOk, Contains};
-ghost use Rattle.sy_text.specs.Spelling as spelling;
-ghost use Rattle.sy_text.specs.Spelling.{AtomFits, ItemFits, ItemsFit};
+ghost use Rattle.sy_text_reader.specs.Spelling as spelling;
+ghost use Rattle.sy_text_reader.specs.Spelling.{AtomFits, ItemFits, ItemsFit};
 ghost use Rattle.std.specs.Prelude.{ℕ, List, ◌-◌, true};
-ghost use Rattle.sy_text.specs.Grammar.{ReadAs};
-ghost use Rattle.sy_text.specs.Reading.{command_at};
-ghost use Rattle.sy_text.specs.Spelling.{parted};
+ghost use Rattle.sy_text_reader.specs.Grammar.{ReadAs};
+ghost use Rattle.sy_text_reader.specs.Reading.{command_at};
+ghost use Rattle.sy_text_reader.specs.Spelling.{parted};
 ghost use Rattle.sy_text_items.specs.Views.{item_of};
 ghost use Rattle.sy_text_items.specs.Lexicon.{symbol_byte};
 
 use std::alloc::Global;
 use sy_io::Bytes;
 use sy_seq::Want;
-use sy_text::{is_digit, is_symbol_byte};
 use sy_text_items::{Atom, Sexp, Sexps};
+use sy_text_reader::{is_digit, is_symbol_byte};
 
 fn all_symbol_bytes(bytes: &[u8]) -> bool
     ensures { result ≡ spelling.all_bytes symbol_byte bytes.now }
@@ -26,7 +26,7 @@ fn all_symbol_bytes(bytes: &[u8]) -> bool
     true
 }
 
-#[tactic(auto, unfolding(sy_text::specs::Spelling::bare))]
+#[tactic(auto, unfolding(sy_text_reader::specs::Spelling::bare))]
 fn is_bare(name: &[u8]) -> bool
     ensures { result ≡ spelling.bare name.now }
 {
@@ -37,7 +37,7 @@ fn is_bare(name: &[u8]) -> bool
 }
 
 /// Appends a symbol, in bars unless its bytes spell it without them.
-#[tactic(auto, unfolding(sy_text::specs::Spelling::symbol_text))]
+#[tactic(auto, unfolding(sy_text_reader::specs::Spelling::symbol_text))]
 pub fn write_symbol(out: &mut Bytes, name: &[u8]) -> Result<(), Want>
     ensures { OnOk result (out.new ≡ out.old ++ spelling.symbol_text name.now) }
 {
@@ -62,7 +62,7 @@ fn write_doubled(out: &mut Bytes, content: &[u8]) -> Result<(), Want>
     Ok(())
 }
 
-#[tactic(auto, unfolding(sy_text::specs::Spelling::digit_of))]
+#[tactic(auto, unfolding(sy_text_reader::specs::Spelling::digit_of))]
 fn digit_of(n: u8) -> u8
     requires { n < 16 }
     ensures { result ≡ spelling.digit_of n }
@@ -70,7 +70,7 @@ fn digit_of(n: u8) -> u8
     if n < 10 { n + 48 } else { n + 87 }
 }
 
-#[tactic(auto, unfolding(sy_text::specs::Spelling::digits_of))]
+#[tactic(auto, unfolding(sy_text_reader::specs::Spelling::digits_of))]
 fn write_digits(out: &mut Bytes, count: usize, base: u128, n: u128) -> Result<(), Want>
     requires low { 2 ≤ base }
     requires high { base ≤ 16 }
@@ -83,7 +83,7 @@ fn write_digits(out: &mut Bytes, count: usize, base: u128, n: u128) -> Result<()
     out.push(digit_of((n % base) as u8))
 }
 
-#[tactic(auto, unfolding(sy_text::specs::Spelling::decimal_len))]
+#[tactic(auto, unfolding(sy_text_reader::specs::Spelling::decimal_len))]
 fn decimal_len(most: usize, n: u128) -> usize
     requires { most < 100 }
     ensures value { result ≡ spelling.decimal_len most n }
@@ -105,7 +105,7 @@ pub fn write_numeral(out: &mut Bytes, n: u128) -> Result<(), Want>
 
 /// Appends a bit vector: `#x` and lower case digits where the width is divisible by 4, and otherwise
 /// `#b` and one digit for each bit.
-#[tactic(auto, unfolding(sy_text::specs::Spelling::vector_text))]
+#[tactic(auto, unfolding(sy_text_reader::specs::Spelling::vector_text))]
 pub fn write_vector(out: &mut Bytes, width: u8, n: u64) -> Result<(), Want>
     ensures { OnOk result (out.new ≡ out.old ++ spelling.vector_text width n) }
 {
@@ -119,7 +119,7 @@ pub fn write_vector(out: &mut Bytes, width: u8, n: u64) -> Result<(), Want>
     }
 }
 
-#[tactic(auto, unfolding(sy_text::specs::Spelling::atom_text))]
+#[tactic(auto, unfolding(sy_text_reader::specs::Spelling::atom_text))]
 fn write_atom(out: &mut Bytes, atom: &Atom) -> Result<(), Want>
     ensures { OnOk result (out.new ≡ out.old ++ spelling.atom_text atom.now) }
 {

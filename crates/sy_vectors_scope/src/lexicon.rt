@@ -5,8 +5,7 @@ use crate::second;
 use crate::tables::field;
 use std::process::Abort;
 use sy_io::Bytes;
-use sy_text::{Sexp, TextEnd, TextFault, line_column, next_command};
-use sy_text_writer::write_sexp;
+use sy_text::{Sexp, TextEnd, TextFault, line_column, next_command, write_sexp};
 
 /// A file with two commands' kinds of lists, atoms of many kinds, and a comment.
 const FILE: &[u8] = b"(set-logic LIA)

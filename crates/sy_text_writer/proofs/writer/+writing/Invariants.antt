@@ -1,6 +1,6 @@
 use Rattle.std.proofs.Common.{◌≡◌, ◌+◌, ◌*◌, ◌++◌}
 use Rattle.sy_text_items.specs.Items.{item_size, items_size}
-use Rattle.sy_text.specs.Spelling.{inner_text}
+use Rattle.sy_text_reader.specs.Spelling.{inner_text}
 use Rattle.sy_text_items.specs.Views.{item_of}
 use Rattle.sy_text_writer.proofs.Written.{rest_text}
 use Rattle.sy_text_writer.proofs.writer.+writing.Given as goal

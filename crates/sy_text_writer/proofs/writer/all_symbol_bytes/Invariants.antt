@@ -1,5 +1,5 @@
 use Rattle.std.proofs.Common.{◌≡◌, drop}
-use Rattle.sy_text.specs.Spelling.{all_bytes}
+use Rattle.sy_text_reader.specs.Spelling.{all_bytes}
 use Rattle.sy_text_items.specs.Lexicon.{symbol_byte}
 use Rattle.sy_text_writer.proofs.writer.all_symbol_bytes.Given as goal
 

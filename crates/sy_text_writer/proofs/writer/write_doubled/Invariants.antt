@@ -1,5 +1,5 @@
 use Rattle.std.proofs.Common.{◌≡◌, ◌++◌, drop}
-use Rattle.sy_text.specs.Spelling.{doubled}
+use Rattle.sy_text_reader.specs.Spelling.{doubled}
 use Rattle.sy_text_writer.proofs.writer.write_doubled.Given as goal
 
 abbrev pub invariant-loop-byte : goal.invariant-loop-byte

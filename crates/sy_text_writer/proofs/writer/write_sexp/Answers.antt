@@ -1,7 +1,7 @@
 use Rattle.std.proofs.Common.{◌++◌, ℕ, List, [], refl, sym, subst}
-use Rattle.sy_text.specs.Grammar.{IsItem}
+use Rattle.sy_text_reader.specs.Grammar.{IsItem}
 use Rattle.sy_text_items.specs.Views.{item_of}
-use Rattle.sy_text.proofs.Nests.{command_again, read_as}
+use Rattle.sy_text_reader.proofs.Nests.{command_again, read_as}
 use Rattle.sy_text_writer.proofs.Digits.{item_spelled, empty_gap, on_ok_all}
 use Rattle.sy_text_writer.proofs.writer.write_sexp.Goals as goal
 
