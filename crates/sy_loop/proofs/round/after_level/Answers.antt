@@ -5,8 +5,8 @@ use Rattle.sy_bank_level.specs.Bank.{merged_of}
 use Rattle.sy_loop_history.specs.Stored.{history_of}
 use Rattle.sy_loop_laws.specs.Refuting.{AreDoneBelow}
 use Rattle.sy_loop_laws.proofs.Refuted.{assumes_nothing}
-use Rattle.sy_loop.specs.Dropping.{DroppedNothing}
-use Rattle.sy_loop.proofs.Carrying.{carried_on}
+use Rattle.sy_loop_banks.specs.Dropping.{DroppedNothing}
+use Rattle.sy_loop_banks.proofs.Carrying.{carried_on}
 use Rattle.sy_loop.proofs.Completing.{level_open, next_done, nothing_within, trees_done}
 use Rattle.sy_loop.proofs.Rounding.{next_less}
 use Rattle.sy_loop.proofs.round.after_level.Goals as goal

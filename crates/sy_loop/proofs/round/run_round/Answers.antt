@@ -6,13 +6,13 @@ use Rattle.sy_bank_level.specs.Bank.{merged_of}
 use Rattle.sy_loop_history.specs.Stored.{counterexample_of, history_of}
 use Rattle.sy_loop_candidate.proofs.Ending.{room_in}
 use Rattle.sy_loop_laws.proofs.Done as done
-use Rattle.sy_loop.specs.Banks.{AreBanks}
-use Rattle.sy_loop.specs.Levels.{AllAreRefuted}
+use Rattle.sy_loop_banks.specs.Banks.{AreBanks}
+use Rattle.sy_loop_level.specs.Levels.{AllAreRefuted}
 use Rattle.sy_loop.specs.Trees.{TreesFollow}
-use Rattle.sy_loop.proofs.Building.{bank_met}
+use Rattle.sy_loop_banks.proofs.Building.{bank_met}
 use Rattle.sy_loop.proofs.Honest.{honest_banks}
 use Rattle.sy_loop.proofs.Completing.{level_open, same_done, same_follow}
-use Rattle.sy_loop_join.proofs.Going.{same_room}
+use Rattle.sy_loop_candidate.proofs.Going.{same_room}
 use Rattle.sy_loop.proofs.Rounding.{again_less, rounds_from}
 use Rattle.sy_loop.proofs.round.run_round.Goals as goal
 

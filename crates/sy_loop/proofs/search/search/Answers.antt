@@ -1,7 +1,7 @@
 use Rattle.std.proofs.Common.{arith, length, ◌≡◌}
 use Rattle.std.proofs.lemmas.List.{length-map}
 use Rattle.sy_grammar_base.specs.Questions.{question_of, goal_of}
-use Rattle.sy_loop.proofs.Carrying.{none_carried}
+use Rattle.sy_loop_banks.proofs.Carrying.{none_carried}
 use Rattle.sy_loop.proofs.Beginning.{nothing_known}
 use Rattle.sy_loop.proofs.search.search.Goals as goal
 
