@@ -37,7 +37,10 @@ pub fn ended<T: Theory, D: Decide<T>>(
             drop(known);
             Ok(found::<T, D>(_problem, _limits, _reach, bodies, proof))
         }
-        End::Rounds => Ok(Outcome::Fail(FailCause::Rounds(stored_of(known)))),
+        End::Rounds => {
+            drop(end);
+            Ok(Outcome::Fail(FailCause::Rounds(stored_of(known))))
+        }
         End::Points(function, bodies, assignment) => points_met::<T, D>(
             alloc, _problem, _limits, _reach, known, function, bodies, assignment,
         ),

@@ -1,6 +1,7 @@
 use Rattle.std.proofs.Common.{arith, map, length, ◌≡◌, ◌∙◌, sym, ap}
 use Rattle.std.specs.Vec.Iter.{into_iter_items, into_iter_len}
 use Rattle.std.proofs.lemmas.List.{length-map, map_push}
+use Rattle.std.proofs.lemmas.Result.{IfOk-from_err}
 use Rattle.sy_grammar_base.specs.Questions.{question_of, goal_of}
 use Rattle.sy_points.specs.Asked.{tuples_of}
 use Rattle.sy_bank_level.specs.Bank.{merged_of}
@@ -67,3 +68,18 @@ returns-clause-built g c =
 
 pub take_bank-requires-clause-definitions : goal.take_bank-requires-clause-definitions
 take_bank-requires-clause-definitions g c = problem_definitions g.T.Theory.owned g.T.Theory.numeric g.T.Theory.denotes c.args.problem.now c.requires.problem
+
+pub returns-in_err-push-in-Ok-clause-built : goal.returns-in_err-push-in-Ok-clause-built
+returns-in_err-push-in-Ok-clause-built g c = IfOk-from_err c.from_residual.result _ c.from_residual.ensures.0
+
+pub returns-in_err-push-in-Ok-clause-carried : goal.returns-in_err-push-in-Ok-clause-carried
+returns-in_err-push-in-Ok-clause-carried g c = IfOk-from_err c.from_residual.result _ c.from_residual.ensures.0
+
+pub returns-in_err-full-in-Err-clause-built : goal.returns-in_err-full-in-Err-clause-built
+returns-in_err-full-in-Err-clause-built g c = IfOk-from_err c.from_residual-in_err-full-in-Err.result _ c.from_residual-in_err-full-in-Err.ensures.0
+
+pub returns-in_err-full-in-Err-clause-carried : goal.returns-in_err-full-in-Err-clause-carried
+returns-in_err-full-in-Err-clause-carried g c = IfOk-from_err c.from_residual-in_err-full-in-Err.result _ c.from_residual-in_err-full-in-Err.ensures.0
+
+pub returns-clause-carried : goal.returns-clause-carried
+returns-clause-carried g c = c.loop-function.invariant.carried

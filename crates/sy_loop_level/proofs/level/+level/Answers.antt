@@ -1,5 +1,6 @@
 use Rattle.std.proofs.Common.{arith, ap, sym, subst, map, length, drop, get_or, ◌<◌, ◌≤◌, ◌-◌, ◌+◌, ◌≡◌, ◌∙◌, ◌⊎◌, inl, inr}
 use Rattle.std.proofs.lemmas.List.{length-map}
+use Rattle.std.proofs.lemmas.Result.{IfOk-from_err}
 use Rattle.sy_terms.specs.Definitions.{scope_of}
 use Rattle.sy_grammar_base.specs.Questions.{question_of}
 use Rattle.sy_bank_rows.specs.Covering.{terms}
@@ -117,3 +118,97 @@ try_rest-returns-clause-refuted g t c =
     ] in
     sizes_refuted (question_of g.T.Theory.denotes c.args.task.now.problem.now) (history_of g.T.Theory.denotes c.args.known.now.stored) c.args.known.now.points g.T.Theory.denotes (terms (chosen_of g.T.Theory.denotes c.args.chosen.now.items)) c.index-task-function.result c.args.task.now.banks.now
     c.len-function.result (length c.args.chosen.now.items) c.args.left c.if-function-task-2.least c.loop-size.size (omega (arith, c.len-function.ensures, c.args.chosen.now.ok.0)) (omega (arith, c.if-function-task.false)) c.index-task-function.is end from c.loop-size.invariant.refuted
+
+pub try_rest-returns-in_err-step-clause-chosen : goal.try_rest-returns-in_err-step-clause-chosen
+try_rest-returns-in_err-step-clause-chosen g t c = IfOk-from_err c.from_residual.result _ c.from_residual.ensures.0
+
+pub try_rest-returns-in_err-step-clause-known : goal.try_rest-returns-in_err-step-clause-known
+try_rest-returns-in_err-step-clause-known g t c = IfOk-from_err c.from_residual.result _ c.from_residual.ensures.0
+
+pub try_rest-returns-in_err-step-clause-step : goal.try_rest-returns-in_err-step-clause-step
+try_rest-returns-in_err-step-clause-step g t c = IfOk-from_err c.from_residual.result _ c.from_residual.ensures.0
+
+pub try_rest-returns-in_err-step-clause-refuted : goal.try_rest-returns-in_err-step-clause-refuted
+try_rest-returns-in_err-step-clause-refuted g t c = IfOk-from_err c.from_residual.result _ c.from_residual.ensures.0
+
+pub try_rest-returns-in_err-try_kept-clause-chosen : goal.try_rest-returns-in_err-try_kept-clause-chosen
+try_rest-returns-in_err-try_kept-clause-chosen g t c = IfOk-from_err c.from_residual-in_err-try_kept.result _ c.from_residual-in_err-try_kept.ensures.0
+
+pub try_rest-returns-in_err-try_kept-clause-known : goal.try_rest-returns-in_err-try_kept-clause-known
+try_rest-returns-in_err-try_kept-clause-known g t c = IfOk-from_err c.from_residual-in_err-try_kept.result _ c.from_residual-in_err-try_kept.ensures.0
+
+pub try_rest-returns-in_err-try_kept-clause-step : goal.try_rest-returns-in_err-try_kept-clause-step
+try_rest-returns-in_err-try_kept-clause-step g t c = IfOk-from_err c.from_residual-in_err-try_kept.result _ c.from_residual-in_err-try_kept.ensures.0
+
+pub try_rest-returns-in_err-try_kept-clause-refuted : goal.try_rest-returns-in_err-try_kept-clause-refuted
+try_rest-returns-in_err-try_kept-clause-refuted g t c = IfOk-from_err c.from_residual-in_err-try_kept.result _ c.from_residual-in_err-try_kept.ensures.0
+
+pub try_kept-returns-in_err-push-clause-chosen : goal.try_kept-returns-in_err-push-clause-chosen
+try_kept-returns-in_err-push-clause-chosen g t c = IfOk-from_err c.from_residual.result _ c.from_residual.ensures.0
+
+pub try_kept-returns-in_err-push-clause-known : goal.try_kept-returns-in_err-push-clause-known
+try_kept-returns-in_err-push-clause-known g t c = IfOk-from_err c.from_residual.result _ c.from_residual.ensures.0
+
+pub try_kept-returns-in_err-push-clause-step : goal.try_kept-returns-in_err-push-clause-step
+try_kept-returns-in_err-push-clause-step g t c = IfOk-from_err c.from_residual.result _ c.from_residual.ensures.0
+
+pub try_kept-returns-in_err-push-clause-refuted : goal.try_kept-returns-in_err-push-clause-refuted
+try_kept-returns-in_err-push-clause-refuted g t c = IfOk-from_err c.from_residual.result _ c.from_residual.ensures.0
+
+pub try_kept-returns-in_err-step-clause-chosen : goal.try_kept-returns-in_err-step-clause-chosen
+try_kept-returns-in_err-step-clause-chosen g t c = IfOk-from_err c.from_residual-in_err-step.result _ c.from_residual-in_err-step.ensures.0
+
+pub try_kept-returns-in_err-step-clause-known : goal.try_kept-returns-in_err-step-clause-known
+try_kept-returns-in_err-step-clause-known g t c = IfOk-from_err c.from_residual-in_err-step.result _ c.from_residual-in_err-step.ensures.0
+
+pub try_kept-returns-in_err-step-clause-step : goal.try_kept-returns-in_err-step-clause-step
+try_kept-returns-in_err-step-clause-step g t c = IfOk-from_err c.from_residual-in_err-step.result _ c.from_residual-in_err-step.ensures.0
+
+pub try_kept-returns-in_err-step-clause-refuted : goal.try_kept-returns-in_err-step-clause-refuted
+try_kept-returns-in_err-step-clause-refuted g t c = IfOk-from_err c.from_residual-in_err-step.result _ c.from_residual-in_err-step.ensures.0
+
+pub try_rest-returns-in-Again-clause-step : goal.try_rest-returns-in-Again-clause-step
+try_rest-returns-in-Again-clause-step g t c =
+    rw c.in-Again.is at (goes_after g.T.Theory.owned g.T.Theory.denotes g.D.Decide.accepted g.D.Decide.budget g.D.Decide.shows c.args.task.now.reach (question_of g.T.Theory.denotes c.args.task.now.problem.now) c.args.task.now.limits.now (history_of g.T.Theory.denotes c.args.known.now.stored) (history_of g.T.Theory.denotes c.loop-size.known.stored) (history_of g.T.Theory.denotes c.try_kept.new.known.stored)
+    c.args.known.now.points c.loop-size.known.points c.try_kept.new.known.points c.in_ok-try_kept.field-0 c.loop-size.invariant.history c.loop-size.invariant.points c.in_ok-try_kept.ensures.step)
+
+pub try_rest-returns-in-Again-clause-chosen : goal.try_rest-returns-in-Again-clause-chosen
+try_rest-returns-in-Again-clause-chosen g t c = c.in_ok-try_kept.ensures.chosen ∙ c.loop-size.invariant.chosen
+
+pub try_rest-returns-in-Again-clause-known : goal.try_rest-returns-in-Again-clause-known
+try_rest-returns-in-Again-clause-known g t c = c.in_ok-try_kept.ensures.known
+
+pub try_rest-returns-in-End-clause-step : goal.try_rest-returns-in-End-clause-step
+try_rest-returns-in-End-clause-step g t c =
+    rw c.in-End.is at (goes_after g.T.Theory.owned g.T.Theory.denotes g.D.Decide.accepted g.D.Decide.budget g.D.Decide.shows c.args.task.now.reach (question_of g.T.Theory.denotes c.args.task.now.problem.now) c.args.task.now.limits.now (history_of g.T.Theory.denotes c.args.known.now.stored) (history_of g.T.Theory.denotes c.loop-size.known.stored) (history_of g.T.Theory.denotes c.try_kept.new.known.stored)
+    c.args.known.now.points c.loop-size.known.points c.try_kept.new.known.points c.in_ok-try_kept.field-0 c.loop-size.invariant.history c.loop-size.invariant.points c.in_ok-try_kept.ensures.step)
+
+pub try_rest-returns-in-End-clause-chosen : goal.try_rest-returns-in-End-clause-chosen
+try_rest-returns-in-End-clause-chosen g t c = c.in_ok-try_kept.ensures.chosen ∙ c.loop-size.invariant.chosen
+
+pub try_rest-returns-in-End-clause-known : goal.try_rest-returns-in-End-clause-known
+try_rest-returns-in-End-clause-known g t c = c.in_ok-try_kept.ensures.known
+
+pub try_kept-returns-in-Again-clause-step : goal.try_kept-returns-in-Again-clause-step
+try_kept-returns-in-Again-clause-step g t c =
+    rw c.in-Again.is at (goes_after g.T.Theory.owned g.T.Theory.denotes g.D.Decide.accepted g.D.Decide.budget g.D.Decide.shows c.args.task.now.reach (question_of g.T.Theory.denotes c.args.task.now.problem.now) c.args.task.now.limits.now (history_of g.T.Theory.denotes c.args.known.now.stored) (history_of g.T.Theory.denotes c.loop-choice.known.stored) (history_of g.T.Theory.denotes c.try_rest.new.known.stored)
+    c.args.known.now.points c.loop-choice.known.points c.try_rest.new.known.points c.in_ok-step.step c.loop-choice.invariant.history c.loop-choice.invariant.points c.in_ok-step.ensures.step)
+
+pub try_kept-returns-in-Again-clause-chosen : goal.try_kept-returns-in-Again-clause-chosen
+try_kept-returns-in-Again-clause-chosen g t c =
+    chosen_popped c.args.chosen.now.items c.loop-choice.chosen.items c.try_rest.new.chosen.items c.pop.new.self.items _ _ c.loop-choice.invariant.chosen (c.in_ok-step.ensures.chosen ∙ c.in_ok-push.ensures.items) c.try_rest.new.chosen.ok.0 c.pop.ensures.rest
+
+pub try_kept-returns-in-Again-clause-known : goal.try_kept-returns-in-Again-clause-known
+try_kept-returns-in-Again-clause-known g t c = c.in_ok-step.ensures.known
+
+pub try_kept-returns-in-End-clause-step : goal.try_kept-returns-in-End-clause-step
+try_kept-returns-in-End-clause-step g t c =
+    rw c.in-End.is at (goes_after g.T.Theory.owned g.T.Theory.denotes g.D.Decide.accepted g.D.Decide.budget g.D.Decide.shows c.args.task.now.reach (question_of g.T.Theory.denotes c.args.task.now.problem.now) c.args.task.now.limits.now (history_of g.T.Theory.denotes c.args.known.now.stored) (history_of g.T.Theory.denotes c.loop-choice.known.stored) (history_of g.T.Theory.denotes c.try_rest.new.known.stored)
+    c.args.known.now.points c.loop-choice.known.points c.try_rest.new.known.points c.in_ok-step.step c.loop-choice.invariant.history c.loop-choice.invariant.points c.in_ok-step.ensures.step)
+
+pub try_kept-returns-in-End-clause-chosen : goal.try_kept-returns-in-End-clause-chosen
+try_kept-returns-in-End-clause-chosen g t c =
+    chosen_popped c.args.chosen.now.items c.loop-choice.chosen.items c.try_rest.new.chosen.items c.pop.new.self.items _ _ c.loop-choice.invariant.chosen (c.in_ok-step.ensures.chosen ∙ c.in_ok-push.ensures.items) c.try_rest.new.chosen.ok.0 c.pop.ensures.rest
+
+pub try_kept-returns-in-End-clause-known : goal.try_kept-returns-in-End-clause-known
+try_kept-returns-in-End-clause-known g t c = c.in_ok-step.ensures.known

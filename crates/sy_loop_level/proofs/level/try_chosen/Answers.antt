@@ -1,4 +1,5 @@
 use Rattle.std.proofs.Common.{refl, sym, subst, map}
+use Rattle.std.proofs.lemmas.Result.{IfOk-from_err}
 use Rattle.sy_terms.specs.Denoted.{expr_of}
 use Rattle.sy_grammar_base.specs.Questions.{question_of}
 use Rattle.sy_grammar_base.specs.Solving.{AreWithin}
@@ -43,3 +44,30 @@ try_candidate-requires-clause-candidate g c =
 
 pub returns-then-refuted-clause-grows : goal.returns-then-refuted-clause-grows
 returns-then-refuted-clause-grows g c = grows_not c.args.known.now.points
+
+pub returns-in_err-refuted-clause-known : goal.returns-in_err-refuted-clause-known
+returns-in_err-refuted-clause-known g c = IfOk-from_err c.from_residual.result _ c.from_residual.ensures.0
+
+pub returns-in_err-refuted-clause-grows : goal.returns-in_err-refuted-clause-grows
+returns-in_err-refuted-clause-grows g c = IfOk-from_err c.from_residual.result _ c.from_residual.ensures.0
+
+pub returns-in_err-refuted-clause-step : goal.returns-in_err-refuted-clause-step
+returns-in_err-refuted-clause-step g c = IfOk-from_err c.from_residual.result _ c.from_residual.ensures.0
+
+pub returns-in_err-bodies-clause-known : goal.returns-in_err-bodies-clause-known
+returns-in_err-bodies-clause-known g c = IfOk-from_err c.from_residual-in_err-bodies.result _ c.from_residual-in_err-bodies.ensures.0
+
+pub returns-in_err-bodies-clause-grows : goal.returns-in_err-bodies-clause-grows
+returns-in_err-bodies-clause-grows g c = IfOk-from_err c.from_residual-in_err-bodies.result _ c.from_residual-in_err-bodies.ensures.0
+
+pub returns-in_err-bodies-clause-step : goal.returns-in_err-bodies-clause-step
+returns-in_err-bodies-clause-step g c = IfOk-from_err c.from_residual-in_err-bodies.result _ c.from_residual-in_err-bodies.ensures.0
+
+pub returns-in_err-step-clause-known : goal.returns-in_err-step-clause-known
+returns-in_err-step-clause-known g c = IfOk-from_err c.from_residual-in_err-step.result _ c.from_residual-in_err-step.ensures.0
+
+pub returns-in_err-step-clause-grows : goal.returns-in_err-step-clause-grows
+returns-in_err-step-clause-grows g c = IfOk-from_err c.from_residual-in_err-step.result _ c.from_residual-in_err-step.ensures.0
+
+pub returns-in_err-step-clause-step : goal.returns-in_err-step-clause-step
+returns-in_err-step-clause-step g c = IfOk-from_err c.from_residual-in_err-step.result _ c.from_residual-in_err-step.ensures.0
