@@ -5,3 +5,4 @@ pub mod Tuples
 pub mod Asking
 pub mod Assignments
 pub mod Ending
+pub mod Going

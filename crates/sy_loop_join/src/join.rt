@@ -5,10 +5,10 @@ ghost use Rattle.sy_grammar_base.specs.Fits.{ProblemFits};
 ghost use Rattle.sy_grammar_base.specs.Questions.{question_of};
 ghost use Rattle.sy_points.specs.Asked.{of_function};
 ghost use Rattle.sy_loop_bounds.specs.Pointwise.{IsPointwise};
-ghost use Rattle.sy_loop_candidate.specs.Clauses.{IsCandidateFor, IsKnownFor, MeetAllFor};
+ghost use Rattle.sy_loop_candidate.specs.Clauses.{GoesFor, IsCandidateFor, IsKnownFor, IsOpenFor, MeetAllFor};
 ghost use Rattle.sy_loop_goods.specs.Clauses.{AreAssignedFor, AreRestsFor, IsMemoFor};
-ghost use Rattle.sy_loop_join.specs.Clauses.{ArePartsFor, GoesFor, IsJoinableFor, IsOpenFor, IsPlanFor, IsRefutedFor, TreesFollowFromFor};
-ghost use Rattle.sy_loop_join.specs.Going.{OnNext};
+ghost use Rattle.sy_loop_join.specs.Clauses.{ArePartsFor, IsJoinableFor, IsPlanFor, IsRefutedFor, TreesFollowFromFor};
+ghost use Rattle.sy_loop_candidate.specs.Going.{OnNext};
 
 use crate::copies::copied_leaf;
 use crate::kept::kept_up_to;
