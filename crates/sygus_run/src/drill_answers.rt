@@ -15,7 +15,6 @@ ghost use Rattle.sygus_run.specs.DrillAnswers.{AnswersDrill, HasSolution, drill_
 
 use crate::count::count_met;
 use crate::problems::{Solved, sought, status_of};
-use crate::synthesis::discard;
 use std::alloc::Global;
 use sy_grammar_base::Problem;
 use sy_io::{Bytes, Sink, write_whole};
@@ -57,7 +56,7 @@ pub(crate) fn drill<T: Theory, D: Decide<T>, O: Sink>(
 {
     let outcome = sought(alloc, problem, Mode::Drill(number), limits, decide)?;
     let Ok(line) = line_of::<T, D>(alloc, number, problem, &outcome) else {
-        discard::<T, D>(outcome);
+        drop(outcome);
         return Err(Want {});
     };
     let mut answers = Seq::new(alloc);

@@ -10,7 +10,7 @@ ghost use Rattle.sygus_replies.specs.Replies.{IsSettled, IsFail, reply_for, repl
 ghost use Rattle.sygus_replies.specs.Texts.{texts, answer_lines, memory_line};
 ghost use Rattle.sygus_run.specs.RightAnswers.{RightOutcomeFor, AreRightFor};
 
-use crate::synthesis::{discard, synthesise_beyond};
+use crate::synthesis::synthesise_beyond;
 use std::alloc::Global;
 use sy_grammar_base::Problem;
 use sy_io::Sink;
@@ -164,11 +164,11 @@ fn answer_next<T: Theory, D: Decide<T>, O: Sink, E: Sink>(
         return Err(Stop::Memory);
     };
     let Ok(text) = answer_text::<T, D>(alloc, titles, problem, &answer) else {
-        discard::<T, D>(answer);
+        drop(answer);
         return Err(Stop::Memory);
     };
     let Ok(line) = answer_line::<T, D>(alloc, check, &answer) else {
-        discard::<T, D>(answer);
+        drop(answer);
         return Err(Stop::Memory);
     };
     let Ok(()) = answers.push(answer) else {

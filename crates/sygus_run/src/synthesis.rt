@@ -34,12 +34,12 @@ pub(crate) fn synthesise_beyond<T: Theory, D: Decide<T>>(
     let found = match found_beyond(alloc, problem, limits, decide, &outcome) {
         Ok(found) => found,
         Err(want) => {
-            discard::<T, D>(outcome);
+            drop(outcome);
             return Err(want);
         }
     };
     if let Some((bodies, proof)) = found {
-        discard::<T, D>(outcome);
+        drop(outcome);
         return Ok(Outcome::Found(bodies, proof));
     }
     Ok(outcome)
@@ -111,6 +111,3 @@ fn solved_anew<T: Theory, D: Decide<T>>(
     let found = solve_anew(alloc, problem, limits, decide, stored, limits.size)?;
     Ok(found)
 }
-
-/// Lets go of an outcome that isn't handed on. Each place that drops one without this call is long to prove.
-pub(crate) fn discard<T: Theory, D: Decide<T>>(_outcome: Outcome<T, D::Proof, D::Spent>) {}
