@@ -13,7 +13,7 @@ use Rattle.sy_grammar_base.specs.Trees as trees
 use Rattle.sy_grammar_base.specs.Trees.{Syntax, Trees, Production, Template, EachConstant, EachVariable, Derives, rule_at, is_written, is_sort, literal, node_yield, constant_yield, variable_yield, terms_joined, node_size, yield_from, yields_from, tree_size, tree_sizes}
 use Rattle.sy_grammar_sizes.proofs.PoolMembers.{both_true}
 use Rattle.sy_grammar_chains.specs.Constants.{IsConstantOf}
-use Rattle.sy_grammar_chains.specs.Greatest.{IsSize}
+use Rattle.sy_grammar_sizes.specs.Greatest.{IsSize}
 use Rattle.sy_grammar_chains.specs.Tables.{GivesLeaf}
 
 if_Some : {X : Type 0} (b : Bool) (x y : X) → (if b then Some x else None) ≡ Some y → b ≡ true

@@ -8,7 +8,7 @@ use Rattle.sy_grammar_base.specs.Trees.{Production, rule_of}
 use Rattle.sy_grammar_base.specs.Grown.{production_of, nonterminal_of, syntax_from}
 use Rattle.sy_grammar_base.specs.declared.grammar.Non.{Non}
 use Rattle.sy_grammar_base.specs.declared.grammar.Grammar.{Grammar}
-use Rattle.sy_grammar_chains.specs.Greatest.{IsSize}
+use Rattle.sy_grammar_sizes.specs.Greatest.{IsSize}
 use Rattle.sy_grammar_chains.specs.Tables.{GivesLeaf, GivesLeaves, IsBest, IsTable, larger, table_entry, entry_in_table}
 use Rattle.sy_grammar_chains.proofs.Best.{best_more}
 use Rattle.sy_grammar_chains.proofs.Derived.{leaf_is}

@@ -7,7 +7,7 @@ use Rattle.sy_terms.specs.Expr.{Expr}
 use Rattle.sy_grammar_base.specs.Patterns.{Pattern, occurring, own_size}
 use Rattle.sy_grammar_base.specs.Trees as trees
 use Rattle.sy_grammar_base.specs.Trees.{Syntax, Tree, Trees, Template, Derives, rule_at, yield_from, yields_from, tree_size, tree_sizes}
-use Rattle.sy_grammar_chains.specs.Greatest.{IsSize, DerivesNothing, IsLargest, IsExceeded}
+use Rattle.sy_grammar_sizes.specs.Greatest.{IsSize, DerivesNothing, IsLargest, IsExceeded}
 use Rattle.sy_grammar_chains.specs.Tables.{table_entry, entry_in_table, sizes_plus, entries_total, cut, pattern_size, Exceeds, IsImproved, IsStable, IsTable, slack}
 use Rattle.sy_grammar_chains.proofs.Derived.{constant_leaf, variable_leaf, node_is, node_derives, joined_from, joined_to}
 use Rattle.sy_grammar_chains.proofs.Lists.{get-set, get-set_kept}

@@ -6,7 +6,7 @@ use Rattle.sy_terms.specs.declared.sort.Sort.{Sort}
 use Rattle.sy_grammar_base.specs.Patterns.{Pattern, occurring, own_size}
 use Rattle.sy_grammar_base.specs.Trees.{Syntax, Production, Template, EachConstant, EachVariable, rule_at}
 use Rattle.sy_grammar_chains.specs.Constants.{IsConstantSize, IsVariableSize}
-use Rattle.sy_grammar_chains.specs.Greatest.{IsSize}
+use Rattle.sy_grammar_sizes.specs.Greatest.{IsSize}
 
 -- a rule for all of a sort gives a derivation of this size
 abbrev pub GivesLeaf : List Sort → List Val → Production → ℕ → Type 0

@@ -2,7 +2,7 @@
 ghost use Rattle.std.specs.Prelude.{◌≡◌, ℕ, ◌⊎◌, ◌<◌, ◌≤◌, map, MatchOption, IfOk, Some, None};
 ghost use Rattle.sy_terms.specs.Denoted.{val_of};
 ghost use Rattle.sy_grammar_base.specs.Grown.{syntax_from};
-ghost use Rattle.sy_grammar_chains.specs.Greatest.{IsLargest, IsExceeded};
+ghost use Rattle.sy_grammar_sizes.specs.Greatest.{IsLargest, IsExceeded};
 
 use crate::leaves::leaf_table;
 use crate::table::{entry, next_larger};

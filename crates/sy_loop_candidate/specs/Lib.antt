@@ -1,5 +1,3 @@
 pub mod Answers
 pub mod Clauses
-pub mod Known
 pub mod Steps
-pub mod Traces

@@ -2,7 +2,7 @@
 use Rattle.std.specs.Prelude.{ℕ, ◌+◌, ◌≡◌, ◌≤◌, List, [], ◌∷◌}
 use Rattle.sy_terms.specs.Values.{Val}
 use Rattle.sy_grammar_base.specs.Questions.{Goal, Question}
-use Rattle.sy_grammar_chains.specs.Greatest.{IsLargest}
+use Rattle.sy_grammar_sizes.specs.Greatest.{IsLargest}
 
 -- the largest sizes of the grammars' derivations sum to this; a grammar without derivations counts 0
 abbrev pub SumTo : List Val → List Goal → ℕ → Type 0
