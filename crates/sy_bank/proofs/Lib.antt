@@ -1,5 +1,4 @@
 pub mod Steps
 pub mod Ends
 pub mod Places
-pub use Rattle.sy_bank_offer.proofs.Points
-pub mod Exits
+pub use Rattle.sy_bank_laws.proofs.Points

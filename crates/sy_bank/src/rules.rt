@@ -5,15 +5,16 @@ ghost use Rattle.sy_grammar_base.specs.Grown.{production_of};
 ghost use Rattle.sy_grammar_base.specs.Written.{pattern_of};
 ghost use Rattle.sy_bank_level.specs.Filling.{IsSteady, LevelGrows};
 ghost use Rattle.sy_bank_level.specs.Task.{world, IsStop, level_state_of};
-ghost use Rattle.sy_bank_offer.specs.Tasks.{IsTask, IsRule};
+ghost use Rattle.sy_bank_level.specs.Tasks.{IsTask, IsRule};
 ghost use Rattle.sy_bank_laws.specs.Tried.{IsTried, AllAreTried, IsFilled};
 
 use std::rc::Rc;
+use sy_bank_chains::pass_chains;
 use sy_bank_leaves::{LeafRule, constants, variables};
 use sy_bank_level::{Filling, Stop, Task};
 use sy_bank_offer::Template;
-use sy_bank_rows::copied_part;
-use sy_bank_rules::{choose, pass_chains};
+use sy_bank_parts::copied_part;
+use sy_bank_rules::choose;
 use sy_grammar_base::{Part, Rule};
 use sy_terms::Theory;
 

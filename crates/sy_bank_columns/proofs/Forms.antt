@@ -31,7 +31,7 @@ use Rattle.sy_bank_rows.specs.Covering as covering
 use Rattle.sy_bank_rows.specs.Stored.{entry_of, chosen_of}
 use Rattle.sy_bank_rows.specs.declared.kept.Kept.{Kept}
 use Rattle.sy_bank_rows.specs.Columns.{column, constants, FitsAt, FitAt, HasRow, HaveRows}
-use Rattle.sy_bank_columns.specs.Chosen.{ArePoints, AreRows}
+use Rattle.sy_bank_rows.specs.Chosen.{ArePoints, AreRows}
 use Rattle.sy_bank_columns.specs.declared.ends.RowEnd.{RowEnd}
 use Rattle.sy_bank_columns.specs.declared.ends.RowEnd.TheVariants.{Lost, Want}
 use Rattle.sy_bank_rows.proofs.Fillings.{filled-Constant, filled-Variable, filled-Occurrence, filled-Apply, filled-Invoke}

@@ -4,4 +4,3 @@ pub mod Pieces
 pub mod Weights
 pub mod Forms
 pub mod Paired
-pub mod Growing

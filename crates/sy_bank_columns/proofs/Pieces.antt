@@ -19,7 +19,7 @@ use Rattle.sy_bank_rows.specs.Covering.{terms}
 use Rattle.sy_bank_rows.specs.Columns.{FitsAt, FitAt, HasRow, HaveRows}
 use Rattle.sy_bank_rows.specs.declared.kept.Kept.{Kept}
 use Rattle.sy_bank_rows.specs.Stored.{chosen_of}
-use Rattle.sy_bank_columns.specs.Chosen.{AreRows}
+use Rattle.sy_bank_rows.specs.Chosen.{AreRows}
 use Rattle.sy_bank_columns.specs.Found.{IsOneLostAt}
 use Rattle.sy_bank_columns.proofs.ByPoint.{rows-last}
 use Rattle.sy_bank_rows.proofs.Fillings.{filled-next}

@@ -5,12 +5,10 @@ mod apply;
 mod call;
 mod ends;
 mod evaluated;
-mod fill;
 mod lent;
 mod rows;
 
 pub use ends::RowEnd;
 pub use evaluated::term_row;
-pub use fill::{chosen_part, grown};
 pub use lent::Row;
 pub use rows::part_row;

@@ -13,7 +13,7 @@ ghost use Rattle.sy_bank_rows.specs.Rows.{IsLostAt};
 ghost use Rattle.sy_bank_rows.specs.Covering.{terms};
 ghost use Rattle.sy_bank_rows.specs.Columns.{FitsAt, FitAt, HasRow, HaveRows};
 ghost use Rattle.sy_bank_rows.specs.Stored.{chosen_of};
-ghost use Rattle.sy_bank_columns.specs.Chosen.{AreRows, ArePoints};
+ghost use Rattle.sy_bank_rows.specs.Chosen.{AreRows, ArePoints};
 ghost use Rattle.sy_bank_columns.specs.Lent.{row_values};
 ghost use Rattle.sy_bank_columns.specs.Found.{WhereLost, IsOneLostAt};
 

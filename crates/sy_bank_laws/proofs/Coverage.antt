@@ -10,7 +10,7 @@ use Rattle.sy_grammar_base.specs.Trees.{Syntax, Production, Template, EachConsta
 use Rattle.sy_bank_rows.specs.Rows.{IsRow}
 use Rattle.sy_bank_rows.specs.Banks.{Entry, Merged, IsKept, IsHonestBank}
 use Rattle.sy_bank_rows.specs.Covering.{IsCovered, Covers, AreKept, sizes, terms, Offers, IsSaturated}
-use Rattle.sy_bank_laws.proofs.Alike.{AllAlike, filled_alike, rows_alike, row_of_alike}
+use Rattle.sy_bank_rows.proofs.Alike.{AllAlike, filled_alike, rows_alike, row_of_alike}
 
 -- a kept term for each nonterminal, with the rows of these terms
 pub record AreCovered (syntax : Syntax) (defined : List Function) (bank : Merged) (nonterminals : List ℕ) (size : ℕ) (found : List Expr) : Type 0 where

@@ -1,5 +1,5 @@
-pub mod Alike
 pub mod Coverage
 pub mod LevelsLemmas
 pub mod TriedLemmas
 pub mod Next
+pub mod Points

@@ -13,14 +13,14 @@ use Rattle.sy_terms.specs.declared.sort.Value.{Value}
 use Rattle.sy_terms_laws.proofs.Equations.{if_Some}
 use Rattle.sy_grammar_base.specs.Formed.{is_known}
 use Rattle.sy_grammar_laws.proofs.Members.{formed_fits}
-use Rattle.sy_bank_offer.specs.Tasks.{IsSet}
+use Rattle.sy_bank_level.specs.Tasks.{IsSet}
 use Rattle.sy_grammar_base.specs.Trees.{Nonterminal, rule_of, value_magnitude, Tree, Derives, tree_size, ConstantLeaf, VariableLeaf, EachConstant, EachVariable, yield_from, constant_yield, variable_yield, constant_size, is_sort, is_written, literal}
 use Rattle.sy_bank_rows.specs.Banks.{Entry, IsKept}
 use Rattle.sy_bank_rows.specs.Columns.{HasRow}
 use Rattle.sy_bank_level.specs.Filling.{World, LevelState, all_levels, EntryIsRight, IsSteady, LevelGrows, TermIsDone}
 use Rattle.sy_bank_level.proofs.Kept.{below-or-last}
 use Rattle.sy_bank_level.proofs.Keeping.{done-on}
-use Rattle.sy_bank_offer.proofs.Given.{has-row, found-done}
+use Rattle.sy_bank_level.proofs.Given.{has-row, found-done}
 use Rattle.sy_bank_leaves.specs.Leaves.{IsLeafRule, GivesDone, IsGivenConstant, IsDoneFor, IsDoneAt}
 use Rattle.sy_bank_leaves.proofs.ConstantSizes.{IsOne, truth, naught, unit, pooled, ones, at-sign}
 

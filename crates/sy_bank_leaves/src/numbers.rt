@@ -7,7 +7,7 @@ ghost use Rattle.sy_grammar_base.specs.Trees as trees;
 ghost use Rattle.sy_grammar_base.specs.Trees.{EachConstant};
 ghost use Rattle.sy_bank_level.specs.Filling.{IsSteady, LevelGrows, TermIsDone};
 ghost use Rattle.sy_bank_level.specs.Task.{world, IsStop, level_state_of};
-ghost use Rattle.sy_bank_offer.specs.Tasks.{IsTask};
+ghost use Rattle.sy_bank_level.specs.Tasks.{IsTask};
 ghost use Rattle.sy_bank_leaves.specs.Leaves.{IsLeafRule, GivesDone, IsGivenConstant, IsDoneFor, IsDoneAt};
 
 use crate::leaf::literal;

@@ -5,7 +5,7 @@ ghost use Rattle.sy_grammar_base.specs.Trees.{Derives, tree_size};
 ghost use Rattle.sy_grammar_base.specs.Grown.{tree_of};
 ghost use Rattle.sy_bank_level.specs.Filling.{IsSteady, LevelGrows, TermIsDone};
 ghost use Rattle.sy_bank_level.specs.Task.{world, IsStop, level_state_of};
-ghost use Rattle.sy_bank_offer.specs.Tasks.{IsTask};
+ghost use Rattle.sy_bank_level.specs.Tasks.{IsTask};
 
 use std::rc::Rc;
 use sy_bank_columns::{RowEnd, term_row};

@@ -5,7 +5,7 @@ ghost use Rattle.sy_terms.specs.Sorts as sorts;
 ghost use Rattle.sy_terms.specs.Expr.{Variable};
 ghost use Rattle.sy_bank_level.specs.Filling.{IsSteady, LevelGrows, TermIsDone};
 ghost use Rattle.sy_bank_level.specs.Task.{world, IsStop, level_state_of};
-ghost use Rattle.sy_bank_offer.specs.Tasks.{IsTask};
+ghost use Rattle.sy_bank_level.specs.Tasks.{IsTask};
 ghost use Rattle.sy_bank_leaves.specs.Leaves.{IsLeafRule, GivesDone};
 
 use crate::offering::offer_leaf;

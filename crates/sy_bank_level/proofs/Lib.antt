@@ -4,3 +4,6 @@ pub mod Finding
 pub mod Hashes
 pub mod Kept
 pub mod Keeping
+pub mod Given
+pub mod Nodes
+pub mod Exits

@@ -3,3 +3,4 @@ pub mod Filling
 pub mod Hashing
 pub mod Places
 pub mod Task
+pub mod Tasks

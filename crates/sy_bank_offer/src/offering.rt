@@ -6,11 +6,12 @@ ghost use Rattle.sy_bank_rows.specs.Covering.{AreKept, sizes, terms};
 ghost use Rattle.sy_bank_rows.specs.Stored.{chosen_of};
 ghost use Rattle.sy_bank_level.specs.Filling.{IsSteady, LevelGrows, TermIsDone};
 ghost use Rattle.sy_bank_level.specs.Task.{world, IsStop, level_state_of, levels_of};
-ghost use Rattle.sy_bank_offer.specs.Tasks.{IsTask, IsRule};
+ghost use Rattle.sy_bank_level.specs.Tasks.{IsTask, IsRule};
 
 use crate::template::Template;
-use sy_bank_columns::{RowEnd, chosen_part, grown, part_row};
+use sy_bank_columns::{RowEnd, part_row};
 use sy_bank_level::{Filling, Stop, Task, row_hash};
+use sy_bank_parts::{chosen_part, grown};
 use sy_bank_rows::{Dropped, Kept};
 use sy_terms::Theory;
 

@@ -4,3 +4,4 @@ pub mod Covering
 pub mod Rows
 pub mod Shared
 pub mod Stored
+pub mod Chosen

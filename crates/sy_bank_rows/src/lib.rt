@@ -7,7 +7,7 @@ mod grown;
 mod kept;
 mod occurrences;
 
-pub use fill::{copied_part, filled_part};
+pub use fill::filled_part;
 pub use grown::{Grown, Growns};
 pub use kept::{Dropped, Kept};
 pub use occurrences::places;

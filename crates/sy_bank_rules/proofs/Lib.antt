@@ -1,5 +1,3 @@
 pub mod Begun
-pub mod Entries
 pub mod Items
 pub mod Least
-pub mod Passed

@@ -4,12 +4,13 @@ ghost use Rattle.sy_grammar_base.specs.Written.{pattern_of};
 ghost use Rattle.sy_bank_rows.specs.Stored.{entry_of, chosen_of};
 ghost use Rattle.sy_bank_level.specs.Filling.{IsSteady, LevelGrows};
 ghost use Rattle.sy_bank_level.specs.Task.{world, IsStop, level_state_of};
-ghost use Rattle.sy_bank_offer.specs.Tasks.{IsTask, IsRule};
+ghost use Rattle.sy_bank_level.specs.Tasks.{IsTask, IsRule};
 ghost use Rattle.sy_bank_rules.specs.Choosing.{AreDone, AreDoneFrom, PatternIsBegun};
 
-use crate::measure::{kept_terms, left_of, places};
+use crate::levels::kept_terms;
 use sy_bank_level::{Filling, Stop, Task};
 use sy_bank_offer::{Template, offer};
+use sy_bank_parts::{left_of, places};
 use sy_bank_rows::Kept;
 use sy_terms::Theory;
 

@@ -1,10 +1,7 @@
-// All that a rule gives of kept terms of lesser sizes, and the passing of the kept terms of a size along chain rules.
+// All that a rule gives of kept terms of lesser sizes.
 #![tactic(auto)]
 
-mod chained;
 mod choosing;
-mod measure;
-mod passing;
+mod levels;
 
 pub use choosing::choose;
-pub use passing::pass_chains;

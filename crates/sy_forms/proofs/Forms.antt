@@ -1,41 +1,17 @@
 -- Reading of terms, by the form of what is read.
 use Rattle.std.proofs.Common.{◌≡◌, refl, ap, List, [], ◌∷◌, ◌++◌, true, false, take, length}
 use Rattle.std.specs.Prelude.{Result, Ok, Err, OnOk, codes}
-use Rattle.sy_text.specs.Items.{Item, leaf, group, Items, none, more}
-use Rattle.sy_text.specs.declared.atom.Atom.{Atom}
-use Rattle.sy_text.specs.declared.atom.Place.{Place}
+use Rattle.sy_text_items.specs.Items.{Item, leaf, group, Items, none, more}
+use Rattle.sy_text_items.specs.declared.atom.Atom.{Atom}
+use Rattle.sy_text_items.specs.declared.atom.Place.{Place}
 use Rattle.sy_scope_causes.specs.declared.cause.Cause.TheVariants as cause
-use Rattle.sy_forms_items.specs.declared.fault.ReadEnd.{ReadEnd}
-use Rattle.sy_forms_items.specs.declared.fault.ReadEnd.TheVariants as ends
-use Rattle.sy_forms_phrases.specs.declared.names.Named.{Named}
-use Rattle.sy_forms_phrases.specs.Environments.{Environment}
+use Rattle.sy_forms_names.specs.declared.names.Named.{Named}
+use Rattle.sy_forms_names.specs.Environments.{Environment}
 use Rattle.sy_forms_items.specs.Parts.{is_symbol, indexed_name}
 use Rattle.sy_forms_phrases.specs.Phrases.{Several, no_terms, behind}
-use Rattle.sy_forms_items.specs.Readings.{Reading, ReadingGives, ReadingFails, refuse, ◌>>=◌}
+use Rattle.sy_forms_items.specs.Readings.{Reading, refuse, ◌>>=◌}
 use Rattle.sy_forms.specs.Parts.{let_parts, binding_parts}
 use Rattle.sy_forms.specs.Terms.{Bounds, unbound, bound_behind, bound_to, new_binding_name, let_may_stand, indexed_term, atom_term, read_head, head_applied, read_term, read_list, read_terms, read_let, read_let_in, read_inner, read_binding_list, read_bindings, read_binding, read_pair, read_bound}
-
--- what is returned gives what is read, where that is another way to read
-pub gives_same : {X Y : Type 0} (view : X → Y) (result : Result X ReadEnd) (read other : Reading Y) → read ≡ other → ReadingGives view result other → ReadingGives view result read
-gives_same view result read other e g = rw e g
-
-pub fails_same : {Y : Type 0} (e : ReadEnd) (read other : Reading Y) → read ≡ other → ReadingFails e other → ReadingFails e read
-fails_same e read other same f = rw same f
-
--- what fails first fails
-pub fails_bind : {A B : Type 0} (e : ReadEnd) (read : Reading A) (next : A → Reading B) → ReadingFails e read → ReadingFails e (read >>= next)
-fails_bind ends.Want read next f = tt
-fails_bind (ends.Refused place cause) read next f = rw f refl
-
--- what fails behind something that is read
-pub fails_next : {A B : Type 0} (e : ReadEnd) (read : Reading A) (x : A) (next : A → Reading B) → read ≡ Ok x → ReadingFails e (next x) → ReadingFails e (read >>= next)
-fails_next e read x next is f = rw is f
-
-pub gives_next : {X A B : Type 0} (view : X → B) (result : Result X ReadEnd) (read : Reading A) (x : A) (next : A → Reading B) → read ≡ Ok x → ReadingGives view result (next x) → ReadingGives view result (read >>= next)
-gives_next view result read x next is g = rw is g
-
-pub bound : {A B : Type 0} (read : Reading A) (x : A) (next : A → Reading B) → read ≡ Ok x → (read >>= next) ≡ next x
-bound read x next is = rw is refl
 
 pub list_none : (env : Environment) (locals : List Named) (place : Place) (items : Items) → items ≡ none → read_list env locals place items ≡ refuse place cause.Shape
 unfolding read_term read_list read_terms read_let read_let_in read_binding_list read_bindings read_binding read_pair read_bound

@@ -1,13 +1,13 @@
 -- Sizes of items.
 use Rattle.std.proofs.Common.{◌≡◌, ◌≤◌, ◌+◌, ap, arith}
 use Rattle.std.specs.Prelude.{ℕ, List, Ok, Err}
-use Rattle.sy_text.specs.declared.atom.Place.{Place}
+use Rattle.sy_text_items.specs.declared.atom.Place.{Place}
 use Rattle.sy_terms.specs.declared.sort.Logic.{Logic}
-use Rattle.sy_forms_phrases.specs.declared.names.Named.{Named}
+use Rattle.sy_forms_names.specs.declared.names.Named.{Named}
 use Rattle.sy_forms_items.specs.Readings.{Reading, ◌>>=◌}
 use Rattle.sy_forms.specs.Parts.{let_parts, binding_parts}
 use Rattle.sy_forms.specs.Terms.{new_binding_name}
-use Rattle.sy_text.specs.Items.{Item, leaf, group, Items, none, more, item_size, items_size}
+use Rattle.sy_text_items.specs.Items.{Item, leaf, group, Items, none, more, item_size, items_size}
 
 pub item_size-pos : (x : Item) → 1 ≤ item_size x
 item_size-pos (leaf atom place) = omega arith

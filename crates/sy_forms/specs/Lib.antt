@@ -2,5 +2,4 @@ pub mod Gathered
 pub mod Terms
 pub mod Rules
 pub mod Heads
-pub mod Rulings
 pub mod Parts

@@ -1,31 +1,18 @@
 -- Rules of grammars, and which nonterminals derive numerals alone.
 use Rattle.std.specs.Prelude.{ℕ, List, [], ◌∷◌, Bool, true, false, ◌&&◌, Option, Some, None, is_some, Ok, Err, codes, if◌then◌else◌}
-use Rattle.sy_text.specs.Items.{Item, leaf, group, Items, none, more}
-use Rattle.sy_text.specs.declared.atom.Place.{Place}
+use Rattle.sy_text_items.specs.Items.{Item, leaf, group, Items, none, more}
+use Rattle.sy_text_items.specs.declared.atom.Place.{Place}
 use Rattle.sy_terms.specs.Sorts.{same_sort}
 use Rattle.sy_terms.specs.declared.sort.Sort.{Sort}
 use Rattle.sy_terms.specs.declared.sort.Sort.TheVariants as sorts
 use Rattle.sy_scope_causes.specs.declared.cause.Cause.TheVariants as cause
-use Rattle.sy_grammar_base.specs.Trees as trees
-use Rattle.sy_grammar_base.specs.Trees.{Production}
-use Rattle.sy_forms_phrases.specs.declared.names.Named.{Named}
-use Rattle.sy_forms_phrases.specs.Environments.{Environment}
+use Rattle.sy_forms_names.specs.declared.names.Named.{Named}
+use Rattle.sy_forms_names.specs.Environments.{Environment}
 use Rattle.sy_forms_items.specs.Parts.{place_of, numeral, is_symbol, has_no_items}
-use Rattle.sy_forms_phrases.specs.Phrases.{Phrase, pattern_at}
 use Rattle.sy_forms_items.specs.Readings.{Reading, refuse, ◌>>=◌}
-use Rattle.sy_forms_phrases.specs.Sorts.{read_sort}
+use Rattle.sy_forms_names.specs.Sorts.{read_sort}
+use Rattle.sy_forms_phrases.specs.Productions.{Ruling, Template, EachConstant, EachVariable}
 use Rattle.sy_forms.specs.Terms.{read_term}
-
--- a rule as it is read: a term, `(Constant s)` or `(Variable s)`
-pub data Ruling : Type 0 where
-  Template : (phrase : Phrase) → Ruling
-  EachConstant : (sort : Sort) → Ruling
-  EachVariable : (sort : Sort) → Ruling
-
-abbrev pub production_at : Ruling → Production
-production_at (Template phrase) = trees.Template (pattern_at phrase)
-production_at (EachConstant sort) = trees.EachConstant sort
-production_at (EachVariable sort) = trees.EachVariable sort
 
 -- the sort in a list of a word and a sort
 abbrev pub sort_behind : List ℕ → Items → Option Item

@@ -1,11 +1,11 @@
 -- Terms, read with each node before its parts, and the first condition that doesn't hold.
 use Rattle.std.specs.Prelude.{ℕ, ◌+◌, ◌^◌, List, [], ◌∷◌, ◌++◌, length, Bool, true, false, not, ◌&&◌, ◌||◌, nat_eq, nat_lt, nat_le, Option, Some, None, is_some, Ok, pos, get_or, bytes_eq, codes, if◌then◌else◌}
 use Rattle.std.specs.List.{list_all}
-use Rattle.sy_text.specs.Items.{Item, leaf, group, Items, none, more}
-use Rattle.sy_text.specs.Lexicon.{digit, value_in}
-use Rattle.sy_text.specs.declared.atom.Atom.{Atom}
-use Rattle.sy_text.specs.declared.atom.Atom.TheVariants as atoms
-use Rattle.sy_text.specs.declared.atom.Place.{Place}
+use Rattle.sy_text_items.specs.Items.{Item, leaf, group, Items, none, more}
+use Rattle.sy_text_items.specs.Lexicon.{digit, value_in}
+use Rattle.sy_text_items.specs.declared.atom.Atom.{Atom}
+use Rattle.sy_text_items.specs.declared.atom.Atom.TheVariants as atoms
+use Rattle.sy_text_items.specs.declared.atom.Place.{Place}
 use Rattle.sy_terms.specs.Values.{Val, Truth}
 use Rattle.sy_terms.specs.Fitting.{same_sorts}
 use Rattle.sy_terms.specs.Sorts.{sort_of, same_sort}
@@ -22,19 +22,19 @@ use Rattle.sy_terms.specs.declared.term.Fun.{Fun}
 use Rattle.sy_scope_causes.specs.declared.cause.Cause.TheVariants as cause
 use Rattle.sy_forms_items.specs.declared.parts.Indices.{Indices}
 use Rattle.sy_forms_items.specs.declared.parts.Indices.TheVariants.{One}
-use Rattle.sy_forms_phrases.specs.declared.names.Named.{Named}
-use Rattle.sy_forms_phrases.specs.declared.names.Role.{Role}
-use Rattle.sy_forms_phrases.specs.declared.names.Role.TheVariants as role
-use Rattle.sy_forms_phrases.specs.Environments as env
-use Rattle.sy_forms_phrases.specs.Environments.{Environment, Sense, sense_of, place_among}
+use Rattle.sy_forms_names.specs.declared.names.Named.{Named}
+use Rattle.sy_forms_names.specs.declared.names.Role.{Role}
+use Rattle.sy_forms_names.specs.declared.names.Role.TheVariants as role
+use Rattle.sy_forms_names.specs.Environments as env
+use Rattle.sy_forms_names.specs.Environments.{Environment, Sense, sense_of, place_among}
 use Rattle.sy_forms_phrases.specs.Measures.{Measures, is_within_limits}
-use Rattle.sy_forms_phrases.specs.Operators.{operator_named, indexed_operator, are_small, at_count, is_reserved}
+use Rattle.sy_forms_names.specs.Operators.{operator_named, indexed_operator, are_small, at_count, is_reserved}
 use Rattle.sy_forms_phrases.specs.Measures.{is_neg}
 use Rattle.sy_forms_items.specs.Parts.{place_of, symbol_in, is_symbol, has_no_items, indexed_name}
 use Rattle.sy_forms_phrases.specs.Phrases as phrase
 use Rattle.sy_forms_phrases.specs.Phrases.{Phrase, Phrases, Typed, Several, no_terms, behind}
 use Rattle.sy_forms_items.specs.Readings.{Reading, refuse, ◌>>=◌}
-use Rattle.sy_forms_phrases.specs.Sorts.{is_width}
+use Rattle.sy_forms_names.specs.Sorts.{is_width}
 
 abbrev pub typed : Phrase → Sort → Reading Typed
 typed phrase sort = Ok (record { phrase = phrase; sort = sort })

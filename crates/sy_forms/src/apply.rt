@@ -3,7 +3,7 @@ ghost use Rattle.std.specs.Prelude.{◌≡◌, ◌≤◌, OnOk};
 ghost use Rattle.sy_terms.specs.Fitting as fitting;
 ghost use Rattle.sy_forms_phrases.specs.Meant.{phrase_of, phrases_of, typed_of};
 ghost use Rattle.sy_forms.specs.Gathered.{several_of};
-ghost use Rattle.sy_forms_phrases.specs.Operators as operators;
+ghost use Rattle.sy_forms_names.specs.Operators as operators;
 ghost use Rattle.sy_forms_phrases.specs.Phrases as phrases;
 ghost use Rattle.sy_forms_items.specs.Readings.{ReadingGives};
 ghost use Rattle.sy_forms.specs.Heads.{head_in};
@@ -12,12 +12,12 @@ ghost use Rattle.sy_forms.specs.Terms as spec;
 use crate::head::Head;
 use std::alloc::Global;
 use sy_forms_items::ReadEnd;
-use sy_forms_phrases::{
-    Phrase, Phrases, Typed, at_count, invocation, is_neg, operation, same_sorts,
-};
+use sy_forms_names::{at_count, same_sorts};
+use sy_forms_phrases::{Phrase, Phrases, Typed, invocation, is_neg, operation};
 use sy_scope_causes::Cause;
-use sy_terms::{Op, Seq, Sort, Sorted, Theory, Want, operator_sort};
-use sy_text::Place;
+use sy_terms::{Op, Seq, Sort, Sorted, Theory, Want};
+use sy_terms_operators::operator_sort;
+use sy_text_items::Place;
 
 /// Phrases with their sorts.
 #[derive(Drop)]

@@ -1,26 +1,26 @@
 // Names as terms, and heads of lists.
 ghost use Rattle.std.specs.Prelude.{◌≡◌};
 ghost use Rattle.std.specs.Option.{option_map};
-ghost use Rattle.sy_text.specs.Views.{item_of};
+ghost use Rattle.sy_text_items.specs.Views.{item_of};
 ghost use Rattle.sy_forms_phrases.specs.Meant.{typed_of};
 ghost use Rattle.sy_forms_items.specs.Readings.{ReadingGives};
-ghost use Rattle.sy_forms_phrases.specs.Seen.{environment_of, sense_in};
+ghost use Rattle.sy_forms_names.specs.Seen.{environment_of, sense_in};
 ghost use Rattle.sy_forms.specs.Heads.{head_in};
 ghost use Rattle.sy_terms.specs.Logics.{Serves};
 ghost use Rattle.sy_forms.specs.Terms as spec;
-ghost use Rattle.sy_forms_phrases.specs.Operators as operators;
+ghost use Rattle.sy_forms_names.specs.Operators as operators;
 ghost use Rattle.sy_forms_items.specs.Views.{indexed_of, items_in};
 
 use crate::literal::{numeral_term, vector_term};
 use std::alloc::Global;
 use sy_forms_items::{Indices, ReadEnd, Rest, indexed_name, is, is_symbol, symbol_in};
-use sy_forms_phrases::{
-    Environment, Locals, Phrases, Sense, Typed, are_small, indexed_operator, invocation,
-    is_indexed, literal, local, nonterminal, operator_named, position, sense_of,
+use sy_forms_names::{
+    Environment, Locals, Sense, are_small, indexed_operator, is_indexed, operator_named, sense_of,
 };
+use sy_forms_phrases::{Phrases, Typed, invocation, literal, local, nonterminal, position};
 use sy_scope_causes::Cause;
 use sy_terms::{Fun, Logic, Op, Sort, Theory, Value};
-use sy_text::{Atom, Name, Place, Sexp};
+use sy_text_items::{Atom, Name, Place, Sexp};
 
 /// A name that stands for nothing that is declared.
 fn undeclared_term<T: Theory>(logic: Logic, place: Place, name: &[u8]) -> Result<Typed<T>, ReadEnd>

@@ -8,11 +8,11 @@ mod parts;
 mod rule;
 mod term;
 
-pub use rule::{Ruling, constant_groups, read_rule, read_whole};
+pub use rule::{constant_groups, read_rule, read_whole};
 pub use sy_forms_items::{
     Fault, Indices, ReadEnd, Rest, copied, is, is_symbol, numeral, place_of, symbol, symbol_in,
 };
-pub use sy_forms_phrases::{
-    Entity, Environment, Measures, Named, Names, Phrase, Phrases, Role, Typed, is_reserved,
-    place_among, read_sort, same_sorts,
+pub use sy_forms_names::{
+    Entity, Environment, Named, Names, Role, is_reserved, place_among, read_sort, same_sorts,
 };
+pub use sy_forms_phrases::{Measures, Phrase, Phrases, Ruling, Typed};

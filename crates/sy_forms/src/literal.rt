@@ -2,7 +2,7 @@
 ghost use Rattle.std.specs.Prelude.{◌≡◌, ◌^◌, min, true};
 ghost use Rattle.std.specs.Option.{option_map};
 ghost use Rattle.std.specs.List.{list_all};
-ghost use Rattle.sy_text.specs.Lexicon.{digit, digit_value, value_in};
+ghost use Rattle.sy_text_items.specs.Lexicon.{digit, digit_value, value_in};
 ghost use Rattle.sy_forms_phrases.specs.Meant.{typed_of};
 ghost use Rattle.sy_forms_items.specs.Readings.{ReadingGives};
 ghost use Rattle.sy_terms.specs.Logics.{Serves};
@@ -10,10 +10,11 @@ ghost use Rattle.sy_forms.specs.Terms as spec;
 ghost use Rattle.sy_forms_items.specs.Views.{indexed_of};
 
 use sy_forms_items::{Indices, ReadEnd};
-use sy_forms_phrases::{Typed, is_width, literal};
+use sy_forms_names::is_width;
+use sy_forms_phrases::{Typed, literal};
 use sy_scope_causes::Cause;
 use sy_terms::{Logic, Sort, Theory, Value};
-use sy_text::{Name, Place};
+use sy_text_items::{Name, Place};
 
 /// From here on a number is no literal of any sort.
 const CAP: u128 = 1 << 127;
@@ -63,14 +64,14 @@ pub(crate) fn vector_term<T: Theory>(
     }
 }
 
-#[tactic(auto, unfolding(sy_text::specs::Lexicon::digit))]
+#[tactic(auto, unfolding(sy_text_items::specs::Lexicon::digit))]
 fn is_digit(b: u8) -> bool
     ensures { result ≡ digit b }
 {
     !(b < 48) && !(57 < b)
 }
 
-#[tactic(auto, unfolding(sy_text::specs::Lexicon::digit_value))]
+#[tactic(auto, unfolding(sy_text_items::specs::Lexicon::digit_value))]
 fn value_of_digit(b: u8) -> u8
     ensures { result ≡ digit_value b }
 {

@@ -1,17 +1,17 @@
 // The parts of a `let` and of its bindings.
 ghost use Rattle.std.specs.Prelude.{◌≡◌};
 ghost use Rattle.std.specs.Option.{option_map};
-ghost use Rattle.sy_text.specs.Views.{item_of};
+ghost use Rattle.sy_text_items.specs.Views.{item_of};
 ghost use Rattle.sy_forms_items.specs.Readings.{ReadingGives};
 ghost use Rattle.sy_forms_items.specs.Views.{items_in};
 ghost use Rattle.sy_forms.specs.Parts as parts;
 ghost use Rattle.sy_forms.specs.Terms as spec;
 
 use sy_forms_items::{ReadEnd, Rest, place_of, symbol};
-use sy_forms_phrases::{Locals, is_reserved};
+use sy_forms_names::{Locals, is_reserved};
 use sy_scope_causes::Cause;
 use sy_terms::Logic;
-use sy_text::{Name, Place, Sexp};
+use sy_text_items::{Name, Place, Sexp};
 
 /// Two items, of a list that has no more.
 fn two_items<'a>(items: Rest<'a>) -> Option<(&'a Sexp, &'a Sexp)>

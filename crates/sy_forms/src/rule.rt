@@ -1,37 +1,27 @@
 // Whole terms, rules of grammars, and which nonterminals derive numerals alone.
 ghost use Rattle.std.specs.Prelude.{◌≡◌, List, [], ◌∷◌, IfOk};
 ghost use Rattle.std.specs.Option.{option_map};
-ghost use Rattle.sy_text.specs.Items.{listed};
-ghost use Rattle.sy_text.specs.Views.{item_of};
+ghost use Rattle.sy_text_items.specs.Items.{listed};
+ghost use Rattle.sy_text_items.specs.Views.{item_of};
 ghost use Rattle.sy_forms_phrases.specs.Measured.{measures_of};
-ghost use Rattle.sy_forms.specs.Rulings.{ruling_of};
+ghost use Rattle.sy_forms_phrases.specs.Rulings.{ruling_of};
 ghost use Rattle.sy_forms_phrases.specs.Meant.{phrase_of, typed_of};
 ghost use Rattle.sy_forms_items.specs.Readings.{ReadingGives};
 ghost use Rattle.sy_forms.specs.Rules as spec;
-ghost use Rattle.sy_forms_phrases.specs.Seen.{environment_of};
+ghost use Rattle.sy_forms_names.specs.Seen.{environment_of};
 ghost use Rattle.sy_terms.specs.Logics.{Serves};
 ghost use Rattle.sy_forms.specs.Terms as terms;
 ghost use Rattle.sy_forms_items.specs.Views.{items_in};
-ghost use Rattle.sy_forms_phrases.specs.declared.names.Named.{Named};
+ghost use Rattle.sy_forms_names.specs.declared.names.Named.{Named};
 
 use crate::term::read_term;
 use std::alloc::Global;
 use sy_forms_items::{ReadEnd, Rest, is_symbol, numeral, place_of};
-use sy_forms_phrases::{Environment, Locals, Measures, Named, Phrase, Typed, is_small, read_sort};
+use sy_forms_names::{Environment, Locals, Named, read_sort};
+use sy_forms_phrases::{Measures, Phrase, Ruling, Typed, is_small};
 use sy_scope_causes::Cause;
 use sy_terms::{Seq, Sort, Theory, Want, same_sort};
-use sy_text::{Place, Sexp, Sexps};
-
-/// A rule as it is read.
-#[derive(Drop)]
-pub enum Ruling<T: Theory> {
-    /// A grammar term.
-    Template(Phrase<T>),
-    /// `(Constant s)`: every constant of the sort.
-    EachConstant(Sort),
-    /// `(Variable s)`: every argument of the sort.
-    EachVariable(Sort),
-}
+use sy_text_items::{Place, Sexp, Sexps};
 
 /// The item as a term outside of any `let`.
 fn read_outermost<T: Theory>(

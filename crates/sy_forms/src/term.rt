@@ -1,11 +1,11 @@
 // Terms.
 ghost use Rattle.std.specs.Prelude.{◌≡◌, Ok, OnOk, take};
-ghost use Rattle.sy_text.specs.Views.{item_of};
+ghost use Rattle.sy_text_items.specs.Views.{item_of};
 ghost use Rattle.sy_forms.specs.Gathered.{several_of, bounds_of, bound_of};
 ghost use Rattle.sy_forms_phrases.specs.Meant.{phrase_of, phrases_of, typed_of};
 ghost use Rattle.sy_forms_phrases.specs.Phrases as phrases;
 ghost use Rattle.sy_forms_items.specs.Readings.{ReadingGives};
-ghost use Rattle.sy_forms_phrases.specs.Seen.{environment_of};
+ghost use Rattle.sy_forms_names.specs.Seen.{environment_of};
 ghost use Rattle.sy_terms.specs.Logics.{Serves};
 ghost use Rattle.sy_forms.specs.Terms as spec;
 ghost use Rattle.sy_forms_items.specs.Views.{items_in};
@@ -16,10 +16,11 @@ use crate::literal::indexed_term;
 use crate::parts::{binding_parts, let_parts};
 use std::alloc::Global;
 use sy_forms_items::{ReadEnd, Rest, copied, indexed_name, is_symbol};
-use sy_forms_phrases::{Environment, Locals, Named, Phrase, Phrases, Role, Typed, binding};
+use sy_forms_names::{Environment, Locals, Named, Role};
+use sy_forms_phrases::{Phrase, Phrases, Typed, binding};
 use sy_scope_causes::Cause;
 use sy_terms::{Theory, Want};
-use sy_text::{Name, Place, Sexp};
+use sy_text_items::{Name, Place, Sexp};
 
 /// A binding: the name with its term's sort, and the term.
 #[derive(Drop)]

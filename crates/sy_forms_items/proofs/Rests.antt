@@ -1,7 +1,7 @@
 -- The items of a list from a place on.
 use Rattle.std.proofs.Common.{◌≡◌, ◌≤◌, ◌+◌, ℕ, zero, suc, refl, arith, length, Some}
 use Rattle.std.specs.Prelude.{slice_get}
-use Rattle.sy_text.specs.Items.{Item, Items, none, more, listed}
+use Rattle.sy_text_items.specs.Items.{Item, Items, none, more, listed}
 use Rattle.sy_forms_items.specs.Parts.{items_from}
 
 pub items_at : (i : ℕ) (xs : Items) (x : Item) → slice_get (listed xs) i ≡ Some x → items_from i xs ≡ more x (items_from (i + 1) xs)

@@ -1,6 +1,6 @@
 -- What is read of an item: a value, or the first condition that doesn't hold.
 use Rattle.std.specs.Prelude.{◌≡◌, Result, Ok, Err, Option, Some, None}
-use Rattle.sy_text.specs.declared.atom.Place.{Place}
+use Rattle.sy_text_items.specs.declared.atom.Place.{Place}
 use Rattle.sy_scope_causes.specs.declared.cause.Cause.{Cause}
 use Rattle.sy_forms_items.specs.declared.fault.Fault.{Fault}
 use Rattle.sy_forms_items.specs.declared.fault.ReadEnd.{ReadEnd}

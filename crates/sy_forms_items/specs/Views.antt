@@ -1,7 +1,7 @@
 -- What the crate's types stand for.
 use Rattle.std.specs.Prelude.{ℕ, List}
 use Rattle.std.specs.Borrow.{Bor}
-use Rattle.sy_text.specs.Items.{Items}
+use Rattle.sy_text_items.specs.Items.{Items}
 use Rattle.sy_forms_items.specs.Parts.{items_from}
 use Rattle.sy_forms_items.specs.declared.parts.Indices.{Indices}
 use Rattle.sy_forms_items.specs.declared.parts.Rest.{Rest}

@@ -2,7 +2,7 @@
 ghost use Rattle.std.specs.Prelude.{◌≡◌, IfOk};
 
 use std::alloc::{AllocError, Global};
-use sy_text::Name;
+use sy_text_items::Name;
 
 /// A copy of a name.
 pub fn copied(alloc: Global, name: &Name) -> Result<Name, AllocError>

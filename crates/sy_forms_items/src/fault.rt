@@ -4,7 +4,7 @@ ghost use Rattle.sy_forms_items.specs.declared.fault.ReadEnd.TheVariants.{Want a
 
 use std::alloc::{AllocError, AllocFailed};
 use sy_scope_causes::Cause;
-use sy_text::Place;
+use sy_text_items::Place;
 
 /// The first condition that doesn't hold, and where.
 #[derive(Clone, Copy, Debug, PartialEq, Eq)]

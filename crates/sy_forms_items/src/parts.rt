@@ -1,12 +1,12 @@
 // What single items are, and the items of a list one after the other.
 ghost use Rattle.std.specs.Prelude.{◌≡◌, MatchOption, bytes_eq};
 ghost use Rattle.std.specs.Option.{option_map};
-ghost use Rattle.sy_text.specs.Items.{none, more};
-ghost use Rattle.sy_text.specs.Views.{item_of};
+ghost use Rattle.sy_text_items.specs.Items.{none, more};
+ghost use Rattle.sy_text_items.specs.Views.{item_of};
 ghost use Rattle.sy_forms_items.specs.Parts as spec;
 ghost use Rattle.sy_forms_items.specs.Views.{items_in, indexed_of};
 
-use sy_text::{Atom, Name, Place, Sexp, Sexps};
+use sy_text_items::{Atom, Name, Place, Sexp, Sexps};
 
 /// The indices of an identifier: one, two, or more.
 #[derive(Clone, Copy, Debug, PartialEq, Eq)]

@@ -2,9 +2,9 @@
 use Rattle.std.specs.Prelude.{ℕ, suc, ◌+◌, Bool, true, false, List, [], ◌∷◌, map, slice_get, Option, Some, None, ◌≡◌, refl, bytes_eq, if◌then◌else◌}
 use Rattle.std.proofs.Common.{ap, subst, arith}
 use Rattle.sy_terms.specs.declared.sort.Sort.{Sort}
-use Rattle.sy_forms_phrases.specs.declared.names.Named.{Named}
-use Rattle.sy_forms_phrases.specs.Environments as env
-use Rattle.sy_forms_phrases.specs.Environments.{Environment, Sense, or_else, place_from, place_among, sense_as, sense_of}
+use Rattle.sy_forms_names.specs.declared.names.Named.{Named}
+use Rattle.sy_forms_names.specs.Environments as env
+use Rattle.sy_forms_names.specs.Environments.{Environment, Sense, or_else, place_from, place_among, sense_as, sense_of}
 use Rattle.sy_forms_laws.specs.Fitting.{Setting}
 use Rattle.sy_forms_laws.specs.Right.{SenseIsThere}
 

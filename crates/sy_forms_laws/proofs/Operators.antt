@@ -11,7 +11,7 @@ use Rattle.sy_terms_laws.proofs.Equations.{both_true}
 use Rattle.sy_terms.specs.Logics.{operators_of}
 use Rattle.sy_forms_items.specs.declared.parts.Indices.{Indices}
 use Rattle.sy_forms_items.specs.declared.parts.Indices.TheVariants.{One, Two, More}
-use Rattle.sy_forms_phrases.specs.Operators.{operator_spelled, operator_named, core_operators, theory_operators, with_one_index, indexed_operator, at_count}
+use Rattle.sy_forms_names.specs.Operators.{operator_spelled, operator_named, core_operators, theory_operators, with_one_index, indexed_operator, at_count}
 
 chosen : (b : Bool) (op : Op) (other : Option Op) (found : Op) (P : Op → Type 0) → P op → ((x : Op) → other ≡ Some x → P x) → (if b then Some op else other) ≡ Some found → P found
 chosen true op other found P here later e = let same : op ≡ found = cc in subst P same here

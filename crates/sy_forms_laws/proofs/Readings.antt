@@ -1,7 +1,7 @@
 -- What holds of what is read, step by step.
 use Rattle.std.specs.Prelude.{Bool, true, false, Option, Some, None, Ok, Err, ◌≡◌, refl, ⊤, if◌then◌else◌, IfOk}
 use Rattle.std.proofs.Common.{subst}
-use Rattle.sy_text.specs.declared.atom.Place.{Place}
+use Rattle.sy_text_items.specs.declared.atom.Place.{Place}
 use Rattle.sy_scope_causes.specs.declared.cause.Cause.{Cause}
 use Rattle.sy_forms_items.specs.Readings.{Reading, refuse, found_or, ◌>>=◌}
 

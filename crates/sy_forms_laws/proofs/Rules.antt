@@ -2,11 +2,11 @@
 use Rattle.std.specs.Prelude.{ℕ, ◌^◌, nat_lt, pos, Bool, true, false, List, [], ◌∷◌, Option, Some, None, Ok, ⊤, ◌≡◌, refl, codes, is_some, if◌then◌else◌, IfOk}
 use Rattle.std.proofs.Common.{ap, sym, subst, ◌∙◌}
 use Rattle.std.proofs.lemmas.Slice.Eq.{bytes_eq-Decides}
-use Rattle.sy_text.specs.Items as items
-use Rattle.sy_text.specs.Items.{Item, leaf, group, Items}
-use Rattle.sy_text.specs.declared.atom.Atom.{Atom}
-use Rattle.sy_text.specs.declared.atom.Atom.TheVariants as atoms
-use Rattle.sy_text.specs.declared.atom.Place.{Place}
+use Rattle.sy_text_items.specs.Items as items
+use Rattle.sy_text_items.specs.Items.{Item, leaf, group, Items}
+use Rattle.sy_text_items.specs.declared.atom.Atom.{Atom}
+use Rattle.sy_text_items.specs.declared.atom.Atom.TheVariants as atoms
+use Rattle.sy_text_items.specs.declared.atom.Place.{Place}
 use Rattle.sy_scope_causes.specs.declared.cause.Cause.TheVariants as cause
 use Rattle.sy_terms.specs.Spelling.{spelling}
 use Rattle.sy_terms.specs.Values.{Val, Whole}
@@ -19,12 +19,13 @@ use Rattle.sy_terms.specs.declared.sort.Sort.TheVariants as sorts
 use Rattle.sy_terms_laws.proofs.Equations.{both_true, same_sort_is}
 use Rattle.sy_grammar_base.specs.Formed.{rule_sort, gives_constants, is_signed}
 use Rattle.sy_grammar_base.specs.Trees.{Syntax}
-use Rattle.sy_forms_phrases.specs.Environments.{Environment, Sense, sense_of}
+use Rattle.sy_forms_names.specs.Environments.{Environment, Sense, sense_of}
 use Rattle.sy_forms_items.specs.Parts.{place_of, numeral, numeral_in, is_symbol}
 use Rattle.sy_forms_phrases.specs.Phrases as phrase
 use Rattle.sy_forms_phrases.specs.Phrases.{Typed, Several, no_terms, behind, pattern_at, patterns_at}
-use Rattle.sy_forms.specs.Rules.{Ruling, Template, EachConstant, EachVariable, production_at, sort_behind, sort_for_all, rule_for_all, rule_term, rule_list, read_rule, is_negated_numeral, is_int_rule, is_constant_rule}
-use Rattle.sy_forms_phrases.specs.Sorts.{read_sort}
+use Rattle.sy_forms_phrases.specs.Productions.{Ruling, Template, EachConstant, EachVariable, production_at}
+use Rattle.sy_forms.specs.Rules.{sort_behind, sort_for_all, rule_for_all, rule_term, rule_list, read_rule, is_negated_numeral, is_int_rule, is_constant_rule}
+use Rattle.sy_forms_names.specs.Sorts.{read_sort}
 use Rattle.sy_forms.specs.Terms.{Head, Operator, read_term, read_list, read_terms, read_head, atom_term, numeral_term, name_head, head_applied}
 use Rattle.sy_forms_laws.specs.Fitting.{Setting}
 use Rattle.sy_forms_laws.specs.Right.{EnvironmentIsRight, IsOfGrammar}

@@ -2,8 +2,8 @@
 use Rattle.std.proofs.Common.{◌≡◌, refl, subst, ℕ, List, [], ◌∷◌, Bool, true, false, Some, None, All}
 use Rattle.std.specs.Prelude.{Ok, Option, bytes_eq, codes, ◌&&◌, if◌then◌else◌, IfOk}
 use Rattle.std.proofs.lemmas.List.Elements.{All-head, All-tail}
-use Rattle.sy_text.specs.Items.{Item, leaf, group, Items, none, more}
-use Rattle.sy_text.specs.declared.atom.Place.{Place}
+use Rattle.sy_text_items.specs.Items.{Item, leaf, group, Items, none, more}
+use Rattle.sy_text_items.specs.declared.atom.Place.{Place}
 use Rattle.sy_terms.specs.declared.op.Op.{Op}
 use Rattle.sy_terms.specs.declared.sort.Logic.{Logic}
 use Rattle.sy_terms.specs.declared.sort.Logic.TheVariants.{Lia, Bv}
@@ -12,9 +12,9 @@ use Rattle.sy_terms.specs.declared.sort.Sort.TheVariants as sorts
 use Rattle.sy_scope_causes.specs.declared.cause.Cause.TheVariants as cause
 use Rattle.sy_grammar_base.specs.Formed.{is_known}
 use Rattle.sy_terms.specs.Logics.{IsTheoryOf}
-use Rattle.sy_forms_phrases.specs.Environments.{entry_under}
+use Rattle.sy_forms_names.specs.Environments.{entry_under}
 use Rattle.sy_forms_items.specs.Parts.{symbol_in, is_symbol, indexed_name}
-use Rattle.sy_forms_phrases.specs.Sorts.{int_in, sort_named, is_width, vector_sort, indexed_sort, sort_by_name, read_sort}
+use Rattle.sy_forms_names.specs.Sorts.{int_in, sort_named, is_width, vector_sort, indexed_sort, sort_by_name, read_sort}
 use Rattle.sy_forms_items.specs.declared.parts.Indices.{Indices}
 use Rattle.sy_forms_items.specs.declared.parts.Indices.TheVariants.{One, Two, More}
 use Rattle.sy_forms_laws.proofs.Readings.{unless_refused, where_found}

@@ -1,11 +1,11 @@
 -- Terms that are read fit.
 use Rattle.std.specs.Prelude.{ℕ, ◌^◌, nat_lt, pos, Bool, true, false, ◌++◌, List, [], ◌∷◌, length, Option, Some, None, Ok, ⊤, ◌≡◌, refl, bytes_eq, codes, if◌then◌else◌, IfOk}
 use Rattle.std.proofs.Common.{ap, sym, subst, ◌∙◌}
-use Rattle.sy_text.specs.Items as items
-use Rattle.sy_text.specs.Items.{Item, leaf, group, Items}
-use Rattle.sy_text.specs.declared.atom.Atom.{Atom}
-use Rattle.sy_text.specs.declared.atom.Atom.TheVariants as atoms
-use Rattle.sy_text.specs.declared.atom.Place.{Place}
+use Rattle.sy_text_items.specs.Items as items
+use Rattle.sy_text_items.specs.Items.{Item, leaf, group, Items}
+use Rattle.sy_text_items.specs.declared.atom.Atom.{Atom}
+use Rattle.sy_text_items.specs.declared.atom.Atom.TheVariants as atoms
+use Rattle.sy_text_items.specs.declared.atom.Place.{Place}
 use Rattle.sy_scope_causes.specs.declared.cause.Cause.TheVariants as cause
 use Rattle.sy_terms.specs.Values.{Val, Truth, Whole, Bits}
 use Rattle.sy_terms.specs.Theories.{valid, value_at, sort_of_value}
@@ -22,18 +22,18 @@ use Rattle.sy_terms.specs.declared.term.Fun.{Fun}
 use Rattle.sy_terms_laws.proofs.Equations.{with_sort_Some, same_sort_is}
 use Rattle.sy_grammar_base.specs.Formed.{is_plain}
 use Rattle.sy_terms.specs.Logics.{operators_of}
-use Rattle.sy_forms_phrases.specs.declared.names.Named.{Named}
+use Rattle.sy_forms_names.specs.declared.names.Named.{Named}
 use Rattle.sy_forms_items.specs.declared.parts.Indices.{Indices}
 use Rattle.sy_forms_items.specs.declared.parts.Indices.TheVariants.{One, Two, More}
-use Rattle.sy_forms_phrases.specs.Environments as env
-use Rattle.sy_forms_phrases.specs.Environments.{Environment, Sense, sense_of}
-use Rattle.sy_forms_phrases.specs.Operators.{operator_named, indexed_operator, are_small, at_count}
+use Rattle.sy_forms_names.specs.Environments as env
+use Rattle.sy_forms_names.specs.Environments.{Environment, Sense, sense_of}
+use Rattle.sy_forms_names.specs.Operators.{operator_named, indexed_operator, are_small, at_count}
 use Rattle.sy_forms_phrases.specs.Measures.{Measures, is_within_limits}
 use Rattle.sy_forms_items.specs.Parts.{place_of, symbol_in, is_symbol, has_no_items, indexed_name}
 use Rattle.sy_forms_phrases.specs.Phrases as phrase
 use Rattle.sy_forms_phrases.specs.Phrases.{Phrase, Phrases, Typed, Several, no_terms, behind, append_phrases}
 use Rattle.sy_forms_items.specs.Readings.{Reading}
-use Rattle.sy_forms_phrases.specs.Sorts.{is_width}
+use Rattle.sy_forms_names.specs.Sorts.{is_width}
 use Rattle.sy_forms.specs.Terms.{literal_as, number_as, numeral_term, vector_term, bv_number, bv_literal, indexed_term, undeclared_term, alone, name_term, atom_term, Head, Operator, Function, operator_head, name_head, small_head, indexed_head, list_head, atom_head, read_head, is_linear_product, operation_by, head_applied, Bounds, Bound, unbound, bound_behind, let_term, new_binding_name, let_may_stand, read_term, read_list, read_terms, read_let, read_let_in, read_binding_list, read_bindings, read_binding, read_pair, read_bound, read_whole}
 use Rattle.sy_forms_laws.specs.Fitting.{Setting, phrase_sort, phrase_sorts}
 use Rattle.sy_forms_laws.specs.Right.{SenseIsThere, EnvironmentIsRight}

@@ -1,10 +1,10 @@
 -- Whole terms that are read fit, also where more is declared later.
 use Rattle.std.specs.Prelude.{Bool, List, [], ◌∷◌, ◌++◌, length, Some, ◌≡◌, refl, IfOk}
 use Rattle.std.proofs.Common.{ap, subst}
-use Rattle.sy_text.specs.Items.{Item}
+use Rattle.sy_text_items.specs.Items.{Item}
 use Rattle.sy_terms.specs.Fitting.{sort_in}
 use Rattle.sy_terms.specs.declared.sort.Sort.{Sort}
-use Rattle.sy_forms_phrases.specs.Environments.{Environment}
+use Rattle.sy_forms_names.specs.Environments.{Environment}
 use Rattle.sy_forms_phrases.specs.Measures.{Measures}
 use Rattle.sy_forms_phrases.specs.Phrases.{Phrase, expr_at}
 use Rattle.sy_forms.specs.Terms.{read_whole}

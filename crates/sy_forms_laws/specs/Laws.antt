@@ -1,15 +1,16 @@
 -- What is read fits.
 use Rattle.std.specs.Prelude.{Bool, [], length, Some, None, codes, true, ◌≡◌, IfOk}
-use Rattle.sy_text.specs.Items.{Item}
+use Rattle.sy_text_items.specs.Items.{Item}
 use Rattle.sy_terms.specs.Fitting.{sort_in}
 use Rattle.sy_terms.specs.declared.sort.Logic.TheVariants.{Lia}
 use Rattle.sy_terms.specs.declared.sort.Sort.{Sort}
 use Rattle.sy_grammar_base.specs.Formed.{gives_constants, rule_sort}
 use Rattle.sy_grammar_base.specs.Trees.{Syntax}
-use Rattle.sy_forms_phrases.specs.Environments.{Environment, sense_of}
+use Rattle.sy_forms_names.specs.Environments.{Environment, sense_of}
 use Rattle.sy_forms_phrases.specs.Measures.{Measures}
 use Rattle.sy_forms_phrases.specs.Phrases.{Phrase, expr_at}
-use Rattle.sy_forms.specs.Rules.{Ruling, production_at, is_constant_rule, read_rule}
+use Rattle.sy_forms_phrases.specs.Productions.{Ruling, production_at}
+use Rattle.sy_forms.specs.Rules.{is_constant_rule, read_rule}
 use Rattle.sy_forms.specs.Terms.{read_whole}
 use Rattle.sy_forms_laws.specs.Fitting.{Setting}
 use Rattle.sy_forms_laws.specs.Right.{EnvironmentIsRight, IsOfGrammar, SettingWidens}

@@ -7,8 +7,8 @@ use Rattle.sy_grammar_base.specs.Formed.{is_known, all_give_constants}
 use Rattle.sy_grammar_base.specs.Trees.{Syntax, Nonterminal}
 pub use Rattle.sy_grammar_laws.specs.Extending.{Extends}
 use Rattle.sy_terms.specs.Logics.{IsTheoryOf}
-use Rattle.sy_forms_phrases.specs.Environments as env
-use Rattle.sy_forms_phrases.specs.Environments.{Environment, Sense, sense_of}
+use Rattle.sy_forms_names.specs.Environments as env
+use Rattle.sy_forms_names.specs.Environments.{Environment, Sense, sense_of}
 use Rattle.sy_forms.specs.Terms.{let_may_stand, flag_at}
 use Rattle.sy_forms_laws.specs.Fitting.{Setting}
 

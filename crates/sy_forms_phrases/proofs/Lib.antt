@@ -1,5 +1,3 @@
-pub mod Lookups
-pub mod LetNames
 pub mod Conversions
 pub mod Measuring
 pub mod Literals

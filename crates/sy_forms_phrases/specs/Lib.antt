@@ -1,10 +1,6 @@
-pub mod Environments
-pub mod Table
-pub mod Operators
-pub mod Sorts
-pub mod Seen
-pub mod Locals
 pub mod Phrases
 pub mod Meant
 pub mod Measures
 pub mod Measured
+pub mod Rulings
+pub mod Productions

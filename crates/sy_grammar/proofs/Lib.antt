@@ -2,5 +2,3 @@ pub use Rattle.sy_grammar_laws.proofs.Candidates
 pub use Rattle.sy_grammar_laws.proofs.Members
 pub use Rattle.sy_grammar_laws.proofs.Numbering
 pub use Rattle.sy_grammar_laws.proofs.Problems
-pub mod Fitting
-pub mod Growing

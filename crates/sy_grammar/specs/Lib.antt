@@ -5,6 +5,5 @@ pub use Rattle.sy_grammar_base.specs.Questions
 pub use Rattle.sy_grammar_base.specs.Solving
 pub use Rattle.sy_grammar_base.specs.Trees
 pub use Rattle.sy_grammar_chains.specs.Chains
+pub use Rattle.sy_grammar_defaults.specs.Defaults
 pub use Rattle.sy_grammar_sizes.specs.Greatest
-pub mod Defaults
-pub mod Occurrences

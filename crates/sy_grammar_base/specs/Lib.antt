@@ -3,7 +3,6 @@ pub mod Formed
 pub mod Grown
 pub mod Patterns
 pub mod Questions
-pub mod Seen
 pub mod Solving
 pub mod Trees
 pub mod Written

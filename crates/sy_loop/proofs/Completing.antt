@@ -18,9 +18,9 @@ use Rattle.sy_loop_laws.specs.Merging.{AreChosen, AreCovering}
 use Rattle.sy_loop_laws.specs.Refuting.{AllRefuted, AllTreesViolate, AreDoneBelow}
 use Rattle.sy_loop_laws.proofs.Done as done
 use Rattle.sy_loop_laws.proofs.Refuted.{next_refuted}
-use Rattle.sy_loop.specs.Banks.{AreBanks}
-use Rattle.sy_loop.specs.Dropping.{DroppedNothing}
-use Rattle.sy_loop.specs.Levels.{AreKeptBodies, AllAreRefuted}
+use Rattle.sy_loop_banks.specs.Banks.{AreBanks}
+use Rattle.sy_loop_banks.specs.Dropping.{DroppedNothing}
+use Rattle.sy_loop_level.specs.Levels.{AreKeptBodies, AllAreRefuted}
 use Rattle.sy_loop.specs.Trees.{TreesFollow}
 
 -- the same of what is known

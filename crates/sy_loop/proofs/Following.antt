@@ -10,7 +10,7 @@ use Rattle.sy_loop_history.specs.Histories.{Counterexample}
 use Rattle.sy_loop_laws.specs.Refuting.{AllTreesViolate}
 use Rattle.sy_loop_join.specs.Joining.{IsJoinable, TreesFollowFrom}
 use Rattle.sy_loop_join.specs.Plans.{TriesNoTrees}
-use Rattle.sy_loop.specs.Levels.{AreHonest}
+use Rattle.sy_loop_level.specs.Levels.{AreHonest}
 use Rattle.sy_loop.specs.Trees.{TreesFollow}
 
 -- where there are none

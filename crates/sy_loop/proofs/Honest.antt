@@ -12,8 +12,8 @@ use Rattle.sy_bank_rows.specs.Banks.{Entry, Merged, IsKept}
 use Rattle.sy_bank_rows.specs.Columns.{HasRow}
 use Rattle.sy_bank_level.specs.Bank.{merged_of}
 use Rattle.sy_bank_level.specs.declared.bank.Bank.{Bank}
-use Rattle.sy_loop.specs.Banks.{AreBanks, AreCarried}
-use Rattle.sy_loop.specs.Levels.{AreHonest}
+use Rattle.sy_loop_banks.specs.Banks.{AreBanks, AreCarried}
+use Rattle.sy_loop_level.specs.Levels.{AreHonest}
 
 from_map : {A B : Type 0} (f : A → B) (xs : List A) (k : ℕ) (y : B) → slice_get (map f xs) k ≡ Some y → (x : A) × (slice_get xs k ≡ Some x) × (f x ≡ y)
 from_map f [] k y at = absurd (cc)

@@ -1,11 +1,5 @@
 pub mod Beginning
-pub mod Building
-pub mod Carrying
-pub mod Choosing
 pub mod Completing
 pub mod Following
 pub mod Honest
-pub mod Least
-pub mod Observed
-pub mod Refuting
 pub mod Rounding

@@ -1,9 +1,4 @@
 pub use Rattle.sy_loop_claims.specs.Least
-pub mod BankClauses
-pub mod Banks
-pub mod Dropping
-pub mod LevelClauses
-pub mod Levels
 pub mod RoundClauses
 pub mod Rounds
 pub mod Trees

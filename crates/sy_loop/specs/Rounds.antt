@@ -16,10 +16,10 @@ use Rattle.sy_loop_history.specs.Stored.{history_of}
 use Rattle.sy_loop_outcome.specs.Right.{IsRight}
 use Rattle.sy_loop_truth.specs.Known.{IsKnown, left}
 use Rattle.sy_loop_laws.specs.Refuting.{AllTreesViolate, AreDoneBelow}
-use Rattle.sy_loop.specs.Banks.{AreBanks, AreCarried}
-use Rattle.sy_loop.specs.Dropping.{DroppedNothing}
+use Rattle.sy_loop_banks.specs.Banks.{AreBanks, AreCarried}
+use Rattle.sy_loop_banks.specs.Dropping.{DroppedNothing}
 use Rattle.sy_loop_claims.specs.Least.{FindsLeast}
-use Rattle.sy_loop.specs.Levels.{AllAreRefuted}
+use Rattle.sy_loop_level.specs.Levels.{AllAreRefuted}
 use Rattle.sy_loop.specs.declared.round.Round.{Round}
 use Rattle.sy_loop.specs.declared.round.Round.TheVariants.{Goes, Ends}
 

@@ -1,10 +1,6 @@
 // The search for bodies that solve a problem.
 #![tactic(auto)]
 
-mod banks;
-mod dropped;
-mod level;
-mod outcome;
 mod round;
 mod search;
 mod trees;

@@ -2,19 +2,19 @@
 ghost use Rattle.std.specs.Prelude.{◌<◌, [], length, map, IfOk, OnOk};
 ghost use Rattle.sy_bank_level.specs.Bank.{merged_of};
 ghost use Rattle.sy_grammar_base.specs.Fits.{ProblemFits};
-ghost use Rattle.sy_loop_candidate.specs.Clauses.{IsKnownFor};
-ghost use Rattle.sy_loop_join.specs.Clauses.{GoesFor, IsOpenFor, IsPlannedFor};
-ghost use Rattle.sy_loop_join.specs.Going.{OnNext};
-ghost use Rattle.sy_loop.specs.LevelClauses.{AllAreRefutedFor, AreHonestFor};
+ghost use Rattle.sy_loop_candidate.specs.Clauses.{GoesFor, IsKnownFor, IsOpenFor};
+ghost use Rattle.sy_loop_join.specs.Clauses.{IsPlannedFor};
+ghost use Rattle.sy_loop_candidate.specs.Going.{OnNext};
+ghost use Rattle.sy_loop_level.specs.LevelClauses.{AllAreRefutedFor, AreHonestFor};
 ghost use Rattle.sy_loop.specs.RoundClauses.{TreesFollowFor};
 
-use crate::level::try_level;
 use std::alloc::Global;
-use sy_bank::Bank;
+use sy_bank_level::Bank;
 use sy_grammar_base::Problem;
 use sy_loop_bounds::Reach;
 use sy_loop_candidate::{Known, Step};
 use sy_loop_join::{Plan, try_trees};
+use sy_loop_level::try_level;
 use sy_query_base::Decide;
 use sy_query_limits::Limits;
 use sy_terms::{Theory, Want};

@@ -1,6 +1,1 @@
-pub mod Copied
-pub mod Fitting
-pub mod One
 pub mod Overfull
-pub mod Small
-pub mod Verdicts

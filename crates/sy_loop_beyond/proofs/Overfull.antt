@@ -12,7 +12,7 @@ use Rattle.sy_grammar_base.specs.declared.problem.Problem.{Problem}
 use Rattle.sy_query_limits.specs.declared.Limits.{Limits}
 use Rattle.sy_points.specs.declared.stored.Stored.{Stored}
 use Rattle.sy_bank_rows.specs.Banks.{Merged}
-use Rattle.sy_loop_beyond.specs.Banked.{IsOneBank}
+use Rattle.sy_loop_bodies.specs.Banked.{IsOneBank}
 use Rattle.sy_loop_bounds.specs.declared.reach.Reach.TheVariants.{Joins}
 use Rattle.sy_loop_history.specs.Histories.{Counterexample, IsHonestHistory}
 use Rattle.sy_loop_history.specs.Stored.{counterexample_of, history_of}
@@ -20,7 +20,7 @@ use Rattle.sy_loop_outcome.specs.declared.outcome.LoopRange.{LoopRange}
 use Rattle.sy_loop_outcome.specs.declared.outcome.LoopRange.TheVariants.{Member, Checked}
 use Rattle.sy_loop_outcome.specs.Right.{HasLeftRange}
 use Rattle.sy_loop_beyond.specs.Exceeding.{MeetsFullBank}
-use Rattle.sy_loop_beyond.proofs.One.{one_goal}
+use Rattle.sy_loop_bodies.proofs.One.{one_goal}
 
 -- the bank of the one function
 pub one_bank : (question : Question) (limits : Limits) (history : List Counterexample) (function : ℕ) (bank : Merged) → length question.goals ≡ 1 → function ≡ 0 → MeetsFullBank question limits history function bank → IsOneBank question bank

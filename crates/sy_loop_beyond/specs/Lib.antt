@@ -1,3 +1,2 @@
-pub mod Banked
 pub mod Clauses
 pub mod Exceeding

@@ -1,15 +1,11 @@
 // The search over further banks, in which terms are told apart at more tuples.
 ghost use Rattle.std.specs.Prelude.{◌≡◌, length, IfOk, IfSome, OnOk};
 ghost use Rattle.sy_grammar_base.specs.Fits.{ProblemFits};
-ghost use Rattle.sy_loop_beyond.specs.Clauses.{AreAssignedFor, IsBankFor, IsFoundFor};
+ghost use Rattle.sy_loop_bodies.specs.Clauses.{AreAssignedFor, IsBankFor, IsFoundFor};
 
 use crate::banks::bank_over;
-use crate::body::Task;
-use crate::mixed::mixed_assignment;
-use crate::scanning::solve_scanned;
-use crate::search::solve_kept;
-use crate::tuples::wished_tuples;
 use sy_bank::Bank;
+use sy_loop_bodies::{Task, mixed_assignment, solve_kept, solve_scanned, wished_tuples};
 use sy_query_base::Decide;
 use sy_terms::{Bodies, Theory, Values, Want};
 

@@ -10,12 +10,12 @@ ghost use Rattle.sy_grammar_base.specs.Questions.{question_of};
 ghost use Rattle.sy_bank_rows.specs.Rows.{ArePointsOf};
 ghost use Rattle.sy_bank_level.specs.Bank.{merged_of};
 ghost use Rattle.sy_bank.specs.Promised.{IsBank};
-ghost use Rattle.sy_loop_beyond.specs.Banked.{IsOneBank};
+ghost use Rattle.sy_loop_bodies.specs.Banked.{IsOneBank};
 
-use crate::points::points_of;
 use std::alloc::Global;
 use sy_bank::{Bank, BankEnd, build};
 use sy_grammar_base::{Problem, Wanted};
+use sy_loop_bodies::points_of;
 use sy_terms::{Seq, Theory, Values, Want};
 
 /// A bank of the one function to be found over these tuples, of terms up to the size `upto` and of at most `cap` terms: all

@@ -1,17 +1,13 @@
 // The search beyond a full bank.
-ghost use Rattle.std.specs.Prelude.{◌≡◌, ◌≤◌, length, IfOk, OnOk};
-ghost use Rattle.sy_bank_rows.specs.Stored.{entries_of};
+ghost use Rattle.std.specs.Prelude.{◌≡◌, ◌≤◌, length, IfOk};
 ghost use Rattle.sy_grammar_base.specs.Fits.{ProblemFits};
-ghost use Rattle.sy_loop_beyond.specs.Clauses.{AreAssignedFor, AreSmallFor, IsBankFor, IsFoundFor, WereAssignedFor};
+ghost use Rattle.sy_loop_bodies.specs.Clauses.{AreAssignedFor, IsBankFor, IsFoundFor, WereAssignedFor};
 
 use crate::again::solve_again;
-use crate::assignments::copied_assignments;
-use crate::body::{MOST_SPENT, Task, try_body};
-use crate::scanning::solve_scanned;
 use std::alloc::Global;
 use sy_bank::Bank;
-use sy_bank_rows::Kept;
 use sy_grammar_base::Problem;
+use sy_loop_bodies::{Task, copied_assignments, solve_kept, solve_scanned};
 use sy_points::Stored;
 use sy_query_base::Decide;
 use sy_query_limits::Limits;
@@ -115,30 +111,4 @@ fn limits_of_one_body(limits: &Limits) -> Limits {
         nodes: limits.nodes.min(MOST_NODES),
         ..*limits
     }
-}
-
-/// The first of the kept terms that solves the problem as the one body; `None` where none was found to.
-pub(crate) fn solve_kept<T: Theory, D: Decide<T>>(
-    task: &Task<T>,
-    decide: &mut D,
-    kept: &[Kept<T>],
-    assignments: &mut Vec<Values<T>>,
-) -> Result<Option<(Bodies<T>, D::Proof)>, Want>
-    requires problem { ProblemFits T.Theory task.now.problem.now }
-    requires kept { AreSmallFor T.Theory task.now.problem.now task.now.bound (entries_of T.denotes kept.now) }
-    requires assigned { AreAssignedFor T.Theory task.now.problem.now assignments.old.items }
-    ensures assigned { OnOk result (AreAssignedFor T.Theory task.now.problem.now assignments.new.items) }
-    ensures found { IfOk result (IsFoundFor T.Theory D.Decide task.now.problem.now task.now.bound) }
-{
-    let mut left = MOST_SPENT;
-    for entry in kept {
-        let term = entry.term(task.alloc)?;
-        if let Some(found) = try_body(task, decide, term, assignments, &mut left)? {
-            return Ok(Some(found));
-        }
-        if left == 0 {
-            return Ok(None);
-        }
-    }
-    Ok(None)
 }

@@ -1,3 +1,4 @@
 pub mod Asking
 pub mod Assignments
 pub mod Ending
+pub mod Going

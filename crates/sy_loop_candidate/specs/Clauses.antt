@@ -8,8 +8,9 @@ use Rattle.sy_query_limits.specs.declared.Limits.{Limits}
 use Rattle.sy_query_base.specs.declared.decide.Decide.{Ghosts as DecideOf}
 use Rattle.sy_points.specs.Asked.{Asked}
 use Rattle.sy_loop_bounds.specs.declared.reach.Reach.{Reach}
-use Rattle.sy_loop_history.specs.Histories.{IsCandidate, IsDue}
+use Rattle.sy_loop_history.specs.Histories.{IsCandidate, IsDue, IsOpenNumber}
 use Rattle.sy_loop_history.specs.Stored.{history_of}
+use Rattle.sy_loop_candidate.specs.Going.{Goes}
 use Rattle.sy_loop_truth.specs.Known.{IsKnown}
 use Rattle.sy_loop_candidate.specs.Steps.{Decides, IsCandidateEnd, Steps, StepFollows}
 use Rattle.sy_loop_candidate.specs.declared.step.End.{End}
@@ -22,6 +23,9 @@ module _ {T N : Type 0} (theory : TheoryOf T N) (reach : Reach) (problem : Probl
 
   abbrev pub IsCandidateFor : Known T N → List Expr → Type 0
   IsCandidateFor known = IsCandidate reach (question_of theory.denotes problem) limits.size (history_of theory.denotes known.stored)
+
+  abbrev pub IsOpenFor : Known T N → ℕ → Type 0
+  IsOpenFor known = IsOpenNumber reach (question_of theory.denotes problem) limits.size (history_of theory.denotes known.stored)
 
   abbrev pub IsDueFor : Known T N → List Expr → Type 0
   IsDueFor known = IsDue reach (question_of theory.denotes problem) limits.size (history_of theory.denotes known.stored)
@@ -39,6 +43,11 @@ module _ {T N D P S : Type 0} (theory : TheoryOf T N) (solver : DecideOf D T P S
   abbrev pub DecidesFor : List Expr → Known T N → Known T N → Step T P S N → Type 0
   DecidesFor bodies before after =
       Decides theory.owned theory.denotes solver.accepted solver.budget solver.shows reach (question_of theory.denotes problem) limits bodies
+      (history_of theory.denotes before.stored) before.points (history_of theory.denotes after.stored) after.points
+
+  abbrev pub GoesFor : Known T N → Known T N → Step T P S N → Type 0
+  GoesFor before after =
+      Goes theory.owned theory.denotes solver.accepted solver.budget solver.shows reach (question_of theory.denotes problem) limits
       (history_of theory.denotes before.stored) before.points (history_of theory.denotes after.stored) after.points
 
   abbrev pub StepFollowsFor : ℕ → Asked → Known T N → Step T P S N → Type 0

@@ -1,3 +1,4 @@
 pub mod Answers
 pub mod Clauses
+pub mod Going
 pub mod Steps

@@ -1,3 +1,2 @@
-mod Losing
 pub mod Beginning
 pub mod Summing

@@ -2,6 +2,7 @@
 use Rattle.std.specs.Prelude.{ℕ, ◌+◌, ◌-◌, ◌≡◌, ◌<◌, ◌≤◌, ◌⊎◌, List, [], ◌∷◌, length, Contains}
 use Rattle.sy_terms.specs.Values.{Val}
 use Rattle.sy_points.specs.Asked.{Asked, of_function, IsBounded}
+use Rattle.sy_loop_history.specs.Histories.{Counterexample}
 
 -- the tuple is one of the function's
 abbrev pub IsAsked : Asked → ℕ → List Val → Type 0
@@ -35,3 +36,8 @@ pub record FunctionIsFull (calls : List (ℕ × List Val)) (asked : Asked) (func
   pub within : function < length asked.tuples
   pub new : IsAsked asked function tuple → ⊥
   pub full : asked.limit ≤ length (of_function asked function)
+
+-- the history has what it had, and each function the tuples that it had
+pub record KnownGrows (history : List Counterexample) (asked : Asked) (history' : List Counterexample) (asked' : Asked) : Type 0 where
+  pub stored : (counterexample : Counterexample) → Contains history counterexample → Contains history' counterexample
+  pub tuples : (function : ℕ) (tuple : List Val) → IsAsked asked function tuple → IsAsked asked' function tuple

@@ -1,5 +1,4 @@
 mod Listed
-pub mod Going
 pub mod Resting
 pub mod Joining
 pub mod Following

@@ -1,21 +1,16 @@
--- What clauses say of a problem, for a theory and a solver.
+-- What clauses say of a problem, for a theory.
 use Rattle.std.specs.Prelude.{ℕ, List, Option, MatchOption}
 use Rattle.sy_terms.specs.Expr.{Expr}
 use Rattle.sy_terms.specs.declared.theory.Theory.{Ghosts as TheoryOf}
 use Rattle.sy_grammar_base.specs.Questions.{question_of}
 use Rattle.sy_grammar_base.specs.declared.problem.Problem.{Problem}
-use Rattle.sy_query_limits.specs.declared.Limits.{Limits}
-use Rattle.sy_query_base.specs.declared.decide.Decide.{Ghosts as DecideOf}
 use Rattle.sy_bank_rows.specs.Stored.{chosen_of}
 use Rattle.sy_bank_level.specs.Bank.{merged_of}
 use Rattle.sy_bank_level.specs.declared.bank.Bank.{Bank}
 use Rattle.sy_loop_bounds.specs.declared.reach.Reach.{Reach}
-use Rattle.sy_loop_history.specs.Histories.{IsOpenNumber}
 use Rattle.sy_loop_history.specs.Stored.{history_of}
 use Rattle.sy_loop_history.specs.Trials.{IsRefuted}
 use Rattle.sy_loop_candidate.specs.declared.step.Known.{Known}
-use Rattle.sy_loop_candidate.specs.declared.step.Step.{Step}
-use Rattle.sy_loop_join.specs.Going.{Goes}
 use Rattle.sy_loop_join.specs.Joining.{AreParts, IsJoinable, TreesFollowFrom}
 use Rattle.sy_loop_join.specs.Plans.{TriesNoTrees, IsPlan}
 use Rattle.sy_loop_join.specs.declared.join.Parts.{Parts}
@@ -47,13 +42,3 @@ module _ {T N : Type 0} (theory : TheoryOf T N) (reach : Reach) (problem : Probl
   abbrev pub TreesFollowFromFor : Known T N → ℕ → Bank T N → Type 0
   TreesFollowFromFor known level bank =
       TreesFollowFrom reach (question_of theory.denotes problem) (history_of theory.denotes known.stored) known.points level (merged_of theory.denotes bank)
-
-module _ {T N : Type 0} (theory : TheoryOf T N) (reach : Reach) (problem : Problem T N) (limits : Limits) where
-  abbrev pub IsOpenFor : Known T N → ℕ → Type 0
-  IsOpenFor known = IsOpenNumber reach (question_of theory.denotes problem) limits.size (history_of theory.denotes known.stored)
-
-module _ {T N D P S : Type 0} (theory : TheoryOf T N) (solver : DecideOf D T P S N) (reach : Reach) (problem : Problem T N) (limits : Limits) where
-  abbrev pub GoesFor : Known T N → Known T N → Step T P S N → Type 0
-  GoesFor before after =
-      Goes theory.owned theory.denotes solver.accepted solver.budget solver.shows reach (question_of theory.denotes problem) limits
-      (history_of theory.denotes before.stored) before.points (history_of theory.denotes after.stored) after.points

@@ -1,6 +1,5 @@
 pub mod Applying
 pub mod Clauses
 pub mod Copies
-pub mod Going
 pub mod Joining
 pub mod Plans

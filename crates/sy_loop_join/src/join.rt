@@ -7,12 +7,11 @@ ghost use Rattle.sy_points.specs.Asked.{of_function};
 ghost use Rattle.sy_bank_rows.specs.Stored.{chosen_of};
 ghost use Rattle.sy_loop_bounds.specs.Conditional.{yield};
 ghost use Rattle.sy_loop_bounds.specs.Pointwise.{IsPointwise};
-ghost use Rattle.sy_loop_candidate.specs.Clauses.{IsCandidateFor, IsKnownFor};
-ghost use Rattle.sy_loop_truth.specs.Clauses.{MeetAllFor};
-ghost use Rattle.sy_loop_truth.specs.Clauses.{AreAssignedFor, AreRestsFor};
+ghost use Rattle.sy_loop_candidate.specs.Clauses.{GoesFor, IsCandidateFor, IsKnownFor, IsOpenFor};
+ghost use Rattle.sy_loop_truth.specs.Clauses.{AreAssignedFor, AreRestsFor, MeetAllFor};
 ghost use Rattle.sy_loop_goods.specs.Clauses.{IsMemoFor};
-ghost use Rattle.sy_loop_join.specs.Clauses.{ArePartsFor, GoesFor, IsJoinableFor, IsOpenFor, IsPlanFor, IsRefutedFor, TreesFollowFromFor};
-ghost use Rattle.sy_loop_join.specs.Going.{OnNext};
+ghost use Rattle.sy_loop_join.specs.Clauses.{ArePartsFor, IsJoinableFor, IsPlanFor, IsRefutedFor, TreesFollowFromFor};
+ghost use Rattle.sy_loop_candidate.specs.Going.{OnNext};
 ghost use Rattle.sy_loop_history.specs.Trees.{conditional_of};
 
 use crate::copies::copied_leaf;

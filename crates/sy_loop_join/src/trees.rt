@@ -1,9 +1,9 @@
 // Conditional trees over what a bank keeps, at all tuples on which constraints rest.
 ghost use Rattle.std.specs.Prelude.{◌<◌, length, IfOk, OnOk};
 ghost use Rattle.sy_grammar_base.specs.Fits.{ProblemFits};
-ghost use Rattle.sy_loop_candidate.specs.Clauses.{IsKnownFor};
-ghost use Rattle.sy_loop_join.specs.Clauses.{GoesFor, IsJoinableFor, IsOpenFor, IsPlanFor, TreesFollowFromFor};
-ghost use Rattle.sy_loop_join.specs.Going.{OnNext};
+ghost use Rattle.sy_loop_candidate.specs.Clauses.{GoesFor, IsKnownFor, IsOpenFor};
+ghost use Rattle.sy_loop_join.specs.Clauses.{IsJoinableFor, IsPlanFor, TreesFollowFromFor};
+ghost use Rattle.sy_loop_candidate.specs.Going.{OnNext};
 
 use crate::copies::copied_pair;
 use crate::join::join;

@@ -12,7 +12,7 @@ use Rattle.sy_points.specs.Asked.{Asked, of_function}
 use Rattle.sy_bank_rows.specs.Rows.{IsRow}
 use Rattle.sy_bank_rows.specs.Banks.{Entry, Merged, IsKept, IsHonestBank}
 use Rattle.sy_bank_rows.specs.Covering.{Covers, sizes, terms}
-use Rattle.sy_bank_laws.proofs.Alike.{Alike, rows_alike}
+use Rattle.sy_bank_rows.proofs.Alike.{Alike, rows_alike}
 use Rattle.sy_loop_laws.specs.Merging.{AreCovering, AreChosen, AreMerged}
 
 -- the bank of the place is an honest one of the goal of that place, over its tuples, which covers up to n

@@ -7,10 +7,11 @@ use Rattle.sy_points.specs.Asked.{Asked}
 use Rattle.sy_loop_bounds.specs.Bounds.{IsJoinedWithin}
 use Rattle.sy_loop_bounds.specs.declared.reach.Reach.{Reach}
 use Rattle.sy_loop_bounds.specs.declared.reach.Reach.TheVariants.{Sizes, Joins, Beyond}
+use Rattle.sy_loop_history.specs.Adding.{KnownGrows}
 use Rattle.sy_loop_history.specs.Histories.{AllViolate, AreViolatedBelow, Counterexample, IsHonestHistory, IsOpenNumber}
 use Rattle.sy_loop_history.proofs.Staying.{below_stays}
 use Rattle.sy_loop_history.specs.Unsolved.{NoSolutionWithin}
-use Rattle.sy_loop_laws.specs.Refuting.{AllRefuted, AllTreesViolate, AreDoneBelow, KnownGrows}
+use Rattle.sy_loop_laws.specs.Refuting.{AllRefuted, AllTreesViolate, AreDoneBelow}
 use Rattle.sy_loop_laws.proofs.Refuted.{violated_in, stays_refuted, all_violate, no_solution_within}
 
 none_below : (reach : Reach) (question : Question) (history : List Counterexample) → AreViolatedBelow reach question history 0

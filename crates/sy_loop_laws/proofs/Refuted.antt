@@ -23,12 +23,12 @@ use Rattle.sy_loop_history.specs.Histories.{AllViolate, Counterexample, IsHonest
 use Rattle.sy_loop_history.proofs.Staying.{in_bound}
 use Rattle.sy_loop_history.specs.Sizes.{SumTo, AreAtMost}
 use Rattle.sy_loop_history.specs.Unsolved.{NoSolution, NoSolutionWithin}
-use Rattle.sy_loop_history.specs.Adding.{AreAsked}
+use Rattle.sy_loop_history.specs.Adding.{AreAsked, KnownGrows}
 use Rattle.sy_loop_history.specs.Truths.{asked_by, IsFalseByCalls, IsViolated}
 use Rattle.sy_loop_history.specs.Trials.{IsRefuted}
 use Rattle.sy_loop_laws.specs.Agreeing.{BodiesAgree, AssumptionsFit, AssumptionsAskNothing}
 use Rattle.sy_loop_laws.specs.Merging.{AreCovering, AreChosen, AreMerged}
-use Rattle.sy_loop_laws.specs.Refuting.{AllRefuted, KnownGrows}
+use Rattle.sy_loop_laws.specs.Refuting.{AllRefuted}
 use Rattle.sy_loop_laws.proofs.Same.{SameAt, Stands, stands, same_called}
 use Rattle.sy_loop_laws.proofs.Covered.{are_merged}
 

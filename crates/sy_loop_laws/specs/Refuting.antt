@@ -1,6 +1,5 @@
 -- When all bodies up to a size are refuted.
-use Rattle.std.specs.Prelude.{ℕ, ◌<◌, List, Contains}
-use Rattle.sy_terms.specs.Values.{Val}
+use Rattle.std.specs.Prelude.{ℕ, ◌<◌, List}
 use Rattle.sy_terms.specs.Expr.{Expr}
 use Rattle.sy_grammar_base.specs.Questions.{Question}
 use Rattle.sy_grammar_base.specs.Solving.{AreWithin}
@@ -8,7 +7,6 @@ use Rattle.sy_points.specs.Asked.{Asked}
 use Rattle.sy_loop_bounds.specs.Bounds.{IsJoinedWithin}
 use Rattle.sy_loop_bounds.specs.declared.reach.Reach.{Reach}
 use Rattle.sy_loop_bounds.specs.declared.reach.Reach.TheVariants.{Sizes, Joins, Beyond}
-use Rattle.sy_loop_history.specs.Adding.{IsAsked}
 use Rattle.sy_loop_history.specs.Histories.{AreViolatedBelow, Counterexample, IsViolatedIn}
 use Rattle.sy_loop_history.specs.Trials.{IsRefuted}
 
@@ -26,8 +24,3 @@ AllTreesViolate Beyond question history n = Unit {0}
 pub record AreDoneBelow (reach : Reach) (question : Question) (history : List Counterexample) (asked : Asked) (n : ℕ) : Type 0 where
   pub refuted : (m : ℕ) → m < n → AllRefuted question history asked m
   pub violated : AreViolatedBelow reach question history n
-
--- the history has what it had, and each function the tuples that it had
-pub record KnownGrows (history : List Counterexample) (asked : Asked) (history' : List Counterexample) (asked' : Asked) : Type 0 where
-  pub stored : (counterexample : Counterexample) → Contains history counterexample → Contains history' counterexample
-  pub tuples : (function : ℕ) (tuple : List Val) → IsAsked asked function tuple → IsAsked asked' function tuple

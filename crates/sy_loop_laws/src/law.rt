@@ -14,12 +14,12 @@ ghost use Rattle.sy_loop_bounds.specs.declared.reach.Reach.TheVariants.{Sizes, B
 ghost use Rattle.sy_loop_history.specs.Histories.{AllViolate, Counterexample, IsCandidate, IsHonestHistory, HistoryIsKept, IsMet, IsOpenNumber};
 ghost use Rattle.sy_loop_history.specs.Sizes.{AreAtMost};
 ghost use Rattle.sy_loop_history.specs.Unsolved.{NoSolution, NoSolutionWithin};
-ghost use Rattle.sy_loop_history.specs.Adding.{AreAsked};
+ghost use Rattle.sy_loop_history.specs.Adding.{AreAsked, KnownGrows};
 ghost use Rattle.sy_loop_history.specs.Trials.{IsRefuted};
 ghost use Rattle.sy_loop_history.specs.Truths.{IsViolated};
 ghost use Rattle.sy_loop_laws.specs.Agreeing.{BodiesAgree, AssumptionsAskNothing, AssumptionsFit};
 ghost use Rattle.sy_loop_laws.specs.Merging.{AreChosen, AreCovering, AreMerged};
-ghost use Rattle.sy_loop_laws.specs.Refuting.{AllRefuted, AllTreesViolate, AreDoneBelow, KnownGrows};
+ghost use Rattle.sy_loop_laws.specs.Refuting.{AllRefuted, AllTreesViolate, AreDoneBelow};
 
 /// Where bodies violate the problem by a constraint whose calls are among the tuples, all bodies that agree with them at
 /// the tuples violate it at that assignment, by the same calls.

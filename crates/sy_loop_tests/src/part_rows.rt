@@ -7,7 +7,7 @@ ghost use Rattle.sy_terms.specs.declared.sort.Sort.TheVariants as sorts;
 ghost use Rattle.sy_bank_rows.specs.Columns.{HasRow};
 ghost use Rattle.sy_bank.specs.Rows.{ArePointsOf};
 ghost use Rattle.sy_bank.specs.Stored.{entry_of, chosen_of};
-ghost use Rattle.sy_bank_columns.specs.Chosen.{AreRows};
+ghost use Rattle.sy_bank_rows.specs.Chosen.{AreRows};
 ghost use Rattle.sy_loop_tests.specs.Integers.{IsInteger};
 
 use crate::parts::{cut, part};
@@ -16,7 +16,8 @@ use crate::rows::one;
 use std::alloc::Global;
 use std::process::Abort;
 use std::rc::Rc;
-use sy_bank_columns::{RowEnd, chosen_part, grown, part_row, term_row};
+use sy_bank_columns::{RowEnd, part_row, term_row};
+use sy_bank_parts::{chosen_part, grown};
 use sy_bank_rows::{Grown, Kept, filled_part};
 use sy_grammar_base::{Derivation, Part};
 use sy_meaning::term_sort;

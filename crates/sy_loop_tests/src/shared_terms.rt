@@ -3,10 +3,12 @@ use crate::parts::part;
 use std::alloc::{AllocError, Global};
 use std::process::Abort;
 use std::rc::Rc;
-use sy_bank_rows::{Grown, Growns, Kept, copied_part, filled_part};
+use sy_bank_parts::copied_part;
+use sy_bank_rows::{Grown, Growns, Kept, filled_part};
 use sy_grammar_base::{Derivation, Part};
 use sy_meaning_integers::IntTheory;
-use sy_terms::{Fun, Seq, Sort, Term, Value, spell};
+use sy_terms::{Fun, Seq, Sort, Term, Value};
+use sy_terms_operators::spell;
 
 /// What the part becomes of the first and second term.
 fn filled(

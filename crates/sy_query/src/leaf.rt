@@ -10,7 +10,8 @@ ghost use Rattle.sy_query.specs.Placing.{TermIsBuilt, OperatorHasSort, Applicati
 use crate::built::Built;
 use crate::room::Room;
 use crate::weight::{operator_weight, sort_weight};
-use sy_terms::{Op, Sort, Sorted, Term, Terms, Theory, Value, operator_sort};
+use sy_terms::{Op, Sort, Sorted, Term, Terms, Theory, Value};
+use sy_terms_operators::operator_sort;
 
 /// A term of a query, with its sort.
 #[derive(Drop)]

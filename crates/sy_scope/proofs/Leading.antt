@@ -1,10 +1,10 @@
 -- How the commands of a file lead to its outcome.
 use Rattle.std.proofs.Common.{ℕ, zero, suc, ◌+◌, ◌<◌, ◌≤◌, ◌≡◌, refl, sym, ap, subst, ◌∙◌, List, length, Option, Some, None, Result, Ok, Err, arith}
 use Rattle.std.specs.Prelude.{OnOk}
-use Rattle.sy_text.specs.Items.{Item}
+use Rattle.sy_text_items.specs.Items.{Item}
 use Rattle.sy_scope_causes.specs.declared.cause.Refused.{Refused}
 use Rattle.sy_forms_items.specs.declared.fault.Fault.{Fault}
-use Rattle.sy_scope_steps.specs.Contexts.{Context, beginning}
+use Rattle.sy_scope_names.specs.Contexts.{Context, beginning}
 use Rattle.sy_scope_steps.specs.Steps.{step}
 use Rattle.sy_scope_steps.specs.Files.{FileOutcome, command_read, after_command, then_next, refused_at, file_from, file_read}
 use Rattle.sy_forms_items.specs.Readings.{Reading, ReadingFails, ReadingGives}

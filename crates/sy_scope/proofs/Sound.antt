@@ -2,7 +2,7 @@
 use Rattle.std.specs.Prelude.{Bool, List, map, Some, Ok, ◌≡◌, All, IfOk}
 use Rattle.std.proofs.Common.{sym, subst}
 use Rattle.std.proofs.lemmas.List.Elements.{All-map}
-use Rattle.sy_text.specs.Items.{Item}
+use Rattle.sy_text_items.specs.Items.{Item}
 use Rattle.sy_terms.specs.Fitting.{Signature}
 use Rattle.sy_terms.specs.declared.op.Op.{Op}
 use Rattle.sy_terms.specs.declared.sort.Logic.{Logic}
@@ -10,7 +10,7 @@ use Rattle.sy_terms.specs.declared.sort.Sort.{Sort}
 use Rattle.sy_terms.specs.Logics.{IsTheoryOf, number_sorts, operators_of}
 use Rattle.sy_grammar_base.specs.Fits.{GoalFits}
 use Rattle.sy_forms_items.specs.Readings.{Reading}
-use Rattle.sy_scope_steps.specs.Contexts.{Context, beginning, with_logic, goal_sought}
+use Rattle.sy_scope_names.specs.Contexts.{Context, beginning, with_logic, goal_sought}
 use Rattle.sy_scope_steps.specs.Steps.{step}
 use Rattle.sy_scope_laws.specs.Sound.{defined_in, ContextIsSound, SoundBy, Sound}
 use Rattle.sy_scope_laws.proofs.Files.{begun_sound, step_sound}

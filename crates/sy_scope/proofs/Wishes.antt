@@ -8,9 +8,9 @@ use Rattle.sy_scope_causes.specs.declared.titles.Titles.{Titles}
 use Rattle.sy_scope_ends.specs.declared.ScopeEnd.{ScopeEnd}
 use Rattle.sy_scope_ends.specs.declared.ScopeEnd.TheVariants as ends
 use Rattle.sy_scope_steps.specs.Files.{FileOutcome}
-use Rattle.sy_scope_steps.specs.Jobs.{titles_of, wished}
-use Rattle.sy_scope_context.specs.Seen.{context_of}
-use Rattle.sy_scope_context.specs.declared.context.Context.{Context}
+use Rattle.sy_scope_names.specs.Jobs.{titles_of, wished}
+use Rattle.sy_scope_declared.specs.Seen.{context_of}
+use Rattle.sy_scope_declared.specs.declared.context.Context.{Context}
 use Rattle.sy_scope.specs.Read.{EndsAs, wish_over}
 
 -- the wish of a file that is read

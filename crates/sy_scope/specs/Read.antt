@@ -10,9 +10,9 @@ use Rattle.sy_grammar_base.specs.declared.problem.Problem.{Problem}
 use Rattle.sy_meaning_words.specs.Vectors.{vector}
 use Rattle.sy_scope_ends.specs.declared.ScopeEnd.{ScopeEnd}
 use Rattle.sy_scope_ends.specs.declared.ScopeEnd.TheVariants as ends
-use Rattle.sy_scope_steps.specs.Contexts.{Context, beginning, with_logic}
+use Rattle.sy_scope_names.specs.Contexts.{Context, beginning, with_logic}
 use Rattle.sy_scope_steps.specs.Files.{FileOutcome, file_from}
-use Rattle.sy_scope_steps.specs.Jobs.{Wish}
+use Rattle.sy_scope_names.specs.Jobs.{Wish}
 use Rattle.sy_scope.specs.declared.job.Job.{Job}
 use Rattle.sy_scope.specs.declared.job.Job.TheVariants as jobs
 use Rattle.sy_scope.specs.declared.file.Opened.{Opened}

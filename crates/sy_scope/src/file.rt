@@ -1,17 +1,18 @@
 // Files.
 ghost use Rattle.std.specs.Prelude.{◌≡◌, ◌≤◌, ◌<◌, length, IfOk, IfSome, OnOk};
-ghost use Rattle.sy_text.specs.Reading as reading;
-ghost use Rattle.sy_text.specs.Views.{command_of};
+ghost use Rattle.sy_text_reader.specs.Reading as reading;
+ghost use Rattle.sy_text_items.specs.Views.{command_of};
 ghost use Rattle.sy_terms.specs.Logics.{IsTheoryOf, Serves};
-ghost use Rattle.sy_text.specs.Views.{item_of};
-ghost use Rattle.sy_scope_steps.specs.Asked.{request_in};
+ghost use Rattle.sy_scope_commands.specs.Asked.{request_in};
+ghost use Rattle.sy_text_items.specs.Views.{item_of};
 ghost use Rattle.sy_forms_items.specs.Readings.{ReadingGives};
-ghost use Rattle.sy_scope_steps.specs.Contexts as contexts;
+ghost use Rattle.sy_scope_names.specs.Contexts as contexts;
 ghost use Rattle.sy_scope_steps.specs.Files as spec;
-ghost use Rattle.sy_scope_steps.specs.Jobs.{wished};
+ghost use Rattle.sy_scope_names.specs.Jobs.{wished};
 ghost use Rattle.sy_scope.specs.Read.{ReadsFile, LeadsToOutcome, OpensAs, opened_by, wish_in, wish_over};
 ghost use Rattle.sy_scope.specs.Fit.{ProblemsFit, JobFits};
-ghost use Rattle.sy_scope_context.specs.Seen.{context_of};
+ghost use Rattle.sy_scope_declared.specs.Seen.{context_of};
+ghost use Rattle.sy_scope_names.specs.Changes as changes;
 ghost use Rattle.sy_scope_steps.specs.Steps as steps;
 
 use crate::job::Job;
@@ -22,11 +23,13 @@ use sy_grammar_base::Problem;
 use sy_meaning_integers::IntTheory;
 use sy_meaning_words::BvTheory;
 use sy_scope_causes::{Cause, Refused, Titles};
-use sy_scope_context::{Asked, Context, check_feature, read_request};
+use sy_scope_commands::Request;
+use sy_scope_context::step;
+use sy_scope_declared::{Asked, Context, check_feature, read_request};
 use sy_scope_ends::{ScopeEnd, ended, numbered};
-use sy_scope_steps::Request;
 use sy_terms::{Logic, Seq, Theory};
-use sy_text::{Place, Sexp, TextEnd, TextFault, next_command};
+use sy_text_items::{Place, Sexp, TextFault};
+use sy_text_reader::{TextEnd, next_command};
 
 /// The commands up to the one that sets the logic are done: the logic, and the offset and the number of the next one.
 #[derive(Clone, Copy)]
@@ -75,7 +78,7 @@ fn next(
 
 /// The logic of this name.
 fn logic_named(name: &[u8]) -> Option<Logic>
-    ensures { result ≡ steps.logic_named name.now }
+    ensures { result ≡ changes.logic_named name.now }
 {
     if is(name, b"BV") {
         Some(Logic::Bv)
@@ -157,7 +160,7 @@ fn read_commands<T: Theory>(
     let mut at = opened.at;
     let mut command = opened.command;
     while let Some((item, after)) = next(alloc, bytes, at, command)? {
-        let stepped = context.step(alloc, &item);
+        let stepped = step(alloc, context, &item);
         drop(item);
         numbered(command, stepped)?;
         at = after;

@@ -1,7 +1,7 @@
 -- The causes of a refusal.
 use Rattle.std.specs.Prelude.{ℕ, List, ◌++◌, codes}
-use Rattle.sy_text.specs.declared.fault.TextFault.{TextFault}
-use Rattle.sy_text.specs.declared.fault.TextFault.TheVariants as fault
+use Rattle.sy_text_items.specs.declared.fault.TextFault.{TextFault}
+use Rattle.sy_text_items.specs.declared.fault.TextFault.TheVariants as fault
 use Rattle.sy_scope_causes.specs.declared.cause.Cause.{Cause}
 use Rattle.sy_scope_causes.specs.declared.cause.Cause.TheVariants as cause
 

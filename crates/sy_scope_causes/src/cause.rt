@@ -2,7 +2,7 @@
 ghost use Rattle.std.specs.Prelude.{◌≡◌};
 ghost use Rattle.sy_scope_causes.specs.Causes.{number_of_cause};
 
-use sy_text::{Place, TextFault};
+use sy_text_items::{Place, TextFault};
 
 /// The condition of a command that doesn't hold.
 #[derive(Clone, Copy, Debug, PartialEq, Eq)]

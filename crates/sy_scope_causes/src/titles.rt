@@ -1,6 +1,6 @@
 // The names that a file declares.
 use sy_seq::Seq;
-use sy_text::Name;
+use sy_text_items::Name;
 
 /// The name of a function to be found, and the names of its arguments.
 #[derive(Drop)]

@@ -1,3 +1,1 @@
 pub mod Small
-pub mod Names
-pub mod Alike

@@ -2,12 +2,12 @@
 use Rattle.std.proofs.Common.{◌≡◌, ◌∙◌, ◌≤◌, refl, sym, ap, arith, ℕ, Bool, true, false, []}
 use Rattle.std.specs.Prelude.{Ok, Err, cond, min, nat_le, ◌&&◌}
 use Rattle.std.proofs.lemmas.Bool.{leb-true}
-use Rattle.sy_text.specs.Items.{Item}
-use Rattle.sy_text.specs.declared.atom.Place.{Place}
+use Rattle.sy_text_items.specs.Items.{Item}
+use Rattle.sy_text_items.specs.declared.atom.Place.{Place}
 use Rattle.sy_terms.specs.Sorts.{same_sort}
 use Rattle.sy_terms.specs.declared.sort.Sort.{Sort}
 use Rattle.sy_scope_causes.specs.declared.cause.Cause.TheVariants as cause
-use Rattle.sy_forms_phrases.specs.Environments.{Environment}
+use Rattle.sy_forms_names.specs.Environments.{Environment}
 use Rattle.sy_forms_phrases.specs.Measures.{Measures, is_within_limits, unfolded_size, unfolded_depth}
 use Rattle.sy_forms_items.specs.Parts.{place_of}
 use Rattle.sy_forms_phrases.specs.Phrases.{Phrase, Typed}

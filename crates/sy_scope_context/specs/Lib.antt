@@ -1,3 +1,1 @@
-pub mod Seen
-pub mod Calls
-pub mod Goals
+pub mod Grammars

@@ -1,15 +1,13 @@
 // What the commands of a file do: each takes what is declared and asked for so far to the next, or is refused.
 #![tactic(auto)]
 
-mod check;
-mod constrain;
-mod context;
-mod declare;
-mod define;
-mod invariant;
-mod step;
-mod synthesise;
-mod titles;
+mod commands;
+mod constraints;
+mod definitions;
+mod functions;
 
-pub use context::{Condition, Context, Definition, Ruled, Sought};
-pub use step::{Asked, check_feature, read_request};
+pub use commands::step;
+pub use functions::Ruled;
+pub use sy_scope_declared::{
+    Asked, Condition, Context, Definition, Sought, check_feature, read_request,
+};

@@ -3,8 +3,8 @@ use Rattle.std.specs.Prelude.{ℕ, zero, suc, ◌+◌, ◌*◌, Bool, true, ◌&
 use Rattle.std.specs.List.{list_all}
 use Rattle.std.proofs.Common.{ap, sym, subst, ◌∙◌}
 use Rattle.std.proofs.lemmas.List.Elements.{All-push, All-weaker, All-append, All-nil, All-cons, All-head, All-tail}
-use Rattle.sy_text.specs.Items.{Item}
-use Rattle.sy_text.specs.declared.atom.Place.{Place}
+use Rattle.sy_text_items.specs.Items.{Item}
+use Rattle.sy_text_items.specs.declared.atom.Place.{Place}
 use Rattle.sy_scope_causes.specs.declared.cause.Cause.TheVariants as cause
 use Rattle.sy_terms.specs.Fitting.{Scope, Signature, signature_of, same_sorts}
 use Rattle.sy_terms.specs.Sorts.{same_sort}
@@ -20,12 +20,12 @@ use Rattle.sy_terms_laws.proofs.Equations.{both_true, same_sort_is, same_sorts_i
 use Rattle.sy_grammar_base.specs.Formed.{is_known, is_formed}
 use Rattle.sy_terms.specs.Logics.{number_sorts, operators_of}
 use Rattle.sy_inv.specs.Conditions.{starts, keeps, ends}
-use Rattle.sy_forms_phrases.specs.declared.names.Entity.{Entity}
-use Rattle.sy_forms_phrases.specs.declared.names.Entity.TheVariants as entity
-use Rattle.sy_forms_phrases.specs.declared.names.Role.TheVariants as role
-use Rattle.sy_forms_phrases.specs.Environments.{entry_under}
+use Rattle.sy_forms_names.specs.declared.names.Entity.{Entity}
+use Rattle.sy_forms_names.specs.declared.names.Entity.TheVariants as entity
+use Rattle.sy_forms_names.specs.declared.names.Role.TheVariants as role
+use Rattle.sy_forms_names.specs.Environments.{entry_under}
 use Rattle.sy_forms_phrases.specs.Phrases.{Phrase}
-use Rattle.sy_scope_steps.specs.Requests.{Spelled}
+use Rattle.sy_scope_commands.specs.Requests.{Spelled}
 use Rattle.sy_forms_laws.specs.Fitting.{phrase_sort}
 use Rattle.sy_grammar_base.specs.Fits.{with_functions, GoalFits, QuestionFits}
 use Rattle.sy_forms_laws.specs.Right.{Extends}
@@ -34,9 +34,10 @@ use Rattle.sy_forms_laws.proofs.Readings.{chained, unless_refused, where_found}
 use Rattle.sy_forms_laws.proofs.Sorts.{entry_has}
 use Rattle.sy_forms_laws.proofs.Terms.{whole_fits}
 use Rattle.sy_forms_laws.proofs.Whole.{term_fits}
-use Rattle.sy_scope_steps.specs.Contexts as contexts
-use Rattle.sy_scope_steps.specs.Contexts.{Context, Sought, Condition, Expanded, question_at, goal_sought, has_room}
-use Rattle.sy_scope_steps.specs.Steps.{environment, read_in, constrain, assume, Called, called_function, function_named, invariant_number, called_definition, as_invariant, as_condition, Parts, with_invariant, invariant_parts, constrain_invariant, with_question, check_synth}
+use Rattle.sy_scope_names.specs.Contexts as contexts
+use Rattle.sy_scope_names.specs.Contexts.{Context, Sought, Condition, Expanded, question_at, goal_sought, has_room}
+use Rattle.sy_scope_names.specs.Changes.{Called, called_function, function_named, invariant_number, called_definition, as_invariant, as_condition, Parts, with_invariant, invariant_parts, constrain_invariant, with_question, check_synth}
+use Rattle.sy_scope_steps.specs.Steps.{environment, read_in, constrain, assume}
 use Rattle.sy_scope_laws.specs.Sound.{defined_in, signatures_wanted, signature_of_sought, setting_with, IsDeclared, ConditionFits, ContextIsSound}
 use Rattle.sy_scope_laws.proofs.Conditions.{AreFrom, IsInvariant, starts_fits, keeps_fits, ends_fits}
 use Rattle.sy_scope_laws.proofs.Declaring.{declared_all}

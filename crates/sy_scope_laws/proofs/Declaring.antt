@@ -1,8 +1,8 @@
 -- Commands that declare keep contexts sound.
 use Rattle.std.specs.Prelude.{ℕ, Bool, true, false, ◌||◌, nat_lt, List, [], ◌∷◌, ◌++◌, length, Some, Ok, is_some, ◌≡◌, refl, All, ⊤, IfOk}
 use Rattle.std.proofs.lemmas.List.Elements.{All-push, All-weaker}
-use Rattle.sy_text.specs.Items.{Item, Items}
-use Rattle.sy_text.specs.declared.atom.Place.{Place}
+use Rattle.sy_text_items.specs.Items.{Item, Items}
+use Rattle.sy_text_items.specs.declared.atom.Place.{Place}
 use Rattle.sy_scope_causes.specs.declared.cause.Cause.TheVariants as cause
 use Rattle.sy_terms.specs.Fitting.{Signature}
 use Rattle.sy_terms.specs.Values.{Val}
@@ -12,23 +12,24 @@ use Rattle.sy_terms.specs.declared.sort.Sort.TheVariants as sorts
 use Rattle.sy_terms.specs.declared.term.Fun.TheVariants as funs
 use Rattle.sy_grammar_base.specs.Formed.{is_known}
 use Rattle.sy_terms.specs.Logics.{number_sorts, operators_of}
-use Rattle.sy_forms_phrases.specs.declared.names.Entity.{Entity}
-use Rattle.sy_forms_phrases.specs.declared.names.Entity.TheVariants as entity
-use Rattle.sy_forms_phrases.specs.declared.names.Role.TheVariants as role
-use Rattle.sy_forms_phrases.specs.Environments.{entry_under}
-use Rattle.sy_forms_phrases.specs.Operators.{is_reserved}
+use Rattle.sy_forms_names.specs.declared.names.Entity.{Entity}
+use Rattle.sy_forms_names.specs.declared.names.Entity.TheVariants as entity
+use Rattle.sy_forms_names.specs.declared.names.Role.TheVariants as role
+use Rattle.sy_forms_names.specs.Environments.{entry_under}
+use Rattle.sy_forms_names.specs.Operators.{is_reserved}
 use Rattle.sy_forms_phrases.specs.Phrases.{Phrase}
-use Rattle.sy_forms_phrases.specs.Sorts.{read_sort}
-use Rattle.sy_scope_steps.specs.Requests.{Spelled}
-use Rattle.sy_scope_steps.specs.Lists.{sorts_of_names, read_named}
+use Rattle.sy_forms_names.specs.Sorts.{read_sort}
+use Rattle.sy_scope_commands.specs.Requests.{Spelled}
+use Rattle.sy_scope_names.specs.Lists.{sorts_of_names, read_named}
 use Rattle.sy_forms_laws.specs.Fitting.{phrase_sort}
 use Rattle.sy_grammar_base.specs.Fits.{GoalFits}
 use Rattle.sy_forms_laws.specs.Right.{Extends}
 use Rattle.sy_forms_laws.proofs.Readings.{chained, unless_refused, where_not_refused, any_read}
 use Rattle.sy_forms_laws.proofs.Sorts.{Known, sort_known}
 use Rattle.sy_forms_laws.proofs.Terms.{whole_fits}
-use Rattle.sy_scope_steps.specs.Contexts.{Context, Definition, Sought, new_name, new_sought, new_sort_name, has_room, goal_sought}
-use Rattle.sy_scope_steps.specs.Steps.{with_variable, declare_variable, define_sort, read_in, with_definition, define, with_sought, environment}
+use Rattle.sy_scope_names.specs.Contexts.{Context, Definition, Sought, new_name, new_sought, new_sort_name, has_room, goal_sought}
+use Rattle.sy_scope_names.specs.Changes.{with_variable, declare_variable, define_sort, with_definition, with_sought}
+use Rattle.sy_scope_steps.specs.Steps.{read_in, define, environment}
 use Rattle.sy_scope_laws.specs.Sound.{defined_in, signatures_wanted, setting_with, IsDeclared, ConditionFits, ContextIsSound}
 use Rattle.sy_scope_laws.proofs.Extending.{extends_itself, extends_last, last_at, extends_defined, extends_wanted, defined_at, wanted_at, declared_wider, condition_wider, goal_wider, phrase_wider, fit_after-last, list_all-append}
 use Rattle.sy_scope_laws.proofs.Rightly.{body_right}

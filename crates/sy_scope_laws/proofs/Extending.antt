@@ -6,8 +6,8 @@ use Rattle.sy_terms.specs.Fitting.{Signature}
 use Rattle.sy_terms.specs.declared.op.Op.{Op}
 use Rattle.sy_terms.specs.declared.sort.Sort.{Sort}
 use Rattle.sy_terms.specs.declared.term.Fun.TheVariants.{Defined, Wanted}
-use Rattle.sy_forms_phrases.specs.declared.names.Entity.{Entity}
-use Rattle.sy_forms_phrases.specs.declared.names.Entity.TheVariants as entity
+use Rattle.sy_forms_names.specs.declared.names.Entity.{Entity}
+use Rattle.sy_forms_names.specs.declared.names.Entity.TheVariants as entity
 use Rattle.sy_terms_laws.proofs.Equations.{both_true}
 use Rattle.sy_forms_laws.specs.Fitting.{phrase_sort}
 use Rattle.sy_grammar_base.specs.Fits.{GoalFits}
@@ -17,9 +17,9 @@ use Rattle.sy_forms_laws.proofs.Growing.{formed_wider}
 use Rattle.sy_forms_laws.proofs.Widening.{fits_wider}
 use Rattle.sy_forms_phrases.specs.Phrases.{Phrase}
 use Rattle.sy_grammar_base.specs.Questions.{Goal}
-use Rattle.sy_scope_steps.specs.Lists.{sorts_of_names}
-use Rattle.sy_scope_steps.specs.Contexts as contexts
-use Rattle.sy_scope_steps.specs.Contexts.{Definition, Sought}
+use Rattle.sy_scope_names.specs.Lists.{sorts_of_names}
+use Rattle.sy_scope_names.specs.Contexts as contexts
+use Rattle.sy_scope_names.specs.Contexts.{Definition, Sought}
 use Rattle.sy_scope_laws.specs.Sound.{defined_in, signature_of_sought, signatures_wanted, setting_with, IsDeclared, BodiesFitAfter, ConditionFits}
 
 pub extends_itself : {A : Type 0} (xs : List A) → Extends xs xs

@@ -2,8 +2,8 @@
 use Rattle.std.specs.Prelude.{ℕ, zero, suc, ◌+◌, Bool, true, false, List, [], length, Option, Some, None, Result, Ok, Err, ◌≡◌, refl, All, ⊤, IfOk}
 use Rattle.std.proofs.Common.{sym, subst}
 use Rattle.std.proofs.lemmas.List.Elements.{All-nil}
-use Rattle.sy_text.specs.Items.{Item}
-use Rattle.sy_text.specs.declared.atom.Place.{Place}
+use Rattle.sy_text_items.specs.Items.{Item}
+use Rattle.sy_text_items.specs.declared.atom.Place.{Place}
 use Rattle.sy_scope_causes.specs.declared.cause.Cause.TheVariants as cause
 use Rattle.sy_scope_causes.specs.declared.cause.Refused.{Refused}
 use Rattle.sy_terms.specs.declared.op.Op.{Op}
@@ -11,19 +11,20 @@ use Rattle.sy_terms.specs.declared.sort.Logic.{Logic}
 use Rattle.sy_terms.specs.declared.sort.Sort.{Sort}
 use Rattle.sy_terms.specs.declared.sort.Sort.TheVariants as sorts
 use Rattle.sy_terms.specs.Logics.{IsTheoryOf, number_sorts, operators_of}
-use Rattle.sy_forms_phrases.specs.declared.names.Entity.{Entity}
-use Rattle.sy_forms_phrases.specs.Operators.{is_reserved}
+use Rattle.sy_forms_names.specs.declared.names.Entity.{Entity}
+use Rattle.sy_forms_names.specs.Operators.{is_reserved}
 use Rattle.sy_forms_phrases.specs.Phrases.{Phrase}
 use Rattle.sy_forms_items.specs.Readings.{Reading, found_or}
-use Rattle.sy_scope_steps.specs.Requests as requests
-use Rattle.sy_scope_steps.specs.Requests.{Request, Spelled}
+use Rattle.sy_scope_commands.specs.Requests as requests
+use Rattle.sy_scope_commands.specs.Requests.{Request, Spelled}
 use Rattle.sy_forms_laws.specs.Fitting.{phrase_sort}
 use Rattle.sy_grammar_base.specs.Fits.{GoalFits, QuestionFits}
 use Rattle.sy_forms_laws.proofs.Readings.{chained, weaker, any_read}
 use Rattle.sy_grammar_base.specs.Formed.{is_known}
-use Rattle.sy_scope_steps.specs.Contexts.{Context, Sought, beginning, with_logic, goal_sought}
+use Rattle.sy_scope_names.specs.Contexts.{Context, Sought, beginning, with_logic, goal_sought}
 use Rattle.sy_scope_steps.specs.Files.{FileOutcome, command_read, then_next, after_command, file_from, file_read}
-use Rattle.sy_scope_steps.specs.Steps.{PlacedRequest, logic_named, first_logic, set_logic, feature_set, set_feature, command_asked, perform_in, perform_first, perform, step}
+use Rattle.sy_scope_names.specs.Changes.{PlacedRequest, logic_named, first_logic, set_logic, feature_set, set_feature, command_asked}
+use Rattle.sy_scope_steps.specs.Steps.{perform_in, perform_first, perform, step}
 use Rattle.sy_scope_laws.specs.Sound.{setting_with, IsDeclared, ConditionFits, ContextIsSound, SoundBy, Sound}
 use Rattle.sy_scope_laws.proofs.Asking.{constrain_sound, assume_sound, invariants_sound, check_sound}
 use Rattle.sy_scope_laws.proofs.Declaring.{declare_sound, define_sort_sound, define_sound}

@@ -3,23 +3,24 @@ use Rattle.std.specs.Prelude.{ℕ, zero, suc, ◌+◌, ◌*◌, ◌≤◌, Bool,
 use Rattle.std.proofs.Common.{arith}
 use Rattle.std.proofs.lemmas.List.{length-append}
 use Rattle.std.proofs.lemmas.List.Elements.{All-nil, All-weaker, All-push}
-use Rattle.sy_text.specs.Items.{Item, Items}
-use Rattle.sy_text.specs.declared.atom.Place.{Place}
+use Rattle.sy_text_items.specs.Items.{Item, Items}
+use Rattle.sy_text_items.specs.declared.atom.Place.{Place}
 use Rattle.sy_terms.specs.declared.sort.Logic.{Logic}
 use Rattle.sy_terms.specs.declared.sort.Sort.TheVariants as sorts
 use Rattle.sy_scope_causes.specs.declared.cause.Cause.TheVariants as cause
 use Rattle.sy_scope_causes.specs.declared.cause.Refused.{Refused}
-use Rattle.sy_forms_phrases.specs.declared.names.Role.TheVariants as role
+use Rattle.sy_forms_names.specs.declared.names.Role.TheVariants as role
 use Rattle.sy_forms_items.specs.Readings.{Reading, found_or, ◌>>=◌}
-use Rattle.sy_forms_phrases.specs.Sorts.{read_sort}
-use Rattle.sy_scope_steps.specs.Lists.{read_named}
-use Rattle.sy_scope_steps.specs.Requests as requests
-use Rattle.sy_scope_steps.specs.Requests.{Request, Rulebook, Spelled}
+use Rattle.sy_forms_names.specs.Sorts.{read_sort}
+use Rattle.sy_scope_names.specs.Lists.{read_named}
+use Rattle.sy_scope_commands.specs.Requests as requests
+use Rattle.sy_scope_commands.specs.Requests.{Request, Rulebook, Spelled}
 use Rattle.sy_forms_laws.proofs.Readings.{chained, unless_refused, any_read}
-use Rattle.sy_scope_steps.specs.Contexts.{Context, Definition, Sought, beginning, with_logic, new_name, new_sought, new_sort_name, has_room, question_at}
+use Rattle.sy_scope_names.specs.Contexts.{Context, Definition, Sought, beginning, with_logic, new_name, new_sought, new_sort_name, has_room, question_at}
 use Rattle.sy_scope_steps.specs.Files.{FileOutcome, command_read, then_next, after_command, file_from, file_read}
-use Rattle.sy_scope_steps.specs.Jobs.{title_of, titles_of}
-use Rattle.sy_scope_steps.specs.Steps.{PlacedRequest, logic_named, first_logic, set_logic, feature_set, set_feature, declare_variable, define_sort, read_in, with_definition, define, value_sort, read_grammar, with_sought, synthesise, constrain, assume, function_named, invariant_parts, with_invariant, constrain_invariant, with_question, check_synth, command_asked, perform_in, perform_first, perform, step}
+use Rattle.sy_scope_names.specs.Jobs.{title_of, titles_of}
+use Rattle.sy_scope_names.specs.Changes.{PlacedRequest, logic_named, first_logic, set_logic, feature_set, set_feature, declare_variable, define_sort, with_definition, value_sort, with_sought, function_named, invariant_parts, with_invariant, constrain_invariant, with_question, check_synth, command_asked}
+use Rattle.sy_scope_steps.specs.Steps.{read_in, define, read_grammar, synthesise, constrain, assume, perform_in, perform_first, perform, step}
 use Rattle.sy_scope_laws.specs.Titled.{AreNamed}
 use Rattle.sy_reply.specs.Writable.{IsTitled}
 use Rattle.sy_scope_laws.proofs.Titles.{function_more, definition_more, titled_now}

@@ -2,16 +2,17 @@
 use Rattle.std.proofs.Common.{◌≡◌, ◌∙◌, refl, sym, ap, subst, ℕ, zero, suc, List, [], ◌∷◌, Bool, true, false, Some, None, slice_get}
 use Rattle.std.specs.Prelude.{codes, ◌&&◌, is_some, if◌then◌else◌}
 use Rattle.std.specs.List.{list_all}
-use Rattle.sy_text.specs.Items.{Item, leaf, group, Items, none, more, listed}
+use Rattle.sy_text_items.specs.Items.{Item, leaf, group, Items, none, more, listed}
 use Rattle.sy_terms.specs.declared.sort.Logic.TheVariants.{Lia}
 use Rattle.sy_terms.specs.declared.sort.Sort.{Sort}
 use Rattle.sy_terms_laws.proofs.Equations.{both_true, if_Some}
 use Rattle.sy_grammar_base.specs.Formed.{gives_constants, all_give_constants}
 use Rattle.sy_grammar_base.specs.Trees.{Production, Nonterminal}
-use Rattle.sy_forms_phrases.specs.declared.names.Named.{Named}
-use Rattle.sy_forms_phrases.specs.Environments.{Environment, sense_of}
+use Rattle.sy_forms_names.specs.declared.names.Named.{Named}
+use Rattle.sy_forms_names.specs.Environments.{Environment, sense_of}
 use Rattle.sy_forms_items.specs.Parts.{has_no_items, is_symbol, symbol}
-use Rattle.sy_forms.specs.Rules.{production_at, is_constant_rule, are_constant, constant_rules, constant_parts, is_constant_group, constant_groups, has_sort}
+use Rattle.sy_forms_phrases.specs.Productions.{production_at}
+use Rattle.sy_forms.specs.Rules.{is_constant_rule, are_constant, constant_rules, constant_parts, is_constant_group, constant_groups, has_sort}
 use Rattle.sy_forms.specs.Terms.{flag_at}
 use Rattle.sy_scope_steps.specs.Grammars.{Grouped, nonempty, group_with, grouped_in, grouped}
 use Rattle.sy_scope_steps.proofs.Read.{IsRule, AreRules, AreGroups}

@@ -5,8 +5,8 @@ use Rattle.std.specs.Prelude.{Ok, Option, codes, ◌^◌, ◌&&◌, nat_eq, nat_
 use Rattle.std.specs.List.{list_all}
 use Rattle.std.proofs.lemmas.Bool.{eqb-true, lt-ltb, le-leb}
 use Rattle.std.proofs.lemmas.List.Elements.{All-nil, All-head, All-tail, All-cons}
-use Rattle.sy_text.specs.Items.{Item, leaf, group, Items, none, more, listed}
-use Rattle.sy_text.specs.declared.atom.Place.{Place}
+use Rattle.sy_text_items.specs.Items.{Item, leaf, group, Items, none, more, listed}
+use Rattle.sy_text_items.specs.declared.atom.Place.{Place}
 use Rattle.sy_terms.specs.Fitting.{Scope, Signature}
 use Rattle.sy_terms.specs.Spelling.{spelling}
 use Rattle.sy_terms.specs.declared.op.Op.{Op}
@@ -16,21 +16,22 @@ use Rattle.sy_terms.specs.declared.sort.Logic.TheVariants.{Lia, Bv}
 use Rattle.sy_terms.specs.declared.sort.Sort.{Sort}
 use Rattle.sy_scope_causes.specs.declared.cause.Cause.TheVariants as cause
 use Rattle.sy_terms_laws.proofs.Equations.{same_sort_is}
-use Rattle.sy_grammar_base.proofs.Sorting.{same_sort_self}
+use Rattle.sy_grammar_checks.proofs.Sorting.{same_sort_self}
 use Rattle.sy_grammar_base.specs.Formed.{is_known, nonterminal_fits, is_formed, rule_sort}
 use Rattle.sy_grammar_base.specs.Trees.{Production, Nonterminal, Syntax, is_sort}
-use Rattle.sy_forms_phrases.specs.declared.names.Entity.{Entity}
-use Rattle.sy_forms_phrases.specs.declared.names.Named.{Named}
-use Rattle.sy_forms_phrases.specs.Environments.{Environment}
-use Rattle.sy_forms_phrases.specs.Operators.{is_reserved}
+use Rattle.sy_forms_names.specs.declared.names.Entity.{Entity}
+use Rattle.sy_forms_names.specs.declared.names.Named.{Named}
+use Rattle.sy_forms_names.specs.Environments.{Environment}
+use Rattle.sy_forms_names.specs.Operators.{is_reserved}
 use Rattle.sy_forms_items.specs.Parts.{has_no_items, place_of}
 use Rattle.sy_forms_items.specs.Readings.{refuse, ◌>>=◌}
 use Rattle.sy_forms.specs.Rules.{constant_groups}
-use Rattle.sy_scope_steps.specs.Requests.{Listed, Rulebook}
-use Rattle.sy_scope_steps.specs.Lists.{sorts_of_names, named_item, counted, sort_of_pair, first_sort, starts_with, read_named, read_predeclared}
+use Rattle.sy_scope_commands.specs.Requests.{Listed, Rulebook}
+use Rattle.sy_scope_names.specs.Lists.{sorts_of_names, named_item, counted, sort_of_pair, first_sort, starts_with, read_named, read_predeclared}
 use Rattle.sy_scope_steps.specs.Grammars.{Written, rules_under, among_nonterminals, written_as, nothing_grown, read_groups, read_productions, read_rulebook}
-use Rattle.sy_scope_steps.proofs.Named.{IsNamed, AreNamed, named_read}
-use Rattle.sy_scope_steps.proofs.Read.{bind_ok, if_ok, unless_ok, AreRules, IsGroup, AreGroups, groups_read}
+use Rattle.sy_scope_names.proofs.Named.{IsNamed, AreNamed, named_read}
+use Rattle.sy_scope_names.proofs.Earlier.{bind_ok, if_ok, unless_ok}
+use Rattle.sy_scope_steps.proofs.Read.{AreRules, IsGroup, AreGroups, groups_read}
 use Rattle.sy_forms_laws.specs.Fitting.{Setting}
 use Rattle.sy_forms_laws.specs.Right.{EnvironmentIsRight, IsOfGrammar}
 use Rattle.sy_forms_laws.proofs.Readings.{at_read}

@@ -3,17 +3,17 @@ use Rattle.std.proofs.Common.{◌≡◌, ◌+◌, refl, sym, subst, ℕ, List, [
 use Rattle.std.specs.Prelude.{Option, bytes_eq, if◌then◌else◌}
 use Rattle.std.proofs.lemmas.List.Elements.{All-head, All-tail}
 use Rattle.std.proofs.lemmas.Slice.Eq.{bytes_eq-Decides}
-use Rattle.sy_text.specs.Items.{Items, listed}
+use Rattle.sy_text_items.specs.Items.{Items, listed}
 use Rattle.sy_terms.specs.Fitting.{Scope}
 use Rattle.sy_terms.specs.declared.sort.Logic.{Logic}
 use Rattle.sy_terms.specs.declared.sort.Sort.{Sort}
-use Rattle.sy_forms_phrases.specs.declared.names.Entity.{Entity}
-use Rattle.sy_forms_phrases.specs.declared.names.Named.{Named}
-use Rattle.sy_forms_phrases.specs.Environments as env
-use Rattle.sy_forms_phrases.specs.Environments.{Sense, or_else, place_from, place_among, sense_as, sense_of}
-use Rattle.sy_forms_phrases.specs.Operators.{is_reserved}
+use Rattle.sy_forms_names.specs.declared.names.Entity.{Entity}
+use Rattle.sy_forms_names.specs.declared.names.Named.{Named}
+use Rattle.sy_forms_names.specs.Environments as env
+use Rattle.sy_forms_names.specs.Environments.{Sense, or_else, place_from, place_among, sense_as, sense_of}
+use Rattle.sy_forms_names.specs.Operators.{is_reserved}
 use Rattle.sy_forms.specs.Rules.{constant_groups}
-use Rattle.sy_scope_steps.specs.Lists.{sorts_of_names}
+use Rattle.sy_scope_names.specs.Lists.{sorts_of_names}
 use Rattle.sy_scope_steps.specs.Grammars.{rules_under, among_nonterminals}
 use Rattle.sy_forms_laws.specs.Fitting.{Setting}
 use Rattle.sy_forms_laws.specs.Right.{EnvironmentIsRight, SenseIsThere}

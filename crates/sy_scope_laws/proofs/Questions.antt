@@ -10,13 +10,13 @@ use Rattle.sy_terms.specs.declared.sort.Sort.TheVariants as sorts
 use Rattle.sy_terms.specs.Logics.{number_sorts, operators_of}
 use Rattle.sy_grammar_base.specs.Questions.{Goal}
 use Rattle.sy_forms_phrases.specs.Phrases.{Phrase, expr_at}
-use Rattle.sy_forms_phrases.specs.declared.names.Named.{Named}
+use Rattle.sy_forms_names.specs.declared.names.Named.{Named}
 use Rattle.sy_forms_laws.specs.Fitting.{phrase_sort}
 use Rattle.sy_grammar_base.specs.Fits.{with_functions, FitInTurn, GoalFits, QuestionFits}
 use Rattle.sy_forms_laws.proofs.Whole.{term_fits}
-use Rattle.sy_scope_steps.specs.Lists.{sorts_of_names}
-use Rattle.sy_scope_steps.specs.Contexts as contexts
-use Rattle.sy_scope_steps.specs.Contexts.{Context, Definition, Sought, condition_at, goal_sought, question_at}
+use Rattle.sy_scope_names.specs.Lists.{sorts_of_names}
+use Rattle.sy_scope_names.specs.Contexts as contexts
+use Rattle.sy_scope_names.specs.Contexts.{Context, Definition, Sought, condition_at, goal_sought, question_at}
 use Rattle.sy_scope_laws.specs.Sound.{defined_in, signature_of_sought, signatures_wanted, setting_with, BodiesFitAfter, ConditionFits, ContextIsSound}
 use Rattle.sy_scope_laws.proofs.Extending.{extends_itself, count_of}
 

@@ -7,17 +7,17 @@ use Rattle.sy_terms.specs.declared.sort.Logic.{Logic}
 use Rattle.sy_terms.specs.declared.sort.Sort.{Sort}
 use Rattle.sy_terms.specs.declared.term.Fun.TheVariants.{Defined, Wanted}
 use Rattle.sy_terms.specs.Logics.{number_sorts, operators_of}
-use Rattle.sy_forms_phrases.specs.declared.names.Entity.{Entity}
-use Rattle.sy_forms_phrases.specs.declared.names.Entity.TheVariants as entity
-use Rattle.sy_forms_phrases.specs.declared.names.Named.{Named}
-use Rattle.sy_forms_phrases.specs.declared.names.Role.TheVariants as role
-use Rattle.sy_forms_phrases.specs.Environments as env
-use Rattle.sy_forms_phrases.specs.Environments.{Sense, entry_under, or_else, place_among, sense_as, declared_in}
+use Rattle.sy_forms_names.specs.declared.names.Entity.{Entity}
+use Rattle.sy_forms_names.specs.declared.names.Entity.TheVariants as entity
+use Rattle.sy_forms_names.specs.declared.names.Named.{Named}
+use Rattle.sy_forms_names.specs.declared.names.Role.TheVariants as role
+use Rattle.sy_forms_names.specs.Environments as env
+use Rattle.sy_forms_names.specs.Environments.{Sense, entry_under, or_else, place_among, sense_as, declared_in}
 use Rattle.sy_forms_laws.specs.Right.{SenseIsThere, EnvironmentIsRight}
 use Rattle.sy_forms_laws.proofs.Names.{place_among_at}
 use Rattle.sy_forms_laws.proofs.Sorts.{entry_has}
-use Rattle.sy_scope_steps.specs.Lists.{sorts_of_names}
-use Rattle.sy_scope_steps.specs.Contexts.{Context}
+use Rattle.sy_scope_names.specs.Lists.{sorts_of_names}
+use Rattle.sy_scope_names.specs.Contexts.{Context}
 use Rattle.sy_scope_steps.specs.Steps.{environment}
 use Rattle.sy_scope_laws.specs.Sound.{defined_in, signatures_wanted, setting_with, IsDeclared, ContextIsSound}
 

@@ -4,7 +4,7 @@ use Rattle.std.specs.Option.{option_map}
 use Rattle.std.proofs.Common.{sym, subst, arith}
 use Rattle.std.proofs.lemmas.List.Elements.{All-nil, All-head, All-tail, All-weaker}
 use Rattle.std.proofs.lemmas.Slice.Eq.{bytes_eq-Decides}
-use Rattle.sy_text.specs.Items.{Item, Items}
+use Rattle.sy_text_items.specs.Items.{Item, Items}
 use Rattle.sy_terms.specs.Fitting.{Signature}
 use Rattle.sy_terms.specs.declared.op.Op.{Op}
 use Rattle.sy_terms.specs.declared.sort.Logic.{Logic}
@@ -15,19 +15,19 @@ use Rattle.sy_terms.specs.declared.term.Fun.TheVariants.{Defined, Wanted}
 use Rattle.sy_grammar_base.specs.Formed.{is_known}
 use Rattle.sy_grammar_base.specs.Trees.{Nonterminal}
 use Rattle.sy_terms.specs.Logics.{IsTheoryOf, number_sorts, operators_of}
-use Rattle.sy_grammar.specs.Defaults.{nonterminals}
-use Rattle.sy_grammar.proofs.Fitting.{default_formed}
-use Rattle.sy_forms_phrases.specs.declared.names.Entity.{Entity}
-use Rattle.sy_forms_phrases.specs.declared.names.Entity.TheVariants as entity
-use Rattle.sy_forms_phrases.specs.declared.names.Named.{Named}
-use Rattle.sy_forms_phrases.specs.declared.names.Role.TheVariants as role
-use Rattle.sy_forms_phrases.specs.Environments as env
-use Rattle.sy_forms_phrases.specs.Environments.{Sense, entry_under, or_else, place_among, sense_as, declared_in}
-use Rattle.sy_forms_phrases.specs.Operators.{is_reserved}
-use Rattle.sy_scope_steps.specs.Requests.{Spelled, Rulebook}
-use Rattle.sy_scope_steps.specs.Lists.{sorts_of_names, read_named}
+use Rattle.sy_grammar_defaults.specs.Defaults.{nonterminals}
+use Rattle.sy_grammar_defaults.proofs.Fitting.{default_formed}
+use Rattle.sy_forms_names.specs.declared.names.Entity.{Entity}
+use Rattle.sy_forms_names.specs.declared.names.Entity.TheVariants as entity
+use Rattle.sy_forms_names.specs.declared.names.Named.{Named}
+use Rattle.sy_forms_names.specs.declared.names.Role.TheVariants as role
+use Rattle.sy_forms_names.specs.Environments as env
+use Rattle.sy_forms_names.specs.Environments.{Sense, entry_under, or_else, place_among, sense_as, declared_in}
+use Rattle.sy_forms_names.specs.Operators.{is_reserved}
+use Rattle.sy_scope_commands.specs.Requests.{Spelled, Rulebook}
+use Rattle.sy_scope_names.specs.Lists.{sorts_of_names, read_named}
 use Rattle.sy_scope_steps.specs.Grammars.{Written, read_rulebook}
-use Rattle.sy_scope_steps.proofs.Named.{IsNamed, named_read}
+use Rattle.sy_scope_names.proofs.Named.{IsNamed, named_read}
 use Rattle.sy_grammar_base.specs.Fits.{with_functions, GoalFits}
 use Rattle.sy_forms_laws.specs.Right.{SenseIsThere}
 use Rattle.sy_forms_laws.proofs.Names.{place_among_at}
@@ -36,8 +36,9 @@ use Rattle.sy_forms_laws.proofs.Sorts.{Known, sort_known, entry_has}
 use Rattle.sy_scope_laws.specs.Rightly.{argument_setting, ReadsRightly}
 use Rattle.sy_scope_laws.proofs.Formed.{sorts_pass, grammar_fits}
 use Rattle.sy_scope_laws.proofs.Placing.{none_among}
-use Rattle.sy_scope_steps.specs.Contexts.{Context, new_sought}
-use Rattle.sy_scope_steps.specs.Steps.{read_grammar, value_sort, synthesise}
+use Rattle.sy_scope_names.specs.Contexts.{Context, new_sought}
+use Rattle.sy_scope_names.specs.Changes.{value_sort}
+use Rattle.sy_scope_steps.specs.Steps.{read_grammar, synthesise}
 use Rattle.sy_scope_laws.specs.Sound.{defined_in, signatures_wanted, IsDeclared, ContextIsSound}
 use Rattle.sy_scope_laws.proofs.Declaring.{IsFree, new_sought_free, sought_sound}
 

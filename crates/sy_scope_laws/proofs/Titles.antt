@@ -4,10 +4,10 @@ use Rattle.std.proofs.Common.{arith, ap, sym, subst}
 use Rattle.std.proofs.lemmas.List.{length-map}
 use Rattle.sy_scope_causes.specs.declared.titles.Title.{Title}
 use Rattle.sy_grammar_base.specs.Questions.{Goal, Question}
-use Rattle.sy_forms_phrases.specs.declared.names.Named.{Named}
+use Rattle.sy_forms_names.specs.declared.names.Named.{Named}
 use Rattle.sy_reply.specs.Writable.{AreTitled}
-use Rattle.sy_scope_steps.specs.Contexts.{Context, Definition, Sought, goal_sought, body_of, question_at}
-use Rattle.sy_scope_steps.specs.Jobs.{title_of, titles_of}
+use Rattle.sy_scope_names.specs.Contexts.{Context, Definition, Sought, goal_sought, body_of, question_at}
+use Rattle.sy_scope_names.specs.Jobs.{title_of, titles_of}
 use Rattle.sy_reply.specs.Writable.{IsTitled}
 
 abbrev Names : Title → Goal → Type 0

@@ -1,12 +1,12 @@
 -- What files ask fits.
 use Rattle.std.specs.Prelude.{ℕ, Bool, List, Some, ◌≡◌, All, IfOk}
-use Rattle.sy_text.specs.Items.{Item}
+use Rattle.sy_text_items.specs.Items.{Item}
 use Rattle.sy_terms.specs.declared.op.Op.{Op}
 use Rattle.sy_terms.specs.declared.sort.Logic.{Logic}
 use Rattle.sy_terms.specs.declared.sort.Sort.{Sort}
 use Rattle.sy_terms.specs.Logics.{IsTheoryOf}
 use Rattle.sy_grammar_base.specs.Fits.{QuestionFits}
-use Rattle.sy_scope_steps.specs.Contexts.{Context}
+use Rattle.sy_scope_names.specs.Contexts.{Context}
 use Rattle.sy_scope_steps.specs.Files.{file_read}
 use Rattle.sy_scope_steps.specs.Steps.{step}
 use Rattle.sy_scope_laws.specs.Sound.{Sound}

@@ -4,11 +4,11 @@ use Rattle.sy_terms.specs.Fitting.{Scope}
 use Rattle.sy_terms.specs.declared.sort.Logic.{Logic}
 use Rattle.sy_terms.specs.declared.sort.Sort.{Sort}
 use Rattle.sy_grammar_base.specs.Formed.{is_known}
-use Rattle.sy_forms_phrases.specs.declared.names.Entity.{Entity}
-use Rattle.sy_forms_phrases.specs.declared.names.Named.{Named}
-use Rattle.sy_forms_phrases.specs.Environments.{sense_of}
-use Rattle.sy_forms_phrases.specs.Operators.{is_reserved}
-use Rattle.sy_scope_steps.specs.Lists.{sorts_of_names}
+use Rattle.sy_forms_names.specs.declared.names.Entity.{Entity}
+use Rattle.sy_forms_names.specs.declared.names.Named.{Named}
+use Rattle.sy_forms_names.specs.Environments.{sense_of}
+use Rattle.sy_forms_names.specs.Operators.{is_reserved}
+use Rattle.sy_scope_names.specs.Lists.{sorts_of_names}
 use Rattle.sy_scope_steps.specs.Grammars.{rules_under}
 use Rattle.sy_forms_laws.specs.Fitting.{Setting}
 use Rattle.sy_forms_laws.specs.Right.{EnvironmentIsRight}

@@ -7,17 +7,17 @@ use Rattle.sy_terms.specs.declared.sort.Logic.{Logic}
 use Rattle.sy_terms.specs.declared.sort.Sort.{Sort}
 use Rattle.sy_terms.specs.declared.sort.Sort.TheVariants as sorts
 use Rattle.sy_grammar_base.specs.Formed.{is_known}
-use Rattle.sy_forms_phrases.specs.Operators.{is_reserved}
+use Rattle.sy_forms_names.specs.Operators.{is_reserved}
 use Rattle.sy_forms_phrases.specs.Phrases.{Phrase}
-use Rattle.sy_forms_phrases.specs.declared.names.Entity.{Entity}
-use Rattle.sy_forms_phrases.specs.declared.names.Entity.TheVariants as entity
+use Rattle.sy_forms_names.specs.declared.names.Entity.{Entity}
+use Rattle.sy_forms_names.specs.declared.names.Entity.TheVariants as entity
 use Rattle.sy_terms.specs.Logics.{number_sorts, operators_of}
 use Rattle.sy_forms_laws.specs.Fitting.{Setting, phrase_sort}
 use Rattle.sy_grammar_base.specs.Fits.{with_functions, GoalFits, QuestionFits}
 use Rattle.sy_forms_laws.specs.Right.{Extends}
-use Rattle.sy_scope_steps.specs.Lists.{sorts_of_names}
-use Rattle.sy_scope_steps.specs.Contexts as contexts
-use Rattle.sy_scope_steps.specs.Contexts.{Context, Definition, Sought, Condition, beginning, condition_at, goal_sought}
+use Rattle.sy_scope_names.specs.Lists.{sorts_of_names}
+use Rattle.sy_scope_names.specs.Contexts as contexts
+use Rattle.sy_scope_names.specs.Contexts.{Context, Definition, Sought, Condition, beginning, condition_at, goal_sought}
 
 -- the signatures of the definitions and of the functions to be found
 abbrev pub defined_in : List Definition → List Signature

@@ -1,9 +1,9 @@
 -- Questions whose functions and definitions have names.
 use Rattle.std.specs.Prelude.{ℕ, ◌≤◌, List, length, All, IfOk}
 use Rattle.sy_reply.specs.Writable.{IsTitled}
-use Rattle.sy_scope_steps.specs.Contexts.{Context}
+use Rattle.sy_scope_names.specs.Contexts.{Context}
 use Rattle.sy_scope_steps.specs.Files.{file_read}
-use Rattle.sy_scope_steps.specs.Jobs.{titles_of}
+use Rattle.sy_scope_names.specs.Jobs.{titles_of}
 
 -- at most 16 questions, each titled by the names that are declared
 pub record AreNamed (context : Context) : Type 0 where

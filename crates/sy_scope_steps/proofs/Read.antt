@@ -2,31 +2,20 @@
 use Rattle.std.proofs.Common.{◌≡◌, ◌≤◌, ◌+◌, ◌∙◌, refl, sym, ap, arith, List, [], ◌∷◌, ◌++◌, length, Bool, true, false, cond, Some, None}
 use Rattle.std.specs.Prelude.{Ok, Err, nat_lt, Option}
 use Rattle.std.proofs.lemmas.Bool.{ltb-true}
-use Rattle.sy_text.specs.Items.{Item, Items, none, more, listed}
-use Rattle.sy_text.specs.declared.atom.Place.{Place}
+use Rattle.sy_text_items.specs.Items.{Item, Items, none, more, listed}
+use Rattle.sy_text_items.specs.declared.atom.Place.{Place}
 use Rattle.sy_terms.specs.declared.sort.Sort.{Sort}
 use Rattle.sy_scope_causes.specs.declared.cause.Cause.{Cause}
 use Rattle.sy_scope_causes.specs.declared.cause.Cause.TheVariants as cause
 use Rattle.sy_grammar_base.specs.Trees.{Production, Nonterminal}
-use Rattle.sy_forms_phrases.specs.declared.names.Named.{Named}
-use Rattle.sy_forms_phrases.specs.Environments.{Environment}
+use Rattle.sy_forms_names.specs.declared.names.Named.{Named}
+use Rattle.sy_forms_names.specs.Environments.{Environment}
 use Rattle.sy_forms_items.specs.Parts.{place_of}
 use Rattle.sy_forms_items.specs.Readings.{Reading, refuse, ◌>>=◌}
-use Rattle.sy_forms.specs.Rules.{Ruling, production_at, read_rule}
+use Rattle.sy_forms_phrases.specs.Productions.{Ruling, production_at}
+use Rattle.sy_forms.specs.Rules.{read_rule}
+use Rattle.sy_scope_names.proofs.Earlier.{bind_ok, if_ok, unless_ok}
 use Rattle.sy_scope_steps.specs.Grammars.{Collected, Grouped, GrownGrammar, with_rule, read_rules, grouped, is_group_of, opened, with_group, grammar_extended, read_grouped, read_group, read_groups}
-
--- what is read first, where all is read
-pub bind_ok : {A B : Type 0} (read : Reading A) (next : A → Reading B) (y : B) → (read >>= next) ≡ Ok y → (x : A) × (read ≡ Ok x) × (next x ≡ Ok y)
-bind_ok (Ok x) next y e = (x, refl, e)
-bind_ok (Err f) next y e = absurd (cc)
-
-pub if_ok : {A : Type 0} (b : Bool) (place : Place) (why : Cause) (read : Reading A) (y : A) → cond b read (refuse place why) ≡ Ok y → (b ≡ true) × (read ≡ Ok y)
-if_ok true place why read y e = (refl, e)
-if_ok false place why read y e = absurd (cc)
-
-pub unless_ok : {A : Type 0} (b : Bool) (place : Place) (why : Cause) (read : Reading A) (y : A) → cond b (refuse place why) read ≡ Ok y → (b ≡ false) × (read ≡ Ok y)
-unless_ok true place why read y e = absurd (cc)
-unless_ok false place why read y e = (refl, e)
 
 -- the rule that an item is
 pub record IsRule (env : Environment) (sort : Sort) (item : Item) (production : Production) : Type 0 where

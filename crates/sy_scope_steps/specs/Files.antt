@@ -1,13 +1,13 @@
 -- A file is a list of commands, each of which steps; or it has a first fault.
 use Rattle.std.specs.Prelude.{ℕ, zero, suc, ◌+◌, List, length, drop, Option, Some, None, Result, Ok, Err}
-use Rattle.sy_text.specs.Items.{Item}
-use Rattle.sy_text.specs.Reading.{command_at, offset_of}
-use Rattle.sy_text.specs.declared.fault.TextFault.{TextFault}
+use Rattle.sy_text_items.specs.Items.{Item}
+use Rattle.sy_text_reader.specs.Reading.{command_at, offset_of}
+use Rattle.sy_text_items.specs.declared.fault.TextFault.{TextFault}
 use Rattle.sy_scope_causes.specs.declared.cause.Cause.TheVariants as cause
 use Rattle.sy_scope_causes.specs.declared.cause.Refused.{Refused}
 use Rattle.sy_forms_items.specs.declared.fault.Fault.{Fault}
 use Rattle.sy_forms_items.specs.Readings.{Reading}
-use Rattle.sy_scope_steps.specs.Contexts.{Context, beginning}
+use Rattle.sy_scope_names.specs.Contexts.{Context, beginning}
 use Rattle.sy_scope_steps.specs.Steps.{step}
 
 -- the fault of the command of this number

@@ -1,22 +1,23 @@
 -- Written grammars: a predeclaration of nonterminals, and a group of rules for each.
 use Rattle.std.specs.Prelude.{ℕ, ◌+◌, List, [], ◌∷◌, ◌++◌, length, Bool, ◌&&◌, nat_lt, nat_eq, is_some, Option, Some, None, Ok, if◌then◌else◌}
-use Rattle.sy_text.specs.Items.{Item, leaf, group, Items, none, more, listed}
-use Rattle.sy_text.specs.declared.atom.Place.{Place}
+use Rattle.sy_text_items.specs.Items.{Item, leaf, group, Items, none, more, listed}
+use Rattle.sy_text_items.specs.declared.atom.Place.{Place}
 use Rattle.sy_terms.specs.Values.{Val}
 use Rattle.sy_terms.specs.declared.sort.Logic.{Logic}
 use Rattle.sy_terms.specs.declared.sort.Sort.{Sort}
 use Rattle.sy_scope_causes.specs.declared.cause.Cause.TheVariants as cause
 use Rattle.sy_grammar_base.specs.Trees.{Production, Syntax, Nonterminal}
-use Rattle.sy_forms_phrases.specs.declared.names.Entity.{Entity}
-use Rattle.sy_forms_phrases.specs.declared.names.Named.{Named}
-use Rattle.sy_forms_phrases.specs.declared.names.Role.TheVariants as role
-use Rattle.sy_forms_phrases.specs.Environments.{Environment}
+use Rattle.sy_forms_names.specs.declared.names.Entity.{Entity}
+use Rattle.sy_forms_names.specs.declared.names.Named.{Named}
+use Rattle.sy_forms_names.specs.declared.names.Role.TheVariants as role
+use Rattle.sy_forms_names.specs.Environments.{Environment}
 use Rattle.sy_forms_phrases.specs.Measures.{literals_in}
 use Rattle.sy_forms_items.specs.Parts.{symbol, place_of, has_no_items, is_symbol}
 use Rattle.sy_forms_items.specs.Readings.{Reading, refuse, ◌>>=◌}
-use Rattle.sy_forms.specs.Rules.{Ruling, Template, EachConstant, EachVariable, production_at, read_rule, constant_groups, has_sort}
-use Rattle.sy_scope_steps.specs.Requests.{Listed, Rulebook}
-use Rattle.sy_scope_steps.specs.Lists.{sorts_of_names, read_predeclared}
+use Rattle.sy_forms_phrases.specs.Productions.{Ruling, Template, EachConstant, EachVariable, production_at}
+use Rattle.sy_forms.specs.Rules.{read_rule, constant_groups, has_sort}
+use Rattle.sy_scope_commands.specs.Requests.{Listed, Rulebook}
+use Rattle.sy_scope_names.specs.Lists.{sorts_of_names, read_predeclared}
 
 -- Rules of one group
 

@@ -1,10 +1,4 @@
-pub mod Requests
-pub mod Asked
-pub mod Lists
-pub mod Grammars
-pub mod Seen
-pub mod Contexts
 pub mod Steps
 pub mod Files
-pub mod Jobs
-pub mod Known
+pub mod Grammars
+pub mod Seen

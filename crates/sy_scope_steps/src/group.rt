@@ -1,22 +1,23 @@
 // The rules of one nonterminal.
 ghost use Rattle.std.specs.Prelude.{◌≡◌, ◌<◌, ◌++◌, OnOk};
 ghost use Rattle.std.specs.Option.{option_map};
-ghost use Rattle.sy_text.specs.Views.{item_of};
+ghost use Rattle.sy_text_items.specs.Views.{item_of};
 ghost use Rattle.sy_terms.specs.Denoted.{vals_of};
-ghost use Rattle.sy_forms.specs.Rulings.{ruling_of};
+ghost use Rattle.sy_forms_phrases.specs.Rulings.{ruling_of};
 ghost use Rattle.sy_forms_items.specs.Readings.{ReadingGives};
-ghost use Rattle.sy_forms_phrases.specs.Seen.{environment_of};
+ghost use Rattle.sy_forms_names.specs.Seen.{environment_of};
 ghost use Rattle.sy_terms.specs.Logics.{Serves};
 ghost use Rattle.sy_forms_items.specs.Views.{items_in};
 ghost use Rattle.sy_scope_steps.specs.Grammars as spec;
 ghost use Rattle.sy_scope_steps.specs.Seen.{collected_of, grouped_of};
 
 use std::alloc::Global;
-use sy_forms::{Environment, ReadEnd, Rest, Ruling, place_of, read_rule, symbol};
+use sy_forms::{Environment, ReadEnd, Rest, place_of, read_rule, symbol};
+use sy_forms_phrases::Ruling;
 use sy_scope_causes::Cause;
 use sy_seq::{Seq, Want};
 use sy_terms::{Sort, Theory, Values};
-use sy_text::{Sexp, Sexps};
+use sy_text_items::{Sexp, Sexps};
 
 /// How many rules a grammar may have.
 const RULES_MAX: usize = 1024;

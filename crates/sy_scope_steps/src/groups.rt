@@ -1,10 +1,10 @@
 // Groups of rules, one for each nonterminal.
 ghost use Rattle.std.specs.Prelude.{◌≡◌, OnOk};
 ghost use Rattle.std.specs.Option.{option_map};
-ghost use Rattle.sy_text.specs.Views.{item_of};
+ghost use Rattle.sy_text_items.specs.Views.{item_of};
 ghost use Rattle.sy_forms_items.specs.Readings.{ReadingGives};
 ghost use Rattle.sy_forms.specs.Rules as rules;
-ghost use Rattle.sy_forms_phrases.specs.Seen.{environment_of};
+ghost use Rattle.sy_forms_names.specs.Seen.{environment_of};
 ghost use Rattle.sy_terms.specs.Logics.{Serves};
 ghost use Rattle.sy_forms_items.specs.Views.{items_in};
 ghost use Rattle.sy_scope_steps.specs.Grammars as spec;
@@ -12,18 +12,12 @@ ghost use Rattle.sy_scope_steps.specs.Seen.{collected_of, grouped_of, grown_gram
 
 use crate::group::{Collected, Grouped, group_parts, read_rules};
 use std::alloc::Global;
-use sy_forms::{Environment, Named, ReadEnd, Rest, Ruling, is_symbol, place_of, read_sort};
+use sy_forms::{Environment, Named, ReadEnd, Rest, is_symbol, place_of, read_sort};
 use sy_scope_causes::Cause;
+use sy_scope_names::Group;
 use sy_seq::{Seq, Want};
 use sy_terms::{Sort, Theory, Values, same_sort};
-use sy_text::{Place, Sexp, Sexps};
-
-/// A nonterminal: the sort of what it derives, and its rules as they are read.
-#[derive(Drop)]
-pub struct Group<T: Theory> {
-    pub sort: Sort,
-    pub rules: Seq<Ruling<T>>,
-}
+use sy_text_items::{Place, Sexp, Sexps};
 
 /// The nonterminals whose rules were read.
 #[derive(Drop)]

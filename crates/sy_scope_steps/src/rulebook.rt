@@ -1,22 +1,21 @@
 // Written grammars.
 ghost use Rattle.std.specs.Prelude.{◌≡◌};
 ghost use Rattle.sy_forms_items.specs.Readings.{ReadingGives};
-ghost use Rattle.sy_forms_phrases.specs.Seen.{environment_of};
+ghost use Rattle.sy_forms_names.specs.Seen.{environment_of};
 ghost use Rattle.sy_terms.specs.Logics.{Serves};
 ghost use Rattle.sy_scope_steps.specs.Grammars as spec;
 ghost use Rattle.sy_scope_steps.specs.Seen.{written_of};
-ghost use Rattle.sy_scope_steps.specs.Asked.{rulebook_of};
+ghost use Rattle.sy_scope_commands.specs.Asked.{rulebook_of};
 
-use crate::groups::{Group, read_groups};
-use crate::list::Naming;
-use crate::predeclared::read_predeclared;
-use crate::request::Rulebook;
+use crate::groups::read_groups;
 use std::alloc::Global;
 use sy_forms::{Environment, Named, ReadEnd, Rest, Role, constant_groups};
 use sy_scope_causes::Cause;
+use sy_scope_commands::Rulebook;
+use sy_scope_names::{Group, Naming, read_predeclared};
 use sy_seq::Seq;
 use sy_terms::{Sort, Theory, Values};
-use sy_text::{Place, Sexps};
+use sy_text_items::{Place, Sexps};
 
 /// A grammar that was read: its nonterminals, and the values that were written in its rules, in the order of writing.
 #[derive(Drop)]

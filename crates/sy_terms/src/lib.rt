@@ -8,9 +8,9 @@ mod term;
 mod theory;
 mod values;
 
-pub use op::{Op, spell};
+pub use op::Op;
 pub use sort::{Logic, Sort, Value};
-pub use sorts::{Sorted, operator_sort, same_sort};
+pub use sorts::{Sorted, same_sort};
 pub use sy_seq::{Seq, Want};
 pub use term::{Bodies, Def, Defs, Fun, Term, Terms};
 pub use theory::{Applied, Theory};

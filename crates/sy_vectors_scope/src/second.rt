@@ -1,6 +1,6 @@
 // A second reading for the tests: it takes one byte after the other, and atoms by a table of states.
 use std::process::Abort;
-use sy_text::TextFault;
+use sy_text_items::TextFault;
 
 const SYMBOLS: &[u8] =
     b"0123456789abcdefghijklmnopqrstuvwxyzABCDEFGHIJKLMNOPQRSTUVWXYZ~!@$%^&*_-+=<>.?/";

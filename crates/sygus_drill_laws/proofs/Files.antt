@@ -3,20 +3,20 @@ use Rattle.std.proofs.Common.{◌≡◌, ℕ, zero, suc, ◌+◌, ◌-◌, ◌%�
 use Rattle.std.specs.Prelude.{codes}
 use Rattle.std.proofs.lemmas.List.{append-nil}
 use Rattle.std.specs.List.{flat_map, range_with_len}
-use Rattle.sy_text.specs.Items.{Item}
-use Rattle.sy_text.specs.Lexicon.{space}
-use Rattle.sy_text.specs.Reading.{command_at, after_layout}
-use Rattle.sy_text.specs.Spelling.{parted}
-use Rattle.sy_text.proofs.Nested.{command_none}
+use Rattle.sy_text_items.specs.Items.{Item}
+use Rattle.sy_text_items.specs.Lexicon.{space}
+use Rattle.sy_text_reader.specs.Reading.{command_at, after_layout}
+use Rattle.sy_text_reader.specs.Spelling.{parted}
+use Rattle.sy_text_reader.proofs.Nested.{command_none}
 use Rattle.sy_terms.specs.Values.{Val, Bits}
 use Rattle.sy_terms.specs.declared.sort.Logic.TheVariants.{Bv}
 use Rattle.sy_scope_causes.specs.declared.cause.Refused.{Refused}
 use Rattle.sy_forms_phrases.specs.Phrases.{expr_at, exprs_at}
 use Rattle.sy_scope_pool.specs.Pools.{pooled}
-use Rattle.sy_scope_steps.specs.Contexts.{Context, Condition, Written, beginning, with_logic, condition_at, question_at}
+use Rattle.sy_scope_names.specs.Contexts.{Context, Condition, Written, beginning, with_logic, condition_at, question_at}
 use Rattle.sy_scope_steps.specs.Files.{file_from, file_read, command_read, read_as, after_command}
-use Rattle.sy_scope_steps.specs.Jobs.{wish_of, wished}
-use Rattle.sy_scope_steps.specs.Steps.{with_question}
+use Rattle.sy_scope_names.specs.Jobs.{wish_of, wished}
+use Rattle.sy_scope_names.specs.Changes.{with_question}
 use Rattle.sygus_drill.specs.Examples.{examples, example_of, state_at}
 use Rattle.sygus_drill.specs.Files.{drill_file, function, line, constraint}
 use Rattle.sygus_drill.specs.declared.generator.Example.{Example}

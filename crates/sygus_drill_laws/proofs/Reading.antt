@@ -1,13 +1,13 @@
 -- A file is read command by command.
 use Rattle.std.proofs.Common.{◌≡◌, ℕ, suc, ◌+◌, ◌-◌, ◌≤◌, true, false, List, ◌++◌, length, drop, Option, Some, Result, Ok, ap, ◌∙◌, arith, length-append}
 use Rattle.std.proofs.Math.Seq.{drop-append_seam}
-use Rattle.sy_text.specs.Items.{Item}
-use Rattle.sy_text.specs.Grammar.{is_layout}
-use Rattle.sy_text.specs.Reading.{command_at}
-use Rattle.sy_text.specs.Spelling.{parted}
+use Rattle.sy_text_items.specs.Items.{Item}
+use Rattle.sy_text_reader.specs.Grammar.{is_layout}
+use Rattle.sy_text_reader.specs.Reading.{command_at}
+use Rattle.sy_text_reader.specs.Spelling.{parted}
 use Rattle.sy_scope_causes.specs.declared.cause.Refused.{Refused}
 use Rattle.sy_forms_items.specs.Readings.{Reading}
-use Rattle.sy_scope_steps.specs.Contexts.{Context}
+use Rattle.sy_scope_names.specs.Contexts.{Context}
 use Rattle.sy_scope_steps.specs.Files.{FileOutcome, file_from, read_as, command_read, then_next, after_command}
 use Rattle.sy_scope_steps.specs.Steps.{step}
 use Rattle.sygus_drill_laws.proofs.Laid.{Laid, item_in, text_in, lists, Stands, placed, command_laid}

@@ -12,7 +12,7 @@ use Rattle.sy_grammar_base.specs.Patterns.{Constant, Variable, Occurrence, Apply
 use Rattle.sy_grammar_base.specs.Trees.{Syntax, Template}
 use Rattle.sy_grammar_base.specs.Questions.{Question}
 use Rattle.sy_scope_steps.specs.Files.{file_read}
-use Rattle.sy_scope_steps.specs.Jobs.{Wish, wished}
+use Rattle.sy_scope_names.specs.Jobs.{Wish, wished}
 use Rattle.sygus_drill.specs.Examples.{examples}
 use Rattle.sygus_drill.specs.Files.{drill_file}
 use Rattle.sygus_drill.specs.declared.generator.Example.{Example}

@@ -11,9 +11,9 @@ use Rattle.sy_grammar_base.specs.Fits.{QuestionFits}
 use Rattle.sy_grammar_base.specs.Questions.{question_of}
 use Rattle.sy_grammar_base.specs.declared.problem.Problem.{Problem}
 use Rattle.sy_scope.specs.Fit.{ProblemsFit}
-use Rattle.sy_scope_steps.specs.Contexts.{Context}
+use Rattle.sy_scope_names.specs.Contexts.{Context}
 use Rattle.sy_scope_steps.specs.Files.{file_read}
-use Rattle.sy_scope_steps.specs.Jobs.{Wish, wish_of, wished}
+use Rattle.sy_scope_names.specs.Jobs.{Wish, wish_of, wished}
 use Rattle.sy_reply.specs.Writable.{IsTitled}
 use Rattle.sy_scope_laws.specs.Titled.{AreNamed}
 use Rattle.sy_scope_laws.proofs.FilesNamed.{files_named}

@@ -13,7 +13,7 @@ use Rattle.sy_loop_history.specs.Histories.{Counterexample}
 use Rattle.sy_loop_outcome.specs.declared.outcome.Outcome.{Outcome}
 use Rattle.sy_loop_outcome.specs.declared.outcome.Outcome.TheVariants.{Found, Infeasible, Fail}
 use Rattle.sy_loop.specs.Least.{FindsLeast}
-use Rattle.sy_loop_beyond.specs.Clauses.{IsFoundFor}
+use Rattle.sy_loop_bodies.specs.Clauses.{IsFoundFor}
 use Rattle.sygus_run.specs.Finding.{FindsBeyond, HasLeft, IsFull, SolvesBeyondFor}
 
 -- what is of the least bound is found so

@@ -21,7 +21,7 @@ use Rattle.sy_scope.specs.Read.{wish_in}
 use Rattle.sy_scope.specs.declared.job.Job.TheVariants as jobs
 use Rattle.sy_scope_causes.specs.declared.cause.Refused.{Refused}
 use Rattle.sy_scope_steps.specs.Files.{file_read}
-use Rattle.sy_scope_steps.specs.Jobs.{Wish, wished}
+use Rattle.sy_scope_names.specs.Jobs.{Wish, wished}
 use Rattle.sy_scope_causes.specs.declared.titles.Titles.{Titles}
 use Rattle.sygus_run.specs.RightAnswers.{RightOutcome}
 use Rattle.sygus_run.specs.DrillAnswers.{AnswersDrill}

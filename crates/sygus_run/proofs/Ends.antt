@@ -6,7 +6,7 @@ use Rattle.sy_io.specs.Causes.{Rose}
 use Rattle.sy_io.specs.Source.{Holding}
 use Rattle.sy_query_limits.specs.declared.Limits.{Limits}
 use Rattle.sy_scope_steps.specs.Files.{file_read}
-use Rattle.sy_scope_steps.specs.Jobs.{Wish, wished}
+use Rattle.sy_scope_names.specs.Jobs.{Wish, wished}
 use Rattle.sygus_input.specs.Inputs.{AskDrill, AskFile, HasNoInput, HaveNoReading}
 use Rattle.sygus_input.specs.declared.input.InputFault.{InputFault}
 use Rattle.sygus_input.specs.declared.input.InputFault.TheVariants as faults

@@ -8,7 +8,7 @@ use Rattle.sy_meaning_words.specs.declared.word.Word.{Word}
 use Rattle.sy_query_limits.specs.declared.Limits.{Limits}
 use Rattle.sy_scope.specs.Fit.{ProblemsFit}
 use Rattle.sy_scope_steps.specs.Files.{file_read}
-use Rattle.sy_scope_steps.specs.Jobs.{Wish, wished}
+use Rattle.sy_scope_names.specs.Jobs.{Wish, wished}
 use Rattle.sygus_drill.specs.Files.{drill_file}
 use Rattle.sygus_drill.specs.Lines.{drill_line}
 use Rattle.sygus_drill_laws.specs.Asked.{Asks}

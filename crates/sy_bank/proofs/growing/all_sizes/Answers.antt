@@ -12,7 +12,7 @@ use Rattle.sy_bank_laws.proofs.Next.{whole-covers}
 use Rattle.sy_bank_level.specs.Bank.{merged_of}
 use Rattle.sy_bank.specs.Promised.{Stays, IsBank, BankIsFull}
 use Rattle.sy_bank.proofs.Ends.{end-bank, end-stays, handed-on, handed-on-full, some-dropped}
-use Rattle.sy_bank.proofs.Exits.{never-ok}
+use Rattle.sy_bank_level.proofs.Exits.{never-ok}
 use Rattle.sy_bank.proofs.growing.all_sizes.Goals as goal
 use Rattle.sy_bank.proofs.growing.all_sizes.Goals.{then-loop-bank-test+else-len-upto, else-loop-bank-test}
 

@@ -1,6 +1,6 @@
 use Rattle.sy_bank_level.specs.Task.{world, level_state_of, IsStop}
 use Rattle.sy_bank_level.specs.declared.filling.Stop.TheVariants.{Want}
-use Rattle.sy_bank.proofs.Exits.{not-ok, ends}
+use Rattle.sy_bank_level.proofs.Exits.{not-ok, ends}
 use Rattle.sy_bank.proofs.rules.try_part.Goals as goal
 
 pub choose-requires-clause-task : goal.choose-requires-clause-task

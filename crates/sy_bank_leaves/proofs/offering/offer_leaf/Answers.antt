@@ -1,12 +1,15 @@
 use Rattle.std.proofs.Common.{◌≡◌, ◌∙◌, sym, length}
 use Rattle.std.proofs.lemmas.List.{length-map}
+use Rattle.std.proofs.lemmas.Result.{IfOk-from_err}
 use Rattle.sy_terms.specs.Denoted.{vals_of, expr_of}
 use Rattle.sy_grammar_base.specs.Grown.{tree_of}
 use Rattle.sy_bank_rows.specs.Shared.{term_from-Leaf, tree_from-Leaf}
-use Rattle.sy_bank_level.specs.Task.{world, level_state_of, level_of}
-use Rattle.sy_bank_offer.proofs.Given.{new-row, found-done}
-use Rattle.sy_bank_offer.proofs.Nodes.{derived-fits}
+use Rattle.sy_bank_level.specs.Task.{world, IsStop, level_state_of, level_of}
+use Rattle.sy_bank_level.proofs.Given.{new-row, found-done}
+use Rattle.sy_bank_level.proofs.Nodes.{derived-fits}
 use Rattle.sy_bank_leaves.proofs.Offered.{leaf-right}
+use Rattle.sy_bank_level.specs.declared.filling.Stop.TheVariants.{Want}
+use Rattle.sy_bank_level.proofs.Exits.{ends}
 use Rattle.sy_bank_leaves.proofs.offering.offer_leaf.Goals as goal
 
 pub term_row-requires-clause-points : goal.term_row-requires-clause-points
@@ -45,3 +48,26 @@ keep-requires-clause-differs g c =
 
 pub returns-clause-done : goal.returns-clause-done
 returns-clause-done g c = rw (c.in_ok-new.ensures.ok, term_from-Leaf) at c.keep.ensures.done
+
+pub returns-in_err-new-clause-steady : goal.returns-in_err-new-clause-steady
+returns-in_err-new-clause-steady g c = IfOk-from_err c.from_residual.result _ c.from_residual.ensures.0
+
+pub returns-in_err-new-clause-grows : goal.returns-in_err-new-clause-grows
+returns-in_err-new-clause-grows g c = IfOk-from_err c.from_residual.result _ c.from_residual.ensures.0
+
+pub returns-in_err-new-clause-done : goal.returns-in_err-new-clause-done
+returns-in_err-new-clause-done g c = IfOk-from_err c.from_residual.result _ c.from_residual.ensures.0
+
+pub returns-in_err-new-clause-stop : goal.returns-in_err-new-clause-stop
+returns-in_err-new-clause-stop g c =
+    let number = g.T.Theory.denotes in
+    ends (IsStop number (world g.T.Theory.owned number c.args.task.now) (level_state_of number c.args.filling.now)) c.from_residual.result Want c.from_residual.ensures.1 tt
+
+pub returns-clause-steady : goal.returns-clause-steady
+returns-clause-steady g c = c.keep.ensures.steady
+
+pub returns-clause-grows : goal.returns-clause-grows
+returns-clause-grows g c = c.keep.ensures.grows
+
+pub returns-clause-stop : goal.returns-clause-stop
+returns-clause-stop g c = c.keep.ensures.stop

@@ -2,7 +2,7 @@ use Rattle.std.proofs.Common.{◌≡◌, ◌+◌, ◌-◌, ◌*◌, ◌<◌, ◌
 use Rattle.std.specs.Prelude.{min}
 use Rattle.std.specs.List.{fold}
 use Rattle.std.proofs.lemmas.List.{take_more}
-use Rattle.sy_text.specs.Lexicon.{digit_value, value_in}
+use Rattle.sy_text_items.specs.Lexicon.{digit_value, value_in}
 use Rattle.sy_forms.proofs.literal.capped_value.Goals as goal
 
 fold_last : (f : ℕ → ℕ → ℕ) (z : ℕ) (xs : List ℕ) (x : ℕ) → fold f z (xs ++ x ∷ []) ≡ f (fold f z xs) x

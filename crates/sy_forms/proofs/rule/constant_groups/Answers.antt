@@ -1,9 +1,9 @@
 use Rattle.std.proofs.Common.{◌≡◌, ◌≤◌, ◌+◌, ◌∙◌, ℕ, zero, suc, List, [], ◌∷◌, ◌++◌, length, drop, refl, sym, ap, arith}
-use Rattle.sy_text.specs.Items.{listed}
+use Rattle.sy_text_items.specs.Items.{listed}
 use Rattle.sy_forms.specs.Rules.{constant_groups}
-use Rattle.sy_forms_phrases.specs.Seen.{environment_of}
+use Rattle.sy_forms_names.specs.Seen.{environment_of}
 use Rattle.sy_forms_items.specs.Views.{items_in}
-use Rattle.sy_forms_phrases.proofs.Lookups.{found_at, drop-at}
+use Rattle.sy_forms_names.proofs.Lookups.{found_at, drop-at}
 use Rattle.sy_forms.proofs.rule.constant_groups.Goals as goal
 
 push_assoc : {A : Type 0} (xs : List A) (x : A) (ys : List A) → (xs ++ x ∷ []) ++ ys ≡ xs ++ x ∷ ys

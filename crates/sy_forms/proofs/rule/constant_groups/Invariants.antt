@@ -1,7 +1,7 @@
 use Rattle.std.proofs.Common.{◌≡◌, ◌++◌, drop}
-use Rattle.sy_text.specs.Items.{listed}
+use Rattle.sy_text_items.specs.Items.{listed}
 use Rattle.sy_forms.specs.Rules as spec
-use Rattle.sy_forms_phrases.specs.Seen.{environment_of}
+use Rattle.sy_forms_names.specs.Seen.{environment_of}
 use Rattle.sy_forms_items.specs.Views.{items_in}
 use Rattle.sy_forms.proofs.rule.constant_groups.Given as goal
 

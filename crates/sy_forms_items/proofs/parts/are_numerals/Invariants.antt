@@ -1,5 +1,5 @@
 use Rattle.std.proofs.Common.{◌≡◌, length}
-use Rattle.sy_text.specs.Items.{listed}
+use Rattle.sy_text_items.specs.Items.{listed}
 use Rattle.sy_forms_items.specs.Parts as spec
 use Rattle.sy_forms_items.specs.Views.{items_in}
 use Rattle.sy_forms_items.proofs.parts.are_numerals.Given as goal

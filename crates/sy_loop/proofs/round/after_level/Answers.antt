@@ -1,12 +1,13 @@
 use Rattle.std.proofs.Common.{arith, map, ◌+◌, ◌≡◌, refl, inr, subst}
 use Rattle.std.proofs.lemmas.List.{length-map}
+use Rattle.std.proofs.lemmas.Result.{IfOk-from_err}
 use Rattle.sy_grammar_base.specs.Questions.{question_of, goal_of}
 use Rattle.sy_bank_level.specs.Bank.{merged_of}
 use Rattle.sy_loop_history.specs.Stored.{history_of}
 use Rattle.sy_loop_laws.specs.Refuting.{AreDoneBelow}
 use Rattle.sy_loop_laws.proofs.Refuted.{assumes_nothing}
-use Rattle.sy_loop.specs.Dropping.{DroppedNothing}
-use Rattle.sy_loop.proofs.Carrying.{carried_on}
+use Rattle.sy_loop_banks.specs.Dropping.{DroppedNothing}
+use Rattle.sy_loop_banks.proofs.Carrying.{carried_on}
 use Rattle.sy_loop.proofs.Completing.{level_open, next_done, nothing_within, trees_done}
 use Rattle.sy_loop.proofs.Rounding.{next_less}
 use Rattle.sy_loop.proofs.round.after_level.Goals as goal
@@ -61,3 +62,33 @@ exhausted-requires g c =
     nothing_within c.args.reach question c.args.limits.now history c.args.known.points c.requires.strict c.requires.known
     (subst (AreDoneBelow c.args.reach question history c.args.known.points) size
     (next_done question c.args.limits.now history c.args.known.points c.args.level banks c.args.reach (assumes_nothing g.T.Theory.owned question c.requires.problem.assumptions) c.requires.banks whole c.requires.refuted c.requires.trees c.requires.done))
+
+pub returns-in_err-left-clause-round : goal.returns-in_err-left-clause-round
+returns-in_err-left-clause-round g c = IfOk-from_err c.from_residual.result _ c.from_residual.ensures.0
+
+pub returns-in_err-left-clause-carries : goal.returns-in_err-left-clause-carries
+returns-in_err-left-clause-carries g c = IfOk-from_err c.from_residual.result _ c.from_residual.ensures.0
+
+pub returns-in_err-left-clause-done : goal.returns-in_err-left-clause-done
+returns-in_err-left-clause-done g c = IfOk-from_err c.from_residual.result _ c.from_residual.ensures.0
+
+pub returns-in_err-left-clause-follows : goal.returns-in_err-left-clause-follows
+returns-in_err-left-clause-follows g c = IfOk-from_err c.from_residual.result _ c.from_residual.ensures.0
+
+pub returns-in_err-left-clause-least : goal.returns-in_err-left-clause-least
+returns-in_err-left-clause-least g c = IfOk-from_err c.from_residual.result _ c.from_residual.ensures.0
+
+pub returns-in_err-outcome-clause-round : goal.returns-in_err-outcome-clause-round
+returns-in_err-outcome-clause-round g c = IfOk-from_err c.from_residual-in_err-outcome.result _ c.from_residual-in_err-outcome.ensures.0
+
+pub returns-in_err-outcome-clause-carries : goal.returns-in_err-outcome-clause-carries
+returns-in_err-outcome-clause-carries g c = IfOk-from_err c.from_residual-in_err-outcome.result _ c.from_residual-in_err-outcome.ensures.0
+
+pub returns-in_err-outcome-clause-done : goal.returns-in_err-outcome-clause-done
+returns-in_err-outcome-clause-done g c = IfOk-from_err c.from_residual-in_err-outcome.result _ c.from_residual-in_err-outcome.ensures.0
+
+pub returns-in_err-outcome-clause-follows : goal.returns-in_err-outcome-clause-follows
+returns-in_err-outcome-clause-follows g c = IfOk-from_err c.from_residual-in_err-outcome.result _ c.from_residual-in_err-outcome.ensures.0
+
+pub returns-in_err-outcome-clause-least : goal.returns-in_err-outcome-clause-least
+returns-in_err-outcome-clause-least g c = IfOk-from_err c.from_residual-in_err-outcome.result _ c.from_residual-in_err-outcome.ensures.0

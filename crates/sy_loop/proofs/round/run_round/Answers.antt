@@ -1,18 +1,19 @@
 use Rattle.std.proofs.Common.{arith, map, [], refl, inl, sym, subst}
 use Rattle.std.proofs.lemmas.List.{length-map}
+use Rattle.std.proofs.lemmas.Result.{IfOk-from_err}
 use Rattle.sy_grammar_base.specs.Questions.{question_of}
 use Rattle.sy_bank_rows.specs.Stored.{entry_of}
 use Rattle.sy_bank_level.specs.Bank.{merged_of}
 use Rattle.sy_loop_history.specs.Stored.{counterexample_of, history_of}
 use Rattle.sy_loop_candidate.proofs.Ending.{room_in}
 use Rattle.sy_loop_laws.proofs.Done as done
-use Rattle.sy_loop.specs.Banks.{AreBanks}
-use Rattle.sy_loop.specs.Levels.{AllAreRefuted}
+use Rattle.sy_loop_banks.specs.Banks.{AreBanks}
+use Rattle.sy_loop_level.specs.Levels.{AllAreRefuted}
 use Rattle.sy_loop.specs.Trees.{TreesFollow}
-use Rattle.sy_loop.proofs.Building.{bank_met}
+use Rattle.sy_loop_banks.proofs.Building.{bank_met}
 use Rattle.sy_loop.proofs.Honest.{honest_banks}
 use Rattle.sy_loop.proofs.Completing.{level_open, same_done, same_follow}
-use Rattle.sy_loop_join.proofs.Going.{same_room}
+use Rattle.sy_loop_candidate.proofs.Going.{same_room}
 use Rattle.sy_loop.proofs.Rounding.{again_less, rounds_from}
 use Rattle.sy_loop.proofs.round.run_round.Goals as goal
 
@@ -100,3 +101,57 @@ returns-clause-round g c =
     let goes = rw c.in-Next.is at c.in_ok-try_size.ensures.step in
     rounds_from g.T.Theory.owned g.T.Theory.denotes g.D.Decide.accepted g.D.Decide.budget g.D.Decide.shows c.args.reach (question_of g.T.Theory.denotes c.args.problem.now) c.args.limits.now (history_of g.T.Theory.denotes c.args.known.stored) (history_of g.T.Theory.denotes c.try_size.new.known.stored)
     c.args.known.points c.try_size.new.known.points c.args.level c.in_ok-round.round goes.0 goes.1 c.in_ok-round.ensures.round
+
+pub returns-in_err-taken-clause-plan : goal.returns-in_err-taken-clause-plan
+returns-in_err-taken-clause-plan g c = IfOk-from_err c.from_residual.result _ c.from_residual.ensures.0
+
+pub returns-in_err-taken-clause-round : goal.returns-in_err-taken-clause-round
+returns-in_err-taken-clause-round g c = IfOk-from_err c.from_residual.result _ c.from_residual.ensures.0
+
+pub returns-in_err-taken-clause-carries : goal.returns-in_err-taken-clause-carries
+returns-in_err-taken-clause-carries g c = IfOk-from_err c.from_residual.result _ c.from_residual.ensures.0
+
+pub returns-in_err-taken-clause-done : goal.returns-in_err-taken-clause-done
+returns-in_err-taken-clause-done g c = IfOk-from_err c.from_residual.result _ c.from_residual.ensures.0
+
+pub returns-in_err-taken-clause-follows : goal.returns-in_err-taken-clause-follows
+returns-in_err-taken-clause-follows g c = IfOk-from_err c.from_residual.result _ c.from_residual.ensures.0
+
+pub returns-in_err-taken-clause-least : goal.returns-in_err-taken-clause-least
+returns-in_err-taken-clause-least g c = IfOk-from_err c.from_residual.result _ c.from_residual.ensures.0
+
+pub returns-in_err-try_size-clause-plan : goal.returns-in_err-try_size-clause-plan
+returns-in_err-try_size-clause-plan g c = IfOk-from_err c.from_residual-in_err-try_size.result _ c.from_residual-in_err-try_size.ensures.0
+
+pub returns-in_err-try_size-clause-round : goal.returns-in_err-try_size-clause-round
+returns-in_err-try_size-clause-round g c = IfOk-from_err c.from_residual-in_err-try_size.result _ c.from_residual-in_err-try_size.ensures.0
+
+pub returns-in_err-try_size-clause-carries : goal.returns-in_err-try_size-clause-carries
+returns-in_err-try_size-clause-carries g c = IfOk-from_err c.from_residual-in_err-try_size.result _ c.from_residual-in_err-try_size.ensures.0
+
+pub returns-in_err-try_size-clause-done : goal.returns-in_err-try_size-clause-done
+returns-in_err-try_size-clause-done g c = IfOk-from_err c.from_residual-in_err-try_size.result _ c.from_residual-in_err-try_size.ensures.0
+
+pub returns-in_err-try_size-clause-follows : goal.returns-in_err-try_size-clause-follows
+returns-in_err-try_size-clause-follows g c = IfOk-from_err c.from_residual-in_err-try_size.result _ c.from_residual-in_err-try_size.ensures.0
+
+pub returns-in_err-try_size-clause-least : goal.returns-in_err-try_size-clause-least
+returns-in_err-try_size-clause-least g c = IfOk-from_err c.from_residual-in_err-try_size.result _ c.from_residual-in_err-try_size.ensures.0
+
+pub returns-in_err-round-clause-plan : goal.returns-in_err-round-clause-plan
+returns-in_err-round-clause-plan g c = IfOk-from_err c.from_residual-in_err-round.result _ c.from_residual-in_err-round.ensures.0
+
+pub returns-in_err-round-clause-round : goal.returns-in_err-round-clause-round
+returns-in_err-round-clause-round g c = IfOk-from_err c.from_residual-in_err-round.result _ c.from_residual-in_err-round.ensures.0
+
+pub returns-in_err-round-clause-carries : goal.returns-in_err-round-clause-carries
+returns-in_err-round-clause-carries g c = IfOk-from_err c.from_residual-in_err-round.result _ c.from_residual-in_err-round.ensures.0
+
+pub returns-in_err-round-clause-done : goal.returns-in_err-round-clause-done
+returns-in_err-round-clause-done g c = IfOk-from_err c.from_residual-in_err-round.result _ c.from_residual-in_err-round.ensures.0
+
+pub returns-in_err-round-clause-follows : goal.returns-in_err-round-clause-follows
+returns-in_err-round-clause-follows g c = IfOk-from_err c.from_residual-in_err-round.result _ c.from_residual-in_err-round.ensures.0
+
+pub returns-in_err-round-clause-least : goal.returns-in_err-round-clause-least
+returns-in_err-round-clause-least g c = IfOk-from_err c.from_residual-in_err-round.result _ c.from_residual-in_err-round.ensures.0

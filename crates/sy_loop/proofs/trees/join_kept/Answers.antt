@@ -1,12 +1,13 @@
 use Rattle.std.proofs.Common.{Some, map, slice_get, ◌≡◌}
+use Rattle.std.proofs.lemmas.Result.{IfOk-from_err}
 use Rattle.sy_terms.specs.Definitions.{scope_of}
 use Rattle.sy_grammar_base.specs.Questions.{question_of}
 use Rattle.sy_bank_level.specs.Bank.{merged_of}
 use Rattle.sy_loop_history.specs.Stored.{history_of}
-use Rattle.sy_loop_join.proofs.Going.{next_weaker}
+use Rattle.sy_loop_candidate.proofs.Going.{next_weaker}
 use Rattle.sy_loop_join.specs.Joining.{TreesFollowFrom}
 use Rattle.sy_loop.specs.Trees.{TreesFollow}
-use Rattle.sy_loop.proofs.Choosing.{bank_at}
+use Rattle.sy_loop_level.proofs.Choosing.{bank_at}
 use Rattle.sy_loop.proofs.Following.{first_follow, first_joinable, none_follow}
 use Rattle.sy_loop.proofs.trees.join_kept.Goals as goal
 
@@ -31,3 +32,15 @@ returns-clause-trees g c =
     let bank = merged_of number c.in-Some-get.bank.now in
     let at : slice_get banks 0 ≡ Some bank = bank_at (merged_of number) c.args.banks.now 0 c.in-Some-get.bank.now c.in-Some-get.ensures.lookup.3.0 c.in-Some-get.ensures.lookup.1 in
     next_weaker (TreesFollowFrom c.args.reach question history asked c.args.level bank) (TreesFollow c.args.reach question history asked c.args.level banks) c.in_ok-step.step (first_follow c.args.reach question history asked c.args.level banks bank at) c.in_ok-step.ensures.trees
+
+pub returns-in_err-step-clause-plan : goal.returns-in_err-step-clause-plan
+returns-in_err-step-clause-plan g c = IfOk-from_err c.from_residual.result _ c.from_residual.ensures.0
+
+pub returns-in_err-step-clause-known : goal.returns-in_err-step-clause-known
+returns-in_err-step-clause-known g c = IfOk-from_err c.from_residual.result _ c.from_residual.ensures.0
+
+pub returns-in_err-step-clause-step : goal.returns-in_err-step-clause-step
+returns-in_err-step-clause-step g c = IfOk-from_err c.from_residual.result _ c.from_residual.ensures.0
+
+pub returns-in_err-step-clause-trees : goal.returns-in_err-step-clause-trees
+returns-in_err-step-clause-trees g c = IfOk-from_err c.from_residual.result _ c.from_residual.ensures.0

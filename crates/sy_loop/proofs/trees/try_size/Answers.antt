@@ -1,12 +1,13 @@
 use Rattle.std.proofs.Common.{map, sym, subst, []}
+use Rattle.std.proofs.lemmas.Result.{IfOk-from_err}
 use Rattle.sy_terms.specs.Definitions.{scope_of}
 use Rattle.sy_grammar_base.specs.Questions.{question_of}
 use Rattle.sy_bank_level.specs.Bank.{merged_of}
 use Rattle.sy_loop_history.specs.Histories.{IsOpenNumber}
 use Rattle.sy_loop_history.specs.Stored.{history_of}
-use Rattle.sy_loop_join.proofs.Going.{goes_after, next_always, same_room}
-use Rattle.sy_loop_join.specs.Going.{OnNext}
-use Rattle.sy_loop.specs.Levels.{AreHonest, AllAreRefuted}
+use Rattle.sy_loop_candidate.proofs.Going.{goes_after, next_always, same_room}
+use Rattle.sy_loop_candidate.specs.Going.{OnNext}
+use Rattle.sy_loop_level.specs.Levels.{AreHonest, AllAreRefuted}
 use Rattle.sy_loop.specs.Trees.{TreesFollow}
 use Rattle.sy_loop.proofs.trees.try_size.Goals as goal
 
@@ -43,3 +44,33 @@ returns-clause-trees g c =
     let goes = rw c.in-Next.is at c.in_ok-try_level.ensures.step in
     subst (λ history. OnNext (TreesFollow c.args.reach question history c.args.known.now.points c.args.level banks) c.in_ok-step.step) goes.0
     (subst (λ asked. OnNext (TreesFollow c.args.reach question (history_of g.T.Theory.denotes c.try_level.new.known.stored) asked c.args.level banks) c.in_ok-step.step) goes.1 c.in_ok-step.ensures.trees)
+
+pub returns-in_err-try_level-clause-plan : goal.returns-in_err-try_level-clause-plan
+returns-in_err-try_level-clause-plan g c = IfOk-from_err c.from_residual.result _ c.from_residual.ensures.0
+
+pub returns-in_err-try_level-clause-known : goal.returns-in_err-try_level-clause-known
+returns-in_err-try_level-clause-known g c = IfOk-from_err c.from_residual.result _ c.from_residual.ensures.0
+
+pub returns-in_err-try_level-clause-step : goal.returns-in_err-try_level-clause-step
+returns-in_err-try_level-clause-step g c = IfOk-from_err c.from_residual.result _ c.from_residual.ensures.0
+
+pub returns-in_err-try_level-clause-refuted : goal.returns-in_err-try_level-clause-refuted
+returns-in_err-try_level-clause-refuted g c = IfOk-from_err c.from_residual.result _ c.from_residual.ensures.0
+
+pub returns-in_err-try_level-clause-trees : goal.returns-in_err-try_level-clause-trees
+returns-in_err-try_level-clause-trees g c = IfOk-from_err c.from_residual.result _ c.from_residual.ensures.0
+
+pub returns-in_err-step-clause-plan : goal.returns-in_err-step-clause-plan
+returns-in_err-step-clause-plan g c = IfOk-from_err c.from_residual-in_err-step.result _ c.from_residual-in_err-step.ensures.0
+
+pub returns-in_err-step-clause-known : goal.returns-in_err-step-clause-known
+returns-in_err-step-clause-known g c = IfOk-from_err c.from_residual-in_err-step.result _ c.from_residual-in_err-step.ensures.0
+
+pub returns-in_err-step-clause-step : goal.returns-in_err-step-clause-step
+returns-in_err-step-clause-step g c = IfOk-from_err c.from_residual-in_err-step.result _ c.from_residual-in_err-step.ensures.0
+
+pub returns-in_err-step-clause-refuted : goal.returns-in_err-step-clause-refuted
+returns-in_err-step-clause-refuted g c = IfOk-from_err c.from_residual-in_err-step.result _ c.from_residual-in_err-step.ensures.0
+
+pub returns-in_err-step-clause-trees : goal.returns-in_err-step-clause-trees
+returns-in_err-step-clause-trees g c = IfOk-from_err c.from_residual-in_err-step.result _ c.from_residual-in_err-step.ensures.0

@@ -1,4 +1,4 @@
-use Rattle.sy_loop_beyond.specs.Clauses.{AreAssignedFor}
+use Rattle.sy_loop_bodies.specs.Clauses.{AreAssignedFor}
 use Rattle.sy_loop_beyond.proofs.again.add_mixed.Given as goal
 
 abbrev pub invariant-loop-seed : goal.invariant-loop-seed

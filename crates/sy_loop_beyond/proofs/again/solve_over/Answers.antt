@@ -1,7 +1,7 @@
 use Rattle.std.proofs.Common.{arith}
 use Rattle.sy_grammar_base.specs.Questions.{question_of}
 use Rattle.sy_bank_level.specs.Bank.{merged_of}
-use Rattle.sy_loop_beyond.proofs.Small.{kept_small}
+use Rattle.sy_loop_bodies.proofs.Small.{kept_small}
 use Rattle.sy_loop_beyond.proofs.again.solve_over.Goals as goal
 use Rattle.sy_loop_beyond.proofs.again.solve_over.Goals.{else-loop-size-test, then-loop-size-test+in_ok-found+in_default+else-size-size-end}
 

@@ -1,4 +1,4 @@
-use Rattle.sy_loop_beyond.specs.Clauses.{AreAssignedFor}
+use Rattle.sy_loop_bodies.specs.Clauses.{AreAssignedFor}
 use Rattle.sy_loop_beyond.proofs.again.solve_over.Given as goal
 
 abbrev pub invariant-loop-size : goal.invariant-loop-size

@@ -2,7 +2,7 @@ use Rattle.std.proofs.Common.{arith, ap, length, List}
 use Rattle.std.proofs.lemmas.List.{length-map}
 use Rattle.sy_grammar_base.specs.Questions.{Goal, goal_of, question_of}
 use Rattle.sy_bank_level.specs.Bank.{merged_of}
-use Rattle.sy_loop_beyond.proofs.Small.{kept_small}
+use Rattle.sy_loop_bodies.proofs.Small.{kept_small}
 use Rattle.sy_loop_beyond.proofs.search.solve_onwards.Goals as goal
 
 pub solve_kept-requires-clause-kept : goal.solve_kept-requires-clause-kept

@@ -5,7 +5,7 @@ use Rattle.sy_grammar_base.specs.Questions.{question_of}
 use Rattle.sy_loop_history.specs.Histories.{IsDue}
 use Rattle.sy_loop_history.specs.Stored.{history_of}
 use Rattle.sy_loop_history.specs.Trials.{IsRefuted}
-use Rattle.sy_loop_join.proofs.Going.{decided_goes, never_next}
+use Rattle.sy_loop_candidate.proofs.Going.{decided_goes, never_next}
 use Rattle.sy_loop_join.proofs.Joining.{candidate_fits}
 use Rattle.sy_loop_join.proofs.join.decide_term.Goals as goal
 

@@ -11,7 +11,7 @@ use Rattle.sy_loop_history.specs.Trials.{IsRefuted}
 use Rattle.sy_loop_laws.proofs.Refuted.{assumes_nothing}
 use Rattle.sy_loop_join.specs.Applying.{has_application, are_known}
 use Rattle.sy_loop_join.specs.Joining.{TreesFollowFrom}
-use Rattle.sy_loop_join.proofs.Going.{next_weaker}
+use Rattle.sy_loop_candidate.proofs.Going.{next_weaker}
 use Rattle.sy_loop_join.proofs.Joining.{same_rule, tree_candidate}
 use Rattle.sy_loop_join.proofs.Following.{served_follow, uncovered_follow}
 use Rattle.sy_loop_join.proofs.Meeting.{each_applies, none_leaves, tree_meets}

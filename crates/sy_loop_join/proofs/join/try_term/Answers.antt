@@ -3,7 +3,7 @@ use Rattle.std.proofs.lemmas.Result.{IfOk-from_err}
 use Rattle.sy_terms.specs.Denoted.{expr_of}
 use Rattle.sy_grammar_base.specs.Questions.{question_of}
 use Rattle.sy_loop_history.specs.Stored.{history_of}
-use Rattle.sy_loop_join.proofs.Going.{goes_by}
+use Rattle.sy_loop_candidate.proofs.Going.{goes_by}
 use Rattle.sy_loop_join.proofs.Joining.{candidate_fits}
 use Rattle.sy_loop_join.proofs.join.try_term.Goals as goal
 

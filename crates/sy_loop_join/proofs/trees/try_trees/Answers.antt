@@ -3,7 +3,7 @@ use Rattle.std.proofs.lemmas.Result.{IfOk-from_err}
 use Rattle.sy_grammar_base.specs.Questions.{question_of}
 use Rattle.sy_bank_level.specs.Bank.{merged_of}
 use Rattle.sy_loop_history.specs.Stored.{history_of}
-use Rattle.sy_loop_join.specs.Going.{Goes, OnNext}
+use Rattle.sy_loop_candidate.specs.Going.{Goes, OnNext}
 use Rattle.sy_loop_join.specs.Joining.{TreesFollowFrom}
 use Rattle.sy_loop_join.proofs.Resting.{always_leaves, full_met, known_rested}
 use Rattle.sy_loop_join.proofs.trees.try_trees.Goals as goal

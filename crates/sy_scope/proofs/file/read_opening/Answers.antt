@@ -1,9 +1,9 @@
 use Rattle.std.proofs.Common.{◌≡◌, ◌<◌, ◌≤◌, ◌∙◌, ap, subst, length, Ok}
 use Rattle.std.specs.Prelude.{IfSome}
 use Rattle.std.proofs.lemmas.Result.{err_from_is_err_and}
-use Rattle.sy_text.specs.Views.{item_of, command_of}
+use Rattle.sy_text_items.specs.Views.{item_of, command_of}
 use Rattle.sy_forms_items.specs.Readings.{ReadingGives, ReadingFails}
-use Rattle.sy_scope_steps.specs.Contexts.{beginning, with_logic}
+use Rattle.sy_scope_names.specs.Contexts.{beginning, with_logic}
 use Rattle.sy_scope_steps.specs.Files.{file_read}
 use Rattle.sy_scope_steps.specs.Steps.{step}
 use Rattle.sy_scope.specs.Read.{opened_by}

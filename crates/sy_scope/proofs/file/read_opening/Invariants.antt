@@ -1,5 +1,5 @@
 use Rattle.std.proofs.Common.{◌-◌, length}
-use Rattle.sy_scope_steps.specs.Contexts.{beginning}
+use Rattle.sy_scope_names.specs.Contexts.{beginning}
 use Rattle.sy_scope_steps.specs.Files.{file_read}
 use Rattle.sy_scope.specs.Read.{LeadsToOutcome}
 use Rattle.sy_scope.proofs.file.read_opening.Given as goal

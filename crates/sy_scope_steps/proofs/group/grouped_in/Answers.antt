@@ -1,5 +1,5 @@
 use Rattle.std.proofs.Common.{◌∙◌, sym, ap}
-use Rattle.sy_text.specs.Views.{item_of}
+use Rattle.sy_text_items.specs.Views.{item_of}
 use Rattle.sy_forms_items.specs.Views.{items_in}
 use Rattle.sy_scope_steps.specs.Grammars as spec
 use Rattle.sy_scope_steps.proofs.Walking.{group_three, group_many}

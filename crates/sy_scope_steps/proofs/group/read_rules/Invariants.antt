@@ -1,6 +1,6 @@
 use Rattle.std.proofs.Common.{◌≡◌, length}
-use Rattle.sy_text.specs.Items.{listed}
-use Rattle.sy_forms_phrases.specs.Seen.{environment_of}
+use Rattle.sy_forms_names.specs.Seen.{environment_of}
+use Rattle.sy_text_items.specs.Items.{listed}
 use Rattle.sy_forms_items.specs.Views.{items_in}
 use Rattle.sy_scope_steps.specs.Grammars as spec
 use Rattle.sy_scope_steps.specs.Seen.{collected_of}

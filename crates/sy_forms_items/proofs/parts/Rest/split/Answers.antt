@@ -1,4 +1,4 @@
-use Rattle.sy_text.specs.Views.{item_of}
+use Rattle.sy_text_items.specs.Views.{item_of}
 use Rattle.std.proofs.Common.{arith}
 use Rattle.sy_forms_items.proofs.Rests.{items_at, items_end}
 use Rattle.sy_forms_items.proofs.parts.Rest.split.Goals as goal

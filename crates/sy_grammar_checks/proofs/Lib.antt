@@ -1,0 +1,5 @@
+pub mod Choices
+pub mod Factors
+pub mod Fitted
+pub mod Reading
+pub mod Sorting

@@ -1,0 +1,22 @@
+use Rattle.std.proofs.Common.{◌≤◌, ◌<◌, length}
+use Rattle.sy_grammar_base.specs.Questions.{question_of}
+use Rattle.sy_loop_history.specs.Stored.{history_of}
+use Rattle.sy_loop_truth.specs.Known.{IsKnown}
+use Rattle.sy_loop_join.specs.Clauses.{IsPlannedFor}
+use Rattle.sy_loop_banks.specs.Banks.{AreCarried}
+use Rattle.sy_loop_laws.specs.Refuting.{AreDoneBelow}
+use Rattle.sy_loop.specs.Rounds.{work}
+use Rattle.sy_loop.proofs.search.rounds.Given as goal
+
+abbrev pub decreases-rounds : goal.decreases-rounds
+decreases-rounds g l = work l.limits (history_of g.T.Theory.denotes l.known.stored) l.known.points l.level
+
+abbrev pub invariant-rounds : goal.invariant-rounds
+invariant-rounds g l = record {
+  known : IsKnown l.reach (question_of g.T.Theory.denotes l.problem) l.limits (history_of g.T.Theory.denotes l.known.stored) l.known.points;
+  room : length l.known.stored.items < l.limits.rounds;
+  within : l.level ≤ l.limits.size;
+  done : AreDoneBelow l.reach (question_of g.T.Theory.denotes l.problem) (history_of g.T.Theory.denotes l.known.stored) l.known.points l.level;
+  plan : IsPlannedFor g.T.Theory l.reach l.problem l.plan;
+  carried : AreCarried g.T.Theory.owned g.T.Theory.denotes l.problem l.limits l.level l.banks.items;
+}

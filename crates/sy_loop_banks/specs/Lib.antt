@@ -1,0 +1,3 @@
+pub mod BankClauses
+pub mod Banks
+pub mod Dropping

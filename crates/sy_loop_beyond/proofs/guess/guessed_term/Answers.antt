@@ -1,4 +1,0 @@
-use Rattle.sy_loop_beyond.proofs.guess.guessed_term.Goals as goal
-
-pub returns-then-small : goal.returns-then-small
-returns-then-small g c = c.in_ok-small.ensures c.if-small.true

@@ -1,5 +1,0 @@
-use Rattle.sy_loop_beyond.specs.Clauses.{AreAssignedFor}
-use Rattle.sy_loop_beyond.proofs.scanning.solve_guessed.Given as goal
-
-abbrev pub invariant-loop : goal.invariant-loop
-invariant-loop g l = AreAssignedFor g.T.Theory l.task.problem.now l.assignments.items

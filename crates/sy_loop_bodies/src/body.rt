@@ -1,0 +1,101 @@
+// Terms that are tried as the one body.
+ghost use Rattle.std.specs.Prelude.{IfOk, IfSome, OnOk};
+ghost use Rattle.sy_terms.specs.Denoted.{expr_of};
+ghost use Rattle.sy_grammar_base.specs.Fits.{ProblemFits};
+ghost use Rattle.sy_loop_bodies.specs.Clauses.{AreAssignedFor, AreFoundFor, AreWithinFor, IsFoundFor, IsSmallFor, IsVerdictFor};
+
+use crate::judging::meet_all;
+use std::alloc::Global;
+use sy_grammar_base::Problem;
+use sy_loop_candidate::decide_query;
+use sy_query::{Built, build};
+use sy_query_base::{Decide, Verdict};
+use sy_query_limits::Limits;
+use sy_terms::{Bodies, Seq, Term, Theory, Values, Want};
+
+/// How many bodies that weren't decided are passed over, of kept terms and of combinations each.
+pub(crate) const MOST_SPENT: u32 = 8;
+
+/// What stays the same while bodies are tried: the problem, the limits, and the greatest size of a body.
+#[derive(Drop)]
+pub struct Task<'a, T: Theory> {
+    pub alloc: Global,
+    pub problem: &'a Problem<T>,
+    pub limits: &'a Limits,
+    pub bound: u32,
+}
+
+/// Tries the term as the one body: at the assignments, and where it meets the problem there, by the solver. `None` where it
+/// wasn't found to solve the problem. An assignment at which the solver sees it violate the problem is one more. `left` is
+/// one less where it isn't decided, since its query is too heavy or a budget of the solver ran out.
+pub(crate) fn try_body<T: Theory, D: Decide<T>>(
+    task: &Task<T>,
+    decide: &mut D,
+    term: Term<T>,
+    assignments: &mut Vec<Values<T>>,
+    left: &mut u32,
+) -> Result<Option<(Bodies<T>, D::Proof)>, Want>
+    requires problem { ProblemFits T.Theory task.now.problem.now }
+    requires term { IsSmallFor T.Theory task.now.problem.now task.now.bound (expr_of T.denotes term) }
+    requires assigned { AreAssignedFor T.Theory task.now.problem.now assignments.old.items }
+    ensures assigned { OnOk result (AreAssignedFor T.Theory task.now.problem.now assignments.new.items) }
+    ensures found { IfOk result (IsFoundFor T.Theory D.Decide task.now.problem.now task.now.bound) }
+{
+    let mut bodies = Seq::new(task.alloc);
+    bodies.push(term)?;
+    let found = proof_of(task, decide, &bodies, assignments, left)?;
+    let Some(proof) = found else {
+        return Ok(None);
+    };
+    Ok(Some((bodies, proof)))
+}
+
+/// The proof that the bodies solve the problem; `None` where they weren't found to, with what `try_body` says of it.
+fn proof_of<T: Theory, D: Decide<T>>(
+    task: &Task<T>,
+    decide: &mut D,
+    bodies: &Bodies<T>,
+    assignments: &mut Vec<Values<T>>,
+    left: &mut u32,
+) -> Result<Option<D::Proof>, Want>
+    requires problem { ProblemFits T.Theory task.now.problem.now }
+    requires within { AreWithinFor T.Theory task.now.problem.now task.now.bound bodies.now }
+    requires assigned { AreAssignedFor T.Theory task.now.problem.now assignments.old.items }
+    ensures assigned { OnOk result (AreAssignedFor T.Theory task.now.problem.now assignments.new.items) }
+    ensures found { IfOk result (λ found. IfSome found (AreFoundFor T.Theory D.Decide task.now.problem.now task.now.bound bodies.now)) }
+{
+    if !meet_all(task.alloc, task.problem, bodies, assignments.as_slice())? {
+        return Ok(None);
+    }
+    let found = verdict_on(task, decide, bodies)?;
+    match found {
+        Some(Verdict::Never(proof)) => Ok(Some(proof)),
+        Some(Verdict::Model(values)) => {
+            assignments.push(values)?;
+            Ok(None)
+        }
+        _ => {
+            *left = left.saturating_sub(1);
+            Ok(None)
+        }
+    }
+}
+
+/// What the solver answers to the query of the bodies; `None` where that is too heavy.
+fn verdict_on<T: Theory, D: Decide<T>>(
+    task: &Task<T>,
+    decide: &mut D,
+    bodies: &Bodies<T>,
+) -> Result<Option<Verdict<T, D::Proof, D::Spent>>, Want>
+    requires problem { ProblemFits T.Theory task.now.problem.now }
+    requires within { AreWithinFor T.Theory task.now.problem.now task.now.bound bodies.now }
+    ensures { IfOk result (λ found. IfSome found (IsVerdictFor T.Theory D.Decide task.now.problem.now task.now.bound bodies.now)) }
+{
+    let query = match build(task.alloc, task.problem, bodies, task.limits.weight) {
+        Ok(query) => query,
+        Err(Built::Heavy) => return Ok(None),
+        Err(Built::Want) => return Err(Want {}),
+    };
+    let verdict = decide_query(task.alloc, task.limits, decide, query)?;
+    Ok(Some(verdict))
+}

@@ -1,0 +1,4 @@
+pub mod Choosing
+pub mod Least
+pub mod Observed
+pub mod Refuting

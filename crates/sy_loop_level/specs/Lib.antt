@@ -1,0 +1,2 @@
+pub mod LevelClauses
+pub mod Levels

@@ -1,0 +1,4 @@
+pub mod Earlier
+pub mod Listing
+pub mod Made
+pub mod Named

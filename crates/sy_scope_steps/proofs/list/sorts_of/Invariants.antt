@@ -1,6 +1,0 @@
-use Rattle.std.proofs.Common.{◌≡◌, take}
-use Rattle.sy_scope_steps.specs.Lists as spec
-use Rattle.sy_scope_steps.proofs.list.sorts_of.Given as goal
-
-abbrev pub invariant-loop-one : goal.invariant-loop-one
-invariant-loop-one l = l.sorts ≡ spec.sorts_of_names (take l.one-index l.named)

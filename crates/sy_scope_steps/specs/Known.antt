@@ -1,8 +1,0 @@
--- What a table of names declares.
-use Rattle.std.specs.Prelude.{ℕ}
-use Rattle.sy_forms_phrases.specs.Table.{NameTable}
-use Rattle.sy_scope_steps.specs.Contexts.{Context, beginning}
-
--- a context with these names and so many fresh variables, and nothing else
-abbrev pub declared : NameTable → ℕ → Context
-declared names fresh = record beginning { sorts = names.sorts; entities = names.entities; fresh = fresh }

@@ -1,0 +1,4 @@
+pub mod Items
+pub mod Views
+pub mod Falls
+pub mod Lexicon
