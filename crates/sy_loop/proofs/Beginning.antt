@@ -8,8 +8,8 @@ use Rattle.sy_grammar_base.specs.Questions.{Question}
 use Rattle.sy_query_limits.specs.declared.Limits.{Limits}
 use Rattle.sy_points.specs.Asked.{Asked, AreDistinct}
 use Rattle.sy_loop_bounds.specs.declared.reach.Reach.{Reach}
-use Rattle.sy_loop_candidate.specs.Known.{IsKnown}
-use Rattle.sy_loop_candidate.proofs.Traced.{no_element}
+use Rattle.sy_loop_truth.specs.Known.{IsKnown}
+use Rattle.sy_loop_truth.proofs.Traced.{no_element}
 
 no_tuples : (functions function : ℕ) → let none : List (List Val) = [] in slice_index_or (replicate functions none) function [] ≡ none
 no_tuples zero function = refl

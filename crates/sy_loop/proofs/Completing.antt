@@ -11,8 +11,8 @@ use Rattle.sy_loop_bounds.specs.declared.reach.Reach.{Reach}
 use Rattle.sy_loop_bounds.specs.declared.reach.Reach.TheVariants.{Beyond}
 use Rattle.sy_loop_history.specs.Histories.{Counterexample, IsOpenNumber}
 use Rattle.sy_loop_history.specs.Unsolved.{NoSolutionWithin}
-use Rattle.sy_loop_candidate.specs.Known.{IsKnown}
-use Rattle.sy_loop_candidate.proofs.Items.{has_place}
+use Rattle.sy_loop_truth.specs.Known.{IsKnown}
+use Rattle.sy_loop_truth.proofs.Items.{has_place}
 use Rattle.sy_loop_laws.specs.Agreeing.{AssumptionsAskNothing}
 use Rattle.sy_loop_laws.specs.Merging.{AreChosen, AreCovering}
 use Rattle.sy_loop_laws.specs.Refuting.{AllRefuted, AllTreesViolate, AreDoneBelow}

@@ -14,7 +14,7 @@ use Rattle.sy_loop_bounds.specs.declared.reach.Reach.{Reach}
 use Rattle.sy_loop_history.specs.Histories.{Counterexample}
 use Rattle.sy_loop_history.specs.Stored.{history_of}
 use Rattle.sy_loop_outcome.specs.Right.{IsRight}
-use Rattle.sy_loop_candidate.specs.Known.{IsKnown, left}
+use Rattle.sy_loop_truth.specs.Known.{IsKnown, left}
 use Rattle.sy_loop_laws.specs.Refuting.{AllTreesViolate, AreDoneBelow}
 use Rattle.sy_loop_banks.specs.Banks.{AreBanks, AreCarried}
 use Rattle.sy_loop_banks.specs.Dropping.{DroppedNothing}

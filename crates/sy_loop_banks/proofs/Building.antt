@@ -35,8 +35,8 @@ use Rattle.sy_loop_history.specs.Histories.{Counterexample, IsMet, IsOpenNumber}
 use Rattle.sy_loop_history.proofs.Staying.{open_down}
 use Rattle.sy_loop_bounds.specs.declared.reach.Reach.{Reach}
 use Rattle.sy_loop_history.specs.Budgets.{BankMet, MemberLeaves}
-use Rattle.sy_loop_candidate.specs.Known.{IsKnown}
-use Rattle.sy_loop_candidate.proofs.Items.{has_place}
+use Rattle.sy_loop_truth.specs.Known.{IsKnown}
+use Rattle.sy_loop_truth.proofs.Items.{has_place}
 use Rattle.sy_loop_banks.specs.Banks.{IsBankOf, IsWholeOf, IsFullOf, AreBanks, BanksAreBuilt, IsFullBank}
 use Rattle.sy_loop_outcome.specs.Right.{HasLeftRange}
 use Rattle.sy_loop_outcome.specs.declared.outcome.LoopRange.{LoopRange}

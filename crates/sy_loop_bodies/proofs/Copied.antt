@@ -10,7 +10,7 @@ use Rattle.sy_terms.specs.declared.sort.Value.{Value}
 use Rattle.sy_grammar_base.specs.Solving.{AreValues}
 use Rattle.sy_bank_laws.proofs.Points.{points-more}
 use Rattle.sy_bank_rows.specs.Rows.{ArePointsOf}
-use Rattle.sy_loop_candidate.proofs.Items.{item_of}
+use Rattle.sy_loop_truth.proofs.Items.{item_of}
 
 -- a copy of the tuple that comes next is a point more
 pub copied_point : {N : Type 0} (number : N → Val) (sorts found : List Sort) (points tuples : List (List (Value N))) (index : ℕ) (tuple copy : List (Value N)) → copy ≡ tuple → index < length tuples → tuple ≡ get_or tuples index tuple →

@@ -3,12 +3,12 @@ ghost use Rattle.std.specs.Prelude.{All};
 ghost use Rattle.sy_terms.specs.Denoted.{vals_of};
 ghost use Rattle.sy_grammar_base.specs.Fits.{IsTruth, ProblemFits};
 ghost use Rattle.sy_grammar_base.specs.Solving.{AreValues};
-ghost use Rattle.sy_loop_candidate.specs.Clauses.{FitAsBodies};
+ghost use Rattle.sy_loop_truth.specs.Clauses.{FitAsBodies};
 ghost use Rattle.sy_loop_bodies.specs.Clauses.{AreAssignedFor};
 
 use std::alloc::Global;
 use sy_grammar_base::Problem;
-use sy_loop_candidate::{Truth, all_true};
+use sy_loop_truth::{Truth, all_true};
 use sy_terms::{Bodies, Term, Theory, Value, Values, Want};
 
 /// Whether the bodies meet the problem at each of the assignments, the last first. It is a guess: nothing is decided by

@@ -26,18 +26,18 @@ use Rattle.sy_loop_history.specs.Histories.{Counterexample, IsCandidate, all_ask
 use Rattle.sy_loop_history.proofs.Staying.{tried_in_bound}
 use Rattle.sy_loop_history.specs.Truths.{asked_by, OneLeaves}
 use Rattle.sy_loop_history.specs.Adding.{IsAsked, GainsTuples, room}
-use Rattle.sy_loop_candidate.specs.Answers.{AddsCalls}
-use Rattle.sy_loop_candidate.specs.Known.{IsHeld, IsKnown}
-use Rattle.sy_loop_candidate.specs.Traces.{AreCalls, TuplesGrow, Widens, IsAskedBy, MeetAll, AsksAt, IsTraced, AreTraced, IsTracedAt, LeavesRangeAt}
+use Rattle.sy_loop_truth.specs.Answers.{AddsCalls}
+use Rattle.sy_loop_truth.specs.Known.{IsHeld, IsKnown}
+use Rattle.sy_loop_truth.specs.Traces.{AreCalls, TuplesGrow, Widens, IsAskedBy, MeetAll, AsksAt, IsTraced, AreTraced, IsTracedAt, LeavesRangeAt}
 use Rattle.sy_loop_candidate.specs.Answers.{Tries}
-use Rattle.sy_loop_candidate.specs.declared.calls.Adding.{Adding}
-use Rattle.sy_loop_candidate.specs.declared.calls.Adding.TheVariants.{There, New, Full}
+use Rattle.sy_loop_truth.specs.declared.calls.Adding.{Adding}
+use Rattle.sy_loop_truth.specs.declared.calls.Adding.TheVariants.{There, New, Full}
 use Rattle.sy_loop_candidate.specs.declared.trial.Trial.{Trial}
 use Rattle.sy_loop_candidate.specs.declared.trial.Trial.TheVariants as trials
 use Rattle.sy_loop_candidate.specs.declared.trial.Trial.TheVariants.{Due, Refuted, Asks, Leaves}
-use Rattle.sy_loop_candidate.proofs.Traced.{gained_all, gained_only}
-use Rattle.sy_loop_candidate.proofs.Items.{has_place, has_at}
-use Rattle.sy_loop_candidate.proofs.Saying.{asks_are, call_taken, says_leaves, one_leaves}
+use Rattle.sy_loop_truth.proofs.Traced.{gained_all, gained_only}
+use Rattle.sy_loop_truth.proofs.Items.{has_place, has_at}
+use Rattle.sy_loop_truth.proofs.Saying.{asks_are, call_taken, says_leaves, one_leaves}
 use Rattle.sy_grammar_base.specs.Fits.{IsTruth, wanted_of}
 
 -- what all terms of a list ask

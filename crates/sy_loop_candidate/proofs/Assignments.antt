@@ -2,7 +2,6 @@
 use Rattle.std.proofs.Common.{◌≡◌, ◌<◌, ◌++◌, ⊎_elim, ap, sym, subst, ◌∙◌, ℕ, List, [], ◌∷◌, length, map, slice_get, Some}
 use Rattle.std.specs.Option.{option_map}
 use Rattle.std.specs.List.{Contains}
-use Rattle.std.proofs.lemmas.Option.{slice_get-map}
 use Rattle.std.proofs.lemmas.List.Elements.{Contains-append_left, Contains-append_right}
 use Rattle.sy_terms.specs.Values.{Val}
 use Rattle.sy_terms.specs.Denoted.{vals_of}
@@ -15,22 +14,19 @@ use Rattle.sy_grammar_base.specs.Questions.{Question}
 use Rattle.sy_points.specs.Asked.{Asked}
 use Rattle.sy_points.specs.declared.stored.Stored.{Stored}
 use Rattle.sy_loop_history.specs.Histories.{Counterexample, all_asked_by, trace}
-use Rattle.sy_loop_history.specs.Stored.{counterexample_of, history_of}
+use Rattle.sy_loop_history.specs.Stored.{history_of}
 use Rattle.sy_loop_history.specs.Truths.{IsViolated, OneLeaves}
 use Rattle.sy_loop_history.specs.Adding.{GainsTuples}
-use Rattle.sy_loop_candidate.specs.Answers.{AddsCalls}
-use Rattle.sy_loop_candidate.specs.Known.{IsHeld}
-use Rattle.sy_loop_candidate.specs.Traces.{LeavesRangeAt, Widens}
+use Rattle.sy_loop_truth.specs.Answers.{AddsCalls}
+use Rattle.sy_loop_truth.specs.Known.{IsHeld}
+use Rattle.sy_loop_truth.specs.Traces.{LeavesRangeAt, Widens}
 use Rattle.sy_loop_candidate.specs.Answers.{Tries, trial_of}
-use Rattle.sy_loop_candidate.specs.declared.calls.Adding.{Adding}
-use Rattle.sy_loop_candidate.specs.declared.calls.Adding.TheVariants.{There, New, Full}
-use Rattle.sy_loop_candidate.proofs.Traced.{no_element, first_or_later}
-use Rattle.sy_loop_candidate.proofs.Items.{has_place}
+use Rattle.sy_loop_truth.specs.declared.calls.Adding.{Adding}
+use Rattle.sy_loop_truth.specs.declared.calls.Adding.TheVariants.{There, New, Full}
+use Rattle.sy_loop_truth.proofs.Traced.{no_element, first_or_later}
+use Rattle.sy_loop_truth.proofs.Items.{has_place}
+use Rattle.sy_loop_truth.proofs.Places.{place_of}
 use Rattle.sy_loop_candidate.proofs.Asking.{within_held, held_with, widened}
-
--- the counterexample of this place
-pub place_of : {T N : Type 0} (number : N → Val) (stored : Stored T N) (place : ℕ) (pair : List (Value N) × List (Term T N)) → slice_get stored.items place ≡ Some pair → slice_get (history_of number stored) place ≡ Some (counterexample_of number pair)
-place_of number stored place pair at = slice_get-map (counterexample_of number) stored.items place ∙ ap (option_map (counterexample_of number)) at
 
 -- a copy of its assignment
 pub stored_copy : {T N : Type 0} (number : N → Val) (stored : Stored T N) (place : ℕ) (pair : List (Value N) × List (Term T N)) (copy : List (Value N)) → slice_get stored.items place ≡ Some pair → copy ≡ pair.0 →

@@ -33,8 +33,8 @@ use Rattle.sy_loop_history.specs.Budgets.{RoundsMet, PointsMet, CheckedLeaves}
 use Rattle.sy_loop_history.specs.Solutions.{IsSolution}
 use Rattle.sy_loop_history.specs.Stored.{counterexample_of, history_of}
 use Rattle.sy_loop_history.specs.Adding.{room}
-use Rattle.sy_loop_candidate.specs.Known.{IsKnown}
-use Rattle.sy_loop_candidate.specs.Traces.{AreTraced, AsksMore, LeavesRangeAt, IsTraced, IsTracedAt}
+use Rattle.sy_loop_truth.specs.Known.{IsKnown}
+use Rattle.sy_loop_truth.specs.Traces.{AreTraced, AsksMore, LeavesRangeAt, IsTraced, IsTracedAt}
 use Rattle.sy_loop_history.specs.Truths.{OneLeaves}
 use Rattle.sy_loop_candidate.specs.Steps.{Decides, Steps, StepFollows, IsFollowed, IsTracedOrLeaves}
 use Rattle.sy_terms_laws.specs.Evaluation.{BodiesFit}
@@ -42,7 +42,7 @@ use Rattle.sy_grammar_base.specs.declared.problem.Problem.{Problem}
 use Rattle.sy_loop_candidate.specs.declared.step.Step.{Step}
 use Rattle.sy_loop_candidate.specs.declared.step.Step.TheVariants.{Next, Again}
 use Rattle.sy_loop_candidate.specs.declared.step.Step.TheVariants as steps
-use Rattle.sy_loop_candidate.proofs.Items.{has_place}
+use Rattle.sy_loop_truth.proofs.Items.{has_place}
 
 -- bodies within a size are members
 pub members : (pool : List Val) (n : ℕ) (goals : List Goal) (bodies : List Expr) → AreWithin pool n goals bodies → AreMembers goals bodies

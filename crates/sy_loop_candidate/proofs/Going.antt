@@ -16,9 +16,9 @@ use Rattle.sy_points.specs.declared.stored.Stored.{Stored}
 use Rattle.sy_loop_bounds.specs.declared.reach.Reach.{Reach}
 use Rattle.sy_loop_history.specs.Histories.{Counterexample}
 use Rattle.sy_loop_history.specs.Stored.{counterexample_of, history_of}
-use Rattle.sy_loop_candidate.specs.Known.{left}
+use Rattle.sy_loop_truth.specs.Known.{left}
 use Rattle.sy_loop_candidate.specs.Steps.{Decides, IsStored, Steps}
-use Rattle.sy_loop_candidate.specs.Traces as traces
+use Rattle.sy_loop_truth.specs.Traces as traces
 use Rattle.sy_loop_candidate.specs.declared.step.Step.{Step}
 use Rattle.sy_loop_candidate.specs.declared.step.Step.TheVariants.{Next, Again}
 use Rattle.sy_loop_candidate.specs.declared.step.Step.TheVariants as steps

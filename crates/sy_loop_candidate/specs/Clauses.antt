@@ -1,39 +1,21 @@
 -- What clauses say of a problem, for a theory and a solver.
 use Rattle.std.specs.Prelude.{ℕ, List}
 use Rattle.sy_terms.specs.Expr.{Expr}
-use Rattle.sy_terms.specs.declared.term.Term.{Term}
 use Rattle.sy_terms.specs.declared.theory.Theory.{Ghosts as TheoryOf}
-use Rattle.sy_terms_laws.specs.Evaluation.{BodiesFit}
-use Rattle.sy_grammar_base.specs.Questions.{question_of, signatures}
+use Rattle.sy_grammar_base.specs.Questions.{question_of}
 use Rattle.sy_grammar_base.specs.declared.problem.Problem.{Problem}
 use Rattle.sy_query_limits.specs.declared.Limits.{Limits}
 use Rattle.sy_query_base.specs.declared.decide.Decide.{Ghosts as DecideOf}
 use Rattle.sy_points.specs.Asked.{Asked}
-use Rattle.sy_points.specs.declared.stored.Stored.{Stored}
 use Rattle.sy_loop_bounds.specs.declared.reach.Reach.{Reach}
 use Rattle.sy_loop_history.specs.Histories.{IsCandidate, IsDue, IsOpenNumber}
 use Rattle.sy_loop_history.specs.Stored.{history_of}
 use Rattle.sy_loop_candidate.specs.Going.{Goes}
-use Rattle.sy_loop_candidate.specs.Known.{IsHeld, IsKnown}
+use Rattle.sy_loop_truth.specs.Known.{IsKnown}
 use Rattle.sy_loop_candidate.specs.Steps.{Decides, IsCandidateEnd, Steps, StepFollows}
-use Rattle.sy_loop_candidate.specs.Traces.{MeetAll, Widens}
 use Rattle.sy_loop_candidate.specs.declared.step.End.{End}
 use Rattle.sy_loop_candidate.specs.declared.step.Known.{Known}
 use Rattle.sy_loop_candidate.specs.declared.step.Step.{Step}
-
-module _ {T N : Type 0} (theory : TheoryOf T N) (problem : Problem T N) where
-  -- one body for each function to be found, of its sort over its arguments
-  abbrev pub FitAsBodies : List (Term T N) → Type 0
-  FitAsBodies bodies = BodiesFit theory.owned theory.denotes problem.defs bodies (signatures problem)
-
-  abbrev pub IsHeldFor : Limits → Stored T N → Asked → Type 0
-  IsHeldFor limits stored = IsHeld (question_of theory.denotes problem) limits (history_of theory.denotes stored)
-
-  abbrev pub WidensFor : Stored T N → List Expr → Asked → Asked → Type 0
-  WidensFor stored = Widens (question_of theory.denotes problem) (history_of theory.denotes stored)
-
-  abbrev pub MeetAllFor : Stored T N → List Expr → Type 0
-  MeetAllFor stored = MeetAll (question_of theory.denotes problem) (history_of theory.denotes stored)
 
 module _ {T N : Type 0} (theory : TheoryOf T N) (reach : Reach) (problem : Problem T N) (limits : Limits) where
   abbrev pub IsKnownFor : Known T N → Type 0

@@ -17,9 +17,9 @@ use Rattle.sy_loop_history.specs.Histories.{Counterexample, IsCandidate}
 use Rattle.sy_loop_history.specs.Budgets.{RoundsMet, PointsMet, WeightMet, DecideMet, CheckedLeaves}
 use Rattle.sy_loop_history.specs.Solutions.{IsSolution}
 use Rattle.sy_loop_history.specs.Stored.{history_of}
-use Rattle.sy_loop_candidate.specs.Known.{left}
+use Rattle.sy_loop_truth.specs.Known.{left}
 use Rattle.sy_loop_history.specs.Adding.{room}
-use Rattle.sy_loop_candidate.specs.Traces.{IsTraced, AreTraced}
+use Rattle.sy_loop_truth.specs.Traces.{IsTraced, AreTraced}
 use Rattle.sy_loop_history.specs.Trials.{IsRefuted}
 use Rattle.sy_loop_history.specs.Truths.{OneLeaves}
 use Rattle.sy_loop_candidate.specs.declared.step.End.{End}

@@ -4,15 +4,15 @@ ghost use Rattle.sy_terms.specs.Denoted.{expr_of, vals_of};
 ghost use Rattle.sy_grammar_base.specs.Questions.{question_of};
 ghost use Rattle.sy_grammar_base.specs.Solving.{AreValues};
 ghost use Rattle.sy_loop_history.specs.Stored.{history_of};
-ghost use Rattle.sy_loop_candidate.specs.Traces.{Calls, AsksAt};
+ghost use Rattle.sy_loop_truth.specs.Traces.{Calls, AsksAt};
 ghost use Rattle.sy_loop_candidate.specs.Answers.{Tries};
 ghost use Rattle.sy_grammar_base.specs.Fits.{ProblemFits};
-ghost use Rattle.sy_loop_candidate.specs.Clauses.{FitAsBodies, IsHeldFor, WidensFor, MeetAllFor};
+ghost use Rattle.sy_loop_truth.specs.Clauses.{FitAsBodies, IsHeldFor, WidensFor, MeetAllFor};
 
-use crate::calls::{Adding, add_calls};
 use crate::trial::Trial;
 use std::alloc::Global;
 use sy_grammar_base::Problem;
+use sy_loop_truth::{Adding, add_calls};
 use sy_meaning::{Eval, Trace, evaluate_with};
 use sy_points::{Points, Stored};
 use sy_query_base::Limits;

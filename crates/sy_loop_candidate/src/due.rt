@@ -1,19 +1,20 @@
 // Candidates that meet the problem at every stored assignment.
 ghost use Rattle.std.specs.Prelude.{◌≡◌, ◌<◌, length, map, IfOk, OnOk, slice_get, Some};
 ghost use Rattle.sy_terms.specs.Denoted.{expr_of};
-ghost use Rattle.sy_loop_candidate.specs.Traces.{TuplesGrow};
+ghost use Rattle.sy_loop_truth.specs.Traces.{TuplesGrow};
 ghost use Rattle.sy_grammar_base.specs.Fits.{ProblemFits};
 ghost use Rattle.sy_query_base.specs.Asked.{QueryFits, query_of};
 ghost use Rattle.sy_query_base.specs.Answers.{Answers};
-ghost use Rattle.sy_loop_candidate.specs.Clauses.{DecidesFor, FitAsBodies, IsKnownFor, StepFollowsFor, IsDueFor};
+ghost use Rattle.sy_loop_candidate.specs.Clauses.{DecidesFor, IsKnownFor, StepFollowsFor, IsDueFor};
+ghost use Rattle.sy_loop_truth.specs.Clauses.{FitAsBodies};
 
 use crate::asks::ask_at;
-use crate::calls::Adding;
 use crate::copies::{assignment_at, copied_bodies};
 use crate::step::{End, Known, Step};
 use std::alloc::Global;
 use sy_grammar_base::Problem;
 use sy_loop_bounds::Reach;
+use sy_loop_truth::Adding;
 use sy_query::{Built, build};
 use sy_query_base::{Decide, Limits, Query, Verdict};
 use sy_terms::{Bodies, Theory, Want};

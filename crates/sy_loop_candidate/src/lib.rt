@@ -2,14 +2,11 @@
 #![tactic(auto)]
 
 mod asks;
-mod calls;
 mod copies;
 mod due;
 mod step;
 mod trial;
-mod truth;
 
 pub use copies::copied_bodies;
 pub use due::{decide_due, decide_query};
 pub use step::{End, Known, Step, try_candidate};
-pub use truth::{Truth, all_true, is_true};

@@ -1,9 +1,10 @@
 // One step of a search: what comes of a candidate.
 ghost use Rattle.std.specs.Prelude.{◌<◌, length, map, IfOk, OnOk};
 ghost use Rattle.sy_terms.specs.Denoted.{expr_of};
-ghost use Rattle.sy_loop_candidate.specs.Traces.{TuplesGrow};
+ghost use Rattle.sy_loop_truth.specs.Traces.{TuplesGrow};
 ghost use Rattle.sy_grammar_base.specs.Fits.{ProblemFits};
-ghost use Rattle.sy_loop_candidate.specs.Clauses.{FitAsBodies, IsCandidateFor, IsKnownFor, StepsFor};
+ghost use Rattle.sy_loop_truth.specs.Clauses.{FitAsBodies};
+ghost use Rattle.sy_loop_candidate.specs.Clauses.{IsCandidateFor, IsKnownFor, StepsFor};
 
 use crate::copies::assignment_at;
 use crate::due::decide_due;

@@ -5,13 +5,12 @@ ghost use Rattle.sy_grammar_base.specs.Questions.{question_of};
 ghost use Rattle.sy_loop_history.specs.Stored.{history_of};
 ghost use Rattle.sy_loop_candidate.specs.Answers.{Tries, trial_of};
 ghost use Rattle.sy_grammar_base.specs.Fits.{ProblemFits};
-ghost use Rattle.sy_loop_candidate.specs.Clauses.{FitAsBodies, IsHeldFor, WidensFor};
+ghost use Rattle.sy_loop_truth.specs.Clauses.{FitAsBodies, IsHeldFor, WidensFor};
 
 use crate::asks::ask_all;
-use crate::calls::{Adding, add_calls};
-use crate::truth::{Truth, judge};
 use std::alloc::Global;
 use sy_grammar_base::Problem;
+use sy_loop_truth::{Adding, Truth, add_calls, judge};
 use sy_points::{Points, Stored};
 use sy_query_base::Limits;
 use sy_terms::{Bodies, Theory, Want};

@@ -22,21 +22,22 @@ use Rattle.sy_bank_rows.specs.declared.kept.Kept.{Kept}
 use Rattle.sy_loop_bounds.specs.Pointwise.{IsPointwise}
 use Rattle.sy_loop_bounds.specs.Resting.{RestsOn}
 use Rattle.sy_loop_bounds.proofs.Goodness.{bad_alike, good_alike}
-use Rattle.sy_loop_candidate.proofs.Items.{has_place}
-use Rattle.sy_loop_candidate.proofs.Traced.{first_or_later, no_element}
+use Rattle.sy_loop_truth.proofs.Items.{has_place}
+use Rattle.sy_loop_truth.proofs.Traced.{first_or_later, no_element}
 use Rattle.sy_loop_history.specs.Histories.{Counterexample}
-use Rattle.sy_loop_trees_laws.specs.Goods.{AreGoods, assignments_of}
-use Rattle.sy_loop_trees_laws.specs.Trees.{EntriesHaveRows}
-use Rattle.sy_loop_goods.proofs.Placing.{item_at}
+use Rattle.sy_loop_history.specs.Goods.{AreGoods, assignments_of}
+use Rattle.sy_loop_history.specs.Goods.{EntriesHaveRows}
+use Rattle.sy_loop_truth.proofs.Places.{item_at}
 use Rattle.sy_loop_goods.specs.Columns.{AreColumns, IsColumn, IsSaid, is_on, row_from}
 use Rattle.sy_loop_goods.specs.Judged.{IsCopied, JudgesLeaf, good_of, judged_by, leaving_of}
-use Rattle.sy_loop_goods.specs.Leaves.{AreAssigned, LeafLeaves}
+use Rattle.sy_loop_truth.specs.Rests.{AreAssigned}
+use Rattle.sy_loop_goods.specs.Leaves.{LeafLeaves}
 use Rattle.sy_loop_goods.specs.Judging.{IsOneUntrue, IsTrueAt, JudgesRests}
-use Rattle.sy_loop_goods.specs.Rests.{AreRests, IsRest}
+use Rattle.sy_loop_truth.specs.Rests.{AreRests, IsRest}
 use Rattle.sy_loop_goods.specs.declared.goods.Leaving.{Leaving}
 use Rattle.sy_loop_goods.specs.declared.judging.Judged.{Judged}
 use Rattle.sy_loop_goods.specs.declared.judging.Judged.TheVariants.{Good, Bad, Leaves}
-use Rattle.sy_loop_goods.specs.declared.rests.Rest.{Rest}
+use Rattle.sy_loop_truth.specs.declared.rest.Rest.{Rest}
 
 pub same_item : {X : Type 0} (xs : List X) (k : ℕ) (x y : X) → slice_get xs k ≡ Some x → slice_get xs k ≡ Some y → x ≡ y
 same_item xs k x y one other = let e = sym one ∙ other in cc

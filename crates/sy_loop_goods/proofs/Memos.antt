@@ -13,19 +13,19 @@ use Rattle.sy_loop_bounds.specs.Resting.{RestsOn}
 use Rattle.sy_loop_bounds.proofs.Goodness.{posed_in}
 use Rattle.sy_loop_bounds.proofs.Resting.{rest_decides, rests_on_one}
 use Rattle.sy_loop_bounds.proofs.Variables.{many_values}
-use Rattle.sy_loop_candidate.proofs.Items.{has_place}
+use Rattle.sy_loop_truth.proofs.Items.{has_place}
 use Rattle.sy_loop_history.specs.Histories.{Counterexample}
 use Rattle.sy_loop_goods.specs.Tellings.{HasTelling, Telling}
 use Rattle.sy_loop_goods.specs.declared.memo.Memo.{Memo}
-use Rattle.sy_loop_trees_laws.specs.Goods.{assignments_of}
+use Rattle.sy_loop_history.specs.Goods.{assignments_of}
 use Rattle.sy_loop_goods.proofs.Columns.{row_means, same_item}
 use Rattle.sy_loop_goods.proofs.Told.{judges_one}
 use Rattle.sy_loop_goods.specs.Judged.{judged_by}
 use Rattle.sy_loop_goods.specs.Judging.{JudgesRests}
 use Rattle.sy_loop_goods.specs.Memos.{HoldsForAll, IsMemo}
-use Rattle.sy_loop_goods.specs.Rests.{IsRest}
+use Rattle.sy_loop_truth.specs.Rests.{IsRest}
 use Rattle.sy_loop_goods.specs.Telling.{TellsTruth}
-use Rattle.sy_loop_goods.specs.declared.rests.Rest.{Rest}
+use Rattle.sy_loop_truth.specs.declared.rest.Rest.{Rest}
 
 tells_alike : (question : Question) (body other : Expr) (values : List Val) (constraint : Expr) (truth : Bool) →
     meaning (functions question.definitions) (map (function_from (functions question.definitions)) (body ∷ [])) values constraint ≡

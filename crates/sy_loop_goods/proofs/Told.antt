@@ -25,18 +25,18 @@ use Rattle.sy_points.specs.declared.stored.Stored.{Stored}
 use Rattle.sy_loop_history.specs.Budgets.{LeavesRange}
 use Rattle.sy_loop_history.specs.Histories.{Counterexample}
 use Rattle.sy_loop_history.specs.Stored.{counterexample_of, history_of}
-use Rattle.sy_loop_candidate.proofs.Assignments.{place_of}
-use Rattle.sy_loop_candidate.proofs.Items.{has_place}
-use Rattle.sy_loop_candidate.proofs.Saying.{fits_with}
-use Rattle.sy_loop_candidate.proofs.Traced.{no_element}
-use Rattle.sy_loop_candidate.specs.Traces.{LeavesRangeAt}
-use Rattle.sy_loop_trees_laws.specs.Goods.{assignments_of}
-use Rattle.sy_loop_goods.proofs.Placing.{assignment_at}
+use Rattle.sy_loop_truth.proofs.Places.{place_of}
+use Rattle.sy_loop_truth.proofs.Items.{has_place}
+use Rattle.sy_loop_truth.proofs.Saying.{fits_with}
+use Rattle.sy_loop_truth.proofs.Traced.{no_element}
+use Rattle.sy_loop_truth.specs.Traces.{LeavesRangeAt}
+use Rattle.sy_loop_history.specs.Goods.{assignments_of}
+use Rattle.sy_loop_truth.proofs.Places.{assignment_at}
 use Rattle.sy_loop_goods.specs.Judged.{judged_by}
 use Rattle.sy_loop_goods.specs.Judging.{IsOneUntrue, IsTrueAt, JudgesRests}
-use Rattle.sy_loop_goods.specs.Rests.{IsRest}
+use Rattle.sy_loop_truth.specs.Rests.{IsRest}
 use Rattle.sy_loop_goods.specs.Telling.{TellsTruth}
-use Rattle.sy_loop_goods.specs.declared.rests.Rest.{Rest}
+use Rattle.sy_loop_truth.specs.declared.rest.Rest.{Rest}
 
 functions_are : {T N : Type 0} (number : N → Val) (defs : List (Def T N)) (terms : List (Term T N)) → wanted_functions number defs terms ≡ map (function_from (functions (bodies number defs))) (map (expr_of number) terms)
 functions_are number defs [] = refl

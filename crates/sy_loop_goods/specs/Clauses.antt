@@ -12,40 +12,17 @@ use Rattle.sy_points.specs.Asked.{Asked, of_function}
 use Rattle.sy_points.specs.declared.stored.Stored.{Stored}
 use Rattle.sy_loop_history.specs.Stored.{history_of}
 use Rattle.sy_loop_goods.specs.declared.memo.Memo.{Memo}
-use Rattle.sy_loop_trees_laws.specs.Goods.{assignments_of, AreGoods}
+use Rattle.sy_loop_history.specs.Goods.{assignments_of, AreGoods}
 use Rattle.sy_loop_goods.specs.Columns.{IsColumn}
 use Rattle.sy_loop_goods.specs.Judged.{JudgesLeaf}
 use Rattle.sy_loop_goods.specs.Judging.{JudgesRests}
-use Rattle.sy_loop_goods.specs.Leaves.{AreLeaves, AreAssigned, LeafLeaves}
+use Rattle.sy_loop_goods.specs.Leaves.{AreLeaves, LeafLeaves}
 use Rattle.sy_loop_goods.specs.Memos.{IsMemo}
-use Rattle.sy_loop_goods.specs.Placing.{Places}
-use Rattle.sy_loop_goods.specs.Rests.{AreRests, IsRest}
-use Rattle.sy_loop_goods.specs.Resting.{AnswersResting, WidensByRests}
 use Rattle.sy_loop_goods.specs.declared.goods.Leaving.{Leaving}
 use Rattle.sy_loop_goods.specs.declared.judging.Judged.{Judged}
-use Rattle.sy_loop_goods.specs.declared.rests.Placed.{Placed}
-use Rattle.sy_loop_goods.specs.declared.rests.Rest.{Rest}
-use Rattle.sy_loop_goods.specs.declared.rests.Resting.{Resting}
+use Rattle.sy_loop_truth.specs.declared.rest.Rest.{Rest}
 
 module _ {T N : Type 0} (theory : TheoryOf T N) (problem : Problem T N) where
-  abbrev pub WidensByRestsFor : Stored T N → Asked → Asked → Type 0
-  WidensByRestsFor stored = WidensByRests (question_of theory.denotes problem) (history_of theory.denotes stored)
-
-  abbrev pub RestsFor : Stored T N → Asked → Asked → Resting → Type 0
-  RestsFor stored = AnswersResting (question_of theory.denotes problem) (history_of theory.denotes stored)
-
-  -- what becomes of the constraints from the first numbers to the last, at the stored assignment of this place
-  abbrev pub PlacesFor : Stored T N → ℕ → ℕ → ℕ → ℕ → ℕ → Asked → List Rest → Asked → List Rest → Placed → Type 0
-  PlacesFor stored = Places (question_of theory.denotes problem) (history_of theory.denotes stored)
-
-  -- the stored assignments have values of the problem's variables
-  abbrev pub AreAssignedFor : Stored T N → Type 0
-  AreAssignedFor stored = AreAssigned (question_of theory.denotes problem) (history_of theory.denotes stored)
-
-  -- this is where each constraint rests at each stored assignment: on points of function 0 alone
-  abbrev pub AreRestsFor : Stored T N → Asked → List Rest → Type 0
-  AreRestsFor stored asked = AreRests (question_of theory.denotes problem) (assignments_of (history_of theory.denotes stored)) (of_function asked 0)
-
   abbrev pub AreLeavesFor : Asked → List Entry → Type 0
   AreLeavesFor asked = AreLeaves (question_of theory.denotes problem) (of_function asked 0)
 
@@ -54,9 +31,6 @@ module _ {T N : Type 0} (theory : TheoryOf T N) (problem : Problem T N) where
 
   abbrev pub IsLeavingFor : Stored T N → List Entry → Leaving → Type 0
   IsLeavingFor stored = LeafLeaves (question_of theory.denotes problem) (history_of theory.denotes stored)
-
-  abbrev pub IsRestFor : Stored T N → Asked → Rest → Type 0
-  IsRestFor stored asked = IsRest (question_of theory.denotes problem) (assignments_of (history_of theory.denotes stored)) (of_function asked 0)
 
   abbrev pub IsRowFor : Asked → Entry → Type 0
   IsRowFor asked entry = IsRow (functions (question_of theory.denotes problem).definitions) (of_function asked 0) entry.term entry.row

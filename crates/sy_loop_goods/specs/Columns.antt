@@ -5,7 +5,7 @@ use Rattle.sy_terms.specs.Expr.{Expr}
 use Rattle.sy_grammar_base.specs.Questions.{Question}
 use Rattle.sy_bank_rows.specs.Banks.{Entry}
 use Rattle.sy_loop_bounds.specs.Resting.{IsGoodAt, IsBadAt}
-use Rattle.sy_loop_goods.specs.declared.rests.Rest.{Rest}
+use Rattle.sy_loop_truth.specs.declared.rest.Rest.{Rest}
 
 -- whether it rests on the point of this number
 abbrev pub is_on : ℕ → Rest → Bool

@@ -8,7 +8,7 @@ use Rattle.sy_loop_goods.specs.Judging.{JudgesRests}
 use Rattle.sy_loop_goods.specs.declared.goods.Leaving.{Leaving}
 use Rattle.sy_loop_goods.specs.declared.judging.Judged.{Judged}
 use Rattle.sy_loop_goods.specs.declared.judging.Judged.TheVariants.{Good, Bad, Leaves}
-use Rattle.sy_loop_goods.specs.declared.rests.Rest.{Rest}
+use Rattle.sy_loop_truth.specs.declared.rest.Rest.{Rest}
 
 -- whether it is good
 abbrev pub good_of : Judged → Bool

@@ -4,12 +4,12 @@ use Rattle.sy_terms.specs.Values.{Val}
 use Rattle.sy_terms.specs.Expr.{Expr}
 use Rattle.sy_grammar_base.specs.Questions.{Question}
 use Rattle.sy_grammar_base.specs.Solving.{IsTrueUnder}
-use Rattle.sy_loop_candidate.specs.Traces.{LeavesRangeAt}
+use Rattle.sy_loop_truth.specs.Traces.{LeavesRangeAt}
 use Rattle.sy_loop_history.specs.Histories.{Counterexample}
-use Rattle.sy_loop_trees_laws.specs.Goods.{assignments_of}
+use Rattle.sy_loop_history.specs.Goods.{assignments_of}
 use Rattle.sy_loop_goods.specs.declared.judging.Judged.{Judged}
 use Rattle.sy_loop_goods.specs.declared.judging.Judged.TheVariants.{Good, Bad, Leaves}
-use Rattle.sy_loop_goods.specs.declared.rests.Rest.{Rest}
+use Rattle.sy_loop_truth.specs.declared.rest.Rest.{Rest}
 
 -- the constraint of this number is true under the bodies at the assignment of this number
 abbrev pub IsTrueAt : Question → List (List Val) → List Expr → Rest → Type 0

@@ -4,8 +4,5 @@ pub mod Judged
 pub mod Judging
 pub mod Leaves
 pub mod Memos
-pub mod Placing
-pub mod Resting
-pub mod Rests
 pub mod Telling
 pub mod Tellings

@@ -1,22 +1,24 @@
 // At which points kept terms are good.
-ghost use Rattle.std.specs.Prelude.{◌≡◌, ◌<◌, length, IfOk, IfSome, OnOk, None};
+ghost use Rattle.std.specs.Prelude.{◌≡◌, ◌<◌, length, filter, IfOk, IfSome, OnOk, None};
 ghost use Rattle.sy_bank_rows.specs.Stored.{chosen_of};
 ghost use Rattle.sy_grammar_base.specs.Fits.{ProblemFits};
 ghost use Rattle.sy_grammar_base.specs.Questions.{question_of};
 ghost use Rattle.sy_points.specs.Asked.{AreDistinct, of_function};
 ghost use Rattle.sy_loop_bounds.specs.Pointwise.{IsPointwise};
-ghost use Rattle.sy_loop_goods.specs.Clauses.{AreAssignedFor, AreRestsFor, AreLeavesFor, AreGoodsFor, IsColumnFor, IsLeavingFor, IsMemoFor};
+ghost use Rattle.sy_loop_truth.specs.Clauses.{AreAssignedFor, AreRestsFor};
+ghost use Rattle.sy_loop_goods.specs.Clauses.{AreLeavesFor, AreGoodsFor, IsColumnFor, IsLeavingFor, IsMemoFor};
+ghost use Rattle.sy_loop_goods.specs.Columns.{is_on};
 ghost use Rattle.sy_loop_goods.specs.Judged.{good_of, leaving_of};
 
 use crate::Memo;
 use crate::judging::Judged;
 use crate::leaf::judge_leaf;
-use crate::rests::{Rest, rests_on};
 use crate::rows::transposed;
 use std::alloc::Global;
 use std::collections::HashMap;
 use sy_bank_rows::Kept;
 use sy_grammar_base::Problem;
+use sy_loop_truth::Rest;
 use sy_points::{Points, Stored};
 use sy_terms::{Seq, Theory, Value, Want};
 
@@ -122,6 +124,19 @@ fn good_column<T: Theory>(
         leaving = leaving_by(judged, leaf).or(leaving);
     }
     Ok(Column { goods, leaving })
+}
+
+/// Those that rest on the point of this number, in order.
+fn rests_on(alloc: Global, rests: &[Rest], point: usize) -> Result<Vec<Rest>, Want>
+    ensures { IfOk result (λ here. here.items ≡ filter (is_on point) rests.now) }
+{
+    let mut here = Vec::new(alloc);
+    for rest in rests {
+        if rest.point == point {
+            here.push(*rest)?;
+        }
+    }
+    Ok(here)
 }
 
 /// Whether all are true.

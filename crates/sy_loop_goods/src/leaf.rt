@@ -4,17 +4,18 @@ ghost use Rattle.sy_bank_rows.specs.Stored.{chosen_of};
 ghost use Rattle.sy_grammar_base.specs.Fits.{ProblemFits};
 ghost use Rattle.sy_grammar_base.specs.Questions.{question_of};
 ghost use Rattle.sy_loop_bounds.specs.Pointwise.{IsPointwise};
-ghost use Rattle.sy_loop_goods.specs.Clauses.{AreAssignedFor, AreLeavesFor, IsMemoFor, IsRestFor, JudgesLeafFor};
+ghost use Rattle.sy_loop_truth.specs.Clauses.{AreAssignedFor, IsRestFor};
+ghost use Rattle.sy_loop_goods.specs.Clauses.{AreLeavesFor, IsMemoFor, JudgesLeafFor};
 ghost use Rattle.sy_loop_goods.specs.Judged.{IsCopied};
 
 use crate::Memo;
 use crate::judging::{Judged, body_of, judge};
 use crate::recall::{judged_by, recall, value_at};
-use crate::rests::Rest;
 use std::alloc::Global;
 use std::collections::HashMap;
 use sy_bank_rows::Kept;
 use sy_grammar_base::Problem;
+use sy_loop_truth::Rest;
 use sy_points::{Points, Stored};
 use sy_terms::{Theory, Value, Want, same_value};
 

@@ -1,4 +1,4 @@
-// Where constraints rest at stored assignments, and at which of these tuples kept terms are good.
+// At which points kept terms are good: whether the constraints that rest there are true under them.
 #![tactic(auto)]
 
 mod goods;
@@ -7,9 +7,7 @@ mod leaf;
 mod memo;
 mod page;
 mod recall;
-mod rests;
 mod rows;
 
 pub use goods::{Goods, Leaving, good_rows};
 pub use memo::Memo;
-pub use rests::{Rest, Resting, rest_all};

@@ -1,9 +1,11 @@
 pub mod Adding
 pub mod Budgets
+pub mod Goods
 pub mod Histories
 pub mod Sizes
 pub mod Solutions
 pub mod Stored
+pub mod Trees
 pub mod Trials
 pub mod Truths
 pub mod Unsolved

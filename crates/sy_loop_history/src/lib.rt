@@ -1,2 +1,2 @@
-// Definitions alone: what a search may try, and what refutes it.
+// Definitions alone: what a search may try, what refutes it, and conditional trees over kept terms.
 #![tactic(auto)]

@@ -16,12 +16,13 @@ use Rattle.sy_loop_bounds.specs.declared.reach.Reach.{Reach}
 use Rattle.sy_loop_bounds.specs.declared.reach.Reach.TheVariants.{Sizes, Joins, Beyond}
 use Rattle.sy_loop_history.specs.Histories.{Counterexample, IsViolatedIn}
 use Rattle.sy_loop_history.specs.Trials.{IsRefuted}
-use Rattle.sy_loop_candidate.specs.Known.{IsKnown}
+use Rattle.sy_loop_truth.specs.Known.{IsKnown}
 use Rattle.sy_loop_laws.specs.Agreeing.{AssumptionsAskNothing}
 use Rattle.sy_loop_laws.specs.Refuting.{AllTreesViolate}
 use Rattle.sy_loop_goods.specs.declared.goods.Goods.{Goods}
-use Rattle.sy_loop_trees_laws.specs.Goods.{AreGoods, assignments_of}
-use Rattle.sy_loop_trees_laws.specs.Trees.{EntriesHaveRows, conditional_of, kept_below, truths}
+use Rattle.sy_loop_history.specs.Goods.{AreGoods, assignments_of}
+use Rattle.sy_loop_history.specs.Goods.{EntriesHaveRows}
+use Rattle.sy_loop_history.specs.Trees.{conditional_of, kept_below, truths}
 use Rattle.sy_loop_trees_laws.proofs.Kept.{kept_have_rows}
 use Rattle.sy_loop_trees_laws.proofs.Trees.{pointless_violates, served_violates, uncovered_violates}
 use Rattle.sy_loop_join.specs.Joining.{AreParts, IsJoinable, TreesFollowFrom}

@@ -32,13 +32,13 @@ use Rattle.sy_loop_bounds.specs.declared.reach.Reach.TheVariants.{Sizes, Joins, 
 use Rattle.sy_loop_history.specs.Budgets.{CheckedLeaves}
 use Rattle.sy_loop_history.specs.Histories.{Counterexample, IsCandidate, IsFewJoined, IsMet, IsOpenNumber, MayTry}
 use Rattle.sy_loop_history.proofs.Staying.{may_try}
-use Rattle.sy_loop_candidate.specs.Known.{IsKnown}
-use Rattle.sy_loop_candidate.specs.Traces.{LeavesRangeAt}
+use Rattle.sy_loop_truth.specs.Known.{IsKnown}
+use Rattle.sy_loop_truth.specs.Traces.{LeavesRangeAt}
 use Rattle.sy_loop_candidate.proofs.Ending.{candidate_members, checked_leaves, members}
 use Rattle.sy_loop_goods.specs.Leaves.{AreLeaves, LeafLeaves}
 use Rattle.sy_loop_goods.specs.declared.goods.Goods.{Goods}
 use Rattle.sy_loop_goods.specs.declared.goods.Leaving.{Leaving}
-use Rattle.sy_loop_trees_laws.specs.Trees.{conditional_of, kept_below, truths}
+use Rattle.sy_loop_history.specs.Trees.{conditional_of, kept_below, truths}
 use Rattle.sy_loop_trees_laws.proofs.Kept.{kept_have_rows, kept_is_part}
 use Rattle.sy_loop_trees_laws.proofs.Merged.{numbered}
 use Rattle.sy_loop_trees_laws.proofs.Served.{as_many_leaves, parts_within}

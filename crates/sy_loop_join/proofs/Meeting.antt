@@ -24,16 +24,17 @@ use Rattle.sy_loop_bounds.specs.declared.reach.Reach.{Reach}
 use Rattle.sy_loop_bounds.proofs.Applied.{in_nothing}
 use Rattle.sy_loop_bounds.proofs.Goodness.{rests_or_not}
 use Rattle.sy_loop_history.specs.Histories.{Counterexample, IsHonestHistory}
-use Rattle.sy_loop_candidate.specs.Known.{IsKnown}
-use Rattle.sy_loop_candidate.specs.Traces.{MeetAll}
-use Rattle.sy_loop_candidate.proofs.Items.{has_at}
+use Rattle.sy_loop_truth.specs.Known.{IsKnown}
+use Rattle.sy_loop_truth.specs.Traces.{MeetAll}
+use Rattle.sy_loop_truth.proofs.Items.{has_at}
 use Rattle.sy_loop_pointwise.specs.Posed.{ArePosed, PosesConstraint}
 use Rattle.sy_loop_pointwise.specs.declared.posed.Posed.{Posed}
 use Rattle.sy_loop_pointwise.specs.declared.posed.Posed.TheVariants.{Free, Applies}
 use Rattle.sy_loop_goods.specs.declared.goods.Goods.{Goods}
 use Rattle.sy_loop_goods.specs.declared.goods.Leaving.{Leaving}
-use Rattle.sy_loop_trees_laws.specs.Goods.{AllRestWithin, AreGoods, assignments_of}
-use Rattle.sy_loop_trees_laws.specs.Trees.{EntriesHaveRows, conditional_of, kept_below, truths}
+use Rattle.sy_loop_history.specs.Goods.{AllRestWithin, AreGoods, assignments_of}
+use Rattle.sy_loop_history.specs.Goods.{EntriesHaveRows}
+use Rattle.sy_loop_history.specs.Trees.{conditional_of, kept_below, truths}
 use Rattle.sy_loop_trees_laws.proofs.Kept.{kept_have_rows}
 use Rattle.sy_loop_trees_laws.proofs.Merged.{numbered}
 use Rattle.sy_loop_trees_laws.proofs.Served.{served_is_good}

@@ -19,7 +19,7 @@ use Rattle.sy_grammar_laws.proofs.Problems.{problem_grammars}
 use Rattle.sy_loop_bounds.specs.Conditional.{IsTreeRule}
 use Rattle.sy_loop_bounds.specs.Pointwise.{IsPointwise}
 use Rattle.sy_loop_bounds.specs.declared.reach.Reach.{Reach}
-use Rattle.sy_loop_candidate.proofs.Items.{has_place}
+use Rattle.sy_loop_truth.proofs.Items.{has_place}
 use Rattle.sy_loop_trees.specs.Conditions as conditions
 use Rattle.sy_loop_goods.specs.Memos.{IsMemo}
 use Rattle.sy_loop_goods.specs.declared.memo.Memo.{Memo}

@@ -16,11 +16,11 @@ use Rattle.sy_loop_history.specs.Budgets.{CheckedLeaves, PointsMet}
 use Rattle.sy_loop_history.specs.Histories.{Counterexample, IsCandidate, IsMet}
 use Rattle.sy_loop_history.specs.Stored.{history_of}
 use Rattle.sy_loop_history.proofs.Staying.{tried_in_bound}
-use Rattle.sy_loop_candidate.specs.Known.{IsHeld, IsKnown}
+use Rattle.sy_loop_truth.specs.Known.{IsHeld, IsKnown}
 use Rattle.sy_loop_candidate.proofs.Ending.{checked_leaves, points_met, room_in, stored_candidate}
 use Rattle.sy_loop_trees_laws.proofs.Merged.{numbered}
-use Rattle.sy_loop_goods.specs.Resting.{AlwaysLeaves, IsRestedOn, RestsOnMore, WidensByRests}
-use Rattle.sy_loop_goods.proofs.Asked.{asks_more, leaves_under, rested_is_asked}
+use Rattle.sy_loop_rests.specs.Resting.{AlwaysLeaves, IsRestedOn, RestsOnMore, WidensByRests}
+use Rattle.sy_loop_rests.proofs.Asked.{asks_more, leaves_under, rested_is_asked}
 use Rattle.sy_loop_join.specs.Copies.{AreStored}
 
 module _ (question : Question) (pointwise : IsPointwise question) (reach : Reach) (limits : Limits) (history : List Counterexample) where

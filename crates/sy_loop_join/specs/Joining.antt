@@ -10,8 +10,8 @@ use Rattle.sy_loop_laws.specs.Merging.{IsCoveringOf}
 use Rattle.sy_loop_laws.specs.Refuting.{AllRefuted, AllTreesViolate}
 use Rattle.sy_loop_goods.specs.Leaves.{LeafLeaves}
 use Rattle.sy_loop_goods.specs.declared.goods.Goods.{Goods}
-use Rattle.sy_loop_trees_laws.specs.Goods.{AllRestWithin, AreGoods, assignments_of}
-use Rattle.sy_loop_trees_laws.specs.Trees.{kept_below, truths}
+use Rattle.sy_loop_history.specs.Goods.{AllRestWithin, AreGoods, assignments_of}
+use Rattle.sy_loop_history.specs.Trees.{kept_below, truths}
 
 -- an honest bank of the one function to be found, over its tuples
 pub record IsJoinable (question : Question) (asked : Asked) (bank : Merged) : Type 0 where

@@ -4,11 +4,15 @@ ghost use Rattle.sy_terms.specs.Denoted.{expr_of};
 ghost use Rattle.sy_grammar_base.specs.Fits.{ProblemFits};
 ghost use Rattle.sy_grammar_base.specs.Questions.{question_of};
 ghost use Rattle.sy_points.specs.Asked.{of_function};
+ghost use Rattle.sy_bank_rows.specs.Stored.{chosen_of};
+ghost use Rattle.sy_loop_bounds.specs.Conditional.{yield};
 ghost use Rattle.sy_loop_bounds.specs.Pointwise.{IsPointwise};
-ghost use Rattle.sy_loop_candidate.specs.Clauses.{GoesFor, IsCandidateFor, IsKnownFor, IsOpenFor, MeetAllFor};
-ghost use Rattle.sy_loop_goods.specs.Clauses.{AreAssignedFor, AreRestsFor, IsMemoFor};
+ghost use Rattle.sy_loop_candidate.specs.Clauses.{GoesFor, IsCandidateFor, IsKnownFor, IsOpenFor};
+ghost use Rattle.sy_loop_truth.specs.Clauses.{AreAssignedFor, AreRestsFor, MeetAllFor};
+ghost use Rattle.sy_loop_goods.specs.Clauses.{IsMemoFor};
 ghost use Rattle.sy_loop_join.specs.Clauses.{ArePartsFor, IsJoinableFor, IsPlanFor, IsRefutedFor, TreesFollowFromFor};
 ghost use Rattle.sy_loop_candidate.specs.Going.{OnNext};
+ghost use Rattle.sy_loop_history.specs.Trees.{conditional_of};
 
 use crate::copies::copied_leaf;
 use crate::kept::kept_up_to;
@@ -20,12 +24,13 @@ use sy_bank_rows::Kept;
 use sy_grammar_base::Problem;
 use sy_loop_bounds::Reach;
 use sy_loop_candidate::{End, Known, Step, decide_due, try_candidate};
-use sy_loop_goods::{Goods, Memo, Rest, good_rows};
+use sy_loop_goods::{Goods, Memo, good_rows};
 use sy_loop_trees::{tree_term, truth_rows};
+use sy_loop_truth::Rest;
 use sy_query_base::Decide;
 use sy_query_limits::Limits;
 use sy_terms::{Seq, Term, Theory, Want};
-use sy_unify::{Joined, unify};
+use sy_unify::{Choice, Joined, unify};
 
 /// How many leaves, and how many conditions, are too many.
 const TOO_MANY: usize = 1 << 31;
@@ -82,8 +87,42 @@ pub(crate) fn join<T: Theory, D: Decide<T>>(
         known,
         &mut plan.memo,
     )?;
-    match try_parts(
+    let step = join_parts(
         alloc, problem, limits, reach, decide, plan, bank, level, &parts, known,
+    );
+    drop(parts);
+    step
+}
+
+/// Tries the tree over the parts that serves all points. Where that changes nothing, a leaf that left the 128 bits ends the
+/// search.
+fn join_parts<'a, T: Theory, D: Decide<T>>(
+    alloc: Global,
+    problem: &Problem<T>,
+    limits: &Limits,
+    reach: Reach,
+    decide: &mut D,
+    plan: &Plan<T>,
+    bank: &Bank<T>,
+    level: u32,
+    parts: &Parts<'a, T>,
+    known: &mut Known<T>,
+) -> Result<Step<T, D::Proof, D::Spent>, Want>
+    requires problem { ProblemFits T.Theory problem.now }
+    requires plan { IsPlanFor T.Theory reach problem.now plan.now }
+    requires bank { IsJoinableFor T.Theory problem.now known.old bank.now }
+    requires opened { IsOpenFor T.Theory reach problem.now limits.now known.old level }
+    requires known { IsKnownFor T.Theory reach problem.now limits.now known.old }
+    requires room { length known.old.stored.items < limits.now.rounds }
+    requires parts { ArePartsFor T.Theory problem.now known.old plan.now.condition level bank.now parts.now }
+    requires few_leaves { length parts.now.goods.rows < 2 ^ 31 }
+    requires few_conditions { length parts.now.rows < 2 ^ 31 }
+    ensures known { OnOk result (IsKnownFor T.Theory reach problem.now limits.now known.new) }
+    ensures step { IfOk result (GoesFor T.Theory D.Decide reach problem.now limits.now known.old known.new) }
+    ensures trees { IfOk result (OnNext (TreesFollowFromFor T.Theory reach problem.now known.old level bank.now)) }
+{
+    match try_parts(
+        alloc, problem, limits, reach, decide, plan, bank, level, parts, known,
     )? {
         Step::Next => {}
         Step::Again => return Ok(Step::Again),
@@ -175,16 +214,33 @@ fn try_parts<'a, T: Theory, D: Decide<T>>(
     ensures trees { IfOk result (OnNext (parts.now.goods.leaving ≡ None → TreesFollowFromFor T.Theory reach problem.now known.old _level _bank.now)) }
 {
     match unify(alloc, parts.points, &parts.goods.rows, &parts.rows)? {
-        Joined::Uncovered(_) => Ok(Step::Next),
+        Joined::Uncovered(class) => {
+            drop(class);
+            Ok(Step::Next)
+        }
         Joined::Tree(choice) => {
             let leaves = parts.leaves.as_slice();
-            let term = tree_term(alloc, &choice, leaves, parts.conditions.as_slice())?;
+            let term = chosen_term(alloc, choice, leaves, parts.conditions.as_slice())?;
             let posed = plan.posed.as_slice();
             let served = is_served(posed, &parts.goods);
             let step = try_tree(alloc, problem, limits, reach, decide, term, served, known)?;
             Ok(step)
         }
     }
+}
+
+/// The term that the choice is over these leaves and conditions.
+fn chosen_term<T: Theory>(
+    alloc: Global,
+    choice: Choice,
+    leaves: &[&Kept<T>],
+    conditions: &[&Kept<T>],
+) -> Result<Term<T>, Want>
+    ensures { IfOk result (λ term. expr_of T.denotes term ≡ yield (conditional_of (chosen_of T.denotes leaves.now) (chosen_of T.denotes conditions.now) choice)) }
+{
+    let term = tree_term(alloc, &choice, leaves, conditions);
+    drop(choice);
+    term
 }
 
 /// Tries the term as the one body. Where it is known to meet the problem at each stored assignment, it is decided at once.

@@ -2,7 +2,7 @@
 ghost use Rattle.std.specs.Prelude.{◌≡◌, ◌+◌, ◌++◌, IfOk, OnOk};
 ghost use Rattle.sy_bank_level.specs.Bank.{merged_of};
 ghost use Rattle.sy_bank_rows.specs.Stored.{chosen_of, entries_of};
-ghost use Rattle.sy_loop_trees_laws.specs.Trees.{kept_below};
+ghost use Rattle.sy_loop_history.specs.Trees.{kept_below};
 
 use std::alloc::Global;
 use sy_bank_level::Bank;

@@ -13,7 +13,7 @@ use sy_bank_level::Bank;
 use sy_grammar_base::Problem;
 use sy_loop_bounds::Reach;
 use sy_loop_candidate::{End, Known, Step};
-use sy_loop_goods::{Resting, rest_all};
+use sy_loop_rests::{Resting, rest_all};
 use sy_query_base::Decide;
 use sy_query_limits::Limits;
 use sy_terms::{Theory, Want};

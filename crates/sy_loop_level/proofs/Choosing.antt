@@ -24,7 +24,7 @@ use Rattle.sy_bank_rows.specs.Stored.{entry_of, entries_of, chosen_of}
 use Rattle.sy_bank_rows.specs.declared.kept.Kept.{Kept}
 use Rattle.sy_bank_level.specs.Bank.{merged_of}
 use Rattle.sy_bank_level.specs.declared.bank.Bank.{Bank}
-use Rattle.sy_loop_candidate.proofs.Items.{all_at}
+use Rattle.sy_loop_truth.proofs.Items.{all_at}
 use Rattle.sy_bank_level.proofs.Kept.{at-end}
 use Rattle.sy_loop_level.specs.Levels.{AreHonest, BodiesSumTo, BodiesHaveRows, BodiesAreBegun, AreChoices}
 

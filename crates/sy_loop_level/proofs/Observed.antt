@@ -31,7 +31,7 @@ use Rattle.sy_bank_rows.specs.Stored.{entry_of, chosen_of}
 use Rattle.sy_bank_rows.specs.declared.kept.Kept.{Kept}
 use Rattle.sy_loop_bounds.specs.declared.reach.Reach.{Reach}
 use Rattle.sy_loop_history.specs.Histories.{Counterexample}
-use Rattle.sy_loop_candidate.specs.Known.{IsKnown}
+use Rattle.sy_loop_truth.specs.Known.{IsKnown}
 use Rattle.sy_loop_candidate.proofs.Ending.{members}
 use Rattle.sy_loop_refutation.specs.Bodies.{AreBodies}
 use Rattle.sy_loop_refutation.specs.Observing as observing

@@ -4,7 +4,7 @@ ghost use Rattle.sy_terms.specs.Denoted.{expr_of};
 ghost use Rattle.sy_bank_level.specs.Bank.{merged_of};
 ghost use Rattle.sy_bank_rows.specs.Covering.{terms};
 ghost use Rattle.sy_bank_rows.specs.Stored.{entry_of, entries_of, chosen_of};
-ghost use Rattle.sy_loop_candidate.specs.Traces.{TuplesGrow};
+ghost use Rattle.sy_loop_truth.specs.Traces.{TuplesGrow};
 ghost use Rattle.sy_loop_candidate.specs.Going.{OnNext};
 ghost use Rattle.sy_grammar_base.specs.Fits.{ProblemFits};
 ghost use Rattle.sy_loop_candidate.specs.Clauses.{GoesFor, IsKnownFor, IsOpenFor, StepsFor};

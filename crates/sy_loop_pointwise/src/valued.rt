@@ -55,7 +55,7 @@ fn shape_value<T: Theory>(
 {
     match shape {
         Shape::Const(value) => {
-            let value = plain_value(alloc, defs, &Term::Const(*value))?;
+            let value = closed_value(alloc, defs, Term::Const(*value))?;
             Ok(value)
         }
         Shape::Var(position) => Ok(variable_value::<T>(values, *position)),
@@ -64,7 +64,7 @@ fn shape_value<T: Theory>(
                 return Ok(None);
             };
             let arguments = constants::<T>(alloc, arguments.as_slice())?;
-            let value = plain_value(alloc, defs, &Term::App(*operator, arguments))?;
+            let value = closed_value(alloc, defs, Term::App(*operator, arguments))?;
             Ok(value)
         }
         Shape::Call(function, numbers) => {
@@ -72,7 +72,7 @@ fn shape_value<T: Theory>(
                 return Ok(None);
             };
             let arguments = constants::<T>(alloc, arguments.as_slice())?;
-            let value = plain_value(alloc, defs, &Term::Call(*function, arguments))?;
+            let value = closed_value(alloc, defs, Term::Call(*function, arguments))?;
             Ok(value)
         }
     }
@@ -85,6 +85,20 @@ fn variable_value<T: Theory>(values: &[Value<T::Num>], position: u32) -> Option<
 {
     let value = values.get(position as usize)?;
     Some(*value)
+}
+
+/// The value of a term without variables, of which only the value is left.
+fn closed_value<T: Theory>(
+    alloc: Global,
+    defs: &Defs<T>,
+    term: Term<T>,
+) -> Result<Option<Value<T::Num>>, Want>
+    requires definitions { DefinitionsFit T.owned T.denotes defs.now }
+    ensures { IfOk result (IsValued T.denotes (scope_of T.owned defs.now) (functions (bodies T.denotes defs.now)) [] (expr_of T.denotes term)) }
+{
+    let value = plain_value(alloc, defs, &term);
+    drop(term);
+    value
 }
 
 /// The value of a term without variables.

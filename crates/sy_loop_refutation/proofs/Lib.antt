@@ -4,3 +4,4 @@ pub mod Told
 pub mod Untold
 pub mod Telling
 pub mod Places
+mod Rows

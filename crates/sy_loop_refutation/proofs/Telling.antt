@@ -26,8 +26,8 @@ use Rattle.sy_bank_rows.specs.declared.kept.Kept.{Kept}
 use Rattle.sy_loop_history.specs.Stored.{counterexample_of, history_of}
 use Rattle.sy_loop_history.specs.Trials.{IsRefuted}
 use Rattle.sy_loop_history.specs.Truths.{asked_by}
-use Rattle.sy_loop_candidate.proofs.Assignments.{place_of}
-use Rattle.sy_loop_candidate.proofs.Items.{has_place}
+use Rattle.sy_loop_truth.proofs.Places.{place_of}
+use Rattle.sy_loop_truth.proofs.Items.{has_place}
 use Rattle.sy_loop_refutation.specs.Bodies.{AreBodies, bodies_of, functions_by, FitsUnder}
 use Rattle.sy_loop_refutation.specs.Observing.{IsTold, IsUntold}
 use Rattle.sy_loop_refutation.specs.Refuting.{AreAssignments, AreReady, IsHidden, IsShownFalse, IsOne, IsShown}

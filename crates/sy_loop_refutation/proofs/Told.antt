@@ -31,7 +31,7 @@ use Rattle.sy_points.specs.Asked.{Asked, of_function}
 use Rattle.sy_bank_rows.specs.Columns.{HasRow}
 use Rattle.sy_bank_rows.specs.Stored.{entry_of}
 use Rattle.sy_loop_history.specs.Adding.{IsAsked, AreAsked}
-use Rattle.sy_loop_candidate.proofs.Items.{has_place}
+use Rattle.sy_loop_truth.proofs.Items.{has_place}
 use Rattle.sy_bank_rows.specs.declared.kept.Kept.{Kept}
 use Rattle.sy_loop_refutation.specs.Bodies.{bodies_of, AreBodies, functions_by, FitsUnder, asks_under, all_asks_under}
 use Rattle.sy_loop_refutation.specs.Observing.{HasValueAt, IsTold, AllAreTold}

@@ -11,7 +11,7 @@ use crate::observe::observe;
 use std::alloc::Global;
 use sy_bank_rows::Kept;
 use sy_grammar_base::Problem;
-use sy_loop_candidate::is_true;
+use sy_loop_truth::is_true;
 use sy_points::Points;
 use sy_terms::{Term, Theory, Value, Want};
 

@@ -3,7 +3,7 @@ ghost use Rattle.std.specs.Prelude.{◌≡◌, map, IfOk};
 ghost use Rattle.sy_terms.specs.Denoted.{val_of, vals_of};
 ghost use Rattle.sy_terms.specs.Values as values;
 ghost use Rattle.sy_bank_rows.specs.Stored.{chosen_of};
-ghost use Rattle.sy_loop_trees_laws.specs.Trees.{truths};
+ghost use Rattle.sy_loop_history.specs.Trees.{truths};
 
 use std::alloc::Global;
 use sy_bank_rows::Kept;

@@ -3,7 +3,7 @@ ghost use Rattle.std.specs.Prelude.{◌≡◌, IfOk};
 ghost use Rattle.sy_terms.specs.Denoted.{expr_of};
 ghost use Rattle.sy_bank_rows.specs.Stored.{chosen_of};
 ghost use Rattle.sy_loop_bounds.specs.Conditional.{yield};
-ghost use Rattle.sy_loop_trees_laws.specs.Trees.{conditional_of, entry_at};
+ghost use Rattle.sy_loop_history.specs.Trees.{conditional_of, entry_at};
 
 use std::alloc::Global;
 use sy_bank_rows::Kept;

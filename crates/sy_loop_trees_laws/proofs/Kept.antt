@@ -10,7 +10,8 @@ use Rattle.sy_bank_rows.specs.Rows.{IsRow}
 use Rattle.sy_bank_rows.specs.Banks.{Entry, Merged, IsKept, IsHonestBank, kept_at}
 use Rattle.sy_bank_rows.specs.Covering.{Covers}
 use Rattle.sy_loop_bounds.specs.Conditional.{IsPart}
-use Rattle.sy_loop_trees_laws.specs.Trees.{kept_below, truths, EntriesHaveRows}
+use Rattle.sy_loop_history.specs.Trees.{kept_below, truths}
+use Rattle.sy_loop_history.specs.Goods.{EntriesHaveRows}
 
 -- what stands in two lists in a row
 get_left : {X : Type 0} (xs ys : List X) (k : ℕ) (x : X) → slice_get xs k ≡ Some x → slice_get (xs ++ ys) k ≡ Some x

@@ -15,7 +15,7 @@ use Rattle.sy_loop_bounds.specs.Pointwise.{IsPointwise}
 use Rattle.sy_loop_bounds.specs.Resting.{IsGoodAt}
 use Rattle.sy_loop_bounds.specs.Conditional.{Conditional, Leaf, Test, leaf_reached, ArePartsWithin}
 use Rattle.sy_loop_bounds.proofs.Goodness.{good_alike}
-use Rattle.sy_loop_trees_laws.specs.Trees.{IsKeptPart, IsMergedTree}
+use Rattle.sy_loop_history.specs.Trees.{IsKeptPart, IsMergedTree}
 use Rattle.sy_loop_trees_laws.proofs.Kept.{IsTwin, twin, twin_means}
 
 -- a point and its number

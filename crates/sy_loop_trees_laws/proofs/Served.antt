@@ -19,8 +19,9 @@ use Rattle.sy_loop_bounds.specs.Pointwise.{IsPointwise}
 use Rattle.sy_loop_bounds.specs.Resting.{IsGoodAt}
 use Rattle.sy_loop_bounds.specs.Conditional.{yield, leaves as leaves_of, leaf_reached, ArePartsWithin}
 use Rattle.sy_loop_bounds.proofs.Goodness.{tree_is_good}
-use Rattle.sy_loop_trees_laws.specs.Goods.{AreGoods}
-use Rattle.sy_loop_trees_laws.specs.Trees.{kept_below, truths, EntriesHaveRows, entry_at, conditional_of, nothing_kept}
+use Rattle.sy_loop_history.specs.Goods.{AreGoods}
+use Rattle.sy_loop_history.specs.Trees.{kept_below, truths, entry_at, conditional_of, nothing_kept}
+use Rattle.sy_loop_history.specs.Goods.{EntriesHaveRows}
 use Rattle.sy_loop_trees_laws.proofs.Kept.{kept_is_part, row_says, truths_say}
 
 -- the row of a condition says where it is true; so does the row of none

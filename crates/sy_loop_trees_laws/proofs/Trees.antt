@@ -27,8 +27,9 @@ use Rattle.sy_loop_laws.specs.Agreeing.{BodiesAgree, AssumptionsAskNothing}
 use Rattle.sy_loop_laws.specs.Merging.{IsCoveringOf}
 use Rattle.sy_loop_laws.specs.Refuting.{AllRefuted}
 use Rattle.sy_loop_laws.proofs.Refuted.{refuted_together, violated_in}
-use Rattle.sy_loop_trees_laws.specs.Goods.{AreGoods, AllRestWithin, assignments_of}
-use Rattle.sy_loop_trees_laws.specs.Trees.{kept_below, truths, EntriesHaveRows, conditional_of}
+use Rattle.sy_loop_history.specs.Goods.{AreGoods, AllRestWithin, assignments_of}
+use Rattle.sy_loop_history.specs.Trees.{kept_below, truths, conditional_of}
+use Rattle.sy_loop_history.specs.Goods.{EntriesHaveRows}
 use Rattle.sy_loop_trees_laws.proofs.Violated.{assigned, all_assigned, untrue_violates, bad_violates}
 use Rattle.sy_loop_trees_laws.proofs.Merged.{numbered}
 use Rattle.sy_loop_trees_laws.proofs.Uncovered.{one_condition, uncovered_is_bad}

@@ -20,8 +20,8 @@ use Rattle.sy_loop_bounds.specs.Pointwise.{IsPointwise}
 use Rattle.sy_loop_bounds.specs.Resting.{IsBadAt}
 use Rattle.sy_loop_bounds.specs.Conditional.{Conditional, Leaf, Test, yield, leaf_reached, IsPart, ArePartsWithin, IsTreeRule}
 use Rattle.sy_loop_bounds.proofs.Goodness.{bad_alike, tree_is_bad}
-use Rattle.sy_loop_trees_laws.specs.Goods.{AreGoods}
-use Rattle.sy_loop_trees_laws.specs.Trees.{kept_below, truths}
+use Rattle.sy_loop_history.specs.Goods.{AreGoods}
+use Rattle.sy_loop_history.specs.Trees.{kept_below, truths}
 use Rattle.sy_loop_trees_laws.proofs.Kept.{twin, twin_means, twin_says}
 
 -- only one place is the first

@@ -14,7 +14,7 @@ use Rattle.sy_loop_bounds.proofs.Applied.{in_nothing}
 use Rattle.sy_loop_history.specs.Histories.{Counterexample, IsHonestHistory, IsNextCounterexample, IsViolatedIn}
 use Rattle.sy_loop_laws.specs.Agreeing.{AssumptionsAskNothing}
 use Rattle.sy_loop_laws.proofs.Same.{stands}
-use Rattle.sy_loop_trees_laws.specs.Goods.{assignments_of}
+use Rattle.sy_loop_history.specs.Goods.{assignments_of}
 
 pub from_map : {A B : Type 0} (f : A → B) (xs : List A) (y : B) → Contains (map f xs) y → (x : A) × Contains xs x × (f x ≡ y)
 from_map f [] y (k, less, at) = absurd (omega (arith, less))

@@ -1,2 +1,0 @@
-pub mod Goods
-pub mod Trees

@@ -5,7 +5,7 @@ use Rattle.sy_bank_rows.specs.Banks.{Merged}
 use Rattle.sy_bank_level.specs.Bank.{merged_of}
 use Rattle.sy_loop_history.specs.Stored.{history_of}
 use Rattle.sy_loop_candidate.proofs.Ending.{room_in}
-use Rattle.sy_loop_candidate.proofs.Items.{all_more, all_done}
+use Rattle.sy_loop_truth.proofs.Items.{all_more, all_done}
 use Rattle.sy_loop_banks.proofs.Building.{placed, dropped_leaves, image_at}
 use Rattle.sy_loop_banks.proofs.dropped.dropped_term.Goals as goal
 

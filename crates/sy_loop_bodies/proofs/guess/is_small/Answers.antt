@@ -10,7 +10,7 @@ use Rattle.sy_grammar_base.specs.Grown.{syntax_from, tree_of}
 use Rattle.sy_grammar_base.specs.Questions.{question_of, goal_of}
 use Rattle.sy_grammar_laws.proofs.Numbering.{numbered}
 use Rattle.sy_grammar_laws.proofs.Problems.{problem_grammars}
-use Rattle.sy_loop_candidate.proofs.Items.{has_place}
+use Rattle.sy_loop_truth.proofs.Items.{has_place}
 use Rattle.sy_loop_bodies.proofs.One.{one_goal}
 use Rattle.sy_loop_bodies.proofs.Small.{one_within}
 use Rattle.sy_loop_bodies.proofs.guess.is_small.Goals as goal

@@ -2,7 +2,7 @@ use Rattle.std.proofs.Common.{List, refl}
 use Rattle.sy_terms.specs.Denoted.{vals_of}
 use Rattle.sy_terms.specs.declared.sort.Value.{Value}
 use Rattle.sy_grammar_base.specs.Solving.{AreValues}
-use Rattle.sy_loop_candidate.proofs.Items.{item_of}
+use Rattle.sy_loop_truth.proofs.Items.{item_of}
 use Rattle.sy_loop_bodies.proofs.scanning.tell.Goals as goal
 
 pub tell_at-requires-clause-values : goal.tell_at-requires-clause-values

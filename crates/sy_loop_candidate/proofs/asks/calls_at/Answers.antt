@@ -2,8 +2,8 @@ use Rattle.std.proofs.Common.{ap, Err}
 use Rattle.sy_terms.specs.Denoted.{vals_of}
 use Rattle.sy_grammar_laws.proofs.Problems.{problem_definitions, problem_constraints}
 use Rattle.sy_grammar_base.specs.Fits.{IsTruth}
-use Rattle.sy_loop_candidate.proofs.Items.{item_of}
-use Rattle.sy_loop_candidate.proofs.Saying.{fits_with}
+use Rattle.sy_loop_truth.proofs.Items.{item_of}
+use Rattle.sy_loop_truth.proofs.Saying.{fits_with}
 use Rattle.sy_loop_candidate.proofs.Asking.{calls_next, calls_done, leaves_next}
 use Rattle.sy_loop_candidate.proofs.asks.calls_at.Goals as goal
 

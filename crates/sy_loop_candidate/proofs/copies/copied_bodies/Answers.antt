@@ -2,7 +2,7 @@ use Rattle.std.proofs.Common.{map, ap, ◌∙◌}
 use Rattle.std.proofs.lemmas.List.{take_all}
 use Rattle.std.proofs.lemmas.Result.{IfOk-from_err}
 use Rattle.sy_terms.specs.Denoted.{expr_of}
-use Rattle.sy_loop_candidate.proofs.Items.{copied_more}
+use Rattle.sy_loop_truth.proofs.Items.{copied_more}
 use Rattle.sy_loop_candidate.proofs.copies.copied_bodies.Goals as goal
 
 pub loop-body-preserved : goal.loop-body-preserved

@@ -6,7 +6,7 @@ use Rattle.sy_terms.specs.declared.term.Term.{Term}
 use Rattle.sy_grammar_base.specs.Questions.{question_of}
 use Rattle.sy_loop_history.specs.Stored.{counterexample_of, history_of}
 use Rattle.sy_loop_candidate.proofs.Asking.{grows_by, known_wider}
-use Rattle.sy_loop_candidate.proofs.Assignments.{place_of}
+use Rattle.sy_loop_truth.proofs.Places.{place_of}
 use Rattle.sy_loop_candidate.proofs.Ending.{points_met, followed_at, followed_leaves, stored_candidate, room_in}
 use Rattle.sy_loop_candidate.proofs.due.follow.Goals as goal
 

@@ -5,7 +5,7 @@ use Rattle.std.proofs.lemmas.Result.{IfOk-from_err}
 use Rattle.sy_terms.specs.Denoted.{expr_of, vals_of}
 use Rattle.sy_grammar_base.specs.Questions.{question_of}
 use Rattle.sy_loop_history.specs.Stored.{counterexample_of, history_of}
-use Rattle.sy_loop_candidate.specs.Traces.{AsksMore, LeavesRangeAt}
+use Rattle.sy_loop_truth.specs.Traces.{AsksMore, LeavesRangeAt}
 use Rattle.sy_loop_candidate.proofs.Asking.{grows_by, grows_then, known_wider}
 use Rattle.sy_loop_candidate.specs.Steps.{Steps}
 use Rattle.sy_loop_candidate.proofs.Ending.{points_met, checked_leaves, room_in, traced_step}

@@ -8,9 +8,10 @@ use Rattle.sy_grammar_base.specs.Questions.{question_of}
 use Rattle.sy_grammar_base.specs.Solving.{Meets}
 use Rattle.sy_loop_history.specs.Histories.{Counterexample}
 use Rattle.sy_loop_history.specs.Stored.{counterexample_of, history_of}
-use Rattle.sy_loop_candidate.proofs.Items.{all_next, all_done}
-use Rattle.sy_loop_candidate.proofs.Assignments.{place_of, calls_within, holds, widens, tried, leaves_at}
-use Rattle.sy_loop_candidate.specs.Traces.{Widens}
+use Rattle.sy_loop_truth.proofs.Items.{all_next, all_done}
+use Rattle.sy_loop_truth.proofs.Places.{place_of}
+use Rattle.sy_loop_candidate.proofs.Assignments.{calls_within, holds, widens, tried, leaves_at}
+use Rattle.sy_loop_truth.specs.Traces.{Widens}
 use Rattle.sy_loop_candidate.proofs.Asking.{widens_not}
 use Rattle.sy_loop_candidate.proofs.trial.try_bodies.Goals as goal
 

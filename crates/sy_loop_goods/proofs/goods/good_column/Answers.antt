@@ -1,12 +1,13 @@
 use Rattle.std.proofs.Common.{arith}
 use Rattle.std.proofs.lemmas.List.{take_all}
 use Rattle.std.proofs.lemmas.List.Elements.{All-filter}
+use Rattle.std.proofs.lemmas.Result.{IfOk-from_err}
 use Rattle.sy_grammar_base.specs.Questions.{question_of}
 use Rattle.sy_points.specs.Asked.{of_function}
 use Rattle.sy_loop_history.specs.Stored.{history_of}
-use Rattle.sy_loop_trees_laws.specs.Goods.{assignments_of}
+use Rattle.sy_loop_history.specs.Goods.{assignments_of}
 use Rattle.sy_loop_goods.specs.Columns.{is_on}
-use Rattle.sy_loop_goods.specs.Rests.{IsRest}
+use Rattle.sy_loop_truth.specs.Rests.{IsRest}
 use Rattle.sy_loop_goods.proofs.Columns.{goods_next, leaving_next}
 use Rattle.sy_loop_goods.proofs.goods.good_column.Goals as goal
 
@@ -38,3 +39,30 @@ returns-clause-leaving g c = c.loop-leaf.invariant.leaving
 
 pub returns-clause-memo : goal.returns-clause-memo
 returns-clause-memo g c = c.loop-leaf.invariant.memo
+
+pub returns-in_err-here-clause-goods : goal.returns-in_err-here-clause-goods
+returns-in_err-here-clause-goods g c = IfOk-from_err c.from_residual.result _ c.from_residual.ensures.0
+
+pub returns-in_err-here-clause-leaving : goal.returns-in_err-here-clause-leaving
+returns-in_err-here-clause-leaving g c = IfOk-from_err c.from_residual.result _ c.from_residual.ensures.0
+
+pub returns-in_err-here-clause-memo : goal.returns-in_err-here-clause-memo
+returns-in_err-here-clause-memo g c = IfOk-from_err c.from_residual.result _ c.from_residual.ensures.0
+
+pub returns-in_err-judged-clause-goods : goal.returns-in_err-judged-clause-goods
+returns-in_err-judged-clause-goods g c = IfOk-from_err c.from_residual-in_err-judged.result _ c.from_residual-in_err-judged.ensures.0
+
+pub returns-in_err-judged-clause-leaving : goal.returns-in_err-judged-clause-leaving
+returns-in_err-judged-clause-leaving g c = IfOk-from_err c.from_residual-in_err-judged.result _ c.from_residual-in_err-judged.ensures.0
+
+pub returns-in_err-judged-clause-memo : goal.returns-in_err-judged-clause-memo
+returns-in_err-judged-clause-memo g c = IfOk-from_err c.from_residual-in_err-judged.result _ c.from_residual-in_err-judged.ensures.0
+
+pub returns-in_err-push-clause-goods : goal.returns-in_err-push-clause-goods
+returns-in_err-push-clause-goods g c = IfOk-from_err c.from_residual-in_err-push.result _ c.from_residual-in_err-push.ensures.0
+
+pub returns-in_err-push-clause-leaving : goal.returns-in_err-push-clause-leaving
+returns-in_err-push-clause-leaving g c = IfOk-from_err c.from_residual-in_err-push.result _ c.from_residual-in_err-push.ensures.0
+
+pub returns-in_err-push-clause-memo : goal.returns-in_err-push-clause-memo
+returns-in_err-push-clause-memo g c = IfOk-from_err c.from_residual-in_err-push.result _ c.from_residual-in_err-push.ensures.0

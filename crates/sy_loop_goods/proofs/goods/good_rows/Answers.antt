@@ -1,12 +1,13 @@
 use Rattle.std.proofs.Common.{◌≡◌, ◌<◌, ◌≤◌, ◌∙◌, List, Bool, Bor, ap, arith, length, rules, subst, sym}
 use Rattle.std.proofs.lemmas.List.{length-map}
+use Rattle.std.proofs.lemmas.Result.{IfOk-from_err}
 use Rattle.sy_terms.specs.Denoted.{vals_of}
 use Rattle.sy_grammar_base.specs.Questions.{question_of}
 use Rattle.sy_points.specs.Asked.{AreDistinct, of_function, tuples_of}
 use Rattle.sy_bank_rows.specs.Stored.{chosen_of, entry_of}
 use Rattle.sy_bank_rows.specs.declared.kept.Kept.{Kept}
 use Rattle.sy_loop_history.specs.Stored.{history_of}
-use Rattle.sy_loop_trees_laws.specs.Goods.{assignments_of}
+use Rattle.sy_loop_history.specs.Goods.{assignments_of}
 use Rattle.sy_loop_goods.specs.Columns.{row_from}
 use Rattle.sy_loop_goods.specs.Leaves.{LeafLeaves}
 use Rattle.sy_loop_goods.proofs.Columns.{columns_next, goods_all, left_by, tuples_are}
@@ -52,3 +53,63 @@ returns-clause-leaving g c = c.loop-point.invariant.leaving
 
 pub returns-clause-memo : goal.returns-clause-memo
 returns-clause-memo g c = c.loop-point.invariant.memo
+
+pub returns-in_err-widen-clause-many : goal.returns-in_err-widen-clause-many
+returns-in_err-widen-clause-many g c = IfOk-from_err c.from_residual.result _ c.from_residual.ensures.0
+
+pub returns-in_err-widen-clause-goods : goal.returns-in_err-widen-clause-goods
+returns-in_err-widen-clause-goods g c = IfOk-from_err c.from_residual.result _ c.from_residual.ensures.0
+
+pub returns-in_err-widen-clause-leaving : goal.returns-in_err-widen-clause-leaving
+returns-in_err-widen-clause-leaving g c = IfOk-from_err c.from_residual.result _ c.from_residual.ensures.0
+
+pub returns-in_err-widen-clause-memo : goal.returns-in_err-widen-clause-memo
+returns-in_err-widen-clause-memo g c = IfOk-from_err c.from_residual.result _ c.from_residual.ensures.0
+
+pub returns-in_err-columns-clause-many : goal.returns-in_err-columns-clause-many
+returns-in_err-columns-clause-many g c = IfOk-from_err c.from_residual-in_err-columns.result _ c.from_residual-in_err-columns.ensures.0
+
+pub returns-in_err-columns-clause-goods : goal.returns-in_err-columns-clause-goods
+returns-in_err-columns-clause-goods g c = IfOk-from_err c.from_residual-in_err-columns.result _ c.from_residual-in_err-columns.ensures.0
+
+pub returns-in_err-columns-clause-leaving : goal.returns-in_err-columns-clause-leaving
+returns-in_err-columns-clause-leaving g c = IfOk-from_err c.from_residual-in_err-columns.result _ c.from_residual-in_err-columns.ensures.0
+
+pub returns-in_err-columns-clause-memo : goal.returns-in_err-columns-clause-memo
+returns-in_err-columns-clause-memo g c = IfOk-from_err c.from_residual-in_err-columns.result _ c.from_residual-in_err-columns.ensures.0
+
+pub returns-in_err-column-clause-many : goal.returns-in_err-column-clause-many
+returns-in_err-column-clause-many g c = IfOk-from_err c.from_residual-in_err-column.result _ c.from_residual-in_err-column.ensures.0
+
+pub returns-in_err-column-clause-goods : goal.returns-in_err-column-clause-goods
+returns-in_err-column-clause-goods g c = IfOk-from_err c.from_residual-in_err-column.result _ c.from_residual-in_err-column.ensures.0
+
+pub returns-in_err-column-clause-leaving : goal.returns-in_err-column-clause-leaving
+returns-in_err-column-clause-leaving g c = IfOk-from_err c.from_residual-in_err-column.result _ c.from_residual-in_err-column.ensures.0
+
+pub returns-in_err-column-clause-memo : goal.returns-in_err-column-clause-memo
+returns-in_err-column-clause-memo g c = IfOk-from_err c.from_residual-in_err-column.result _ c.from_residual-in_err-column.ensures.0
+
+pub returns-in_err-push-clause-many : goal.returns-in_err-push-clause-many
+returns-in_err-push-clause-many g c = IfOk-from_err c.from_residual-in_err-push.result _ c.from_residual-in_err-push.ensures.0
+
+pub returns-in_err-push-clause-goods : goal.returns-in_err-push-clause-goods
+returns-in_err-push-clause-goods g c = IfOk-from_err c.from_residual-in_err-push.result _ c.from_residual-in_err-push.ensures.0
+
+pub returns-in_err-push-clause-leaving : goal.returns-in_err-push-clause-leaving
+returns-in_err-push-clause-leaving g c = IfOk-from_err c.from_residual-in_err-push.result _ c.from_residual-in_err-push.ensures.0
+
+pub returns-in_err-push-clause-memo : goal.returns-in_err-push-clause-memo
+returns-in_err-push-clause-memo g c = IfOk-from_err c.from_residual-in_err-push.result _ c.from_residual-in_err-push.ensures.0
+
+pub returns-in_err-rows-clause-many : goal.returns-in_err-rows-clause-many
+returns-in_err-rows-clause-many g c = IfOk-from_err c.from_residual-in_err-rows.result _ c.from_residual-in_err-rows.ensures.0
+
+pub returns-in_err-rows-clause-goods : goal.returns-in_err-rows-clause-goods
+returns-in_err-rows-clause-goods g c = IfOk-from_err c.from_residual-in_err-rows.result _ c.from_residual-in_err-rows.ensures.0
+
+pub returns-in_err-rows-clause-leaving : goal.returns-in_err-rows-clause-leaving
+returns-in_err-rows-clause-leaving g c = IfOk-from_err c.from_residual-in_err-rows.result _ c.from_residual-in_err-rows.ensures.0
+
+pub returns-in_err-rows-clause-memo : goal.returns-in_err-rows-clause-memo
+returns-in_err-rows-clause-memo g c = IfOk-from_err c.from_residual-in_err-rows.result _ c.from_residual-in_err-rows.ensures.0

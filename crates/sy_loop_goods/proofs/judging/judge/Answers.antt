@@ -1,12 +1,13 @@
 use Rattle.std.proofs.Common.{[], arith, map}
 use Rattle.std.proofs.lemmas.List.Elements.{All-get_or, All-head, All-nil}
+use Rattle.std.proofs.lemmas.Result.{IfOk-from_err}
 use Rattle.sy_terms.specs.Denoted.{expr_of}
 use Rattle.sy_grammar_base.specs.Questions.{question_of}
 use Rattle.sy_points.specs.Asked.{of_function}
 use Rattle.sy_loop_history.specs.Stored.{history_of}
-use Rattle.sy_loop_trees_laws.specs.Goods.{assignments_of}
+use Rattle.sy_loop_history.specs.Goods.{assignments_of}
 use Rattle.sy_loop_goods.specs.Judging.{IsTrueAt}
-use Rattle.sy_loop_goods.specs.Rests.{IsRest}
+use Rattle.sy_loop_truth.specs.Rests.{IsRest}
 use Rattle.sy_loop_goods.proofs.Told.{all_more, all_done}
 use Rattle.sy_loop_goods.proofs.judging.judge.Goals as goal
 
@@ -31,3 +32,18 @@ loop-rest-init g c = record {
 pub judge_one-requires-clause-rest : goal.judge_one-requires-clause-rest
 judge_one-requires-clause-rest g c =
     All-get_or (IsRest (question_of g.T.Theory.denotes c.args.problem.now) (assignments_of (history_of g.T.Theory.denotes c.args.stored.now)) (of_function c.args.points.now 0)) c.args.rests.now c.loop-rest.rest-index _ c.loop-rest-test.true c.requires.rests
+
+pub returns-in_err-judge_one-clause-judged : goal.returns-in_err-judge_one-clause-judged
+returns-in_err-judge_one-clause-judged g c = IfOk-from_err c.from_residual.result _ c.from_residual.ensures.0
+
+pub returns-in_err-judge_one-clause-memo : goal.returns-in_err-judge_one-clause-memo
+returns-in_err-judge_one-clause-memo g c = IfOk-from_err c.from_residual.result _ c.from_residual.ensures.0
+
+pub returns-in-Bad-clause-memo : goal.returns-in-Bad-clause-memo
+returns-in-Bad-clause-memo g c = c.in_ok-judge_one.ensures.memo
+
+pub returns-in-Leaves-clause-memo : goal.returns-in-Leaves-clause-memo
+returns-in-Leaves-clause-memo g c = c.in_ok-judge_one.ensures.memo
+
+pub returns-clause-memo : goal.returns-clause-memo
+returns-clause-memo g c = c.loop-rest.invariant.memo

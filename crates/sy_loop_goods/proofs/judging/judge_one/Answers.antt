@@ -1,5 +1,6 @@
 use Rattle.std.proofs.Common.{List, [], ◌∷◌, map, refl, sym}
 use Rattle.std.proofs.lemmas.Option.{get_or_from_slice_get, slice_get_within}
+use Rattle.std.proofs.lemmas.Result.{IfOk-from_err}
 use Rattle.sy_terms.specs.Denoted.{expr_of, vals_of, val_of}
 use Rattle.sy_terms.specs.declared.sort.Value.{Value}
 use Rattle.sy_terms.specs.declared.term.Term.{Term}
@@ -9,8 +10,8 @@ use Rattle.sy_grammar_laws.proofs.Problems.{problem_constraints}
 use Rattle.sy_bank_rows.specs.Stored.{entry_of}
 use Rattle.sy_points.specs.Asked.{of_function}
 use Rattle.sy_loop_history.specs.Stored.{counterexample_of, history_of}
-use Rattle.sy_loop_candidate.proofs.Assignments.{place_of}
-use Rattle.sy_loop_candidate.proofs.Items.{item_of}
+use Rattle.sy_loop_truth.proofs.Places.{place_of}
+use Rattle.sy_loop_truth.proofs.Items.{item_of}
 use Rattle.sy_loop_goods.proofs.Memos.{holds_for_all, memo_more}
 use Rattle.sy_loop_goods.proofs.Told.{constraint_at, one_told, one_leaves, values_at}
 use Rattle.sy_loop_goods.proofs.judging.judge_one.Goals.{in_default-value_at, in-Some-value_at+in_ok-add}
@@ -57,3 +58,12 @@ pub returns-in_default-2-clause-judged : goal.returns-in_default-2-clause-judged
 returns-in_default-2-clause-judged g c =
     let pair : List (Value g.row.T-Num.Denot) × List (Term g.row.T.Denot g.row.T-Num.Denot) = (c.in-Some-get.assignment.now, c.in-Some-get.field-0-1.now) in
     one_leaves g.T.Theory.denotes c.args.problem.now c.args.stored.now (map (expr_of g.T.Theory.denotes) c.args.bodies.now) c.args.rest.now c.in-Some.constraint.now pair c.in-Some.ensures c.in-Some-get.ensures (rw (c.in_default-2.is, c.as_slice-values.ensures) at c.in_ok-truth.ensures)
+
+pub returns-in_err-truth-clause-judged : goal.returns-in_err-truth-clause-judged
+returns-in_err-truth-clause-judged g c = IfOk-from_err c.from_residual.result _ c.from_residual.ensures.0
+
+pub returns-in_err-truth-clause-memo : goal.returns-in_err-truth-clause-memo
+returns-in_err-truth-clause-memo g c = IfOk-from_err c.from_residual.result _ c.from_residual.ensures.0
+
+pub returns-in_default-2-clause-memo : goal.returns-in_default-2-clause-memo
+returns-in_default-2-clause-memo g c = c.requires.memo

@@ -1,12 +1,13 @@
 use Rattle.std.proofs.Common.{[], ◌∷◌, inl, inr, refl, subst, sym}
 use Rattle.std.proofs.lemmas.List.Elements.{All-contains}
 use Rattle.std.proofs.lemmas.Option.{slice_get_read}
+use Rattle.std.proofs.lemmas.Result.{IfOk-from_err}
 use Rattle.sy_grammar_base.specs.Questions.{question_of}
 use Rattle.sy_grammar_base.specs.Solving.{AreMembers}
 use Rattle.sy_grammar_laws.proofs.Candidates.{bodies_fit}
 use Rattle.sy_bank_rows.specs.Banks.{Entry}
 use Rattle.sy_bank_rows.specs.Stored.{chosen_of, entry_of}
-use Rattle.sy_loop_candidate.proofs.Items.{has_place}
+use Rattle.sy_loop_truth.proofs.Items.{has_place}
 use Rattle.sy_loop_goods.proofs.Columns.{chosen_at}
 use Rattle.sy_loop_goods.proofs.leaf.judge_leaf.Goals as goal
 
@@ -50,3 +51,24 @@ returns-clause-judged g c =
 
 pub returns-in-Some-clause-judged : goal.returns-in-Some-clause-judged
 returns-in-Some-clause-judged g c = inl (c.in-Some.good, c.in-Some.ensures, c.judged_by.ensures)
+
+pub returns-in-Some-clause-memo : goal.returns-in-Some-clause-memo
+returns-in-Some-clause-memo g c = c.requires.memo
+
+pub returns-in-Some-recall-clause-memo : goal.returns-in-Some-recall-clause-memo
+returns-in-Some-recall-clause-memo g c = c.requires.memo
+
+pub returns-clause-memo : goal.returns-clause-memo
+returns-clause-memo g c = c.in_ok-judged.ensures.memo
+
+pub returns-in_err-bodies-clause-judged : goal.returns-in_err-bodies-clause-judged
+returns-in_err-bodies-clause-judged g c = IfOk-from_err c.from_residual-in_err-bodies.result _ c.from_residual-in_err-bodies.ensures.0
+
+pub returns-in_err-bodies-clause-memo : goal.returns-in_err-bodies-clause-memo
+returns-in_err-bodies-clause-memo g c = IfOk-from_err c.from_residual-in_err-bodies.result _ c.from_residual-in_err-bodies.ensures.0
+
+pub returns-in_err-judged-clause-judged : goal.returns-in_err-judged-clause-judged
+returns-in_err-judged-clause-judged g c = IfOk-from_err c.from_residual-in_err-judged.result _ c.from_residual-in_err-judged.ensures.0
+
+pub returns-in_err-judged-clause-memo : goal.returns-in_err-judged-clause-memo
+returns-in_err-judged-clause-memo g c = IfOk-from_err c.from_residual-in_err-judged.result _ c.from_residual-in_err-judged.ensures.0

@@ -7,9 +7,9 @@ use Rattle.sy_grammar_base.specs.Questions.{question_of}
 use Rattle.sy_points.specs.Asked.{of_function}
 use Rattle.sy_bank_rows.specs.Stored.{entry_of}
 use Rattle.sy_loop_history.specs.Stored.{counterexample_of, history_of}
-use Rattle.sy_loop_candidate.proofs.Assignments.{place_of}
+use Rattle.sy_loop_truth.proofs.Places.{place_of}
 use Rattle.sy_loop_goods.proofs.Memos.{recalled}
-use Rattle.sy_loop_goods.proofs.Placing.{assignment_at}
+use Rattle.sy_loop_truth.proofs.Places.{assignment_at}
 use Rattle.sy_loop_goods.proofs.recall.recall_one.Goals as goal
 
 pub returns : goal.returns

@@ -8,7 +8,7 @@ use Rattle.sy_terms.specs.declared.term.Term.{Term}
 use Rattle.sy_bank_rows.specs.Stored.{entry_of}
 use Rattle.sy_bank_rows.specs.declared.kept.Kept.{Kept}
 use Rattle.sy_loop_history.specs.Histories.{Counterexample}
-use Rattle.sy_loop_candidate.proofs.Assignments.{place_of}
+use Rattle.sy_loop_truth.proofs.Places.{place_of}
 use Rattle.sy_loop_join.proofs.copies.copied_leaf.Goals as goal
 
 pub returns : goal.returns

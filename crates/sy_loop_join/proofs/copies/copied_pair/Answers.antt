@@ -5,7 +5,7 @@ use Rattle.sy_terms.specs.declared.sort.Value.{Value}
 use Rattle.sy_terms.specs.declared.term.Term.{Term}
 use Rattle.sy_loop_history.specs.Histories.{Counterexample}
 use Rattle.sy_loop_history.specs.Stored.{counterexample_of}
-use Rattle.sy_loop_candidate.proofs.Assignments.{place_of}
+use Rattle.sy_loop_truth.proofs.Places.{place_of}
 use Rattle.sy_loop_join.proofs.copies.copied_pair.Goals as goal
 
 pub returns : goal.returns

@@ -1,4 +1,5 @@
 use Rattle.std.proofs.Common.{map, [], ◌∷◌}
+use Rattle.std.proofs.lemmas.Result.{IfOk-from_err}
 use Rattle.sy_terms.specs.Denoted.{expr_of}
 use Rattle.sy_grammar_base.specs.Questions.{question_of}
 use Rattle.sy_loop_history.specs.Histories.{IsDue}
@@ -30,3 +31,24 @@ returns-clause-refuted g c =
     let before = history_of g.T.Theory.denotes c.args.known.now.stored in
     never_next g.T.Theory.owned g.T.Theory.denotes g.D.Decide.accepted g.D.Decide.budget g.D.Decide.shows c.args.reach question c.args.limits.now (IsRefuted question before c.args.known.now.points (expr_of g.T.Theory.denotes c.args.term ∷ []))
     (map (expr_of g.T.Theory.denotes) c.push.new.self) before (history_of g.T.Theory.denotes c.decide_due.new.known.stored) c.args.known.now.points c.decide_due.new.known.points c.in_ok-step.step c.in_ok-step.ensures.step
+
+pub returns-in_err-push-clause-known : goal.returns-in_err-push-clause-known
+returns-in_err-push-clause-known g c = IfOk-from_err c.from_residual.result _ c.from_residual.ensures.0
+
+pub returns-in_err-push-clause-step : goal.returns-in_err-push-clause-step
+returns-in_err-push-clause-step g c = IfOk-from_err c.from_residual.result _ c.from_residual.ensures.0
+
+pub returns-in_err-push-clause-refuted : goal.returns-in_err-push-clause-refuted
+returns-in_err-push-clause-refuted g c = IfOk-from_err c.from_residual.result _ c.from_residual.ensures.0
+
+pub returns-in_err-step-clause-known : goal.returns-in_err-step-clause-known
+returns-in_err-step-clause-known g c = IfOk-from_err c.from_residual-in_err-step.result _ c.from_residual-in_err-step.ensures.0
+
+pub returns-in_err-step-clause-step : goal.returns-in_err-step-clause-step
+returns-in_err-step-clause-step g c = IfOk-from_err c.from_residual-in_err-step.result _ c.from_residual-in_err-step.ensures.0
+
+pub returns-in_err-step-clause-refuted : goal.returns-in_err-step-clause-refuted
+returns-in_err-step-clause-refuted g c = IfOk-from_err c.from_residual-in_err-step.result _ c.from_residual-in_err-step.ensures.0
+
+pub returns-clause-known : goal.returns-clause-known
+returns-clause-known g c = c.in_ok-step.ensures.known

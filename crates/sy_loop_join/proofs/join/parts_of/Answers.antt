@@ -1,5 +1,6 @@
 use Rattle.std.proofs.Common.{IfSome, List, arith, ap, length, subst, sym, ◌∙◌, ◌≡◌}
 use Rattle.std.proofs.lemmas.List.{length-map}
+use Rattle.std.proofs.lemmas.Result.{IfOk-from_err}
 use denote.Ref.{Bor}
 use Rattle.sy_terms.specs.Denoted.{vals_of}
 use Rattle.sy_grammar_base.specs.Questions.{question_of}
@@ -9,9 +10,9 @@ use Rattle.sy_bank_rows.specs.Stored.{chosen_of, entry_of}
 use Rattle.sy_bank_rows.specs.declared.kept.Kept.{Kept}
 use Rattle.sy_loop_history.specs.Stored.{history_of}
 use Rattle.sy_loop_goods.specs.Leaves.{LeafLeaves}
-use Rattle.sy_loop_goods.proofs.Asked.{all_rest_within}
-use Rattle.sy_loop_trees_laws.specs.Goods.{AreGoods, assignments_of}
-use Rattle.sy_loop_trees_laws.specs.Trees.{truths}
+use Rattle.sy_loop_rests.proofs.Asked.{all_rest_within}
+use Rattle.sy_loop_history.specs.Goods.{AreGoods, assignments_of}
+use Rattle.sy_loop_history.specs.Trees.{truths}
 use Rattle.sy_loop_join.proofs.Joining.{kept_are_leaves, tuples_at}
 use Rattle.sy_loop_join.proofs.join.parts_of.Goals as goal
 
@@ -44,3 +45,54 @@ returns-clause-parts g c =
       distinct = subst AreDistinct (sym is) c.of.ensures.distinct;
       rest = all_rest_within question (assignments_of history) (of_function asked 0) c.args.rests.now c.requires.rests;
     }
+
+pub returns-clause-memo : goal.returns-clause-memo
+returns-clause-memo g c = c.in_ok-goods.ensures.memo
+
+pub returns-in_err-leaves-clause-parts : goal.returns-in_err-leaves-clause-parts
+returns-in_err-leaves-clause-parts g c = IfOk-from_err c.from_residual.result _ c.from_residual.ensures.0
+
+pub returns-in_err-leaves-clause-few_leaves : goal.returns-in_err-leaves-clause-few_leaves
+returns-in_err-leaves-clause-few_leaves g c = IfOk-from_err c.from_residual.result _ c.from_residual.ensures.0
+
+pub returns-in_err-leaves-clause-few_conditions : goal.returns-in_err-leaves-clause-few_conditions
+returns-in_err-leaves-clause-few_conditions g c = IfOk-from_err c.from_residual.result _ c.from_residual.ensures.0
+
+pub returns-in_err-leaves-clause-memo : goal.returns-in_err-leaves-clause-memo
+returns-in_err-leaves-clause-memo g c = IfOk-from_err c.from_residual.result _ c.from_residual.ensures.0
+
+pub returns-in_err-conditions-clause-parts : goal.returns-in_err-conditions-clause-parts
+returns-in_err-conditions-clause-parts g c = IfOk-from_err c.from_residual-in_err-conditions.result _ c.from_residual-in_err-conditions.ensures.0
+
+pub returns-in_err-conditions-clause-few_leaves : goal.returns-in_err-conditions-clause-few_leaves
+returns-in_err-conditions-clause-few_leaves g c = IfOk-from_err c.from_residual-in_err-conditions.result _ c.from_residual-in_err-conditions.ensures.0
+
+pub returns-in_err-conditions-clause-few_conditions : goal.returns-in_err-conditions-clause-few_conditions
+returns-in_err-conditions-clause-few_conditions g c = IfOk-from_err c.from_residual-in_err-conditions.result _ c.from_residual-in_err-conditions.ensures.0
+
+pub returns-in_err-conditions-clause-memo : goal.returns-in_err-conditions-clause-memo
+returns-in_err-conditions-clause-memo g c = IfOk-from_err c.from_residual-in_err-conditions.result _ c.from_residual-in_err-conditions.ensures.0
+
+pub returns-in_err-goods-clause-parts : goal.returns-in_err-goods-clause-parts
+returns-in_err-goods-clause-parts g c = IfOk-from_err c.from_residual-in_err-goods.result _ c.from_residual-in_err-goods.ensures.0
+
+pub returns-in_err-goods-clause-few_leaves : goal.returns-in_err-goods-clause-few_leaves
+returns-in_err-goods-clause-few_leaves g c = IfOk-from_err c.from_residual-in_err-goods.result _ c.from_residual-in_err-goods.ensures.0
+
+pub returns-in_err-goods-clause-few_conditions : goal.returns-in_err-goods-clause-few_conditions
+returns-in_err-goods-clause-few_conditions g c = IfOk-from_err c.from_residual-in_err-goods.result _ c.from_residual-in_err-goods.ensures.0
+
+pub returns-in_err-goods-clause-memo : goal.returns-in_err-goods-clause-memo
+returns-in_err-goods-clause-memo g c = IfOk-from_err c.from_residual-in_err-goods.result _ c.from_residual-in_err-goods.ensures.0
+
+pub returns-in_err-rows-clause-parts : goal.returns-in_err-rows-clause-parts
+returns-in_err-rows-clause-parts g c = IfOk-from_err c.from_residual-in_err-rows.result _ c.from_residual-in_err-rows.ensures.0
+
+pub returns-in_err-rows-clause-few_leaves : goal.returns-in_err-rows-clause-few_leaves
+returns-in_err-rows-clause-few_leaves g c = IfOk-from_err c.from_residual-in_err-rows.result _ c.from_residual-in_err-rows.ensures.0
+
+pub returns-in_err-rows-clause-few_conditions : goal.returns-in_err-rows-clause-few_conditions
+returns-in_err-rows-clause-few_conditions g c = IfOk-from_err c.from_residual-in_err-rows.result _ c.from_residual-in_err-rows.ensures.0
+
+pub returns-in_err-rows-clause-memo : goal.returns-in_err-rows-clause-memo
+returns-in_err-rows-clause-memo g c = IfOk-from_err c.from_residual-in_err-rows.result _ c.from_residual-in_err-rows.ensures.0

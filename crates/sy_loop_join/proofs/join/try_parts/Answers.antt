@@ -1,5 +1,6 @@
 use Rattle.std.specs.List.{list_all}
 use Rattle.std.proofs.Common.{[], ◌∷◌, ◌≡◌, ◌∙◌, sym, subst, true, None}
+use Rattle.std.proofs.lemmas.Result.{IfOk-from_err}
 use Rattle.sy_terms.specs.Denoted.{expr_of}
 use Rattle.sy_grammar_base.specs.Questions.{question_of}
 use Rattle.sy_terms_laws.proofs.Equations.{both_true}
@@ -25,7 +26,7 @@ returns-in-Uncovered-clause-trees g c none =
     let bank = c.requires.bank in
     uncovered_follow c.args.reach question c.args.limits.now (history_of number c.args.known.now.stored) c.args.known.now.points (assumes_nothing g.T.Theory.owned question c.requires.problem.assumptions) c.args._level (merged_of number c.args._bank.now)
     c.requires.known plan.pointwise bank c.args.plan.now.condition plan.rule parts.points (chosen_of number parts.leaves.items) (chosen_of number parts.conditions.items) parts.goods parts.rows
-    (same_rule question plan.goal bank.goal plan.rule c.args.plan.now.condition plan.at bank.at plan.chooses) c.requires.parts (c.requires.parts.good none) c.in-Uncovered.field-0 (rw c.in-Uncovered.is at c.in_ok-unify.ensures.joined)
+    (same_rule question plan.goal bank.goal plan.rule c.args.plan.now.condition plan.at bank.at plan.chooses) c.requires.parts (c.requires.parts.good none) c.in-Uncovered.class (rw c.in-Uncovered.is at c.in_ok-unify.ensures.joined)
 
 pub try_tree-requires-clause-candidate : goal.try_tree-requires-clause-candidate
 try_tree-requires-clause-candidate g c =
@@ -69,3 +70,36 @@ returns-clause-trees g c =
     (same_rule question plan.goal bank.goal plan.rule c.args.plan.now.condition plan.at bank.at plan.chooses) c.requires.parts (c.requires.parts.good none) c.in-Tree.choice body serves.0
     (rw (c.as_slice-leaves.ensures.value, c.as_slice.ensures.value) at c.in_ok-term-in-Tree.ensures) refuted)
     c.in_ok-step-in-Tree.ensures.refuted
+
+pub returns-in_err-unify-clause-known : goal.returns-in_err-unify-clause-known
+returns-in_err-unify-clause-known g c = IfOk-from_err c.from_residual.result _ c.from_residual.ensures.0
+
+pub returns-in_err-unify-clause-step : goal.returns-in_err-unify-clause-step
+returns-in_err-unify-clause-step g c = IfOk-from_err c.from_residual.result _ c.from_residual.ensures.0
+
+pub returns-in_err-unify-clause-trees : goal.returns-in_err-unify-clause-trees
+returns-in_err-unify-clause-trees g c = IfOk-from_err c.from_residual.result _ c.from_residual.ensures.0
+
+pub returns-in_err-term-in-Tree-clause-known : goal.returns-in_err-term-in-Tree-clause-known
+returns-in_err-term-in-Tree-clause-known g c = IfOk-from_err c.from_residual-in_err-term-in-Tree.result _ c.from_residual-in_err-term-in-Tree.ensures.0
+
+pub returns-in_err-term-in-Tree-clause-step : goal.returns-in_err-term-in-Tree-clause-step
+returns-in_err-term-in-Tree-clause-step g c = IfOk-from_err c.from_residual-in_err-term-in-Tree.result _ c.from_residual-in_err-term-in-Tree.ensures.0
+
+pub returns-in_err-term-in-Tree-clause-trees : goal.returns-in_err-term-in-Tree-clause-trees
+returns-in_err-term-in-Tree-clause-trees g c = IfOk-from_err c.from_residual-in_err-term-in-Tree.result _ c.from_residual-in_err-term-in-Tree.ensures.0
+
+pub returns-in_err-step-in-Tree-clause-known : goal.returns-in_err-step-in-Tree-clause-known
+returns-in_err-step-in-Tree-clause-known g c = IfOk-from_err c.from_residual-in_err-step-in-Tree.result _ c.from_residual-in_err-step-in-Tree.ensures.0
+
+pub returns-in_err-step-in-Tree-clause-step : goal.returns-in_err-step-in-Tree-clause-step
+returns-in_err-step-in-Tree-clause-step g c = IfOk-from_err c.from_residual-in_err-step-in-Tree.result _ c.from_residual-in_err-step-in-Tree.ensures.0
+
+pub returns-in_err-step-in-Tree-clause-trees : goal.returns-in_err-step-in-Tree-clause-trees
+returns-in_err-step-in-Tree-clause-trees g c = IfOk-from_err c.from_residual-in_err-step-in-Tree.result _ c.from_residual-in_err-step-in-Tree.ensures.0
+
+pub returns-clause-known : goal.returns-clause-known
+returns-clause-known g c = c.in_ok-step-in-Tree.ensures.known
+
+pub returns-clause-step : goal.returns-clause-step
+returns-clause-step g c = c.in_ok-step-in-Tree.ensures.step

@@ -1,7 +1,7 @@
 use Rattle.std.proofs.Common.{◌≡◌}
 use Rattle.sy_bank_level.specs.Bank.{merged_of}
 use Rattle.sy_bank_rows.specs.Stored.{chosen_of}
-use Rattle.sy_loop_trees_laws.specs.Trees.{kept_below}
+use Rattle.sy_loop_history.specs.Trees.{kept_below}
 use Rattle.sy_loop_join.proofs.kept.kept_up_to.Given as goal
 
 abbrev pub invariant-loop-size : goal.invariant-loop-size

@@ -5,7 +5,7 @@ use Rattle.sy_bank_rows.specs.Covering.{terms}
 use Rattle.sy_bank_rows.specs.Stored.{entry_of, chosen_of}
 use Rattle.sy_bank_level.specs.Bank.{merged_of}
 use Rattle.sy_loop_history.specs.Stored.{history_of}
-use Rattle.sy_loop_candidate.specs.Known.{IsKnown}
+use Rattle.sy_loop_truth.specs.Known.{IsKnown}
 use Rattle.sy_loop_level.specs.Levels.{AllAreRefuted}
 use Rattle.sy_loop_level.proofs.Refuting.{AreRefutedBelow}
 use Rattle.sy_loop_level.proofs.level.+level.Given as goal

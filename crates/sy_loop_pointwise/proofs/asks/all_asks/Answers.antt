@@ -1,6 +1,7 @@
 use Rattle.std.proofs.Common.{◌∙◌, ap, sym, subst, length, Some, refl, arith}
 use Rattle.std.proofs.lemmas.List.{length_push}
 use Rattle.std.proofs.lemmas.Option.{slice_get-get_or}
+use Rattle.std.proofs.lemmas.Result.{IfOk-from_err}
 use Rattle.sy_loop_bounds.specs.Applications.{applications}
 use Rattle.sy_loop_subterms.specs.Denoted.{shape_of, shapes_of}
 use Rattle.sy_loop_subterms.specs.Shapes.{AreBelow, numbers_of, subterms, term_of}
@@ -45,3 +46,15 @@ returns-clause-many g c = omega (arith, c.loop-shape.invariant.many, c.loop-shap
 
 pub returns-clause-known : goal.returns-clause-known
 returns-clause-known g c = c.loop-shape.invariant.known
+
+pub returns-in_err-asks-clause-many : goal.returns-in_err-asks-clause-many
+returns-in_err-asks-clause-many g c = IfOk-from_err c.from_residual.result _ c.from_residual.ensures.0
+
+pub returns-in_err-asks-clause-known : goal.returns-in_err-asks-clause-known
+returns-in_err-asks-clause-known g c = IfOk-from_err c.from_residual.result _ c.from_residual.ensures.0
+
+pub returns-in_err-push-clause-many : goal.returns-in_err-push-clause-many
+returns-in_err-push-clause-many g c = IfOk-from_err c.from_residual-in_err-push.result _ c.from_residual-in_err-push.ensures.0
+
+pub returns-in_err-push-clause-known : goal.returns-in_err-push-clause-known
+returns-in_err-push-clause-known g c = IfOk-from_err c.from_residual-in_err-push.result _ c.from_residual-in_err-push.ensures.0

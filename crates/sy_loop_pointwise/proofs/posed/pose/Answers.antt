@@ -1,6 +1,7 @@
 use Rattle.std.proofs.Common.{◌≡◌, ◌∙◌, ap, sym, length, refl, arith}
 use Rattle.std.proofs.lemmas.List.{length-map, length_push}
 use Rattle.std.proofs.lemmas.Option.{none-some}
+use Rattle.std.proofs.lemmas.Result.{IfOk-from_err}
 use Rattle.sy_terms.specs.Denoted.{expr_of}
 use Rattle.sy_grammar_base.specs.Questions.{goal_of, question_of}
 use Rattle.sy_loop_pointwise.specs.Posed.{ArePosed}
@@ -43,3 +44,12 @@ returns g c =
     let are : ArePosed question l.all.items = record { many = many; each = l.invariant.each } in
     let one : length question.goals ≡ 1 = omega (arith, length-map c.args.problem.now.wanted (goal_of number), c.len.ensures, c.if-len-ne1.false) in
     (all_posed question l.all.items one are, are)
+
+pub returns-in_err-all : goal.returns-in_err-all
+returns-in_err-all g c = IfOk-from_err c.from_residual.result _ c.from_residual.ensures.0
+
+pub returns-in_err-posed : goal.returns-in_err-posed
+returns-in_err-posed g c = IfOk-from_err c.from_residual-in_err-posed.result _ c.from_residual-in_err-posed.ensures.0
+
+pub returns-in_err-push-in-Some : goal.returns-in_err-push-in-Some
+returns-in_err-push-in-Some g c = IfOk-from_err c.from_residual-in_err-push-in-Some.result _ c.from_residual-in_err-push-in-Some.ensures.0

@@ -1,5 +1,6 @@
 use Rattle.std.proofs.Common.{◌<◌, ap, sym, subst, length, arith}
 use Rattle.std.proofs.lemmas.List.{length-map}
+use Rattle.std.proofs.lemmas.Result.{IfOk-from_err}
 use Rattle.sy_terms.specs.Denoted.{expr_of}
 use Rattle.sy_grammar_base.specs.Questions.{question_of}
 use Rattle.sy_loop_bounds.specs.WrittenOut.{written_out}
@@ -37,3 +38,9 @@ returns-in-Mixed g c = λ arguments posed.
     let within : c.in_ok-table.number < length c.as_slice.result.now = omega (arith, ap length c.as_slice.ensures.value, c.in_ok-asks.ensures.many, length-map c.shapes.result.now (shape_of number), ap length c.shapes.ensures.shapes, c.in_ok-table.ensures.within) in
     known_at (subterms c.in_ok-table.table) c.in_ok-asks.asks.items c.as_slice.result.now c.in_ok-table.number out _ Mixed c.as_slice.ensures.value known within (c.in_ok-table.ensures.is c.args.problem.now.vars (sym c.len.ensures)) c.in-Mixed.is
     arguments (record { same = posed.same; plain = posed.plain })
+
+pub returns-in_err-table : goal.returns-in_err-table
+returns-in_err-table g c = IfOk-from_err c.from_residual.result _ c.from_residual.ensures.0
+
+pub returns-in_err-asks : goal.returns-in_err-asks
+returns-in_err-asks g c = IfOk-from_err c.from_residual-in_err-asks.result _ c.from_residual-in_err-asks.ensures.0

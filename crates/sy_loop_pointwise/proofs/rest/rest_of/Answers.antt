@@ -1,5 +1,6 @@
 use Rattle.std.proofs.Common.{sym, subst, arith}
 use Rattle.std.proofs.lemmas.List.{length-map}
+use Rattle.std.proofs.lemmas.Result.{IfOk-from_err}
 use Rattle.sy_terms.specs.Definitions.{bodies, scope_of}
 use Rattle.sy_terms.specs.Denoted.{vals_of}
 use Rattle.sy_terms.specs.Meaning.{functions}
@@ -76,3 +77,9 @@ returns g c = λ constraint of poses.
 
 pub first_valued-requires-clause-count : goal.first_valued-requires-clause-count
 first_valued-requires-clause-count g c = omega (arith, c.in-Some.ensures.within, length-map c.shapes-shapes.result.now (shape_of g.T.Theory.denotes))
+
+pub returns-in_err-found-in-Applies : goal.returns-in_err-found-in-Applies
+returns-in_err-found-in-Applies g c = IfOk-from_err c.from_residual.result _ c.from_residual.ensures.0
+
+pub returns-in_err-tuple-in-Applies : goal.returns-in_err-tuple-in-Applies
+returns-in_err-tuple-in-Applies g c = IfOk-from_err c.from_residual-in_err-tuple-in-Applies.result _ c.from_residual-in_err-tuple-in-Applies.ensures.0

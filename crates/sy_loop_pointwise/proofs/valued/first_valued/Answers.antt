@@ -1,6 +1,7 @@
 use Rattle.std.proofs.Common.{◌<◌, ◌∙◌, ap, sym, subst, length, Some, refl, arith}
 use Rattle.std.proofs.lemmas.List.{get_or-take, length_push, length-take-le}
 use Rattle.std.proofs.lemmas.Option.{slice_get-get_or}
+use Rattle.std.proofs.lemmas.Result.{IfOk-from_err}
 use Rattle.sy_terms.specs.Definitions.{bodies, scope_of}
 use Rattle.sy_terms.specs.Denoted.{vals_of}
 use Rattle.sy_terms.specs.Meaning.{functions}
@@ -50,3 +51,21 @@ returns-clause-many g c = omega (arith, c.loop-shape.invariant.many, c.loop-shap
 
 pub returns-clause-are : goal.returns-clause-are
 returns-clause-are g c = c.loop-shape.invariant.each
+
+pub returns-in_err-found-clause-many : goal.returns-in_err-found-clause-many
+returns-in_err-found-clause-many g c = IfOk-from_err c.from_residual.result _ c.from_residual.ensures.0
+
+pub returns-in_err-found-clause-are : goal.returns-in_err-found-clause-are
+returns-in_err-found-clause-are g c = IfOk-from_err c.from_residual.result _ c.from_residual.ensures.0
+
+pub returns-in_err-value-clause-many : goal.returns-in_err-value-clause-many
+returns-in_err-value-clause-many g c = IfOk-from_err c.from_residual-in_err-value.result _ c.from_residual-in_err-value.ensures.0
+
+pub returns-in_err-value-clause-are : goal.returns-in_err-value-clause-are
+returns-in_err-value-clause-are g c = IfOk-from_err c.from_residual-in_err-value.result _ c.from_residual-in_err-value.ensures.0
+
+pub returns-in_err-push-clause-many : goal.returns-in_err-push-clause-many
+returns-in_err-push-clause-many g c = IfOk-from_err c.from_residual-in_err-push.result _ c.from_residual-in_err-push.ensures.0
+
+pub returns-in_err-push-clause-are : goal.returns-in_err-push-clause-are
+returns-in_err-push-clause-are g c = IfOk-from_err c.from_residual-in_err-push.result _ c.from_residual-in_err-push.ensures.0

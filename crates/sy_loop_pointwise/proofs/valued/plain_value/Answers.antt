@@ -1,5 +1,6 @@
 use Rattle.std.proofs.Common.{◌≡◌, ◌∙◌, sym, subst, true, false, [], Err}
 use Rattle.std.proofs.lemmas.List.Elements.{All-nil}
+use Rattle.std.proofs.lemmas.Result.{IfOk-from_err}
 use Rattle.sy_terms.specs.Values.{Val}
 use Rattle.sy_terms.specs.Definitions.{bodies}
 use Rattle.sy_terms.specs.Denoted.{expr_of, val_of, vals_of, AreValid}
@@ -31,3 +32,6 @@ pub returns-in-Err-Range : goal.returns-in-Err-Range
 returns-in-Err-Range g c = λ fit.
     let number = g.T.Theory.denotes in
     subst (λ vs. computable (functions (bodies number c.args.defs.now)) [] (vals_of number vs) (expr_of number c.args.term.now) ≡ false) (c.as_slice-2.ensures.value ∙ c.new-nothing.ensures.items) (c.in-Err-Range.ensures.range (λ i. Err (c.in-Err-Range.field-0-is i)))
+
+pub returns-in_err-term_sort : goal.returns-in_err-term_sort
+returns-in_err-term_sort g c = IfOk-from_err c.from_residual.result _ c.from_residual.ensures.0

@@ -1,4 +1,5 @@
 use Rattle.std.proofs.Common.{◌≡◌, sym, subst, length, false, []}
+use Rattle.std.proofs.lemmas.Result.{IfOk-from_err}
 use Rattle.sy_terms.specs.Definitions.{bodies, scope_of}
 use Rattle.sy_terms.specs.Denoted.{val_of, vals_of, expr_of-Const, expr_of-App, expr_of-Call, exprs_of}
 use Rattle.sy_terms.specs.Meaning.{computable, functions}
@@ -79,3 +80,24 @@ returns-in_ok-value-in-Call g c = λ terms each below.
     let plain = subst (λ e. IsValued number scope defined [] e c.in_ok-value-in-Call.value) (expr_of-Call number c.in-Call.function arguments) c.in_ok-value-in-Call.ensures in
     subst (λ s. IsValued number scope defined values (shaped terms (shape_of number s)) c.in_ok-value-in-Call.value) (sym c.in-Call.is)
     (called_from number scope defined values c.in-Call.function (exprs_of number arguments.items.items) (terms_of terms numbers) c.in-Some-2.arguments c.as_slice-in-Call-2.result.now c.in_ok-value-in-Call.value c.as_slice-in-Call-2.ensures c.in_ok-arguments-in-Call-2.ensures have plain)
+
+pub returns-in_err-value-in-Const : goal.returns-in_err-value-in-Const
+returns-in_err-value-in-Const g c = IfOk-from_err c.from_residual.result _ c.from_residual.ensures.0
+
+pub returns-in_err-arguments-in-App : goal.returns-in_err-arguments-in-App
+returns-in_err-arguments-in-App g c = IfOk-from_err c.from_residual-in_err-arguments-in-App.result _ c.from_residual-in_err-arguments-in-App.ensures.0
+
+pub returns-in_err-arguments-in-App-2 : goal.returns-in_err-arguments-in-App-2
+returns-in_err-arguments-in-App-2 g c = IfOk-from_err c.from_residual-in_err-arguments-in-App-2.result _ c.from_residual-in_err-arguments-in-App-2.ensures.0
+
+pub returns-in_err-value-in-App : goal.returns-in_err-value-in-App
+returns-in_err-value-in-App g c = IfOk-from_err c.from_residual-in_err-value-in-App.result _ c.from_residual-in_err-value-in-App.ensures.0
+
+pub returns-in_err-arguments-in-Call : goal.returns-in_err-arguments-in-Call
+returns-in_err-arguments-in-Call g c = IfOk-from_err c.from_residual-in_err-arguments-in-Call.result _ c.from_residual-in_err-arguments-in-Call.ensures.0
+
+pub returns-in_err-arguments-in-Call-2 : goal.returns-in_err-arguments-in-Call-2
+returns-in_err-arguments-in-Call-2 g c = IfOk-from_err c.from_residual-in_err-arguments-in-Call-2.result _ c.from_residual-in_err-arguments-in-Call-2.ensures.0
+
+pub returns-in_err-value-in-Call : goal.returns-in_err-value-in-Call
+returns-in_err-value-in-Call g c = IfOk-from_err c.from_residual-in_err-value-in-Call.result _ c.from_residual-in_err-value-in-Call.ensures.0

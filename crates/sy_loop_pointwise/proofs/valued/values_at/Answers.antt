@@ -3,6 +3,7 @@ use Rattle.std.specs.List.{AllZip}
 use Rattle.std.proofs.lemmas.List.{take_all}
 use Rattle.std.proofs.lemmas.List.Elements.{All-get_or}
 use Rattle.std.proofs.lemmas.Option.{slice_get-get_or}
+use Rattle.std.proofs.lemmas.Result.{IfOk-from_err}
 use Rattle.sy_terms.specs.Denoted.{val_of}
 use Rattle.sy_terms_laws.specs.Evaluation.{HasValue}
 use Rattle.sy_loop_subterms.specs.Shapes.{term_of}
@@ -40,3 +41,9 @@ returns g c = λ scope defined values terms each below.
     let found = c.loop-number.values.items in
     let all = subst (λ ns. AllZip (λ n v. HasValue scope defined [] values (term_of terms n) (val_of number v)) ns found) (take_all c.loop-number.number-index numbers (omega arith)) (c.loop-number.invariant scope defined values terms each below) in
     rw (c.from.ensures) (all_valued number scope defined values terms numbers found all)
+
+pub returns-in_err-values : goal.returns-in_err-values
+returns-in_err-values g c = IfOk-from_err c.from_residual.result _ c.from_residual.ensures.0
+
+pub returns-in_err-push-in-Some : goal.returns-in_err-push-in-Some
+returns-in_err-push-in-Some g c = IfOk-from_err c.from_residual-in_err-push-in-Some.result _ c.from_residual-in_err-push-in-Some.ensures.0

@@ -1,9 +1,0 @@
-use Rattle.std.proofs.Common.{map, take, All}
-use Rattle.sy_terms.specs.Denoted.{expr_of, vals_of}
-use Rattle.sy_grammar_base.specs.Questions.{question_of}
-use Rattle.sy_grammar_base.specs.Solving.{IsTrueUnder}
-use Rattle.sy_loop_candidate.proofs.truth.all_true.Given as goal
-
-abbrev pub invariant-loop-term : goal.invariant-loop-term
-invariant-loop-term g l =
-    All (IsTrueUnder (question_of g.T.Theory.denotes l.problem) (map (expr_of g.T.Theory.denotes) l.bodies) (vals_of g.T.Theory.denotes l.values)) (map (expr_of g.T.Theory.denotes) (take l.term-index l.terms))
