@@ -1,6 +1,7 @@
 use Rattle.std.proofs.Common.{◌∙◌, refl, ap, sym, length, map, arith}
 use Rattle.std.proofs.lemmas.Option.{slice_get_read}
 use Rattle.std.proofs.lemmas.List.{length-map}
+use Rattle.std.proofs.lemmas.Result.{IfOk-from_err}
 use Rattle.sy_grammar_base.specs.Grown.{nonterminal_of}
 use Rattle.sy_bank_level.specs.Task.{world, level_state_of}
 use Rattle.sy_bank_level.proofs.Keeping.{grows-on}
@@ -37,3 +38,12 @@ returns-clause-done g c same =
     let nons = ap (λ (all : _). length all) (c.as_slice-item-items.ensures ∙ c.nons.ensures) in
     let mapped = length-map c.args.task.now.grammar.now.nons (nonterminal_of number) in
     nonterminals-all w (level_state_of number c.loop-nonterminal.filling) c.args.task.now.size c.loop-nonterminal.nonterminal (omega (arith, nons, mapped, c.loop-nonterminal-test.false)) (c.loop-nonterminal.invariant.done same)
+
+pub returns-in_err-pass_rules-clause-steady : goal.returns-in_err-pass_rules-clause-steady
+returns-in_err-pass_rules-clause-steady g c = IfOk-from_err c.from_residual.result _ c.from_residual.ensures.0
+
+pub returns-in_err-pass_rules-clause-grows : goal.returns-in_err-pass_rules-clause-grows
+returns-in_err-pass_rules-clause-grows g c = IfOk-from_err c.from_residual.result _ c.from_residual.ensures.0
+
+pub returns-in_err-pass_rules-clause-done : goal.returns-in_err-pass_rules-clause-done
+returns-in_err-pass_rules-clause-done g c = IfOk-from_err c.from_residual.result _ c.from_residual.ensures.0

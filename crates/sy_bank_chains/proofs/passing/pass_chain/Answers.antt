@@ -1,5 +1,6 @@
 use Rattle.std.proofs.Common.{◌≡◌, ◌<◌, ◌∙◌, ap, sym, subst, length, arith, List}
 use Rattle.std.proofs.lemmas.List.{length-map}
+use Rattle.std.proofs.lemmas.Result.{IfOk-from_err}
 use Rattle.sy_bank_rows.specs.Banks.{Entry}
 use Rattle.sy_bank_rows.specs.Stored.{entry_of}
 use Rattle.sy_bank_level.specs.Task.{world, level_state_of, level_of}
@@ -24,3 +25,12 @@ returns-clause-done g c =
     let was = c.loop-place.invariant in
     below-all w (level_state_of number c.args.filling.now) (level_state_of number c.loop-place.filling) chain.nonterminal chain.to c.args.task.now.size c.loop-place.place was.steady was.grows sized
     (omega (arith, whole, mapped, c.len-count.ensures, c.loop-place-test.false)) was.done
+
+pub returns-in_err-pass_term-clause-steady : goal.returns-in_err-pass_term-clause-steady
+returns-in_err-pass_term-clause-steady g c = IfOk-from_err c.from_residual.result _ c.from_residual.ensures.0
+
+pub returns-in_err-pass_term-clause-grows : goal.returns-in_err-pass_term-clause-grows
+returns-in_err-pass_term-clause-grows g c = IfOk-from_err c.from_residual.result _ c.from_residual.ensures.0
+
+pub returns-in_err-pass_term-clause-done : goal.returns-in_err-pass_term-clause-done
+returns-in_err-pass_term-clause-done g c = IfOk-from_err c.from_residual.result _ c.from_residual.ensures.0

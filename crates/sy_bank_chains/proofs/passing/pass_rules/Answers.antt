@@ -1,5 +1,6 @@
 use Rattle.std.proofs.Common.{map, arith}
 use Rattle.std.proofs.lemmas.List.{length-map}
+use Rattle.std.proofs.lemmas.Result.{IfOk-from_err}
 use Rattle.sy_grammar_base.specs.Grown.{production_of}
 use Rattle.sy_bank_level.specs.Task.{world, level_state_of}
 use Rattle.sy_bank_level.proofs.Keeping.{grows-on}
@@ -27,3 +28,12 @@ returns-clause-done g c same =
     let productions = map (production_of number) c.args.rules.now in
     rules-all (world g.T.Theory.owned number c.args.task.now) (level_state_of number c.loop-number.filling) c.args.nonterminal c.args.task.now.size c.loop-number.number productions c.requires.rules
     (omega (arith, length-map c.args.rules.now (production_of number), c.loop-number-test.false)) (c.loop-number.invariant.done same)
+
+pub returns-in_err-pass_rule-clause-steady : goal.returns-in_err-pass_rule-clause-steady
+returns-in_err-pass_rule-clause-steady g c = IfOk-from_err c.from_residual.result _ c.from_residual.ensures.0
+
+pub returns-in_err-pass_rule-clause-grows : goal.returns-in_err-pass_rule-clause-grows
+returns-in_err-pass_rule-clause-grows g c = IfOk-from_err c.from_residual.result _ c.from_residual.ensures.0
+
+pub returns-in_err-pass_rule-clause-done : goal.returns-in_err-pass_rule-clause-done
+returns-in_err-pass_rule-clause-done g c = IfOk-from_err c.from_residual.result _ c.from_residual.ensures.0

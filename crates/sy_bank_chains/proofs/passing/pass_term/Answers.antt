@@ -1,5 +1,6 @@
 use Rattle.std.proofs.Common.{◌≡◌, ◌∙◌, ap, sym, subst, length}
 use Rattle.std.proofs.lemmas.List.{length-map}
+use Rattle.std.proofs.lemmas.Result.{IfOk-from_err}
 use Rattle.sy_terms.specs.Denoted.{vals_of}
 use Rattle.sy_bank_rows.specs.Banks.{Entry}
 use Rattle.sy_bank_rows.specs.Stored.{entry_of}
@@ -34,3 +35,21 @@ keep-requires-clause-differs g c other kept same =
     let others = rw c.as_slice-2.ensures at c.if-has_row.ensures in
     let row = ap (λ (e : Entry). e.row) c.in_ok-passed.ensures in
     new-row (world g.T.Theory.owned number c.args.task.now) (level_state_of number c.args.filling.now) c.args.chain.now.nonterminal c.row_hash-hash.result (vals_of number c.in-Some.kept.now.row) c.requires.steady hash others other kept (same ∙ row)
+
+pub returns-in_err-passed-clause-steady : goal.returns-in_err-passed-clause-steady
+returns-in_err-passed-clause-steady g c = IfOk-from_err c.from_residual.result _ c.from_residual.ensures.0
+
+pub returns-in_err-passed-clause-grows : goal.returns-in_err-passed-clause-grows
+returns-in_err-passed-clause-grows g c = IfOk-from_err c.from_residual.result _ c.from_residual.ensures.0
+
+pub returns-in_err-passed-clause-done : goal.returns-in_err-passed-clause-done
+returns-in_err-passed-clause-done g c = IfOk-from_err c.from_residual.result _ c.from_residual.ensures.0
+
+pub returns-in_err-keep-clause-steady : goal.returns-in_err-keep-clause-steady
+returns-in_err-keep-clause-steady g c = IfOk-from_err c.from_residual-in_err-keep.result _ c.from_residual-in_err-keep.ensures.0
+
+pub returns-in_err-keep-clause-grows : goal.returns-in_err-keep-clause-grows
+returns-in_err-keep-clause-grows g c = IfOk-from_err c.from_residual-in_err-keep.result _ c.from_residual-in_err-keep.ensures.0
+
+pub returns-in_err-keep-clause-done : goal.returns-in_err-keep-clause-done
+returns-in_err-keep-clause-done g c = IfOk-from_err c.from_residual-in_err-keep.result _ c.from_residual-in_err-keep.ensures.0
