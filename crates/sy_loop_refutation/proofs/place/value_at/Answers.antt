@@ -1,4 +1,4 @@
-use Rattle.std.proofs.Common.{ap, arith, length}
+use Rattle.std.proofs.Common.{length}
 use Rattle.sy_terms.specs.Denoted.{val_of, vals_of}
 use Rattle.sy_points.specs.Asked.{tuples_of}
 use Rattle.sy_loop_truth.proofs.Points.{image_at}
@@ -9,13 +9,6 @@ pub returns-in_err-place : goal.returns-in_err-place
 returns-in_err-place g c =
     let number = g.T.Theory.denotes in
     rw c.from_residual.ensures (missing c.args.points.now c.args.function (tuples_of number c.of-tuples.result.now) c.of-tuples.ensures.list (vals_of number c.args.tuple.now) (rw c.as_slice.ensures at c.in_err-place.ensures))
-
-pub index-requires : goal.index-requires
-index-requires g c =
-    let number = g.T.Theory.denotes in
-    let there = rw c.as_slice.ensures at c.in_ok-place.ensures in
-    let within = place_within c.args.points.now c.args.function (tuples_of number c.of-tuples.result.now) c.of-tuples.ensures.list (vals_of number c.args.tuple.now) c.in_ok-place.place (length c.args.kept.now.row) there c.requires.sized in
-    omega (arith, within, ap length c.as_slice-row.ensures)
 
 pub returns : goal.returns
 returns g c =
