@@ -214,10 +214,7 @@ fn try_parts<'a, T: Theory, D: Decide<T>>(
     ensures trees { IfOk result (OnNext (parts.now.goods.leaving ≡ None → TreesFollowFromFor T.Theory reach problem.now known.old _level _bank.now)) }
 {
     match unify(alloc, parts.points, &parts.goods.rows, &parts.rows)? {
-        Joined::Uncovered(class) => {
-            drop(class);
-            Ok(Step::Next)
-        }
+        Joined::Uncovered(_) => Ok(Step::Next),
         Joined::Tree(choice) => {
             let leaves = parts.leaves.as_slice();
             let term = chosen_term(alloc, choice, leaves, parts.conditions.as_slice())?;

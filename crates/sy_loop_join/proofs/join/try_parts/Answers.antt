@@ -26,7 +26,7 @@ returns-in-Uncovered-clause-trees g c none =
     let bank = c.requires.bank in
     uncovered_follow c.args.reach question c.args.limits.now (history_of number c.args.known.now.stored) c.args.known.now.points (assumes_nothing g.T.Theory.owned question c.requires.problem.assumptions) c.args._level (merged_of number c.args._bank.now)
     c.requires.known plan.pointwise bank c.args.plan.now.condition plan.rule parts.points (chosen_of number parts.leaves.items) (chosen_of number parts.conditions.items) parts.goods parts.rows
-    (same_rule question plan.goal bank.goal plan.rule c.args.plan.now.condition plan.at bank.at plan.chooses) c.requires.parts (c.requires.parts.good none) c.in-Uncovered.class (rw c.in-Uncovered.is at c.in_ok-unify.ensures.joined)
+    (same_rule question plan.goal bank.goal plan.rule c.args.plan.now.condition plan.at bank.at plan.chooses) c.requires.parts (c.requires.parts.good none) c.in-Uncovered.field-0 (rw c.in-Uncovered.is at c.in_ok-unify.ensures.joined)
 
 pub try_tree-requires-clause-candidate : goal.try_tree-requires-clause-candidate
 try_tree-requires-clause-candidate g c =
