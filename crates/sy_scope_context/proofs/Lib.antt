@@ -1,1 +1,4 @@
 pub mod Small
+pub mod Exits
+pub mod Stages
+pub mod Entered
