@@ -1,10 +1,9 @@
 // The search.
-ghost use Rattle.std.specs.Prelude.{◌≡◌, ◌<◌, ◌^◌, length, IfOk};
+ghost use Rattle.std.specs.Prelude.{◌≡◌, IfOk};
 ghost use Rattle.sy_grammar_base.specs.Fits.{ProblemFits};
 ghost use Rattle.sy_loop_outcome.specs.Right.{IsRightFor};
 ghost use Rattle.sy_loop_bounds.specs.declared.reach.Reach.TheVariants.{Sizes, Joins, Beyond};
 ghost use Rattle.sy_loop_claims.specs.Clauses.{FindsLeastFor};
-ghost use Rattle.sy_loop_join.specs.Clauses.{IsPlannedFor};
 
 use crate::round::{Round, run_round};
 use std::alloc::{AllocError, Global};
@@ -12,7 +11,7 @@ use sy_grammar_base::Problem;
 use sy_loop_bounds::Reach;
 use sy_loop_candidate::Known;
 use sy_loop_claims::{first_size, unbegun};
-use sy_loop_join::{Plan, plan_of};
+use sy_loop_join::plan_of;
 use sy_loop_outcome::Outcome;
 use sy_points::{Points, Stored};
 use sy_query_base::Decide;
@@ -73,40 +72,17 @@ fn search<T: Theory, D: Decide<T>>(
     if limits.rounds == 0 {
         return Ok(unbegun::<T, D>(alloc, problem, limits, reach));
     }
-    let mut plan = plan_of(alloc, problem, reach)?;
-    let outcome = rounds(alloc, problem, limits, reach, decide, &mut plan);
-    drop(plan);
-    outcome
-}
-
-/// The search round by round, from the first size on.
-fn rounds<T: Theory, D: Decide<T>>(
-    alloc: Global,
-    problem: &Problem<T>,
-    limits: &Limits,
-    reach: Reach,
-    decide: &mut D,
-    plan: &mut Option<Plan<T>>,
-) -> Result<Outcome<T, D::Proof, D::Spent>, Want>
-    requires problem { ProblemFits T.Theory problem.now }
-    requires strict { reach ≡ Beyond → ⊥ }
-    requires few { length problem.now.wanted < 2 ^ 32 }
-    requires room { 0 < limits.now.rounds }
-    requires plan { IsPlannedFor T.Theory reach problem.now plan.old }
-    ensures right { IfOk result (IsRightFor T.Theory D.Decide reach problem.now limits.now) }
-    ensures least { IfOk result (FindsLeastFor T.Theory reach problem.now) }
-{
     let functions = problem.wanted.len() as u32;
-    let points = Points::new(alloc, functions, limits.points)?;
     let mut known = Known {
         stored: Stored::new(alloc),
-        points,
+        points: Points::new(alloc, functions, limits.points)?,
     };
+    let mut plan = plan_of(alloc, problem, reach)?;
     let mut banks = Vec::new(alloc);
     let mut level = first_size(limits);
     'rounds: loop {
         match run_round(
-            alloc, problem, limits, reach, functions, decide, plan, known, banks, level,
+            alloc, problem, limits, reach, functions, decide, &mut plan, known, banks, level,
         )? {
             Round::Goes(more, carried, next) => {
                 known = more;

@@ -6,7 +6,7 @@ use Rattle.sy_loop_join.specs.Clauses.{IsPlannedFor}
 use Rattle.sy_loop_banks.specs.Banks.{AreCarried}
 use Rattle.sy_loop_laws.specs.Refuting.{AreDoneBelow}
 use Rattle.sy_loop.specs.Rounds.{work}
-use Rattle.sy_loop.proofs.search.rounds.Given as goal
+use Rattle.sy_loop.proofs.search.search.Given as goal
 
 abbrev pub decreases-rounds : goal.decreases-rounds
 decreases-rounds g l = work l.limits (history_of g.T.Theory.denotes l.known.stored) l.known.points l.level
