@@ -87,11 +87,9 @@ pub(crate) fn join<T: Theory, D: Decide<T>>(
         known,
         &mut plan.memo,
     )?;
-    let step = join_parts(
+    join_parts(
         alloc, problem, limits, reach, decide, plan, bank, level, &parts, known,
-    );
-    drop(parts);
-    step
+    )
 }
 
 /// Tries the tree over the parts that serves all points. Where that changes nothing, a leaf that left the 128 bits ends the

@@ -25,20 +25,20 @@ returns-then-len-eq0-clause-trees g c =
     none_follow c.args.reach question c.args.limits.now (history_of number c.args.known.now.stored) c.args.known.now.points (assumes_nothing g.T.Theory.owned question c.requires.problem.assumptions) c.args.level (merged_of number c.args.bank.now)
     (omega (arith, c.if-len-eq0.true, c.len.ensures, ap length is, length-map c.of.result.now (λ values. vals_of number values)))
 
-pub join_parts-step-requires-clause-plan : goal.join_parts-step-requires-clause-plan
-join_parts-step-requires-clause-plan g c = with_memo g.T.Theory.denotes c.args.reach (question_of g.T.Theory.denotes c.args.problem.now) c.args.plan.now c.parts_of.new.memo c.requires.plan c.in_ok-parts.ensures.memo
+pub join_parts-requires-clause-plan : goal.join_parts-requires-clause-plan
+join_parts-requires-clause-plan g c = with_memo g.T.Theory.denotes c.args.reach (question_of g.T.Theory.denotes c.args.problem.now) c.args.plan.now c.parts_of.new.memo c.requires.plan c.in_ok-parts.ensures.memo
 
 pub returns-clause-plan : goal.returns-clause-plan
-returns-clause-plan g c = on_ok c.join_parts-step.result (with_memo g.T.Theory.denotes c.args.reach (question_of g.T.Theory.denotes c.args.problem.now) c.args.plan.now c.parts_of.new.memo c.requires.plan c.in_ok-parts.ensures.memo)
+returns-clause-plan g c = on_ok c.join_parts.result (with_memo g.T.Theory.denotes c.args.reach (question_of g.T.Theory.denotes c.args.problem.now) c.args.plan.now c.parts_of.new.memo c.requires.plan c.in_ok-parts.ensures.memo)
 
 pub returns-clause-known : goal.returns-clause-known
-returns-clause-known g c = c.join_parts-step.ensures.known
+returns-clause-known g c = c.join_parts.ensures.known
 
 pub returns-clause-step : goal.returns-clause-step
-returns-clause-step g c = c.join_parts-step.ensures.step
+returns-clause-step g c = c.join_parts.ensures.step
 
 pub returns-clause-trees : goal.returns-clause-trees
-returns-clause-trees g c = c.join_parts-step.ensures.trees
+returns-clause-trees g c = c.join_parts.ensures.trees
 
 pub returns-in_err-parts-clause-plan : goal.returns-in_err-parts-clause-plan
 returns-in_err-parts-clause-plan g c = IfOk-from_err c.from_residual.result _ c.from_residual.ensures.0
