@@ -68,9 +68,9 @@ end_all() {
 
 build_in_room() {
     furnish >"$log" 2>&1 || return 1
-    # some 172 processor minutes, of which a quarter lies in one chain of crates, and some for what waits
-    minutes=$((220 / processors))
-    [ "$minutes" -ge 45 ] || minutes=45
+    # some 171 processor minutes, of which a sixth lies in one chain of crates, and some for what waits
+    minutes=$((210 / processors))
+    [ "$minutes" -ge 30 ] || minutes=30
     say "proving and building $total crates; from nothing this takes some $minutes minutes"
     (cd "$room" && exec env ${SYGUS_JOBS:+RT_JOBS="$SYGUS_JOBS"} rt ci) >"$log" 2>&1 </dev/null &
     child=$!
