@@ -2,7 +2,7 @@
 // clauses to learn, and, where times are wanted, the word `times`. It prints what was found, how many clauses were
 // learned by how many resolutions, whether the log of a refutation was accepted, and the microseconds of each.
 ghost use Rattle.std.specs.Prelude.{◌<◌, ◌^◌, length};
-ghost use Rattle.sy_cdcl.specs.Answer.{VarsFit};
+ghost use Rattle.sy_clauses.specs.Clauses.{VarsFit};
 
 use crate::dimacs::read_formula;
 use crate::words::{REFUSED, WANT, word};

@@ -2,7 +2,7 @@
 // clause is its literals as numbers other than 0, a negative one for a negated variable, and then 0.
 ghost use Rattle.std.specs.Prelude.{◌≡◌, ◌<◌, ◌^◌, IsTrue, IfOk, IfSome, length, slice_get, Some, ℕ};
 ghost use Rattle.sy_clauses.specs.declared.Lit.{Lit};
-ghost use Rattle.sy_cdcl.specs.Answer.{VarsFit};
+ghost use Rattle.sy_clauses.specs.Clauses.{VarsFit};
 
 use std::alloc::Global;
 use std::mem;

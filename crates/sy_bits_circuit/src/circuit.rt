@@ -1,8 +1,7 @@
 // The circuit of a query.
 ghost use Rattle.std.specs.Prelude.{◌≡◌, ◌<◌, ◌*◌, ◌^◌, length, IfOk};
 ghost use Rattle.sy_terms.specs.Denoted.{vals_of};
-ghost use Rattle.sy_clauses.specs.Clauses.{IsModel};
-ghost use Rattle.sy_cdcl.specs.Answer.{VarsFit};
+ghost use Rattle.sy_clauses.specs.Clauses.{IsModel, VarsFit};
 ghost use Rattle.sy_gates.specs.Models.{values_of};
 ghost use Rattle.sy_meaning_words.specs.Vectors.{vector, owned, is_bits};
 ghost use Rattle.sy_query_base.specs.Asked as asked;

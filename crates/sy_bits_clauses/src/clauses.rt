@@ -2,7 +2,7 @@
 ghost use Rattle.std.specs.Prelude.{◌≡◌, ◌≤◌, ◌<◌, ◌*◌, ◌^◌, ◌↔◌, length, IfOk, IfSome, IsTrue};
 ghost use Rattle.sy_query_base.specs.Asked.{query_of, QueryFits};
 ghost use Rattle.sy_meaning_words.specs.Vectors.{vector, owned, is_bits};
-ghost use Rattle.sy_cdcl.specs.Answer.{VarsFit};
+ghost use Rattle.sy_clauses.specs.Clauses.{VarsFit};
 ghost use Rattle.sy_bits_terms.specs.Clauses.{HasCircuitClauses, query_size};
 ghost use Rattle.sy_bits_clauses.specs.Alike.{SpeaksFor};
 

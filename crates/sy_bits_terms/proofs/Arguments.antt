@@ -107,7 +107,7 @@ widths-small : (ss : List Sort) → AllHaveSignals ss → total_width ss ≤ 64 
 widths-small [] all = omega arith
 widths-small (s ∷ ss) all = omega (arith, width-small s (All-head (λ sort. has_signals sort ≡ true) s ss all), widths-small ss (All-tail (λ sort. has_signals sort ≡ true) s ss all))
 
-weight-most : (op : Op) (n own : ℕ) → operator_weight op n own ≤ n * n + (n + 1) * (own * own) + own
+weight-most : (op : Op) (n own : ℕ) → operator_weight op n own ≤ n * n + (n + 1) * (own * own) + own + 8 * n + 8
 weight-most ops.BvUdiv n own = omega arith
 weight-most ops.BvUrem n own = omega arith
 weight-most ops.BvSdiv n own = omega arith
@@ -118,6 +118,9 @@ weight-most ops.BvLshr n own = omega arith
 weight-most ops.BvAshr n own = omega arith
 weight-most ops.BvMul n own = let m : (n - 1) * (own * own) ≤ (n + 1) * (own * own) = mul-le-mul_right (own * own) (omega arith) in omega (arith, m)
 weight-most ops.Distinct n own = omega arith
+weight-most ops.Div n own = omega arith
+weight-most ops.Mod n own = omega arith
+weight-most ops.Abs n own = omega arith
 weight-most _ n own = omega arith
 
 small-weight : (op : Op) (n own : ℕ) → n ≤ 3 → own ≤ 64 → operator_weight op n own ≤ 20000

@@ -7,7 +7,7 @@ use Rattle.std.proofs.lemmas.List.Elements.{All-head, All-tail}
 use Rattle.std.proofs.lemmas.Bool.{eqb-true}
 use Rattle.std.proofs.lemmas.Bool.Decides.{nat_tests}
 use Rattle.sy_terms.specs.Theories.{in_core}
-use Rattle.sy_terms.specs.Sorts.{sort_of, same_sort, each_is, all_alike, choice, by_width, one_vector, two_vectors, vectors, up_to_64, two_joined, as_before}
+use Rattle.sy_terms.specs.Sorts.{sort_of, same_sort, each_is, all_alike, choice, one_int, two_ints, by_width, one_vector, two_vectors, vectors, up_to_64, two_joined, as_before}
 use Rattle.sy_terms.specs.declared.op.Op.{Op}
 use Rattle.sy_terms.specs.declared.op.Op.TheVariants as ops
 use Rattle.sy_terms.specs.declared.sort.Sort.{Sort}
@@ -279,6 +279,29 @@ pairs ss s a =
     let some : 1 ≤ length ss = rw a.is (omega arith) in
     rw (← a.truth) (omega (arith, some, square (length ss) some))
 
+-- no integer has signals
+never_whole : (s : Sort) → has_signals s ≡ true → sorts.Int ≡ s → ⊥
+never_whole sorts.Bool h e = cc
+never_whole sorts.Int h e = cc
+never_whole (sorts.Bits w) h e = cc
+
+whole_one : (ss : List Sort) (s : Sort) → one_int ss ≡ Is s → sorts.Int ≡ s
+whole_one [] s e = cc
+whole_one (sorts.Int ∷ []) s e = cc
+whole_one (sorts.Int ∷ t ∷ rest) s e = cc
+whole_one (sorts.Bool ∷ rest) s e = cc
+whole_one (sorts.Bits w ∷ rest) s e = cc
+
+whole_pair : (ss : List Sort) (s : Sort) → two_ints ss ≡ Is s → sorts.Int ≡ s
+whole_pair [] s e = cc
+whole_pair (sorts.Bool ∷ rest) s e = cc
+whole_pair (sorts.Bits w ∷ rest) s e = cc
+whole_pair (sorts.Int ∷ []) s e = cc
+whole_pair (sorts.Int ∷ sorts.Bool ∷ rest) s e = cc
+whole_pair (sorts.Int ∷ sorts.Bits w ∷ rest) s e = cc
+whole_pair (sorts.Int ∷ sorts.Int ∷ []) s e = cc
+whole_pair (sorts.Int ∷ sorts.Int ∷ t ∷ rest) s e = cc
+
 pub weighs : (op : Op) (ss : List Sort) (s : Sort) → sort_of op ss ≡ Is s → has_signals s ≡ true → sort_width s ≤ operator_weight op (length ss) (sort_weight (Some s))
 unfolding sort_of
 weighs ops.BvUdiv ss s e h = heavier s h
@@ -291,4 +314,7 @@ weighs ops.BvLshr ss s e h = heavier s h
 weighs ops.BvAshr ss s e h = heavier s h
 weighs ops.BvMul ss s e h = products (length ss) (sort_weight (Some s) * sort_weight (Some s)) (sort_width s) (two_or_more ss s e) (heavier s h)
 weighs ops.Distinct ss s e h = pairs ss s (alike ss s e)
+weighs ops.Div ss s e h = absurd (never_whole s h (if_Is (nat_le 2 (length ss) && list_all (same_sort sorts.Int) ss) sorts.Int s e).1)
+weighs ops.Mod ss s e h = absurd (never_whole s h (whole_pair ss s e))
+weighs ops.Abs ss s e h = absurd (never_whole s h (whole_one ss s e))
 weighs _ ss s e h = lightest s

@@ -1,11 +1,11 @@
 -- How the learning ends.
 use Rattle.std.proofs.Common.{◌≡◌, ℕ, refl, ◌∙◌, sym, ap, arith, length}
 use Rattle.sy_clauses.specs.declared.Cnf.{Cnf}
-use Rattle.sy_clauses.specs.Clauses.{known_clauses}
+use Rattle.sy_clauses.specs.Clauses.{known_clauses, VarsFit}
 use Rattle.sy_clauses.specs.New.{LearnsNew}
 use Rattle.sy_cdcl.specs.declared.solver.End.TheVariants as end
 use Rattle.sy_cdcl.specs.declared.solver.State.{State}
-use Rattle.sy_cdcl.specs.Answer.{IsRunEnd, VarsFit}
+use Rattle.sy_cdcl.specs.Answer.{IsRunEnd}
 use Rattle.sy_cdcl.specs.States.{StateIsSound, IsFresh, clauses_known}
 use Rattle.sy_cdcl.proofs.Ends.{fresh_first, numbered_first, attach_vars, attach_count}
 use Rattle.sy_cdcl.proofs.Bound.{fewer_than_sets}

@@ -6,7 +6,7 @@ use Rattle.std.proofs.lemmas.List.{append-nil, length-map}
 use Rattle.sy_clauses.specs.declared.Lit.{Lit}
 use Rattle.sy_clauses.specs.declared.Line.{Line}
 use Rattle.sy_clauses.specs.declared.Cnf.{Cnf}
-use Rattle.sy_clauses.specs.Clauses.{Clause, literals, same_literal, known_clauses, all_clauses, line_clause, IsModel, IsEmpty, Refutes}
+use Rattle.sy_clauses.specs.Clauses.{Clause, literals, same_literal, known_clauses, all_clauses, line_clause, IsModel, IsEmpty, Refutes, VarsFit}
 use Rattle.sy_clauses.specs.New.{HasTrue, HasTwoOpen, AllSettled, EachNew}
 use Rattle.sy_clauses.proofs.Sets.{literal_is}
 use Rattle.sy_clauses.proofs.Known.{known_first}
@@ -14,7 +14,7 @@ use Rattle.sy_cdcl_literals.specs.declared.entries.Entry.{Entry}
 use Rattle.sy_cdcl.specs.declared.trail.Trail.{Trail}
 use Rattle.sy_cdcl.specs.Trails.{kept_values, IsTrail, TrailIsReady, LevelsSettled, VarsBelow}
 use Rattle.sy_cdcl.specs.Conflicts.{IsLearned}
-use Rattle.sy_cdcl.specs.Answer.{VarsFit, or_false}
+use Rattle.sy_cdcl.specs.Answer.{or_false}
 use Rattle.sy_cdcl.proofs.Push.{some_is}
 use Rattle.sy_cdcl.proofs.Growth.{numbering_more}
 

@@ -1,12 +1,11 @@
 -- The solver's state at the beginning, and after a search.
 use Rattle.std.proofs.Common.{◌≡◌, ℕ, List, ◌∙◌, sym, ap, subst, refl, arith, length, vec_len}
 use Rattle.sy_clauses.specs.declared.Cnf.{Cnf}
-use Rattle.sy_clauses.specs.Clauses.{Clause, known_clauses}
+use Rattle.sy_clauses.specs.Clauses.{Clause, known_clauses, VarsFit}
 use Rattle.sy_cdcl.specs.declared.order.Order.{Order}
 use Rattle.sy_cdcl.specs.declared.trail.Trail.{Trail}
 use Rattle.sy_cdcl.specs.declared.watches.Watches.{Watches}
 use Rattle.sy_cdcl.specs.declared.solver.State.{State}
-use Rattle.sy_cdcl.specs.Answer.{VarsFit}
 use Rattle.sy_cdcl.specs.Trails.{TrailIsReady, LevelsSettled, TrailExtends, kept_values}
 use Rattle.sy_cdcl.specs.Status.{IsConflict}
 use Rattle.sy_cdcl.specs.Watching.{IsWatching}

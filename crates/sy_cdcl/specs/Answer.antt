@@ -1,6 +1,5 @@
 -- What the solver's answers mean.
-use Rattle.std.specs.Prelude.{◌≡◌, ℕ, ◌≤◌, ◌<◌, ◌^◌, false, List, length, slice_index_or, slice_get, Some, Bool, Option, unwrap_or}
-use Rattle.sy_clauses.specs.declared.Lit.{Lit}
+use Rattle.std.specs.Prelude.{◌≡◌, ℕ, ◌≤◌, ◌<◌, ◌^◌, false, List, length, slice_index_or, Bool, Option, unwrap_or}
 use Rattle.sy_clauses.specs.declared.Cnf.{Cnf}
 use Rattle.sy_clauses.specs.declared.Log.{Log}
 use Rattle.sy_clauses.specs.Clauses.{Refutes, IsModel}
@@ -9,11 +8,6 @@ use Rattle.sy_cdcl.specs.declared.solver.End.{End}
 use Rattle.sy_cdcl.specs.declared.solver.End.TheVariants as end
 use Rattle.sy_cdcl.specs.declared.solver.Solved.{Solved}
 use Rattle.sy_cdcl.specs.declared.solver.Solved.TheVariants.{Refuted, Model, Fuel}
-
--- each variable of the formula is below `vars`
-abbrev pub VarsFit : Cnf → Type 0
-VarsFit cnf = (n : ℕ) (c : List Lit) (k : ℕ) (l : Lit) →
-    slice_get cnf.clauses n ≡ Some c → slice_get c k ≡ Some l → l.var < cnf.vars
 
 abbrev pub or_false : Option Bool → Bool
 or_false value = unwrap_or value false

@@ -1,7 +1,7 @@
 // The solver.
 ghost use Rattle.std.specs.Prelude.{◌≡◌, ◌++◌, ◌∷◌, [], ◌<◌, ◌^◌, ◌≤◌, IfOk, OnOk, IfSome, MatchOption, MatchBool, IsTrue, ◌+◌, None, Some, ℕ, Bool, true, length, slice_get, vec_len, map};
 ghost use Rattle.sy_clauses.specs.declared.Lit.{Lit};
-ghost use Rattle.sy_clauses.specs.Clauses.{known_clauses, literals, Refutes};
+ghost use Rattle.sy_clauses.specs.Clauses.{known_clauses, literals, Refutes, VarsFit};
 ghost use Rattle.sy_clauses.specs.Marking.{clause_of};
 ghost use Rattle.sy_clauses.specs.New.{AllSettled, IsUnit};
 ghost use Rattle.sy_cdcl.specs.Trails.{kept_values, entries_values, TrailIsReady, LevelsSettled, VarsBelow, AllValued, unvalued_count};
@@ -9,7 +9,7 @@ ghost use Rattle.sy_cdcl.specs.Status.{IsConflict};
 ghost use Rattle.sy_cdcl.specs.Conflicts.{OpenAtLevels, LastFits, value_below};
 ghost use Rattle.sy_cdcl.specs.Watching.{IsWatching, list_of, IsSkipped, IsPaired};
 ghost use Rattle.sy_cdcl.specs.Storing.{clauses_in, SpansFit};
-ghost use Rattle.sy_cdcl.specs.Answer.{AnswersFormula, IsRunEnd, IsUnstopped, IsModelOf, VarsFit, or_false};
+ghost use Rattle.sy_cdcl.specs.Answer.{AnswersFormula, IsRunEnd, IsUnstopped, IsModelOf, or_false};
 ghost use Rattle.sy_cdcl.specs.States.{StateIsSound, IsFresh, IsFinalConflict, clauses_known};
 
 use crate::analysis::{analyze, go_back, last_falsified};

@@ -13,7 +13,8 @@ use Rattle.sy_query_base.specs.Answers.{Answers}
 use Rattle.sy_query_base.specs.declared.decide.Decide.{Ghosts as DecideOf}
 use Rattle.sy_query_base.specs.declared.verdict.Verdict.{Verdict}
 use Rattle.sy_query_base.specs.declared.verdict.Verdict.TheVariants.{Never, Model, Spent}
-use Rattle.sy_loop_candidate.proofs.Ending.{members, solved}
+use Rattle.sy_loop_candidate.proofs.Ending.{members}
+use Rattle.sy_query_base.proofs.Solved.{solved}
 use Rattle.sy_loop_bodies.specs.Clauses.{AreWithinFor, IsVerdictFor}
 
 pub verdict_on_bodies : {T N D P S : Type 0} (theory : TheoryOf T N) (solver : DecideOf D T P S N) (problem : Problem T N) (limits : Limits) (bound : ℕ) (bodies : List (Term T N)) (query : Query) (verdict : Verdict T P S N) →

@@ -15,7 +15,7 @@ use Rattle.sy_points.specs.declared.stored.Stored.{Stored}
 use Rattle.sy_bank_rows.specs.Banks.{Entry}
 use Rattle.sy_bank_level.specs.Bank.{merged_of}
 use Rattle.sy_bank_level.specs.declared.bank.Bank.{Bank}
-use Rattle.sy_loop_history.specs.Solutions.{IsSolution}
+use Rattle.sy_query_base.specs.Solutions.{IsSolution}
 use Rattle.sy_loop_bodies.specs.Banked.{IsOneBank}
 
 module _ {T N : Type 0} (theory : TheoryOf T N) (problem : Problem T N) where

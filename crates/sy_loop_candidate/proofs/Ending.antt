@@ -30,7 +30,6 @@ use Rattle.sy_loop_history.specs.Histories.{Counterexample, IsCandidate, IsDue, 
 use Rattle.sy_loop_history.proofs.Staying.{candidate_stays, met_stays}
 use Rattle.sy_loop_history.specs.Budgets as budgets
 use Rattle.sy_loop_history.specs.Budgets.{RoundsMet, PointsMet, CheckedLeaves}
-use Rattle.sy_loop_history.specs.Solutions.{IsSolution}
 use Rattle.sy_loop_history.specs.Stored.{counterexample_of, history_of}
 use Rattle.sy_loop_history.specs.Adding.{room}
 use Rattle.sy_loop_truth.specs.Known.{IsKnown}
@@ -72,43 +71,6 @@ tried_members Beyond question size history n bodies may = ⊎_elim
 
 pub candidate_members : (reach : Reach) (question : Question) (size : ℕ) (history : List Counterexample) (bodies : List Expr) → IsCandidate reach question size history bodies → AreMembers question.goals bodies
 candidate_members reach question size history bodies candidate = tried_members reach question size history candidate.number bodies candidate.by
-
--- a value is true or isn't
-true_or_not : (value : Val) → (value ≡ Truth true) ⊎ (value ≡ Truth true → ⊥)
-true_or_not (Truth true) = inl refl
-true_or_not (Truth false) = inr (λ e. cc)
-true_or_not (Whole z) = inr (λ e. cc)
-true_or_not (Bits w n) = inr (λ e. cc)
-
-all_true_or_not : (question : Question) (bodies : List Expr) (values : List Val) (terms : List Expr) → All (IsTrueUnder question bodies values) terms ⊎ (All (IsTrueUnder question bodies values) terms → ⊥)
-all_true_or_not question bodies values [] = inl (All-nil (IsTrueUnder question bodies values))
-all_true_or_not question bodies values (term ∷ terms) =
-    let P : Expr → Type 0 = IsTrueUnder question bodies values in
-    ⊎_elim
-    (λ (first : P term). ⊎_elim
-    (λ (rest : All P terms). inl (All-cons P term terms first rest))
-    (λ (not : All P terms → ⊥). inr (λ (all : All P (term ∷ terms)). not (All-tail P term terms all)))
-    (all_true_or_not question bodies values terms))
-    (λ (not : P term → ⊥). inr (λ (all : All P (term ∷ terms)). not (All-head P term terms all)))
-    (true_or_not (meaning (functions question.definitions) (map (function_from (functions question.definitions)) bodies) values term))
-
-meets_unless : (question : Question) (bodies : List Expr) (values : List Val) → (Violates question bodies values → ⊥) → Meets question bodies values
-meets_unless question bodies values none assumed = ⊎_elim
-    (λ (all : All (IsTrueUnder question bodies values) question.constraints). all)
-    (λ (not : All (IsTrueUnder question bodies values) question.constraints → ⊥). absurd (none (assumed, not)))
-    (all_true_or_not question bodies values question.constraints)
-
--- bodies whose query is never satisfied solve the problem
-pub solved : {P : Type 0} (accepted : Query → P → Type 0) (question : Question) (bodies : List Expr) (query : Query) (proof : P) → query ≡ violating question bodies → IsViolation question bodies query → IsNever query →
-    accepted query proof → AreMembers question.goals bodies → IsSolution accepted question bodies proof
-solved accepted question bodies query proof is says never accepts are_members =
-    let never' : IsNever (violating question bodies) = subst IsNever is never in
-    let says' : IsViolation question bodies (violating question bodies) = subst (IsViolation question bodies) is says in
-    record {
-      members = are_members;
-      solves = λ values are. meets_unless question bodies values (λ violates. never' values are ((says' values are).1 violates).true);
-      proved = subst (λ q. accepted q proof) is accepts;
-    }
 
 before_or_last : {X : Type 0} (xs : List X) (x : X) (place : ℕ) (k : X) → slice_get (xs ++ x ∷ []) place ≡ Some k →
     ((slice_get xs place ≡ Some k) × (take place (xs ++ x ∷ []) ≡ take place xs)) ⊎ ((x ≡ k) × (take place (xs ++ x ∷ []) ≡ xs))

@@ -15,7 +15,7 @@ use Rattle.sy_points.specs.declared.stored.Stored.{Stored}
 use Rattle.sy_loop_bounds.specs.declared.reach.Reach.{Reach}
 use Rattle.sy_loop_history.specs.Histories.{Counterexample, IsCandidate}
 use Rattle.sy_loop_history.specs.Budgets.{RoundsMet, PointsMet, WeightMet, DecideMet, CheckedLeaves}
-use Rattle.sy_loop_history.specs.Solutions.{IsSolution}
+use Rattle.sy_query_base.specs.Solutions.{IsSolution}
 use Rattle.sy_loop_history.specs.Stored.{history_of}
 use Rattle.sy_loop_truth.specs.Known.{left}
 use Rattle.sy_loop_history.specs.Adding.{room}

@@ -2,7 +2,7 @@
 ghost use Rattle.std.specs.Prelude.{◌≡◌, map, IfOk};
 ghost use Rattle.sy_terms.specs.Denoted.{expr_of};
 ghost use Rattle.sy_grammar_base.specs.Questions.{question_of};
-ghost use Rattle.sy_loop_history.specs.Solutions.{IsSolution};
+ghost use Rattle.sy_query_base.specs.Solutions.{IsSolution};
 ghost use Rattle.sy_loop_outcome.specs.Right.{IsRightFor, LeavesFor};
 ghost use Rattle.sy_loop_outcome.specs.declared.outcome.LoopRange.TheVariants as ranges;
 ghost use Rattle.sy_loop_claims.specs.Clauses.{FindsLeastFor, IsUnsolvedFor};

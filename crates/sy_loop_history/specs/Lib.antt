@@ -3,7 +3,6 @@ pub mod Budgets
 pub mod Goods
 pub mod Histories
 pub mod Sizes
-pub mod Solutions
 pub mod Stored
 pub mod Trees
 pub mod Trials

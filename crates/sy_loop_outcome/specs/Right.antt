@@ -17,7 +17,7 @@ use Rattle.sy_bank_level.specs.Bank.{merged_of}
 use Rattle.sy_loop_bounds.specs.declared.reach.Reach.{Reach}
 use Rattle.sy_loop_history.specs.Histories.{Counterexample}
 use Rattle.sy_loop_history.specs.Budgets.{RoundsMet, PointsMet, BankMet, WeightMet, DecideMet, CheckedLeaves, MemberLeaves}
-use Rattle.sy_loop_history.specs.Solutions.{IsSolution}
+use Rattle.sy_query_base.specs.Solutions.{IsSolution}
 use Rattle.sy_loop_history.specs.Stored.{history_of}
 use Rattle.sy_loop_history.specs.Sizes.{AreAtMost}
 use Rattle.sy_loop_history.specs.Unsolved.{NoSolution, NoSolutionWithin}

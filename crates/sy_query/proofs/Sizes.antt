@@ -244,3 +244,7 @@ distinct-two ss t e = all_alike-two ss t e
 pub product-two : (ss : List Sort) (t : Sort) → sort_of ops.BvMul ss ≡ Is t → 2 ≤ length ss
 unfolding sort_of
 product-two ss t e = vectors-two ss t e
+
+pub division-two : (ss : List Sort) (t : Sort) → sort_of ops.Div ss ≡ Is t → 2 ≤ length ss
+unfolding sort_of
+division-two ss t e = least_two ss 2 sorts.Int sorts.Int t e

@@ -20,7 +20,7 @@ use Rattle.sy_terms_laws.proofs.Equations.{both_true, if_Some, applied_sort_Some
 use Rattle.sy_query_base.specs.Placed.{count}
 use Rattle.sy_query_base.specs.Weights.{weight, weights, sort_weight, operator_weight, query_scope}
 use Rattle.sy_query.specs.Sized.{IsSized}
-use Rattle.sy_query.proofs.Sizes.{sort_of-sized, distinct-two, product-two}
+use Rattle.sy_query.proofs.Sizes.{sort_of-sized, distinct-two, product-two, division-two}
 use Rattle.sy_query.proofs.Sorted.{sorts_in-length}
 
 pub sort_weight-least : (s : Sort) → IsSized s → 1 ≤ sort_weight (Some s)
@@ -32,15 +32,17 @@ product-least : (a b : ℕ) → 1 ≤ a → 1 ≤ b → 1 ≤ a * b
 product-least zero b g h = absurd (omega (arith, g))
 product-least (suc a) b g h = omega (arith, h)
 
--- products and `distinct` have two arguments or more
+-- products, `distinct` and `div` have two arguments or more
 abbrev TakesTwo : Op → ℕ → Type 0
 TakesTwo ops.BvMul n = 2 ≤ n
 TakesTwo ops.Distinct n = 2 ≤ n
+TakesTwo ops.Div n = 2 ≤ n
 TakesTwo _ n = Unit {0}
 
 takes_two : (op : Op) (ss : List Sort) (t : Sort) → sort_of op ss ≡ Is t → TakesTwo op (length ss)
 takes_two ops.BvMul ss t e = product-two ss t e
 takes_two ops.Distinct ss t e = distinct-two ss t e
+takes_two ops.Div ss t e = division-two ss t e
 takes_two _ ss t e = tt
 
 operator-least : (op : Op) (n own : ℕ) → TakesTwo op n → 1 ≤ own → 1 ≤ operator_weight op n own
@@ -54,6 +56,9 @@ operator-least ops.BvLshr n own two least = product-least own own least least
 operator-least ops.BvAshr n own two least = product-least own own least least
 operator-least ops.BvMul n own two least = product-least (n - 1) (own * own) (omega (arith, two)) (product-least own own least least)
 operator-least ops.Distinct n own two least = product-least n n (omega (arith, two)) (omega (arith, two))
+operator-least ops.Div n own two least = omega (arith, two)
+operator-least ops.Mod n own two least = omega arith
+operator-least ops.Abs n own two least = omega arith
 operator-least _ n own two least = least
 
 valid-sized : (v : Val) → valid v ≡ true → IsSized (sort_of_value v)

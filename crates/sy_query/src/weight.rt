@@ -26,6 +26,9 @@ pub(crate) fn operator_weight(operator: &Op, arguments: u64, own: u64) -> u64
         Op::BvShl | Op::BvLshr | Op::BvAshr => own * own,
         Op::BvMul => arguments.saturating_sub(1) * (own * own),
         Op::Distinct => arguments * arguments,
+        Op::Div => 8 * arguments.saturating_sub(1),
+        Op::Mod => 8,
+        Op::Abs => 4,
         _ => own,
     }
 }

@@ -1,3 +1,4 @@
 pub mod Lists
+pub mod Solved
 pub mod Unfolding
 pub mod Violations

@@ -3,4 +3,5 @@ pub mod Asked
 pub mod Budgets
 pub mod Placed
 pub mod Queries
+pub mod Solutions
 pub mod Weights

@@ -25,6 +25,9 @@ operator_weight ops.BvLshr arguments own = own * own
 operator_weight ops.BvAshr arguments own = own * own
 operator_weight ops.BvMul arguments own = (arguments - 1) * (own * own)
 operator_weight ops.Distinct arguments own = arguments * arguments
+operator_weight ops.Div arguments own = 8 * (arguments - 1)
+operator_weight ops.Mod arguments own = 8
+operator_weight ops.Abs arguments own = 4
 operator_weight _ arguments own = own
 
 -- the sorts in force in a binding

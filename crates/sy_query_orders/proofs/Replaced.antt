@@ -14,10 +14,12 @@ use Rattle.sy_terms.specs.declared.sort.Sort.{Sort}
 use Rattle.sy_terms.specs.declared.term.Fun.{Fun}
 use Rattle.sy_terms.specs.declared.term.Term.{Term, Var}
 use Rattle.sy_terms_laws.proofs.Equations.{both_true, value_at_position_is}
+use Rattle.sy_terms_laws.proofs.Plain.{all_stay, all_further, plain_append}
 use Rattle.sy_grammar_base.specs.Solving.{AreValues}
 use Rattle.sy_query_base.specs.Asked.{Query, Satisfies}
 use Rattle.sy_query_orders.specs.Alike.{IsAlike, SaysTheSame}
-use Rattle.sy_query_orders.specs.Replaced.{is_plain, are_plain, IsReplaced, AreReplaced, AreNext, SaysTheSameAt}
+use Rattle.sy_terms_laws.specs.Plain.{is_plain, are_plain}
+use Rattle.sy_query_orders.specs.Replaced.{IsReplaced, AreReplaced, AreNext, SaysTheSameAt}
 use Rattle.sy_query_orders.proofs.Alike.{meanings_last}
 
 -- truth values
@@ -36,12 +38,6 @@ and_second false b second = refl
 
 -- numbers
 
-below : (a b : ℕ) → nat_lt a b ≡ true → a < b
-below a b less = grind arith
-
-less_further : (a b c : ℕ) → nat_lt a b ≡ true → nat_lt a (b + c) ≡ true
-less_further a b c less = grind arith
-
 less_next : (a b c : ℕ) → a ≡ b + c → nat_lt a (b + (c + 1)) ≡ true
 less_next a b c is = grind arith
 
@@ -56,57 +52,10 @@ unfolding meanings
 meanings_append defined wanted values none others = refl
 meanings_append defined wanted values (more term terms) others = ap (λ (rest : List Val). meaning defined wanted values term ∷ rest) (meanings_append defined wanted values terms others)
 
-plain_append : (count : ℕ) (terms others : Exprs) → are_plain count terms ≡ true → are_plain count others ≡ true → are_plain count (append terms others) ≡ true
-unfolding are_plain
-plain_append count none others first second = second
-plain_append count (more term terms) others first second =
-    let both = both_true (is_plain count term) (are_plain count terms) first in
-    and_true (is_plain count term) (are_plain count (append terms others)) both.0 (plain_append count terms others both.1 second)
-
 many_meanings : {T N : Type 0} (number : N → Val) (defined wanted : List Function) (values : List Val) (terms : List (Term T N)) → length (meanings defined wanted values (exprs_of number terms)) ≡ length terms
 unfolding meanings
 many_meanings number defined wanted values [] = refl
 many_meanings number defined wanted values (term ∷ terms) = omega (arith, many_meanings number defined wanted values terms)
-
--- what stands for names means the same where further values are in force
-
-at_before : (values later : List Val) (i : ℕ) → i < length values → value_at_position (values ++ later) i ≡ value_at_position values i
-at_before [] later i within = absurd (omega (arith, within))
-at_before (value ∷ values) later zero within = refl
-at_before (value ∷ values) later (suc i) within = at_before values later i (omega (arith, within))
-
-mutual
-  unfolding meaning meanings is_plain are_plain
-
-  stays : (defined wanted : List Function) (values later : List Val) (term : Expr) → is_plain (length values) term ≡ true → meaning defined wanted (values ++ later) term ≡ meaning defined wanted values term
-  stays defined wanted values later (Constant value) plain = refl
-  stays defined wanted values later (Variable position) plain = at_before values later position (below position (length values) plain)
-  stays defined wanted values later (Apply operator arguments) plain = ap (op_value operator) (all_stay defined wanted values later arguments plain)
-  stays defined wanted values later (Invoke function arguments) plain = cc
-  stays defined wanted values later (Bind bound inner) plain = cc
-
-  all_stay : (defined wanted : List Function) (values later : List Val) (terms : Exprs) → are_plain (length values) terms ≡ true → meanings defined wanted (values ++ later) terms ≡ meanings defined wanted values terms
-  all_stay defined wanted values later none plain = refl
-  all_stay defined wanted values later (more term terms) plain =
-      let both = both_true (is_plain (length values) term) (are_plain (length values) terms) plain in
-      ap (λ (first : Val). first ∷ meanings defined wanted (values ++ later) terms) (stays defined wanted values later term both.0) ∙
-      ap (λ (rest : List Val). meaning defined wanted values term ∷ rest) (all_stay defined wanted values later terms both.1)
-
-mutual
-  unfolding is_plain are_plain
-
-  further : (count many : ℕ) (term : Expr) → is_plain count term ≡ true → is_plain (count + many) term ≡ true
-  further count many (Constant value) plain = refl
-  further count many (Variable position) plain = less_further position count many plain
-  further count many (Apply operator arguments) plain = all_further count many arguments plain
-  further count many (Invoke function arguments) plain = cc
-  further count many (Bind bound inner) plain = cc
-
-  all_further : (count many : ℕ) (terms : Exprs) → are_plain count terms ≡ true → are_plain (count + many) terms ≡ true
-  all_further count many none plain = refl
-  all_further count many (more term terms) plain =
-      let both = both_true (is_plain count term) (are_plain count terms) plain in
-      and_true (is_plain (count + many) term) (are_plain (count + many) terms) (further count many term both.0) (all_further count many terms both.1)
 
 -- a term, form by form
 

@@ -1,21 +1,8 @@
 -- Terms in which names are replaced by what they stand for.
-use Rattle.std.specs.Prelude.{ℕ, Bool, true, false, ◌&&◌, nat_lt, ◌≡◌, ◌↔◌, ◌+◌, ◌++◌, List, [], length}
+use Rattle.std.specs.Prelude.{ℕ, Bool, true, false, ◌≡◌, ◌↔◌, ◌+◌, ◌++◌, List, [], length}
 use Rattle.sy_terms.specs.Values.{Val, Truth}
-use Rattle.sy_terms.specs.Expr.{Expr, Exprs, Constant, Variable, Apply, Invoke, Bind, none, more}
+use Rattle.sy_terms.specs.Expr.{Expr, Exprs, Bind}
 use Rattle.sy_terms.specs.Meaning.{Function, meaning, meanings}
-
--- constants, operators and the first variables alone: it means the same where further values are in force
-unfoldable mutual
-  pub is_plain : ℕ → Expr → Bool
-  is_plain count (Constant value) = true
-  is_plain count (Variable position) = nat_lt position count
-  is_plain count (Apply operator arguments) = are_plain count arguments
-  is_plain count (Invoke function arguments) = false
-  is_plain count (Bind bound inner) = false
-
-  pub are_plain : ℕ → Exprs → Bool
-  are_plain count none = true
-  are_plain count (more first rest) = is_plain count first && are_plain count rest
 
 -- at so many values, the one means what the other means at the values that the names stand for
 abbrev pub IsReplaced : ℕ → Exprs → Expr → Expr → Type 0

@@ -2,6 +2,7 @@
 ghost use Rattle.std.specs.Prelude.{◌≡◌, ◌+◌, ◌<◌, ◌^◌, true, length, take, IsTrue, IfOk, OnOk};
 ghost use Rattle.sy_terms.specs.Denoted.{expr_of, exprs_of};
 ghost use Rattle.sy_query_orders.specs.Replaced as spec;
+ghost use Rattle.sy_terms_laws.specs.Plain as plain;
 ghost use Rattle.sy_query_orders.specs.Replaced.{IsReplaced, AreReplaced, AreNamed};
 
 use crate::names::{counted, may_stand, named, variables};
@@ -20,7 +21,7 @@ pub(crate) fn written<T: Theory>(
     names: &mut Vec<Term<T>>,
     term: &Term<T>,
 ) -> Result<Term<T>, Want>
-    requires { spec.are_plain count (exprs_of T.denotes names.old.items) ≡ true }
+    requires { plain.are_plain count (exprs_of T.denotes names.old.items) ≡ true }
     ensures kept { OnOk result (names.new.items ≡ names.old.items) }
     ensures replaced { IfOk result (λ found. IsReplaced count (exprs_of T.denotes names.old.items) (expr_of T.denotes found) (expr_of T.denotes term.now)) }
 {
@@ -60,7 +61,7 @@ fn all_written<T: Theory>(
     names: &mut Vec<Term<T>>,
     terms: &[Term<T>],
 ) -> Result<Terms<T>, Want>
-    requires { spec.are_plain count (exprs_of T.denotes names.old.items) ≡ true }
+    requires { plain.are_plain count (exprs_of T.denotes names.old.items) ≡ true }
     ensures kept { OnOk result (names.new.items ≡ names.old.items) }
     ensures replaced { IfOk result (λ found. AreReplaced count (exprs_of T.denotes names.old.items) (exprs_of T.denotes found.items.items) (exprs_of T.denotes terms.now)) }
 {
@@ -81,11 +82,11 @@ fn name_all<T: Theory>(
     names: &mut Vec<Term<T>>,
     bound: &[Term<T>],
 ) -> Result<u32, Want>
-    requires names { spec.are_plain count (exprs_of T.denotes names.old.items) ≡ true }
-    requires bound { IsTrue stand → spec.are_plain count (exprs_of T.denotes bound.now) ≡ true }
+    requires names { plain.are_plain count (exprs_of T.denotes names.old.items) ≡ true }
+    requires bound { IsTrue stand → plain.are_plain count (exprs_of T.denotes bound.now) ≡ true }
     ensures counted { IfOk result (λ many. count + many < 2 ^ 32) }
     ensures kept { OnOk result (take (length names.old.items) names.new.items ≡ names.old.items) }
-    ensures plain { IfOk result (λ many. spec.are_plain (count + many) (exprs_of T.denotes names.new.items) ≡ true) }
+    ensures plain { IfOk result (λ many. plain.are_plain (count + many) (exprs_of T.denotes names.new.items) ≡ true) }
     ensures named { IfOk result (λ many. AreNamed stand count many (exprs_of T.denotes names.old.items) (exprs_of T.denotes names.new.items) (exprs_of T.denotes bound.now)) }
 {
     if stand {

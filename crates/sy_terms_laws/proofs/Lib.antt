@@ -3,6 +3,7 @@ pub mod Cases
 pub mod Called
 pub mod OperatorSorts
 pub mod Lists
+pub mod Plain
 pub mod Steps
 pub mod Reached
 pub mod Asked

@@ -1,7 +1,7 @@
 // Sets of clauses with what the solver finds, resolution logs with what the checker says of them, and long ones of both.
 ghost use Rattle.std.specs.Prelude.{◌≡◌, ◌<◌, ◌^◌, IsTrue, Some, ℕ, length, slice_get};
 ghost use Rattle.sy_clauses.specs.declared.Lit.{Lit};
-ghost use Rattle.sy_cdcl.specs.Answer.{VarsFit};
+ghost use Rattle.sy_clauses.specs.Clauses.{VarsFit};
 
 use crate::rows::{field, number};
 use std::alloc::Global;

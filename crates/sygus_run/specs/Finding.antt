@@ -11,7 +11,7 @@ use Rattle.sy_bank_rows.specs.Banks.{Merged}
 use Rattle.sy_loop_bounds.specs.declared.reach.Reach.TheVariants.{Joins}
 use Rattle.sy_loop_history.specs.Budgets.{MemberLeaves, CheckedLeaves}
 use Rattle.sy_loop_history.specs.Histories.{Counterexample}
-use Rattle.sy_loop_history.specs.Solutions.{IsSolution}
+use Rattle.sy_query_base.specs.Solutions.{IsSolution}
 use Rattle.sy_loop_outcome.specs.declared.outcome.Outcome.{Outcome}
 use Rattle.sy_loop_outcome.specs.declared.outcome.Outcome.TheVariants.{Found, Infeasible, Fail}
 use Rattle.sy_loop.specs.Least.{AreLeast}
