@@ -42,31 +42,6 @@ says query v values signal t bool is value are =
       λ s. truth-same t true (sym meant ∙ s.true),
     )
 
--- the clauses of a circuit of the body, with the output that the signal gives
-pub circuit-clauses : (query : Query) (circuit whole : Plan) (signal : Signal) (bit : Bit) (output : Lit) (cnf : Cnf) →
-    QueryFits owned is_bits query → IsBodyOf query circuit signal →
-    ((v : ℕ → Bool) → bit_value v bit ≡ truth (signal_value v signal)) →
-    GrownCircuit circuit whole → variables whole ≤ variables circuit + 1 →
-    ((v : ℕ → Bool) → FollowsPlan v whole → lit_value v output ≡ bit_value v bit) →
-    cnf.vars ≡ variables whole → cnf.clauses ≡ but_last cnf.clauses ++ (output ∷ []) ∷ [] →
-    ((v : ℕ → Bool) → IsModel v (but_last cnf.clauses) ↔ FollowsPlan v whole) →
-    ExtendsInOneWay whole.inputs cnf.vars (but_last cnf.clauses) → length cnf.clauses ≤ 4 * length whole.gates + 1 →
-    HasCircuitClauses query cnf
-circuit-clauses query circuit whole signal bit output cnf fits body is grown cost value vars last models ways count =
-    let inputs : whole.inputs ≡ total_width query.variables = grown.same_inputs ∙ body.inputs in
-    let few = body.few in record {
-      one_way = subst (λ n. ExtendsInOneWay n cnf.vars (but_last cnf.clauses)) inputs ways;
-      output = output;
-      last = last;
-      says = λ m long model.
-          let follows : FollowsPlan (values_of m) whole = (models (values_of m)).0 model in
-          says query (values_of m) (assignment query.variables m) signal (lit_value (values_of m) output)
-          body.sort (value (values_of m) follows ∙ is (values_of m)) (body.value m (grown.keeps (values_of m) follows))
-          (read-values query.variables m (variables-have query fits));
-      few_variables = omega (arith, few, cost, vars);
-      few_clauses = omega (arith, few, cost, inputs, count);
-    }
-
 -- variables of clauses below a number
 
 literal-below : (c : List Lit) (k : ℕ) (l : Lit) → slice_get c k ≡ Some l → lit_bound l ≤ clause_bound c
@@ -79,5 +54,31 @@ clause-below [] n c e = cc
 clause-below (x ∷ cs) zero c e = let same : x ≡ c = some-same x c e in rw (← same) (omega arith)
 clause-below (x ∷ cs) (suc n) c e = omega (arith, clause-below cs n c e)
 
-pub below : (cs : List (List Lit)) (vars n : ℕ) (c : List Lit) (k : ℕ) (l : Lit) → clauses_bound cs ≤ vars → slice_get cs n ≡ Some c → slice_get c k ≡ Some l → l.var < vars
-below cs vars n c k l h e f = omega (arith, h, clause-below cs n c e, literal-below c k l f)
+pub below : (cs : List (List Lit)) (vars : ℕ) → clauses_bound cs ≤ vars → (n : ℕ) (c : List Lit) (k : ℕ) (l : Lit) → slice_get cs n ≡ Some c → slice_get c k ≡ Some l → l.var < vars
+below cs vars h n c k l e f = omega (arith, h, clause-below cs n c e, literal-below c k l f)
+
+-- the clauses of a circuit of the body, with the output that the signal gives
+pub circuit-clauses : (query : Query) (circuit whole : Plan) (signal : Signal) (bit : Bit) (output : Lit) (cnf : Cnf) →
+    QueryFits owned is_bits query → IsBodyOf query circuit signal →
+    ((v : ℕ → Bool) → bit_value v bit ≡ truth (signal_value v signal)) →
+    GrownCircuit circuit whole → variables whole ≤ variables circuit + 1 →
+    ((v : ℕ → Bool) → FollowsPlan v whole → lit_value v output ≡ bit_value v bit) →
+    cnf.vars ≡ variables whole → clauses_bound cnf.clauses ≤ cnf.vars → cnf.clauses ≡ but_last cnf.clauses ++ (output ∷ []) ∷ [] →
+    ((v : ℕ → Bool) → IsModel v (but_last cnf.clauses) ↔ FollowsPlan v whole) →
+    ExtendsInOneWay whole.inputs cnf.vars (but_last cnf.clauses) → length cnf.clauses ≤ 4 * length whole.gates + 1 →
+    HasCircuitClauses query cnf
+circuit-clauses query circuit whole signal bit output cnf fits body is grown cost value vars bound last models ways count =
+    let inputs : whole.inputs ≡ total_width query.variables = grown.same_inputs ∙ body.inputs in
+    let few = body.few in record {
+      within = below cnf.clauses cnf.vars bound;
+      one_way = subst (λ n. ExtendsInOneWay n cnf.vars (but_last cnf.clauses)) inputs ways;
+      output = output;
+      last = last;
+      says = λ m long model.
+          let follows : FollowsPlan (values_of m) whole = (models (values_of m)).0 model in
+          says query (values_of m) (assignment query.variables m) signal (lit_value (values_of m) output)
+          body.sort (value (values_of m) follows ∙ is (values_of m)) (body.value m (grown.keeps (values_of m) follows))
+          (read-values query.variables m (variables-have query fits));
+      few_variables = omega (arith, few, cost, vars);
+      few_clauses = omega (arith, few, cost, inputs, count);
+    }

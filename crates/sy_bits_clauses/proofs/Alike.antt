@@ -19,6 +19,7 @@ alike_after query first other earlier later values = (λ holds. (earlier values)
 pub same_clauses : (query other : Query) (cnf : Cnf) → other.variables ≡ query.variables → ((values : List Val) → Satisfies other values ↔ Satisfies query values) →
     cnf.vars ≤ 1000 * query_size query → length cnf.clauses ≤ 1000 * query_size query → HasCircuitClauses other cnf → HasCircuitClauses query cnf
 same_clauses query other cnf same alike variables clauses has = record {
+  within = has.within;
   one_way = subst (λ sorts. ExtendsInOneWay (total_width sorts) cnf.vars (but_last cnf.clauses)) same has.one_way;
   output = has.output;
   last = has.last;

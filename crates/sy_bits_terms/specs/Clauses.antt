@@ -1,9 +1,9 @@
 -- Clauses that say what a query says.
-use Rattle.std.specs.Prelude.{ℕ, ◌+◌, ◌*◌, ◌≤◌, ◌≡◌, ◌↔◌, Bool, true, List, [], ◌∷◌, ◌++◌, length}
+use Rattle.std.specs.Prelude.{ℕ, ◌+◌, ◌*◌, ◌^◌, ◌≤◌, ◌<◌, ◌≡◌, ◌↔◌, Bool, true, List, [], ◌∷◌, ◌++◌, length}
 use Rattle.sy_clauses.specs.declared.Lit.{Lit}
 use Rattle.sy_clauses.specs.declared.Cnf.{Cnf}
 use Rattle.sy_clauses.specs.declared.Log.{Log}
-use Rattle.sy_clauses.specs.Clauses.{IsModel, Refutes}
+use Rattle.sy_clauses.specs.Clauses.{IsModel, Refutes, VarsFit}
 use Rattle.sy_clauses.specs.New.{LearnsNew}
 use Rattle.sy_gates.specs.Circuits.{lit_value}
 use Rattle.sy_gates.specs.Models.{values_of, but_last, ExtendsInOneWay}
@@ -17,10 +17,11 @@ use Rattle.sy_bits_terms.specs.Assignments.{assignment}
 abbrev pub query_size : Query → ℕ
 query_size query = query_weight owned query + total_width query.variables
 
--- The first variables are the bits of the query's variables. However these are chosen, there is one choice of the other
+-- Each variable in the clauses is one of theirs. The first variables are the bits of the query's variables. However these are chosen, there is one choice of the other
 -- variables, and no second one, at which each clause before the last is true. The last clause has one literal, which is
 -- true there exactly where the bits' assignment satisfies the query. There are few variables and clauses.
 pub record HasCircuitClauses (query : Query) (cnf : Cnf) : Type 0 where
+  pub within : VarsFit cnf
   pub one_way : ExtendsInOneWay (total_width query.variables) cnf.vars (but_last cnf.clauses)
   pub output : Lit
   pub last : cnf.clauses ≡ but_last cnf.clauses ++ (output ∷ []) ∷ []
@@ -39,8 +40,10 @@ pub record Proves (query : Query) (cnf : Cnf) (log : Log) : Type 0 where
   pub circuit : HasCircuitClauses query cnf
   pub refuted : Refutes cnf log
 
--- as many learned clauses, of which each is new to those before it; and the clauses say what the query says
+-- As many learned clauses, of which each is new to those before it: fewer than there are sets of literals. The clauses say
+-- what the query says.
 pub record ClausesAreSpent (query : Query) (fuel : ℕ) (cnf : Cnf) (log : Log) : Type 0 where
   pub circuit : HasCircuitClauses query cnf
   pub learned : LearnsNew cnf log
   pub many : length log.lines ≡ fuel
+  pub few : fuel < 3 ^ cnf.vars

@@ -18,12 +18,12 @@ pub record IsModelOf (cnf : Cnf) (values : List Bool) : Type 0 where
   pub model : IsModel (λ v. slice_index_or values v false) cnf.clauses
 
 -- A refutation of at most `fuel` lines, or a value for each variable that makes every clause true, or
--- `fuel` learned clauses, each new to the clauses before it.
+-- `fuel` learned clauses, each new to the clauses before it, which is fewer than there are sets of literals.
 abbrev pub AnswersFormula : Cnf → ℕ → Solved → Type 0
 AnswersFormula cnf fuel (Refuted log) = Refutes cnf log × (length log.lines ≤ fuel)
 AnswersFormula cnf fuel (Model values) =
     (length values ≡ cnf.vars) × IsModel (λ v. slice_index_or values v false) cnf.clauses
-AnswersFormula cnf fuel (Fuel log) = LearnsNew cnf log × (length log.lines ≡ fuel)
+AnswersFormula cnf fuel (Fuel log) = LearnsNew cnf log × (length log.lines ≡ fuel) × (fuel < 3 ^ cnf.vars)
 
 -- not stopped by the number of clauses
 abbrev pub IsUnstopped : Solved → Type 0

@@ -16,7 +16,7 @@ returns-in-Model-clause-answer c =
 pub returns-in-Spent-clause-answer : goal.returns-in-Spent-clause-answer
 returns-in-Spent-clause-answer c =
     let i = subst (λ (e : End). IsRunEnd c.args.cnf.now c.args.fuel record { lines = c.learn.new.state.lines } e) c.in-Spent.is c.in_ok-end.ensures in
-    rw c.log_of-log.ensures (i.0, i.1)
+    rw c.log_of-log.ensures (i.0, i.1, i.2)
 
 pub returns-in_err-state-clause-answer : goal.returns-in_err-state-clause-answer
 returns-in_err-state-clause-answer c = IfOk-from_err c.from_residual.result _ c.from_residual.ensures.0
