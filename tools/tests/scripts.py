@@ -186,7 +186,18 @@ def dearest():
     yield "functions: no check", [it.split()[-1] for it in functions.table([], 40)] == ["checks", "0.0", "0.0"]
 
 
+def crates_in_order():
+    """What tools/index.py makes of a list of crates, and what it refuses in one."""
+    index = loaded(TOP / "tools" / "index.py")
+    text = "## Low: a\n\n# a\nsy_a: sy_a_in\nsy_a_in: std\n\n## High: b\n\n# b\nsy_b: sy_a\n"
+    wanted = text.replace("sy_a: sy_a_in\nsy_a_in: std\n", "sy_a_in: std\nsy_a: sy_a_in\n")
+    yield "index: order of crates", (index.sorted_crates(text), index.sorted_crates(wanted)) == (wanted, wanted)
+    yield "index: layers", not [*index.upside_down(text)]
+    yield "index: a layer above", [*index.upside_down(text.replace("std", "sy_b"))] == [("sy_a_in", "sy_b")]
+
+
 def tests():
+    yield from crates_in_order()
     yield from helps()
     yield from measured()
     yield from vectors()
