@@ -1,6 +1,6 @@
 -- Bodies whose query is never satisfied solve the problem.
-use Rattle.std.specs.Prelude.{◌⊎◌, inl, inr, true, false, List, [], ◌∷◌, ◌≡◌, refl, map, All}
-use Rattle.std.proofs.Common.{⊎_elim, subst}
+use Rattle.std.specs.Prelude.{◌⊎◌, true, false, List, [], ◌∷◌, ◌≡◌, refl, map, All}
+use Rattle.std.proofs.Common.{⊎_elim, inl, inr, subst}
 use Rattle.std.proofs.lemmas.List.Elements.{All-nil, All-cons, All-head, All-tail}
 use Rattle.sy_terms.specs.Values.{Val, Truth, Whole, Bits}
 use Rattle.sy_terms.specs.Expr.{Expr}
