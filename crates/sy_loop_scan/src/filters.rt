@@ -1,5 +1,5 @@
 // What one operand has to be where an operator has a wanted value, whatever the other one is.
-use crate::words::{greatest, is_negative, magnitude, shifted_left, shifted_right};
+use crate::words::{absolute, greatest, is_negative, magnitude, shifted_left, shifted_right};
 use sy_terms::Op;
 
 /// Whether all bits of `part` are bits of `whole`.
@@ -81,6 +81,7 @@ pub(crate) fn may_be_second(operator: &Op, bits: u32, number: u64, wanted: u64) 
             }
         }
         Op::BvUrem => number == 0 || number > wanted,
+        Op::Mod => number == 0 || (!is_negative(wanted, bits) && absolute(number, bits) > wanted),
         _ => may_be_part(operator, bits, number, wanted),
     }
 }

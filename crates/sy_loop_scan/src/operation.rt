@@ -96,7 +96,7 @@ fn way_of(shape: &Shape) -> Option<Way> {
 
 fn way_of_single(operator: &Op) -> Option<Way> {
     match operator {
-        Op::Not | Op::Neg | Op::BvNot | Op::BvNeg => Some(Way::Single),
+        Op::Not | Op::Neg | Op::Abs | Op::BvNot | Op::BvNeg => Some(Way::Single),
         _ => None,
     }
 }
@@ -112,7 +112,7 @@ fn way_of_pair(operator: &Op) -> Option<Way> {
         Op::Lt | Op::Le | Op::Gt | Op::Ge => Some(Way::Judged),
         Op::BvUlt | Op::BvUle | Op::BvUgt | Op::BvUge => Some(Way::Judged),
         Op::BvSlt | Op::BvSle | Op::BvSgt | Op::BvSge => Some(Way::Judged),
-        Op::BvUdiv | Op::BvUrem => Some(Way::Divided),
+        Op::Div | Op::Mod | Op::BvUdiv | Op::BvUrem => Some(Way::Divided),
         Op::BvMul => Some(Way::Multiplied),
         _ => None,
     }

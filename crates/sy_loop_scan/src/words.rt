@@ -58,6 +58,37 @@ fn shifted_signed(number: u64, by: u64, bits: u32) -> u64 {
     }
 }
 
+/// The distance of a signed number from 0.
+pub(crate) fn absolute(number: u64, bits: u32) -> u64 {
+    if is_negative(number, bits) {
+        0u64.wrapping_sub(number) & greatest(bits)
+    } else {
+        number
+    }
+}
+
+/// The lowest 64 bits of the quotient whose remainder isn't negative; 0 by 0.
+fn quotient(first: u64, second: u64) -> u64 {
+    if second == 0 {
+        return 0;
+    }
+    match first.cast_signed().checked_div_euclid(second.cast_signed()) {
+        Some(value) => value.cast_unsigned(),
+        None => first,
+    }
+}
+
+/// The remainder that isn't negative; the first number by 0.
+fn remainder(first: u64, second: u64) -> u64 {
+    if second == 0 {
+        return first;
+    }
+    match first.cast_signed().checked_rem_euclid(second.cast_signed()) {
+        Some(value) => value.cast_unsigned(),
+        None => 0,
+    }
+}
+
 /// The number by which signed numbers compare as others do.
 fn lifted(number: u64, bits: u32) -> u64 {
     let most = greatest(bits);
@@ -69,6 +100,7 @@ pub(crate) fn single_value(operator: &Op, bits: u32, number: u64) -> Option<u64>
     match operator {
         Op::Not | Op::BvNot => Some(number ^ greatest(bits)),
         Op::Neg | Op::BvNeg => Some(0u64.wrapping_sub(number) & greatest(bits)),
+        Op::Abs => Some(absolute(number, bits)),
         _ => None,
     }
 }
@@ -87,6 +119,8 @@ pub(crate) fn pair_value(operator: &Op, bits: u32, first: u64, second: u64) -> O
         Op::Add | Op::BvAdd => first.wrapping_add(second) & most,
         Op::Sub | Op::BvSub => first.wrapping_sub(second) & most,
         Op::BvMul => first.wrapping_mul(second) & most,
+        Op::Div => quotient(first, second),
+        Op::Mod => remainder(first, second),
         Op::BvUdiv => first.checked_div(second).unwrap_or(most),
         Op::BvUrem => first.checked_rem(second).unwrap_or(first),
         Op::BvShl => shifted_left(first, second, bits),

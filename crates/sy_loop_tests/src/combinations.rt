@@ -1,13 +1,21 @@
-// Combinations of `x`, `y`, `x & y` and `x ^ y` over 8 bits.
+// Combinations of `x`, `y`, `x & y` and `x ^ y` over 8 bits, and of the same whole numbers.
 use crate::rows::{field, number};
 use crate::terms::operator;
 use std::alloc::Global;
 use std::process::Abort;
 use sy_loop_scan::{Pool, Scan, Shape};
-use sy_terms::Sort;
+use sy_terms::{Op, Sort};
 
 /// The values of the four, where `x` and `y` are 12 and 10, 200 and 7, 85 and 170.
 const VALUES: [[i128; 4]; 3] = [[12, 10, 8, 6], [200, 7, 0, 207], [85, 170, 0, 255]];
+
+/// The sort of the operands.
+fn operand_sort(operator: Op) -> Sort {
+    match operator {
+        Op::Div | Op::Mod => Sort::Int,
+        _ => Sort::Bits(8),
+    }
+}
 
 /// A scan of the sign's operator at kept terms, which are the four, of size 2.
 fn scan(rt: &impl Abort, alloc: Global, sign: u8, bound: u32) -> Scan {
@@ -26,7 +34,7 @@ fn scan(rt: &impl Abort, alloc: Global, sign: u8, bound: u32) -> Scan {
     shapes.push(shape).expect(rt, "memory");
     let mut pools = Vec::new(alloc);
     let pool = Pool {
-        sort: Sort::Bits(8),
+        sort: operand_sort(operator),
         sizes: Vec::from_slice(alloc, &[2, 2, 2, 2]).expect(rt, "memory"),
     };
     pools.push(pool).expect(rt, "memory");
@@ -76,6 +84,9 @@ combination|/|20|1 28 0 :01
 combination|r|20|0 1 0 :01
 combination|&|20|12 200 0 :
 combination|~|20|243 55 170 :0
+combination|d|20|1 28 0 :01
+combination|m|20|2 4 85 :01
+combination|m|20|4 200 85 :02
 combination|a|5|: 20 :02 14 :11
 combination|a|4|20 :";
 

@@ -21,6 +21,8 @@ pub(crate) fn operator(sign: u8) -> Option<(Op, usize)> {
         b'*' => Some((Op::BvMul, 2)),
         b'/' => Some((Op::BvUdiv, 2)),
         b'r' => Some((Op::BvLshr, 2)),
+        b'd' => Some((Op::Div, 2)),
+        b'm' => Some((Op::Mod, 2)),
         _ => None,
     }
 }
