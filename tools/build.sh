@@ -1,6 +1,6 @@
 # shellcheck shell=sh
 # Read by ./sygus and bench/measure.sh, which set `top`, the repository's folder. `build NAME` proves and builds the program
-# of crates/NAME, where that wasn't done or a source changed, with what it stands on and nothing else: by `rt ci` over a copy
+# of crates/NAME, where that wasn't done or a source changed, with what it depends on and nothing else: by `rt ci` over a copy
 # of these crates, so rt keeps what is proved for later calls and for the gate. It gives 1 where it couldn't be built.
 # SYGUS_JOBS says how many crates are proved side by side.
 
@@ -8,7 +8,7 @@ say() {
     echo "$name: $*" >&2
 }
 
-# The crates that the program stands on, however far below, and itself, the lowest first.
+# The crates that the program depends on, directly or not, and itself, the lowest first.
 plan() {
     awk -v last="$name" '
         /^[a-z]/ { split($0, side, ":"); split(side[1], word, " "); below[word[1]] = side[2] }
@@ -45,7 +45,23 @@ furnish() {
     done
 }
 
-# Says which crates are proved, as the log tells it, until the room has a file `ended`.
+# The crates as tools/estimate.awk reads them, with the sizes of their sources.
+weigh() {
+    for crate in $crates; do
+        bytes=$(find "$top/crates/$crate/src" -name '*.rt' -exec cat {} + | wc -c)
+        sed -n "s/^$crate\\( [^:]*\\)*:/$crate: $((bytes))/p" "$top/crates.txt"
+    done
+}
+
+# How many minutes are left, by the log.
+minutes_left() {
+    {
+        echo "$weights"
+        awk '/^rt: [a-z_]+ (proved$|is kept:)/ { print $2, ($3 == "is" ? "kept" : "proved") }' "$log"
+    } | awk -v processors="$processors" -v load="$load" -v seconds="$(($(date +%s) - begun))" -f "$top/tools/estimate.awk"
+}
+
+# Says which crates are proved, as the log tells it, and what the rest takes, until the room has a file `ended`.
 tell() {
     told=0 is_over=''
     while [ -z "$is_over" ]; do
@@ -53,7 +69,7 @@ tell() {
         [ ! -e "$room/ended" ] || is_over=yes
         for crate in $(awk '/^rt: [a-z_]+ (proved$|is kept:)/ { print $2 }' "$log" | tail -n "+$((told + 1))"); do
             told=$((told + 1))
-            say "[$told of $total] $crate"
+            say "[$told of $total] $crate; some $(minutes_left) minutes left"
         done
     done
 }
@@ -68,10 +84,9 @@ end_all() {
 
 build_in_room() {
     furnish >"$log" 2>&1 || return 1
-    # some 171 processor minutes, of which a sixth lies in one chain of crates, and some for what waits
-    minutes=$((210 / processors))
-    [ "$minutes" -ge 30 ] || minutes=30
-    say "proving and building $total crates; from nothing this takes some $minutes minutes"
+    weights=$(weigh) begun=$(date +%s) load=$(cut -d ' ' -f 1 /proc/loadavg 2>/dev/null || echo 0)
+    say "proving and building $total crates: some $(minutes_left) minutes, less where rt has kept some"
+    [ "$name" != sygus ] || say "an unproved answer in some three minutes, beside this: ./sygus --preview FILE"
     (cd "$room" && exec env ${SYGUS_JOBS:+RT_JOBS="$SYGUS_JOBS"} rt ci) >"$log" 2>&1 </dev/null &
     child=$!
     tell &

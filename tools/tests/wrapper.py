@@ -1,6 +1,7 @@
-"""Tests of ./sygus, by tools/build.sh, and of tools/install: three crates without code, of which the last is the program, are built by an `rt` that proves nothing."""
+"""Tests of ./sygus and of tools/install: three crates without code, of which the last is the program, are built by an `rt` that proves nothing."""
 import os
 import pathlib
+import re
 import shutil
 import signal
 import subprocess
@@ -11,7 +12,17 @@ TOP = pathlib.Path(__file__).resolve().parent.parent.parent
 CRATES = {"sy_low": [], "sy_high": ["sy_low"], "sygus": ["sy_low", "sy_high"]}
 PROGRAM = "#!/bin/sh\necho \"$*\"\n[ $# -ne 2 ] || exit 7\n"
 # `rt ci`: notes when each crate of the folder begins and ends, takes as long as LASTS says, and fails at the one that FAILS names.
+# `rt try`: prints its folder and arguments, its input or the files of --cases, and on standard error a line of a `fail` and the last
+# line that RAN says; it ends by STATUS. `rt version` prints a line.
 RT = """#!/bin/sh
+if [ "$1" = try ]; then
+    echo "$(basename "$PWD"): $*" | sed 's#/[^ ]*/##'
+    if [ "$2" = --cases ]; then ls "$3"; else cat; fi
+    echo "fail: check-synth 1 Size" >&2
+    echo "${RAN:-run=ended status=1 runners=1 proved=no}" >&2
+    exit "${STATUS:-1}"
+fi
+[ "$1" != version ] || { echo "a kit"; exit; }
 [ "$*" = ci ] && [ -d .git ] && [ -f HANDLES ] || exit 9
 while IFS=: read -r name below; do
     echo "begin $name" >>"$NOTES"
@@ -35,7 +46,8 @@ class Room:
             (self.top / "crates" / name / "src").mkdir(parents=True)
             (self.top / "crates" / name / "src" / "lib.rt").write_text("")
         (self.top / "crates.txt").write_text("".join(f"{name}: {' '.join(below)}\n" for name, below in [*CRATES.items(), ("bench_parts", ["sy_low"])]))
-        for name in ("sygus", "HANDLES", "tools/build.sh", "tools/install", "docs/sygus.1"):
+        scripts = [path.relative_to(TOP) for ending in ("sh", "awk") for path in (TOP / "tools").glob(f"*.{ending}")]
+        for name in ("sygus", "HANDLES", "tools/install", "docs/sygus.1", *scripts):
             (self.top / name).parent.mkdir(exist_ok=True)
             shutil.copy(TOP / name, self.top / name)
         for path, text in [(folder / "rt", RT), (folder / "notes.program", PROGRAM)]:
@@ -43,9 +55,9 @@ class Room:
             path.chmod(0o755)
         self.folder = folder
 
-    def words(self, lasts=0.0, fails=""):
+    def words(self, lasts=0.0, fails="", **others):
         """The environment of ./sygus."""
-        own = {"NOTES": str(self.notes), "LASTS": str(lasts), "FAILS": fails, "TMPDIR": str(self.scratch)}
+        own = {"NOTES": str(self.notes), "LASTS": str(lasts), "FAILS": fails, "TMPDIR": str(self.scratch), **others}
         return {**os.environ, **own, "PATH": f"{self.folder}:{os.environ['PATH']}"}
 
     def begin(self, lasts=0.0, fails=""):
@@ -58,6 +70,11 @@ class Room:
         ended = self.begin(lasts, fails)
         out, err = ended.communicate()
         return ended.returncode, out, err, [line.split()[1] for line in self.noted() if line.startswith("begin")]
+
+    def answer(self, *arguments, given="", **others):
+        """The status of a call that builds nothing, and what it printed."""
+        ended = subprocess.run([self.top / "sygus", *arguments], env=self.words(**others), input=given, capture_output=True, text=True)
+        return ended.returncode, ended.stdout, ended.stderr
 
     def noted(self):
         return self.notes.read_text().splitlines()
@@ -77,7 +94,10 @@ def builds(room):
     status, out, err, built = room.run()
     yield "./sygus: builds each crate after those below it", built == list(CRATES)
     yield "./sygus: ends as the program", (status, out) == (7, "- a word\n")
-    yield "./sygus: counts the crates", "[3 of 3] sygus" in err
+    yield "./sygus: counts the crates", "[3 of 3] sygus; some 0 minutes left\n" in err
+    lines = err.splitlines()
+    yield "./sygus: says how long it takes", re.fullmatch(r"sygus: proving and building 3 crates: some \d+ minutes, .*", lines[0]) is not None
+    yield "./sygus: tells of the preview", lines[1].endswith(": ./sygus --preview FILE")
     yield "./sygus: builds once", room.run() == (7, "- a word\n", "", [])
     room.change("sy_high")
     yield "./sygus: builds where a source changed", room.run()[3] == list(CRATES)
@@ -116,6 +136,35 @@ def is_alone(room):
     yield "./sygus: goes on beside another call", first.returncode == 7 and room.noted() == built
 
 
+def helps(room):
+    status, out, err = room.answer("--help")
+    wanted = "usage: ./sygus [OPTIONS] FILE\n"
+    yield "./sygus --help: says the options", (status, err) == (0, "") and out.startswith(wanted) and "docs/USAGE.md" in out
+    status, out, err = room.answer("--version")
+    yield "./sygus --version: names the commit and the kit", (status, out, err) == (0, "sygus, commit unknown\na kit\n", "")
+    out = subprocess.run([TOP / "sygus", "--version"], capture_output=True, text=True).stdout
+    yield "./sygus --version: names this commit", re.match(r"sygus, commit ([0-9a-f]{12}(, changed since)?|unknown)\n", out) is not None
+
+
+def previews(room):
+    file = room.folder / "a file.sl"
+    file.write_text("(check-synth)\n")
+    status, out, err = room.answer("--preview", "--size", "9", "--mode=least", file)
+    yield "./sygus --preview: runs the program on the file", (status, out) == (1, "sygus: try -- --size 9 --mode=least -\n(check-synth)\n")
+    lines = err.splitlines()
+    unproved = [place for place, line in enumerate(lines) if line.startswith("sygus: ") and "proved" in line and "./sygus FILE" in line]
+    yield "./sygus --preview: says first and last that nothing is proved", unproved == [0, len(lines) - 1]
+    yield "./sygus --preview: shows what is said", lines[1:-1] == ["fail: check-synth 1 Size", "run=ended status=1 runners=1 proved=no"]
+    yield "./sygus --preview: takes standard input", room.answer("--preview", "-", given="()\n")[1] == "sygus: try -- -\n()\n"
+    yield "./sygus --preview: takes a number", room.answer("--preview", "--mode", "drill", "7")[1] == "sygus: try -- --mode drill 7\n"
+    counted = "cases=2 ended=2 fault=0 proved=no"
+    status, out, err = room.answer("--preview", "--", file, file, STATUS="0", RAN=counted)
+    yield "./sygus --preview: takes several files", status == 0 and out.splitlines()[1:] == ["01-a file.sl", "02-a file.sl"] and counted in err
+    yield "./sygus --preview: misses a file", room.answer("--preview", file, room.folder / "none.sl")[0] == 70
+    yield "./sygus --preview: isn't built", room.answer("--preview", file, STATUS="2", RAN="run=none proved=no")[0] == 70
+    yield "./sygus --preview: takes no file", room.answer("--preview", "--size", "9")[::2] == (3, "usage: ./sygus --preview [OPTIONS] FILE ..\n")
+
+
 def installs(room):
     """tools/install copies the program, with its rights, and the manual page."""
     prefix = room.folder / "a prefix"
@@ -128,6 +177,8 @@ def installs(room):
 def tests():
     with tempfile.TemporaryDirectory() as folder:
         room = Room(pathlib.Path(folder))
+        yield from helps(room)
+        yield from previews(room)
         yield from builds(room)
         yield from fails(room)
         yield from is_cut_off(room)

@@ -1,0 +1,67 @@
+# shellcheck shell=sh
+# Read by ./sygus, which sets `top`, the repository's folder. `preview [OPTIONS] FILE ..` runs the program by `rt try`, which
+# proves nothing and keeps nothing: each call builds anew, and a call with several files builds once.
+# The status is the program's own, or with several files 0 where it ended on each; 70 where it didn't end.
+
+# Runs `rt try` with these arguments, shows what it says, and gives the program's status.
+try() (
+    said=$(mktemp) || exit 70
+    trap 'rm -f "$said"' EXIT
+    trap 'exit 130' INT TERM HUP
+    (cd "$top/crates/sygus" && rt try "$@") 2>"$said"
+    status=$?
+    cat "$said" >&2
+    tail -n 1 "$said" | grep -Eq '^(run=ended|cases=).* proved=no$' || exit 70
+    exit "$status"
+)
+
+# Runs it on copies of several files, each under its number and name.
+try_each() (
+    cases=$(mktemp -d) || exit 70
+    trap 'rm -rf "$cases"' EXIT
+    trap 'exit 130' INT TERM HUP
+    number=100
+    for file in "$@"; do
+        number=$((number + 1))
+        cp "$file" "$cases/${number#1}-${file##*/}" || exit 70
+    done
+    # shellcheck disable=SC2086
+    try --cases "$cases" -- $options - </dev/null
+)
+
+preview() {
+    options=''
+    while :; do
+        case ${1-} in
+        --*=*) options="$options $1" ;;
+        --?*)
+            options="$options $1 ${2-}"
+            [ $# -eq 1 ] || shift
+            ;;
+        *) break ;;
+        esac
+        shift
+    done
+    [ "${1-}" != -- ] || shift
+    if [ $# -eq 0 ]; then
+        echo "usage: ./sygus --preview [OPTIONS] FILE .." >&2
+        return 3
+    fi
+    if ! command -v rt >/dev/null 2>&1; then
+        echo "sygus: Rattle's toolchain is needed to build the program: there is no rt on the path" >&2
+        return 70
+    fi
+    echo "sygus: a preview, in some three minutes: neither the program nor its answer is proved; ./sygus FILE proves both" >&2
+    if [ $# -gt 1 ]; then
+        try_each "$@"
+    elif [ -f "$1" ]; then
+        # shellcheck disable=SC2086
+        try -- $options - <"$1"
+    else
+        # shellcheck disable=SC2086
+        try -- $options "$1"
+    fi
+    status=$?
+    echo "sygus: that was a preview, and isn't proved; ./sygus FILE proves the program, and then its answer" >&2
+    return "$status"
+}
