@@ -77,6 +77,8 @@ tell() {
 # Ends what goes on. What was proved of whole crates is kept.
 end_all() {
     trap '' INT TERM HUP
+    # the teller that has just begun has no number yet, and ends by this
+    : >"$room/ended"
     kill $child $teller 2>/dev/null
     wait
     rm -rf "$room" "$out/build.pid"
