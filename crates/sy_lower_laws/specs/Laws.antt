@@ -1,6 +1,6 @@
 -- What a query and its lowering have to do with each other.
 use Rattle.std.specs.Prelude.{ℕ, ◌+◌, ◌*◌, ◌≤◌, ◌≡◌, Bool, true, false, ◌&&◌, List, ◌++◌, length, take}
-use Rattle.sy_terms.specs.Values.{Val, Truth, Whole, Bits}
+use Rattle.sy_terms.specs.Values.{Val, Bits}
 use Rattle.sy_terms.specs.Expr.{Expr, Exprs, Constant, Variable, Apply, Invoke, Bind, none, more, nodes}
 use Rattle.sy_query_base.specs.Asked.{Query, QueryFits, Satisfies, query_weight}
 use Rattle.sy_meaning_integers.specs.Lia.{owned, numeric}

@@ -2,7 +2,7 @@
 -- A lowered term has no binding and no call.
 use Rattle.std.specs.Prelude.{ℕ, zero, suc, ◌-◌, Bool, true, false, ◌&&◌, ◌||◌, nat_eq, List, [], ◌∷◌, ◌++◌, length, ℤ, pos, neg_ℤ, unsigned_abs, Option, Some, None, if◌then◌else◌}
 use Rattle.std.specs.Ordering.{int_eq}
-use Rattle.sy_terms.specs.Values.{Val, Truth, Whole, Bits, same}
+use Rattle.sy_terms.specs.Values.{Truth, Whole, same}
 use Rattle.sy_terms.specs.Theories.{fits_128}
 use Rattle.sy_terms.specs.Expr.{Expr, Exprs, Constant, Variable, Apply, Invoke, Bind, none, more, append}
 use Rattle.sy_terms.specs.Fitting.{sort_in}
