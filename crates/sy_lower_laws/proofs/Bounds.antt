@@ -148,9 +148,9 @@ nodes_append none others = omega arith
 nodes_append (more term terms) others = omega (arith, nodes_append terms others)
 
 -- the term and the new side conditions have at most so many nodes, and there are at most so many fresh variables
-record Adds (before : Progress) (found : Lowered) (size fresh : ℕ) : Type 0 where
+record Adds (before : Progress) (found : Lowered) (size extra : ℕ) : Type 0 where
   nodes : nodes found.term + nodes_of found.progress.sides ≤ size + nodes_of before.sides
-  fresh : length found.progress.sorts ≤ fresh + length before.sorts
+  fresh : length found.progress.sorts ≤ extra + length before.sorts
 
 equated_adds : (before : Progress) (sort : Sort) (term : Expr) → Adds before (equated before sort term) (nodes term + 3) 1
 unfolding equated
