@@ -1,33 +1,32 @@
 -- Lowered applications mean what the operator gives at their arguments.
-use Rattle.std.specs.Prelude.{ℕ, zero, suc, ◌<◌, Bool, true, false, cond, ◌&&◌, nat_le, nat_lt, List, [], ◌∷◌, ◌≡◌, ◌≢◌, refl, length, map, slice_get, ℤ, pos, negsuc, neg_ℤ, int_le, unsigned_abs, Option, Some, None, if◌then◌else◌}
+use Rattle.std.specs.Prelude.{ℕ, zero, suc, ◌<◌, Bool, true, false, cond, ◌&&◌, nat_le, nat_lt, List, [], ◌∷◌, ◌≡◌, ◌≢◌, refl, length, slice_get, ℤ, pos, negsuc, neg_ℤ, int_le, unsigned_abs, Option, Some, None, if◌then◌else◌}
 use Rattle.std.specs.List.{list_all}
 use Rattle.std.specs.Ordering.{int_eq}
 use Rattle.std.proofs.Common.{ap, arith, ◌∙◌, sym, subst}
 use Rattle.std.proofs.lemmas.Bool.Decides.{Decides-int_eq}
 use Rattle.std.proofs.lemmas.Option.{slice_get_within}
 use Rattle.std.proofs.lemmas.Int.{ints}
-use Rattle.sy_terms.specs.Values.{Val, Truth, Whole, Bits, whole, truth, from_left}
+use Rattle.sy_terms.specs.Values.{Val, Truth, Whole, Bits, whole, from_left}
 use Rattle.sy_terms.specs.Integers.{whole_quotient, modulus, absolute}
 use Rattle.sy_terms.specs.Operators.{op_value, on_wholes, on_whole}
 use Rattle.sy_terms.specs.Sorts.{sort_of, same_sort, each_is}
 use Rattle.sy_terms.specs.Theories.{fits_128}
-use Rattle.sy_terms.specs.Expr.{Expr, Exprs, Constant, Variable, Apply, Invoke, Bind, none, more, append}
+use Rattle.sy_terms.specs.Expr.{Expr, Exprs, Constant, Variable, Apply, Invoke, Bind, none, more}
 use Rattle.sy_terms.specs.Fitting.{sort_in, sorts_in, applied_sort, given_by}
 use Rattle.sy_terms.specs.Meaning.{meaning, meanings, value_at_position}
 use Rattle.sy_terms.specs.declared.op.Op.{Op}
 use Rattle.sy_terms.specs.declared.op.Op.TheVariants as ops
 use Rattle.sy_terms.specs.declared.sort.Sort.{Sort}
 use Rattle.sy_terms.specs.declared.sort.Sort.TheVariants as kinds
-use Rattle.sy_terms.specs.declared.sorts.Sorted.{Sorted}
-use Rattle.sy_terms.specs.declared.sorts.Sorted.TheVariants.{Is, Mismatch, BadWidth}
+use Rattle.sy_terms.specs.declared.sorts.Sorted.TheVariants.{Is, Mismatch}
 use Rattle.sy_terms_laws.specs.Plain.{is_plain, are_plain}
-use Rattle.sy_terms_laws.proofs.Equations.{both_true, same_sort_is, with_sort_Some}
+use Rattle.sy_terms_laws.proofs.Equations.{both_true, with_sort_Some}
 use Rattle.sy_meaning_integers.specs.Lia.{owned}
 use Rattle.sy_lower_laws.specs.Lowering.{Step, Quotient, Remainder, Magnitude, Itself, step_of, Progress, Lowered, AllLowered, Divided, nonzero, is_negation, negated_divisor, divisor, is_variable, at_most, whole_constant, equated, paired, quotient_of, remainder_of, quotient_at, remainder_at, quotient_by, remainder_by, quotients, as_variable, magnitude, absolute_of, divided, reduced, unsigned, applied_by, applied}
-use Rattle.sy_lower_laws.proofs.Arithmetic.{IsDivision, only}
-use Rattle.sy_lower_laws.proofs.Sorts.{integers, IsKnown, HaveSorts, is_whole, sort_means, with_both, cons_both}
+use Rattle.sy_lower_laws.proofs.Arithmetic.{only}
+use Rattle.sy_lower_laws.proofs.Sorts.{integers, HaveSorts, is_whole, sort_means, with_both}
 use Rattle.sy_lower_laws.proofs.Sides.{and_both, AreTrue, AreOf, of_sorts, two_sorts, at_most_sort}
-use Rattle.sy_lower_laws.proofs.Steps.{Goes, goes_same, plain_on, plains_on, of_on, have_on, true_on, Reaches, reaches_same, StandsPair, Stands, Made, itself_made, after, valued, equated_made, Halves, paired_made}
+use Rattle.sy_lower_laws.proofs.Steps.{Goes, plains_on, of_on, have_on, true_on, Reaches, Stands, Made, itself_made, after, valued, equated_made, Halves, paired_made}
 
 some_same : {X : Type 0} (x y : X) → Some x ≡ Some y → x ≡ y
 some_same x y e = cc
@@ -228,7 +227,7 @@ magnitude_sort ss u e =
     let test = at_most_sort ss (whole_constant (pos 0)) u refl e in
     let negated : sort_in integers ss (Apply ops.Neg (more u none)) ≡ Some kinds.Int = ap (applied_sort integers ops.Neg) (with_both (sort_in integers ss u) (Some []) kinds.Int [] e refl) in
     ap (applied_sort integers ops.Ite) (with_both (sort_in integers ss (at_most (whole_constant (pos 0)) u)) (sorts_in integers ss (more u (more (Apply ops.Neg (more u none)) none))) kinds.Bool (kinds.Int ∷ kinds.Int ∷ []) test
-      (two_sorts ss u (Apply ops.Neg (more u none)) kinds.Int kinds.Int e negated))
+    (two_sorts ss u (Apply ops.Neg (more u none)) kinds.Int kinds.Int e negated))
 
 magnitude_plain : (count : ℕ) (u : Expr) → is_plain count u ≡ true → is_plain count (magnitude u) ≡ true
 unfolding is_plain are_plain
@@ -314,6 +313,7 @@ one_term ss a rest s found e =
   where
     heads : (x y : Sort) (xs ys : List Sort) → x ∷ xs ≡ y ∷ ys → x ≡ y
     heads x y xs ys h = cc
+
     tails : (x y : Sort) (xs ys : List Sort) → x ∷ xs ≡ y ∷ ys → xs ≡ ys
     tails x y xs ys h = cc
 

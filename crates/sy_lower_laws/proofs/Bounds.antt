@@ -1,29 +1,27 @@
 -- A lowering is at most so much larger than the query's weight.
-use Rattle.std.specs.Prelude.{ℕ, zero, suc, ◌+◌, ◌-◌, ◌*◌, ◌≤◌, ◌<◌, Bool, true, false, ◌&&◌, nat_le, List, [], ◌∷◌, ◌++◌, ◌≡◌, refl, length, slice_get, All, ℤ, Option, Some, None, if◌then◌else◌}
+use Rattle.std.specs.Prelude.{ℕ, zero, suc, ◌+◌, ◌-◌, ◌*◌, ◌≤◌, Bool, true, false, ◌&&◌, nat_le, List, [], ◌∷◌, ◌++◌, ◌≡◌, refl, length, All, ℤ, Option, Some, None, if◌then◌else◌}
 use Rattle.std.specs.List.{list_all}
 use Rattle.std.proofs.Common.{ap, arith, ◌∙◌, sym, subst, length-append}
 use Rattle.std.proofs.lemmas.List.Elements.{All-append}
-use Rattle.sy_terms.specs.Values.{Val, Truth, Whole, Bits}
+use Rattle.sy_terms.specs.Values.{Val, Bits}
 use Rattle.sy_terms.specs.Sorts.{sort_of, same_sort, each_is, all_alike}
 use Rattle.sy_terms.specs.Expr.{Expr, Exprs, Constant, Variable, Apply, Invoke, Bind, none, more, append, nodes, nodes_of}
 use Rattle.sy_terms.specs.Fitting.{sort_in, sorts_in}
-use Rattle.sy_terms.specs.Meaning.{meaning, meanings}
 use Rattle.sy_terms.specs.declared.op.Op.{Op}
 use Rattle.sy_terms.specs.declared.op.Op.TheVariants as ops
 use Rattle.sy_terms.specs.declared.sort.Sort.{Sort}
 use Rattle.sy_terms.specs.declared.sort.Sort.TheVariants as kinds
-use Rattle.sy_terms.specs.declared.sorts.Sorted.{Sorted}
-use Rattle.sy_terms.specs.declared.sorts.Sorted.TheVariants.{Is, Mismatch, BadWidth}
+use Rattle.sy_terms.specs.declared.sorts.Sorted.TheVariants.{Is, Mismatch}
 use Rattle.sy_terms_laws.proofs.Equations.{both_true, applied_sort_Some, after_Some, with_sort_Some}
-use Rattle.sy_query_base.specs.Asked.{Query, QueryFits, query_weight}
+use Rattle.sy_query_base.specs.Asked.{Query, QueryFits}
 use Rattle.sy_query_base.specs.Placed.{count}
 use Rattle.sy_query_base.specs.Weights.{sort_weight, operator_weight, with_sorts, weight, weights}
 use Rattle.sy_meaning_integers.specs.Lia.{owned, numeric}
-use Rattle.sy_lower_laws.specs.Lowering.{Step, Quotient, Remainder, Magnitude, Itself, step_of, has_divisions, is_name, is_variable, divisor, equation, equated, division_sides, pair_of, fresh_pair, paired_by, paired, quotient_of, remainder_of, quotient_at, remainder_at, quotient_by, remainder_by, quotients, as_variable, magnitude, absolute_of, divided, reduced, unsigned, applied_by, applied, equated_at, named, name_at, Progress, Lowered, AllLowered, Divided, lowered, all_lowered, bound_lowered, first_variables, begun, with_sides, lowering}
+use Rattle.sy_lower_laws.specs.Lowering.{Step, Quotient, Remainder, Magnitude, Itself, step_of, has_divisions, is_name, is_variable, divisor, equation, equated, division_sides, pair_of, paired_by, paired, quotient_at, remainder_at, quotient_by, remainder_by, quotients, as_variable, absolute_of, divided, reduced, unsigned, applied_by, applied, equated_at, named, name_at, Progress, Lowered, AllLowered, Divided, lowered, all_lowered, bound_lowered, first_variables, begun, with_sides, lowering}
 use Rattle.sy_lower_laws.specs.Laws.{has_integers, have_integers, IsSmall}
-use Rattle.sy_lower_laws.proofs.Applications.{AllMade, quotient_step, remainder_step, magnitude_step}
+use Rattle.sy_lower_laws.proofs.Applications.{quotient_step, remainder_step, magnitude_step}
 use Rattle.sy_lower_laws.proofs.Sorts.{integers, IsKnown, uncalled, sort_known, sorts_known}
-use Rattle.sy_lower_laws.proofs.Steps.{Stands, Made}
+use Rattle.sy_lower_laws.proofs.Steps.{Stands}
 use Rattle.sy_lower_laws.proofs.Walk.{Names, names_on, names_more, walked, all_walked, bound_walked, named_made}
 use Rattle.sy_lower_laws.proofs.Lowered.{names_begun, stands_begun}
 
@@ -334,6 +332,7 @@ named_small before found sort w sorted small = by_test (is_name found.term) refl
       nodes = omega (arith, small.nodes, nodes_append found.progress.sides (more (equation (Variable (length found.progress.sorts)) found.term) none));
       fresh = omega (arith, small.fresh, length-append found.progress.sorts (other ∷ []));
     }
+
     by_test : (b : Bool) → is_name found.term ≡ b → SmallName before (if b then found else equated_at (sort_in integers found.progress.sorts found.term) found) w
     by_test true e = record { one = is_one found.term e; nodes = omega (arith, small.nodes); fresh = omega (arith, small.fresh) }
     by_test false e = by_sort (sort_in integers found.progress.sorts found.term) sorted

@@ -1,14 +1,14 @@
 -- The lowering of a query has the query's solutions, with values for its fresh variables.
-use Rattle.std.specs.Prelude.{ℕ, zero, suc, ◌+◌, ◌≤◌, ◌<◌, Bool, true, false, ◌&&◌, nat_le, List, [], ◌∷◌, ◌++◌, ◌≡◌, refl, length, map, take, slice_get, All, Option, Some, None, get_or, if◌then◌else◌}
+use Rattle.std.specs.Prelude.{ℕ, zero, suc, ◌≤◌, Bool, true, false, nat_le, List, [], ◌∷◌, ◌++◌, ◌≡◌, refl, length, map, take, slice_get, Some, get_or, if◌then◌else◌}
 use Rattle.std.specs.List.{list_all}
 use Rattle.std.proofs.Common.{ap, arith, ◌∙◌, sym, subst, length-append}
 use Rattle.std.proofs.lemmas.Option.{slice_get-get_or}
 use Rattle.std.proofs.lemmas.List.Elements.{All-take}
-use Rattle.sy_terms.specs.Values.{Val, Truth, truth}
+use Rattle.sy_terms.specs.Values.{Val, Truth}
 use Rattle.sy_terms.specs.Operators.{op_value}
 use Rattle.sy_terms.specs.Sorts.{sort_of, same_sort}
 use Rattle.sy_terms.specs.Theories.{sort_of_value, valid}
-use Rattle.sy_terms.specs.Expr.{Expr, Exprs, Constant, Variable, Apply, none, more, append}
+use Rattle.sy_terms.specs.Expr.{Expr, Exprs, Variable, Apply, none, more, append}
 use Rattle.sy_terms.specs.Fitting.{sort_in, sorts_in, applied_sort, given_by}
 use Rattle.sy_terms.specs.Meaning.{meaning, meanings, value_at_position}
 use Rattle.sy_terms.specs.declared.op.Op.TheVariants as ops
@@ -18,12 +18,11 @@ use Rattle.sy_terms.specs.declared.sorts.Sorted.TheVariants.{Is}
 use Rattle.sy_terms_laws.specs.Plain.{is_plain, are_plain}
 use Rattle.sy_terms_laws.proofs.Equations.{both_true, value_at_position_is}
 use Rattle.sy_terms_laws.proofs.Plain.{plain_append}
-use Rattle.sy_grammar_base.specs.Solving.{AreValues}
 use Rattle.sy_query_base.specs.Asked.{Query, QueryFits, Satisfies}
 use Rattle.sy_meaning_integers.specs.Lia.{owned, numeric}
 use Rattle.sy_lower_laws.specs.Lowering.{Progress, Lowered, has_divisions, first_variables, begun, with_sides, lowered, lowering}
 use Rattle.sy_lower_laws.specs.Laws.{has_integers, IsLowering}
-use Rattle.sy_lower_laws.proofs.Sorts.{integers, IsKnown, have_sorts, sorts_append, with_both}
+use Rattle.sy_lower_laws.proofs.Sorts.{integers, have_sorts, sorts_append, with_both}
 use Rattle.sy_lower_laws.proofs.Sides.{and_both, AreTrue, true_append, true_first, true_last, true_each, each_true, AreOf, truth_sorts, truths_sorts, truths_all}
 use Rattle.sy_lower_laws.proofs.Steps.{nil_last, many_values, Stands, Made}
 use Rattle.sy_lower_laws.proofs.Walk.{Names, meanings_append, walked}
@@ -165,11 +164,13 @@ with_sides_is query fits found made = record {
         let within : length query.variables ≤ length vs = omega (arith, length-append values reached.further, long) in
         let own : meanings [] [] vs (first_variables (length query.variables)) ≡ values =
         variables_mean vs (length query.variables) within ∙ (ap (λ k. take k vs) (sym long) ∙ take_front values reached.further) in
-        let sound = made.sound vs (have_sorts found.progress.sorts vs reached.are) reached.all in
-        (reached.further, record {
-          sorted = reached.are;
-          true = body_true vs found.progress.sides found.term reached.all (sound ∙ (ap (λ (us : List Val). meaning [] [] us query.body) own ∙ satisfies.true));
-        })
+        let sound = made.sound vs (have_sorts found.progress.sorts vs reached.are) reached.all in (
+          reached.further,
+          record {
+            sorted = reached.are;
+            true = body_true vs found.progress.sides found.term reached.all (sound ∙ (ap (λ (us : List Val). meaning [] [] us query.body) own ∙ satisfies.true));
+          },
+        )
 
     back : (values : List Val) → Satisfies (with_sides found) values → Satisfies query (take (length query.variables) values)
     back values satisfies =

@@ -1,20 +1,17 @@
 -- Side conditions: their sorts, and when they are true.
-use Rattle.std.specs.Prelude.{ℕ, zero, suc, ◌+◌, ◌-◌, Bool, true, false, not, ◌&&◌, List, [], ◌∷◌, ◌++◌, ◌≡◌, refl, length, map, slice_get, ℤ, pos, ◌+ℤ◌, ◌*ℤ◌, ◌≤ℤ◌, int_le, unsigned_abs, Option, Some, None}
+use Rattle.std.specs.Prelude.{ℕ, suc, ◌-◌, Bool, true, false, ◌&&◌, List, [], ◌∷◌, ◌++◌, ◌≡◌, refl, length, slice_get, ℤ, pos, ◌+ℤ◌, ◌*ℤ◌, ◌≤ℤ◌, int_le, unsigned_abs, Some}
 use Rattle.std.specs.List.{list_all}
-use Rattle.std.proofs.Common.{ap, arith, ◌∙◌, sym, subst}
+use Rattle.std.proofs.Common.{ap, arith, ◌∙◌, sym}
 use Rattle.std.proofs.lemmas.Int.{ints}
-use Rattle.std.proofs.lemmas.Bool.Decides.{Decides-int_eq}
 use Rattle.sy_terms.specs.Values.{Val, Truth, Whole, Bits, truth, whole, same}
 use Rattle.sy_terms.specs.Operators.{op_value}
 use Rattle.sy_terms.specs.Sorts.{sort_of, same_sort}
-use Rattle.sy_terms.specs.Expr.{Expr, Exprs, Constant, Variable, Apply, Invoke, Bind, none, more, append}
-use Rattle.sy_terms.specs.Fitting.{sort_in, sorts_in, applied_sort, with_sort, given_by}
+use Rattle.sy_terms.specs.Expr.{Expr, Exprs, Variable, Apply, none, more, append}
+use Rattle.sy_terms.specs.Fitting.{sort_in, sorts_in, applied_sort, given_by}
 use Rattle.sy_terms.specs.Meaning.{meaning, meanings, value_at_position}
-use Rattle.sy_terms.specs.declared.op.Op.{Op}
 use Rattle.sy_terms.specs.declared.op.Op.TheVariants as ops
 use Rattle.sy_terms.specs.declared.sort.Sort.{Sort}
 use Rattle.sy_terms.specs.declared.sort.Sort.TheVariants as kinds
-use Rattle.sy_terms.specs.declared.sorts.Sorted.{Sorted}
 use Rattle.sy_terms.specs.declared.sorts.Sorted.TheVariants.{Is}
 use Rattle.sy_terms_laws.specs.Plain.{is_plain, are_plain}
 use Rattle.sy_terms_laws.proofs.Equations.{both_true, same_sort_is, with_sort_Some}
@@ -179,8 +176,10 @@ pub is_divided : (values : List Val) (dividend : Expr) (k : ℤ) (v : ℕ) → m
 unfolding meaning
 is_divided values dividend k v own is = (
   is_equation values dividend (recomposed k v) (own ∙ ap Whole is.is ∙ sym (recomposed_is values k v)),
-  (is_at_most values (whole_constant (pos 0)) (Variable (suc v)) (is_le _ _ is.least),
-  (is_at_most values (Variable (suc v)) (whole_constant (pos (unsigned_abs k - 1))) (is_le _ _ is.most), tt)),
+  (
+    is_at_most values (whole_constant (pos 0)) (Variable (suc v)) (is_le _ _ is.least),
+    (is_at_most values (Variable (suc v)) (whole_constant (pos (unsigned_abs k - 1))) (is_le _ _ is.most), tt),
+  ),
 )
 
 pub division_truths : (sorts : List Sort) (dividend : Expr) (k : ℤ) (v : ℕ) → sort_in integers sorts dividend ≡ Some kinds.Int → slice_get sorts v ≡ Some kinds.Int → slice_get sorts (suc v) ≡ Some kinds.Int → AreOf kinds.Bool sorts (division_sides dividend k v)
@@ -191,8 +190,10 @@ division_truths sorts dividend k v e f g =
     let sum : sort_in integers sorts (recomposed k v) ≡ Some kinds.Int =
     ap (applied_sort integers ops.Add) (two_sorts sorts (Apply ops.Mul (more (whole_constant k) (more (Variable v) none))) (Variable (suc v)) kinds.Int kinds.Int product g) in (
       equation_sort sorts dividend (recomposed k v) kinds.Int refl e sum,
-      (at_most_sort sorts (whole_constant (pos 0)) (Variable (suc v)) refl g,
-      (at_most_sort sorts (Variable (suc v)) (whole_constant (pos (unsigned_abs k - 1))) g refl, tt)),
+      (
+        at_most_sort sorts (whole_constant (pos 0)) (Variable (suc v)) refl g,
+        (at_most_sort sorts (Variable (suc v)) (whole_constant (pos (unsigned_abs k - 1))) g refl, tt),
+      ),
     )
 
 pub division_plain : (count : ℕ) (dividend : Expr) (k : ℤ) (v : ℕ) → is_plain count dividend ≡ true → is_plain count (Variable v) ≡ true → is_plain count (Variable (suc v)) ≡ true → are_plain count (division_sides dividend k v) ≡ true

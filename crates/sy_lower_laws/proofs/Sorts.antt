@@ -1,27 +1,24 @@
 -- Sorts of terms and of what they mean.
-use Rattle.std.specs.Prelude.{ℕ, zero, suc, ◌+◌, ◌<◌, Bool, true, false, ◌&&◌, nat_le, nat_lt, List, [], ◌∷◌, ◌++◌, ◌≡◌, refl, length, map, slice_get, All, Option, Some, None, if◌then◌else◌}
+use Rattle.std.specs.Prelude.{ℕ, zero, suc, Bool, true, false, ◌&&◌, nat_le, List, [], ◌∷◌, ◌++◌, ◌≡◌, refl, length, map, slice_get, All, Option, Some, if◌then◌else◌}
 use Rattle.std.specs.List.{list_all}
-use Rattle.std.proofs.Common.{ap, arith, ◌∙◌, sym, subst}
+use Rattle.std.proofs.Common.{ap, ◌∙◌, sym, subst}
 use Rattle.std.proofs.lemmas.List.Elements.{All-nil, All-cons, All-head, All-tail, All-append}
 use Rattle.sy_terms.specs.Values.{Val, Truth, Whole, Bits, whole}
-use Rattle.sy_terms.specs.Operators.{op_value}
 use Rattle.sy_terms.specs.Sorts.{sort_of, same_sort, each_is, all_alike, choice}
-use Rattle.sy_terms.specs.Theories.{sort_of_value, valid, in_core, in_ints}
+use Rattle.sy_terms.specs.Theories.{sort_of_value, valid}
 use Rattle.sy_terms.specs.Expr.{Expr, Exprs, Constant, Variable, Apply, Invoke, Bind, none, more, append}
-use Rattle.sy_terms.specs.Fitting.{Scope, sort_in, sorts_in, applied_sort, with_sort, after, given_by}
+use Rattle.sy_terms.specs.Fitting.{Scope, sort_in, sorts_in, applied_sort, with_sort}
 use Rattle.sy_terms.specs.Meaning.{meaning, meanings, value_at_position}
 use Rattle.sy_terms.specs.declared.op.Op.{Op}
 use Rattle.sy_terms.specs.declared.op.Op.TheVariants as ops
 use Rattle.sy_terms.specs.declared.sort.Sort.{Sort}
 use Rattle.sy_terms.specs.declared.sort.Sort.TheVariants as kinds
-use Rattle.sy_terms.specs.declared.sorts.Sorted.{Sorted}
-use Rattle.sy_terms.specs.declared.sorts.Sorted.TheVariants.{Is, Mismatch, BadWidth}
+use Rattle.sy_terms.specs.declared.sorts.Sorted.TheVariants.{Is, Mismatch}
 use Rattle.sy_terms.specs.declared.term.Fun.{Fun}
 use Rattle.sy_terms.specs.declared.term.Fun.TheVariants.{Defined, Wanted}
 use Rattle.sy_terms_laws.specs.Plain.{is_plain, are_plain}
-use Rattle.sy_terms_laws.proofs.Equations.{both_true, if_Some, same_sort_is, applied_sort_Some, called_sort_Some, after_Some, with_sort_Some}
+use Rattle.sy_terms_laws.proofs.Equations.{both_true, if_Some, applied_sort_Some, after_Some, with_sort_Some}
 use Rattle.sy_terms_laws.proofs.OperatorSorts.{op_value-sort}
-use Rattle.sy_terms_laws.proofs.Plain.{below}
 use Rattle.sy_grammar_base.specs.Formed.{is_known}
 use Rattle.sy_grammar_base.specs.Solving.{AreValues}
 use Rattle.sy_query_base.specs.Weights.{query_scope}

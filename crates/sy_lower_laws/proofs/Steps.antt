@@ -1,18 +1,17 @@
 -- What the steps of a lowering keep: fresh variables and side conditions at the end, which some values always meet.
-use Rattle.std.specs.Prelude.{ℕ, zero, suc, ◌+◌, ◌<◌, Bool, true, false, cond, ◌&&◌, nat_lt, List, [], ◌∷◌, ◌++◌, ◌≡◌, ◌≢◌, refl, length, map, slice_get, All, ℤ, pos, negsuc, neg_ℤ, int_le, unsigned_abs, Option, Some, None, if◌then◌else◌}
+use Rattle.std.specs.Prelude.{ℕ, suc, ◌+◌, ◌<◌, Bool, true, false, ◌&&◌, nat_lt, List, [], ◌∷◌, ◌++◌, ◌≡◌, refl, length, slice_get, All, ℤ, unsigned_abs, Option, Some, None, if◌then◌else◌}
 use Rattle.std.specs.Ordering.{int_eq}
 use Rattle.std.proofs.Common.{ap, arith, ◌∙◌, sym, subst, append_assoc, length-append}
 use Rattle.std.proofs.lemmas.List.{length-map}
 use Rattle.std.proofs.lemmas.List.Elements.{All-nil, All-cons, All-append}
 use Rattle.std.proofs.lemmas.Option.{slice_get_within}
 use Rattle.std.proofs.lemmas.Bool.Decides.{Decides-int_eq}
-use Rattle.std.proofs.lemmas.Int.{ints}
-use Rattle.sy_terms.specs.Values.{Val, Truth, Whole, whole}
+use Rattle.sy_terms.specs.Values.{Val, Whole, whole}
 use Rattle.sy_terms.specs.Integers.{whole_quotient, modulus}
 use Rattle.sy_terms.specs.Theories.{sort_of_value, valid}
-use Rattle.sy_terms.specs.Expr.{Expr, Exprs, Constant, Variable, Apply, none, more, append}
+use Rattle.sy_terms.specs.Expr.{Expr, Exprs, Variable, none, more, append}
 use Rattle.sy_terms.specs.Fitting.{sort_in, sorts_in}
-use Rattle.sy_terms.specs.Meaning.{meaning, meanings, value_at_position}
+use Rattle.sy_terms.specs.Meaning.{meaning, value_at_position}
 use Rattle.sy_terms.specs.declared.sort.Sort.{Sort}
 use Rattle.sy_terms.specs.declared.sort.Sort.TheVariants as kinds
 use Rattle.sy_terms_laws.specs.Plain.{is_plain, are_plain}
@@ -345,7 +344,7 @@ pair_reaches before stands dividend plain sorted k nonzero values are all =
     let fits : value ≡ Whole (whole value) = is_whole value (sort_means n before.sorts values (have_sorts before.sorts values are) dividend plain kinds.Int sorted) in
     let own : meaning [] [] (values ++ later) dividend ≡ Whole (whole (meaning [] [] (values ++ later) dividend)) = same ∙ (fits ∙ ap (λ v. Whole (whole v)) (sym same)) in
     let is = division_at (whole (meaning [] [] (values ++ later) dividend)) k (whole (value_at_position (values ++ later) n)) (whole (value_at_position (values ++ later) (suc n))) (whole value) p q
-        (ap whole same) (ap whole first) (ap whole second) (divides (whole value) k nonzero) in
+    (ap whole same) (ap whole first) (ap whole second) (divides (whole value) k nonzero) in
     record {
       further = later;
       are = more_values before.sorts (kinds.Int ∷ kinds.Int ∷ []) values later are (two_whole p q);

@@ -1,8 +1,8 @@
 -- A lowered term means what the term does at the values of its names, wherever the side conditions hold.
-use Rattle.std.specs.Prelude.{ℕ, zero, suc, Bool, true, false, ◌&&◌, List, [], ◌∷◌, ◌++◌, ◌≡◌, refl, length, slice_get, All, Option, Some, None, if◌then◌else◌}
+use Rattle.std.specs.Prelude.{ℕ, zero, suc, Bool, true, false, List, [], ◌∷◌, ◌++◌, ◌≡◌, refl, length, slice_get, All, Option, Some, None, if◌then◌else◌}
 use Rattle.std.proofs.Common.{ap, ◌∙◌, sym, subst}
 use Rattle.std.proofs.lemmas.List.Elements.{All-append}
-use Rattle.sy_terms.specs.Values.{Val, Truth}
+use Rattle.sy_terms.specs.Values.{Val}
 use Rattle.sy_terms.specs.Expr.{Expr, Exprs, Constant, Variable, Apply, Invoke, Bind, none, more, append}
 use Rattle.sy_terms.specs.Fitting.{sort_in, sorts_in}
 use Rattle.sy_terms.specs.Meaning.{meaning, meanings, value_at_position}
@@ -12,8 +12,8 @@ use Rattle.sy_terms_laws.proofs.Equations.{both_true, applied_sort_Some, after_S
 use Rattle.sy_terms_laws.proofs.Plain.{plain_append}
 use Rattle.sy_lower_laws.specs.Lowering.{Progress, Lowered, AllLowered, is_name, equated, equated_at, named, name_at, lowered, all_lowered, bound_lowered}
 use Rattle.sy_lower_laws.specs.Laws.{has_integers, have_integers}
-use Rattle.sy_lower_laws.proofs.Sorts.{integers, IsKnown, HaveSorts, with_both, cons_both, sorts_append, uncalled, sort_known, sorts_known}
-use Rattle.sy_lower_laws.proofs.Sides.{and_both, AreTrue}
+use Rattle.sy_lower_laws.proofs.Sorts.{integers, IsKnown, with_both, cons_both, sorts_append, uncalled, sort_known, sorts_known}
+use Rattle.sy_lower_laws.proofs.Sides.{and_both}
 use Rattle.sy_lower_laws.proofs.Steps.{Goes, goes_same, goes_on, plain_on, plains_on, sort_on, sorts_on, have_on, true_on, reaches_same, reaches_on, Stands, Made, itself_made, after, valued, equated_made}
 use Rattle.sy_lower_laws.proofs.Applications.{AllMade, applied_made}
 
@@ -114,6 +114,7 @@ named_made before found sort value known made = by_test (is_name found.term)
         valued before last sort _ value (after before found.progress last sort _ made.goes made.exists one)
         (λ values have all. made.sound values (have_on found.progress last.progress one.goes values have) (true_on found.progress last.progress one.goes values all)) in
         subst (λ (s : Sort). Made before (equated found.progress s found.term) sort value) (sym is) whole
+
     by_test : (b : Bool) → Made before (if b then found else equated_at (sort_in integers found.progress.sorts found.term) found) sort value
     by_test true = made
     by_test false = by_sort (sort_in integers found.progress.sorts found.term) made.sorted
@@ -146,9 +147,9 @@ mutual
       valued before last sort _ _
       (after before found.progress last sort _ first.goes first.exists second)
       (λ values have all.
-        ap (λ (vs : List Val). meaning [] [] vs inner)
-        (meanings_append values names found.terms ∙
-        ap (λ (vs : List Val). meanings [] [] values names ++ vs) (first.sound values (have_on found.progress last.progress second.goes values have) (true_on found.progress last.progress second.goes values all))))
+      ap (λ (vs : List Val). meaning [] [] vs inner)
+      (meanings_append values names found.terms ∙
+      ap (λ (vs : List Val). meanings [] [] values names ++ vs) (first.sound values (have_on found.progress last.progress second.goes values have) (true_on found.progress last.progress second.goes values all))))
 
   pub all_walked : (names : Exprs) (ns : List Sort) → All IsKnown ns → (before : Progress) → Stands before → Names before names ns → (terms : Exprs) → have_integers terms ≡ true → (found : List Sort) → sorts_in integers ns terms ≡ Some found →
       AllMade before (all_lowered names before terms) found (λ values. meanings [] [] (meanings [] [] values names) terms)

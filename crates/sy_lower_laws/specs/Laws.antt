@@ -1,5 +1,5 @@
 -- What a query and its lowering have to do with each other.
-use Rattle.std.specs.Prelude.{ℕ, ◌+◌, ◌*◌, ◌≤◌, ◌≡◌, Bool, true, false, ◌&&◌, List, ◌++◌, length, take}
+use Rattle.std.specs.Prelude.{◌+◌, ◌*◌, ◌≤◌, ◌≡◌, Bool, true, false, ◌&&◌, List, ◌++◌, length, take}
 use Rattle.sy_terms.specs.Values.{Val, Bits}
 use Rattle.sy_terms.specs.Expr.{Expr, Exprs, Constant, Variable, Apply, Invoke, Bind, none, more, nodes}
 use Rattle.sy_query_base.specs.Asked.{Query, QueryFits, Satisfies, query_weight}
@@ -21,6 +21,11 @@ unfoldable mutual
   pub have_integers : Exprs → Bool
   have_integers none = true
   have_integers (more first rest) = has_integers first && have_integers rest
+
+-- the query fits over the integers, and its constants are truth values and whole numbers
+pub record IsOverIntegers (query : Query) : Type 0 where
+  pub fits : QueryFits owned numeric query
+  pub integers : has_integers query.body ≡ true
 
 -- an assignment satisfies the query exactly where some extension of it satisfies the lowering
 pub record IsLowering (query lowered : Query) : Type 0 where

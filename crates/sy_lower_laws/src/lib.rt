@@ -1,10 +1,9 @@
-// The laws of lowering a query of the integers: without division, remainder and absolute value it has the same solutions.
+// The laws of lowering a query of the integers: without division, remainder and absolute value, the same solutions.
 #![tactic(auto)]
 
-ghost use Rattle.std.specs.Prelude.{◌≡◌, true, false};
-ghost use Rattle.sy_query_base.specs.Asked.{Query, QueryFits};
-ghost use Rattle.sy_meaning_integers.specs.Lia.{owned, numeric};
-ghost use Rattle.sy_lower_laws.specs.Laws.{IsLowering, IsSmall, has_integers};
+ghost use Rattle.std.specs.Prelude.{◌≡◌, false};
+ghost use Rattle.sy_query_base.specs.Asked.{Query};
+ghost use Rattle.sy_lower_laws.specs.Laws.{IsLowering, IsOverIntegers, IsSmall};
 ghost use Rattle.sy_lower_laws.specs.Lowering.{has_divisions, lowering};
 
 /// The laws of lowering.
@@ -14,7 +13,7 @@ ghost use Rattle.sy_lower_laws.specs.Lowering.{has_divisions, lowering};
 /// absolute value is its own lowering. That constants are truth values and whole numbers holds of each kept term of the
 /// integers (`proofs/Integers`).
 pub fn lowerings()
-    ensures law { (query : Query) → QueryFits owned numeric query → has_integers query.body ≡ true → IsLowering query (lowering query) }
-    ensures bounds { (query : Query) → QueryFits owned numeric query → has_integers query.body ≡ true → IsSmall query (lowering query) }
+    ensures law { (query : Query) → IsOverIntegers query → IsLowering query (lowering query) }
+    ensures bounds { (query : Query) → IsOverIntegers query → IsSmall query (lowering query) }
     ensures own { (query : Query) → has_divisions query.body ≡ false → lowering query ≡ query }
 {}
