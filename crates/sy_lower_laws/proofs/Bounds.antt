@@ -3,7 +3,7 @@ use Rattle.std.specs.Prelude.{ℕ, zero, suc, ◌+◌, ◌-◌, ◌*◌, ◌≤�
 use Rattle.std.specs.List.{list_all}
 use Rattle.std.proofs.Common.{ap, arith, ◌∙◌, sym, subst, length-append}
 use Rattle.std.proofs.lemmas.List.Elements.{All-append}
-use Rattle.sy_terms.specs.Values.{Val, Bits}
+use Rattle.sy_terms.specs.Values.{Val}
 use Rattle.sy_terms.specs.Sorts.{sort_of, same_sort, each_is, all_alike}
 use Rattle.sy_terms.specs.Expr.{Expr, Exprs, Constant, Variable, Apply, Invoke, Bind, none, more, append, nodes, nodes_of}
 use Rattle.sy_terms.specs.Fitting.{sort_in, sorts_in}

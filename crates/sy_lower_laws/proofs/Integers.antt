@@ -1,6 +1,6 @@
 -- The constants of a kept term of the integers are truth values and whole numbers.
 use Rattle.std.specs.Prelude.{true, ◌≡◌, refl, ℤ}
-use Rattle.sy_terms.specs.Values.{Truth, Whole}
+use Rattle.sy_terms.specs.Values.{Whole}
 use Rattle.sy_terms.specs.Denoted.{val_of, expr_of, row_of}
 use Rattle.sy_terms.specs.declared.sort.Value.{Value}
 use Rattle.sy_terms.specs.declared.sort.Value.TheVariants as values
