@@ -51,7 +51,7 @@ preview() {
         echo "sygus: Rattle's toolchain is needed to build the program: there is no rt on the path" >&2
         return 70
     fi
-    echo "sygus: a preview, in some three minutes, or more on a busy machine: neither program nor answer is proved; ./sygus FILE proves both" >&2
+    echo "sygus: an unproved preview, in some three minutes or more; ./sygus FILE proves the program and its answer" >&2
     if [ $# -gt 1 ]; then
         try_each "$@"
     elif [ -f "$1" ]; then
