@@ -11,7 +11,10 @@ try() (
     (cd "$top/crates/sygus" && rt try "$@") 2>"$said"
     status=$?
     cat "$said" >&2
-    tail -n 1 "$said" | grep -Eq '^(run=ended|cases=).* proved=no$' || exit 70
+    if ! tail -n 1 "$said" | grep -Eq '^(run=ended|cases=).* proved=no$'; then
+        echo "sygus: the program wasn't run to its end: rt try ended with status $status" >&2
+        exit 70
+    fi
     exit "$status"
 )
 
