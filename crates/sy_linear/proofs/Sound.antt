@@ -1,5 +1,5 @@
 -- A query for which a tree is accepted is never satisfied.
-use Rattle.std.specs.Prelude.{◌≡◌, true, false, List, [], ◌∷◌, map, All}
+use Rattle.std.specs.Prelude.{◌≡◌, true, false, List, [], ◌∷◌, ◌++◌, map, All}
 use Rattle.std.specs.List.{list_all}
 use Rattle.std.proofs.Common.{refl, sym, ◌∙◌, ap}
 use Rattle.std.proofs.lemmas.List.Elements.{All-head, All-tail}
@@ -9,12 +9,15 @@ use Rattle.sy_terms.specs.declared.sort.Sort.{Sort}
 use Rattle.sy_terms.specs.declared.sort.Sort.TheVariants as sorts
 use Rattle.sy_meaning_integers.specs.Lia.{owned, numeric}
 use Rattle.sy_grammar_base.specs.Formed.{is_known}
-use Rattle.sy_query_base.specs.Asked.{Query, QueryFits, IsNever}
+use Rattle.sy_query_base.specs.Asked.{Query, QueryFits, Satisfies, IsNever}
+use Rattle.sy_lower_laws.specs.Lowering.{lowering}
+use Rattle.sy_lower_laws.proofs.Lowered.{lowering_is}
 use Rattle.sy_linear_known.specs.declared.tree.Tree.{Tree}
 use Rattle.sy_linear_known.specs.Right.{Assigns, is_linear_sort}
 use Rattle.sy_linear_known.specs.Stored.{tree_shape_of}
+use Rattle.sy_linear_known.specs.Trees.{TreeRefutes}
 use Rattle.sy_linear_known.proofs.Refutation.{never_satisfied}
-use Rattle.sy_intsolve.specs.Proofs.{linear_of, Accepted}
+use Rattle.sy_linear.specs.Accepted.{linear_query, Accepted}
 
 is_linear : (sort : Sort) → is_known numeric sort ≡ true → is_linear_sort sort ≡ true
 is_linear sorts.Bool e = refl
@@ -42,6 +45,13 @@ values_assign (sorts.Bits w ∷ vars) (value ∷ values) h e = absurd cc
 disagree : true ≡ false → ⊥
 disagree e = cc
 
+-- a query of linear arithmetic that a tree refutes has no values that satisfy it
+never_linear : (query : Query) (proof : Tree) (values : List Val) → QueryFits owned numeric query → TreeRefutes (linear_query query) [] (tree_shape_of proof) → Satisfies query values → ⊥
+never_linear query proof values fits refutes satisfied =
+    disagree (sym (ap truth satisfied.true) ∙ never_satisfied (linear_query query) (tree_shape_of proof) refutes values (values_assign query.variables values (are_linear query.variables fits.variables) satisfied.sorted.sorted))
+
 pub sound : (query : Query) (proof : Tree) → QueryFits owned numeric query → Accepted query proof → IsNever query
 sound query proof fits accepted values are is =
-    disagree (sym (ap truth is) ∙ never_satisfied (linear_of query) (tree_shape_of proof) accepted values (values_assign query.variables values (are_linear query.variables fits.variables) are.sorted))
+    let lowered = lowering_is query fits accepted.integers in
+    let more = lowered.onto values (record { sorted = are; true = is }) in
+    never_linear (lowering query) proof (values ++ more.0) lowered.fits accepted.refutes more.1
