@@ -1,7 +1,7 @@
 use Rattle.std.proofs.Common.{◌≡◌, ◌+◌, ◌≤◌, drop}
 use Rattle.sy_forms_phrases.specs.Meant.{phrases_of}
-use Rattle.sy_forms.specs.Terms as spec
-use Rattle.sy_forms.proofs.apply.varying.Given as goal
+use Rattle.sy_forms_linear.specs.Linear as spec
+use Rattle.sy_forms_linear.proofs.factors.varying.Given as goal
 
 abbrev pub invariant-loop-factor : goal.invariant-loop-factor
 invariant-loop-factor g l =

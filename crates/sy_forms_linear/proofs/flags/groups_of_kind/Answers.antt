@@ -1,10 +1,10 @@
 use Rattle.std.proofs.Common.{◌≡◌, ◌≤◌, ◌+◌, ◌∙◌, ℕ, zero, suc, List, [], ◌∷◌, ◌++◌, length, drop, refl, sym, ap, arith}
 use Rattle.sy_text_items.specs.Items.{listed}
-use Rattle.sy_forms.specs.Rules.{constant_groups}
+use Rattle.sy_forms_linear.specs.Flags.{groups_of_kind}
 use Rattle.sy_forms_names.specs.Seen.{environment_of}
 use Rattle.sy_forms_items.specs.Views.{items_in}
 use Rattle.sy_forms_names.proofs.Lookups.{found_at, drop-at}
-use Rattle.sy_forms.proofs.rule.constant_groups.Goals as goal
+use Rattle.sy_forms_linear.proofs.flags.groups_of_kind.Goals as goal
 
 push_assoc : {A : Type 0} (xs : List A) (x : A) (ys : List A) → (xs ++ x ∷ []) ++ ys ≡ xs ++ x ∷ ys
 push_assoc [] x ys = refl
@@ -26,12 +26,12 @@ loop-named-preserved c =
     let x = c.named-item.result in
     let there = found_at i c.args.nonterminals.now x (omega arith) c.named-item.is in
     let others = drop (i + 1) c.args.nonterminals.now in
-    let next = ap (λ ns. constant_groups (environment_of c.args.env.now) ns (listed (items_in c.loop-named.left))) (drop-at i c.args.nonterminals.now x there) ∙ c.next_flag-flag.ensures others in
+    let next = ap (λ ns. groups_of_kind c.args.kind (environment_of c.args.env.now) ns (listed (items_in c.loop-named.left))) (drop-at i c.args.nonterminals.now x there) ∙ c.next_flag-flag.ensures others in
     rw (c.in_ok-push.ensures.ok) (push_assoc c.loop-named.flags _ _ ∙ ap (λ gs. c.loop-named.flags ++ gs) (sym next) ∙ c.loop-named.invariant)
 
 pub returns : goal.returns
 returns c =
     let over = past c.loop-named.named-index c.args.nonterminals.now (omega arith) in
     sym (nil_right c.loop-named.flags)
-    ∙ ap (λ ns. c.loop-named.flags ++ constant_groups (environment_of c.args.env.now) ns (listed (items_in c.loop-named.left))) (sym over)
+    ∙ ap (λ ns. c.loop-named.flags ++ groups_of_kind c.args.kind (environment_of c.args.env.now) ns (listed (items_in c.loop-named.left))) (sym over)
     ∙ c.loop-named.invariant
