@@ -3,7 +3,7 @@
 (synth-inv inv ((p Int) (n Int))
   ((B Bool) (S Int))
   ((B Bool ((= S S) (<= S S) (and B B)))
-   (S Int (0 8 p n (+ S S) (mod S 8)))))
+   (S Int (p n (mod S 8)))))
 (define-fun pre ((p Int) (n Int)) Bool (and (= p 0) (<= 0 n) (= (mod n 8) 0)))
 (define-fun trans ((p Int) (n Int) (p1 Int) (n1 Int)) Bool (and (< p n) (= p1 (+ p 8)) (= n1 n)))
 (define-fun post ((p Int) (n Int)) Bool (=> (not (< p n)) (= p n)))
