@@ -19,7 +19,8 @@ fn quotient_by(
     dividend: Term<IntTheory>,
     divided_by: &Term<IntTheory>,
 ) -> Result<Term<IntTheory>, Want>
-    ensures { IfOk result (λ term. Gives (expr_of Whole term) (progress_in progress.new) (spec.quotient_by (progress_in progress.old) (expr_of Whole dividend) (expr_of Whole divided_by.now))) }
+    ensures { IfOk result (λ term. Gives (expr_of Whole term) (progress_in progress.new)
+        (spec.quotient_by (progress_in progress.old) (expr_of Whole dividend) (expr_of Whole divided_by.now))) }
 {
     match divisor(divided_by) {
         Some(divisor) => {
@@ -51,7 +52,8 @@ fn remainder_by(
     dividend: Term<IntTheory>,
     divided_by: &Term<IntTheory>,
 ) -> Result<Term<IntTheory>, Want>
-    ensures { IfOk result (λ term. Gives (expr_of Whole term) (progress_in progress.new) (spec.remainder_by (progress_in progress.old) (expr_of Whole dividend) (expr_of Whole divided_by.now))) }
+    ensures { IfOk result (λ term. Gives (expr_of Whole term) (progress_in progress.new)
+        (spec.remainder_by (progress_in progress.old) (expr_of Whole dividend) (expr_of Whole divided_by.now))) }
 {
     match divisor(divided_by) {
         Some(divisor) => {
@@ -74,7 +76,8 @@ fn quotients(
     dividend: Term<IntTheory>,
     divisors: &[Term<IntTheory>],
 ) -> Result<Term<IntTheory>, Want>
-    ensures { IfOk result (λ term. Gives (expr_of Whole term) (progress_in progress.new) (spec.quotients (progress_in progress.old) (expr_of Whole dividend) (exprs_of Whole divisors.now))) }
+    ensures { IfOk result (λ term. Gives (expr_of Whole term) (progress_in progress.new)
+        (spec.quotients (progress_in progress.old) (expr_of Whole dividend) (exprs_of Whole divisors.now))) }
 {
     let mut quotient = dividend;
     for divisor in divisors {
@@ -89,7 +92,8 @@ fn divided(
     progress: &mut Progress,
     terms: &[Term<IntTheory>],
 ) -> Result<Term<IntTheory>, Want>
-    ensures { IfOk result (λ term. Gives (expr_of Whole term) (progress_in progress.new) (spec.divided (progress_in progress.old) (exprs_of Whole terms.now))) }
+    ensures { IfOk result (λ term. Gives (expr_of Whole term) (progress_in progress.new)
+        (spec.divided (progress_in progress.old) (exprs_of Whole terms.now))) }
 {
     match terms.split_first() {
         Some((dividend, divisors)) => {
@@ -110,7 +114,8 @@ fn reduced(
     progress: &mut Progress,
     terms: Terms<IntTheory>,
 ) -> Result<Term<IntTheory>, Want>
-    ensures { IfOk result (λ term. Gives (expr_of Whole term) (progress_in progress.new) (spec.reduced (progress_in progress.old) (exprs_of Whole terms.items.items))) }
+    ensures { IfOk result (λ term. Gives (expr_of Whole term) (progress_in progress.new)
+        (spec.reduced (progress_in progress.old) (exprs_of Whole terms.items.items))) }
 {
     let pair = terms.as_slice();
     if pair.len() != 2 {
@@ -140,7 +145,8 @@ fn as_variable(
     progress: &mut Progress,
     term: Term<IntTheory>,
 ) -> Result<Term<IntTheory>, Want>
-    ensures { IfOk result (λ found. Gives (expr_of Whole found) (progress_in progress.new) (spec.as_variable (progress_in progress.old) (expr_of Whole term))) }
+    ensures { IfOk result (λ found. Gives (expr_of Whole found) (progress_in progress.new)
+        (spec.as_variable (progress_in progress.old) (expr_of Whole term))) }
 {
     if is_variable(&term) {
         return Ok(term);
@@ -168,7 +174,8 @@ fn unsigned(
     progress: &mut Progress,
     terms: Terms<IntTheory>,
 ) -> Result<Term<IntTheory>, Want>
-    ensures { IfOk result (λ term. Gives (expr_of Whole term) (progress_in progress.new) (spec.unsigned (progress_in progress.old) (exprs_of Whole terms.items.items))) }
+    ensures { IfOk result (λ term. Gives (expr_of Whole term) (progress_in progress.new)
+        (spec.unsigned (progress_in progress.old) (exprs_of Whole terms.items.items))) }
 {
     let only = terms.as_slice();
     if only.len() != 1 {
@@ -187,7 +194,8 @@ pub(crate) fn applied(
     operator: &Op,
     terms: Terms<IntTheory>,
 ) -> Result<Term<IntTheory>, Want>
-    ensures { IfOk result (λ term. Gives (expr_of Whole term) (progress_in progress.new) (spec.applied operator.now (lowered_terms (progress_in progress.old) (exprs_of Whole terms.items.items)))) }
+    ensures { IfOk result (λ term. Gives (expr_of Whole term) (progress_in progress.new)
+        (spec.applied operator.now (lowered_terms (progress_in progress.old) (exprs_of Whole terms.items.items)))) }
 {
     match operator {
         Op::Div => {

@@ -19,7 +19,8 @@ use sy_terms::{Op, Seq, Term, Want};
 
 /// The side conditions and the lowered body, over the query's variables and the fresh ones.
 fn with_all_sides(progress: Progress, body: Term<IntTheory>) -> Result<Query<IntTheory>, Want>
-    ensures { IfOk result (λ query. query_of Whole query ≡ with_sides (lowered_term (progress_in progress) (expr_of Whole body))) }
+    ensures { IfOk result (λ query. query_of Whole query ≡ with_sides
+        (lowered_term (progress_in progress) (expr_of Whole body))) }
 {
     let Progress {
         sorts,
@@ -73,8 +74,10 @@ fn lowered(alloc: Global, query: &Query<IntTheory>) -> Result<Query<IntTheory>, 
 /// `Want` comes where memory runs out, and where 32 bits don't count the variables.
 pub fn lower(alloc: Global, query: &Query<IntTheory>) -> Result<Query<IntTheory>, Want>
     ensures is { IfOk result (λ found. query_of Whole found ≡ lowering (query_of Whole query.now)) }
-    ensures law { IfOk result (λ found. QueryFits owned numeric (query_of Whole query.now) → IsLowering (query_of Whole query.now) (query_of Whole found)) }
-    ensures small { IfOk result (λ found. QueryFits owned numeric (query_of Whole query.now) → IsSmall (query_of Whole query.now) (query_of Whole found)) }
+    ensures law { IfOk result (λ found. QueryFits owned numeric (query_of Whole query.now) → IsLowering
+        (query_of Whole query.now) (query_of Whole found)) }
+    ensures small { IfOk result (λ found. QueryFits owned numeric (query_of Whole query.now) → IsSmall
+        (query_of Whole query.now) (query_of Whole found)) }
 {
     let found = lowered(alloc, query)?;
     Ok(found)

@@ -48,7 +48,8 @@ pub(crate) fn named(
     progress: &mut Progress,
     term: Term<IntTheory>,
 ) -> Result<Term<IntTheory>, Want>
-    ensures { IfOk result (λ name. Gives (expr_of Whole name) (progress_in progress.new) (spec.named (lowered_term (progress_in progress.old) (expr_of Whole term)))) }
+    ensures { IfOk result (λ name. Gives (expr_of Whole name) (progress_in progress.new)
+        (spec.named (lowered_term (progress_in progress.old) (expr_of Whole term)))) }
 {
     if is_name(&term) {
         return Ok(term);

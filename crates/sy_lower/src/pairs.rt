@@ -34,7 +34,8 @@ pub(crate) struct Pairs {
 fn is_of(pair: &Pair, own: u64, dividend: &Term<IntTheory>, divisor: i128, key: u64) -> bool
     requires own { own ≡ pair_key (pair_in pair.now) }
     requires key { key ≡ spec_key (expr_of Whole dividend.now) divisor }
-    ensures { result ≡ (int_eq pair.now.divisor divisor && same_expr (expr_of Whole pair.now.dividend) (expr_of Whole dividend.now)) }
+    ensures { result ≡ (int_eq pair.now.divisor divisor && same_expr (expr_of Whole pair.now.dividend)
+        (expr_of Whole dividend.now)) }
 {
     if own != key {
         return false;

@@ -76,7 +76,8 @@ fn add_sides(
     remainder: u32,
 ) -> Result<(), Want>
     requires { remainder ≡ quotient + 1 }
-    ensures { OnOk result (exprs_of Whole sides.new.items.items ≡ append (exprs_of Whole sides.old.items.items) (spec.division_sides (expr_of Whole dividend) divisor quotient)) }
+    ensures { OnOk result (exprs_of Whole sides.new.items.items ≡ append (exprs_of Whole sides.old.items.items)
+        (spec.division_sides (expr_of Whole dividend) divisor quotient)) }
 {
     let whole = recomposed(alloc, divisor, quotient, remainder)?;
     let is_whole = binary(alloc, Op::Equal, dividend, whole)?;
@@ -109,7 +110,8 @@ impl Progress {
         sort: Sort,
         term: Term<IntTheory>,
     ) -> Result<Term<IntTheory>, Want>
-        ensures { IfOk result (λ variable. Gives (expr_of Whole variable) (progress_in self.new) (spec.equated (progress_in self.old) sort (expr_of Whole term))) }
+        ensures { IfOk result (λ variable. Gives (expr_of Whole variable) (progress_in self.new)
+            (spec.equated (progress_in self.old) sort (expr_of Whole term))) }
     {
         let variable = fresh(&mut self.sorts, sort)?;
         let equation = binary(alloc, Op::Equal, Term::Var(variable), term)?;
@@ -124,7 +126,8 @@ impl Progress {
         dividend: Term<IntTheory>,
         divisor: i128,
     ) -> Result<u32, Want>
-        ensures { IfOk result (λ quotient. GivesQuotient quotient (progress_in self.new) (spec.fresh_pair (progress_in self.old) (expr_of Whole dividend) divisor)) }
+        ensures { IfOk result (λ quotient. GivesQuotient quotient (progress_in self.new)
+            (spec.fresh_pair (progress_in self.old) (expr_of Whole dividend) divisor)) }
     {
         let made = fresh_pair(&mut self.sorts)?;
         let copy = dividend.copy(alloc)?;
@@ -145,7 +148,8 @@ impl Progress {
         dividend: Term<IntTheory>,
         divisor: i128,
     ) -> Result<u32, Want>
-        ensures { IfOk result (λ quotient. GivesQuotient quotient (progress_in self.new) (spec.paired (progress_in self.old) (expr_of Whole dividend) divisor)) }
+        ensures { IfOk result (λ quotient. GivesQuotient quotient (progress_in self.new)
+            (spec.paired (progress_in self.old) (expr_of Whole dividend) divisor)) }
     {
         match self.pairs.find(&dividend, divisor) {
             Some(quotient) => Ok(quotient),

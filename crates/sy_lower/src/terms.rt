@@ -36,7 +36,8 @@ pub(crate) fn binary(
     first: Term<IntTheory>,
     second: Term<IntTheory>,
 ) -> Result<Term<IntTheory>, Want>
-    ensures { IfOk result (λ term. expr_of Whole term ≡ Apply operator (more (expr_of Whole first) (more (expr_of Whole second) none))) }
+    ensures { IfOk result (λ term. expr_of Whole term ≡ Apply operator
+        (more (expr_of Whole first) (more (expr_of Whole second) none))) }
 {
     let mut arguments = Terms::with_capacity(alloc, 2)?;
     arguments.push(first)?;
@@ -52,7 +53,8 @@ pub(crate) fn ternary(
     second: Term<IntTheory>,
     third: Term<IntTheory>,
 ) -> Result<Term<IntTheory>, Want>
-    ensures { IfOk result (λ term. expr_of Whole term ≡ Apply operator (more (expr_of Whole first) (more (expr_of Whole second) (more (expr_of Whole third) none)))) }
+    ensures { IfOk result (λ term. expr_of Whole term ≡ Apply operator
+        (more (expr_of Whole first) (more (expr_of Whole second) (more (expr_of Whole third) none)))) }
 {
     let mut arguments = Terms::with_capacity(alloc, 3)?;
     arguments.push(first)?;

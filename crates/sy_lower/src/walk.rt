@@ -21,7 +21,8 @@ pub(crate) fn walk(
     term: &Term<IntTheory>,
 ) -> Result<Term<IntTheory>, Want>
     ensures names { OnOk result (names.new.items ≡ names.old.items) }
-    ensures lowered { IfOk result (λ found. Gives (expr_of Whole found) (progress_in progress.new) (lowered (exprs_of Whole names.old.items) (progress_in progress.old) (expr_of Whole term.now))) }
+    ensures lowered { IfOk result (λ found. Gives (expr_of Whole found) (progress_in progress.new)
+        (lowered (exprs_of Whole names.old.items) (progress_in progress.old) (expr_of Whole term.now))) }
 {
     match term {
         Term::Const(value) => Ok(Term::Const(*value)),
@@ -58,7 +59,8 @@ fn walk_all(
     terms: &[Term<IntTheory>],
 ) -> Result<Terms<IntTheory>, Want>
     ensures names { OnOk result (names.new.items ≡ names.old.items) }
-    ensures lowered { IfOk result (λ found. GivesAll (exprs_of Whole found.items.items) (progress_in progress.new) (all_lowered (exprs_of Whole names.old.items) (progress_in progress.old) (exprs_of Whole terms.now))) }
+    ensures lowered { IfOk result (λ found. GivesAll (exprs_of Whole found.items.items) (progress_in progress.new)
+        (all_lowered (exprs_of Whole names.old.items) (progress_in progress.old) (exprs_of Whole terms.now))) }
 {
     let mut all = Terms::with_capacity(alloc, terms.len())?;
     for term in terms {
@@ -77,7 +79,8 @@ fn walk_bound(
     bound: &[Term<IntTheory>],
 ) -> Result<Vec<Term<IntTheory>>, Want>
     ensures names { OnOk result (names.new.items ≡ names.old.items) }
-    ensures lowered { IfOk result (λ found. GivesAll (exprs_of Whole found.items) (progress_in progress.new) (bound_lowered (exprs_of Whole names.old.items) (progress_in progress.old) (exprs_of Whole bound.now))) }
+    ensures lowered { IfOk result (λ found. GivesAll (exprs_of Whole found.items) (progress_in progress.new)
+        (bound_lowered (exprs_of Whole names.old.items) (progress_in progress.old) (exprs_of Whole bound.now))) }
 {
     let mut all = Vec::with_capacity(alloc, bound.len())?;
     for term in bound {
