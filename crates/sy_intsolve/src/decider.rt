@@ -1,7 +1,7 @@
 // The solver.
 ghost use Rattle.sy_intsolve_trees.specs.Budgets.{budget};
 ghost use Rattle.sy_intsolve.specs.Proofs as proofs;
-ghost use Rattle.sy_linear.proofs.Sound.{sound};
+ghost use Rattle.sy_intsolve.specs.Soundness.{sound};
 
 use crate::lowered::solved;
 use std::alloc::Global;
