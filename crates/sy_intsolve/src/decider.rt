@@ -13,12 +13,14 @@ use sy_query_corners::corner_model;
 use sy_query_limits::{FailName, Limits};
 use sy_terms::Want;
 
-/// A solver of queries of linear arithmetic over the integers with `div`, `mod` and `abs`. It tries up to 128 assignments at
-/// which queries are often true; then it lowers the query to one without these operators, and grows a tree that splits on open
-/// tests and branches on values of variables, until the tree refutes the lowered query or an assignment satisfies it, with at
-/// most as many inner nodes as the limit `nodes` and as many steps of the simplex method at a leaf as the limit `pivots`.
+/// A solver of queries of linear arithmetic over the integers with `div`, `mod` and `abs`. It tries up to 128
+/// assignments at which queries are often true; then it lowers the query to one without these operators, and grows a
+/// tree that splits on open tests and branches on values of variables, until the tree refutes the lowered query or an
+/// assignment satisfies it, with at most as many inner nodes as the limit `nodes` and as many steps of the simplex
+/// method at a leaf as the limit `pivots`.
 ///
-/// Where none of these assignments satisfies the query and its lowering has 2^31 nodes or variables, it is answered as out of memory.
+/// Where none of these assignments satisfies the query and its lowering has 2^31 nodes or variables, it is answered
+/// as out of memory.
 #[derive(Clone, Copy, Debug, PartialEq, Eq)]
 pub struct IntDecide;
 

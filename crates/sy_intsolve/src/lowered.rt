@@ -29,8 +29,8 @@ fn shortened(alloc: Global, values: &[Value<i128>], count: usize) -> Result<Valu
     Ok(Seq::from(first))
 }
 
-/// What the search answers to the lowered query, as an answer to the query itself: a model loses the values of the fresh
-/// variables.
+/// What the search answers to the lowered query, as an answer to the query itself: a model loses the values of the
+/// fresh variables.
 fn solve_lowered(
     alloc: Global,
     query: &Query<IntTheory>,
