@@ -30,6 +30,7 @@ import shutil
 import signal
 import subprocess
 import sys
+import tempfile
 import threading
 import time as clock
 
@@ -204,12 +205,12 @@ def advice(answer):
 def find_program(named=None):
     """The program that is named, or SYGUS, or the repository's, built before where it has to be, or that on the path."""
     named = named or os.environ.get("SYGUS")
-    if named:
-        found = shutil.which(named)
-        if not found:
-            raise Missing(f"{named}: there is no such program")
+    found, wrapper = shutil.which(named or ""), TOP / "sygus"
+    if named and not found:
+        raise Missing(f"{named}: there is no such program")
+    if found and not (wrapper.is_file() and os.path.samefile(found, wrapper)):
         return found
-    if (TOP / "sygus").is_file() and (TOP / "crates.txt").is_file():
+    if wrapper.is_file() and (TOP / "crates.txt").is_file():
         # an empty file, so that a build shows its progress and ends before
         if subprocess.run([TOP / "sygus", "-"], stdin=subprocess.DEVNULL).returncode:
             raise Missing("the program couldn't be built; SYGUS=PROGRAM names one that is there")
@@ -365,6 +366,64 @@ class Parser(argparse.ArgumentParser):
     def error(self, message):
         self.exit(3, f"{self.prog}: {message}\n{self.prog} --help says more\n")
 
+    def parse_all(self):
+        """What is given before the first `--`, and the words behind it, which are options of sygus."""
+        words = sys.argv[1:]
+        place = words.index("--") if "--" in words else len(words)
+        return self.parse_args(words[:place]), words[place + 1:]
+
+
+def positive(text):
+    """A number above 0, as argparse takes it."""
+    number = float(text)
+    if not 0 < number < float("inf"):
+        raise ValueError(text)
+    return number
+
+
+def whole(text):
+    """A whole number from 1 on, as argparse takes it."""
+    if int(text) < 1:
+        raise ValueError(text)
+    return int(text)
+
+
+def gnu_parallel(words, source, folder, time=None):
+    """Runs GNU parallel in a folder on the lines of a text. Its status, or None where the time was up. Nothing goes on behind it."""
+    try:
+        said = subprocess.run(["parallel", "--version"], stdin=subprocess.DEVNULL, capture_output=True, text=True).stdout
+    except OSError:
+        said = ""
+    if not said.startswith("GNU parallel"):
+        raise Missing("GNU parallel is needed: apt-get install parallel")
+    with tempfile.TemporaryFile() as lines:
+        lines.write(source.encode())
+        lines.seek(0)
+        environment = {**os.environ, "PARALLEL_SHELL": "/bin/sh"}
+        child = subprocess.Popen(["parallel", "--plain", *words], cwd=folder, env=environment, stdin=lines, stdout=subprocess.DEVNULL)
+        try:
+            return child.wait(time)
+        except subprocess.TimeoutExpired:
+            return None
+        finally:
+            end_parallel(child)
+
+
+def end_parallel(child):
+    """Ends GNU parallel with all that it runs."""
+    before = {number: signal.signal(number, signal.SIG_IGN) for number in (signal.SIGINT, signal.SIGTERM, signal.SIGHUP)}
+    # the first SIGTERM alone would wait for the jobs
+    for number in (signal.SIGINT, signal.SIGTERM, signal.SIGTERM, signal.SIGKILL):
+        try:
+            if child.poll() is None:
+                child.send_signal(number)
+            child.wait(3)
+            break
+        except subprocess.TimeoutExpired:
+            pass
+    for number, handler in before.items():
+        signal.signal(number, handler)
+
 
 def say(*words):
     """A line on standard error, which is left out where that can't be written."""
@@ -379,6 +438,8 @@ def as_command(main):
     for number in (signal.SIGTERM, signal.SIGHUP):
         signal.signal(number, lambda number, _: sys.exit(128 + number))
     name = os.path.basename(sys.argv[0])
+    # names of files that are no text are printed as they are
+    sys.stdout.reconfigure(errors="surrogateescape")
     try:
         status = main()
         sys.stdout.flush()
@@ -406,12 +467,11 @@ def leave(status):
 def main():
     parser = Parser(__doc__, usage="sygus_client.py [--program PROGRAM] [--time SECONDS] FILE [-- OPTIONS OF SYGUS]")
     parser.add_argument("--program")
-    parser.add_argument("--time", type=float)
-    parser.add_argument("file")
-    parser.add_argument("options", nargs="*")
-    given = parser.parse_args()
+    parser.add_argument("--time", type=positive)
+    parser.add_argument("file", metavar="FILE")
+    given, options = parser.parse_all()
     text = sys.stdin.buffer.read() if given.file == "-" else None
-    words = [find_program(given.program), *given.options, "--", given.file]
+    words = [find_program(given.program), *options, "--", given.file]
     result = Call(words, text, given.time).result()
     json.dump({**dataclasses.asdict(result), "outcome": result.outcome}, sys.stdout, indent=1)
     print()
