@@ -211,14 +211,26 @@ def find_program(named=None):
     if found and not (wrapper.is_file() and os.path.samefile(found, wrapper)):
         return found
     if wrapper.is_file() and (TOP / "crates.txt").is_file():
-        # an empty file, so that a build shows its progress and ends before
-        if subprocess.run([TOP / "sygus", "-"], stdin=subprocess.DEVNULL).returncode:
-            raise Missing("the program couldn't be built; SYGUS=PROGRAM names one that is there")
+        build(wrapper)
         return str(TOP / "crates" / "sygus" / "out" / "sygus")
     found = shutil.which("sygus")
     if not found:
         raise Missing("there is no sygus on the path; SYGUS=PROGRAM names it, and tools/install PREFIX of its repository copies it")
     return found
+
+
+def build(wrapper):
+    """Builds the program of the repository, by a run on an empty file, which shows the progress. An exception meanwhile ends the build."""
+    child = subprocess.Popen([wrapper, "-"], stdin=subprocess.DEVNULL)
+    try:
+        status = child.wait()
+    except BaseException:
+        # not by SIGKILL, so that it ends what it began
+        child.terminate()
+        child.wait()
+        raise
+    if status:
+        raise Missing("the program couldn't be built; SYGUS=PROGRAM names one that is there")
 
 
 def words_of(options):
@@ -388,7 +400,7 @@ def whole(text):
     return int(text)
 
 
-def gnu_parallel(words, source, folder, time=None):
+def gnu_parallel(words, source, folder, time=None, errors=None):
     """Runs GNU parallel in a folder on the lines of a text. Its status, or None where the time was up. Nothing goes on behind it."""
     try:
         said = subprocess.run(["parallel", "--version"], stdin=subprocess.DEVNULL, capture_output=True, text=True).stdout
@@ -400,7 +412,7 @@ def gnu_parallel(words, source, folder, time=None):
         lines.write(source.encode())
         lines.seek(0)
         environment = {**os.environ, "PARALLEL_SHELL": "/bin/sh"}
-        child = subprocess.Popen(["parallel", "--plain", *words], cwd=folder, env=environment, stdin=lines, stdout=subprocess.DEVNULL)
+        child = subprocess.Popen(["parallel", "--plain", *words], cwd=folder, env=environment, stdin=lines, stdout=subprocess.DEVNULL, stderr=errors)
         try:
             return child.wait(time)
         except subprocess.TimeoutExpired:
