@@ -20,6 +20,7 @@ to be, or the `sygus` on the path. docs/PYTHON.md says more.
 import argparse
 import dataclasses
 import errno
+import functools
 import json
 import os
 import pathlib
@@ -128,16 +129,28 @@ class Refusal:
 
 @dataclasses.dataclass
 class Result:
-    """What came of a call. The status is that of sygus, 124 where the time was up, 130 where it was cancelled, and 128 and the number of a signal that ended it."""
+    """What came of a call, and what it took: seconds of the clock and of the processor, and its most memory in KiB.
+
+    The status is that of sygus, 124 where the time was up, 130 where it was cancelled, and 128 and its number where a signal
+    ended it.
+    """
 
     status: int
-    answers: list
-    refusal: object
+    output: str
+    errors: str
     seconds: float
     processor_seconds: float
     memory: int
-    output: str
-    errors: str
+
+    @functools.cached_property
+    def answers(self):
+        """The whole answers, in order."""
+        return answers_of(self.output, self.errors)
+
+    @functools.cached_property
+    def refusal(self):
+        """Why the file was refused, or None."""
+        return refusal_of(self.errors)
 
     @property
     def causes(self):
@@ -159,7 +172,7 @@ def answers_of(output, errors=""):
             cause = causes.get(len(answers) + 1, "") if item == "fail" else ""
             answers.append(Answer(item, [], cause, f"{item}\n"))
         elif isinstance(item, list):
-            found = [definition_of(it) for it in item if isinstance(it, list) and len(it) == 5]
+            found = [definition_of(it) for it in item if isinstance(it, list) and len(it) == 5 and it[0] == "define-fun"]
             text = "".join(["(\n", *(f"{it.text}\n" for it in found), ")\n"])
             answers.append(Answer("definitions", found, "", text))
     return answers
@@ -289,8 +302,7 @@ class Call:
         output, errors = (b"".join(self._pieces[name]).decode("utf-8", "replace") for name in ("output", "errors"))
         status = status if self._forced is None else self._forced
         seconds = clock.monotonic() - self._begun
-        answers, refusal = answers_of(output, errors), refusal_of(errors)
-        return Result(status, answers, refusal, seconds, used.ru_utime + used.ru_stime, used.ru_maxrss, output, errors)
+        return Result(status, output, errors, seconds, used.ru_utime + used.ru_stime, used.ru_maxrss)
 
     def _read(self):
         """Takes what the program prints until it ends or the time is up."""
@@ -485,7 +497,9 @@ def main():
     text = sys.stdin.buffer.read() if given.file == "-" else None
     words = [find_program(given.program), *options, "--", given.file]
     result = Call(words, text, given.time).result()
-    json.dump({**dataclasses.asdict(result), "outcome": result.outcome}, sys.stdout, indent=1)
+    answers = [dataclasses.asdict(it) for it in result.answers]
+    refusal = result.refusal and dataclasses.asdict(result.refusal)
+    json.dump({"outcome": result.outcome, "answers": answers, "refusal": refusal, **dataclasses.asdict(result)}, sys.stdout, indent=1)
     print()
     return result.status
 
