@@ -6,11 +6,13 @@ import csv
 import json
 import os
 import pathlib
+import re
 import shutil
 import signal
 import subprocess
 import sys
 import tempfile
+import textwrap
 import threading
 import time
 
@@ -161,6 +163,19 @@ def command(room):
     yield "client: a full disk", status == 5 and "Traceback" not in err and "No space" in err
 
 
+def documented(room):
+    """The scripts of docs/PYTHON.md run."""
+    text = (TOP / "docs" / "PYTHON.md").read_text()
+    first, folder = (textwrap.dedent(it) for it in re.findall(r"(?:^    .*\n|^\n)+", text, re.M) if "import" in it)
+    (room.folder / "doc" / "problems").mkdir(parents=True)
+    for name in ("a", "i"):
+        shutil.copy(room.folder / "problems" / f"{name}.sl", room.folder / "doc" / "problems")
+    words = {**room.words, "PYTHONPATH": str(TOOLS)}
+    for script, wanted in [(first.partition("\nf [")[0], "f [('x', 'Int')] ['+', 'x', '1']\n"), (folder, "a.sl definitions (define-fun f ((x Int)) Int (+ x 1))\ni.sl definitions, fail Bank (define-fun g () Int 1)\n")]:
+        ended = subprocess.run([sys.executable, "-c", script], cwd=room.folder / "doc", env=words, capture_output=True, text=True)
+        yield f"docs/PYTHON.md: {wanted[:4]}", (ended.stdout, ended.stderr) == (wanted, "")
+
+
 def many(room):
     """tools/many over the problems: the table, what it refuses, and calls that are interrupted."""
     status, out, err = room.run("many", "--timeout", "2", "problems", "problems/a.sl")
@@ -252,6 +267,7 @@ def tests():
         room = Room(pathlib.Path(folder))
         yield from calls(room)
         yield from command(room)
+        yield from documented(room)
         yield from without_parallel(room)
         if shutil.which("parallel"):
             yield from many(room)
