@@ -23,6 +23,7 @@ import subprocess
 import sys
 
 from runs import TOP, line_of, name_of, problems, run, sygus, text_of, words_of
+from sygus_client import read_items, write_item
 
 # The classes of problems, by how the path of a file begins below TOP; the first that fits counts.
 CLASSES = [
@@ -47,26 +48,6 @@ CLASSES = [
     ("bench/problems/", "identities"),
     ("", "others"),
 ]
-
-
-def read_items(text):
-    """The items of a text: strings, and lists of items."""
-    stack = [[]]
-    for token in re.findall(r";[^\n\r]*|\|[^|]*\||\"(?:[^\"]|\"\")*\"|[()]|[^\s()|\";]+", text):
-        if token.startswith(";"):
-            continue
-        if token == "(":
-            stack.append([])
-        elif token == ")" and len(stack) > 1:
-            last = stack.pop()
-            stack[-1].append(last)
-        else:
-            stack[-1].append(token)
-    return stack[0]
-
-
-def write_item(item):
-    return item if isinstance(item, str) else "(" + " ".join(map(write_item, item)) + ")"
 
 
 class Problem:

@@ -3,12 +3,13 @@ import collections
 import glob
 import os
 import re
-import resource
 import subprocess
 import sys
-import tempfile
 
 TOP = os.path.dirname(os.path.dirname(os.path.abspath(__file__)))
+sys.path.insert(0, os.path.join(TOP, "tools"))
+from sygus_client import Call, Missing, find_program
+
 FOLDERS = ["examples", "examples/gallery", "examples/advice", "bench/problems"]
 MEMORY = 6 << 30
 
@@ -44,11 +45,11 @@ def words_of(text):
 
 
 def sygus(given):
-    """The program that is named, or that of the repository, which is proved and built before where it has to be."""
-    if given:
-        return given
-    subprocess.run([f"{TOP}/sygus", "-"], stdin=subprocess.DEVNULL, check=True)
-    return f"{TOP}/crates/sygus/out/sygus"
+    """The program that is named, or the one that SYGUS names, or that of the repository, built before where it has to be."""
+    try:
+        return find_program(given)
+    except Missing as missing:
+        sys.exit(str(missing))
 
 
 def measured(name):
@@ -60,18 +61,10 @@ def measured(name):
 
 def run(words, limit=None):
     """Runs a program with at most so many processor seconds, where there is a limit, and 6 GB."""
-    with tempfile.TemporaryFile("w+", errors="replace") as out, tempfile.TemporaryFile("w+", errors="replace") as err:
-        child = subprocess.Popen(words, stdin=subprocess.DEVNULL, stdout=out, stderr=err)
-        resource.prlimit(child.pid, resource.RLIMIT_AS, (MEMORY, MEMORY))
-        if limit:
-            resource.prlimit(child.pid, resource.RLIMIT_CPU, (limit, limit + 1))
-        _, status, used = os.wait4(child.pid, 0)
-        child.returncode = os.waitstatus_to_exitcode(status)
-        out.seek(0)
-        err.seek(0)
-        seconds = used.ru_utime + used.ru_stime
-        is_over = child.returncode < 0 and limit is not None and seconds > 0.99 * limit
-        return Run(child.returncode, seconds, out.read(), err.read(), used.ru_maxrss, is_over)
+    ended = Call(words, processor_time=limit, memory=MEMORY).result()
+    status = 128 - ended.status if ended.status > 128 else ended.status
+    is_over = status < 0 and limit is not None and ended.processor_seconds > 0.99 * limit
+    return Run(status, ended.processor_seconds, ended.output, ended.errors, ended.memory, is_over)
 
 
 def answer(ended):

@@ -115,7 +115,8 @@ def loaded(path):
 
 def scripts():
     """All scripts in Python but tools/explain, whose words are those of the program."""
-    return [*sorted((TOP / "bench").glob("*.py")), *sorted((TOP / "tools").glob("*.py")), TOP / "tools" / "fuzz", TOP / "tools" / "tests" / "run"]
+    named = [TOP / "tools" / name for name in ("fuzz", "many", "portfolio", "tests/run")]
+    return [*sorted((TOP / "bench").glob("*.py")), *sorted((TOP / "tools").glob("*.py")), *named]
 
 
 def helps():
