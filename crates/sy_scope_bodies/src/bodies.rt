@@ -43,6 +43,7 @@ fn read_phrase<T: Theory>(
         arguments,
         nonterminals: &[],
         constants: &[],
+        divisors: &[],
     };
     let phrase = read_whole(alloc, &env, &around.measures, sort, item)?;
     Ok(phrase)
@@ -78,7 +79,8 @@ pub fn read_body_in<T: Theory>(
     let phrase = read_phrase(alloc, logic, around, arguments, sort, item)?;
     let term = term_of(alloc, arguments.len(), &phrase);
     drop(phrase);
-    term
+    let term = term?;
+    Ok(term)
 }
 
 /// The body of a function of a problem with these definitions and names, as `read_body_in` reads it. A refusal has command
