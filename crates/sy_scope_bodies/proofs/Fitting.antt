@@ -84,13 +84,16 @@ entries_have P entries [] all more = all
 entries_have P entries (x ∷ later) all more =
     entries_have P (with_entry entries x) later (kept_by P (is_some (entry_under x.0 entries)) entries x all (All-head P x later more)) (All-tail P x later more)
 
+from_zero : (i : ℕ) → 0 + i ≡ i
+from_zero i = omega arith
+
 -- all names around a body stand for what is there
 names_declared : (titles : Titles) (signatures : List Signature) → All (Declared signatures (opaque_signatures titles.wanted)) (entities_in titles signatures)
 names_declared titles signatures =
     let P = Declared signatures (opaque_signatures titles.wanted) in
     entries_have P (with_entries [] (defined_from 0 titles.defined signatures)) (wanted_from 0 titles.wanted)
-    (entries_have P [] (defined_from 0 titles.defined signatures) (All-nil P) (defined_declared signatures (opaque_signatures titles.wanted) 0 titles.defined signatures (λ i. refl)))
-    (wanted_declared signatures (opaque_signatures titles.wanted) 0 titles.wanted (λ i. refl))
+    (entries_have P [] (defined_from 0 titles.defined signatures) (All-nil P) (defined_declared signatures (opaque_signatures titles.wanted) 0 titles.defined signatures (λ i. ap (slice_get signatures) (from_zero i))))
+    (wanted_declared signatures (opaque_signatures titles.wanted) 0 titles.wanted (λ i. ap (slice_get (opaque_signatures titles.wanted)) (from_zero i)))
 
 -- a body is read rightly
 body_right : (logic : Logic) (owned : Op → Bool) (numeric : Sort → Bool) → IsTheoryOf logic owned numeric → (titles : Titles) (signatures : List Signature) (definitions : List Expr) (arguments : List Named) →

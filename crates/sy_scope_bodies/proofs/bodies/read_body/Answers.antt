@@ -1,9 +1,7 @@
 use Rattle.std.proofs.Common.{◌∙◌, ap, sym, map}
 use Rattle.sy_text_items.specs.Views.{item_of}
 use Rattle.sy_terms.specs.Definitions.{signature, bodies}
-use Rattle.sy_forms_items.specs.Readings.{ReadingFails}
 use Rattle.sy_scope_bodies.specs.Bodies.{body_in, body_read}
-use Rattle.sy_scope_bodies.specs.Around.{surroundings}
 use Rattle.sy_scope_bodies.proofs.Fitting.{ended_body}
 use Rattle.sy_scope_bodies.proofs.bodies.read_body.Goals as goal
 
@@ -15,7 +13,7 @@ pub returns-in-Ok-clause-fits : goal.returns-in-Ok-clause-fits
 returns-in-Ok-clause-fits g c =
     c.in-Ok.ensures.fits c.args.titles.now (map signature c.args.defs.now) (bodies g.T.Theory.denotes c.args.defs.now) c.in_ok-around.ensures
 
-pub returns-in-Err-clause-read : goal.returns-in-Err-clause-read
-returns-in-Err-clause-read g c =
+pub returns-clause-read : goal.returns-clause-read
+returns-clause-read g c =
     let fails = rw c.in_ok-around.ensures at c.in-Err.ensures.read in
     rw c.ended.ensures (ended_body c.in-Err.end (body_read c.args.logic c.args.titles.now (map signature c.args.defs.now) (bodies g.T.Theory.denotes c.args.defs.now) c.args.arguments.now c.args.sort (item_of c.args.item.now)) fails)
