@@ -51,7 +51,7 @@ own_from : (most command : ℕ) (file : List ℕ) (at : ℕ) (context last : Con
 unfolding file_from front_from
 own_from zero command file at context last e = refl
 own_from (suc most) command file at context last e =
-    own_by most command file context last (command_at (length file) (drop at file)) e (λ after later f. own_from most (command + 1) file after later f)
+    own_by most command file context last (command_at (length file) (drop at file)) e (λ after later f. own_from most (command + 1) file after later last f)
 
 own_read : (file : List ℕ) (read : FileOutcome) → file_read file ≡ read → IfOk read (λ (context : Context). front file ≡ file)
 own_read file (Ok context) e = ap (λ n. take n file) (own_from (length file + 1) 1 file 0 beginning context e) ∙ take_all (length file) file (omega arith)
