@@ -1,14 +1,13 @@
 -- A file that is read is its own front: no item that steps begins a reply part.
-use Rattle.std.proofs.Common.{ℕ, zero, suc, ◌+◌, ◌≡◌, ◌∙◌, refl, sym, ap, arith, Bool, true, false, List, length, take, drop, Option, Some, None, Result, Ok, Err}
+use Rattle.std.proofs.Common.{ℕ, zero, suc, ◌+◌, ◌≡◌, ◌∙◌, refl, ap, arith, Bool, false, List, length, take, drop, Option, Some, None, Result, Ok, Err}
 use Rattle.std.specs.Prelude.{IfOk, if◌then◌else◌}
 use Rattle.std.proofs.lemmas.List.{take_all}
 use Rattle.sy_text_items.specs.Items.{Item, leaf, group, none, more, Items}
 use Rattle.sy_text_items.specs.declared.fault.TextFault.{TextFault}
-use Rattle.sy_text_items.specs.declared.atom.Place.{Place}
 use Rattle.sy_text_reader.specs.Reading.{command_at}
 use Rattle.sy_forms_items.specs.Parts.{place_of, symbol}
 use Rattle.sy_forms_items.specs.Readings.{Reading}
-use Rattle.sy_scope_front.specs.Fronts.{begins_replies, read_well, front_by, front_from, front_length, front}
+use Rattle.sy_scope_front.specs.Fronts.{begins_replies, read_well, front_by, front_from, front}
 use Rattle.sy_scope_names.specs.Contexts.{Context, beginning}
 use Rattle.sy_scope_names.specs.Changes.{PlacedRequest, asked_named}
 use Rattle.sy_scope_names.proofs.Earlier.{bind_ok}
