@@ -1,5 +1,5 @@
-// The lowering of a query: the word is the number of divisions. The query says that the sum of the quotients of one variable
-// by 2, 3 and so on is 0. It prints the number of variables of the lowering.
+// The lowering of a query: the word is the number of divisions. The query says that the sum of the quotients of one
+// variable by 2, 3 and so on is 0. It prints the number of variables of the lowering.
 use crate::words::{WANT, number};
 use std::alloc::Global;
 use sy_lower::lower;

@@ -1,5 +1,5 @@
-// Measurements of parts of the solver: evaluation, grammars, banks, scans, joins, lowerings, forms, trees and clauses. The first word
-// says which, the others are its own; further measurements may follow, each after the word `then`.
+// Measurements of parts of the solver: evaluation, grammars, banks, scans, joins, lowerings, forms, trees and clauses.
+// The first word says which, the others are its own; further measurements may follow, each after the word `then`.
 #![tactic(auto)]
 
 mod bank;

@@ -26,8 +26,8 @@ use sy_scope_commands::{Listed, list_in};
 use sy_terms::{Bodies, Logic, Term, Theory};
 use sy_text_items::{Place, Sexp, Sexps};
 
-/// What the reply to a `check-synth` is read under: its number, counted from 1, the logic, the names of the functions, its
-/// problem, and what names stand for around the bodies.
+/// What the reply to a `check-synth` is read under: its number, counted from 1, the logic, the names of the functions,
+/// its problem, and what names stand for around the bodies.
 #[derive(Drop)]
 pub(crate) struct Asked<'a, T: Theory> {
     pub(crate) check: u32,
@@ -67,7 +67,9 @@ fn part_body<T: Theory>(
 ) -> Result<Term<T>, ReplyEnd>
     requires theory { IsTheoryOf asked.now.logic T.owned T.numeric }
     requires around { IsSurrounded T.denotes asked.now }
-    ensures { ReadsReplies (expr_of T.denotes) result (spec.part_body asked.now.check asked.now.logic asked.now.titles.now (question_in T.denotes asked.now) (signature_in function.now) (part_in part.now)) }
+    ensures { ReadsReplies (expr_of T.denotes) result
+        (spec.part_body asked.now.check asked.now.logic asked.now.titles.now (question_in T.denotes asked.now)
+        (signature_in function.now) (part_in part.now)) }
 {
     let Some(arguments) = arguments_of(alloc, asked.logic, function, part)? else {
         return Err(refused(asked.check, part.place, ReplyCause::Signature));
@@ -94,7 +96,9 @@ fn part_read<T: Theory>(
 ) -> Result<(), ReplyEnd>
     requires theory { IsTheoryOf asked.now.logic T.owned T.numeric }
     requires around { IsSurrounded T.denotes asked.now }
-    ensures { ReadsReplies (λ _. slots_of T.denotes slots.new.items) result (spec.part_read asked.now.check asked.now.logic asked.now.titles.now (question_in T.denotes asked.now) (slots_of T.denotes slots.old.items) (item_of item.now)) }
+    ensures { ReadsReplies (λ _. slots_of T.denotes slots.new.items) result
+        (spec.part_read asked.now.check asked.now.logic asked.now.titles.now (question_in T.denotes asked.now)
+        (slots_of T.denotes slots.old.items) (item_of item.now)) }
 {
     let Some(part) = part_of(item) else {
         return Err(refused(asked.check, place_of(item), ReplyCause::Shape));
@@ -122,7 +126,9 @@ fn parts_read<T: Theory>(
 ) -> Result<(), ReplyEnd>
     requires theory { IsTheoryOf asked.now.logic T.owned T.numeric }
     requires around { IsSurrounded T.denotes asked.now }
-    ensures { ReadsReplies (λ _. slots_of T.denotes slots.new.items) result (spec.parts_read asked.now.check asked.now.logic asked.now.titles.now (question_in T.denotes asked.now) (slots_of T.denotes slots.old.items) items.now) }
+    ensures { ReadsReplies (λ _. slots_of T.denotes slots.new.items) result
+        (spec.parts_read asked.now.check asked.now.logic asked.now.titles.now (question_in T.denotes asked.now)
+        (slots_of T.denotes slots.old.items) items.now) }
 {
     let mut left = Rest::all(items);
     while let Some((item, rest)) = left.split() {
@@ -140,7 +146,9 @@ fn bodies_read<T: Theory>(
 ) -> Result<Bodies<T>, ReplyEnd>
     requires theory { IsTheoryOf asked.now.logic T.owned T.numeric }
     requires around { IsSurrounded T.denotes asked.now }
-    ensures { ReadsReplies (map (expr_of T.denotes)) result (spec.bodies_read asked.now.check asked.now.logic asked.now.titles.now (question_in T.denotes asked.now) (listed_of list.entry)) }
+    ensures { ReadsReplies (map (expr_of T.denotes)) result
+        (spec.bodies_read asked.now.check asked.now.logic asked.now.titles.now (question_in T.denotes asked.now)
+        (listed_of list.entry)) }
 {
     let mut slots = no_bodies(alloc, asked.problem.wanted.as_slice())?;
     parts_read(alloc, asked, &mut slots, list.items)?;
@@ -150,12 +158,12 @@ fn bodies_read<T: Theory>(
     }
 }
 
-/// The bodies of the functions, in order of declaration; `None` where the item is `fail` or `infeasible`. Else the first
-/// condition that doesn't hold is told with its place. `Shape` comes at the item where it isn't a list. For each part in
-/// turn: `Shape` at it where it isn't `(define-fun name ((x s) ..) s t)`; `Name` at a name that is none of the functions'
-/// or was defined before; `Signature` at the part where its arguments and its sort aren't the function's or the name of
-/// an argument is reserved or repeated; `Term` at the place of the body's fault. Then `Name` comes at the item where a
-/// function has no body. Out of memory is `Want`.
+/// The bodies of the functions, in order of declaration; `None` where the item is `fail` or `infeasible`. Else the
+/// first condition that doesn't hold is told with its place. `Shape` comes at the item where it isn't a list. For each
+/// part in turn: `Shape` at it where it isn't `(define-fun name ((x s) ..) s t)`; `Name` at a name that is none of the
+/// functions' or was defined before; `Signature` at the part where its arguments and its sort aren't the function's or
+/// the name of an argument is reserved or repeated; `Term` at the place of the body's fault. Then `Name` comes at the
+/// item where a function has no body. Out of memory is `Want`.
 pub(crate) fn definitions_read<T: Theory>(
     alloc: Global,
     asked: &Asked<'_, T>,
@@ -163,7 +171,9 @@ pub(crate) fn definitions_read<T: Theory>(
 ) -> Result<Option<Bodies<T>>, ReplyEnd>
     requires theory { IsTheoryOf asked.now.logic T.owned T.numeric }
     requires around { IsSurrounded T.denotes asked.now }
-    ensures { ReadsReplies (option_map (map (expr_of T.denotes))) result (spec.definitions_read asked.now.check asked.now.logic asked.now.titles.now (question_in T.denotes asked.now) (item_of item.now)) }
+    ensures { ReadsReplies (option_map (map (expr_of T.denotes))) result
+        (spec.definitions_read asked.now.check asked.now.logic asked.now.titles.now (question_in T.denotes asked.now)
+        (item_of item.now)) }
 {
     if is_symbol(item, b"fail") || is_symbol(item, b"infeasible") {
         return Ok(None);

@@ -23,8 +23,8 @@ use sy_terms::{Bodies, Logic, Seq, Theory};
 use sy_text_items::{Place, Sexp, TextFault};
 use sy_text_reader::{TextEnd, next_command};
 
-/// A file with replies: its bytes, its logic, the names of its functions, and whether each list of definitions has a proof
-/// behind it.
+/// A file with replies: its bytes, its logic, the names of its functions, and whether each list of definitions has a
+/// proof behind it.
 #[derive(Clone, Copy)]
 struct Source<'a> {
     bytes: &'a [u8],
@@ -114,7 +114,8 @@ fn proof_read(
     at: usize,
 ) -> Result<(Sexp, usize), ReplyEnd>
     requires { at ≤ length source.bytes.now }
-    ensures read { ReadsReplies (λ x. (item_of x.0, x.1)) result (spec.proof_read check source.entry.logic source.entry.bytes.now at) }
+    ensures read { ReadsReplies (λ x. (item_of x.0, x.1)) result
+        (spec.proof_read check source.entry.logic source.entry.bytes.now at) }
     ensures within { IfOk result (λ x. x.1 ≤ length source.entry.bytes.now) }
 {
     let (item, behind) = item_read(alloc, source.bytes, check, ReplyCause::ProofShape, at)?;
@@ -135,7 +136,9 @@ fn stated_by<T: Theory>(
     at: usize,
 ) -> Result<(Stated<T>, usize), ReplyEnd>
     requires { at ≤ length source.bytes.now }
-    ensures read { ReadsReplies (λ x. (statement_of T.denotes x.0, x.1)) result (spec.stated_by source.entry.proofs check source.entry.logic source.entry.bytes.now at (option_map (map (expr_of T.denotes)) bodies)) }
+    ensures read { ReadsReplies (λ x. (statement_of T.denotes x.0, x.1)) result
+        (spec.stated_by source.entry.proofs check source.entry.logic source.entry.bytes.now at
+        (option_map (map (expr_of T.denotes)) bodies)) }
     ensures within { IfOk result (λ x. x.1 ≤ length source.entry.bytes.now) }
 {
     let Some(bodies) = bodies else {
@@ -157,7 +160,9 @@ fn definitions_of<T: Theory>(
     item: &Sexp,
 ) -> Result<Option<Bodies<T>>, ReplyEnd>
     requires { IsTheoryOf source.logic T.owned T.numeric }
-    ensures { ReadsReplies (option_map (map (expr_of T.denotes))) result (definitions.definitions_read check source.entry.logic source.entry.titles.now (question_of T.denotes problem.now) (item_of item.now)) }
+    ensures { ReadsReplies (option_map (map (expr_of T.denotes))) result
+        (definitions.definitions_read check source.entry.logic source.entry.titles.now
+        (question_of T.denotes problem.now) (item_of item.now)) }
 {
     let around = Surroundings::of(alloc, source.titles, &problem.defs)?;
     let asked = Asked {
@@ -182,7 +187,9 @@ fn statement_read<T: Theory>(
 ) -> Result<(Stated<T>, usize), ReplyEnd>
     requires theory { IsTheoryOf source.logic T.owned T.numeric }
     requires at { at ≤ length source.bytes.now }
-    ensures read { ReadsReplies (λ x. (statement_of T.denotes x.0, x.1)) result (spec.statement_read source.entry.proofs source.entry.logic source.entry.titles.now source.entry.bytes.now check (question_of T.denotes problem.now) at) }
+    ensures read { ReadsReplies (λ x. (statement_of T.denotes x.0, x.1)) result
+        (spec.statement_read source.entry.proofs source.entry.logic source.entry.titles.now source.entry.bytes.now check
+        (question_of T.denotes problem.now) at) }
     ensures within { IfOk result (λ x. x.1 ≤ length source.entry.bytes.now) }
 {
     let (item, behind) = item_read(alloc, source.bytes, check, ReplyCause::Count, at)?;
@@ -207,12 +214,12 @@ fn nothing_left(alloc: Global, bytes: &[u8], check: u32, at: usize) -> Result<()
 }
 
 /// The statements of the replies from an offset on: one for each problem, in order. A reply is the symbol `fail` or
-/// `infeasible`, or a list with a definition of each function to be found, in any order; with proofs, a list of definitions
-/// has a proof behind it, which is a list that begins with `tree` in LIA and with `log` in BV. The first condition that
-/// doesn't hold is told with its place, and with the number of the `check-synth` whose reply it is, counted from 1: `Text`,
-/// a fault of the text; `Count` at the end where a reply is missing, and at an item behind the last one; `Shape`, `Name`,
-/// `Signature` and `Term` in a reply; `ProofShape` at the end where a proof is missing, and at an item that is none. Out of
-/// memory is `Want`.
+/// `infeasible`, or a list with a definition of each function to be found, in any order; with proofs, a list of
+/// definitions has a proof behind it, which is a list that begins with `tree` in LIA and with `log` in BV. The first
+/// condition that doesn't hold is told with its place, and with the number of the `check-synth` whose reply it is,
+/// counted from 1: `Text`, a fault of the text; `Count` at the end where a reply is missing, and at an item behind the
+/// last one; `Shape`, `Name`, `Signature` and `Term` in a reply; `ProofShape` at the end where a proof is missing, and
+/// at an item that is none. Out of memory is `Want`.
 pub fn read_reply<T: Theory>(
     alloc: Global,
     bytes: &[u8],
@@ -225,7 +232,8 @@ pub fn read_reply<T: Theory>(
     requires at { at ≤ length bytes.now }
     requires theory { IsTheoryOf logic T.owned T.numeric }
     requires few { length problems.now ≤ 16 }
-    ensures read { ReadsReplies (map (statement_of T.denotes)) result (spec.statements_from proofs logic titles.now bytes.now 1 (map (question_of T.denotes) problems.now) at) }
+    ensures read { ReadsReplies (map (statement_of T.denotes)) result
+        (spec.statements_from proofs logic titles.now bytes.now 1 (map (question_of T.denotes) problems.now) at) }
     // One statement for each problem, with bodies that fit it.
     ensures fit { IfOk result (AreStatedFor T.Theory problems.now) }
 {

@@ -57,8 +57,8 @@ fn with_sorts(alloc: Global, takes: &[Sort], named: Seq<Named>) -> Result<Option
     }
 }
 
-/// The arguments of a part; `None` exactly where they and its sort don't have the function's sorts, in their order, or the
-/// name of an argument is reserved or repeated.
+/// The arguments of a part; `None` exactly where they and its sort don't have the function's sorts, in their order, or
+/// the name of an argument is reserved or repeated.
 pub(crate) fn arguments_of(
     alloc: Global,
     logic: Logic,

@@ -27,7 +27,8 @@ pub(crate) fn no_bodies<T: Theory>(
     alloc: Global,
     wanted: &[Wanted<T>],
 ) -> Result<Vec<Option<Term<T>>>, Want>
-    ensures { IfOk result (λ slots. slots_of T.denotes slots.items ≡ spec.no_bodies (map (goal_of T.denotes) wanted.now)) }
+    ensures { IfOk result (λ slots. slots_of T.denotes slots.items ≡ spec.no_bodies
+        (map (goal_of T.denotes) wanted.now)) }
 {
     let mut slots = Vec::new(alloc);
     for _ in wanted {
@@ -55,7 +56,8 @@ pub(crate) fn open_from<'a, T: Theory>(
     slots: &[Option<Term<T>>],
 ) -> Option<Function<'a>>
     requires { number + length slots.now < 2 ^ 64 }
-    ensures found { option_map function_in result ≡ spec.open_from number name.now titles.now (map (goal_of T.denotes) wanted.now) (slots_of T.denotes slots.now) }
+    ensures found { option_map function_in result ≡ spec.open_from number name.now titles.now
+        (map (goal_of T.denotes) wanted.now) (slots_of T.denotes slots.now) }
     ensures within { IfSome result (λ function. function.number < number + length slots.now) }
 {
     let [title, titles @ ..] = titles else {
@@ -82,7 +84,8 @@ pub(crate) fn all_there<T: Theory>(
     alloc: Global,
     slots: Vec<Option<Term<T>>>,
 ) -> Result<Option<Bodies<T>>, Want>
-    ensures { IfOk result (λ found. option_map (map (expr_of T.denotes)) found ≡ spec.all_there (slots_of T.denotes slots.items)) }
+    ensures { IfOk result (λ found. option_map (map (expr_of T.denotes)) found ≡ spec.all_there
+        (slots_of T.denotes slots.items)) }
 {
     let mut rest = slots.into_iter();
     let mut bodies = Seq::new(alloc);

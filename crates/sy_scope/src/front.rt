@@ -13,9 +13,9 @@ use std::alloc::Global;
 use sy_scope_ends::ScopeEnd;
 use sy_scope_front::reply_start;
 
-/// Reads the front of a file of at most 4,194,304 bytes as `read_file` reads a file, and gives the offset of its reply part
-/// too: that of the first item that is an atom, the empty list, or a list whose first part is no symbol; the number of
-/// bytes, where there is none. Out of memory is `Want`.
+/// Reads the front of a file of at most 4,194,304 bytes as `read_file` reads a file, and gives the offset of its reply
+/// part too: that of the first item that is an atom, the empty list, or a list whose first part is no symbol; the
+/// number of bytes, where there is none. Out of memory is `Want`.
 pub fn read_front(alloc: Global, bytes: &[u8]) -> Result<(Job, usize), ScopeEnd>
     requires { length bytes.now ≤ 4194304 }
     ensures start { IfOk result (λ x. x.1 ≡ front_length bytes.now) }

@@ -34,7 +34,8 @@ fn read_phrase<T: Theory>(
     item: &Sexp,
 ) -> Result<Phrase<T>, ReadEnd>
     requires { Serves T.numeric logic }
-    ensures { ReadingGives (phrase_of T.denotes) result (read_in (context_around around.now) logic role.Body arguments.now sort (item_of item.now)) }
+    ensures { ReadingGives (phrase_of T.denotes) result
+        (read_in (context_around around.now) logic role.Body arguments.now sort (item_of item.now)) }
 {
     let env = Environment {
         logic,
@@ -60,10 +61,10 @@ fn term_of<T: Theory>(alloc: Global, count: usize, phrase: &Phrase<T>) -> Result
     Ok(term)
 }
 
-/// The body of a function that the item is: a term of the sort over these arguments and the definitions around it, read as
-/// the body of a `define-fun` is. The first condition that doesn't hold is told with its place: those of the term, with each
-/// node before its parts, where a function to be found is `FunctionNotHere`; then at the item `SortMismatch`, and `TooMany`
-/// where the unfolded size is above 1,000,000 or the unfolded depth above 1,200. Out of memory is `Want`.
+/// The body of a function that the item is: a term of the sort over these arguments and the definitions around it, read
+/// as the body of a `define-fun` is. The first condition that doesn't hold is told with its place: those of the term,
+/// with each node before its parts, where a function to be found is `FunctionNotHere`; then at the item `SortMismatch`,
+/// and `TooMany` where the unfolded size is above 1,000,000 or the unfolded depth above 1,200. Out of memory is `Want`.
 pub fn read_body_in<T: Theory>(
     alloc: Global,
     logic: Logic,
@@ -73,8 +74,10 @@ pub fn read_body_in<T: Theory>(
     item: &Sexp,
 ) -> Result<Term<T>, ReadEnd>
     requires { IsTheoryOf logic T.owned T.numeric }
-    ensures read { ReadingGives (expr_of T.denotes) result (spec.body_in (context_around around.now) logic arguments.now sort (item_of item.now)) }
-    ensures fits { IfOk result (λ term. FitsUnder T.owned (context_around around.now) arguments.now sort (expr_of T.denotes term)) }
+    ensures read { ReadingGives (expr_of T.denotes) result
+        (spec.body_in (context_around around.now) logic arguments.now sort (item_of item.now)) }
+    ensures fits { IfOk result (λ term. FitsUnder T.owned (context_around around.now) arguments.now sort
+        (expr_of T.denotes term)) }
 {
     let phrase = read_phrase(alloc, logic, around, arguments, sort, item)?;
     let term = term_of(alloc, arguments.len(), &phrase);
@@ -83,8 +86,8 @@ pub fn read_body_in<T: Theory>(
     Ok(term)
 }
 
-/// The body of a function of a problem with these definitions and names, as `read_body_in` reads it. A refusal has command
-/// number 0. Out of memory is `Want`.
+/// The body of a function of a problem with these definitions and names, as `read_body_in` reads it. A refusal has
+/// command number 0. Out of memory is `Want`.
 pub fn read_body<T: Theory>(
     alloc: Global,
     logic: Logic,
@@ -95,8 +98,11 @@ pub fn read_body<T: Theory>(
     item: &Sexp,
 ) -> Result<Term<T>, ScopeEnd>
     requires { IsTheoryOf logic T.owned T.numeric }
-    ensures read { GivesBody (expr_of T.denotes) result (spec.body_read logic titles.now (map signature defs.now) (bodies T.denotes defs.now) arguments.now sort (item_of item.now)) }
-    ensures fits { IfOk result (λ term. BodyFits T.owned (map signature defs.now) arguments.now sort (expr_of T.denotes term)) }
+    ensures read { GivesBody (expr_of T.denotes) result
+        (spec.body_read logic titles.now (map signature defs.now) (bodies T.denotes defs.now) arguments.now sort
+        (item_of item.now)) }
+    ensures fits { IfOk result (λ term. BodyFits T.owned (map signature defs.now) arguments.now sort
+        (expr_of T.denotes term)) }
 {
     let around = Surroundings::of(alloc, titles, defs)?;
     match read_body_in(alloc, logic, &around, arguments, sort, item) {

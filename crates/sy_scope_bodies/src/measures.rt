@@ -64,8 +64,8 @@ fn unfolded_sizes<T: Theory>(terms: &[Term<T>], sizes: &[u64], cap: u64) -> u64
     total
 }
 
-/// The number of nodes on the longest way down, through the bodies of called definitions too, at most `cap`. `depths` are
-/// those of the definitions' bodies.
+/// The number of nodes on the longest way down, through the bodies of called definitions too, at most `cap`. `depths`
+/// are those of the definitions' bodies.
 #[cycle(depth)]
 fn unfolded_depth<T: Theory>(term: &Term<T>, depths: &[u64], cap: u64) -> u64
     ensures { result ≡ min cap (spec.expr_depth depths.now (expr_of T.denotes term.now)) }
@@ -100,7 +100,8 @@ fn unfolded_depths<T: Theory>(terms: &[Term<T>], depths: &[u64], cap: u64) -> u6
 
 /// Adds the measures of a definition's body.
 fn measure<T: Theory>(measures: &mut Measures, body: &Term<T>) -> Result<(), Want>
-    ensures { OnOk result (measures_of measures.new ≡ spec.measured_with (measures_of measures.old) (expr_of T.denotes body.now)) }
+    ensures { OnOk result (measures_of measures.new ≡ spec.measured_with (measures_of measures.old)
+        (expr_of T.denotes body.now)) }
 {
     let size = unfolded_size(body, measures.sizes.as_slice(), SIZE_CAP);
     let depth = unfolded_depth(body, measures.depths.as_slice(), DEPTH_CAP);

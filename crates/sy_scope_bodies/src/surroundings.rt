@@ -12,8 +12,8 @@ use sy_scope_causes::{Title, Titles};
 use sy_terms::{Def, Defs, Fun, Seq, Sort, Theory, Want};
 use sy_text_items::Name;
 
-/// What names stand for around the bodies of a problem's functions, and the measures of its definitions. It is made once
-/// for each problem.
+/// What names stand for around the bodies of a problem's functions, and the measures of its definitions. It is made
+/// once for each problem.
 #[derive(Drop)]
 pub struct Surroundings {
     pub(crate) names: Names,
@@ -69,7 +69,9 @@ fn add_definitions<T: Theory>(
     defined: &[Name],
     defs: &[Def<T>],
 ) -> Result<(), Want>
-    ensures entities { OnOk result (names.new.entities ≡ spec.with_entries names.old.entities (spec.defined_from 0 defined.now (map signature defs.now))) }
+    ensures entities { OnOk result
+        (names.new.entities ≡ spec.with_entries names.old.entities
+        (spec.defined_from 0 defined.now (map signature defs.now))) }
     ensures sorts { names.new.sorts ≡ names.old.sorts }
 {
     for (number, def) in defs.iter().enumerate() {
@@ -84,7 +86,8 @@ fn add_definitions<T: Theory>(
 
 /// Lets the titles' names stand for the functions to be found.
 fn add_sought(alloc: Global, names: &mut Names, wanted: &[Title]) -> Result<(), Want>
-    ensures entities { OnOk result (names.new.entities ≡ spec.with_entries names.old.entities (spec.wanted_from 0 wanted.now)) }
+    ensures entities { OnOk result
+        (names.new.entities ≡ spec.with_entries names.old.entities (spec.wanted_from 0 wanted.now)) }
     ensures sorts { names.new.sorts ≡ names.old.sorts }
 {
     for (number, title) in wanted.iter().enumerate() {
@@ -106,15 +109,16 @@ fn names_around<T: Theory>(alloc: Global, titles: &Titles, defs: &[Def<T>]) -> R
 }
 
 impl Surroundings {
-    /// The surroundings of the bodies of a problem with these definitions: the first of the definitions' names stand for
-    /// them, and the titles for the functions to be found; where a name comes again, it stands for the first. Out of memory
-    /// is `Want`.
+    /// The surroundings of the bodies of a problem with these definitions: the first of the definitions' names stand
+    /// for them, and the titles for the functions to be found; where a name comes again, it stands for the first. Out
+    /// of memory is `Want`.
     pub fn of<T: Theory>(
         alloc: Global,
         titles: &Titles,
         defs: &Defs<T>,
     ) -> Result<Surroundings, Want>
-        ensures { IfOk result (λ around. context_around around ≡ spec.surroundings titles.now (map signature defs.now) (bodies T.denotes defs.now)) }
+        ensures { IfOk result (λ around. context_around around ≡ spec.surroundings titles.now (map signature defs.now)
+            (bodies T.denotes defs.now)) }
     {
         let names = names_around(alloc, titles, defs.as_slice())?;
         let measures = measures_in(alloc, defs.as_slice())?;

@@ -12,8 +12,8 @@ use sy_seq::Want;
 use sy_text_items::Sexp;
 use sy_text_reader::{TextEnd, next_command};
 
-/// Whether a reply part begins with the item: an atom, the empty list, or a list whose first part is no symbol. No command
-/// has this form.
+/// Whether a reply part begins with the item: an atom, the empty list, or a list whose first part is no symbol. No
+/// command has this form.
 fn begins_replies(item: &Sexp) -> bool
     ensures { result ≡ spec.begins_replies (item_of item.now) }
 {
@@ -26,7 +26,8 @@ fn begins_replies(item: &Sexp) -> bool
     }
 }
 
-/// The next item from an offset on, and the offset behind it; `None` where there is none, and where the text has a fault.
+/// The next item from an offset on, and the offset behind it; `None` where there is none, and where the text has a
+/// fault.
 fn next_item(alloc: Global, bytes: &[u8], at: usize) -> Result<Option<(Sexp, usize)>, Want>
     requires { at ≤ length bytes.now }
     ensures exact { IfOk result (λ found. command_of found ≡ spec.item_at bytes.now at) }
@@ -40,9 +41,9 @@ fn next_item(alloc: Global, bytes: &[u8], at: usize) -> Result<Option<(Sexp, usi
     }
 }
 
-/// The offset at which the reply part of a file begins: that of the first item that is an atom, the empty list, or a list
-/// whose first part is no symbol. Where there is none, and where the text has a fault before it, it is the number of bytes.
-/// Out of memory is `Want`.
+/// The offset at which the reply part of a file begins: that of the first item that is an atom, the empty list, or a
+/// list whose first part is no symbol. Where there is none, and where the text has a fault before it, it is the number
+/// of bytes. Out of memory is `Want`.
 pub fn reply_start(alloc: Global, bytes: &[u8]) -> Result<usize, Want>
     ensures start { IfOk result (λ start. start ≡ spec.front_length bytes.now) }
     ensures within { IfOk result (λ start. start ≤ length bytes.now) }

@@ -57,10 +57,11 @@ pub fn is_right(rt: &impl Abort, alloc: Global, row: &str) -> bool {
     is_right
 }
 
-/// The variables' sorts, the body, how many inner nodes and steps at a leaf may be, and the answer: `unfit` for what isn't a
-/// query; the numbers of a model, or `some`, by assignments that are tried before any search; `never`, by a tree of the lowered
-/// query that the checker accepts, where coefficients are sums; and `range` for what isn't linear. Then the same of divisions,
-/// remainders and absolute values: a model that only a search finds has no values of the variables that were made.
+/// The variables' sorts, the body, how many inner nodes and steps at a leaf may be, and the answer: `unfit` for what
+/// isn't a query; the numbers of a model, or `some`, by assignments that are tried before any search; `never`, by a
+/// tree of the lowered query that the checker accepts, where coefficients are sums; and `range` for what isn't linear.
+/// Then the same of divisions, remainders and absolute values: a model that only a search finds has no values of the
+/// variables that were made.
 pub const ROWS: &str = "\
 i|A|9|9|unfit
 b|=+A11|9|9|unfit

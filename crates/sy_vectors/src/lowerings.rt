@@ -35,9 +35,9 @@ pub fn is_right(rt: &impl Abort, alloc: Global, row: &str) -> bool {
     are_integers(&lowered.vars, field(row, 2)) & is_told
 }
 
-/// The variables, the body, the variables of the lowering, and its body: a remainder; a quotient and a remainder of one division;
-/// a negative divisor; two divisors of one dividend; quotients of quotients; absolute values of a variable and of a sum; a bound
-/// sum, and a bound constant; and divisions that stay, by 0 and by a variable.
+/// The variables, the body, the variables of the lowering, and its body: a remainder; a quotient and a remainder of one
+/// division; a negative divisor; two divisors of one dividend; quotients of quotients; absolute values of a variable
+/// and of a sum; a bound sum, and a bound constant; and divisions that stay, by 0 and by a variable.
 pub const ROWS: &str = "\
 i|=/2 mod/2 a 3 5|iii|and/4 =/2 a +/2 */2 3 b c <=/2 0 c <=/2 c 2 =/2 c 5
 i|=/2 +/2 */2 4 div/2 a 4 mod/2 a 4 a|iii|and/4 =/2 a +/2 */2 4 b c <=/2 0 c <=/2 c 3 =/2 +/2 */2 4 b c a
