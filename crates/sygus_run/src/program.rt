@@ -4,18 +4,18 @@ ghost use Rattle.std.specs.Io.KnownBytes.{Appends};
 ghost use Rattle.sy_io.specs.Causes.{Rose};
 ghost use Rattle.sygus_replies.specs.Replies.{IsSettled, IsFail};
 ghost use Rattle.sygus_replies.specs.Texts.{answer_lines, words_line, read_line, memory_line};
-ghost use Rattle.sygus_run.specs.Answers.{replies_of, AreNamedFor};
+ghost use Rattle.sygus_answers.specs.Answers.{replies_of, AreNamedFor};
 ghost use Rattle.sygus_input.specs.Inputs.{AskDrill, AskNoDrill, HaveNoReading};
 ghost use Rattle.sygus_run.specs.Runs.{Answered, FileIsRefused, IsCutOff, WantsMemory, fault_status, fault_line};
-ghost use Rattle.sygus_run.specs.Drills.{EndsDrill};
+ghost use Rattle.sygus_drills.specs.Drills.{EndsDrill};
 ghost use Rattle.sy_query_limits.specs.declared.Limits.{Limits};
 
-use crate::answers::{Answers, Ended, unanswered};
-use crate::drills::drill;
-use crate::file::answer_file;
 use std::alloc::Global;
 use sy_io::{Sink, Source};
+use sygus_answers::{Answers, Ended, unanswered};
+use sygus_drills::drill;
 use sygus_input::{Input, InputFault, read_input};
+use sygus_solve::answer_file;
 
 /// Reads the words, then the input, checks the whole file, and answers its problems in order.
 /// Each reply goes out before the next problem is sought. In mode `drill` the file is made from a number, and one line
