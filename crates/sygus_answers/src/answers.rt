@@ -35,7 +35,8 @@ pub struct Ended {
 /// The end after the last line of a run that answers nothing.
 pub fn unanswered<E: Sink>(err: &mut E, line: &[u8], status: u8) -> Ended
     ensures answers { result.answers ≡ Answers.Idle }
-    ensures written { result.status ≢ 5 → (result.status ≡ status) × Appends (E.written err.old) (E.written err.new) line.now }
+    ensures written { result.status ≢ 5 → (result.status ≡ status) × Appends (E.written err.old) (E.written err.new)
+        line.now }
     ensures fault { result.status ≡ 5 → status ≢ 5 → Rose (E.faults err.old) (E.faults err.new) }
 {
     Ended {

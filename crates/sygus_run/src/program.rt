@@ -35,7 +35,8 @@ pub fn run<S: Source, O: Sink, E: Sink>(
     // mode drill: the problem of the number's file has its right answer, one line tells it, and the source isn't used
     ensures drill { (number : ℕ) (limits : Limits) → AskDrill (map string_bytes words.now) number limits →
         EndsDrill number limits result.status result.answers (O.written out.old) (O.written out.new) (E.written err.old) (E.written err.new) }
-    ensures unread { (number : ℕ) (limits : Limits) → AskDrill (map string_bytes words.now) number limits → source.new ≡ source.old }
+    ensures unread { (number : ℕ) (limits : Limits) → AskDrill (map string_bytes words.now) number limits → source.new ≡
+        source.old }
 
     // 0 and 1 in the other modes: every problem of the file has its right answer
     ensures answered { AskNoDrill (map string_bytes words.now) → result.status ≤ 1 →
@@ -65,14 +66,17 @@ pub fn run<S: Source, O: Sink, E: Sink>(
     ensures silent { 2 ≤ result.status → result.status ≤ 4 → out.new ≡ out.old }
 
     // 5: a write failed
-    ensures write { result.status ≡ 5 → Rose (O.faults out.old) (O.faults out.new) ⊎ Rose (E.faults err.old) (E.faults err.new) }
-    ensures cut_off { AskNoDrill (map string_bytes words.now) → result.status ≡ 5 → IsCutOff (map string_bytes words.now) (S.held source.old) result.answers
+    ensures write { result.status ≡ 5 → Rose (O.faults out.old) (O.faults out.new) ⊎ Rose (E.faults err.old)
+        (E.faults err.new) }
+    ensures cut_off { AskNoDrill (map string_bytes words.now) → result.status ≡ 5 → IsCutOff
+        (map string_bytes words.now) (S.held source.old) result.answers
         (O.written out.old) (O.written out.new) }
 
     // 6: memory was wanted
     ensures memory { result.status ≡ 6 → WantsMemory (map string_bytes words.now) (S.held source.old) result.answers
         (O.written out.old) (O.written out.new) }
-    ensures memory_line { result.status ≡ 6 → Appends (E.written err.old) (E.written err.new) (answer_lines 1 (replies_of result.answers) ++ memory_line) }
+    ensures memory_line { result.status ≡ 6 → Appends (E.written err.old) (E.written err.new)
+        (answer_lines 1 (replies_of result.answers) ++ memory_line) }
 {
     match read_input(alloc, words, source) {
         Ok(Input::Drill(number, limits)) => drill(alloc, number, &limits, out, err),
@@ -87,7 +91,8 @@ pub fn run<S: Source, O: Sink, E: Sink>(
 fn without_input<E: Sink>(err: &mut E, fault: InputFault) -> Ended
     ensures status { (2 ≤ result.status) × (result.status ≤ 6) }
     ensures answers { result.answers ≡ Answers.Idle }
-    ensures written { result.status ≢ 5 → (result.status ≡ fault_status fault) × Appends (E.written err.old) (E.written err.new) (fault_line fault) }
+    ensures written { result.status ≢ 5 → (result.status ≡ fault_status fault) × Appends (E.written err.old)
+        (E.written err.new) (fault_line fault) }
     ensures write { result.status ≡ 5 → Rose (E.faults err.old) (E.faults err.new) }
 {
     match fault {
