@@ -12,8 +12,8 @@ use sy_grammar_base::Problem;
 use sy_meaning::{Eval, Trace, evaluate_with};
 use sy_terms::{Bodies, Seq, Term, Theory, Value, Values, Want};
 
-/// How many of the constraints are true under the bodies, which are members of the grammars. There are no variables, and
-/// each value of the theory's operators fits the machine's numbers.
+/// How many of the constraints are true under the bodies, which are members of the grammars. There are no variables,
+/// and each value of the theory's operators fits the machine's numbers.
 pub(crate) fn count_met<T: Theory>(
     alloc: Global,
     problem: &Problem<T>,

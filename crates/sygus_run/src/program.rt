@@ -21,8 +21,8 @@ use sygus_solve::answer_file;
 /// Each reply goes out before the next problem is sought. In mode `drill` the file is made from a number, and one line
 /// goes out in place of a reply.
 ///
-/// The status is 0 where no answer is a fail and 1 where some is, 2 where the file is refused, 3 where the words are, 4 where
-/// a read failed, 5 where a write did, and 6 where memory was wanted. At 5 and 6 the answers are those so far.
+/// The status is 0 where no answer is a fail and 1 where some is, 2 where the file is refused, 3 where the words are, 4
+/// where a read failed, 5 where a write did, and 6 where memory was wanted. At 5 and 6 the answers are those so far.
 pub fn run<S: Source, O: Sink, E: Sink>(
     alloc: Global,
     words: &[String],

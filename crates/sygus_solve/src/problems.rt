@@ -21,8 +21,8 @@ use sygus_replies::{WriteFault, answer_line, answer_text, last, write_both};
 use sygus_search::{Solved, sought, status_of};
 use sygus_words::Mode;
 
-/// Answers the problems in order, each by the search of this mode with this solver. Of each answer the text and the line are written
-/// before the next problem is sought.
+/// Answers the problems in order, each by the search of this mode with this solver. Of each answer the text and the
+/// line are written before the next problem is sought.
 pub(crate) fn solve<T: Theory, D: Decide<T>, O: Sink, E: Sink>(
     alloc: Global,
     problems: &[Problem<T>],

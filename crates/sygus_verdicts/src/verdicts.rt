@@ -27,16 +27,16 @@ pub struct Claims<T: Theory> {
     pub titles: Titles,
 }
 
-/// How statements were judged: the status of the program, and what was found of the first ones, in order; `None` where a
-/// statement gives no definitions.
+/// How statements were judged: the status of the program, and what was found of the first ones, in order; `None` where
+/// a statement gives no definitions.
 #[derive(Drop)]
 pub struct Judged<F: Drop> {
     pub status: u8,
     pub answers: Seq<Option<F>>,
 }
 
-/// Judges the statements in order. Of each the line is written before the next is judged. Where memory runs out, one line on
-/// `err` says so.
+/// Judges the statements in order. Of each the line is written before the next is judged. Where memory runs out, one
+/// line on `err` says so.
 pub fn judge_all<T: Theory, J: Judge<T>, O: Sink, E: Sink>(
     alloc: Global,
     claims: &Claims<T>,
