@@ -12,8 +12,8 @@ use sy_grammar_base::Problem;
 use sy_meaning::{Eval, Trace, evaluate_with};
 use sy_terms::{Bodies, Seq, Term, Theory, Value, Values, Want};
 
-/// How many of the constraints are true under the bodies, which are members of the grammars. There are no variables, and
-/// each value of the theory's operators fits the machine's numbers.
+/// How many of the constraints are true under the bodies, which are members of the grammars. There are no variables,
+/// and each value of the theory's operators fits the machine's numbers.
 pub(crate) fn count_met<T: Theory>(
     alloc: Global,
     problem: &Problem<T>,
@@ -24,7 +24,8 @@ pub(crate) fn count_met<T: Theory>(
     requires members { AreMembers (question_of T.denotes problem.now).goals (map (expr_of T.denotes) bodies.now) }
     requires closed { problem.now.vars ≡ [] }
     requires few { length problem.now.constraints < 2 ^ 32 }
-    ensures { IfOk result (λ count. count ≡ met_count (question_of T.denotes problem.now) (map (expr_of T.denotes) bodies.now)) }
+    ensures { IfOk result (λ count. count ≡ met_count (question_of T.denotes problem.now)
+        (map (expr_of T.denotes) bodies.now)) }
 {
     let count = count_true(alloc, problem, bodies, problem.constraints.as_slice())?;
     Ok(count)
@@ -43,7 +44,9 @@ fn count_true<T: Theory>(
     requires closed { problem.now.vars ≡ [] }
     requires terms { All (IsTruth T.owned T.denotes problem.now) terms.now }
     requires few { length terms.now < 2 ^ 32 }
-    ensures { IfOk result (λ count. count ≡ count_by (is_met (question_of T.denotes problem.now) (map (expr_of T.denotes) bodies.now)) (map (expr_of T.denotes) terms.now)) }
+    ensures { IfOk result (λ count. count ≡ count_by
+        (is_met (question_of T.denotes problem.now) (map (expr_of T.denotes) bodies.now))
+        (map (expr_of T.denotes) terms.now)) }
 {
     let mut count = 0;
     for term in terms {
@@ -66,7 +69,8 @@ fn holds<T: Theory>(
     requires members { AreMembers (question_of T.denotes problem.now).goals (map (expr_of T.denotes) bodies.now) }
     requires closed { problem.now.vars ≡ [] }
     requires term { IsTruth T.owned T.denotes problem.now term.now }
-    ensures { IfOk result (λ holds. holds ≡ is_met (question_of T.denotes problem.now) (map (expr_of T.denotes) bodies.now) (expr_of T.denotes term.now)) }
+    ensures { IfOk result (λ holds. holds ≡ is_met (question_of T.denotes problem.now)
+        (map (expr_of T.denotes) bodies.now) (expr_of T.denotes term.now)) }
 {
     let values: Values<T> = Seq::new(alloc);
     let mut calls = Trace::new(alloc);

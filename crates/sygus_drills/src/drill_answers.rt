@@ -44,8 +44,10 @@ pub(crate) fn drill<T: Theory, D: Decide<T>, O: Sink>(
     ensures answered { IfOk result (λ solved. solved.status ≤ 1 →
         AnswersDrill (RightOutcomeFor T.Theory D.Decide (modes.Drill number) limits.now) (reply_for T.Theory D.Decide) number (question_of T.denotes problem.now)
         solved.answers (Appends (O.written out.old) (O.written out.new))) }
-    ensures all_settled { IfOk result (λ solved. solved.status ≡ 0 → All IsSettled (replies_for T.Theory D.Decide solved.answers)) }
-    ensures some_fail { IfOk result (λ solved. solved.status ≡ 1 → Any IsFail (replies_for T.Theory D.Decide solved.answers)) }
+    ensures all_settled { IfOk result
+        (λ solved. solved.status ≡ 0 → All IsSettled (replies_for T.Theory D.Decide solved.answers)) }
+    ensures some_fail { IfOk result
+        (λ solved. solved.status ≡ 1 → Any IsFail (replies_for T.Theory D.Decide solved.answers)) }
 
     // 5: the write failed
     ensures write { IfOk result (λ solved. solved.status ≡ 5 → Rose (O.faults out.old) (O.faults out.new)) }

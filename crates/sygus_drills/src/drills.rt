@@ -27,14 +27,17 @@ pub fn drill<O: Sink, E: Sink>(
     out: &mut O,
     err: &mut E,
 ) -> Ended
-    ensures ends { EndsDrill number limits.now result.status result.answers (O.written out.old) (O.written out.new) (E.written err.old) (E.written err.new) }
+    ensures ends { EndsDrill number limits.now result.status result.answers (O.written out.old) (O.written out.new)
+        (E.written err.old) (E.written err.new) }
     ensures status { (result.status ≤ 1) ⊎ ((result.status ≡ 5) ⊎ (result.status ≡ 6)) }
     ensures all_settled { result.status ≡ 0 → All IsSettled (replies_of result.answers) }
     ensures some_fail { result.status ≡ 1 → Any IsFail (replies_of result.answers) }
     ensures named { AreNamedFor result.answers }
-    ensures write { result.status ≡ 5 → Rose (O.faults out.old) (O.faults out.new) ⊎ Rose (E.faults err.old) (E.faults err.new) }
+    ensures write { result.status ≡ 5 → Rose (O.faults out.old) (O.faults out.new) ⊎ Rose (E.faults err.old)
+        (E.faults err.new) }
     ensures memory { result.status ≡ 6 → (result.answers ≡ Answers.Idle) × (O.written out.new ≡ O.written out.old) }
-    ensures memory_line { result.status ≡ 6 → Appends (E.written err.old) (E.written err.new) (answer_lines 1 (replies_of result.answers) ++ memory_line) }
+    ensures memory_line { result.status ≡ 6 → Appends (E.written err.old) (E.written err.new)
+        (answer_lines 1 (replies_of result.answers) ++ memory_line) }
 {
     match drilled(alloc, number, limits, out) {
         Ok(ended) => ended,
@@ -45,7 +48,9 @@ pub fn drill<O: Sink, E: Sink>(
 /// The answer to the problem of a number's file, where memory suffices.
 fn drilled<O: Sink>(alloc: Global, number: u32, limits: &Limits, out: &mut O) -> Result<Ended, Want>
     ensures status { IfOk result (λ ended. (ended.status ≤ 1) ⊎ (ended.status ≡ 5)) }
-    ensures answered { IfOk result (λ ended. ended.status ≤ 1 → Drilled number limits.now ended.answers (Appends (O.written out.old) (O.written out.new))) }
+    ensures answered { IfOk result
+        (λ ended. ended.status ≤ 1 → Drilled number limits.now ended.answers
+        (Appends (O.written out.old) (O.written out.new))) }
     ensures all_settled { IfOk result (λ ended. ended.status ≡ 0 → All IsSettled (replies_of ended.answers)) }
     ensures some_fail { IfOk result (λ ended. ended.status ≡ 1 → Any IsFail (replies_of ended.answers)) }
     ensures named { IfOk result (λ ended. AreNamedFor ended.answers) }

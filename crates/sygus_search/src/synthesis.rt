@@ -17,9 +17,9 @@ use sy_query_base::Decide;
 use sy_query_limits::Limits;
 use sy_terms::{Bodies, Theory, Want};
 
-/// The outcome of `synthesise`; but where that is that a bank is full or a number left the 128 bits, and one function is to
-/// be found, a solution that is found beyond that, of a size up to the greatest, if one is. Else the outcome stays as it was:
-/// what is learned beyond it is no part of it.
+/// The outcome of `synthesise`; but where that is that a bank is full or a number left the 128 bits, and one function
+/// is to be found, a solution that is found beyond that, of a size up to the greatest, if one is. Else the outcome
+/// stays as it was: what is learned beyond it is no part of it.
 pub(crate) fn synthesise_beyond<T: Theory, D: Decide<T>>(
     alloc: Global,
     problem: &Problem<T>,

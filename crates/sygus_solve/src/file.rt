@@ -40,14 +40,18 @@ pub fn answer_file<O: Sink, E: Sink>(
     ensures silent { result.status ≡ 2 → out.new ≡ out.old }
 
     // 5: a write failed
-    ensures write { result.status ≡ 5 → Rose (O.faults out.old) (O.faults out.new) ⊎ Rose (E.faults err.old) (E.faults err.new) }
-    ensures cut_off { result.status ≡ 5 → Stops settings.now file.now result.answers (O.written out.old) (O.written out.new)
+    ensures write { result.status ≡ 5 → Rose (O.faults out.old) (O.faults out.new) ⊎ Rose (E.faults err.old)
+        (E.faults err.new) }
+    ensures cut_off { result.status ≡ 5 → Stops settings.now file.now result.answers (O.written out.old)
+        (O.written out.new)
         (WritesCut result.answers (O.written out.old) (O.written out.new)) }
 
     // 6: memory was wanted
-    ensures memory { result.status ≡ 6 → Stops settings.now file.now result.answers (O.written out.old) (O.written out.new)
+    ensures memory { result.status ≡ 6 → Stops settings.now file.now result.answers (O.written out.old)
+        (O.written out.new)
         (WritesTexts result.answers (O.written out.old) (O.written out.new)) }
-    ensures memory_line { result.status ≡ 6 → Appends (E.written err.old) (E.written err.new) (answer_lines 1 (replies_of result.answers) ++ memory_line) }
+    ensures memory_line { result.status ≡ 6 → Appends (E.written err.old) (E.written err.new)
+        (answer_lines 1 (replies_of result.answers) ++ memory_line) }
 {
     match read_file(alloc, file) {
         Ok(job) => answer(alloc, job, settings.mode, &settings.limits, out, err),

@@ -40,18 +40,24 @@ pub(crate) fn answer<O: Sink, E: Sink>(
 
     // 0 and 1: every problem is answered
     ensures every { result.status ≤ 1 → length (replies_of result.answers) ≡ length (wish_in job).questions }
-    ensures replied { result.status ≤ 1 → Appends (O.written out.old) (O.written out.new) (texts (wish_in job).titles (wish_in job).questions (replies_of result.answers)) }
-    ensures lines { result.status ≤ 1 → Appends (E.written err.old) (E.written err.new) (answer_lines 1 (replies_of result.answers)) }
+    ensures replied { result.status ≤ 1 → Appends (O.written out.old) (O.written out.new)
+        (texts (wish_in job).titles (wish_in job).questions (replies_of result.answers)) }
+    ensures lines { result.status ≤ 1 → Appends (E.written err.old) (E.written err.new)
+        (answer_lines 1 (replies_of result.answers)) }
     ensures all_settled { result.status ≡ 0 → All IsSettled (replies_of result.answers) }
     ensures some_fail { result.status ≡ 1 → Any IsFail (replies_of result.answers) }
 
     // 5: a write failed
-    ensures write { result.status ≡ 5 → Rose (O.faults out.old) (O.faults out.new) ⊎ Rose (E.faults err.old) (E.faults err.new) }
-    ensures cut_off { result.status ≡ 5 → WritesMost (wish_in job).titles (wish_in job).questions (replies_of result.answers) (O.written out.old) (O.written out.new) }
+    ensures write { result.status ≡ 5 → Rose (O.faults out.old) (O.faults out.new) ⊎ Rose (E.faults err.old)
+        (E.faults err.new) }
+    ensures cut_off { result.status ≡ 5 → WritesMost (wish_in job).titles (wish_in job).questions
+        (replies_of result.answers) (O.written out.old) (O.written out.new) }
 
     // 6: memory was wanted
-    ensures memory { result.status ≡ 6 → Appends (O.written out.old) (O.written out.new) (texts (wish_in job).titles (wish_in job).questions (replies_of result.answers)) }
-    ensures memory_line { result.status ≡ 6 → Appends (E.written err.old) (E.written err.new) (answer_lines 1 (replies_of result.answers) ++ memory_line) }
+    ensures memory { result.status ≡ 6 → Appends (O.written out.old) (O.written out.new)
+        (texts (wish_in job).titles (wish_in job).questions (replies_of result.answers)) }
+    ensures memory_line { result.status ≡ 6 → Appends (E.written err.old) (E.written err.new)
+        (answer_lines 1 (replies_of result.answers) ++ memory_line) }
 {
     match job {
         Job::Idle => Ended {

@@ -21,8 +21,8 @@ use sygus_replies::{WriteFault, answer_line, answer_text, last, write_both};
 use sygus_search::{Solved, sought, status_of};
 use sygus_words::Mode;
 
-/// Answers the problems in order, each by the search of this mode with this solver. Of each answer the text and the line are written
-/// before the next problem is sought.
+/// Answers the problems in order, each by the search of this mode with this solver. Of each answer the text and the
+/// line are written before the next problem is sought.
 pub(crate) fn solve<T: Theory, D: Decide<T>, O: Sink, E: Sink>(
     alloc: Global,
     problems: &[Problem<T>],
@@ -42,12 +42,14 @@ pub(crate) fn solve<T: Theory, D: Decide<T>, O: Sink, E: Sink>(
     ensures every { result.status ≤ 1 → length result.answers ≡ length problems.now }
     ensures replied { result.status ≤ 1 → Appends (O.written out.old) (O.written out.new)
         (texts titles.now (map (question_of T.denotes) problems.now) (replies_for T.Theory D.Decide result.answers)) }
-    ensures lines { result.status ≤ 1 → Appends (E.written err.old) (E.written err.new) (answer_lines 1 (replies_for T.Theory D.Decide result.answers)) }
+    ensures lines { result.status ≤ 1 → Appends (E.written err.old) (E.written err.new)
+        (answer_lines 1 (replies_for T.Theory D.Decide result.answers)) }
     ensures all_settled { result.status ≡ 0 → All IsSettled (replies_for T.Theory D.Decide result.answers) }
     ensures some_fail { result.status ≡ 1 → Any IsFail (replies_for T.Theory D.Decide result.answers) }
 
     // 5: a write failed
-    ensures write { result.status ≡ 5 → Rose (O.faults out.old) (O.faults out.new) ⊎ Rose (E.faults err.old) (E.faults err.new) }
+    ensures write { result.status ≡ 5 → Rose (O.faults out.old) (O.faults out.new) ⊎ Rose (E.faults err.old)
+        (E.faults err.new) }
     ensures cut_off { result.status ≡ 5 → WritesMost titles.now (map (question_of T.denotes) problems.now)
         (replies_for T.Theory D.Decide result.answers) (O.written out.old) (O.written out.new) }
 
@@ -103,11 +105,14 @@ fn answer_next<T: Theory, D: Decide<T>, O: Sink, E: Sink>(
 ) -> Result<(), Stop>
     requires few { length answers.old < 2 ^ 31 }
     requires answerable { IsAnswerableFor T.Theory titles.now problem.now }
-    ensures ok { OnOk result (AnswersNext (RightOutcomeFor T.Theory D.Decide mode limits.now) (reply_for T.Theory D.Decide) titles.now (question_of T.denotes problem.now)
+    ensures ok { OnOk result (AnswersNext (RightOutcomeFor T.Theory D.Decide mode limits.now)
+        (reply_for T.Theory D.Decide) titles.now (question_of T.denotes problem.now)
         answers.old answers.new (O.written out.old) (O.written out.new) (E.written err.old) (E.written err.new)) }
-    ensures broken { IsErrOf result Stop.Write → BreaksNext (RightOutcomeFor T.Theory D.Decide mode limits.now) (reply_for T.Theory D.Decide) titles.now (question_of T.denotes problem.now)
+    ensures broken { IsErrOf result Stop.Write → BreaksNext (RightOutcomeFor T.Theory D.Decide mode limits.now)
+        (reply_for T.Theory D.Decide) titles.now (question_of T.denotes problem.now)
         answers.old answers.new (O.written out.old) (O.written out.new) }
-    ensures cause { IsErrOf result Stop.Write → Rose (O.faults out.old) (O.faults out.new) ⊎ Rose (E.faults err.old) (E.faults err.new) }
+    ensures cause { IsErrOf result Stop.Write → Rose (O.faults out.old) (O.faults out.new) ⊎ Rose (E.faults err.old)
+        (E.faults err.new) }
     ensures unchanged { IsErrOf result Stop.Memory → answers.new ≡ answers.old }
     ensures unwritten { IsErrOf result Stop.Memory → O.written out.new ≡ O.written out.old }
     ensures unlined { IsErrOf result Stop.Memory → E.written err.new ≡ E.written err.old }

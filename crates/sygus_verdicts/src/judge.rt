@@ -42,7 +42,8 @@ pub trait Judge<T: Theory> {
     ) -> Result<Self::Found, Want>
         requires problem { QuestionFits T.owned T.numeric (question_of T.denotes problem.now) }
         requires bodies { BodiesFit T.owned T.denotes problem.now.defs bodies.now (signatures problem.now) }
-        ensures right { IfOk result (right (question_of T.denotes problem.now) limits.now (map (expr_of T.denotes) bodies.now) (option_map (λ s. item_of s.now) proof.entry)) }
+        ensures right { IfOk result (right (question_of T.denotes problem.now) limits.now
+            (map (expr_of T.denotes) bodies.now) (option_map (λ s. item_of s.now) proof.entry)) }
         ensures printable { IfOk result (λ found. spec.IsPrintable (verdict found)) };
 
     /// Appends the verdict.

@@ -73,7 +73,8 @@ pub fn put_refuted<T: Theory>(
     values: &[Value<T::Num>],
 ) -> Result<(), Want>
     requires { All (λ value. valid value ≡ true) (vals_of T.denotes values.now) }
-    ensures { OnOk result (out.new ≡ out.old ++ lines.verdict_text titles.now (spec.Refuted (vals_of T.denotes values.now))) }
+    ensures { OnOk result (out.new ≡ out.old ++ lines.verdict_text titles.now
+        (spec.Refuted (vals_of T.denotes values.now))) }
 {
     put(out, "refuted at")?;
     put_values::<T>(out, values)

@@ -27,16 +27,16 @@ pub struct Claims<T: Theory> {
     pub titles: Titles,
 }
 
-/// How statements were judged: the status of the program, and what was found of the first ones, in order; `None` where a
-/// statement gives no definitions.
+/// How statements were judged: the status of the program, and what was found of the first ones, in order; `None` where
+/// a statement gives no definitions.
 #[derive(Drop)]
 pub struct Judged<F: Drop> {
     pub status: u8,
     pub answers: Seq<Option<F>>,
 }
 
-/// Judges the statements in order. Of each the line is written before the next is judged. Where memory runs out, one line on
-/// `err` says so.
+/// Judges the statements in order. Of each the line is written before the next is judged. Where memory runs out, one
+/// line on `err` says so.
 pub fn judge_all<T: Theory, J: Judge<T>, O: Sink, E: Sink>(
     alloc: Global,
     claims: &Claims<T>,
@@ -53,16 +53,20 @@ pub fn judge_all<T: Theory, J: Judge<T>, O: Sink, E: Sink>(
 
     // 0 and 1: every statement is judged, and 0 says that all hold
     ensures every { result.status ≤ 1 → length result.answers ≡ length claims.now.problems }
-    ensures replied { result.status ≤ 1 → Appends (O.written out.old) (O.written out.new) (verdict_lines claims.now.titles 1 (verdicts_for J.Judge result.answers)) }
+    ensures replied { result.status ≤ 1 → Appends (O.written out.old) (O.written out.new)
+        (verdict_lines claims.now.titles 1 (verdicts_for J.Judge result.answers)) }
     ensures good { result.status ≤ 1 → result.status ≡ verdicts_status (verdicts_for J.Judge result.answers) }
     ensures silent { result.status ≤ 1 → err.new ≡ err.old }
 
     // 5: a write failed
-    ensures write { result.status ≡ 5 → Rose (O.faults out.old) (O.faults out.new) ⊎ Rose (E.faults err.old) (E.faults err.new) }
-    ensures cut_off { result.status ≡ 5 → WritesMostLines claims.now.titles (verdicts_for J.Judge result.answers) (O.written out.old) (O.written out.new) }
+    ensures write { result.status ≡ 5 → Rose (O.faults out.old) (O.faults out.new) ⊎ Rose (E.faults err.old)
+        (E.faults err.new) }
+    ensures cut_off { result.status ≡ 5 → WritesMostLines claims.now.titles (verdicts_for J.Judge result.answers)
+        (O.written out.old) (O.written out.new) }
 
     // 6: out of memory
-    ensures memory { result.status ≡ 6 → Appends (O.written out.old) (O.written out.new) (verdict_lines claims.now.titles 1 (verdicts_for J.Judge result.answers)) }
+    ensures memory { result.status ≡ 6 → Appends (O.written out.old) (O.written out.new)
+        (verdict_lines claims.now.titles 1 (verdicts_for J.Judge result.answers)) }
     ensures memory_line { result.status ≡ 6 → Appends (E.written err.old) (E.written err.new) memory_line }
 {
     let mut answers = Seq::new(alloc);
