@@ -29,8 +29,11 @@ END {
     # while the program is built no other crate is left: one processor works alone
     if (!(names[count] in is_done)) rest += (processors - 1) * work[names[count]]
     if (processors * longest > rest) rest = processors * longest
-    # beside what was done there counts what the first twentieth of the work would have taken by the load
-    begun = 500
+    # of each crate under way half of a middling one is done
     expected = 0.9 * processors * processors / (processors + load)
-    printf "%d\n", rest / ((done + begun) / (seconds + begun / expected)) / 60 + 0.5
+    under_way = 45 * processors
+    if (under_way > expected * seconds / 2) under_way = expected * seconds / 2
+    # beside what was done counts what the first twentieth of the work would have taken by the load
+    begun = 500
+    printf "%d\n", rest / ((done + under_way + begun) / (seconds + begun / expected)) / 60 + 0.5
 }

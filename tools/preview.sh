@@ -11,7 +11,10 @@ try() (
     (cd "$top/crates/sygus" && rt try "$@") 2>"$said"
     status=$?
     cat "$said" >&2
-    tail -n 1 "$said" | grep -Eq '^(run=ended|cases=).* proved=no$' || exit 70
+    if ! tail -n 1 "$said" | grep -Eq '^(run=ended|cases=).* proved=no$'; then
+        echo "sygus: the program wasn't run to its end: rt try ended with status $status" >&2
+        exit 70
+    fi
     exit "$status"
 )
 
@@ -51,7 +54,7 @@ preview() {
         echo "sygus: Rattle's toolchain is needed to build the program: there is no rt on the path" >&2
         return 70
     fi
-    echo "sygus: a preview, in some three minutes: neither the program nor its answer is proved; ./sygus FILE proves both" >&2
+    echo "sygus: an unproved preview, in some three minutes or more; ./sygus FILE proves the program and its answer" >&2
     if [ $# -gt 1 ]; then
         try_each "$@"
     elif [ -f "$1" ]; then

@@ -161,7 +161,8 @@ def previews(room):
     status, out, err = room.answer("--preview", "--", file, file, STATUS="0", RAN=counted)
     yield "./sygus --preview: takes several files", status == 0 and out.splitlines()[1:] == ["01-a file.sl", "02-a file.sl"] and counted in err
     yield "./sygus --preview: misses a file", room.answer("--preview", file, room.folder / "none.sl")[0] == 70
-    yield "./sygus --preview: isn't built", room.answer("--preview", file, STATUS="2", RAN="run=none proved=no")[0] == 70
+    status, _, err = room.answer("--preview", file, STATUS="2", RAN="run=none proved=no")
+    yield "./sygus --preview: isn't built", status == 70 and "rt try ended with status 2\n" in err
     yield "./sygus --preview: takes no file", room.answer("--preview", "--size", "9")[::2] == (3, "usage: ./sygus --preview [OPTIONS] FILE ..\n")
 
 

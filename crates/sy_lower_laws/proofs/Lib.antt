@@ -1,0 +1,10 @@
+pub mod Arithmetic
+pub mod Same
+pub mod Sorts
+pub mod Sides
+pub mod Steps
+pub mod Applications
+pub mod Walk
+pub mod Lowered
+pub mod Integers
+pub mod Bounds
