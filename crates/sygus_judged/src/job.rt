@@ -25,7 +25,7 @@ use sy_intsolve::IntDecide;
 use sy_io::Sink;
 use sy_meaning_integers::IntTheory;
 use sy_meaning_words::BvTheory;
-use sy_querylimits::Limits;
+use sy_query_limits::Limits;
 use sy_reply_reader::read_reply;
 use sy_reply_statements::{ReplyEnd, reply_refusal_text};
 use sy_scope::Job;
@@ -36,6 +36,7 @@ use sygus_judges::Verifying;
 use sygus_verdicts::{Claims, judge_all};
 
 /// The replies in a file: its bytes, and the offset from which they stand.
+#[derive(Clone, Copy, Drop)]
 pub(crate) struct Replies<'a> {
     pub(crate) file: &'a [u8],
     pub(crate) at: usize,
