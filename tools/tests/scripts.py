@@ -8,7 +8,7 @@ import subprocess
 import sys
 
 TOP = pathlib.Path(__file__).resolve().parent.parent.parent
-sys.path.insert(0, str(TOP / "bench"))
+sys.path[:0] = [str(TOP / "bench"), str(TOP / "tools")]
 import answers
 import drill
 import functions
@@ -114,8 +114,8 @@ def loaded(path):
 
 
 def scripts():
-    """All scripts in Python but tools/explain, whose words are those of the program."""
-    named = [TOP / "tools" / name for name in ("fuzz", "many", "portfolio", "tests/run")]
+    """All scripts in Python."""
+    named = [TOP / "tools" / name for name in ("explain", "from_csv", "fuzz", "many", "portfolio", "tests/run")]
     return [*sorted((TOP / "bench").glob("*.py")), *sorted((TOP / "tools").glob("*.py")), *named]
 
 
