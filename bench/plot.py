@@ -1,15 +1,17 @@
 #!/usr/bin/env python3
-"""Draws what bench/answers.py measured: how many files sygus and cvc5 answer over time, and the times of both beside each other.
+"""Draws what bench/answers.py measured: how many files sygus and cvc5 answer over time, and the times of both beside
+each other.
 
     bench/plot.py [--anew] [--table FILE] [--folder FOLDER] [WORDS ..]
 
-It reads the table that answers.py printed, bench/plots/answers.md without --table, and writes answered.svg and beside.svg into
-bench/plots/, or FOLDER. With --anew it runs answers.py before, with the WORDS, and puts what that prints into the table's file:
+It reads the table that answers.py printed, bench/plots/answers.md without --table, and writes answered.svg and
+beside.svg into bench/plots/, or FOLDER. With --anew it runs answers.py before, with the WORDS, and puts what that
+prints into the table's file:
 
     bench/plot.py --anew -- --limit 5 --cvc5 times.json
 
-A file is of the kind `invariants` where it has an inv-constraint, `examples` where it declares no variable, else of its logic. A time
-that the table rounds to 0 is drawn as 0.01. It takes gnuplot (apt-get install gnuplot-nox).
+A file is of the kind `invariants` where it has an inv-constraint, `examples` where it declares no variable, else of its
+logic. A time that the table rounds to 0 is drawn as 0.01. It takes gnuplot (apt-get install gnuplot-nox).
 """
 import pathlib
 import re
@@ -85,12 +87,23 @@ def steps(times, limit):
 def answered(rows, file):
     """The commands that draw how many files are answered over time, a picture for each kind."""
     limit = limit_of(rows)
-    lines = [HEAD.format(width=900, height=680, file=file), "set multiplot layout 2,2", "set logscale x", f"set xrange [{LEAST}:{limit}]"]
+    lines = [
+        HEAD.format(width=900, height=680, file=file),
+        "set multiplot layout 2,2",
+        "set logscale x",
+        f"set xrange [{LEAST}:{limit}]",
+    ]
     lines += ['set key bottom right', 'set xlabel "seconds"', 'set ylabel "files answered"', "set yrange [0:*]"]
     for place, kind in enumerate(KINDS):
         chosen = [row for row in rows if row.kind == kind]
-        lines += [block(f"sygus{place}", steps([row.ours for row in chosen], limit)), block(f"cvc5{place}", steps([row.theirs for row in chosen], limit))]
-        parts = [f'${solver}{place} using 1:2 with steps lw 2 lc rgb "{colour}" title "{solver}"' for solver, (colour, _) in SOLVERS.items()]
+        lines += [
+            block(f"sygus{place}", steps([row.ours for row in chosen], limit)),
+            block(f"cvc5{place}", steps([row.theirs for row in chosen], limit)),
+        ]
+        parts = [
+            f'${solver}{place} using 1:2 with steps lw 2 lc rgb "{colour}" title "{solver}"'
+            for solver, (colour, _) in SOLVERS.items()
+        ]
         lines += [f'set title "{kind}: {len(chosen)} files"', "plot " + ", ".join(parts)]
     return "\n".join([*lines, "unset multiplot", ""])
 
@@ -98,16 +111,37 @@ def answered(rows, file):
 def beside(rows, file):
     """The commands that draw each file at the times of both, at the edge where one has none."""
     limit = limit_of(rows)
-    lines = [HEAD.format(width=760, height=680, file=file), "set logscale xy", f"set xrange [{0.8 * LEAST}:{1.5 * limit}]"]
-    lines += [f"set yrange [{0.8 * LEAST}:{1.5 * limit}]", 'set format y "%g"', 'set xlabel "seconds of cvc5"', 'set ylabel "seconds of sygus"', "set key outside top center horizontal"]
-    lines += [f'set arrow from {limit},{0.8 * LEAST} to {limit},{1.5 * limit} nohead dt 3 lc rgb "#888888"', f'set arrow from {0.8 * LEAST},{limit} to {1.5 * limit},{limit} nohead dt 3 lc rgb "#888888"']
-    lines += [f'set label "cvc5 gives no answer" at {1.05 * limit},{1.2 * LEAST} rotate by 90 offset character 0.8,0 tc rgb "#666666"', f'set label "sygus gives no answer" at {1.2 * LEAST},{1.2 * limit} tc rgb "#666666"']
+    lines = [
+        HEAD.format(width=760, height=680, file=file),
+        "set logscale xy",
+        f"set xrange [{0.8 * LEAST}:{1.5 * limit}]",
+    ]
+    lines += [
+        f"set yrange [{0.8 * LEAST}:{1.5 * limit}]",
+        'set format y "%g"',
+        'set xlabel "seconds of cvc5"',
+        'set ylabel "seconds of sygus"',
+        "set key outside top center horizontal",
+    ]
+    lines += [
+        f'set arrow from {limit},{0.8 * LEAST} to {limit},{1.5 * limit} nohead dt 3 lc rgb "#888888"',
+        f'set arrow from {0.8 * LEAST},{limit} to {1.5 * limit},{limit} nohead dt 3 lc rgb "#888888"',
+    ]
+    lines += [
+        (
+            f'set label "cvc5 gives no answer" at {1.05 * limit},{1.2 * LEAST} rotate by 90 offset character 0.8,0 tc'
+            ' rgb "#666666"'
+        ),
+        f'set label "sygus gives no answer" at {1.2 * LEAST},{1.2 * limit} tc rgb "#666666"',
+    ]
     parts = ['x with lines lc rgb "#aaaaaa" title "equal"']
     for place, kind in enumerate(KINDS):
         points = [f"{row.theirs or 1.2 * limit} {row.ours or 1.2 * limit}" for row in rows if row.kind == kind]
         if points:
             lines.append(block(f"kind{place}", points))
-            parts.append(f'$kind{place} using 1:2 with points pt {place * 2 + 5} ps 0.6 lc rgb "{COLOURS[place]}" title "{kind}"')
+            parts.append(
+                f'$kind{place} using 1:2 with points pt {place * 2 + 5} ps 0.6 lc rgb "{COLOURS[place]}" title "{kind}"'
+            )
     return "\n".join([*lines, "plot " + ", ".join(parts), ""])
 
 

@@ -3,12 +3,13 @@
 
     tools/problem_checks.py [--seconds SECONDS] FILE
 
-It finds rows with the same arguments and different values; nonterminals that derive no term; assumptions that can't hold
-together; an assignment at which no value of the functions meets the constraints; an argument that a function lacks; and, for an
-inv-constraint, a run of up to ten steps from `pre` to where `post` is false. What it finds is proved by sygus, or seen in the
-text; what it doesn't find may be wrong all the same. It takes at most 20 seconds, or SECONDS. FILE `-` is standard input.
-tools/explain makes these checks where an answer is `fail` or `infeasible`, or by its word --look. The status is 0 where nothing
-was found, and 1 where something was; as of sygus where the file isn't taken. The program is found as sygus_client.py says.
+It finds rows with the same arguments and different values; nonterminals that derive no term; assumptions that can't
+hold together; an assignment at which no value of the functions meets the constraints; an argument that a function
+lacks; and, for an inv-constraint, a run of up to ten steps from `pre` to where `post` is false. What it finds is proved
+by sygus, or seen in the text; what it doesn't find may be wrong all the same. It takes at most 20 seconds, or SECONDS.
+FILE `-` is standard input. tools/explain makes these checks where an answer is `fail` or `infeasible`, or by its word
+--look. The status is 0 where nothing was found, and 1 where something was; as of sygus where the file isn't taken. The
+program is found as sygus_client.py says.
 """
 import itertools
 import re
@@ -31,6 +32,7 @@ QUESTION_SECONDS = 4
 
 # Text with places
 
+
 class Item:
     """An atom or a list, with the offsets of its first byte and behind its last. Lists have items, atoms a text."""
 
@@ -52,8 +54,8 @@ class Broken(Exception):
 def atom_end(text, at):
     """The offset behind the atom at a place, as far as it goes well."""
     if text[at] in b'|"':
-        end = text.find(text[at:at + 1], at + 1)
-        while end >= 0 and text[at] == 34 and text[end + 1:end + 2] == b'"':
+        end = text.find(text[at : at + 1], at + 1)
+        while end >= 0 and text[at] == 34 and text[end + 1 : end + 2] == b'"':
             end = text.find(b'"', end + 2)
         return end + 1 if end >= 0 else None
     end = at + 1
@@ -118,15 +120,20 @@ def spelled(item):
 
 # Problems
 
+
 class Function:
-    """A function to synthesise: its arguments with their sorts, its own sort, and its groups of rules, where they are written."""
+    """A function to synthesise: its arguments with their sorts, its own sort, and its groups of rules, where they are
+    written.
+    """
 
     def __init__(self, name, arguments, sort, groups, line):
         self.name, self.arguments, self.sort, self.groups, self.line = name, arguments, sort, groups, line
 
 
 class Problem:
-    """What stands before a `check-synth`. Terms are strings, and lists of terms; those of constraints and assumptions have their lines."""
+    """What stands before a `check-synth`. Terms are strings, and lists of terms; those of constraints and assumptions
+    have their lines.
+    """
 
     def __init__(self, text, count=1):
         self.text, self.logic, self.definitions, self.variables, self.functions = text, "BV", [], {}, {}
@@ -213,9 +220,11 @@ class Calls:
     def abstracted(self, term):
         """The term with each call replaced by the name of its value."""
         if isinstance(term, str):
-                return self.value(term, [], term) if term in self.functions and not self.functions[term].arguments else term
+            return self.value(term, [], term) if term in self.functions and not self.functions[term].arguments else term
         parts = [term[0] if isinstance(term[0], str) else self.abstracted(term[0]), *map(self.abstracted, term[1:])]
-        return self.value(parts[0], parts[1:], term) if isinstance(parts[0], str) and parts[0] in self.functions else parts
+        return (
+            self.value(parts[0], parts[1:], term) if isinstance(parts[0], str) and parts[0] in self.functions else parts
+        )
 
     def value(self, name, arguments, term):
         key = write_item([name, *arguments])
@@ -231,7 +240,9 @@ class Calls:
         """The calls in words, with the verb."""
         if len(self.shown) > 4:
             return "the values of the functions are"
-        return f"{self.shown[0]} is" if len(self.shown) == 1 else f"{', '.join(self.shown[:-1])} and {self.shown[-1]} are"
+        return (
+            f"{self.shown[0]} is" if len(self.shown) == 1 else f"{', '.join(self.shown[:-1])} and {self.shown[-1]} are"
+        )
 
     def same(self):
         """That calls of one function with the same arguments have the same value."""
@@ -250,6 +261,7 @@ def fresh(problem, name):
 
 
 # Questions
+
 
 class Asker:
     """Asks sygus small questions about a problem, until its time is up."""
@@ -273,7 +285,9 @@ class Asker:
         return None if answer is None else answer.kind == "definitions"
 
     def values(self, problem, wanted, variables, terms, seconds=QUESTION_SECONDS):
-        """Values of the wanted variables with which the terms are true for all values of the others, by name; None where none are found."""
+        """Values of the wanted variables with which the terms are true for all values of the others, by name; None
+        where none are found.
+        """
         if len(wanted) > MOST_VALUES:
             return None
         lines = [*head(problem), *(constant(*it) for it in wanted), *(["declare-var", *it] for it in variables)]
@@ -298,7 +312,7 @@ def least_part(parts, holds):
     while step:
         place = 0
         while place < len(parts) and len(parts) > 1:
-            rest = parts[:place] + parts[place + step:]
+            rest = parts[:place] + parts[place + step :]
             if rest and holds(rest):
                 parts = rest
             else:
@@ -308,6 +322,7 @@ def least_part(parts, holds):
 
 
 # Checks by the text
+
 
 def literal(term):
     """The value of a literal, as something that compares, or None."""
@@ -327,7 +342,9 @@ def literal(term):
 
 
 def example(problem, term):
-    """The call, as text, the values of its arguments, and the value, where a term is an example of a function; else None."""
+    """The call, as text, the values of its arguments, and the value, where a term is an example of a function; else
+    None.
+    """
     if isinstance(term, list) and len(term) == 3 and term[0] == "=":
         for call, value in ((term[1], term[2]), (term[2], term[1])):
             found = called(problem, call)
@@ -357,7 +374,10 @@ def different_rows(problem):
             call, key, shown, value = row
             before = seen.setdefault(key, (shown, value, line))
             if before[1] != value:
-                found.append(f"Lines {before[2]} and {line}: {call} is to be {before[0]} and {shown}. A function has one value at the same arguments.")
+                found.append(
+                    f"Lines {before[2]} and {line}: {call} is to be {before[0]} and {shown}. A function has one value"
+                    " at the same arguments."
+                )
     return found
 
 
@@ -372,11 +392,16 @@ def endless(problem):
         names = {group[0] for group in function.groups}
         ends, grown = set(), True
         while grown:
-            more = {name for name, _, rules in function.groups for rule in rules if nonterminals_in(rule, names) <= ends}
+            more = {
+                name for name, _, rules in function.groups for rule in rules if nonterminals_in(rule, names) <= ends
+            }
             grown, ends = not more <= ends, ends | more
         for name, _, _ in function.groups:
             if name not in ends:
-                found.append(f"{function.name} of line {function.line}: {name} derives no term, since each of its rules needs a term of {name} or of another such nonterminal. It lacks a leaf: an argument, or a constant.")
+                found.append(
+                    f"{function.name} of line {function.line}: {name} derives no term, since each of its rules needs a"
+                    f" term of {name} or of another such nonterminal. It lacks a leaf: an argument, or a constant."
+                )
         found += unused(function)
     return found
 
@@ -386,12 +411,20 @@ def unused(function):
     rules = [rule for _, _, rules in function.groups for rule in rules]
     if not rules:
         return []
-    sorts = [write_item(rule[1]) for rule in rules if isinstance(rule, list) and rule[0] == "Variable" and len(rule) == 2]
-    left = [name for name, sort in function.arguments if not any(names_in(rule, {name}) for rule in rules) and not sorts]
-    return [f"{function.name} of line {function.line}: its argument {name} is in no rule, so no body uses it." for name in left]
+    sorts = [
+        write_item(rule[1]) for rule in rules if isinstance(rule, list) and rule[0] == "Variable" and len(rule) == 2
+    ]
+    left = [
+        name for name, sort in function.arguments if not any(names_in(rule, {name}) for rule in rules) and not sorts
+    ]
+    return [
+        f"{function.name} of line {function.line}: its argument {name} is in no rule, so no body uses it."
+        for name in left
+    ]
 
 
 # Checks by questions
+
 
 def vacuous(problem, ask):
     """Assumptions that can't hold together."""
@@ -400,7 +433,10 @@ def vacuous(problem, ask):
     if not problem.assumptions or not fails(problem.assumptions):
         return []
     parts = least_part(problem.assumptions, fails)
-    return [f"{lines_of(parts, 'assumption')} can't hold: no values of the variables are left, so every function is a solution."]
+    return [
+        f"{lines_of(parts, 'assumption')} can't hold: no values of the variables are left, so every function is a"
+        " solution."
+    ]
 
 
 def lines_of(parts, word):
@@ -416,7 +452,9 @@ def relevant(problem, terms):
 
 
 def refuted(problem, ask, parts, copies=()):
-    """An assignment at which no values of the functions meet these constraints, and the calls; the variables `copies` are doubled."""
+    """An assignment at which no values of the functions meet these constraints, and the calls; the variables `copies`
+    are doubled.
+    """
     twice = {name: fresh(problem, f"{name.strip('|')}_2") for name in copies}
     calls = Calls(problem)
     terms = [calls.abstracted(term) for term, _ in parts]
@@ -438,7 +476,7 @@ def renamed(term, names):
 
 
 def groups_of(problem):
-    """The constraints in groups that are looked at together: all where they have few variables, else each for itself."""
+    """The constraints in groups that are looked at together: all where they have few variables, else each alone."""
     if len(relevant(problem, [term for term, _ in problem.constraints + problem.assumptions])) <= MOST_VALUES:
         return [problem.constraints]
     return [[part] for part in problem.constraints]
@@ -451,7 +489,10 @@ def impossible(problem, ask):
             parts = least_part(group, lambda rest: refuted(problem, ask, rest))
             found = refuted(problem, ask, parts)
             if found:
-                return [f"{lines_of(parts, 'constraint')} can't be met{shown_at(found[0])}: whatever {found[1].are()} there, something fails."]
+                return [
+                    f"{lines_of(parts, 'constraint')} can't be met{shown_at(found[0])}: whatever"
+                    f" {found[1].are()} there, something fails."
+                ]
     return []
 
 
@@ -478,16 +519,26 @@ def missing_argument(problem, part, name, found):
     values, calls = found
     second = values.pop(fresh(problem, f"{name.strip('|')}_2"))
     first = values.pop(name)
-    return f"{lines_of([part], 'constraint')} asks for different values of {calls.shown[0]}{shown_at(values)}, for {name} = {first} and for {name} = {second}. The function lacks an argument: hand {name} over."
+    return (
+        f"{lines_of([part], 'constraint')} asks for different values of {calls.shown[0]}{shown_at(values)}, for"
+        f" {name} = {first} and for {name} = {second}. The function lacks an argument: hand {name} over."
+    )
 
 
 # Runs of a loop
+
 
 class Run:
     """A run of a loop from `pre` to where `post` is false, of which the values are looked for one after another."""
 
     def __init__(self, problem, ask, names, sorts, formula):
-        self.problem, self.ask, self.variables, self.formula, self.values = problem, ask, list(zip(names, sorts)), formula, {}
+        self.problem, self.ask, self.variables, self.formula, self.values = (
+            problem,
+            ask,
+            list(zip(names, sorts)),
+            formula,
+            {},
+        )
 
     def may_be(self, term):
         """Whether a run with the values so far meets the term; None where that isn't known."""
@@ -497,7 +548,9 @@ class Run:
 
     def state(self, trans, before, row, sorts):
         """The values of a row, after those of the row before it; None where they aren't found in time."""
-        if before and (next_row := self.ask.values(self.problem, list(zip(row, sorts)), [], [[trans, *before, *row]], 1)):
+        if before and (
+            next_row := self.ask.values(self.problem, list(zip(row, sorts)), [], [[trans, *before, *row]], 1)
+        ):
             if self.may_be(conjunction([["=", *it] for it in next_row.items()])):
                 self.values.update(next_row)
                 return [next_row[name] for name in row]
@@ -518,7 +571,9 @@ class Run:
         if sort == "Bool":
             return "true" if self.may_be(name) else "false"
         if sort == "Int":
-            return self.least(["<=", "0", name], str) or self.least(["<=", "0", ["-", name]], lambda number: f"(- {number})")
+            return self.least(["<=", "0", name], str) or self.least(
+                ["<=", "0", ["-", name]], lambda number: f"(- {number})"
+            )
         bits = int(sort[2])
         return self.least(["bvule", name], lambda number: number_of(number, bits), 2**bits - 1)
 
@@ -606,6 +661,7 @@ def guesses(before):
 
 
 # All checks
+
 
 def findings(text, ask, count=1):
     """What is wrong with a problem, as lines: the one of check-synth number `count` of a text that sygus takes."""

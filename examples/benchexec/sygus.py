@@ -1,11 +1,11 @@
 """Tool-info module of BenchExec (3, BaseTool2) for sygus.
 
-Put this file into a folder NAME on Python's path, beside an empty __init__.py, and name it by tool="NAME.sygus" in a benchmark
-definition; or into benchexec/tools/ of an installation, with tool="sygus". The program is the `sygus` on the path, or that of
---tool-directory, as tools/install copies it; it keeps no time limit, BenchExec does.
+Put this file into a folder NAME on Python's path, beside an empty __init__.py, and name it by tool="NAME.sygus" in a
+benchmark definition; or into benchexec/tools/ of an installation, with tool="sygus". The program is the `sygus` on the
+path, or that of --tool-directory, as tools/install copies it; it keeps no time limit, BenchExec does.
 
-The result is `true` where each check-synth has definitions, `false(infeasible)` where one is `infeasible`, `unknown` where one is
-`fail`, and else an error. Columns: `cause` is the cause of the first `fail` or of a refusal.
+The result is `true` where each check-synth has definitions, `false(infeasible)` where one is `infeasible`, `unknown`
+where one is `fail`, and else an error. Columns: `cause` is the cause of the first `fail` or of a refusal.
 """
 import re
 

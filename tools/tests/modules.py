@@ -1,5 +1,5 @@
-"""Tests of what other tools read: examples/benchexec/sygus.py, called as BenchExec calls it, by stand-ins for what it imports; the
-lines of Python in docs/FOR_TOOLS.md; and tools/install, by a stand-in for the program."""
+"""Tests of what other tools read: examples/benchexec/sygus.py, called as BenchExec calls it, by stand-ins for what it
+imports; the lines of Python in docs/FOR_TOOLS.md; and tools/install, by a stand-in for the program."""
 import importlib.util
 import os
 import pathlib
@@ -34,7 +34,12 @@ def imported(path):
     modules = {name: types.ModuleType(name) for name in names}
     package, result, tools, template = modules.values()
     package.result, package.tools, tools.template = result, tools, template
-    result.RESULT_TRUE_PROP, result.RESULT_FALSE_PROP, result.RESULT_UNKNOWN, result.RESULT_ERROR = "true", "false", "unknown", "ERROR"
+    result.RESULT_TRUE_PROP, result.RESULT_FALSE_PROP, result.RESULT_UNKNOWN, result.RESULT_ERROR = (
+        "true",
+        "false",
+        "unknown",
+        "ERROR",
+    )
     template.BaseTool2 = type("BaseTool2", (), {"version": lambda self, executable: ""})
     sys.modules.update(modules)
     try:
@@ -55,21 +60,37 @@ class Locator:
 
 
 def benchexec():
-    """The calls of BenchExec, in its order: where the program is, its version and name, the command line, what came of the run, a column."""
+    """The calls of BenchExec, in its order: where the program is, its version and name, the command line, what came of
+    the run, a column.
+    """
     tool = imported(TOP / "examples" / "benchexec" / "sygus.py").Tool()
     executable = tool.executable(Locator())
     task = types.SimpleNamespace(single_input_file="problem.sl")
     words = tool.cmdline(executable, ["--size", "20"], task, types.SimpleNamespace(cputime=60))
-    yield "BenchExec: the call", (tool.name(), tool.version(executable), words) == ("sygus", "", ["/opt/sygus/bin/sygus", "--size", "20", "--", "problem.sl"])
+    yield "BenchExec: the call", (tool.name(), tool.version(executable), words) == (
+        "sygus",
+        "",
+        ["/opt/sygus/bin/sygus", "--size", "20", "--", "problem.sl"],
+    )
     for status, output, wanted, cause in ENDS:
-        run = types.SimpleNamespace(exit_code=types.SimpleNamespace(value=status, signal=None if status is not None else 9), output=output.splitlines())
-        yield f"BenchExec: {wanted} {cause or ''}", (tool.determine_result(run), tool.get_value_from_output(run.output, "cause")) == (wanted, cause)
+        run = types.SimpleNamespace(
+            exit_code=types.SimpleNamespace(value=status, signal=None if status is not None else 9),
+            output=output.splitlines(),
+        )
+        yield f"BenchExec: {wanted} {cause or ''}", (
+            tool.determine_result(run),
+            tool.get_value_from_output(run.output, "cause"),
+        ) == (wanted, cause)
 
 
 def read_page():
-    """The lines of Python in docs/FOR_TOOLS.md read the answers of a program on the path, also where the last is cut off."""
+    """The lines of Python in docs/FOR_TOOLS.md read the answers of a program on the path, also where the last is cut
+    off.
+    """
     text = PAGE.read_text()
-    lines = "\n".join(line[4:] for line in text[text.index("    import re, subprocess"):text.index("prints `{")].splitlines())
+    lines = "\n".join(
+        line[4:] for line in text[text.index("    import re, subprocess") : text.index("prints `{")].splitlines()
+    )
     with tempfile.TemporaryDirectory() as folder:
         installed(folder)
         env = {**os.environ, "PATH": f"{folder}:{os.environ['PATH']}"}
@@ -91,16 +112,30 @@ def install():
     with tempfile.TemporaryDirectory() as folder, tempfile.TemporaryDirectory() as prefix:
         env = {**os.environ, "SYGUS": str(installed(folder))}
         ended = subprocess.run([TOP / "tools" / "install", prefix], env=env, capture_output=True, text=True)
-        yield "install", ended.returncode == 0 and (pathlib.Path(prefix) / "share" / "man" / "man1" / "sygus.1").is_file()
+        yield "install", ended.returncode == 0 and (
+            pathlib.Path(prefix) / "share" / "man" / "man1" / "sygus.1"
+        ).is_file()
         link = pathlib.Path(folder) / "explained"
         link.symlink_to(pathlib.Path(prefix) / "bin" / "sygus-explain")
         env = {name: value for name, value in os.environ.items() if name != "SYGUS"}
         for call in (pathlib.Path(prefix) / "bin" / "sygus-explain", link):
-            ended = subprocess.run([call, "--size", "3", TOP / "examples" / "first.sl"], cwd=folder, env=env, capture_output=True, text=True)
-            yield f"install: {call.name}", ended.returncode == 1 and "infeasible:\n  No candidate" in ended.stdout and "Traceback" not in ended.stderr
+            ended = subprocess.run(
+                [call, "--size", "3", TOP / "examples" / "first.sl"],
+                cwd=folder,
+                env=env,
+                capture_output=True,
+                text=True,
+            )
+            is_said = "infeasible:\n  No candidate" in ended.stdout and "Traceback" not in ended.stderr
+            yield f"install: {call.name}", ended.returncode == 1 and is_said
         ended = subprocess.run([TOP / "tools" / "install"], capture_output=True, text=True)
         yield "install: no folder", ended.returncode == 3
-        ended = subprocess.run([TOP / "tools" / "install", "/dev/null/there"], env={**env, "SYGUS": str(installed(folder))}, capture_output=True, text=True)
+        ended = subprocess.run(
+            [TOP / "tools" / "install", "/dev/null/there"],
+            env={**env, "SYGUS": str(installed(folder))},
+            capture_output=True,
+            text=True,
+        )
         yield "install: no such folder", ended.returncode not in (0, 3)
 
 
