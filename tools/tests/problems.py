@@ -12,6 +12,7 @@ import time
 TOP = pathlib.Path(__file__).resolve().parent.parent.parent
 sys.path.insert(0, str(TOP / "tools"))
 import problem_checks
+import scripts
 
 HERE = pathlib.Path(__file__).resolve().parent
 EXPLAIN, FROM_CSV, CHECKS = (TOP / "tools" / name for name in ("explain", "from_csv", "problem_checks.py"))
@@ -251,6 +252,13 @@ def tables():
         yield f"from_csv {' '.join(words)}", ended.returncode == status and "Traceback" not in ended.stderr
 
 
+def reserved():
+    """tools/from_csv gives no column a name that is a word of the language, of which tools/explain has the list."""
+    explain, from_csv = scripts.loaded(EXPLAIN), scripts.loaded(FROM_CSV)
+    words = {*explain.CORE, *explain.LIA, *explain.BV, *explain.INDEXED, *explain.RESERVED}
+    yield "from_csv: words of the language", words <= from_csv.RESERVED
+
+
 def cut_off():
     """On a full disk and a closed pipe each ends by 5, on Ctrl-C by 130 with the program that it runs; without a
     traceback.
@@ -298,4 +306,5 @@ def tests():
     yield from seen()
     yield from further()
     yield from tables()
+    yield from reserved()
     yield from cut_off()
