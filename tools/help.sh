@@ -11,7 +11,8 @@ Reads a file of the SyGuS Language Standard 2.1 in the logic BV or LIA, and answ
 are proved to meet all constraints, by `infeasible`, or by `fail`. FILE `-` is standard input. The first call proves and builds
 the program. --preview runs it before that, unproved, in some three minutes.
 
-  --mode MODE   solve (default); least: solutions of the least size; drill: FILE is a number from 0 to 999999999
+  --mode MODE   solve (default); least: solutions of the least size; check: the replies behind the problems in FILE are judged;
+                drill: FILE is a number from 0 to 999999999
   --size N      from 1 to 64, default 12: the sum of the solution's sizes, or the size of each part of a decision tree
   --rounds N    from 1 to 1024, default 256: counterexamples
   --points N    from 1 to 1024, default 512: example inputs (tuples of arguments) of a function
@@ -22,7 +23,8 @@ the program. --preview runs it before that, unproved, in some three minutes.
   --pivots N    from 1 to 100000, default 10000: steps of the simplex method in one case
 
 Status: 0 all is answered, by definitions or `infeasible`; 1 some answer is `fail`; 2 the file is refused; 3 the command line is
-refused; 4 a read failed; 5 a write failed; 6 out of memory; 70 the program couldn't be built.
+refused; 4 a read failed; 5 a write failed; 6 out of memory; 7 the replies are refused (mode check); 70 the program couldn't be
+built.
 
 Manual: docs/USAGE.md (how to write a problem, what to do about each answer), docs/PROFILE.md (the language),
 docs/HOW_IT_WORKS.md (the method), man docs/sygus.1

@@ -47,7 +47,7 @@ LIMITS = {
     "nodes": 8000,
     "pivots": 100000,
 }
-MODES = ("solve", "least", "drill")
+MODES = ("solve", "least", "check", "drill")
 TIME_IS_UP, INTERRUPTED = 124, 130
 # What each status of a call says.
 STATUSES = {
@@ -58,6 +58,7 @@ STATUSES = {
     4: "the file couldn't be read",
     5: "an answer couldn't be written",
     6: "out of memory",
+    7: "the reply is refused",
     70: "the program couldn't be built",
     TIME_IS_UP: "the time was up",
     INTERRUPTED: "interrupted",

@@ -73,6 +73,30 @@ RUNS = [
     ((-11, "", ""), False),
     ((None, "", ""), False),
 ]
+# What a solver prints for JUDGED, what mode `check` says of that, and what tools/judge makes of it: its status, and what its
+# last line begins with.
+JUDGED = "(set-logic LIA)\n(synth-fun f ((x Int)) Int)\n(declare-var y Int)\n(constraint (>= (f y) y))\n(check-synth)\n"
+SOLVED = [
+    ("feasible\n(\n(define-fun f ((x Int)) Int x)\n)\n", ["check-synth 1 holds"], 0, "check-synth 1 holds"),
+    ("unsat\n(define-fun f ((x Int)) Int x)\n", ["check-synth 1 holds"], 0, "check-synth 1 holds"),
+    ("(\n(define-fun f ((x Int)) Int 0)\n)\n", ["check-synth 1 refuted at 1"], 1, "check-synth 1 refuted: the definitions violate the problem at y = 1."),
+    ("(\n(define-fun f ((x Int)) Int (- 1))\n)\n", ["check-synth 1 refuted at (- 7)"], 1, "check-synth 1 refuted: the definitions violate the problem at y = (- 7)."),
+    ("(\n(define-fun f ((x Int)) Int (ite (>= x 0) x 0))\n)\n", ["check-synth 1 not in grammar f", "check-synth 1 holds"], 0, "check-synth 1 solves the problem; the body of f is not in our default grammar."),
+    ("(\n(define-fun f ((x Int)) Int (ite (>= x 0) x 9))\n)\n", ["check-synth 1 not in grammar f", "check-synth 1 refuted at 9"], 1, "check-synth 1 the body of f is not in our default grammar, and with it as a rule: refuted"),
+    ("(\n(define-fun f ((x Int)) Int (* x x))\n)\n", ["check-synth 1 budget Nodes"], 1, "check-synth 1 not decided: the limit --nodes was reached."),
+    ("infeasible\n", ["check-synth 1 no definitions"], 1, "check-synth 1 no definitions"),
+    ("", [], 10, "printf: it ended without an answer"),
+    ("feasible\n", [], 10, "The solver gave no answer."),
+    ("I don't know (yet\n", [], 12, "The output isn't an answer: I don't know (yet"),
+    ("unknown\n", [], 12, "The output isn't an answer: unknown"),
+]
+# Terms with `let`, and what they are when it is written out.
+BINDINGS = [
+    ("(let ((a x)) a)", "x"),
+    ("(let ((a (+ x 1)) (b x)) (let ((a b) (b a)) (- a b)))", "(- x (+ x 1))"),
+    ("(let ((|a b| x)) (f |a b| a))", "(f x a)"),
+    ("(ite (let ((x y)) (<= x 0)) x y)", "(ite (<= y 0) x y)"),
+]
 # Names of files that rattle writes, and the crate, the function and the column to which bench/functions.py counts them.
 FILES = [
     ("Rattle-sy_a-proofs.m.f.Lts.oantt", ("sy_a", "m.f", "walk")),
@@ -219,6 +243,26 @@ def crates_in_order():
     yield "index: a layer above", [*index.upside_down(text.replace("std", "sy_b"))] == [("sy_a_in", "sy_b")]
 
 
+def judged():
+    judge = loaded(TOP / "tools" / "judge")
+    for term, wanted in BINDINGS:
+        yield f"judge {term}", judge.text_of(judge.put(judge.items_of(term)[0], {})) == wanted
+    with tempfile.TemporaryDirectory() as folder:
+        problem, program = pathlib.Path(folder) / "p.sl", pathlib.Path(folder) / "sygus"
+        problem.write_text(JUDGED)
+        program.touch(mode=0o755)
+        for said, verdicts, status, last in SOLVED:
+            # a program that says the one verdict at its first call and the other at its second
+            program.write_text(f"#!/bin/sh\nif [ -e {program}.called ]; then echo '{verdicts[-1] if verdicts else ''}'; else echo '{verdicts[0] if verdicts else ''}'; fi\ntouch {program}.called\nexit 1\n")
+            pathlib.Path(f"{program}.called").unlink(missing_ok=True)
+            ended = subprocess.run([TOP / "tools" / "judge", problem, "--", "printf", said.replace("%", "%%") + "%.0s"], env={**os.environ, "SYGUS": str(program)}, capture_output=True, text=True)
+            yield f"judge {said!r}", ended.returncode == status and ended.stdout.rstrip().split("\n")[-1].startswith(last)
+        ended = subprocess.run([TOP / "tools" / "judge", "--seconds", "0.2", problem, "--", "sh", "-c", "sleep 5"], capture_output=True, text=True)
+        yield "judge after its time", ended.returncode == 11 and "no answer within" in ended.stdout
+        ended = subprocess.run([TOP / "tools" / "judge", problem, "--", "no_such_solver"], capture_output=True, text=True)
+        yield "judge without a solver", ended.returncode == 13
+
+
 def tests():
     yield from crates_in_order()
     yield from helps()
@@ -229,3 +273,4 @@ def tests():
     yield from fuzzed()
     yield from dearest()
     yield from plotted()
+    yield from judged()

@@ -10,19 +10,23 @@ use Rattle.sy_intsolve_trees.specs.Budgets as int_budgets
 use Rattle.sy_bits.specs.Proofs as bits
 use Rattle.sygus_replies.specs.Replies.{Reply, Defined, Infeasible, Failed, reply_of}
 use Rattle.sygus_answers.specs.declared.answers.Answers.{Answers}
-use Rattle.sygus_answers.specs.declared.answers.Answers.TheVariants.{Idle, Ints, Bits}
+use Rattle.sygus_answers.specs.declared.answers.Answers.TheVariants.{Idle, Ints, Bits, IntChecks, BitChecks}
 
--- the replies to the first problems
+-- the replies to the first problems; a judgement of a reply is none
 abbrev pub replies_of : Answers → List Reply
 replies_of Idle = []
 replies_of (Ints outcomes) = map (reply_of Whole int_budgets.budget) outcomes
 replies_of (Bits outcomes) = map (reply_of vectors.vector bits.budget) outcomes
+replies_of (IntChecks found) = []
+replies_of (BitChecks found) = []
 
 -- they are over the theory of the file's logic; where no logic was set, there are none
 abbrev pub AreOfLogic : Option Logic → Answers → Type 0
 AreOfLogic logic Idle = logic ≡ None
 AreOfLogic logic (Ints outcomes) = logic ≡ Some Lia
 AreOfLogic logic (Bits outcomes) = logic ≡ Some Bv
+AreOfLogic logic (IntChecks found) = logic ≡ Some Lia
+AreOfLogic logic (BitChecks found) = logic ≡ Some Bv
 
 -- the budgets of queries over integers, and that of queries over bit vectors
 abbrev pub is_of_integers : FailName → Bool
@@ -46,3 +50,5 @@ abbrev pub AreNamedFor : Answers → Type 0
 AreNamedFor Idle = ⊤
 AreNamedFor (Ints outcomes) = All (IsNotNamed is_of_vectors) (map (reply_of Whole int_budgets.budget) outcomes)
 AreNamedFor (Bits outcomes) = All (IsNotNamed is_of_integers) (map (reply_of vectors.vector bits.budget) outcomes)
+AreNamedFor (IntChecks found) = ⊤
+AreNamedFor (BitChecks found) = ⊤

@@ -10,6 +10,7 @@ use sy_loop_outcome::Outcome;
 use sy_meaning_integers::IntTheory;
 use sy_meaning_words::BvTheory;
 use sy_terms::Seq;
+use sy_verify::Checked;
 use sygus_replies::last;
 
 /// The answers to the problems of a file, in order.
@@ -21,14 +22,18 @@ pub enum Answers {
     Ints(Seq<Outcome<IntTheory, Tree, IntSpent>>),
     /// An outcome for each `check-synth` over bit vectors.
     Bits(Seq<Outcome<BvTheory, BvProof, BvSpent>>),
+    /// What was found of the reply to each `check-synth` over integers; `None` where it gives no definitions.
+    IntChecks(Seq<Option<Checked<IntTheory, Tree, IntSpent>>>),
+    /// What was found of the reply to each `check-synth` over bit vectors; `None` where it gives no definitions.
+    BitChecks(Seq<Option<Checked<BvTheory, BvProof, BvSpent>>>),
 }
 
 /// How a run ended: the status of the program, and the answers.
 #[derive(Drop)]
 pub struct Ended {
-    /// From 0 to 6, as `run` says.
+    /// From 0 to 7, as `run` says.
     pub status: u8,
-    /// Those to the first problems, in order: to all of them at 0 and 1, and to none at 2, 3 and 4.
+    /// Those to the first problems, in order: to all of them at 0 and 1, and to none at 2, 3, 4 and 7.
     pub answers: Answers,
 }
 

@@ -4,7 +4,7 @@ use Rattle.sy_io.specs.Causes.{Rose}
 use Rattle.sy_io.specs.Source.{Holding, bytes_under}
 use Rattle.sy_query_limits.specs.declared.Limits.{Limits}
 use Rattle.sygus_words.specs.CommandLine.{IsReading}
-use Rattle.sygus_words.specs.declared.settings.Mode.TheVariants.{Drill}
+use Rattle.sygus_words.specs.declared.settings.Mode.TheVariants.{Check, Drill}
 use Rattle.sygus_words.specs.declared.settings.Settings.{Settings}
 use Rattle.sygus_input.specs.declared.input.Input.{Input}
 use Rattle.sygus_input.specs.declared.input.Input.TheVariants as inputs
@@ -30,21 +30,50 @@ pub record AskDrill (words : List (List ℕ)) (number : ℕ) (limits : Limits) :
 abbrev pub AskNoDrill : List (List ℕ) → Type 0
 AskNoDrill words = (number : ℕ) (limits : Limits) → AskDrill words number limits → ⊥
 
+-- they ask for replies to be judged
+pub record AskJudging (words : List (List ℕ)) : Type 0 where
+  pub settings : Settings
+  pub accepted : IsReading words settings
+  pub mode : settings.mode ≡ Check
+
+-- they ask for none
+abbrev pub AskNoJudging : List (List ℕ) → Type 0
+AskNoJudging words = AskJudging words → ⊥
+
+-- they ask for problems to be solved: for no drill, and for no replies to be judged
+abbrev pub AskSolving : List (List ℕ) → Type 0
+AskSolving words = AskNoDrill words × AskNoJudging words
+
 -- the words are accepted, and this is the file under their name, as far as the source tells
 pub record Names (words : List (List ℕ)) (held : Option Holding) (settings : Settings) (file : List ℕ) : Type 0 where
   pub accepted : IsReading words settings
   pub told : IfSome held (λ h. file ≡ bytes_under h settings.file)
 
+-- they ask for the replies in this file, which isn't too long
+pub record AskReplies (words : List (List ℕ)) (held : Option Holding) (settings : Settings) (file : List ℕ) : Type 0 where
+  pub no_drill : AskNoDrill words
+  pub judging : AskJudging words
+  pub named : Names words held settings file
+  pub short : length file ≤ longest
+
 -- they ask for the problems of this file, which isn't too long
 pub record AskFile (words : List (List ℕ)) (held : Option Holding) (settings : Settings) (file : List ℕ) : Type 0 where
   pub no_drill : AskNoDrill words
+  pub no_judging : AskNoJudging words
   pub named : Names words held settings file
   pub short : length file ≤ longest
+
+-- the file as input, by the mode of its settings
+abbrev pub IsInputBy : Settings → List ℕ → Input → Type 0
+IsInputBy settings file (inputs.Drill number limits) = ⊥
+IsInputBy settings file (inputs.File by bytes) = (settings.mode ≡ Check → ⊥) × (by ≡ settings) × (bytes ≡ file)
+IsInputBy settings file (inputs.Judge by bytes) = (settings.mode ≡ Check) × (by ≡ settings) × (bytes ≡ file)
 
 -- they ask for this
 abbrev pub IsInput : List (List ℕ) → Option Holding → Input → Type 0
 IsInput words held (inputs.Drill number limits) = AskDrill words number limits
 IsInput words held (inputs.File settings file) = AskFile words held settings file
+IsInput words held (inputs.Judge settings file) = AskReplies words held settings file
 
 -- the file under their name is too long
 pub record NameTooLong (words : List (List ℕ)) (held : Option Holding) : Type 0 where

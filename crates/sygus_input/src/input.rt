@@ -11,6 +11,8 @@ pub enum Input {
     Drill(u32, Limits),
     /// The problems of a file, by these settings: its bytes.
     File(Settings, Bytes),
+    /// The replies in a file, by these settings: its bytes.
+    Judge(Settings, Bytes),
 }
 
 /// Why there is no input.

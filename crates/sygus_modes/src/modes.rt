@@ -12,6 +12,7 @@ pub fn tries_trees(mode: Mode) -> bool
     match mode {
         Mode::Solve => true,
         Mode::Least => false,
+        Mode::Check => true,
         Mode::Drill(_) => true,
     }
 }

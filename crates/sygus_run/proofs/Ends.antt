@@ -1,15 +1,17 @@
 -- How a run ends.
-use Rattle.std.proofs.Common.{inl, inr, ◌≡◌, ◌≢◌, ◌++◌, List, ℕ, arith}
-use Rattle.std.specs.Prelude.{Option, Ok}
+use Rattle.std.proofs.Common.{inl, inr, refl, ◌≡◌, ◌≢◌, ◌≤◌, ◌++◌, List, ℕ, zero, suc, arith}
+use Rattle.std.specs.Prelude.{◌⊎◌, Option, Ok}
 use Rattle.std.specs.Io.KnownBytes.{Appends}
 use Rattle.sy_io.specs.Causes.{Rose}
 use Rattle.sy_io.specs.Source.{Holding}
 use Rattle.sy_query_limits.specs.declared.Limits.{Limits}
 use Rattle.sy_scope_steps.specs.Files.{file_read}
 use Rattle.sy_scope_names.specs.Jobs.{Wish, wished}
-use Rattle.sygus_input.specs.Inputs.{AskDrill, AskFile, HasNoInput, HaveNoReading}
+use Rattle.sygus_input.specs.Inputs.{AskDrill, AskJudging, AskFile, AskReplies, HasNoInput, HaveNoReading}
 use Rattle.sygus_input.specs.declared.input.InputFault.{InputFault}
 use Rattle.sygus_input.specs.declared.input.InputFault.TheVariants as faults
+use Rattle.sygus_judged.specs.Ends.{EndsJudged, FrontIsRefused, Judges, JudgesFile, RefusesFront, RefusesReplies, StopsJudging}
+use Rattle.sygus_judged.specs.Judging.{WritesVerdicts, WritesLines, WritesLinesCut}
 use Rattle.sygus_replies.specs.Texts.{answer_lines, words_line, read_line, memory_line}
 use Rattle.sygus_answers.proofs.Lines.{idle_line}
 use Rattle.sygus_words.specs.declared.settings.Settings.{Settings}
@@ -70,7 +72,65 @@ module _ (words : List (List ℕ)) (held : Option Holding) (settings : Settings)
     why = inr (asked.short, (at.refused, at.reads, at.line));
   }
 
+-- ---- of the replies in the file that words name
+
+module _ (words : List (List ℕ)) (held : Option Holding) (settings : Settings) (file : List ℕ) (asked : AskReplies words held settings file) where
+  judges : (answers : Answers) (Written : Wish → Type 0) → JudgesFile settings.limits file answers Written → Judges words held answers Written
+  judges answers Written at = record {
+    settings = settings;
+    file = file;
+    named = asked.named;
+    short = asked.short;
+    judges = at;
+  }
+
+  stops : (answers : Answers) (out out' : Option (List ℕ)) (Written : Wish → Type 0) → StopsJudging settings.limits file answers out out' Written → ((answers ≡ Idle) × (out' ≡ out)) ⊎ Judges words held answers Written
+  stops answers out out' Written (inl nothing) = inl nothing
+  stops answers out out' Written (inr at) = inr (judges answers Written at)
+
+  only : (status : ℕ) → (status ≤ 2) ⊎ ((5 ≤ status) × (status ≤ 7)) → (status ≤ 2) ⊎ ((4 ≤ status) × (status ≤ 7))
+  only status (inl low) = inl low
+  only status (inr high) = inr (omega (arith, high.0), high.1)
+
+  nothing : (status : ℕ) (A : Type 0) → (status ≤ 2) ⊎ ((5 ≤ status) × (status ≤ 7)) → (status ≡ 2 → A) → (status ≡ 7 → A) → (status ≡ 2) ⊎ ((status ≡ 4) ⊎ (status ≡ 7)) → A
+  nothing status A within two seven (inl is) = two is
+  nothing status A within two seven (inr (inr is)) = seven is
+  nothing status A (inl low) two seven (inr (inl is)) = absurd (omega (arith, low, is))
+  nothing status A (inr high) two seven (inr (inl is)) = absurd (omega (arith, high.0, is))
+
+  pub ends_judged : (status : ℕ) (answers : Answers) (out out' err err' : Option (List ℕ)) → (status ≤ 2) ⊎ ((5 ≤ status) × (status ≤ 7)) → (status ≤ 1 → JudgesFile settings.limits file answers (WritesVerdicts status answers out out' err err'))
+      → (status ≡ 2 → RefusesFront file err err') → (status ≡ 7 → RefusesReplies file err err') → (status ≡ 2 → (answers ≡ Idle) × (out' ≡ out)) → (status ≡ 7 → (answers ≡ Idle) × (out' ≡ out))
+      → (status ≡ 5 → StopsJudging settings.limits file answers out out' (WritesLinesCut answers out out')) → (status ≡ 6 → StopsJudging settings.limits file answers out out' (WritesLines answers out out'))
+      → EndsJudged words held status answers out out' err err'
+  ends_judged status answers out out' err err' within judged front replies two seven cut memory = record {
+    only = only status within;
+    judged = λ small. judges answers (WritesVerdicts status answers out out' err err') (judged small);
+    front_refused = λ is. record {
+      settings = settings;
+      file = file;
+      named = asked.named;
+      why = inr (asked.short, front is);
+    };
+    reply_refused = λ is. record {
+      settings = settings;
+      file = file;
+      named = asked.named;
+      short = asked.short;
+      refuses = replies is;
+    };
+    nothing = nothing status ((answers ≡ Idle) × (out' ≡ out)) within two seven;
+    cut_off = λ is. stops answers out out' (WritesLinesCut answers out out') (cut is);
+    memory = λ is. stops answers out out' (WritesLines answers out out') (memory is);
+  }
+
 -- ---- without input
+
+within_ends : (status : ℕ) → 2 ≤ status → (status ≡ 3 → ⊥) → status ≤ 6 → (status ≤ 2) ⊎ ((4 ≤ status) × (status ≤ 7))
+within_ends zero least other most = inl (omega arith)
+within_ends (suc zero) least other most = inl (omega arith)
+within_ends (suc (suc zero)) least other most = inl (omega arith)
+within_ends (suc (suc (suc zero))) least other most = absurd (other refl)
+within_ends (suc (suc (suc (suc n)))) least other most = inr (omega arith, omega (arith, most))
 
 module _ (words : List (List ℕ)) (held : Option Holding) (before now : ℕ) (status : ℕ) (err err' : Option (List ℕ)) where
   pub refuses_long : (fault : InputFault) → HasNoInput words held before now fault → (status ≢ 5 → (status ≡ fault_status fault) × Appends err err' (fault_line fault)) → status ≡ 2 → FileIsRefused words held err err'
@@ -103,6 +163,39 @@ module _ (words : List (List ℕ)) (held : Option Holding) (before now : ℕ) (s
   ends_no_drill faults.Read number limits answers out out' why ends asked idle same = absurd (why.0 number limits asked)
   ends_no_drill faults.TooLong number limits answers out out' why ends asked idle same = absurd (why.0 number limits asked)
   ends_no_drill faults.Want number limits answers out out' why ends asked idle same = ends_idle number limits status answers out out' err err' (λ other. (ends other).0) idle same
+
+  -- replies that are asked for have input, unless a read fails, the file is too long or memory is wanted
+  front_long : (fault : InputFault) → HasNoInput words held before now fault → (status ≢ 5 → (status ≡ fault_status fault) × Appends err err' (fault_line fault)) → status ≡ 2 → FrontIsRefused words held err err'
+  front_long faults.TooLong why ends is = record {
+    settings = why.1.settings;
+    file = why.1.file;
+    named = why.1.named;
+    why = inl (why.1.long, (ends (λ e. omega (arith, e, is))).1);
+  }
+  front_long faults.Words why ends is = absurd (omega (arith, (ends (λ e. omega (arith, e, is))).0, is))
+  front_long faults.Read why ends is = absurd (omega (arith, (ends (λ e. omega (arith, e, is))).0, is))
+  front_long faults.Want why ends is = absurd (omega (arith, (ends (λ e. omega (arith, e, is))).0, is))
+
+  idle_ends : (answers : Answers) (out out' : Option (List ℕ)) → (2 ≤ status) × (status ≤ 6) → (status ≡ 3 → ⊥) → (status ≡ 2 → FrontIsRefused words held err err') → answers ≡ Idle → out' ≡ out → EndsJudged words held status answers out out' err err'
+  idle_ends answers out out' within other front idle same = record {
+    only = within_ends status within.0 other within.1;
+    judged = λ small. absurd (omega (arith, small, within.0));
+    front_refused = front;
+    reply_refused = λ is. absurd (omega (arith, is, within.1));
+    nothing = λ is. (idle, same);
+    cut_off = λ is. inl (idle, same);
+    memory = λ is. inl (idle, same);
+  }
+
+  pub ends_unjudged : (fault : InputFault) (answers : Answers) (out out' : Option (List ℕ)) → (2 ≤ status) × (status ≤ 6) → HasNoInput words held before now fault → (status ≢ 5 → (status ≡ fault_status fault) × Appends err err' (fault_line fault))
+      → AskJudging words → answers ≡ Idle → out' ≡ out → EndsJudged words held status answers out out' err err'
+  ends_unjudged faults.Words answers out out' within why ends asked idle same = absurd (why asked.settings asked.accepted)
+  ends_unjudged faults.Read answers out out' within why ends asked idle same =
+      idle_ends answers out out' within (λ is. omega (arith, (ends (λ e. omega (arith, e, is))).0, is)) (front_long faults.Read why ends) idle same
+  ends_unjudged faults.TooLong answers out out' within why ends asked idle same =
+      idle_ends answers out out' within (λ is. omega (arith, (ends (λ e. omega (arith, e, is))).0, is)) (front_long faults.TooLong why ends) idle same
+  ends_unjudged faults.Want answers out out' within why ends asked idle same =
+      idle_ends answers out out' within (λ is. omega (arith, (ends (λ e. omega (arith, e, is))).0, is)) (front_long faults.Want why ends) idle same
 
 pub wants_line : (status : ℕ) (fault : InputFault) (answers : Answers) (err err' : Option (List ℕ)) → (status ≢ 5 → (status ≡ fault_status fault) × Appends err err' (fault_line fault)) → answers ≡ Idle → status ≡ 6
     → Appends err err' (answer_lines 1 (replies_of answers) ++ memory_line)

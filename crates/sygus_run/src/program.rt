@@ -5,9 +5,10 @@ ghost use Rattle.sy_io.specs.Causes.{Rose};
 ghost use Rattle.sygus_replies.specs.Replies.{IsSettled, IsFail};
 ghost use Rattle.sygus_replies.specs.Texts.{answer_lines, words_line, read_line, memory_line};
 ghost use Rattle.sygus_answers.specs.Answers.{replies_of, AreNamedFor};
-ghost use Rattle.sygus_input.specs.Inputs.{AskDrill, AskNoDrill, HaveNoReading};
+ghost use Rattle.sygus_input.specs.Inputs.{AskDrill, AskJudging, AskNoJudging, AskSolving, HaveNoReading};
 ghost use Rattle.sygus_run.specs.Runs.{Answered, FileIsRefused, IsCutOff, WantsMemory, fault_status, fault_line};
 ghost use Rattle.sygus_drills.specs.Drills.{EndsDrill};
+ghost use Rattle.sygus_judged.specs.Ends.{EndsJudged};
 ghost use Rattle.sy_query_limits.specs.declared.Limits.{Limits};
 
 use std::alloc::Global;
@@ -15,14 +16,17 @@ use sy_io::{Sink, Source};
 use sygus_answers::{Answers, Ended, unanswered};
 use sygus_drills::drill;
 use sygus_input::{Input, InputFault, read_input};
+use sygus_judged::judge_file;
 use sygus_solve::answer_file;
 
-/// Reads the words, then the input, checks the whole file, and answers its problems in order.
-/// Each reply goes out before the next problem is sought. In mode `drill` the file is made from a number, and one line
-/// goes out in place of a reply.
+/// Reads the words, then the input, checks the whole file, and answers its problems in order. Each reply goes out
+/// before the next problem is sought. In mode `drill` the file is made from a number, and one line goes out in place of
+/// a reply. In mode `check` the replies that follow the problems in the file are judged, and one line of each goes out
+/// before the next is judged.
 ///
 /// The status is 0 where no answer is a fail and 1 where some is, 2 where the file is refused, 3 where the words are, 4
-/// where a read failed, 5 where a write did, and 6 where memory was wanted. At 5 and 6 the answers are those so far.
+/// where a read failed, 5 where a write did, and 6 where memory was wanted. At 5 and 6 the answers are those so far. In
+/// mode `check` it is 0 where all replies hold and else 1, and 7 where the replies are refused.
 pub fn run<S: Source, O: Sink, E: Sink>(
     alloc: Global,
     words: &[String],
@@ -30,7 +34,7 @@ pub fn run<S: Source, O: Sink, E: Sink>(
     out: &mut O,
     err: &mut E,
 ) -> Ended
-    ensures status { result.status ≤ 6 }
+    ensures status { result.status ≤ 7 }
 
     // mode drill: the problem of the number's file has its right answer, one line tells it, and the source isn't used
     ensures drill { (number : ℕ) (limits : Limits) → AskDrill (map string_bytes words.now) number limits →
@@ -38,18 +42,26 @@ pub fn run<S: Source, O: Sink, E: Sink>(
     ensures unread { (number : ℕ) (limits : Limits) → AskDrill (map string_bytes words.now) number limits → source.new ≡
         source.old }
 
+    // mode check: each reply has its right verdict, and only there replies are refused
+    ensures judged { AskJudging (map string_bytes words.now) →
+        EndsJudged (map string_bytes words.now) (S.held source.old) result.status result.answers
+        (O.written out.old) (O.written out.new) (E.written err.old) (E.written err.new) }
+    ensures reply_refused { result.status ≡ 7 → AskJudging (map string_bytes words.now) }
+
     // 0 and 1 in the other modes: every problem of the file has its right answer
-    ensures answered { AskNoDrill (map string_bytes words.now) → result.status ≤ 1 →
+    ensures answered { AskSolving (map string_bytes words.now) → result.status ≤ 1 →
         Answered (map string_bytes words.now) (S.held source.old) result.answers
         (O.written out.old) (O.written out.new) (E.written err.old) (E.written err.new) }
     ensures all_settled { result.status ≡ 0 → All IsSettled (replies_of result.answers) }
-    ensures some_fail { result.status ≡ 1 → Any IsFail (replies_of result.answers) }
+    ensures some_fail { AskNoJudging (map string_bytes words.now) → result.status ≡ 1 → Any IsFail
+        (replies_of result.answers) }
 
     // a fail over bit vectors isn't named Nodes, Pivots or Range, and one over integers isn't named Clauses
     ensures named { AreNamedFor result.answers }
 
     // 2: the file is refused
-    ensures refused { result.status ≡ 2 → FileIsRefused (map string_bytes words.now) (S.held source.old)
+    ensures refused { AskNoJudging (map string_bytes words.now) → result.status ≡ 2 → FileIsRefused
+        (map string_bytes words.now) (S.held source.old)
         (E.written err.old) (E.written err.new) }
 
     // 3: the words are refused; the source isn't used then
@@ -68,12 +80,13 @@ pub fn run<S: Source, O: Sink, E: Sink>(
     // 5: a write failed
     ensures write { result.status ≡ 5 → Rose (O.faults out.old) (O.faults out.new) ⊎ Rose (E.faults err.old)
         (E.faults err.new) }
-    ensures cut_off { AskNoDrill (map string_bytes words.now) → result.status ≡ 5 → IsCutOff
+    ensures cut_off { AskSolving (map string_bytes words.now) → result.status ≡ 5 → IsCutOff
         (map string_bytes words.now) (S.held source.old) result.answers
         (O.written out.old) (O.written out.new) }
 
-    // 6: memory was wanted
-    ensures memory { result.status ≡ 6 → WantsMemory (map string_bytes words.now) (S.held source.old) result.answers
+    // 6: out of memory
+    ensures memory { AskNoJudging (map string_bytes words.now) → result.status ≡ 6 → WantsMemory
+        (map string_bytes words.now) (S.held source.old) result.answers
         (O.written out.old) (O.written out.new) }
     ensures memory_line { result.status ≡ 6 → Appends (E.written err.old) (E.written err.new)
         (answer_lines 1 (replies_of result.answers) ++ memory_line) }
@@ -82,6 +95,9 @@ pub fn run<S: Source, O: Sink, E: Sink>(
         Ok(Input::Drill(number, limits)) => drill(alloc, number, &limits, out, err),
         Ok(Input::File(settings, file)) => {
             answer_file(alloc, &settings, file.as_slice(), out, err)
+        }
+        Ok(Input::Judge(settings, file)) => {
+            judge_file(alloc, &settings.limits, file.as_slice(), out, err)
         }
         Err(fault) => without_input(err, fault),
     }

@@ -21,16 +21,17 @@ use Rattle.sy_loop.specs.Least.{FindsLeast}
 use Rattle.sygus_search.specs.Finding.{FindsBeyond}
 use Rattle.sygus_modes.specs.Reaches.{reach_of}
 use Rattle.sygus_words.specs.declared.settings.Mode.{Mode}
-use Rattle.sygus_words.specs.declared.settings.Mode.TheVariants.{Solve, Least, Drill}
+use Rattle.sygus_words.specs.declared.settings.Mode.TheVariants.{Solve, Least, Check, Drill}
 use Rattle.sygus_replies.specs.Answered.{AreRight}
 use Rattle.sygus_answers.specs.declared.answers.Answers.{Answers}
-use Rattle.sygus_answers.specs.declared.answers.Answers.TheVariants.{Idle, Ints, Bits}
+use Rattle.sygus_answers.specs.declared.answers.Answers.TheVariants.{Idle, Ints, Bits, IntChecks, BitChecks}
 
 -- bodies that are found are of the least bound in which any solve the problem: in modes `solve` and `drill`, unless a bank was
 -- full or a number had left the 128 bits before
 abbrev pub FindsWell : {T P S N : Type 0} → (N → Val) → Mode → Limits → Question → Outcome T P S N → Type 0
 FindsWell number Solve limits question outcome = FindsBeyond number question limits outcome
 FindsWell number Least limits question outcome = FindsLeast number Sizes question outcome
+FindsWell number Check limits question outcome = FindsBeyond number question limits outcome
 FindsWell number (Drill n) limits question outcome = FindsBeyond number question limits outcome
 
 -- the outcome is right within these limits, and so are bodies that are found
@@ -47,10 +48,12 @@ RightOutcomeFor theory solver = RightOutcome theory.owned theory.denotes solver.
 abbrev pub AreRightFor : {T N D P S : Type 0} → TheoryOf T N → DecideOf D T P S N → Mode → Limits → List (Problem T N) → List (Outcome T P S N) → Type 0
 AreRightFor theory solver mode limits problems outcomes = AreRight (RightOutcomeFor theory solver mode limits) (map (question_of theory.denotes) problems) outcomes
 
--- the answers of a run are right for the first questions, in order
+-- the answers of a run are right for the first questions, in order; judgements of replies are none
 abbrev pub AreRightAnswers : Mode → Limits → List Question → Answers → Type 0
 AreRightAnswers mode limits questions Idle = ⊤
 AreRightAnswers mode limits questions (Ints outcomes) =
     AreRight (RightOutcome lia.owned Whole int_proofs.Accepted int_budgets.budget int_proofs.ShowsFor mode limits) questions outcomes
 AreRightAnswers mode limits questions (Bits outcomes) =
     AreRight (RightOutcome vectors.owned vectors.vector bits.Accepted bits.budget bits.Shows mode limits) questions outcomes
+AreRightAnswers mode limits questions (IntChecks found) = ⊥
+AreRightAnswers mode limits questions (BitChecks found) = ⊥

@@ -31,13 +31,20 @@ one_mode : (text file : Option Text) (m k : Mode) → ModeIs text file m → Mod
 one_mode None file m k first second = first ∙ sym second
 one_mode (Some text) file m k (inl first) (inl second) = first.1 ∙ sym second.1
 one_mode (Some text) file m k (inl first) (inr (inl second)) = absurd (let first : 115 ≡ 108 = ap (λ (l : List ℕ). get_or l 0 0) (sym first.0 ∙ second.0) in omega (arith, first))
-one_mode (Some text) file m k (inl first) (inr (inr second)) = absurd (let first : 115 ≡ 100 = ap (λ (l : List ℕ). get_or l 0 0) (sym first.0 ∙ second.0) in omega (arith, first))
+one_mode (Some text) file m k (inl first) (inr (inr (inl second))) = absurd (let first : 115 ≡ 99 = ap (λ (l : List ℕ). get_or l 0 0) (sym first.0 ∙ second.0) in omega (arith, first))
+one_mode (Some text) file m k (inl first) (inr (inr (inr second))) = absurd (let first : 115 ≡ 100 = ap (λ (l : List ℕ). get_or l 0 0) (sym first.0 ∙ second.0) in omega (arith, first))
 one_mode (Some text) file m k (inr (inl first)) (inl second) = absurd (let first : 108 ≡ 115 = ap (λ (l : List ℕ). get_or l 0 0) (sym first.0 ∙ second.0) in omega (arith, first))
 one_mode (Some text) file m k (inr (inl first)) (inr (inl second)) = first.1 ∙ sym second.1
-one_mode (Some text) file m k (inr (inl first)) (inr (inr second)) = absurd (let first : 108 ≡ 100 = ap (λ (l : List ℕ). get_or l 0 0) (sym first.0 ∙ second.0) in omega (arith, first))
-one_mode (Some text) file m k (inr (inr first)) (inl second) = absurd (let first : 100 ≡ 115 = ap (λ (l : List ℕ). get_or l 0 0) (sym first.0 ∙ second.0) in omega (arith, first))
-one_mode (Some text) file m k (inr (inr first)) (inr (inl second)) = absurd (let first : 100 ≡ 108 = ap (λ (l : List ℕ). get_or l 0 0) (sym first.0 ∙ second.0) in omega (arith, first))
-one_mode (Some text) file m k (inr (inr first)) (inr (inr second)) = one_drill file m k first.1 second.1
+one_mode (Some text) file m k (inr (inl first)) (inr (inr (inl second))) = absurd (let first : 108 ≡ 99 = ap (λ (l : List ℕ). get_or l 0 0) (sym first.0 ∙ second.0) in omega (arith, first))
+one_mode (Some text) file m k (inr (inl first)) (inr (inr (inr second))) = absurd (let first : 108 ≡ 100 = ap (λ (l : List ℕ). get_or l 0 0) (sym first.0 ∙ second.0) in omega (arith, first))
+one_mode (Some text) file m k (inr (inr (inl first))) (inl second) = absurd (let first : 99 ≡ 115 = ap (λ (l : List ℕ). get_or l 0 0) (sym first.0 ∙ second.0) in omega (arith, first))
+one_mode (Some text) file m k (inr (inr (inl first))) (inr (inl second)) = absurd (let first : 99 ≡ 108 = ap (λ (l : List ℕ). get_or l 0 0) (sym first.0 ∙ second.0) in omega (arith, first))
+one_mode (Some text) file m k (inr (inr (inl first))) (inr (inr (inl second))) = first.1 ∙ sym second.1
+one_mode (Some text) file m k (inr (inr (inl first))) (inr (inr (inr second))) = absurd (let first : 99 ≡ 100 = ap (λ (l : List ℕ). get_or l 0 0) (sym first.0 ∙ second.0) in omega (arith, first))
+one_mode (Some text) file m k (inr (inr (inr first))) (inl second) = absurd (let first : 100 ≡ 115 = ap (λ (l : List ℕ). get_or l 0 0) (sym first.0 ∙ second.0) in omega (arith, first))
+one_mode (Some text) file m k (inr (inr (inr first))) (inr (inl second)) = absurd (let first : 100 ≡ 108 = ap (λ (l : List ℕ). get_or l 0 0) (sym first.0 ∙ second.0) in omega (arith, first))
+one_mode (Some text) file m k (inr (inr (inr first))) (inr (inr (inl second))) = absurd (let first : 100 ≡ 99 = ap (λ (l : List ℕ). get_or l 0 0) (sym first.0 ∙ second.0) in omega (arith, first))
+one_mode (Some text) file m k (inr (inr (inr first))) (inr (inr (inr second))) = one_drill file m k first.1 second.1
 
 one_choice : (value : Text → Option Text) (l m : Limits) → AreLimits value l → AreLimits value m → l ≡ m
 one_choice value l m first second = λ i. record {

@@ -1,4 +1,4 @@
--- The command line of the program: `sygus [--mode solve|least|drill] [--size N] [--rounds N] [--points N] [--bank N]
+-- The command line of the program: `sygus [--mode solve|least|check|drill] [--size N] [--rounds N] [--points N] [--bank N]
 -- [--weight N] [--clauses N] [--nodes N] [--pivots N] FILE`.
 use Rattle.std.specs.Prelude.{◌≡◌, ◌≤◌, ◌⊎◌, ℕ, true, List, [], ◌∷◌, Option, Some, None, codes}
 use Rattle.std.specs.Fmt.{decimal}
@@ -8,7 +8,7 @@ use Rattle.clap.specs.declared.builder.ArgAction.TheVariants.{Set}
 use Rattle.sy_query_limits.specs.declared.Limits.{Limits}
 use Rattle.sygus_numbers.specs.Numbers.{LimitIs}
 use Rattle.sygus_words.specs.declared.settings.Mode.{Mode}
-use Rattle.sygus_words.specs.declared.settings.Mode.TheVariants.{Solve, Least, Drill}
+use Rattle.sygus_words.specs.declared.settings.Mode.TheVariants.{Solve, Least, Check, Drill}
 use Rattle.sygus_words.specs.declared.settings.Settings.{Settings}
 use Rattle.sygus_words.specs.declared.settings.WordFault.{WordFault}
 use Rattle.sygus_words.specs.declared.settings.WordFault.TheVariants.{Refused, Want}
@@ -44,7 +44,8 @@ DrillIs file mode = (n : ℕ) × (file ≡ Some (decimal n)) × (n ≤ greatest_
 -- the mode that an option's value and FILE give
 abbrev pub ModeIs : Option Text → Option Text → Mode → Type 0
 ModeIs None file mode = mode ≡ Solve
-ModeIs (Some text) file mode = ((text ≡ codes "solve") × (mode ≡ Solve)) ⊎ (((text ≡ codes "least") × (mode ≡ Least)) ⊎ ((text ≡ codes "drill") × DrillIs file mode))
+ModeIs (Some text) file mode =
+    ((text ≡ codes "solve") × (mode ≡ Solve)) ⊎ (((text ≡ codes "least") × (mode ≡ Least)) ⊎ (((text ≡ codes "check") × (mode ≡ Check)) ⊎ ((text ≡ codes "drill") × DrillIs file mode)))
 
 -- the limits, with their defaults and greatest values
 pub record AreLimits (value : Text → Option Text) (limits : Limits) : Type 0 where

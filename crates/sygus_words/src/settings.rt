@@ -15,6 +15,8 @@ pub enum Mode {
     Solve,
     /// So it is, by members of the least sum of sizes.
     Least,
+    /// The replies that follow the problems in the file are judged.
+    Check,
     /// No file is read: the problem that is made from a number of at most 999,999,999 is solved.
     Drill(u32),
 }

@@ -20,7 +20,8 @@ use sygus_numbers::{limit_of, number};
 
 /// The value of an option, from 1 to `greatest`, or its default.
 fn limit(matches: &ArgMatches<'_>, name: &str, default: u32, greatest: u32) -> Option<u32>
-    ensures { MatchOption result ((n : ℕ) → LimitIs default greatest (first_value (found_of matches.now) name.now) n → ⊥)
+    ensures { MatchOption result ((n : ℕ) → LimitIs default greatest (first_value (found_of matches.now) name.now) n →
+        ⊥)
         (λ n. LimitIs default greatest (first_value (found_of matches.now) name.now) n) }
 {
     limit_of(matches.get_str(name), default, greatest)
@@ -28,7 +29,8 @@ fn limit(matches: &ArgMatches<'_>, name: &str, default: u32, greatest: u32) -> O
 
 /// The limits, each by its option.
 fn limits(matches: &ArgMatches<'_>) -> Option<Limits>
-    ensures { MatchOption result ((l : Limits) → AreLimits (first_value (found_of matches.now)) l → ⊥) (λ l. AreLimits (first_value (found_of matches.now)) l) }
+    ensures { MatchOption result ((l : Limits) → AreLimits (first_value (found_of matches.now)) l → ⊥)
+        (λ l. AreLimits (first_value (found_of matches.now)) l) }
 {
     Some(Limits {
         size: limit(matches, "size", 12, 64)?,
@@ -44,7 +46,8 @@ fn limits(matches: &ArgMatches<'_>) -> Option<Limits>
 
 /// The number of a drill, of which the text is the decimal spelling, without sign and leading zeros.
 fn drill_number(text: &str) -> Option<u32>
-    ensures { MatchOption result ((n : ℕ) → text.now ≡ decimal n → n ≤ greatest_drill → ⊥) (λ n. (text.now ≡ decimal n) × (n ≤ greatest_drill)) }
+    ensures { MatchOption result ((n : ℕ) → text.now ≡ decimal n → n ≤ greatest_drill → ⊥)
+        (λ n. (text.now ≡ decimal n) × (n ≤ greatest_drill)) }
 {
     if text == "0" {
         Some(0)
@@ -55,7 +58,8 @@ fn drill_number(text: &str) -> Option<u32>
 
 /// Mode `drill`, whose number stands in FILE's place.
 fn drill(matches: &ArgMatches<'_>) -> Option<Mode>
-    ensures { MatchOption result ((m : Mode) → DrillIs (first_value (found_of matches.now) (codes "FILE")) m → ⊥) (λ m. DrillIs (first_value (found_of matches.now) (codes "FILE")) m) }
+    ensures { MatchOption result ((m : Mode) → DrillIs (first_value (found_of matches.now) (codes "FILE")) m → ⊥)
+        (λ m. DrillIs (first_value (found_of matches.now) (codes "FILE")) m) }
 {
     let file = matches.get_str("FILE")?;
     let number = drill_number(file)?;
@@ -71,6 +75,7 @@ fn mode(matches: &ArgMatches<'_>) -> Option<Mode>
     match matches.get_str("mode") {
         None | Some("solve") => Some(Mode::Solve),
         Some("least") => Some(Mode::Least),
+        Some("check") => Some(Mode::Check),
         Some("drill") => drill(matches),
         Some(_) => None,
     }
@@ -79,7 +84,8 @@ fn mode(matches: &ArgMatches<'_>) -> Option<Mode>
 /// What the matches ask for.
 fn settings(alloc: Global, matches: &ArgMatches<'_>) -> Result<Settings, WordFault>
     ensures ok { IfOk result (λ s. AreSettings (first_value (found_of matches.now)) s) }
-    ensures refused { IfErr result (λ e. e ≡ Refused → (s : Settings) → AreSettings (first_value (found_of matches.now)) s → ⊥) }
+    ensures refused { IfErr result
+        (λ e. e ≡ Refused → (s : Settings) → AreSettings (first_value (found_of matches.now)) s → ⊥) }
 {
     let Some(mode) = mode(matches) else {
         return Err(WordFault::Refused);
@@ -96,7 +102,8 @@ fn settings(alloc: Global, matches: &ArgMatches<'_>) -> Result<Settings, WordFau
 
 /// What `clap` makes of the words.
 fn parsed<'a>(alloc: Global, words: &'a [String]) -> Result<ArgMatches<'a>, WordFault>
-    ensures ok { IfOk result (λ m. (fault_of sygus (map string_bytes words.entry.now) ≡ []) × (rows_of (found_of m) ≡ matches_of sygus (map string_bytes words.entry.now))) }
+    ensures ok { IfOk result (λ m. (fault_of sygus (map string_bytes words.entry.now) ≡ []) ×
+        (rows_of (found_of m) ≡ matches_of sygus (map string_bytes words.entry.now))) }
     ensures refused { IfErr result (λ e. e ≡ Refused → fault_of sygus (map string_bytes words.entry.now) ≡ [] → ⊥) }
 {
     match command(alloc)?.try_get_matches_from(words) {
@@ -108,11 +115,11 @@ fn parsed<'a>(alloc: Global, words: &'a [String]) -> Result<ArgMatches<'a>, Word
     }
 }
 
-/// The settings that the words of a command line ask for; the first word is the program's name. An option is
-/// written `--NAME VALUE` or `--NAME=VALUE`, and the one word that is no option is the name of the file. `Refused`
-/// comes where `clap` refuses the words, where the mode is none of `solve`, `least` and `drill`, where the value of a
-/// limit isn't the decimal spelling, without sign and leading zeros, of a number from 1 to its greatest value, or where in
-/// mode `drill` the name of the file isn't so spelled a number from 0 to 999,999,999:
+/// The settings that the words of a command line ask for; the first word is the program's name. An option is written
+/// `--NAME VALUE` or `--NAME=VALUE`, and the one word that is no option is the name of the file. `Refused` comes where
+/// `clap` refuses the words, where the mode is none of `solve`, `least`, `check` and `drill`, where the value of a
+/// limit isn't the decimal spelling, without sign and leading zeros, of a number from 1 to its greatest value, or where
+/// in mode `drill` the name of the file isn't so spelled a number from 0 to 999,999,999:
 ///
 /// | Option | Default | Greatest |
 /// |---|---|---|

@@ -1,4 +1,4 @@
-use Rattle.sygus_input.proofs.Asking.{asks_for, asks_none, asks_file, asks_no_file}
+use Rattle.sygus_input.proofs.Asking.{asks_for, asks_none, asks_input, asks_no_file}
 use Rattle.sygus_input.proofs.reading.read_input.Goals as goal
 
 pub returns-in-Drill-clause-ok : goal.returns-in-Drill-clause-ok
@@ -7,7 +7,7 @@ returns-in-Drill-clause-ok g c = asks_for _ c.in-Ok.settings c.in-Drill.number c
 pub returns-in-Ok-read_named-clause-ok : goal.returns-in-Ok-read_named-clause-ok
 returns-in-Ok-read_named-clause-ok g c =
     let none = asks_none _ c.in-Ok.settings c.in-Ok.ensures.ok c.in_default.not-Drill in
-    asks_file _ _ c.in-Ok.settings _ c.in-Ok.ensures.ok none c.in-Ok-read_named.ensures.ok
+    asks_input _ _ c.in-Ok.settings _ c.input_of.result c.in-Ok.ensures.ok none c.in-Ok-read_named.ensures.ok c.input_of.ensures
 
 pub returns-in-Ok-read_named-clause-unread : goal.returns-in-Ok-read_named-clause-unread
 returns-in-Ok-read_named-clause-unread g c number limits asked =

@@ -1,7 +1,7 @@
 use Rattle.std.proofs.Common.{inr, ◌≡◌}
 use Rattle.sy_scope.specs.Read.{wish_in}
 use Rattle.sygus_answers.proofs.Lines.{idle_line}
-use Rattle.sygus_solve.proofs.Answerable.{questions_titled, few_questions}
+use Rattle.sygus_answers.proofs.Asked.{questions_titled, few_questions}
 use Rattle.sygus_solve.proofs.file.answer_file.Goals as goal
 
 pub answer-requires-clause-few : goal.answer-requires-clause-few

@@ -1,0 +1,12 @@
+pub mod Lists
+pub mod LogsAgain
+pub mod NumbersAgain
+pub mod Others
+pub mod Parsing
+pub mod Placeless
+pub mod Texts
+pub mod TreeNodes
+pub mod TreesAgain
+pub mod TreesFound
+pub mod Again
+pub mod Fractions

@@ -1,0 +1,13 @@
+use Rattle.std.proofs.Common.{length}
+use Rattle.sy_text_items.specs.Items.{listed}
+use Rattle.sy_forms_items.specs.Views.{items_in}
+use Rattle.sy_proof.specs.Lists.{each_in}
+use Rattle.sy_proof.specs.Logs.{line_in}
+use Rattle.sy_proof.proofs.Lists.{Onward}
+use Rattle.sy_proof.proofs.logs.read_lines.Given as goal
+
+abbrev pub invariant-loop-item : goal.invariant-loop-item
+invariant-loop-item l = Onward l.lines (each_in line_in (items_in l.left)) (each_in line_in (items_in l.fn.items))
+
+abbrev pub decreases-loop-item : goal.decreases-loop-item
+decreases-loop-item l = length (listed (items_in l.left))

@@ -1,0 +1,6 @@
+use Rattle.sy_forms_items.specs.Views.{items_in}
+use Rattle.sy_proof.proofs.Others.{no_negative}
+use Rattle.sy_proof.proofs.wholes.negative.Goals as goal
+
+pub returns-in_default : goal.returns-in_default
+returns-in_default c = no_negative (items_in c.args.items) c.in_default.ensures

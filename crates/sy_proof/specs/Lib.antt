@@ -1,0 +1,6 @@
+pub mod Growing
+pub mod Lists
+pub mod Logs
+pub mod Nodes
+pub mod Numbers
+pub mod Trees

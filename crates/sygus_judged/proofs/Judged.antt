@@ -1,0 +1,152 @@
+-- Judgements of the replies in a file.
+use Rattle.std.proofs.Common.{inl, inr, refl, ap, ◌≡◌, ◌≤◌, ℕ, List, [], ◌∷◌, map, arith, false}
+use Rattle.std.specs.Prelude.{◌⊎◌, Option, Ok, Err}
+use Rattle.std.specs.Io.KnownBytes.{Appends}
+use Rattle.sy_terms.specs.Values.{Val}
+use Rattle.sy_terms.specs.declared.sort.Logic.TheVariants.{Lia}
+use Rattle.sy_grammar_base.specs.Questions.{question_of}
+use Rattle.sy_grammar_base.specs.declared.problem.Problem.{Problem}
+use Rattle.sy_query_limits.specs.declared.Limits.{Limits}
+use Rattle.sy_reply_reader.specs.Replies.{statements_from}
+use Rattle.sy_scope.specs.Read.{wish_in}
+use Rattle.sy_scope.specs.declared.job.Job.TheVariants as jobs
+use Rattle.sy_scope_causes.specs.declared.titles.Titles.{Titles}
+use Rattle.sygus_answers.specs.Answers.{replies_of, AreNamedFor, AreOfLogic}
+use Rattle.sygus_verdicts.proofs.Steps.{appended_nothing, lines-none}
+use Rattle.sygus_verdicts.specs.Lines.{memory_line}
+use Rattle.sy_terms.specs.declared.theory.Theory.{Ghosts as TheoryOf}
+use Rattle.sy_reply_statements.specs.Ends.{ReplyReading, RepliesEndAs}
+use Rattle.sy_reply_statements.specs.Fitting.{AreStatedFor}
+use Rattle.sy_reply_statements.specs.Statements.{Statement}
+use Rattle.sy_reply_statements.specs.declared.end.ReplyEnd.{ReplyEnd}
+use Rattle.sy_reply_statements.specs.declared.end.ReplyEnd.TheVariants as reply_ends
+use Rattle.sy_reply_statements.specs.declared.stated.Stated.{Stated}
+use Rattle.sy_scope_front.specs.Fronts.{front, front_length}
+use Rattle.sy_scope_names.specs.Jobs.{Wish, wished}
+use Rattle.sy_scope_steps.specs.Files.{file_read}
+use Rattle.sygus_answers.specs.declared.answers.Answers.{Answers}
+use Rattle.sygus_answers.specs.declared.answers.Answers.TheVariants.{Idle}
+use Rattle.sygus_judged.specs.Claimed.{EndsReplies, IsTold, RefusesStatements, StopsReplies}
+use Rattle.sygus_judged.specs.Ends.{JudgesFile, RefusesReplies, StopsJudging}
+use Rattle.sygus_judged.specs.Judging.{AreRightVerdicts, JudgesReplies, WritesVerdicts, WritesLines, WritesLinesCut, replies_read}
+
+-- what the status of a judging rules out
+only : (status : ℕ) → (status ≤ 1) ⊎ ((status ≡ 5) ⊎ (status ≡ 6)) → (status ≤ 1) ⊎ ((5 ≤ status) × (status ≤ 7))
+only status (inl small) = inl small
+only status (inr (inl is)) = inr (omega (arith, is), omega (arith, is))
+only status (inr (inr is)) = inr (omega (arith, is), omega (arith, is))
+
+never_seven : (status : ℕ) → (status ≤ 1) ⊎ ((status ≡ 5) ⊎ (status ≡ 6)) → status ≡ 7 → ⊥
+never_seven status (inl small) is = omega (arith, small, is)
+never_seven status (inr (inl five)) is = omega (arith, five, is)
+never_seven status (inr (inr six)) is = omega (arith, six, is)
+
+pub widened : (status : ℕ) → (status ≤ 1) ⊎ ((5 ≤ status) × (status ≤ 7)) → (status ≤ 2) ⊎ ((5 ≤ status) × (status ≤ 7))
+widened status (inl small) = inl (omega (arith, small))
+widened status (inr high) = inr high
+
+pub not_two : (status : ℕ) → (status ≤ 1) ⊎ ((5 ≤ status) × (status ≤ 7)) → status ≡ 2 → ⊥
+not_two status (inl small) is = omega (arith, small, is)
+not_two status (inr high) is = omega (arith, high.0, is)
+
+-- ---- statements that are judged
+
+module _ (limits : Limits) (file : List ℕ) (at : ℕ) (wish : Wish) (statements : List Statement) (status : ℕ) (answers : Answers) (out out' err err' : Option (List ℕ)) where
+  judges : (Written : Wish → Type 0) → replies_read file at wish ≡ Ok statements → AreOfLogic wish.logic answers → AreRightVerdicts limits wish.questions statements answers → Written wish → JudgesReplies limits file at wish answers Written
+  judges Written stated logic right written = record {
+    statements = statements;
+    stated = stated;
+    logic = logic;
+    right = right;
+    written = written;
+  }
+
+  pub ends_claims : replies_read file at wish ≡ Ok statements → (status ≤ 1) ⊎ ((status ≡ 5) ⊎ (status ≡ 6)) → AreOfLogic wish.logic answers → AreRightVerdicts limits wish.questions statements answers → replies_of answers ≡ [] → AreNamedFor answers
+      → (status ≤ 1 → WritesVerdicts status answers out out' err err' wish) → (status ≡ 5 → WritesLinesCut answers out out' wish) → (status ≡ 6 → WritesLines answers out out' wish) → (status ≡ 6 → Appends err err' memory_line)
+      → EndsReplies limits file at wish status answers out out' err err'
+  ends_claims stated within logic right unsolved named all cut memory line = record {
+    only = only status within;
+    unsolved = unsolved;
+    named = named;
+    judged = λ small. judges (WritesVerdicts status answers out out' err err') stated logic right (all small);
+    cut_off = λ is. inr (judges (WritesLinesCut answers out out') stated logic right (cut is));
+    memory = λ is. inr (judges (WritesLines answers out out') stated logic right (memory is));
+    memory_line = line;
+    refused = λ is. absurd (never_seven status within is);
+    idle = λ is. absurd (never_seven status within is);
+  }
+
+-- ---- statements that aren't read
+
+pub told : (end : ReplyEnd) (read : ReplyReading (List Statement)) (file : List ℕ) (err err' : Option (List ℕ)) → RepliesEndAs end read → IsTold end file err err' → RefusesStatements read file err err'
+told reply_ends.Want read file err err' is line = absurd line
+told (reply_ends.Refused refused) read file err err' is line = record { refused = refused; stated = is; line = line }
+
+pub ends_told : (limits : Limits) (file : List ℕ) (at : ℕ) (wish : Wish) (end : ReplyEnd) (status : ℕ) (answers : Answers) (out out' err err' : Option (List ℕ)) → RepliesEndAs end (replies_read file at wish) → (5 ≤ status) × (status ≤ 7) → answers ≡ Idle → out' ≡ out
+    → (status ≡ 6 → Appends err err' memory_line) → (status ≡ 7 → IsTold end file err err') → EndsReplies limits file at wish status answers out out' err err'
+ends_told limits file at wish end status answers out out' err err' ended within idle same line tells = record {
+  only = inr within;
+  unsolved = rw idle refl;
+  named = rw idle tt;
+  judged = λ small. absurd (omega (arith, small, within.0));
+  cut_off = λ is. inl (idle, same);
+  memory = λ is. inl (idle, same);
+  memory_line = line;
+  refused = λ is. told end (replies_read file at wish) file err err' ended (tells is);
+  idle = λ is. idle;
+}
+
+-- ---- where there are no problems
+
+-- the names of functions don't matter
+pub none_read : {T N : Type 0} (number : N → Val) (file : List ℕ) (at : ℕ) (titles : Titles) (problems : List (Problem T N)) → problems ≡ [] → statements_from false Lia titles file 1 (map (question_of number) problems) at ≡ replies_read file at (wish_in jobs.Idle)
+unfolding statements_from
+none_read {T} {N} number file at titles problems none = ap (λ (ps : List (Problem T N)). statements_from false Lia titles file 1 (map (question_of number) ps) at) none
+
+pub ends_none : (limits : Limits) (file : List ℕ) (at : ℕ) (out err : Option (List ℕ)) → replies_read file at (wish_in jobs.Idle) ≡ Ok [] → EndsReplies limits file at (wish_in jobs.Idle) 0 Idle out out err err
+ends_none limits file at out err stated = record {
+  only = inl (omega arith);
+  unsolved = refl;
+  named = tt;
+  judged = λ small. record {
+    statements = [];
+    stated = stated;
+    logic = refl;
+    right = tt;
+    written = record {
+      every = refl;
+      lined = rw lines-none (appended_nothing out);
+      good = refl;
+      silent = refl;
+    };
+  };
+  cut_off = λ is. absurd (omega (arith, is));
+  memory = λ is. absurd (omega (arith, is));
+  memory_line = λ is. absurd (omega (arith, is));
+  refused = λ is. absurd (omega (arith, is));
+  idle = λ is. refl;
+}
+
+-- there are no statements
+pub none_stated : {T N : Type 0} (theory : TheoryOf T N) (statements : List (Stated T N)) → AreStatedFor theory [] statements → statements ≡ []
+none_stated theory [] fit = refl
+none_stated theory (s ∷ ss) fit = absurd fit
+
+-- ---- of the whole file
+
+module _ (limits : Limits) (file : List ℕ) (wish : Wish) (reads : wished (file_read (front file)) ≡ Ok wish) where
+  pub judges_file : (answers : Answers) (Written : Wish → Type 0) → JudgesReplies limits file (front_length file) wish answers Written → JudgesFile limits file answers Written
+  judges_file answers Written at = record { wish = wish; reads = reads; judges = at }
+
+  pub stops_file : (answers : Answers) (out out' : Option (List ℕ)) (Written : Wish → Type 0) → StopsReplies limits file (front_length file) wish answers out out' Written → StopsJudging limits file answers out out' Written
+  stops_file answers out out' Written (inl nothing) = inl nothing
+  stops_file answers out out' Written (inr at) = inr (judges_file answers Written at)
+
+  pub refuses_file : (err err' : Option (List ℕ)) → RefusesStatements (replies_read file (front_length file) wish) file err err' → RefusesReplies file err err'
+  refuses_file err err' at = record {
+    wish = wish;
+    reads = reads;
+    refused = at.refused;
+    stated = at.stated;
+    line = at.line;
+  }

@@ -1,0 +1,76 @@
+-- How a run in mode `check` may end.
+use Rattle.std.specs.Prelude.{ℕ, ◌≡◌, ◌<◌, ◌≤◌, ◌⊎◌, List, length, Option, Ok, Err}
+use Rattle.std.specs.Io.KnownBytes.{Appends}
+use Rattle.sy_io.specs.Source.{Holding}
+use Rattle.sy_query_limits.specs.declared.Limits.{Limits}
+use Rattle.sy_reply_lines.specs.Lines.{refusal_line}
+use Rattle.sy_reply_statements.specs.Lines.{reply_refusal_line}
+use Rattle.sy_reply_statements.specs.declared.refused.ReplyRefused.{ReplyRefused}
+use Rattle.sy_scope_causes.specs.declared.cause.Refused.{Refused}
+use Rattle.sy_scope_front.specs.Fronts.{front, front_length}
+use Rattle.sy_scope_names.specs.Jobs.{Wish, wished}
+use Rattle.sy_scope_steps.specs.Files.{file_read}
+use Rattle.sygus_answers.specs.declared.answers.Answers.{Answers}
+use Rattle.sygus_answers.specs.declared.answers.Answers.TheVariants.{Idle}
+use Rattle.sygus_input.specs.Inputs.{Names, longest}
+use Rattle.sygus_replies.specs.Texts.{too_long_line}
+use Rattle.sygus_words.specs.declared.settings.Settings.{Settings}
+use Rattle.sygus_judged.specs.Judging.{JudgesReplies, WritesVerdicts, WritesLines, WritesLinesCut, replies_read}
+
+-- the front of the file is in the profile, its replies are read, the judgements so far are right, and this was written of them
+pub record JudgesFile (limits : Limits) (file : List ℕ) (answers : Answers) (Written : Wish → Type 0) : Type 0 where
+  pub wish : Wish
+  pub reads : wished (file_read (front file)) ≡ Ok wish
+  pub judges : JudgesReplies limits file (front_length file) wish answers Written
+
+-- the front isn't, and this line tells its first fault
+pub record RefusesFront (file : List ℕ) (err err' : Option (List ℕ)) : Type 0 where
+  pub refused : Refused
+  pub reads : wished (file_read (front file)) ≡ Err refused
+  pub line : Appends err err' (refusal_line file refused)
+
+-- the replies are refused, and this line tells the first fault in them
+pub record RefusesReplies (file : List ℕ) (err err' : Option (List ℕ)) : Type 0 where
+  pub wish : Wish
+  pub reads : wished (file_read (front file)) ≡ Ok wish
+  pub refused : ReplyRefused
+  pub stated : replies_read file (front_length file) wish ≡ Err refused
+  pub line : Appends err err' (reply_refusal_line file refused)
+
+-- nothing was judged, or this was written of the judgements so far
+abbrev pub StopsJudging : Limits → List ℕ → Answers → Option (List ℕ) → Option (List ℕ) → (Wish → Type 0) → Type 0
+StopsJudging limits file answers out out' Written = ((answers ≡ Idle) × (out' ≡ out)) ⊎ JudgesFile limits file answers Written
+
+-- ---- the same of the file that words name
+
+pub record Judges (words : List (List ℕ)) (held : Option Holding) (answers : Answers) (Written : Wish → Type 0) : Type 0 where
+  pub settings : Settings
+  pub file : List ℕ
+  pub named : Names words held settings file
+  pub short : length file ≤ longest
+  pub judges : JudgesFile settings.limits file answers Written
+
+-- the front is refused, or the file is too long
+pub record FrontIsRefused (words : List (List ℕ)) (held : Option Holding) (err err' : Option (List ℕ)) : Type 0 where
+  pub settings : Settings
+  pub file : List ℕ
+  pub named : Names words held settings file
+  pub why : ((longest < length file) × Appends err err' too_long_line) ⊎ ((length file ≤ longest) × RefusesFront file err err')
+
+pub record RepliesAreRefused (words : List (List ℕ)) (held : Option Holding) (err err' : Option (List ℕ)) : Type 0 where
+  pub settings : Settings
+  pub file : List ℕ
+  pub named : Names words held settings file
+  pub short : length file ≤ longest
+  pub refuses : RefusesReplies file err err'
+
+-- at 0 and 1 each reply has its verdict, and the lines of all are written; at 2, 4 and 7 nothing is; at 5 and 6 the
+-- verdicts so far are right, and their lines are written, at 5 cut off in the last
+pub record EndsJudged (words : List (List ℕ)) (held : Option Holding) (status : ℕ) (answers : Answers) (out out' err err' : Option (List ℕ)) : Type 0 where
+  pub only : (status ≤ 2) ⊎ ((4 ≤ status) × (status ≤ 7))
+  pub judged : status ≤ 1 → Judges words held answers (WritesVerdicts status answers out out' err err')
+  pub front_refused : status ≡ 2 → FrontIsRefused words held err err'
+  pub reply_refused : status ≡ 7 → RepliesAreRefused words held err err'
+  pub nothing : (status ≡ 2) ⊎ ((status ≡ 4) ⊎ (status ≡ 7)) → (answers ≡ Idle) × (out' ≡ out)
+  pub cut_off : status ≡ 5 → ((answers ≡ Idle) × (out' ≡ out)) ⊎ Judges words held answers (WritesLinesCut answers out out')
+  pub memory : status ≡ 6 → ((answers ≡ Idle) × (out' ≡ out)) ⊎ Judges words held answers (WritesLines answers out out')

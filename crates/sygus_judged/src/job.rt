@@ -1,0 +1,214 @@
+// Judging the replies to the problems of a file.
+ghost use Rattle.std.specs.Prelude.{◌≡◌, ◌≤◌, ◌⊎◌, ℕ, List, Option, false, length, map, IfOk};
+ghost use Rattle.std.specs.Io.KnownBytes.{Appends};
+ghost use Rattle.sy_io.specs.Causes.{Rose};
+ghost use Rattle.sy_meaning_integers.specs.Lia as lia;
+ghost use Rattle.sy_meaning_words.specs.Vectors as vectors;
+ghost use Rattle.sy_terms.specs.Logics.{IsTheoryOf};
+ghost use Rattle.sy_terms.specs.Values.{Whole};
+ghost use Rattle.sy_terms.specs.declared.sort.Logic.TheVariants.{Lia, Bv};
+ghost use Rattle.sy_grammar_base.specs.Questions.{question_of};
+ghost use Rattle.sy_reply_reader.specs.Replies.{statements_from};
+ghost use Rattle.sy_reply_statements.specs.Ends.{ReadsReplies};
+ghost use Rattle.sy_reply_statements.specs.Fitting.{AreStatedFor};
+ghost use Rattle.sy_reply_statements.specs.Statements.{statement_of};
+ghost use Rattle.sy_scope.specs.Fit.{JobFits, ProblemsFit};
+ghost use Rattle.sy_scope.specs.Read.{wish_in, wish_over};
+ghost use Rattle.sy_query_limits.specs.declared.Limits.{Limits};
+ghost use Rattle.sygus_verdicts.specs.Lines.{memory_line};
+ghost use Rattle.sygus_judged.specs.Claimed.{EndsReplies, IsTold};
+
+use std::alloc::Global;
+use sy_bits::BvDecide;
+use sy_grammar_base::Problem;
+use sy_intsolve::IntDecide;
+use sy_io::Sink;
+use sy_meaning_integers::IntTheory;
+use sy_meaning_words::BvTheory;
+use sy_querylimits::Limits;
+use sy_reply_reader::read_reply;
+use sy_reply_statements::{ReplyEnd, reply_refusal_text};
+use sy_scope::Job;
+use sy_scope_causes::Titles;
+use sy_terms::{Logic, Seq, Theory};
+use sygus_answers::{Answers, Ended, unanswered};
+use sygus_judges::Verifying;
+use sygus_verdicts::{Claims, judge_all};
+
+/// The replies in a file: its bytes, and the offset from which they stand.
+pub(crate) struct Replies<'a> {
+    pub(crate) file: &'a [u8],
+    pub(crate) at: usize,
+}
+
+/// Reads the replies of a file, and judges them in order, each with the solver of the file's logic.
+pub(crate) fn judge_job<O: Sink, E: Sink>(
+    alloc: Global,
+    job: Job,
+    replies: &Replies<'_>,
+    limits: &Limits,
+    out: &mut O,
+    err: &mut E,
+) -> Ended
+    requires at { replies.now.at ≤ length replies.now.file.now }
+    requires few { length (wish_in job).questions ≤ 16 }
+    requires fit { JobFits job }
+    ensures ends { EndsReplies limits.now replies.now.file.now replies.now.at (wish_in job) result.status result.answers
+        (O.written out.old) (O.written out.new) (E.written err.old) (E.written err.new) }
+    ensures write { result.status ≡ 5 → Rose (O.faults out.old) (O.faults out.new) ⊎ Rose (E.faults err.old)
+        (E.faults err.new) }
+    ensures silent { result.status ≡ 7 → out.new ≡ out.old }
+{
+    match job {
+        Job::Idle => judge_none(alloc, replies, err),
+        Job::Ints(problems, titles) => {
+            judge_ints(alloc, replies, problems, titles, limits, out, err)
+        }
+        Job::Bits(problems, titles) => {
+            judge_bits(alloc, replies, problems, titles, limits, out, err)
+        }
+    }
+}
+
+/// The replies to no problem: there is none, or the first one is refused.
+fn judge_none<E: Sink>(alloc: Global, replies: &Replies<'_>, err: &mut E) -> Ended
+    requires { replies.now.at ≤ length replies.now.file.now }
+    ensures ends { (limits : Limits) (out : Option (List ℕ)) → EndsReplies limits replies.now.file.now replies.now.at
+        (wish_in Job.Idle)
+        result.status result.answers out out (E.written err.old) (E.written err.new) }
+    ensures write { result.status ≡ 5 → Rose (E.faults err.old) (E.faults err.new) }
+{
+    let problems: Seq<Problem<IntTheory>> = Seq::new(alloc);
+    let titles = Titles {
+        wanted: Seq::new(alloc),
+        defined: Seq::new(alloc),
+    };
+    match claims_of(alloc, replies, Logic::Lia, problems, titles) {
+        Ok(_) => Ended {
+            status: 0,
+            answers: Answers::Idle,
+        },
+        Err(end) => refused_replies(alloc, replies.file, end, err),
+    }
+}
+
+/// The problems of a file with what its replies state on each.
+fn claims_of<T: Theory>(
+    alloc: Global,
+    replies: &Replies<'_>,
+    logic: Logic,
+    problems: Seq<Problem<T>>,
+    titles: Titles,
+) -> Result<Claims<T>, ReplyEnd>
+    requires at { replies.now.at ≤ length replies.now.file.now }
+    requires theory { IsTheoryOf logic T.owned T.numeric }
+    requires few { length problems ≤ 16 }
+    ensures read { ReadsReplies (λ claims. map (statement_of T.denotes) claims.statements) result
+        (statements_from false logic titles replies.now.file.now 1 (map (question_of T.denotes) problems) replies.now.at) }
+    ensures problems { IfOk result (λ claims. claims.problems ≡ problems) }
+    ensures titles { IfOk result (λ claims. claims.titles ≡ titles) }
+    ensures fit { IfOk result (λ claims. AreStatedFor T.Theory problems claims.statements) }
+{
+    let read = read_reply(
+        alloc,
+        replies.file,
+        replies.at,
+        logic,
+        &titles,
+        &problems,
+        false,
+    );
+    match read {
+        Ok(statements) => Ok(Claims {
+            problems,
+            statements,
+            titles,
+        }),
+        Err(end) => Err(end),
+    }
+}
+
+/// Judges the replies to problems over integers.
+fn judge_ints<O: Sink, E: Sink>(
+    alloc: Global,
+    replies: &Replies<'_>,
+    problems: Seq<Problem<IntTheory>>,
+    titles: Titles,
+    limits: &Limits,
+    out: &mut O,
+    err: &mut E,
+) -> Ended
+    requires at { replies.now.at ≤ length replies.now.file.now }
+    requires few { length problems ≤ 16 }
+    requires fit { ProblemsFit lia.owned lia.numeric Whole problems }
+    ensures ends { EndsReplies limits.now replies.now.file.now replies.now.at (wish_over Whole Lia (problems, titles))
+        result.status
+        result.answers (O.written out.old) (O.written out.new) (E.written err.old) (E.written err.new) }
+    ensures write { result.status ≡ 5 → Rose (O.faults out.old) (O.faults out.new) ⊎ Rose (E.faults err.old)
+        (E.faults err.new) }
+    ensures silent { result.status ≡ 7 → out.new ≡ out.old }
+{
+    let claims = match claims_of(alloc, replies, Logic::Lia, problems, titles) {
+        Ok(claims) => claims,
+        Err(end) => return refused_replies(alloc, replies.file, end, err),
+    };
+    let mut judge = Verifying {
+        decide: IntDecide::new(),
+    };
+    let judged = judge_all(alloc, &claims, limits, &mut judge, out, err);
+    Ended {
+        status: judged.status,
+        answers: Answers::IntChecks(judged.answers),
+    }
+}
+
+/// Judges the replies to problems over bit vectors.
+fn judge_bits<O: Sink, E: Sink>(
+    alloc: Global,
+    replies: &Replies<'_>,
+    problems: Seq<Problem<BvTheory>>,
+    titles: Titles,
+    limits: &Limits,
+    out: &mut O,
+    err: &mut E,
+) -> Ended
+    requires at { replies.now.at ≤ length replies.now.file.now }
+    requires few { length problems ≤ 16 }
+    requires fit { ProblemsFit vectors.owned vectors.is_bits vectors.vector problems }
+    ensures ends { EndsReplies limits.now replies.now.file.now replies.now.at
+        (wish_over vectors.vector Bv (problems, titles)) result.status
+        result.answers (O.written out.old) (O.written out.new) (E.written err.old) (E.written err.new) }
+    ensures write { result.status ≡ 5 → Rose (O.faults out.old) (O.faults out.new) ⊎ Rose (E.faults err.old)
+        (E.faults err.new) }
+    ensures silent { result.status ≡ 7 → out.new ≡ out.old }
+{
+    let claims = match claims_of(alloc, replies, Logic::Bv, problems, titles) {
+        Ok(claims) => claims,
+        Err(end) => return refused_replies(alloc, replies.file, end, err),
+    };
+    let mut judge = Verifying {
+        decide: BvDecide::new(),
+    };
+    let judged = judge_all(alloc, &claims, limits, &mut judge, out, err);
+    Ended {
+        status: judged.status,
+        answers: Answers::BitChecks(judged.answers),
+    }
+}
+
+/// The end of a run whose replies aren't read, and the line that says why.
+fn refused_replies<E: Sink>(alloc: Global, file: &[u8], end: ReplyEnd, err: &mut E) -> Ended
+    ensures status { (5 ≤ result.status) × (result.status ≤ 7) }
+    ensures answers { result.answers ≡ Answers.Idle }
+    ensures write { result.status ≡ 5 → Rose (E.faults err.old) (E.faults err.new) }
+    ensures memory_line { result.status ≡ 6 → Appends (E.written err.old) (E.written err.new) memory_line }
+    ensures refused { result.status ≡ 7 → IsTold end file.now (E.written err.old) (E.written err.new) }
+{
+    match end {
+        ReplyEnd::Refused(refused) => match reply_refusal_text(alloc, file, &refused) {
+            Ok(line) => unanswered(err, line.as_slice(), 7),
+            Err(_) => unanswered(err, b"want of memory\n", 6),
+        },
+        ReplyEnd::Want => unanswered(err, b"want of memory\n", 6),
+    }
+}

@@ -1,0 +1,6 @@
+(set-logic LIA)
+(synth-fun f ((x Int)) Int ((S Int)) ((S Int (x 0))))
+(declare-var x Int)
+(constraint (= (f x) x))
+(check-synth)
+((define-fun f ((y Int)) Int x))
