@@ -9,9 +9,9 @@
 #     ls problems/*.sl >list.txt
 #     sbatch --array=1-20 examples/slurm.sh PROGRAM list.txt results [OPTIONS OF SYGUS]
 #
-# Each of the 20 jobs takes every twentieth file of the list. Of the file in line K the folder has K.out, K.err and K.status, which
-# is the status (124 where its time was up) and the file. A second call does what isn't done yet. SYGUS_SECONDS is the time of
-# each file, 60 without it. How many ended by which status, and the files that aren't answered:
+# Each of the 20 jobs takes every twentieth file of the list. Of the file in line K the folder has K.out, K.err and
+# K.status, which is the status (124 where its time was up) and the file. A second call does what isn't done yet.
+# SYGUS_SECONDS is the time of each file, 60 without it. How many ended by which status, and which files aren't answered:
 #
 #     cut -d ' ' -f 1 results/*.status | sort | uniq -c
 #     grep -hv '^0 ' results/*.status
@@ -28,7 +28,8 @@ place=$SLURM_ARRAY_TASK_ID
 while [ "$place" -le "$total" ]; do
     if [ ! -e "$results/$place.status" ]; then
         file=$(sed -n "${place}p" "$list")
-        timeout "${SYGUS_SECONDS:-60}" "$program" "$@" -- "$file" >"$results/$place.out" 2>"$results/$place.err" </dev/null
+        timeout "${SYGUS_SECONDS:-60}" "$program" "$@" -- "$file" \
+            >"$results/$place.out" 2>"$results/$place.err" </dev/null
         echo "$? $file" >"$results/$place.status.new" && mv "$results/$place.status.new" "$results/$place.status"
     fi
     place=$((place + SLURM_ARRAY_TASK_COUNT))

@@ -1,5 +1,5 @@
 #!/usr/bin/env python3
-"""Calls sygus from Python: a problem in, answers as text and as trees out. One file that needs Python 3.9 on Linux alone.
+"""Calls sygus from Python: a problem in, answers as text and as trees out. One file; it needs Python 3.9 on Linux.
 
     tools/sygus_client.py [--program PROGRAM] [--time SECONDS] FILE [-- OPTIONS OF SYGUS]
 
@@ -12,10 +12,10 @@ As a module:
             for found in answer.definitions:
                 print(found.name, found.text, found.body)
 
-`solve` takes a text, or a file as a pathlib.Path, and each option of sygus by its name. As a command this file prints what
-`solve` gives, as JSON; FILE `-` is standard input, and the status is that of sygus, 124 where the time was up. The program is
-the one that is named, or that SYGUS names, or that of the repository around this file, which is built before where it has
-to be, or the `sygus` on the path. docs/PYTHON.md says more.
+`solve` takes a text, or a file as a pathlib.Path, and each option of sygus by its name. As a command this file prints
+what `solve` gives, as JSON; FILE `-` is standard input, and the status is that of sygus, 124 where the time was up. The
+program is the one that is named, or that SYGUS names, or that of the repository around this file, which is built before
+where it has to be, or the `sygus` on the path. docs/PYTHON.md says more.
 """
 import argparse
 import dataclasses
@@ -37,7 +37,16 @@ import time as clock
 
 TOP = pathlib.Path(__file__).resolve().parent.parent
 # The greatest value of each option with a number, which is at least 1.
-LIMITS = {"size": 64, "rounds": 1024, "points": 1024, "bank": 40000, "weight": 1000000, "clauses": 400000, "nodes": 8000, "pivots": 100000}
+LIMITS = {
+    "size": 64,
+    "rounds": 1024,
+    "points": 1024,
+    "bank": 40000,
+    "weight": 1000000,
+    "clauses": 400000,
+    "nodes": 8000,
+    "pivots": 100000,
+}
 MODES = ("solve", "least", "drill")
 TIME_IS_UP, INTERRUPTED = 124, 130
 # What each status of a call says.
@@ -67,6 +76,7 @@ class Missing(Exception):
 
 # Items of text
 
+
 def read_items(text):
     """The items of a text: strings, and lists of items. Comments are left out, and so is what is cut off at the end."""
     stack = [[]]
@@ -89,6 +99,7 @@ def write_item(item):
 
 
 # What a call gives
+
 
 @dataclasses.dataclass
 class Definition:
@@ -116,7 +127,10 @@ class Answer:
 
 @dataclasses.dataclass
 class Refusal:
-    """Why a file is refused: the first faulty command, the place in it, and the cause; all 0 or empty for a file that is too long."""
+    """Why a file is refused: the first faulty command, the place in it, and the cause.
+
+    Of a file that is too long there is the text alone.
+    """
 
     text: str
     command: int = 0
@@ -131,8 +145,8 @@ class Refusal:
 class Result:
     """What came of a call, and what it took: seconds of the clock and of the processor, and its most memory in KiB.
 
-    The status is that of sygus, 124 where the time was up, 130 where it was cancelled, and 128 and its number where a signal
-    ended it.
+    The status is that of sygus, 124 where the time was up, 130 where it was cancelled, and 128 and its number where a
+    signal ended it.
     """
 
     status: int
@@ -172,7 +186,9 @@ def answers_of(output, errors=""):
             cause = causes.get(len(answers) + 1, "") if item == "fail" else ""
             answers.append(Answer(item, [], cause, f"{item}\n"))
         elif isinstance(item, list):
-            found = [definition_of(it) for it in item if isinstance(it, list) and len(it) == 5 and it[0] == "define-fun"]
+            found = [
+                definition_of(it) for it in item if isinstance(it, list) and len(it) == 5 and it[0] == "define-fun"
+            ]
             text = "".join(["(\n", *(f"{it.text}\n" for it in found), ")\n"])
             answers.append(Answer("definitions", found, "", text))
     return answers
@@ -204,19 +220,27 @@ def outcome_of(status, output, errors):
 
 
 def advice(answer):
-    """What docs/USAGE.md says of an answer, `infeasible` or a cause of `fail`, and its advice; nothing where the page isn't there."""
+    """What docs/USAGE.md says of an answer, `infeasible` or a cause of `fail`, and its advice, line by line.
+
+    There is nothing where the page isn't there.
+    """
     try:
         text = (TOP / "docs" / "USAGE.md").read_text()
     except OSError:
         return []
     rows = [(says, tries) for name, says, tries in ADVICE.findall(text) if name == answer]
-    return [it.replace("`", "") for says, tries in rows for it in [f"{says}. Try, in this order:", *re.split(r"; (?=\d\. )", tries)]]
+    return [
+        it.replace("`", "")
+        for says, tries in rows
+        for it in [f"{says}. Try, in this order:", *re.split(r"; (?=\d\. )", tries)]
+    ]
 
 
 # Calls
 
+
 def find_program(named=None):
-    """The program that is named, or SYGUS, or the repository's, built before where it has to be, or that on the path."""
+    """The program that is named, or SYGUS, or the repository's, built where it has to be, or that on the path."""
     named = named or os.environ.get("SYGUS")
     found, wrapper = shutil.which(named or ""), TOP / "sygus"
     if named and not found:
@@ -228,12 +252,17 @@ def find_program(named=None):
         return str(TOP / "crates" / "sygus" / "out" / "sygus")
     found = shutil.which("sygus")
     if not found:
-        raise Missing("there is no sygus on the path; SYGUS=PROGRAM names it, and tools/install PREFIX of its repository copies it")
+        raise Missing(
+            "there is no sygus on the path; SYGUS=PROGRAM names it; tools/install PREFIX of its repository copies it"
+        )
     return found
 
 
 def build(wrapper):
-    """Builds the program of the repository, by a run on an empty file, which shows the progress. An exception meanwhile ends the build."""
+    """Builds the program of the repository, by a run on an empty file, which shows the progress.
+
+    An exception meanwhile ends the build.
+    """
     child = subprocess.Popen([wrapper, "-"], stdin=subprocess.DEVNULL)
     try:
         status = child.wait()
@@ -269,7 +298,9 @@ class Call:
                 opened.write(given.encode() if isinstance(given, str) else given)
             os.lseek(source, 0, os.SEEK_SET)
         try:
-            self._child = subprocess.Popen(words, stdin=source, stdout=subprocess.PIPE, stderr=subprocess.PIPE, bufsize=0)
+            self._child = subprocess.Popen(
+                words, stdin=source, stdout=subprocess.PIPE, stderr=subprocess.PIPE, bufsize=0
+            )
         finally:
             if given is not None:
                 os.close(source)
@@ -373,13 +404,14 @@ def start(problem, program=None, time=None, processor_time=None, memory=None, on
 def solve(problem, program=None, time=None, processor_time=None, memory=None, on_output=None, **options):
     """Runs sygus on a problem, a text or a pathlib.Path, and gives a `Result`.
 
-    `time` and `processor_time` bound seconds, `memory` bytes; `on_output` gets each piece of output, as bytes, when it comes.
-    Other names are options of sygus: `size=20`, `mode="least"`. `Missing` where there is no program.
+    `time` and `processor_time` bound seconds, `memory` bytes; `on_output` gets each piece of output, as bytes, when it
+    comes. Other names are options of sygus: `size=20`, `mode="least"`. `Missing` where there is no program.
     """
     return start(problem, program, time, processor_time, memory, on_output, **options).result()
 
 
 # For scripts
+
 
 class Parser(argparse.ArgumentParser):
     """A parser of words whose refusals end with status 3, as those of sygus do. The help is the script's head."""
@@ -394,7 +426,7 @@ class Parser(argparse.ArgumentParser):
         """What is given before the first `--`, and the words behind it, which are options of sygus."""
         words = sys.argv[1:]
         place = words.index("--") if "--" in words else len(words)
-        return self.parse_args(words[:place]), words[place + 1:]
+        return self.parse_args(words[:place]), words[place + 1 :]
 
 
 def positive(text):
@@ -413,9 +445,14 @@ def whole(text):
 
 
 def gnu_parallel(words, source, folder, time=None, errors=None):
-    """Runs GNU parallel in a folder on the lines of a text. Its status, or None where the time was up. Nothing goes on behind it."""
+    """Runs GNU parallel in a folder on the lines of a text, and gives its status, or None where the time was up.
+
+    Nothing that it began goes on behind it.
+    """
     try:
-        said = subprocess.run(["parallel", "--version"], stdin=subprocess.DEVNULL, capture_output=True, text=True).stdout
+        said = subprocess.run(
+            ["parallel", "--version"], stdin=subprocess.DEVNULL, capture_output=True, text=True
+        ).stdout
     except OSError:
         said = ""
     if not said.startswith("GNU parallel"):
@@ -424,7 +461,14 @@ def gnu_parallel(words, source, folder, time=None, errors=None):
         lines.write(source.encode())
         lines.seek(0)
         environment = {**os.environ, "PARALLEL_SHELL": "/bin/sh"}
-        child = subprocess.Popen(["parallel", "--plain", *words], cwd=folder, env=environment, stdin=lines, stdout=subprocess.DEVNULL, stderr=errors)
+        child = subprocess.Popen(
+            ["parallel", "--plain", *words],
+            cwd=folder,
+            env=environment,
+            stdin=lines,
+            stdout=subprocess.DEVNULL,
+            stderr=errors,
+        )
         try:
             return child.wait(time)
         except subprocess.TimeoutExpired:
@@ -435,7 +479,9 @@ def gnu_parallel(words, source, folder, time=None, errors=None):
 
 def end_parallel(child):
     """Ends GNU parallel with all that it runs."""
-    before = {number: signal.signal(number, signal.SIG_IGN) for number in (signal.SIGINT, signal.SIGTERM, signal.SIGHUP)}
+    before = {
+        number: signal.signal(number, signal.SIG_IGN) for number in (signal.SIGINT, signal.SIGTERM, signal.SIGHUP)
+    }
     # the first SIGTERM alone would wait for the jobs
     for number in (signal.SIGINT, signal.SIGTERM, signal.SIGTERM, signal.SIGKILL):
         try:
@@ -458,7 +504,11 @@ def say(*words):
 
 
 def as_command(main):
-    """Ends with the status that `main` gives; 130 after Ctrl-C, 143 after `kill`, 5 where the output can't be written, 70 where something is missing. None of them leaves a traceback."""
+    """Ends with the status that `main` gives.
+
+    It is 130 after Ctrl-C, 143 after `kill`, 5 where the output can't be written, 70 where something is missing. None
+    of them leaves a traceback.
+    """
     for number in (signal.SIGTERM, signal.SIGHUP):
         signal.signal(number, lambda number, _: sys.exit(128 + number))
     name = os.path.basename(sys.argv[0])
@@ -499,7 +549,11 @@ def main():
     result = Call(words, text, given.time).result()
     answers = [dataclasses.asdict(it) for it in result.answers]
     refusal = result.refusal and dataclasses.asdict(result.refusal)
-    json.dump({"outcome": result.outcome, "answers": answers, "refusal": refusal, **dataclasses.asdict(result)}, sys.stdout, indent=1)
+    json.dump(
+        {"outcome": result.outcome, "answers": answers, "refusal": refusal, **dataclasses.asdict(result)},
+        sys.stdout,
+        indent=1,
+    )
     print()
     return result.status
 

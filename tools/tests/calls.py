@@ -21,14 +21,14 @@ TOOLS = TOP / "tools"
 sys.path.insert(0, str(TOOLS))
 import sygus_client
 
-# Comments of a problem say what the stub does: `; sleep S`, `; ends N`, `; needs OPTION N`, without which it fails by that
-# limit, `; two`, that it answers once before, `; infeasible`, `; refused`.
-STUB = r'''#!/usr/bin/env python3
+# Comments of a problem say what the stub does: `; sleep S`, `; ends N`, `; needs OPTION N`, without which it fails by
+# that limit, `; two`, that it answers once before, `; infeasible`, `; refused`.
+STUB = r"""#!/usr/bin/env python3
 import re, sys, time
 words = [word for word in sys.argv[1:] if word != "--"]
 text = (sys.stdin if words[-1] == "-" else open(words[-1])).read()
 given = dict(zip(words[:-1:2], words[1:-1:2]))
-if not set(given) <= {"--size", "--bank", "--clauses", "--nodes", "--pivots", "--weight", "--rounds", "--points", "--mode"}:
+if not set(given) <= {f"--{name}" for name in "size bank clauses nodes pivots weight rounds points mode".split()}:
     sys.exit(print("refused: words", file=sys.stderr) or 3)
 if "; refused" in text:
     sys.exit(print("refused: command 1 line 1 column 1 cause 8 UnknownName", file=sys.stderr) or 2)
@@ -46,7 +46,7 @@ for option, least in re.findall(r"^; needs (\w+) (\w+)", text, re.M):
         print(f"fail: check-synth {2 if '; two' in text else 1} {option.capitalize()}", file=sys.stderr)
         sys.exit(print("fail") or 1)
 print("infeasible" if "; infeasible" in text else "(\n(define-fun f ((x Int)) Int (+ x 1))\n)")
-'''
+"""
 FOUND = "(\n(define-fun f ((x Int)) Int (+ x 1))\n)\n"
 # Problems by their names, with the status and what came of each in two seconds.
 PROBLEMS = {
@@ -89,8 +89,18 @@ class Room:
         return ended.returncode, ended.stdout, ended.stderr
 
     def interrupted(self, number, seconds, name, *words):
-        """The status of a script that a terminal's Ctrl-C or a signal ends after so many seconds, and what it printed."""
-        begun = subprocess.Popen([TOOLS / name, *words], cwd=self.folder, env=self.words, text=True, stdin=subprocess.DEVNULL, stdout=subprocess.PIPE, stderr=subprocess.PIPE, start_new_session=True, preexec_fn=lambda: signal.signal(signal.SIGINT, signal.SIG_DFL))
+        """The status of a script that a terminal's Ctrl-C or a signal ends after some seconds, and what it printed."""
+        begun = subprocess.Popen(
+            [TOOLS / name, *words],
+            cwd=self.folder,
+            env=self.words,
+            text=True,
+            stdin=subprocess.DEVNULL,
+            stdout=subprocess.PIPE,
+            stderr=subprocess.PIPE,
+            start_new_session=True,
+            preexec_fn=lambda: signal.signal(signal.SIGINT, signal.SIG_DFL),
+        )
         time.sleep(seconds)
         (os.killpg if number == signal.SIGINT else os.kill)(begun.pid, number)
         out, err = begun.communicate()
@@ -100,7 +110,10 @@ class Room:
         """Whether no run of the stub goes on, in this folder or of a copy in it, and no folder was left."""
         for _ in range(40):
             lines = subprocess.run(["ps", "-eo", "args"], capture_output=True, text=True).stdout
-            if str(self.folder) not in lines.replace(str(pathlib.Path(__file__)), "") and "./sygus problems/" not in lines:
+            if (
+                str(self.folder) not in lines.replace(str(pathlib.Path(__file__)), "")
+                and "./sygus problems/" not in lines
+            ):
                 return not list(self.scratch.iterdir())
             time.sleep(0.05)
         return False
@@ -113,15 +126,32 @@ def texts():
     yield "client: kinds of answers", [it.word() for it in answers] == ["definitions", "fail Bank", "infeasible"]
     yield "client: texts of answers", "".join(it.text for it in answers) == output
     found = answers[0].definitions[0]
-    yield "client: a definition", (found.name, found.arguments, found.sort, found.body) == ("f", [("x", "Int")], "Int", ["+", "x", "1"])
+    yield "client: a definition", (found.name, found.arguments, found.sort, found.body) == (
+        "f",
+        [("x", "Int")],
+        "Int",
+        ["+", "x", "1"],
+    )
     wholes = [len(sygus_client.answers_of(FOUND[:end] + " ")) for end in range(len(FOUND))]
     yield "client: an answer that is cut off", wholes == [0] * (len(FOUND) - 1) + [1]
-    yield "client: names in bars", sygus_client.read_items("(|a ) b| \"c \"\" (\") ; )\n d") == [["|a ) b|", "\"c \"\" (\""], "d"]
+    yield "client: names in bars", sygus_client.read_items('(|a ) b| "c "" (") ; )\n d') == [
+        ["|a ) b|", '"c "" ("'],
+        "d",
+    ]
     for errors, wanted in REFUSALS:
         found = sygus_client.refusal_of(errors)
-        yield f"client: {errors.strip()}", (found.command, found.line, found.column, found.number, found.cause, found.fault) == wanted
+        yield f"client: {errors.strip()}", (
+            found.command,
+            found.line,
+            found.column,
+            found.number,
+            found.cause,
+            found.fault,
+        ) == wanted
     yield "client: no refusal", sygus_client.refusal_of("fail: check-synth 1 Size\n") is None
-    yield "client: the outcome of a check", sygus_client.outcome_of(1, "check-synth 1 holds\ncheck-synth 2 budget Weight\n", "") == "holds, budget Weight"
+    yield "client: the outcome of a check", sygus_client.outcome_of(
+        1, "check-synth 1 holds\ncheck-synth 2 budget Weight\n", ""
+    ) == "holds, budget Weight"
     yield "client: advice", [it[:3] for it in sygus_client.advice("Bank")[1:]] == ["1. ", "2. ", "3. "]
 
 
@@ -131,16 +161,24 @@ def calls(room):
     result = sygus_client.solve("; needs size 20\n", program, size=20)
     yield "client: solves a text", (result.status, result.output, result.causes) == (0, FOUND, [])
     result = sygus_client.solve(room.folder / "problems" / "i.sl", program)
-    yield "client: solves a file", (result.status, result.outcome, result.causes) == (1, "definitions, fail Bank", ["Bank"])
+    yield "client: solves a file", (result.status, result.outcome, result.causes) == (
+        1,
+        "definitions, fail Bank",
+        ["Bank"],
+    )
     pieces = []
     result = sygus_client.solve("; two\n; sleep 30\n", program, time=1.5, on_output=pieces.append)
-    yield "client: ends when the time is up", result.status == 124 and len(result.answers) == 1 and 1 < result.seconds < 20
+    yield "client: ends when the time is up", result.status == 124 and len(
+        result.answers
+    ) == 1 and 1 < result.seconds < 20
     yield "client: passes answers on", b"".join(pieces).decode() == result.output
     call = sygus_client.start("; sleep 30\n", program)
     threading.Timer(0.3, call.cancel).start()
     yield "client: is cancelled", call.result().status == 130
     call.cancel()
-    yield "client: bounds processor time and memory", sygus_client.solve("", program, processor_time=60, memory=1 << 40).status == 0
+    yield "client: bounds processor time and memory", sygus_client.solve(
+        "", program, processor_time=60, memory=1 << 40
+    ).status == 0
     for words, fault in [({"program": "/no/such"}, sygus_client.Missing), ({"program": program, "sise": 3}, TypeError)]:
         try:
             sygus_client.solve("", **words)
@@ -154,10 +192,17 @@ def command(room):
     """The client as a command."""
     status, out, err = room.run("sygus_client.py", "problems/i.sl")
     read = json.loads(out)
-    yield "client: prints JSON", (status, read["outcome"], read["answers"][1]["cause"]) == (1, "definitions, fail Bank", "Bank")
+    yield "client: prints JSON", (status, read["outcome"], read["answers"][1]["cause"]) == (
+        1,
+        "definitions, fail Bank",
+        "Bank",
+    )
     yield "client: takes options", room.run("sygus_client.py", "problems/i.sl", "--", "--bank", "30000")[0] == 0
     yield "client: refuses words", room.run("sygus_client.py", "--time", "no", "a")[0] == 3
-    yield "client: Ctrl-C", room.interrupted(signal.SIGINT, 1, "sygus_client.py", "problems/j.sl")[::2] == (130, "") and room.is_alone()
+    yield "client: Ctrl-C", room.interrupted(signal.SIGINT, 1, "sygus_client.py", "problems/j.sl")[::2] == (
+        130,
+        "",
+    ) and room.is_alone()
     with open("/dev/full", "w") as full:
         status, _, err = room.run("sygus_client.py", "problems/a.sl", stdout=full)
     yield "client: a full disk", status == 5 and "Traceback" not in err and "No space" in err
@@ -171,8 +216,17 @@ def documented(room):
     for name in ("a", "i"):
         shutil.copy(room.folder / "problems" / f"{name}.sl", room.folder / "doc" / "problems")
     words = {**room.words, "PYTHONPATH": str(TOOLS)}
-    for script, wanted in [(first.partition("\nf [")[0], "f [('x', 'Int')] ['+', 'x', '1']\n"), (folder, "a.sl definitions (define-fun f ((x Int)) Int (+ x 1))\ni.sl definitions, fail Bank (define-fun g () Int 1)\n")]:
-        ended = subprocess.run([sys.executable, "-c", script], cwd=room.folder / "doc", env=words, capture_output=True, text=True)
+    for script, wanted in [
+        (first.partition("\nf [")[0], "f [('x', 'Int')] ['+', 'x', '1']\n"),
+        (
+            folder,
+            "a.sl definitions (define-fun f ((x Int)) Int (+ x 1))\n"
+            "i.sl definitions, fail Bank (define-fun g () Int 1)\n",
+        ),
+    ]:
+        ended = subprocess.run(
+            [sys.executable, "-c", script], cwd=room.folder / "doc", env=words, capture_output=True, text=True
+        )
         yield f"docs/PYTHON.md: {wanted[:4]}", (ended.stdout, ended.stderr) == (wanted, "")
 
 
@@ -185,12 +239,16 @@ def many(room):
     yield "many: the table as CSV", {name: (row["status"], row["outcome"]) for name, row in rows.items()} == wanted
     yield "many: answers", status == 1 and rows["problems/a.sl"]["answer"] == FOUND
     lines = out.splitlines()
-    yield "many: the table as text", all(any(it.startswith(name) and outcome in it for it in lines) for name, (_, outcome) in wanted.items())
+    yield "many: the table as text", all(
+        any(it.startswith(name) and outcome in it for it in lines) for name, (_, outcome) in wanted.items()
+    )
     yield "many: advice", any(it.startswith("fail Bank: ") for it in lines) and "  2. --bank 40000 --size 20" in lines
     yield "many: is kept", (room.folder / "sygus-results" / "table.txt").read_text() == out
     before = (room.folder / "sygus-results" / "joblog").read_text()
     yield "many: takes no folder of an earlier call", room.run("many", "problems/a.sl")[0] == 3
-    yield "many: repeats nothing", room.run("many", "--resume")[:2] == (1, out) and (room.folder / "sygus-results" / "joblog").read_text() == before
+    yield "many: repeats nothing", room.run("many", "--resume")[:2] == (1, out) and (
+        room.folder / "sygus-results" / "joblog"
+    ).read_text() == before
     yield "many: goes on with the same files", room.run("many", "--resume", "problems/a.sl")[0] == 3
     yield "many: options", room.run("many", "--results", "o", "problems/b c/d 'e\".sl", "--", "--size", "20")[0] == 0
     yield "many: refuses options", room.run("many", "--results", "n", "problems", "--", "--sise", "20")[0] == 3
@@ -215,7 +273,9 @@ def resumed(room):
     status, out, err = room.interrupted(signal.SIGTERM, 4, "many", "--resume", *words)
     yield "many: ends by SIGTERM", status == 143 and room.is_alone()
     status, out, err = room.run("many", "--resume", "--timeout", "1", *words)
-    yield "many: goes on", status == 1 and all(any(outcome in line for line in out.splitlines()) for _, _, outcome in PROBLEMS.values())
+    yield "many: goes on", status == 1 and all(
+        any(outcome in line for line in out.splitlines()) for _, _, outcome in PROBLEMS.values()
+    )
     again = (room.folder / "r" / "joblog").read_text().splitlines(keepends=True)
     places = sorted(int(line.split("\t")[0]) for line in again[1:])
     yield "many: runs each once", again[:2] == done[:2] and places == list(range(1, len(PROBLEMS) + 1))
@@ -225,7 +285,9 @@ def portfolio(room):
     """tools/portfolio: who answers, what is said where none does, and calls that are interrupted."""
     yield "portfolio: answers as the program", room.run("portfolio", "problems/a.sl") == (0, FOUND, "")
     status, out, err = room.run("portfolio", "--tell", "problems/b c/d 'e\".sl")
-    yield "portfolio: answers by a larger limit", (status, out) == (0, FOUND) and err.startswith("portfolio: ") and "--size" in err
+    yield "portfolio: answers by a larger limit", (status, out) == (0, FOUND) and err.startswith(
+        "portfolio: "
+    ) and "--size" in err
     yield "portfolio: infeasible", room.run("portfolio", "problems/g.sl") == (0, "infeasible\n", "")
     refused = "refused: command 1 line 1 column 1 cause 8 UnknownName\n"
     yield "portfolio: refused", room.run("portfolio", "problems/b c/f.sl") == (2, "", refused)
@@ -233,12 +295,25 @@ def portfolio(room):
     yield "portfolio: refused words", (status, out, err) == (3, "", "refused: words\n")
     status, out, err = room.run("portfolio", "problems/i.sl", "--", "--bank", "3")
     first, *others = err.splitlines()
-    yield "portfolio: no setting answers", (status, out, first) == (1, "(\n(define-fun g () Int 1)\n)\nfail\n", "fail: check-synth 2 Bank")
-    yield "portfolio: says what each met", len(others) > 3 and all(it.startswith("portfolio: ") and "definitions, fail Bank" in it for it in others)
+    yield "portfolio: no setting answers", (status, out, first) == (
+        1,
+        "(\n(define-fun g () Int 1)\n)\nfail\n",
+        "fail: check-synth 2 Bank",
+    )
+    yield "portfolio: says what each met", len(others) > 3 and all(
+        it.startswith("portfolio: ") and "definitions, fail Bank" in it for it in others
+    )
     status, out, err = room.run("portfolio", "--time", "2", "-", stdin=None, input="; two\n; sleep 30\n")
-    yield "portfolio: the time is up", (status, out) == (124, "(\n(define-fun g () Int 1)\n)\n") and "not ended" in err and room.is_alone()
+    yield "portfolio: the time is up", (status, out) == (
+        124,
+        "(\n(define-fun g () Int 1)\n)\n",
+    ) and "not ended" in err and room.is_alone()
     yield "portfolio: refuses words", room.run("portfolio", "--time", "-1", "a")[0] == 3
-    yield "portfolio: Ctrl-C", room.interrupted(signal.SIGINT, 2, "portfolio", "problems/j.sl") == (130, "", "") and room.is_alone()
+    yield "portfolio: Ctrl-C", room.interrupted(signal.SIGINT, 2, "portfolio", "problems/j.sl") == (
+        130,
+        "",
+        "",
+    ) and room.is_alone()
     with open("/dev/full", "w") as full:
         status, _, err = room.run("portfolio", "problems/a.sl", stdout=full)
     yield "portfolio: a full disk", status == 5 and "Traceback" not in err and room.is_alone()
