@@ -11,7 +11,7 @@
 #
 # Each of the 20 jobs takes every twentieth file of the list. Of the file in line K the folder has K.out, K.err and
 # K.status, which is the status (124 where its time was up) and the file. A second call does what isn't done yet.
-# SYGUS_SECONDS is the time of each file, 60 without it. How many ended by which status, and which files aren't answered:
+# SYGUS_SECONDS is the time of each file, 60 without it. How many ended by which status, and which files have no answer:
 #
 #     cut -d ' ' -f 1 results/*.status | sort | uniq -c
 #     grep -hv '^0 ' results/*.status
