@@ -524,7 +524,7 @@ def as_command(main):
         status = 70
     except OSError as error:
         if error.errno != errno.EPIPE:
-            say(f"{name}: {error.filename or 'standard output'}: {error.strerror}")
+            say(f"{name}: {error.filename2 or error.filename or 'standard output'}: {error.strerror}")
         status = 5
     leave(status)
 
