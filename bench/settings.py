@@ -23,27 +23,23 @@ import shlex
 from runs import TOP, line_of, name_of, run, sygus, text_of, words_of
 from sygus_client import outcome_of
 
-GREATEST = "--bank 40000 --clauses 400000 --weight 1000000 --rounds 1024 --points 1024 --nodes 8000 --pivots 100000"
+OTHERS = "--clauses 400000 --weight 1000000 --rounds 1024 --points 1024 --nodes 8000 --pivots 100000"
 CANDIDATES = [
     "--bank 40000",
+    "--size 14",
     "--size 16",
     "--size 20",
     "--size 24",
-    "--size 32",
     "--bank 40000 --size 16",
     "--bank 40000 --size 20",
-    "--bank 40000 --size 24",
     "--bank 40000 --size 32",
     "--mode least",
     "--mode least --size 20",
     "--mode least --bank 40000 --size 20",
-    "--clauses 400000",
-    "--weight 1000000",
-    "--clauses 400000 --weight 1000000",
-    "--nodes 8000 --pivots 100000",
-    "--rounds 1024 --points 1024",
-    f"{GREATEST} --size 20",
-    f"--mode least {GREATEST} --size 20",
+    OTHERS,
+    f"--size 24 {OTHERS}",
+    f"--bank 40000 --size 32 {OTHERS}",
+    f"--mode least --bank 40000 --size 32 {OTHERS}",
 ]
 # What `fail` names, and the options whose larger limits may change the end.
 RAISED = {"Size": "--size --bank", "Bank": "--size --bank", "Nodes": "--nodes --pivots", "Pivots": "--nodes --pivots"}
