@@ -33,6 +33,7 @@ CLASSES = [
     ("bench/problems/int_inv_", "invariants over integers"),
     ("bench/problems/int_examples_", "closed examples over integers"),
     ("bench/problems/int_parity_", "parity and divisibility"),
+    ("bench/problems/int_div_", "quotients, remainders and absolute values"),
     ("bench/problems/int_two_", "several functions over integers"),
     ("bench/problems/int_three_", "several functions over integers"),
     ("bench/problems/int_", "functions over integers"),

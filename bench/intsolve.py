@@ -6,9 +6,12 @@
 The families: `max`, that the greatest of so many numbers, found one by one, isn't one of them or is below one; `step`, that
 a bound of so many variables, of which a step raises any one that is below the bound and keeps the others, doesn't last a
 step; `parity`, that twice a sum of so many numbers is odd; `bounds`, that a number isn't at least each of so many bounds
-that it is at least. Each query is a problem whose constraint is its negation and whose function has one body, so that
+that it is at least; `remainder`, that the remainder of a sum by the number isn't that of the remainders' sum; `round`, that
+rounding a quotient by the number up isn't what either of two ways makes; `bits`, that a remainder by two to the number isn't
+the sum of so many bits; `coprime`, that a multiple of the number, which is odd, and of the next odd one isn't one of their
+product; `absolute`, that the absolute value of a sum of so many numbers is above the sum of theirs. Each query is a problem whose constraint is its negation and whose function has one body, so that
 `sygus` answers by that body where its solver of integers refutes the query. The least processor time of five runs of the
-whole program is printed, and the least `--nodes` with which it answers. Without words ten queries are decided; without
+whole program is printed, and the least `--nodes` with which it answers. Without words nineteen queries are decided; without
 --sygus it builds the program by ./sygus.
 """
 import argparse
@@ -19,7 +22,8 @@ from runs import answer, run, sygus
 
 RUNS = 5
 MOST = 8_000
-ROWS = [("max", 3), ("max", 5), ("max", 7), ("step", 2), ("step", 4), ("step", 6), ("parity", 2), ("parity", 20), ("bounds", 100), ("bounds", 1000)]
+ROWS = [("max", 3), ("max", 5), ("max", 7), ("step", 2), ("step", 4), ("step", 6), ("parity", 2), ("parity", 20), ("bounds", 100), ("bounds", 1000),
+        ("remainder", 10), ("remainder", 1000), ("round", 8), ("bits", 3), ("bits", 4), ("coprime", 3), ("coprime", 9), ("absolute", 2), ("absolute", 5)]
 
 
 def named(first, count):
@@ -64,7 +68,38 @@ def bounds(count):
     return 1, joined("and", [f"(=> (>= x0 {bound}) (>= x0 {bound}))" for bound in range(count)])
 
 
-FAMILIES = {"max": greatest, "step": step, "parity": parity, "bounds": bounds}
+def remainder(divisor):
+    """That the remainder of a sum is that of the remainders' sum."""
+    parts = [f"(mod {name} {divisor})" for name in named(0, 2)]
+    return 2, f"(= (mod (+ x0 x1) {divisor}) (mod {joined('+', parts)} {divisor}))"
+
+
+def rounded(divisor):
+    """That a quotient is rounded up by a test of the remainder, and by turning the dividend round twice."""
+    found = f"(div (+ x0 {divisor - 1}) {divisor})"
+    tested = f"(ite (= 0 (mod x0 {divisor})) (div x0 {divisor}) (+ (div x0 {divisor}) 1))"
+    return 1, f"(and (= {found} {tested}) (= {found} (- (div (- x0) {divisor}))))"
+
+
+def bits(count):
+    """That the remainder by two to the number is the sum of so many bits."""
+    digits = [f"(* {2 ** place} (mod {f'(div x0 {2 ** place})' if place else 'x0'} 2))" for place in range(count)]
+    return 1, f"(= (mod x0 {2 ** count}) {joined('+', digits)})"
+
+
+def coprime(divisor):
+    """That a multiple of both is one of the product."""
+    either = [f"(= 0 (mod x0 {it}))" for it in (divisor, divisor + 2)]
+    return 1, f"(=> {joined('and', either)} (= 0 (mod x0 {divisor * (divisor + 2)})))"
+
+
+def absolute(count):
+    """That the absolute value of a sum is at most the sum of the absolute values."""
+    return count, f"(<= (abs {joined('+', named(0, count))}) {joined('+', [f'(abs {name})' for name in named(0, count)])})"
+
+
+FAMILIES = {"max": greatest, "step": step, "parity": parity, "bounds": bounds,
+            "remainder": remainder, "round": rounded, "bits": bits, "coprime": coprime, "absolute": absolute}
 
 
 def file_of(family, number):

@@ -5,8 +5,9 @@
 
 A left associative operator is written out pair by pair, as SMT-LIB defines it, so that each partial
 value is seen: the row has `none` where one of them lies outside -2^127 to 2^127 - 1. SMT-LIB leaves
-division by 0 open; here `div` gives 0 and `mod` the dividend, and those rows don't ask z3. Those that no file
-can have stand in crates/sy_vectors/src/integers.rt instead: `abs`, `div`, `mod`, and comparisons with a difference out of range.
+division by 0 open; here `div` gives 0 and `mod` the dividend, and those rows don't ask z3. Rows that no file can have
+stand in crates/sy_vectors/src/integers.rt instead: divisions by 0 and by -2^127, and comparisons with a difference out of
+range. Those of `abs`, `div` and `mod` stand in both.
 """
 import argparse
 import subprocess
@@ -28,9 +29,11 @@ ARITHMETIC = [
     ("div", [7, 2]), ("div", [-7, 2]), ("div", [7, -2]), ("div", [-7, -2]), ("div", [6, 3]), ("div", [-6, 3]), ("div", [6, -3]),
     ("div", [-6, -3]), ("div", [1, 5]), ("div", [-1, 5]), ("div", [-1, -5]), ("div", [1, -5]), ("div", [100, 7, 3]), ("div", [-100, 7, -3]),
     ("div", [LEAST, -1]), ("div", [LEAST, 1]), ("div", [LEAST, 2]), ("div", [LEAST, LEAST]), ("div", [MOST, LEAST]), ("div", [LEAST, MOST]),
+    ("div", [MOST, -1]), ("div", [LEAST + 1, -1]), ("div", [MOST, -2]), ("div", [LEAST, -2]), ("div", [LEAST, -3]), ("div", [-7, 2, -2]),
     ("div", [7, 0]), ("div", [-7, 0]), ("div", [7, 0, 3]), ("div", [LEAST, 2, -1]), ("div", [LEAST, -1, 0]),
     ("mod", [7, 2]), ("mod", [-7, 2]), ("mod", [7, -2]), ("mod", [-7, -2]), ("mod", [6, 3]), ("mod", [-6, 3]), ("mod", [1, 5]),
     ("mod", [-1, 5]), ("mod", [-1, -5]), ("mod", [LEAST, -1]), ("mod", [LEAST, LEAST]), ("mod", [LEAST, MOST]), ("mod", [MOST, LEAST]),
+    ("mod", [MOST, -2]), ("mod", [LEAST, -2]), ("mod", [LEAST, 3]), ("mod", [LEAST, -3]), ("mod", [-1, MOST]), ("mod", [-1, -MOST]),
     ("mod", [7, 0]), ("mod", [-7, 0]), ("mod", [LEAST, 0]),
 ]
 

@@ -175,7 +175,8 @@ def integer_query(row):
 def weight(row):
     """What a query weighs, by the least `--weight` that lets a problem through that violates nothing where it is assumed, which weighs 3 more."""
     sorts, body, number = row.split("|")
-    text = f"{declared('BV', sorts)}(assume {term(words_of(body, VECTORS), len(sorts))})\n(check-synth)\n"
+    logic, signs = ("LIA", INTEGERS) if "i" in sorts else ("BV", VECTORS)
+    text = f"{declared(logic, sorts)}(assume {term(words_of(body, signs), len(sorts))})\n(check-synth)\n"
     yield ["--weight", str(int(number) + 2)], text, (1, "fail\n", "fail: check-synth 1 Weight\n")
     yield ["--weight", str(int(number) + 3)], text, (0, "(\n)\n", "")
 

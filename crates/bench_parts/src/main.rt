@@ -1,5 +1,5 @@
-// Measurements of parts of the solver: evaluation, grammars, banks, scans, joins, forms, trees and clauses. The first word
-// says which, the others are its own; further measurements may follow, each after the word `then`.
+// Measurements of parts of the solver: evaluation, grammars, banks, scans, joins, lowerings, forms, trees and clauses.
+// The first word says which, the others are its own; further measurements may follow, each after the word `then`.
 #![tactic(auto)]
 
 mod bank;
@@ -8,6 +8,7 @@ mod derive;
 mod dimacs;
 mod evaluate;
 mod lists;
+mod lower;
 mod random;
 mod scan;
 mod simplex;
@@ -26,6 +27,7 @@ fn measure(rt: &HostRuntime, words: &[String]) -> u8 {
         "cdcl" => cdcl::run(rt, words),
         "derive" => derive::run(rt, words),
         "evaluate" => evaluate::run(rt, words),
+        "lower" => lower::run(rt, words),
         "scan" => scan::run(rt, words),
         "simplex" => simplex::run(rt, words),
         "trees" => trees::run(rt, words),

@@ -33,7 +33,7 @@ unfolding read_term read_list read_terms read_let read_let_in read_binding_list 
 list_indexed env locals place items head rest e other is = rw (e, other, is) refl
 
 pub list_applied : (env : Environment) (locals : List Named) (place : Place) (items : Items) (head : Item) (rest : Items) → items ≡ more head rest → is_symbol (codes "let") head ≡ false → is_symbol (codes "_") head ≡ false
-    → read_list env locals place items ≡ (read_head env locals head >>= λ found. read_terms env locals no_terms rest >>= λ arguments. head_applied env.constants place found arguments)
+    → read_list env locals place items ≡ (read_head env locals head >>= λ found. read_terms env locals no_terms rest >>= λ arguments. head_applied env.constants env.divisors place found arguments)
 unfolding read_term read_list read_terms read_let read_let_in read_binding_list read_bindings read_binding read_pair read_bound
 list_applied env locals place items head rest e other last = rw (e, other, last) refl
 

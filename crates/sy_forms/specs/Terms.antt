@@ -1,5 +1,5 @@
 -- Terms, read with each node before its parts, and the first condition that doesn't hold.
-use Rattle.std.specs.Prelude.{ℕ, ◌+◌, ◌^◌, List, [], ◌∷◌, ◌++◌, length, Bool, true, false, not, ◌&&◌, ◌||◌, nat_eq, nat_lt, nat_le, Option, Some, None, is_some, Ok, pos, get_or, bytes_eq, codes, if◌then◌else◌}
+use Rattle.std.specs.Prelude.{ℕ, ◌^◌, List, [], ◌∷◌, ◌++◌, length, Bool, true, false, not, ◌&&◌, ◌||◌, nat_eq, nat_lt, Option, Some, None, is_some, Ok, pos, bytes_eq, codes, if◌then◌else◌}
 use Rattle.std.specs.List.{list_all}
 use Rattle.sy_text_items.specs.Items.{Item, leaf, group, Items, none, more}
 use Rattle.sy_text_items.specs.Lexicon.{digit, value_in}
@@ -11,7 +11,6 @@ use Rattle.sy_terms.specs.Fitting.{same_sorts}
 use Rattle.sy_terms.specs.Sorts.{sort_of, same_sort}
 use Rattle.sy_terms.specs.Theories.{value_at}
 use Rattle.sy_terms.specs.declared.op.Op.{Op}
-use Rattle.sy_terms.specs.declared.op.Op.TheVariants as ops
 use Rattle.sy_terms.specs.declared.sort.Logic.{Logic}
 use Rattle.sy_terms.specs.declared.sort.Logic.TheVariants.{Lia, Bv}
 use Rattle.sy_terms.specs.declared.sort.Sort.{Sort}
@@ -29,7 +28,7 @@ use Rattle.sy_forms_names.specs.Environments as env
 use Rattle.sy_forms_names.specs.Environments.{Environment, Sense, sense_of, place_among}
 use Rattle.sy_forms_phrases.specs.Measures.{Measures, is_within_limits}
 use Rattle.sy_forms_names.specs.Operators.{operator_named, indexed_operator, are_small, at_count, is_reserved}
-use Rattle.sy_forms_phrases.specs.Measures.{is_neg}
+use Rattle.sy_forms_linear.specs.Linear.{is_linear}
 use Rattle.sy_forms_items.specs.Parts.{place_of, symbol_in, is_symbol, has_no_items, indexed_name}
 use Rattle.sy_forms_phrases.specs.Phrases as phrase
 use Rattle.sy_forms_phrases.specs.Phrases.{Phrase, Phrases, Typed, Several, no_terms, behind}
@@ -156,55 +155,19 @@ read_head env locals (group parts place) = list_head env.logic place parts
 
 -- Applications
 
-abbrev pub is_written_phrase : Phrase → Bool
-is_written_phrase (phrase.Literal value) = true
-is_written_phrase _ = false
+abbrev pub operation_by : List Bool → List Bool → Place → Op → Phrases → Sorted → Reading Typed
+operation_by constants divisors place operator arguments (Is sort) =
+    if is_linear constants divisors operator arguments then typed (phrase.Operation operator arguments) sort else refuse place cause.Nonlinear
+operation_by constants divisors place operator arguments Mismatch = refuse place cause.SortMismatch
+operation_by constants divisors place operator arguments BadWidth = refuse place cause.Width
 
--- one literal
-abbrev pub is_one_literal : Phrases → Bool
-is_one_literal (phrase.more argument phrase.none) = is_written_phrase argument
-is_one_literal _ = false
-
-abbrev pub is_mul : Op → Bool
-is_mul ops.Mul = true
-is_mul _ = false
-
-abbrev pub flag_at : List Bool → ℕ → Bool
-flag_at constants number = get_or constants number false
-
--- a numeral, `(- n)` with a numeral n, or a nonterminal that derives such alone
-abbrev pub is_constant_phrase : List Bool → Phrase → Bool
-is_constant_phrase constants (phrase.Literal value) = true
-is_constant_phrase constants (phrase.Operation operator arguments) = is_neg operator && is_one_literal arguments
-is_constant_phrase constants (phrase.Nonterminal number) = flag_at constants number
-is_constant_phrase constants _ = false
-
--- 0 at a constant, and 1 at another factor
-abbrev pub factor_weight : List Bool → Phrase → ℕ
-factor_weight constants factor = if is_constant_phrase constants factor then 0 else 1
-
--- how many factors are no constants
-abbrev pub varying_factors : List Bool → Phrases → ℕ
-varying_factors constants phrase.none = 0
-varying_factors constants (phrase.more first rest) = factor_weight constants first + varying_factors constants rest
-
--- at most one factor of a product varies
-abbrev pub is_linear_product : List Bool → Op → Phrases → Bool
-is_linear_product constants operator arguments = not (is_mul operator) || nat_le (varying_factors constants arguments) 1
-
-abbrev pub operation_by : List Bool → Place → Op → Phrases → Sorted → Reading Typed
-operation_by constants place operator arguments (Is sort) =
-    if is_linear_product constants operator arguments then typed (phrase.Operation operator arguments) sort else refuse place cause.Nonlinear
-operation_by constants place operator arguments Mismatch = refuse place cause.SortMismatch
-operation_by constants place operator arguments BadWidth = refuse place cause.Width
-
-abbrev pub operator_read : List Bool → Place → Op → Several → Reading Typed
-operator_read constants place operator arguments = operation_by constants place operator arguments.phrases (sort_of operator arguments.sorts)
+abbrev pub operator_read : List Bool → List Bool → Place → Op → Several → Reading Typed
+operator_read constants divisors place operator arguments = operation_by constants divisors place operator arguments.phrases (sort_of operator arguments.sorts)
 
 -- a head at arguments
-unfoldable pub head_applied : List Bool → Place → Head → Several → Reading Typed
-head_applied constants place (Operator operator) arguments = operator_read constants place (at_count (length arguments.sorts) operator) arguments
-head_applied constants place (Function function takes gives) arguments =
+unfoldable pub head_applied : List Bool → List Bool → Place → Head → Several → Reading Typed
+head_applied constants divisors place (Operator operator) arguments = operator_read constants divisors place (at_count (length arguments.sorts) operator) arguments
+head_applied constants divisors place (Function function takes gives) arguments =
     if same_sorts arguments.sorts takes then typed (phrase.Invocation function arguments.phrases) gives else refuse place cause.SortMismatch
 
 -- Let
@@ -261,7 +224,7 @@ unfoldable mutual
   read_list env locals place (more head rest) =
       if is_symbol (codes "let") head then (if let_may_stand env.role then read_let env locals place rest else refuse place cause.Shape)
       else if is_symbol (codes "_") head then indexed_term env.logic place (indexed_name rest)
-      else (read_head env locals head >>= λ found. read_terms env locals no_terms rest >>= λ arguments. head_applied env.constants place found arguments)
+      else (read_head env locals head >>= λ found. read_terms env locals no_terms rest >>= λ arguments. head_applied env.constants env.divisors place found arguments)
 
   -- terms from left to right, behind others
   pub read_terms : Environment → List Named → Several → Items → Reading Several

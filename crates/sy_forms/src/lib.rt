@@ -8,10 +8,11 @@ mod parts;
 mod rule;
 mod term;
 
-pub use rule::{constant_groups, read_rule, read_whole};
+pub use rule::{read_rule, read_whole};
 pub use sy_forms_items::{
     Fault, Indices, ReadEnd, Rest, copied, is, is_symbol, numeral, place_of, symbol, symbol_in,
 };
+pub use sy_forms_linear::{constant_groups, divisor_groups, has_sort};
 pub use sy_forms_names::{
     Entity, Environment, Named, Names, Role, is_reserved, place_among, read_sort, same_sorts,
 };

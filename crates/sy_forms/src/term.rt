@@ -147,7 +147,7 @@ fn read_list<T: Theory>(
     }
     let head = read_head(env, locals, head)?;
     let arguments = read_terms(alloc, env, locals, rest)?;
-    applied(env.constants, place, head, arguments)
+    applied(env.constants, env.divisors, place, head, arguments)
 }
 
 /// Terms from left to right.

@@ -11,7 +11,7 @@ use Rattle.sy_grammar_base.specs.Formed.{is_plain}
 use Rattle.sy_grammar_base.specs.Trees.{is_negative}
 use Rattle.sy_forms_phrases.specs.Phrases as phrase
 use Rattle.sy_forms_phrases.specs.Phrases.{Phrase, Phrases, expr_at, exprs_at}
-use Rattle.sy_forms.specs.Terms.{is_linear_product}
+use Rattle.sy_forms_linear.specs.Linear.{is_linear_product}
 use Rattle.sy_forms_laws.specs.Fitting.{Setting, phrase_sort, phrase_sorts}
 
 -- an item of the first list, and one of the second behind it

@@ -1,5 +1,6 @@
 pub mod Readings
 pub mod Names
+pub mod Bodies
 pub mod Operators
 pub mod Terms
 pub mod Exprs

@@ -16,7 +16,7 @@ use Rattle.sy_grammar_base.specs.Trees.{Nonterminal, Syntax}
 use Rattle.sy_forms_phrases.specs.Measures.{is_neg}
 use Rattle.sy_forms_phrases.specs.Phrases as phrase
 use Rattle.sy_forms_phrases.specs.Phrases.{Phrase, Phrases, pattern_at, patterns_at}
-use Rattle.sy_forms.specs.Terms.{is_constant_phrase, is_one_literal, is_written_phrase, flag_at, varying_factors, is_linear_product}
+use Rattle.sy_forms_linear.specs.Linear.{is_constant_phrase, is_one_literal, is_written_phrase, flag_at, varying_factors, is_linear_product}
 use Rattle.sy_forms_laws.specs.Fitting.{Setting, phrase_sort, phrase_sorts}
 use Rattle.sy_forms_laws.specs.Right.{IsOfGrammar}
 use Rattle.sy_forms_laws.proofs.Exprs.{where_true, applied_as, called_as}

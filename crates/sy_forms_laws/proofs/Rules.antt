@@ -24,7 +24,8 @@ use Rattle.sy_forms_items.specs.Parts.{place_of, numeral, numeral_in, is_symbol}
 use Rattle.sy_forms_phrases.specs.Phrases as phrase
 use Rattle.sy_forms_phrases.specs.Phrases.{Typed, Several, no_terms, behind, pattern_at, patterns_at}
 use Rattle.sy_forms_phrases.specs.Productions.{Ruling, Template, EachConstant, EachVariable, production_at}
-use Rattle.sy_forms.specs.Rules.{sort_behind, sort_for_all, rule_for_all, rule_term, rule_list, read_rule, is_negated_numeral, is_int_rule, is_constant_rule}
+use Rattle.sy_forms_linear.specs.Flags.{item_behind, is_negated_numeral, is_int_rule, is_constant_rule}
+use Rattle.sy_forms.specs.Rules.{sort_for_all, rule_for_all, rule_term, rule_list, read_rule}
 use Rattle.sy_forms_names.specs.Sorts.{read_sort}
 use Rattle.sy_forms.specs.Terms.{Head, Operator, read_term, read_list, read_terms, read_head, atom_term, numeral_term, name_head, head_applied}
 use Rattle.sy_forms_laws.specs.Fitting.{Setting}
@@ -61,7 +62,7 @@ pub rule_fits : (numeric : Sort → Bool) (setting : Setting) (read : Environmen
 unfolding read_rule
 rule_fits numeric setting read syntax right of sort (leaf atom place) = term_rule_fits numeric setting read syntax right of sort (leaf atom place)
 rule_fits numeric setting read syntax right of sort (group parts place) =
-    list_rule_fits numeric setting read syntax right of sort (group parts place) place (sort_behind (codes "Constant") parts) (sort_behind (codes "Variable") parts)
+    list_rule_fits numeric setting read syntax right of sort (group parts place) place (item_behind (codes "Constant") parts) (item_behind (codes "Variable") parts)
 
 -- Constants
 
@@ -117,12 +118,12 @@ one_numeral read atom place e =
     chained (IsNumeral read.logic) (IsOneNumeral read.logic) (read_term read [] (leaf atom place)) _ (numeral_item read atom place e) (λ x is numeral.
     (numeral.0, numeral.1, ap (λ t. behind no_terms t) numeral.2))
 
-negated : (constants : List Bool) (place : Place) (value : Val) → IfOk (head_applied constants place (Operator ops.Sub) (record { phrases = phrase.more (phrase.Literal value) phrase.none; sorts = sorts.Int ∷ [] })) IsSigned
+negated : (constants divisors : List Bool) (place : Place) (value : Val) → IfOk (head_applied constants divisors place (Operator ops.Sub) (record { phrases = phrase.more (phrase.Literal value) phrase.none; sorts = sorts.Int ∷ [] })) IsSigned
 unfolding head_applied sort_of pattern_at patterns_at
-negated constants place value = refl
+negated constants divisors place value = refl
 
-minus_applied : (logic : Logic) (constants : List Bool) (place : Place) (head : Head) (arguments : Several) → IsMinus logic head → IsOneNumeral logic arguments → IfOk (head_applied constants place head arguments) IsSigned
-minus_applied logic constants place head arguments minus one = rw (minus one.0, one.2) (negated constants place one.1)
+minus_applied : (logic : Logic) (constants divisors : List Bool) (place : Place) (head : Head) (arguments : Several) → IsMinus logic head → IsOneNumeral logic arguments → IfOk (head_applied constants divisors place head arguments) IsSigned
+minus_applied logic constants divisors place head arguments minus one = rw (minus one.0, one.2) (negated constants divisors place one.1)
 
 -- `(- n)` with a numeral n
 negation_read : (read : Environment) → (read.logic ≡ Lia → sense_of read [] (codes "-") ≡ None) → (place at p : Place) (atom : Atom) → is_some (numeral_in atom) ≡ true
@@ -131,7 +132,7 @@ unfolding read_term read_list read_head
 negation_read read free place at p atom e =
     chained (IsMinus read.logic) IsSigned (read_head read [] (leaf (atoms.Symbol (codes "-")) at)) _ (minus_named read.logic at (sense_of read [] (codes "-")) free) (λ head is minus.
     chained (IsOneNumeral read.logic) IsSigned (read_terms read [] no_terms (items.more (leaf atom p) items.none)) _ (one_numeral read atom p e) (λ arguments args_is one.
-    minus_applied read.logic read.constants place head arguments minus one))
+    minus_applied read.logic read.constants read.divisors place head arguments minus one))
 
 -- an item that is this symbol
 record IsSymbolItem (name : List ℕ) (item : Item) : Type 0 where
@@ -154,7 +155,7 @@ numeral_rule read free place at (group parts p) e = absurd cc
 
 -- what is known of `(- n)`: it isn't a rule for all variables, and it is a constant
 record IsNegation (read : Environment) (parts : Items) (place : Place) : Type 0 where
-  no_variable : sort_behind (codes "Variable") parts ≡ None
+  no_variable : item_behind (codes "Variable") parts ≡ None
   signed : IfOk (read_term read [] (group parts place)) IsSigned
 
 negation : (read : Environment) → (read.logic ≡ Lia → sense_of read [] (codes "-") ≡ None) → (place : Place) (parts : Items) → is_negated_numeral parts ≡ true → IsNegation read parts place
@@ -165,12 +166,12 @@ negation read free place (items.more head (items.more n items.none)) e =
     let both = both_true (is_symbol (codes "-") head) (is_some (numeral n)) e in
     let minus = symbol_item (codes "-") head both.0 in
     record {
-      no_variable = ap (λ h. sort_behind (codes "Variable") (items.more h (items.more n items.none))) minus.is;
+      no_variable = ap (λ h. item_behind (codes "Variable") (items.more h (items.more n items.none))) minus.is;
       signed = subst (λ h. IfOk (read_term read [] (group (items.more h (items.more n items.none)) place)) IsSigned) (sym minus.is) (numeral_rule read free place minus.at n both.1);
     }
 
 constant_by : (read : Environment) (sort : Sort) (parts : Items) (place : Place) (constant : Option Item) (b : Bool) → (b ≡ true → IsNegation read parts place) → (if b then true else is_int_rule read constant) ≡ true
-    → IfOk (rule_list read sort (group parts place) place constant (sort_behind (codes "Variable") parts)) GivesConstants
+    → IfOk (rule_list read sort (group parts place) place constant (item_behind (codes "Variable") parts)) GivesConstants
 constant_by read sort parts place (Some s) b negation e = for_all_fits GivesConstants read sort place EachConstant s refl
 constant_by read sort parts place None false negation e = absurd cc
 constant_by read sort parts place None true negation e = rw (negation refl).no_variable (signed_rule read sort (group parts place) (negation refl).signed)
@@ -179,4 +180,4 @@ constant_by read sort parts place None true negation e = rw (negation refl).no_v
 pub constant_rule : (read : Environment) → (read.logic ≡ Lia → sense_of read [] (codes "-") ≡ None) → (sort : Sort) (item : Item) → is_constant_rule read item ≡ true → IfOk (read_rule read sort item) (λ rule. gives_constants (production_at rule) ≡ true)
 unfolding read_rule
 constant_rule read free sort (leaf atom place) e = signed_rule read sort (leaf atom place) (weaker (IsNumeral read.logic) IsSigned (read_term read [] (leaf atom place)) (numeral_item read atom place e) (numeral_signed read.logic))
-constant_rule read free sort (group parts place) e = constant_by read sort parts place (sort_behind (codes "Constant") parts) (is_negated_numeral parts) (negation read free place parts) e
+constant_rule read free sort (group parts place) e = constant_by read sort parts place (item_behind (codes "Constant") parts) (is_negated_numeral parts) (negation read free place parts) e

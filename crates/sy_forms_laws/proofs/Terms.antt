@@ -19,7 +19,7 @@ use Rattle.sy_terms.specs.declared.sort.Sort.TheVariants as sorts
 use Rattle.sy_terms.specs.declared.sorts.Sorted.{Sorted}
 use Rattle.sy_terms.specs.declared.sorts.Sorted.TheVariants.{Is, Mismatch, BadWidth}
 use Rattle.sy_terms.specs.declared.term.Fun.{Fun}
-use Rattle.sy_terms_laws.proofs.Equations.{with_sort_Some, same_sort_is}
+use Rattle.sy_terms_laws.proofs.Equations.{with_sort_Some, same_sort_is, both_true}
 use Rattle.sy_grammar_base.specs.Formed.{is_plain}
 use Rattle.sy_terms.specs.Logics.{operators_of}
 use Rattle.sy_forms_names.specs.declared.names.Named.{Named}
@@ -34,7 +34,8 @@ use Rattle.sy_forms_phrases.specs.Phrases as phrase
 use Rattle.sy_forms_phrases.specs.Phrases.{Phrase, Phrases, Typed, Several, no_terms, behind, append_phrases}
 use Rattle.sy_forms_items.specs.Readings.{Reading}
 use Rattle.sy_forms_names.specs.Sorts.{is_width}
-use Rattle.sy_forms.specs.Terms.{literal_as, number_as, numeral_term, vector_term, bv_number, bv_literal, indexed_term, undeclared_term, alone, name_term, atom_term, Head, Operator, Function, operator_head, name_head, small_head, indexed_head, list_head, atom_head, read_head, is_linear_product, operation_by, head_applied, Bounds, Bound, unbound, bound_behind, let_term, new_binding_name, let_may_stand, read_term, read_list, read_terms, read_let, read_let_in, read_binding_list, read_bindings, read_binding, read_pair, read_bound, read_whole}
+use Rattle.sy_forms.specs.Terms.{literal_as, number_as, numeral_term, vector_term, bv_number, bv_literal, indexed_term, undeclared_term, alone, name_term, atom_term, Head, Operator, Function, operator_head, name_head, small_head, indexed_head, list_head, atom_head, read_head, operation_by, head_applied, Bounds, Bound, unbound, bound_behind, let_term, new_binding_name, let_may_stand, read_term, read_list, read_terms, read_let, read_let_in, read_binding_list, read_bindings, read_binding, read_pair, read_bound, read_whole}
+use Rattle.sy_forms_linear.specs.Linear.{is_linear_product, divides_by_constants, is_linear}
 use Rattle.sy_forms_laws.specs.Fitting.{Setting, phrase_sort, phrase_sorts}
 use Rattle.sy_forms_laws.specs.Right.{SenseIsThere, EnvironmentIsRight}
 use Rattle.sy_forms_laws.proofs.Readings.{chained, either, unless_refused, where_not_refused, any_read}
@@ -177,12 +178,13 @@ operation_sort : (setting : Setting) (locals : List Sort) (op : Op) (arguments :
 unfolding phrase_sort
 operation_sort setting locals op arguments sort owned fit e linear = rw (linear, fit, owned, e) refl
 
-operation_fits : (setting : Setting) (locals : List Sort) (place : Place) (op : Op) (arguments : Several) (found : Sorted) → setting.scope.owned op ≡ true → SeveralFit setting locals arguments → sort_of op arguments.sorts ≡ found
-    → IfOk (operation_by setting.constants place op arguments.phrases found) (TypedFits setting locals)
-operation_fits setting locals place op arguments Mismatch owned fit e = tt
-operation_fits setting locals place op arguments BadWidth owned fit e = tt
-operation_fits setting locals place op arguments (Is sort) owned fit e =
-    unless_refused (TypedFits setting locals) (is_linear_product setting.constants op arguments.phrases) place cause.Nonlinear _ (λ linear. operation_sort setting locals op arguments sort owned fit e linear)
+operation_fits : (setting : Setting) (locals : List Sort) (divisors : List Bool) (place : Place) (op : Op) (arguments : Several) (found : Sorted) → setting.scope.owned op ≡ true → SeveralFit setting locals arguments → sort_of op arguments.sorts ≡ found
+    → IfOk (operation_by setting.constants divisors place op arguments.phrases found) (TypedFits setting locals)
+operation_fits setting locals divisors place op arguments Mismatch owned fit e = tt
+operation_fits setting locals divisors place op arguments BadWidth owned fit e = tt
+operation_fits setting locals divisors place op arguments (Is sort) owned fit e =
+    unless_refused (TypedFits setting locals) (is_linear setting.constants divisors op arguments.phrases) place cause.Nonlinear _ (λ linear.
+    operation_sort setting locals op arguments sort owned fit e (both_true (is_linear_product setting.constants op arguments.phrases) (divides_by_constants divisors op arguments.phrases) linear).0)
 
 invocation_fits : (setting : Setting) (locals : List Sort) (function : Fun) (takes : List Sort) (gives : Sort) (arguments : Several) → signature_of setting.scope function ≡ Some (record { takes = takes; gives = gives }) → SeveralFit setting locals arguments → same_sorts arguments.sorts takes ≡ true
     → phrase_sort setting locals (phrase.Invocation function arguments.phrases) ≡ Some gives
@@ -190,11 +192,11 @@ unfolding phrase_sort
 invocation_fits setting locals function takes gives arguments there fit same = rw (there, fit, same) refl
 
 applied_fits : (numeric : Sort → Bool) (setting : Setting) (read : Environment) (locals : List Sort) → EnvironmentIsRight numeric setting read → (place : Place) (head : Head) (arguments : Several) → HeadFits read.logic setting head → SeveralFit setting locals arguments
-    → IfOk (head_applied setting.constants place head arguments) (TypedFits setting locals)
+    → IfOk (head_applied setting.constants read.divisors place head arguments) (TypedFits setting locals)
 unfolding head_applied
 applied_fits numeric setting read locals right place (Operator op) arguments there fit =
     let counted = at_count (length arguments.sorts) op in
-    operation_fits setting locals place counted arguments (sort_of counted arguments.sorts) (right.theory.operators counted ∙ counted_owned read.logic (length arguments.sorts) op there) fit refl
+    operation_fits setting locals read.divisors place counted arguments (sort_of counted arguments.sorts) (right.theory.operators counted ∙ counted_owned read.logic (length arguments.sorts) op there) fit refl
 applied_fits numeric setting read locals right place (Function function takes gives) arguments there fit =
     unless_refused (TypedFits setting locals) (same_sorts arguments.sorts takes) place cause.SortMismatch _ (λ same. invocation_fits setting locals function takes gives arguments there fit same)
 
@@ -246,7 +248,7 @@ mutual
       (λ f. indexed_fits setting (sorts_of locals) read.logic place (indexed_name rest))
       (λ f. chained (HeadFits read.logic setting) (TypedFits setting (sorts_of locals)) (read_head read locals head) _ (head_fits numeric setting read locals right head) (λ found is there.
       chained (SeveralFit setting (sorts_of locals)) (TypedFits setting (sorts_of locals)) (read_terms read locals no_terms rest) _ (terms_fit numeric setting read right locals no_terms (nothing_fits setting (sorts_of locals)) rest) (λ arguments is fit.
-      subst (λ constants. IfOk (head_applied constants place found arguments) (TypedFits setting (sorts_of locals))) (sym right.constants) (applied_fits numeric setting read (sorts_of locals) right place found arguments there fit)))))
+      subst (λ constants. IfOk (head_applied constants read.divisors place found arguments) (TypedFits setting (sorts_of locals))) (sym right.constants) (applied_fits numeric setting read (sorts_of locals) right place found arguments there fit)))))
 
   terms_fit : (numeric : Sort → Bool) (setting : Setting) (read : Environment) → EnvironmentIsRight numeric setting read → (locals : List Named) (done : Several) → SeveralFit setting (sorts_of locals) done → (parts : Items) → IfOk (read_terms read locals done parts) (SeveralFit setting (sorts_of locals))
   terms_fit numeric setting read right locals done fit items.none = fit

@@ -10,7 +10,7 @@ use Rattle.sy_terms_laws.proofs.Equations.{with_sort_Some, after_Some, applied_s
 use Rattle.sy_grammar_laws.proofs.Widening.{called_wider}
 use Rattle.sy_forms_phrases.specs.Phrases as phrase
 use Rattle.sy_forms_phrases.specs.Phrases.{Phrase, Phrases}
-use Rattle.sy_forms.specs.Terms.{is_linear_product}
+use Rattle.sy_forms_linear.specs.Linear.{is_linear_product}
 use Rattle.sy_forms_laws.specs.Fitting.{Setting, phrase_sort, phrase_sorts}
 use Rattle.sy_forms_laws.specs.Right.{SettingWidens}
 use Rattle.sy_forms_laws.proofs.Exprs.{where_true, where_allowed, after_as, with_as}

@@ -5,7 +5,7 @@ use Rattle.sy_terms.specs.Fitting.{Scope, applied_sort, called_sort, signature_o
 use Rattle.sy_terms.specs.declared.sort.Sort.{Sort}
 use Rattle.sy_grammar_base.specs.Formed.{is_plain}
 use Rattle.sy_forms_phrases.specs.Phrases.{Phrase, Phrases, Literal, Position, Local, Nonterminal, Operation, Invocation, Let, none, more}
-use Rattle.sy_forms.specs.Terms.{is_linear_product}
+use Rattle.sy_forms_linear.specs.Linear.{is_linear_product}
 
 -- What a phrase may name: operators and functions, the sorts of the variables or arguments in force and of the
 -- nonterminals, and which of these derive numerals alone. In some places no let may stand.

@@ -10,7 +10,8 @@ use Rattle.sy_forms_names.specs.Environments.{Environment, sense_of}
 use Rattle.sy_forms_phrases.specs.Measures.{Measures}
 use Rattle.sy_forms_phrases.specs.Phrases.{Phrase, expr_at}
 use Rattle.sy_forms_phrases.specs.Productions.{Ruling, production_at}
-use Rattle.sy_forms.specs.Rules.{is_constant_rule, read_rule}
+use Rattle.sy_forms_linear.specs.Flags.{is_constant_rule}
+use Rattle.sy_forms.specs.Rules.{read_rule}
 use Rattle.sy_forms.specs.Terms.{read_whole}
 use Rattle.sy_forms_laws.specs.Fitting.{Setting}
 use Rattle.sy_forms_laws.specs.Right.{EnvironmentIsRight, IsOfGrammar, SettingWidens}

@@ -1,3 +1,4 @@
 pub mod Fitting
 pub mod Right
+pub mod Declared
 pub mod Laws

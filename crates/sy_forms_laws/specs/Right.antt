@@ -9,7 +9,8 @@ pub use Rattle.sy_grammar_laws.specs.Extending.{Extends}
 use Rattle.sy_terms.specs.Logics.{IsTheoryOf}
 use Rattle.sy_forms_names.specs.Environments as env
 use Rattle.sy_forms_names.specs.Environments.{Environment, Sense, sense_of}
-use Rattle.sy_forms.specs.Terms.{let_may_stand, flag_at}
+use Rattle.sy_forms_linear.specs.Linear.{flag_at}
+use Rattle.sy_forms.specs.Terms.{let_may_stand}
 use Rattle.sy_forms_laws.specs.Fitting.{Setting}
 
 -- what a name stands for is there: its number is that of its sort in the list, or of its signature

@@ -11,7 +11,7 @@ use Rattle.sy_forms_names.specs.declared.names.Entity.TheVariants as entity
 use Rattle.sy_forms_names.specs.declared.names.Named.{Named}
 
 -- the logic, what the term is, the abbreviations of sorts, what declared names stand for, the arguments in force,
--- the nonterminals, and which of these derive numerals alone
+-- the nonterminals, which of these derive numerals alone, and which numerals other than 0 alone
 pub record Environment : Type 0 where
   pub logic : Logic
   pub role : Role
@@ -20,6 +20,7 @@ pub record Environment : Type 0 where
   pub arguments : List Named
   pub nonterminals : List Named
   pub constants : List Bool
+  pub divisors : List Bool
 
 -- what stands under a name
 abbrev pub entry_under : {A : Type 0} → List ℕ → List (List ℕ × A) → Option A

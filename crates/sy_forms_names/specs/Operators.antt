@@ -14,7 +14,7 @@ core_operators = ops.Not ∷ ops.And ∷ ops.Or ∷ ops.Xor ∷ ops.Implies ∷ 
 
 -- `-` stands for both of its operators
 abbrev pub integer_operators : List Op
-integer_operators = ops.Sub ∷ ops.Add ∷ ops.Mul ∷ ops.Le ∷ ops.Lt ∷ ops.Ge ∷ ops.Gt ∷ []
+integer_operators = ops.Sub ∷ ops.Add ∷ ops.Mul ∷ ops.Le ∷ ops.Lt ∷ ops.Ge ∷ ops.Gt ∷ ops.Div ∷ ops.Mod ∷ ops.Abs ∷ []
 
 abbrev pub vector_operators : List Op
 vector_operators =
@@ -69,9 +69,9 @@ language_words =
     codes "true" ∷ codes "false" ∷ codes "let" ∷ codes "_" ∷ codes "!" ∷ codes "as" ∷ codes "par" ∷ codes "forall" ∷
     codes "exists" ∷ codes "match" ∷ codes "Constant" ∷ codes "Variable" ∷ []
 
--- the other words of a logic: the names of indexed operators, and those of operators that aren't read
+-- the other words of a logic: the names of its indexed operators
 abbrev pub logic_words : Logic → List (List ℕ)
-logic_words Lia = codes "div" ∷ codes "mod" ∷ codes "abs" ∷ []
+logic_words Lia = []
 logic_words Bv = codes "extract" ∷ codes "repeat" ∷ codes "zero_extend" ∷ codes "sign_extend" ∷ codes "rotate_left" ∷ codes "rotate_right" ∷ []
 
 -- no name may be this word

@@ -13,6 +13,7 @@ environment_of env = record {
   arguments = env.arguments.now;
   nonterminals = env.nonterminals.now;
   constants = env.constants.now;
+  divisors = env.divisors.now;
 }
 
 abbrev pub sense_in : Sense → spec.Sense

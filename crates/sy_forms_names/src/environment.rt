@@ -24,6 +24,8 @@ pub struct Environment<'a> {
     pub nonterminals: &'a [Named],
     /// Which nonterminals derive numerals alone.
     pub constants: &'a [bool],
+    /// Which nonterminals derive numerals other than 0 alone.
+    pub divisors: &'a [bool],
 }
 
 /// What a name stands for: a place with its sort, a function that may stand there, or one that may not.

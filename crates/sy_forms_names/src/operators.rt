@@ -18,7 +18,18 @@ const CORE: [Op; 8] = [
 ];
 
 /// `-` stands for both of its operators.
-const INTEGERS: [Op; 7] = [Op::Sub, Op::Add, Op::Mul, Op::Le, Op::Lt, Op::Ge, Op::Gt];
+const INTEGERS: [Op; 10] = [
+    Op::Sub,
+    Op::Add,
+    Op::Mul,
+    Op::Le,
+    Op::Lt,
+    Op::Ge,
+    Op::Gt,
+    Op::Div,
+    Op::Mod,
+    Op::Abs,
+];
 
 const VECTORS: [Op; 29] = [
     Op::Concat,
@@ -165,12 +176,12 @@ fn is_language_word(name: &[u8]) -> bool
         | is(name, b"Variable")
 }
 
-/// The other words of a logic.
+/// The other words of a logic: the names of its indexed operators.
 fn is_logic_word(logic: Logic, name: &[u8]) -> bool
     ensures { result ≡ spec.is_one_of (spec.logic_words logic) name.now }
 {
     match logic {
-        Logic::Lia => is(name, b"div") | is(name, b"mod") | is(name, b"abs"),
+        Logic::Lia => false,
         Logic::Bv => {
             is(name, b"extract")
                 | is(name, b"repeat")

@@ -3,22 +3,24 @@ ghost use Rattle.sy_intsolve_trees.specs.Budgets.{budget};
 ghost use Rattle.sy_intsolve.specs.Proofs as proofs;
 ghost use Rattle.sy_intsolve.specs.Soundness.{sound};
 
-use std::alloc::{AllocError, Global};
-use sy_intsolve_search::solve_query;
+use crate::lowered::solved;
+use std::alloc::Global;
 use sy_intsolve_trees::IntSpent;
-use sy_linear_known::{Tree, is_numbered};
+use sy_linear_known::Tree;
 use sy_meaning_integers::IntTheory;
 use sy_query_base::{Decide, Query, Verdict};
 use sy_query_corners::corner_model;
 use sy_query_limits::{FailName, Limits};
 use sy_terms::Want;
 
-/// A solver of queries of linear arithmetic over the integers. It tries up to 128 assignments at which queries are often
-/// true; then it grows a tree that splits on open tests and branches on values of variables, until the tree refutes the
-/// query or an assignment satisfies it, with at most as many inner nodes as the limit `nodes` and as many steps of the
-/// simplex method at a leaf as the limit `pivots`.
+/// A solver of queries of linear arithmetic over the integers with `div`, `mod` and `abs`. It tries up to 128
+/// assignments at which queries are often true; then it lowers the query to one without these operators, and grows a
+/// tree that splits on open tests and branches on values of variables, until the tree refutes the lowered query or an
+/// assignment satisfies it, with at most as many inner nodes as the limit `nodes` and as many steps of the simplex
+/// method at a leaf as the limit `pivots`.
 ///
-/// A query of 2^31 nodes or variables is answered as want of memory.
+/// Where none of these assignments satisfies the query and its lowering has 2^31 nodes or variables, it is answered
+/// as out of memory.
 #[derive(Clone, Copy, Debug, PartialEq, Eq)]
 pub struct IntDecide;
 
@@ -46,14 +48,10 @@ impl Decide<IntTheory> for IntDecide {
         query: &Query<IntTheory>,
         limits: &Limits,
     ) -> Result<Verdict<IntTheory, Tree, IntSpent>, Want> {
-        if !is_numbered(query) {
-            return Err(AllocError);
-        }
         if let Some(values) = corner_model(alloc, query)? {
             return Ok(Verdict::Model(values));
         }
-        let verdict = solve_query(alloc, query, limits)?;
-        Ok(verdict)
+        solved(alloc, query, limits)
     }
 
     fn name_of(spent: &IntSpent) -> FailName {

@@ -2,6 +2,7 @@
 #![tactic(auto)]
 
 mod decider;
+mod lowered;
 mod queries;
 
 pub use decider::IntDecide;

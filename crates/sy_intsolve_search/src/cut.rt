@@ -23,7 +23,7 @@ use sy_seq::{Seq, Want};
 use sy_simplex_tableau::Tableau;
 
 /// How many cuts may stand in a row.
-const MOST_IN_A_ROW: usize = 16;
+const MOST_IN_A_ROW: usize = 4;
 
 /// How many cuts stand in a row at the end of the steps.
 fn cuts_in_row(steps: &[Step]) -> usize {
@@ -34,7 +34,7 @@ fn cuts_in_row(steps: &[Step]) -> usize {
         .count()
 }
 
-/// The cut of the way's path that the last tableau suggests at its corner, where fewer than 16 cuts stand in a row there.
+/// The cut of the way's path that the last tableau suggests at its corner, where fewer than 4 cuts are in a row there.
 pub(crate) fn cut_at(
     alloc: Global,
     query: &Query<IntTheory>,

@@ -5,3 +5,4 @@ pub mod Refuting
 pub mod Judged
 pub mod Bounds
 pub mod Rejecting
+pub mod Sound

@@ -6,4 +6,5 @@ mod refusal;
 mod text;
 
 pub use fail::{fail_line, name_text};
-pub use refusal::refusal_text;
+pub use refusal::{fault_name, position, put_cause, refusal_text};
+pub use text::put;

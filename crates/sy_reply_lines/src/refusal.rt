@@ -14,7 +14,7 @@ use sy_text_writer::write_numeral;
 
 /// The name of a fault of the text.
 #[tactic(auto, unfolding(sy_scope_causes::specs::Causes::fault_name))]
-fn fault_name(fault: &TextFault) -> &'static str
+pub fn fault_name(fault: &TextFault) -> &'static str
     ensures { result.now ≡ causes.fault_name fault.now }
 {
     match fault {
@@ -28,7 +28,7 @@ fn fault_name(fault: &TextFault) -> &'static str
 
 /// Appends the name of a cause.
 #[tactic(auto, unfolding(sy_scope_causes::specs::Causes::cause_name))]
-fn put_cause(out: &mut Bytes, cause: &Cause) -> Result<(), Want>
+pub fn put_cause(out: &mut Bytes, cause: &Cause) -> Result<(), Want>
     ensures { OnOk result (out.new ≡ out.old ++ causes.cause_name cause.now) }
 {
     match cause {
@@ -55,7 +55,7 @@ fn put_cause(out: &mut Bytes, cause: &Cause) -> Result<(), Want>
 }
 
 /// The line and the column of an offset, each counted from 1; one past the end counts as the end.
-fn position(bytes: &[u8], at: usize) -> (usize, usize)
+pub fn position(bytes: &[u8], at: usize) -> (usize, usize)
     ensures line { result.0 ≡ line_of bytes.now at }
     ensures column { result.1 ≡ column_of bytes.now at }
 {

@@ -53,6 +53,7 @@ pub(crate) fn read_in<T: Theory>(
         arguments,
         nonterminals: &[],
         constants: &[],
+        divisors: &[],
     };
     let phrase = read_whole(alloc, &env, known.measures, sort, item)?;
     Ok(phrase)

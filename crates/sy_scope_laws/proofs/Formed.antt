@@ -25,7 +25,7 @@ use Rattle.sy_forms_names.specs.Environments.{Environment}
 use Rattle.sy_forms_names.specs.Operators.{is_reserved}
 use Rattle.sy_forms_items.specs.Parts.{has_no_items, place_of}
 use Rattle.sy_forms_items.specs.Readings.{refuse, ◌>>=◌}
-use Rattle.sy_forms.specs.Rules.{constant_groups}
+use Rattle.sy_forms_linear.specs.Flags.{constant_groups}
 use Rattle.sy_scope_commands.specs.Requests.{Listed, Rulebook}
 use Rattle.sy_scope_names.specs.Lists.{sorts_of_names, named_item, counted, sort_of_pair, first_sort, starts_with, read_named, read_predeclared}
 use Rattle.sy_scope_steps.specs.Grammars.{Written, rules_under, among_nonterminals, written_as, nothing_grown, read_groups, read_productions, read_rulebook}
@@ -194,7 +194,7 @@ productions_formed numeric scope sorts entities logic arguments named groups wri
     let lengths = eqb-true (length (listed groups.items)) (length named) matching.0 in
     let read = bind_ok (read_groups env named groups.items nothing_grown) (λ grown. Ok (written_as arguments grown)) written matching.1 in
     let extended = groups_read env named groups.items nothing_grown read.0 lengths (omega arith) read.1 in
-    let constants = constant_groups (rules_under sorts entities logic arguments) named (listed groups.items) in
+    let constants = constant_groups (rules_under sorts entities logic arguments) named groups.items in
     let right = right_among numeric scope sorts entities logic arguments named groups.items rightly.right free in
     let reserved = reserved_among sorts entities logic arguments named groups.items rightly.reserved free in
     let syntax : Syntax = record { arguments = sorts_of_names arguments; nonterminals = extended.nonterminals } in

@@ -3,7 +3,7 @@ use Rattle.std.proofs.Common.{◌≡◌, ◌+◌, refl, sym, subst, ℕ, List, [
 use Rattle.std.specs.Prelude.{Option, bytes_eq, if◌then◌else◌}
 use Rattle.std.proofs.lemmas.List.Elements.{All-head, All-tail}
 use Rattle.std.proofs.lemmas.Slice.Eq.{bytes_eq-Decides}
-use Rattle.sy_text_items.specs.Items.{Items, listed}
+use Rattle.sy_text_items.specs.Items.{Items}
 use Rattle.sy_terms.specs.Fitting.{Scope}
 use Rattle.sy_terms.specs.declared.sort.Logic.{Logic}
 use Rattle.sy_terms.specs.declared.sort.Sort.{Sort}
@@ -12,7 +12,7 @@ use Rattle.sy_forms_names.specs.declared.names.Named.{Named}
 use Rattle.sy_forms_names.specs.Environments as env
 use Rattle.sy_forms_names.specs.Environments.{Sense, or_else, place_from, place_among, sense_as, sense_of}
 use Rattle.sy_forms_names.specs.Operators.{is_reserved}
-use Rattle.sy_forms.specs.Rules.{constant_groups}
+use Rattle.sy_forms_linear.specs.Flags.{constant_groups}
 use Rattle.sy_scope_names.specs.Lists.{sorts_of_names}
 use Rattle.sy_scope_steps.specs.Grammars.{rules_under, among_nonterminals}
 use Rattle.sy_forms_laws.specs.Fitting.{Setting}
@@ -63,13 +63,13 @@ none_behind place outer e f = rw (e, f) refl
 -- names stand for what is there where the nonterminals' names aren't reserved
 pub right_among : (numeric : Sort → Bool) (scope : Scope) (sorts : List (List ℕ × Sort)) (entities : List (List ℕ × Entity)) (logic : Logic) (arguments nonterminals : List Named) (groups : Items) →
     EnvironmentIsRight numeric (argument_setting scope arguments) (rules_under sorts entities logic arguments) → All (λ (x : Named). is_reserved logic x.name ≡ false) nonterminals →
-    EnvironmentIsRight numeric (grammar_setting scope arguments nonterminals (constant_groups (rules_under sorts entities logic arguments) nonterminals (listed groups))) (among_nonterminals (rules_under sorts entities logic arguments) nonterminals groups)
+    EnvironmentIsRight numeric (grammar_setting scope arguments nonterminals (constant_groups (rules_under sorts entities logic arguments) nonterminals groups)) (among_nonterminals (rules_under sorts entities logic arguments) nonterminals groups)
 right_among numeric scope sorts entities logic arguments nonterminals groups right free =
     record {
       theory = right.theory;
       sorts = right.sorts;
       names = λ name sense e.
-          there_by scope arguments nonterminals (constant_groups (rules_under sorts entities logic arguments) nonterminals (listed groups)) (place_among name nonterminals) (sense_of (rules_under sorts entities logic arguments) [] name) sense
+          there_by scope arguments nonterminals (constant_groups (rules_under sorts entities logic arguments) nonterminals groups) (place_among name nonterminals) (sense_of (rules_under sorts entities logic arguments) [] name) sense
           (place_among_at name nonterminals) (right.names name) e;
       constants = refl;
       lets = refl;

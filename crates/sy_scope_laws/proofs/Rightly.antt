@@ -1,5 +1,5 @@
 -- In a sound context terms are read rightly.
-use Rattle.std.specs.Prelude.{ℕ, Bool, List, [], slice_get, Option, Some, None, ◌≡◌, refl}
+use Rattle.std.specs.Prelude.{ℕ, Bool, List, [], Option, Some, None, ◌≡◌, refl}
 use Rattle.std.proofs.Common.{subst}
 use Rattle.sy_terms.specs.Fitting.{Signature}
 use Rattle.sy_terms.specs.declared.op.Op.{Op}
@@ -12,10 +12,11 @@ use Rattle.sy_forms_names.specs.declared.names.Entity.TheVariants as entity
 use Rattle.sy_forms_names.specs.declared.names.Named.{Named}
 use Rattle.sy_forms_names.specs.declared.names.Role.TheVariants as role
 use Rattle.sy_forms_names.specs.Environments as env
-use Rattle.sy_forms_names.specs.Environments.{Sense, entry_under, or_else, place_among, sense_as, declared_in}
+use Rattle.sy_forms_names.specs.Environments.{Sense, entry_under, place_among, declared_in}
 use Rattle.sy_forms_laws.specs.Right.{SenseIsThere, EnvironmentIsRight}
 use Rattle.sy_forms_laws.proofs.Names.{place_among_at}
 use Rattle.sy_forms_laws.proofs.Sorts.{entry_has}
+use Rattle.sy_forms_laws.proofs.Bodies.{in_body, argument_or}
 use Rattle.sy_scope_names.specs.Lists.{sorts_of_names}
 use Rattle.sy_scope_names.specs.Contexts.{Context}
 use Rattle.sy_scope_steps.specs.Steps.{environment}
@@ -36,20 +37,6 @@ in_assumption owned defined wanted variables None sense declared e = absurd cc
 in_assumption owned defined wanted variables (Some (entity.Variable position sort)) sense declared e = let same : env.Variable position sort ≡ sense = cc in subst (SenseIsThere (setting_with owned defined [] variables) []) same (declared (entity.Variable position sort) refl)
 in_assumption owned defined wanted variables (Some (entity.Function (Defined f) takes gives)) sense declared e = let same : env.Function (Defined f) takes gives ≡ sense = cc in subst (SenseIsThere (setting_with owned defined [] variables) []) same (declared (entity.Function (Defined f) takes gives) refl)
 in_assumption owned defined wanted variables (Some (entity.Function (Wanted f) takes gives)) sense declared e = let same : env.Withheld ≡ sense = cc in subst (SenseIsThere (setting_with owned defined [] variables) []) same tt
-
--- in a body, over arguments alone
-in_body : (owned : Op → Bool) (defined wanted : List Signature) (variables arguments : List Sort) (found : Option Entity) (sense : Sense) → ((it : Entity) → found ≡ Some it → IsDeclared defined wanted variables it)
-    → declared_in role.Body found ≡ Some sense → SenseIsThere (setting_with owned defined [] arguments) [] sense
-in_body owned defined wanted variables arguments None sense declared e = absurd cc
-in_body owned defined wanted variables arguments (Some (entity.Variable position sort)) sense declared e = absurd cc
-in_body owned defined wanted variables arguments (Some (entity.Function (Defined f) takes gives)) sense declared e = let same : env.Function (Defined f) takes gives ≡ sense = cc in subst (SenseIsThere (setting_with owned defined [] arguments) []) same (declared (entity.Function (Defined f) takes gives) refl)
-in_body owned defined wanted variables arguments (Some (entity.Function (Wanted f) takes gives)) sense declared e = let same : env.Withheld ≡ sense = cc in subst (SenseIsThere (setting_with owned defined [] arguments) []) same tt
-
--- an argument, or else what is declared
-argument_or : (owned : Op → Bool) (defined : List Signature) (arguments : List Named) (place : Option (ℕ × Sort)) (outer : Option Sense) (sense : Sense) → ((x : ℕ × Sort) → place ≡ Some x → slice_get (sorts_of_names arguments) x.0 ≡ Some x.1)
-    → (outer ≡ Some sense → SenseIsThere (setting_with owned defined [] (sorts_of_names arguments)) [] sense) → or_else (sense_as env.Argument place) outer ≡ Some sense → SenseIsThere (setting_with owned defined [] (sorts_of_names arguments)) [] sense
-argument_or owned defined arguments None outer sense inside outside e = outside e
-argument_or owned defined arguments (Some x) outer sense inside outside e = let same : env.Argument x.0 x.1 ≡ sense = cc in subst (SenseIsThere (setting_with owned defined [] (sorts_of_names arguments)) []) same (inside x refl)
 
 declared_of : (logic : Logic) (context : Context) → ContextIsSound logic context → (name : List ℕ) (it : Entity) → entry_under name context.entities ≡ Some it → IsDeclared (defined_in context.definitions) (signatures_wanted context.sought) context.variables it
 declared_of logic context sound name it e = entry_has (IsDeclared (defined_in context.definitions) (signatures_wanted context.sought) context.variables) name context.entities it sound.entities e

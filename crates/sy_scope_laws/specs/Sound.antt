@@ -1,7 +1,7 @@
 -- Contexts in which all that is declared and asked fits.
-use Rattle.std.specs.Prelude.{ℕ, Bool, true, false, List, [], ◌∷◌, ◌++◌, map, length, Option, Some, None, ◌≡◌, All, ⊤, slice_get}
+use Rattle.std.specs.Prelude.{ℕ, Bool, true, false, List, [], ◌∷◌, ◌++◌, map, length, Option, Some, None, ◌≡◌, All, ⊤}
 use Rattle.std.specs.List.{list_all}
-use Rattle.sy_terms.specs.Fitting.{Signature, signature_of, sort_in}
+use Rattle.sy_terms.specs.Fitting.{Signature, sort_in}
 use Rattle.sy_terms.specs.declared.op.Op.{Op}
 use Rattle.sy_terms.specs.declared.sort.Logic.{Logic}
 use Rattle.sy_terms.specs.declared.sort.Sort.{Sort}
@@ -10,9 +10,9 @@ use Rattle.sy_grammar_base.specs.Formed.{is_known}
 use Rattle.sy_forms_names.specs.Operators.{is_reserved}
 use Rattle.sy_forms_phrases.specs.Phrases.{Phrase}
 use Rattle.sy_forms_names.specs.declared.names.Entity.{Entity}
-use Rattle.sy_forms_names.specs.declared.names.Entity.TheVariants as entity
 use Rattle.sy_terms.specs.Logics.{number_sorts, operators_of}
-use Rattle.sy_forms_laws.specs.Fitting.{Setting, phrase_sort}
+use Rattle.sy_forms_laws.specs.Fitting.{phrase_sort}
+pub use Rattle.sy_forms_laws.specs.Declared.{setting_with, IsDeclared}
 use Rattle.sy_grammar_base.specs.Fits.{with_functions, GoalFits, QuestionFits}
 use Rattle.sy_forms_laws.specs.Right.{Extends}
 use Rattle.sy_scope_names.specs.Lists.{sorts_of_names}
@@ -28,16 +28,6 @@ signature_of_sought f = record { takes = sorts_of_names f.arguments; gives = f.s
 
 abbrev pub signatures_wanted : List Sought → List Signature
 signatures_wanted sought = map signature_of_sought sought
-
--- what terms may name that use values of these sorts
-abbrev pub setting_with : (Op → Bool) → List Signature → List Signature → List Sort → Setting
-setting_with owned defined wanted values = record { scope = with_functions owned defined wanted; values = values; nonterminals = []; constants = []; lets = true }
-
--- a declared name stands for a variable or a function that is there
-abbrev pub IsDeclared : List Signature → List Signature → List Sort → Entity → Type 0
-IsDeclared defined wanted variables (entity.Variable position sort) = slice_get variables position ≡ Some sort
-IsDeclared defined wanted variables (entity.Function function takes gives) =
-    signature_of (with_functions (λ operator. true) defined wanted) function ≡ Some (record { takes = takes; gives = gives })
 
 -- each body fits under the definitions before it
 abbrev pub BodiesFitAfter : (Op → Bool) → List Signature → List Definition → Type 0

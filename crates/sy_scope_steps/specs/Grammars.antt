@@ -15,7 +15,8 @@ use Rattle.sy_forms_phrases.specs.Measures.{literals_in}
 use Rattle.sy_forms_items.specs.Parts.{symbol, place_of, has_no_items, is_symbol}
 use Rattle.sy_forms_items.specs.Readings.{Reading, refuse, ◌>>=◌}
 use Rattle.sy_forms_phrases.specs.Productions.{Ruling, Template, EachConstant, EachVariable, production_at}
-use Rattle.sy_forms.specs.Rules.{read_rule, constant_groups, has_sort}
+use Rattle.sy_forms_linear.specs.Flags.{constant_groups, divisor_groups, has_sort}
+use Rattle.sy_forms.specs.Rules.{read_rule}
 use Rattle.sy_scope_commands.specs.Requests.{Listed, Rulebook}
 use Rattle.sy_scope_names.specs.Lists.{sorts_of_names, read_predeclared}
 
@@ -124,13 +125,15 @@ rules_under sorts entities logic arguments = record {
   arguments = arguments;
   nonterminals = [];
   constants = [];
+  divisors = [];
 }
 
--- where rules are read, with the nonterminals and which of these derive numerals alone
+-- where rules are read, with the nonterminals, and which of these derive numerals alone, or numerals other than 0 alone
 abbrev pub among_nonterminals : Environment → List Named → Items → Environment
 among_nonterminals env nonterminals groups = record env {
   nonterminals = nonterminals;
-  constants = constant_groups env nonterminals (listed groups);
+  constants = constant_groups env nonterminals groups;
+  divisors = divisor_groups env nonterminals groups;
 }
 
 -- a grammar, and the values that were written in it

@@ -36,6 +36,7 @@ environment context logic role arguments = record {
   arguments = arguments;
   nonterminals = [];
   constants = [];
+  divisors = [];
 }
 
 -- a whole term of the sort

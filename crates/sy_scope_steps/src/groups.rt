@@ -3,7 +3,6 @@ ghost use Rattle.std.specs.Prelude.{◌≡◌, OnOk};
 ghost use Rattle.std.specs.Option.{option_map};
 ghost use Rattle.sy_text_items.specs.Views.{item_of};
 ghost use Rattle.sy_forms_items.specs.Readings.{ReadingGives};
-ghost use Rattle.sy_forms.specs.Rules as rules;
 ghost use Rattle.sy_forms_names.specs.Seen.{environment_of};
 ghost use Rattle.sy_terms.specs.Logics.{Serves};
 ghost use Rattle.sy_forms_items.specs.Views.{items_in};
@@ -12,11 +11,11 @@ ghost use Rattle.sy_scope_steps.specs.Seen.{collected_of, grouped_of, grown_gram
 
 use crate::group::{Collected, Grouped, group_parts, read_rules};
 use std::alloc::Global;
-use sy_forms::{Environment, Named, ReadEnd, Rest, is_symbol, place_of, read_sort};
+use sy_forms::{Environment, Named, ReadEnd, Rest, has_sort, is_symbol, place_of};
 use sy_scope_causes::Cause;
 use sy_scope_names::Group;
 use sy_seq::{Seq, Want};
-use sy_terms::{Sort, Theory, Values, same_sort};
+use sy_terms::{Sort, Theory, Values};
 use sy_text_items::{Place, Sexp, Sexps};
 
 /// The nonterminals whose rules were read.
@@ -39,16 +38,6 @@ impl<T: Theory> Grown<T> {
             groups: Seq::new(alloc),
             values: Seq::new(alloc),
         }
-    }
-}
-
-/// Whether the item is this sort.
-fn has_sort(env: &Environment<'_>, sort: Sort, item: &Sexp) -> bool
-    ensures { result ≡ rules.has_sort (environment_of env.now) sort (item_of item.now) }
-{
-    match read_sort(env.logic, env.names, item) {
-        Ok(found) => same_sort(&found, &sort),
-        Err(_) => false,
     }
 }
 

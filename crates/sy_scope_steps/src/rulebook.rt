@@ -9,7 +9,7 @@ ghost use Rattle.sy_scope_commands.specs.Asked.{rulebook_of};
 
 use crate::groups::read_groups;
 use std::alloc::Global;
-use sy_forms::{Environment, Named, ReadEnd, Rest, Role, constant_groups};
+use sy_forms::{Environment, Named, ReadEnd, Rest, Role, constant_groups, divisor_groups};
 use sy_scope_causes::Cause;
 use sy_scope_commands::Rulebook;
 use sy_scope_names::{Group, Naming, read_predeclared};
@@ -44,9 +44,11 @@ fn read_productions<T: Theory>(
         return Err(ReadEnd::Refused(place, Cause::Predeclared));
     }
     let constants = constant_groups(alloc, env, nonterminals, groups)?;
+    let divisors = divisor_groups(alloc, env, nonterminals, groups)?;
     let env = Environment {
         nonterminals,
         constants: constants.as_slice(),
+        divisors: divisors.as_slice(),
         ..*env
     };
     let grown = read_groups(alloc, &env, groups)?;
@@ -77,6 +79,7 @@ pub fn read_rulebook<T: Theory>(
         arguments: naming.taken,
         nonterminals: &[],
         constants: &[],
+        divisors: &[],
     };
     let groups = book.groups;
     let written = read_productions(

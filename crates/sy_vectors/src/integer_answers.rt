@@ -5,6 +5,7 @@ use std::alloc::Global;
 use std::process::Abort;
 use sy_intsolve::{IntDecide, fits};
 use sy_linear::check_tree;
+use sy_lower::lower;
 use sy_meaning_integers::IntTheory;
 use sy_query::{Decide, FailName, Limits, Query, Verdict};
 use sy_terms::Value;
@@ -39,7 +40,8 @@ fn answers(rt: &impl Abort, alloc: Global, query: &Query<IntTheory>, row: &str) 
     let is_told = match &verdict {
         Verdict::Model(values) => are_values(values.as_slice(), told),
         Verdict::Never(tree) => {
-            told == "never" && matches!(check_tree(alloc, query, tree), Ok(true))
+            let lowered = lower(alloc, query).expect(rt, told);
+            told == "never" && matches!(check_tree(alloc, &lowered, tree), Ok(true))
         }
         Verdict::Spent(spent) => told == "range" && IntDecide::name_of(spent) == FailName::Range,
     };
@@ -55,9 +57,11 @@ pub fn is_right(rt: &impl Abort, alloc: Global, row: &str) -> bool {
     is_right
 }
 
-/// The variables' sorts, the body, how many inner nodes and steps at a leaf may be, and the answer: `unfit` for what isn't a
-/// query; the numbers of a model, or `some`, by assignments that are tried before any search; `never`, by a tree that the
-/// checker accepts, where coefficients are sums; and `range` for what isn't linear.
+/// The variables' sorts, the body, how many inner nodes and steps at a leaf may be, and the answer: `unfit` for what
+/// isn't a query; the numbers of a model, or `some`, by assignments that are tried before any search; `never`, by a
+/// tree of the lowered query that the checker accepts, where coefficients are sums; and `range` for what isn't linear.
+/// Then the same of divisions, remainders and absolute values: a model that only a search finds has no values of the
+/// variables that were made.
 pub const ROWS: &str = "\
 i|A|9|9|unfit
 b|=+A11|9|9|unfit
@@ -67,4 +71,13 @@ i|=A5|0|0|5
 i|&>A5<A7|0|0|6
 iii|=++*+66A*+3+99B*++3+99+66C7|4|99|never
 ii|=**AB23|9|9|range
+i|=%A35|9|99|never
+i|<%A40|9|99|never
+i|<$A0|9|99|never
+i|!=+*4/A4%A4A|9|99|never
+i|!=//A23/A6|40|999|never
+ii|>-$AB+$A$B|40|999|never
+i|&=%A73=/A75|40|999|38
+i|=%A53|0|0|some
+i|=/AA1|9|9|range
 ";

@@ -1,7 +1,7 @@
 // Values from outside: the first table is what z3 4.8.12 answers (tools/integer_vectors.py).
 
-/// An operator that no file takes, what it is applied to, and its value, `none` where one on the way is out of range; and
-/// comparisons of numbers whose difference is.
+/// An operator, what it is applied to, and its value, `none` where one on the way is out of range: absolute values,
+/// divisions, also by 0, and comparisons of numbers whose difference is out of range.
 pub const ROWS: &str = "\
 abs 0|0
 abs 7|7

@@ -1,7 +1,8 @@
 // The tables, row by row.
 use crate::{
     answers, clauses, conditions, cuts, defaults, evaluation, facts, forms, fractions, gates,
-    grammars, integer_answers, integers, joins, measures, operators, sorts, trees, words,
+    grammars, integer_answers, integers, joins, lowerings, measures, operators, sorts, trees,
+    words,
 };
 use std::alloc::Global;
 use std::process::Abort;
@@ -9,7 +10,7 @@ use sy_meaning_integers::IntTheory;
 use sy_meaning_words::BvTheory;
 
 /// All tables with their names.
-const TABLES: [(&str, &str); 23] = [
+const TABLES: [(&str, &str); 24] = [
     ("gates", gates::ROWS),
     ("measures of integers", measures::INTEGERS),
     ("measures of vectors", measures::VECTORS),
@@ -31,6 +32,7 @@ const TABLES: [(&str, &str); 23] = [
     ("trees", trees::ROWS),
     ("cuts", cuts::ROWS),
     ("queries over integers", integer_answers::ROWS),
+    ("lowered queries", lowerings::ROWS),
     ("others", OTHERS),
     ("sorts", SORTS),
 ];
@@ -113,6 +115,7 @@ fn is_right(rt: &impl Abort, alloc: Global, table: &str, row: &str) -> bool {
         "queries" => answers::is_right(rt, alloc, row),
         "queries of each width" => answers::is_plain(rt, alloc, row),
         "queries over integers" => integer_answers::is_right(rt, alloc, row),
+        "lowered queries" => lowerings::is_right(rt, alloc, row),
         "others" => holds(rt, alloc, row),
         "sorts" => holds_of_sorts(row),
         _ => is_told(rt, alloc, table, row),

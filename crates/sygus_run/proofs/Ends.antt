@@ -11,19 +11,15 @@ use Rattle.sygus_input.specs.Inputs.{AskDrill, AskFile, HasNoInput, HaveNoReadin
 use Rattle.sygus_input.specs.declared.input.InputFault.{InputFault}
 use Rattle.sygus_input.specs.declared.input.InputFault.TheVariants as faults
 use Rattle.sygus_replies.specs.Texts.{answer_lines, words_line, read_line, memory_line}
-use Rattle.sygus_replies.proofs.Steps.{lines-none}
+use Rattle.sygus_answers.proofs.Lines.{idle_line}
 use Rattle.sygus_words.specs.declared.settings.Settings.{Settings}
-use Rattle.sygus_run.proofs.Drilling.{ends_idle}
-use Rattle.sygus_run.specs.Answers.{replies_of}
-use Rattle.sygus_run.specs.Drills.{EndsDrill}
-use Rattle.sygus_run.specs.Files.{AnswersFile, RefusesFile, Stops, WritesAll, WritesCut, WritesTexts}
+use Rattle.sygus_drills.proofs.Drilling.{ends_idle}
+use Rattle.sygus_answers.specs.Answers.{replies_of}
+use Rattle.sygus_drills.specs.Drills.{EndsDrill}
+use Rattle.sygus_solve.specs.Files.{AnswersFile, RefusesFile, Stops, WritesAll, WritesCut, WritesTexts}
 use Rattle.sygus_run.specs.Runs.{Answered, FileIsRefused, IsCutOff, Midway, PosesFile, WantsMemory, fault_line, fault_status}
-use Rattle.sygus_run.specs.declared.answers.Answers.{Answers}
-use Rattle.sygus_run.specs.declared.answers.Answers.TheVariants.{Idle}
-
--- the line that memory was wanted, where nothing was answered
-pub idle_line : (answers : Answers) (before after : Option (List ℕ)) (text : List ℕ) → answers ≡ Idle → Appends before after text → Appends before after (answer_lines 1 (replies_of answers) ++ text)
-idle_line answers before after text is written = rw (is, lines-none) written
+use Rattle.sygus_answers.specs.declared.answers.Answers.{Answers}
+use Rattle.sygus_answers.specs.declared.answers.Answers.TheVariants.{Idle}
 
 -- ---- of the file that words name
 

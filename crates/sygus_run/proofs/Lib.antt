@@ -1,16 +1,1 @@
-pub mod Answerable
-pub mod Beyond
-pub mod Closed
-pub mod Computing
-pub mod Counting
-pub mod Drilled
-pub mod Drilling
 pub mod Ends
-pub mod Found
-pub mod Jobs
-pub mod Left
-pub mod Named
-pub mod Ranges
-pub mod RuledOut
-pub mod Seeking
-pub mod Statuses

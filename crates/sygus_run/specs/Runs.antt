@@ -12,9 +12,10 @@ use Rattle.sy_scope_steps.specs.Files.{file_read}
 use Rattle.sy_scope_names.specs.Jobs.{Wish, wished}
 use Rattle.sygus_replies.specs.Texts.{texts, answer_lines, words_line, read_line, too_long_line, memory_line}
 use Rattle.sygus_replies.specs.Answered.{WritesMost}
-use Rattle.sygus_run.specs.declared.answers.Answers.{Answers}
-use Rattle.sygus_run.specs.declared.answers.Answers.TheVariants.{Idle}
-use Rattle.sygus_run.specs.Answers.{replies_of, AreRightAnswers, AreOfLogic}
+use Rattle.sygus_answers.specs.declared.answers.Answers.{Answers}
+use Rattle.sygus_answers.specs.declared.answers.Answers.TheVariants.{Idle}
+use Rattle.sygus_answers.specs.Answers.{replies_of, AreOfLogic}
+use Rattle.sygus_search.specs.RightAnswers.{AreRightAnswers}
 
 -- the file of these words is in the profile, and this is what it asks for
 pub record PosesFile (words : List (List ℕ)) (held : Option Holding) (settings : Settings) (wish : Wish) : Type 0 where

@@ -4,25 +4,25 @@ ghost use Rattle.std.specs.Io.KnownBytes.{Appends};
 ghost use Rattle.sy_io.specs.Causes.{Rose};
 ghost use Rattle.sygus_replies.specs.Replies.{IsSettled, IsFail};
 ghost use Rattle.sygus_replies.specs.Texts.{answer_lines, words_line, read_line, memory_line};
-ghost use Rattle.sygus_run.specs.Answers.{replies_of, AreNamedFor};
+ghost use Rattle.sygus_answers.specs.Answers.{replies_of, AreNamedFor};
 ghost use Rattle.sygus_input.specs.Inputs.{AskDrill, AskNoDrill, HaveNoReading};
 ghost use Rattle.sygus_run.specs.Runs.{Answered, FileIsRefused, IsCutOff, WantsMemory, fault_status, fault_line};
-ghost use Rattle.sygus_run.specs.Drills.{EndsDrill};
+ghost use Rattle.sygus_drills.specs.Drills.{EndsDrill};
 ghost use Rattle.sy_query_limits.specs.declared.Limits.{Limits};
 
-use crate::answers::{Answers, Ended, unanswered};
-use crate::drills::drill;
-use crate::file::answer_file;
 use std::alloc::Global;
 use sy_io::{Sink, Source};
+use sygus_answers::{Answers, Ended, unanswered};
+use sygus_drills::drill;
 use sygus_input::{Input, InputFault, read_input};
+use sygus_solve::answer_file;
 
 /// Reads the words, then the input, checks the whole file, and answers its problems in order.
 /// Each reply goes out before the next problem is sought. In mode `drill` the file is made from a number, and one line
 /// goes out in place of a reply.
 ///
-/// The status is 0 where no answer is a fail and 1 where some is, 2 where the file is refused, 3 where the words are, 4 where
-/// a read failed, 5 where a write did, and 6 where memory was wanted. At 5 and 6 the answers are those so far.
+/// The status is 0 where no answer is a fail and 1 where some is, 2 where the file is refused, 3 where the words are, 4
+/// where a read failed, 5 where a write did, and 6 where memory was wanted. At 5 and 6 the answers are those so far.
 pub fn run<S: Source, O: Sink, E: Sink>(
     alloc: Global,
     words: &[String],
@@ -35,7 +35,8 @@ pub fn run<S: Source, O: Sink, E: Sink>(
     // mode drill: the problem of the number's file has its right answer, one line tells it, and the source isn't used
     ensures drill { (number : ℕ) (limits : Limits) → AskDrill (map string_bytes words.now) number limits →
         EndsDrill number limits result.status result.answers (O.written out.old) (O.written out.new) (E.written err.old) (E.written err.new) }
-    ensures unread { (number : ℕ) (limits : Limits) → AskDrill (map string_bytes words.now) number limits → source.new ≡ source.old }
+    ensures unread { (number : ℕ) (limits : Limits) → AskDrill (map string_bytes words.now) number limits → source.new ≡
+        source.old }
 
     // 0 and 1 in the other modes: every problem of the file has its right answer
     ensures answered { AskNoDrill (map string_bytes words.now) → result.status ≤ 1 →
@@ -65,14 +66,17 @@ pub fn run<S: Source, O: Sink, E: Sink>(
     ensures silent { 2 ≤ result.status → result.status ≤ 4 → out.new ≡ out.old }
 
     // 5: a write failed
-    ensures write { result.status ≡ 5 → Rose (O.faults out.old) (O.faults out.new) ⊎ Rose (E.faults err.old) (E.faults err.new) }
-    ensures cut_off { AskNoDrill (map string_bytes words.now) → result.status ≡ 5 → IsCutOff (map string_bytes words.now) (S.held source.old) result.answers
+    ensures write { result.status ≡ 5 → Rose (O.faults out.old) (O.faults out.new) ⊎ Rose (E.faults err.old)
+        (E.faults err.new) }
+    ensures cut_off { AskNoDrill (map string_bytes words.now) → result.status ≡ 5 → IsCutOff
+        (map string_bytes words.now) (S.held source.old) result.answers
         (O.written out.old) (O.written out.new) }
 
     // 6: memory was wanted
     ensures memory { result.status ≡ 6 → WantsMemory (map string_bytes words.now) (S.held source.old) result.answers
         (O.written out.old) (O.written out.new) }
-    ensures memory_line { result.status ≡ 6 → Appends (E.written err.old) (E.written err.new) (answer_lines 1 (replies_of result.answers) ++ memory_line) }
+    ensures memory_line { result.status ≡ 6 → Appends (E.written err.old) (E.written err.new)
+        (answer_lines 1 (replies_of result.answers) ++ memory_line) }
 {
     match read_input(alloc, words, source) {
         Ok(Input::Drill(number, limits)) => drill(alloc, number, &limits, out, err),
@@ -87,7 +91,8 @@ pub fn run<S: Source, O: Sink, E: Sink>(
 fn without_input<E: Sink>(err: &mut E, fault: InputFault) -> Ended
     ensures status { (2 ≤ result.status) × (result.status ≤ 6) }
     ensures answers { result.answers ≡ Answers.Idle }
-    ensures written { result.status ≢ 5 → (result.status ≡ fault_status fault) × Appends (E.written err.old) (E.written err.new) (fault_line fault) }
+    ensures written { result.status ≢ 5 → (result.status ≡ fault_status fault) × Appends (E.written err.old)
+        (E.written err.new) (fault_line fault) }
     ensures write { result.status ≡ 5 → Rose (E.faults err.old) (E.faults err.new) }
 {
     match fault {

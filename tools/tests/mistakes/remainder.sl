@@ -1,5 +1,6 @@
 (set-logic LIA)
-(synth-fun f ((x Int)) Int)
+(synth-fun f ((x Int) (n Int)) Int)
 (declare-var x Int)
-(constraint (= (f x) (mod x 2)))
+(declare-var n Int)
+(constraint (= (f x n) (mod x n)))
 (check-synth)

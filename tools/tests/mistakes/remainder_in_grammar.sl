@@ -1,2 +1,2 @@
 (set-logic LIA)
-(synth-fun f ((x Int)) Int ((Start Int)) ((Start Int ((Constant Int) (Variable Int) (+ Start Start) (mod Start 2)))))
+(synth-fun f ((x Int)) Int ((Start Int) (C Int)) ((Start Int (C x (+ Start Start) (mod Start C))) (C Int ((Constant Int)))))

@@ -1,5 +1,5 @@
 use Rattle.std.proofs.Common.{refl}
-use Rattle.sygus_run.proofs.Drilling.{ends_that}
+use Rattle.sygus_drills.proofs.Drilling.{ends_that}
 use Rattle.sygus_run.proofs.Ends as ends
 use Rattle.sygus_run.proofs.program.run.Goals as goal
 

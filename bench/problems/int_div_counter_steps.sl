@@ -1,0 +1,12 @@
+; A counter by steps of 3 or 6 never leaves the rest 1.
+(set-logic LIA)
+(synth-inv inv ((x Int))
+  ((B Bool) (S Int) (K Int))
+  ((B Bool ((= S S) (<= S S) (and B B)))
+   (S Int (0 1 x (+ S S) (mod S K)))
+   (K Int (2 3))))
+(define-fun pre ((x Int)) Bool (= x 0))
+(define-fun trans ((x Int) (x1 Int)) Bool (or (= x1 (+ x 3)) (= x1 (- x 6))))
+(define-fun post ((x Int)) Bool (distinct (mod x 3) 1))
+(inv-constraint inv pre trans post)
+(check-synth)

@@ -1,0 +1,11 @@
+; An aligned pointer stays aligned where it moves by a word, and ends below a limit.
+(set-logic LIA)
+(synth-inv inv ((p Int) (n Int))
+  ((B Bool) (S Int))
+  ((B Bool ((= S S) (<= S S) (and B B)))
+   (S Int (p n (mod S 8)))))
+(define-fun pre ((p Int) (n Int)) Bool (and (= p 0) (<= 0 n) (= (mod n 8) 0)))
+(define-fun trans ((p Int) (n Int) (p1 Int) (n1 Int)) Bool (and (< p n) (= p1 (+ p 8)) (= n1 n)))
+(define-fun post ((p Int) (n Int)) Bool (=> (not (< p n)) (= p n)))
+(inv-constraint inv pre trans post)
+(check-synth)

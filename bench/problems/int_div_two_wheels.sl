@@ -1,0 +1,12 @@
+; A wheel of 4 beside a wheel of 8.
+(set-logic LIA)
+(synth-inv inv ((x Int) (y Int))
+  ((B Bool) (S Int) (K Int))
+  ((B Bool ((= S S) (<= S S) (and B B)))
+   (S Int (0 1 x y (+ S S) (mod S K)))
+   (K Int (4 8))))
+(define-fun pre ((x Int) (y Int)) Bool (and (= x 0) (= y 0)))
+(define-fun trans ((x Int) (y Int) (x1 Int) (y1 Int)) Bool (and (= x1 (mod (+ x 1) 4)) (= y1 (mod (+ y 1) 8))))
+(define-fun post ((x Int) (y Int)) Bool (=> (= y 0) (= x 0)))
+(inv-constraint inv pre trans post)
+(check-synth)

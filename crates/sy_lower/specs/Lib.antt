@@ -1,0 +1,4 @@
+pub mod Divisors
+pub mod Codes
+pub mod Kept
+pub mod Stored

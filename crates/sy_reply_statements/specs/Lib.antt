@@ -1,0 +1,4 @@
+pub mod Lines
+pub mod Statements
+pub mod Ends
+pub mod Fitting

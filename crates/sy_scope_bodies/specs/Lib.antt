@@ -1,0 +1,4 @@
+pub mod Sizes
+pub mod Around
+pub mod Bodies
+pub mod Seen

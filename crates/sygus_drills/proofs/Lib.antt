@@ -1,0 +1,4 @@
+pub mod Closed
+pub mod Counting
+pub mod Drilled
+pub mod Drilling

@@ -1,4 +1,0 @@
-use Rattle.sygus_run.proofs.drill_answers.line_of.Goals as goal
-
-pub returns : goal.returns
-returns g c = rw c.in_ok-end.ensures at c.drill_line.ensures

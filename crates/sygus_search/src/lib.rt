@@ -1,0 +1,7 @@
+// The search of each mode: which answers are right, and the outcome for one problem.
+#![tactic(auto)]
+
+mod search;
+mod synthesis;
+
+pub use search::{Solved, sought, status_of};

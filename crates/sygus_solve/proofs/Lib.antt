@@ -1,0 +1,3 @@
+pub mod Answerable
+pub mod Found
+pub mod Jobs

@@ -1,0 +1,8 @@
+// Answering the problems of a file in order.
+#![tactic(auto)]
+
+mod file;
+mod job;
+mod problems;
+
+pub use file::answer_file;

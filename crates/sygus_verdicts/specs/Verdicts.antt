@@ -1,0 +1,40 @@
+-- What is said of a reply to a check-synth.
+use Rattle.std.specs.Prelude.{ℕ, ◌≡◌, Bool, true, false, List, All, Option, Some, None, if◌then◌else◌}
+use Rattle.std.specs.List.{list_all}
+use Rattle.sy_terms.specs.Values.{Val}
+use Rattle.sy_terms.specs.Theories.{valid}
+use Rattle.sy_query_limits.specs.declared.FailName.{FailName}
+
+-- the definitions solve the problem; there are none; the body of the function of this number is the first that is no
+-- member of its grammar; the definitions violate the problem at these values of its variables; or the named limit was reached
+pub data Verdict : Type 0 where
+  Holds : Verdict
+  NoDefinitions : Verdict
+  NotMember : (function : ℕ) → Verdict
+  Refuted : (values : List Val) → Verdict
+  Budget : (name : FailName) → Verdict
+
+-- the definitions solve the problem
+abbrev pub is_good : Verdict → Bool
+is_good Holds = true
+is_good NoDefinitions = false
+is_good (NotMember function) = false
+is_good (Refuted values) = false
+is_good (Budget name) = false
+
+-- the values of a verdict are values of their sorts
+abbrev pub IsPrintable : Verdict → Type 0
+IsPrintable Holds = Unit {0}
+IsPrintable NoDefinitions = Unit {0}
+IsPrintable (NotMember function) = Unit {0}
+IsPrintable (Refuted values) = All (λ value. valid value ≡ true) values
+IsPrintable (Budget name) = Unit {0}
+
+-- the verdict on a reply, of which this was found where it gives definitions
+abbrev pub verdict_on : {A : Type 0} → (A → Verdict) → Option A → Verdict
+verdict_on verdict None = NoDefinitions
+verdict_on verdict (Some found) = verdict found
+
+-- 0 where all definitions solve their problems, else 1
+abbrev pub verdicts_status : List Verdict → ℕ
+verdicts_status verdicts = if list_all is_good verdicts then 0 else 1
