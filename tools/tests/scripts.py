@@ -1,14 +1,16 @@
 """Tests of the scripts beside the program: what their help says, the tables that they print, and what their checks find."""
 import importlib.machinery
 import importlib.util
+import os
 import pathlib
 import re
 import shutil
 import subprocess
 import sys
+import tempfile
 
 TOP = pathlib.Path(__file__).resolve().parent.parent.parent
-sys.path.insert(0, str(TOP / "bench"))
+sys.path[:0] = [str(TOP / "bench"), str(TOP / "tools")]
 import answers
 import drill
 import functions
@@ -114,8 +116,8 @@ def loaded(path):
 
 
 def scripts():
-    """All scripts in Python but tools/explain, whose words are those of the program."""
-    named = [TOP / "tools" / name for name in ("fuzz", "many", "portfolio", "tests/run")]
+    """All scripts in Python."""
+    named = [TOP / "tools" / name for name in ("explain", "from_csv", "fuzz", "many", "portfolio", "tests/run")]
     return [*sorted((TOP / "bench").glob("*.py")), *sorted((TOP / "tools").glob("*.py")), *named]
 
 
@@ -187,6 +189,26 @@ def dearest():
     yield "functions: no check", [it.split()[-1] for it in functions.table([], 40)] == ["checks", "0.0", "0.0"]
 
 
+def plotted():
+    """What bench/plot.py draws of a table, and what it says where gnuplot isn't there."""
+    row = "| {:24} | {:26} | {:>8} | {:>8} | {:>7} | {:>7} |"
+    cells = [("first", "definitions", "0.00", "0.02"), ("loop", "definitions", "0.10", "-"), ("greater", "fail Bank", "0.40", "0.30")]
+    table = "\n".join(["| File | Answer |", *(row.format(*it, "", "") for it in cells), row.format("ones", "fail Size", "0.01", "-", "", ""), ""])
+    with tempfile.TemporaryDirectory() as folder:
+        (pathlib.Path(folder) / "table.md").write_text(table)
+        words = [sys.executable, TOP / "bench" / "plot.py", "--table", f"{folder}/table.md", "--folder", f"{folder}/plots"]
+        ended = subprocess.run(words, env={**os.environ, "PATH": "/nowhere"}, capture_output=True, text=True)
+        yield "plot: without gnuplot", (ended.returncode, "apt-get install gnuplot-nox" in ended.stderr) == (70, True)
+        if shutil.which("gnuplot"):
+            ended = subprocess.run(words, capture_output=True, text=True)
+            drawn = [path.read_text() for path in sorted(pathlib.Path(folder, "plots").glob("*.svg"))]
+            yield "plot: pictures", (ended.returncode, ended.stderr, len(drawn)) == (0, "", 2)
+            yield "plot: kinds", all(f"{kind}: {count} file" in drawn[0] for kind, count in [("examples", 1), ("invariants", 1), ("integers", 1)])
+            yield "plot: folder that can't be made", subprocess.run([*words[:-1], "/dev/null/there"], capture_output=True).returncode == 5
+        (pathlib.Path(folder) / "table.md").write_text("")
+        yield "plot: no rows", not shutil.which("gnuplot") or subprocess.run(words, capture_output=True).returncode == 2
+
+
 def crates_in_order():
     """What tools/index.py makes of a list of crates, and what it refuses in one."""
     index = loaded(TOP / "tools" / "index.py")
@@ -206,3 +228,4 @@ def tests():
     yield from drilled()
     yield from fuzzed()
     yield from dearest()
+    yield from plotted()

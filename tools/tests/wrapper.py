@@ -47,7 +47,8 @@ class Room:
             (self.top / "crates" / name / "src" / "lib.rt").write_text("")
         (self.top / "crates.txt").write_text("".join(f"{name}: {' '.join(below)}\n" for name, below in [*CRATES.items(), ("bench_parts", ["sy_low"])]))
         scripts = [path.relative_to(TOP) for ending in ("sh", "awk") for path in (TOP / "tools").glob(f"*.{ending}")]
-        for name in ("sygus", "HANDLES", "tools/install", "docs/sygus.1", *scripts):
+        tools = [f"tools/{name}" for name in ("install", "explain", "problem_checks.py", "sygus_client.py")]
+        for name in ("sygus", "HANDLES", "docs/sygus.1", "docs/USAGE.md", *tools, *scripts):
             (self.top / name).parent.mkdir(exist_ok=True)
             shutil.copy(TOP / name, self.top / name)
         for path, text in [(folder / "rt", RT), (folder / "notes.program", PROGRAM)]:
@@ -171,7 +172,8 @@ def installs(room):
     prefix = room.folder / "a prefix"
     ended = subprocess.run([room.top / "tools" / "install", prefix], env=room.words(), capture_output=True)
     ran = subprocess.run([prefix / "bin" / "sygus", "here"], capture_output=True, text=True).stdout if ended.returncode == 0 else ""
-    yield "tools/install: copies the program", ran == "here\n" and (prefix / "share" / "man" / "man1" / "sygus.1").is_file()
+    there = [prefix / "share" / "man" / "man1" / "sygus.1", prefix / "bin" / "sygus-explain"]
+    yield "tools/install: copies the program", ran == "here\n" and all(path.is_file() for path in there)
     yield "tools/install: has one word", subprocess.run([room.top / "tools" / "install"], capture_output=True).returncode == 3
 
 

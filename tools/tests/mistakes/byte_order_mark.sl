@@ -1,0 +1,1 @@
+﻿(set-logic LIA)
