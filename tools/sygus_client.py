@@ -525,7 +525,8 @@ def as_command(main):
         status = 70
     except OSError as error:
         if error.errno != errno.EPIPE:
-            say(f"{name}: {error.filename or 'standard output'}: {error.strerror}")
+            place = error.filename2 or error.filename or ("standard output" if error.errno == errno.ENOSPC else "")
+            say(": ".join(it for it in (name, place, error.strerror) if it))
         status = 5
     leave(status)
 

@@ -24,7 +24,7 @@ import sygus_client
 # Comments of a problem say what the stub does: `; sleep S`, `; ends N`, `; needs OPTION N`, without which it fails by
 # that limit, `; two`, that it answers once before, `; infeasible`, `; refused`.
 STUB = r"""#!/usr/bin/env python3
-import re, sys, time
+import os, re, sys, time
 words = [word for word in sys.argv[1:] if word != "--"]
 text = (sys.stdin if words[-1] == "-" else open(words[-1])).read()
 given = dict(zip(words[:-1:2], words[1:-1:2]))
@@ -37,6 +37,7 @@ if not text:
 if "; two" in text:
     print("(\n(define-fun g () Int 1)\n)", flush=True)
 for seconds in re.findall(r"^; sleep (\S+)", text, re.M):
+    open(os.environ.get("SLEEPS", os.devnull), "w").close()
     time.sleep(float(seconds))
 for status in re.findall(r"^; ends (\d+)", text, re.M):
     sys.exit(int(status))
@@ -48,7 +49,7 @@ for option, least in re.findall(r"^; needs (\w+) (\w+)", text, re.M):
 print("infeasible" if "; infeasible" in text else "(\n(define-fun f ((x Int)) Int (+ x 1))\n)")
 """
 FOUND = "(\n(define-fun f ((x Int)) Int (+ x 1))\n)\n"
-# Problems by their names, with the status and what came of each in two seconds.
+# Problems by their names, with the status and what came of each in eight seconds.
 PROBLEMS = {
     "a.sl": ("(check-synth)\n", "0", "definitions"),
     "b c/d 'e\".sl": ("; needs size 20\n", "1", "fail Size"),
@@ -75,7 +76,9 @@ class Room:
         self.scratch.mkdir()
         self.stub.write_text(STUB)
         self.stub.chmod(0o755)
-        self.words = {**os.environ, "SYGUS": str(self.stub), "TMPDIR": str(self.scratch)}
+        self.sleeps = folder / "sleeps"
+        own = {"SYGUS": self.stub, "TMPDIR": self.scratch, "SLEEPS": self.sleeps}
+        self.words = {**os.environ, **{name: str(path) for name, path in own.items()}}
         for name, (text, _, _) in PROBLEMS.items():
             path = folder / "problems" / name
             path.parent.mkdir(parents=True, exist_ok=True)
@@ -88,27 +91,31 @@ class Room:
         ended = subprocess.run([TOOLS / name, *words], cwd=self.folder, env=self.words, text=True, **given)
         return ended.returncode, ended.stdout, ended.stderr
 
-    def interrupted(self, number, seconds, name, *words):
-        """The status of a script that a terminal's Ctrl-C or a signal ends after some seconds, and what it printed."""
-        begun = subprocess.Popen(
-            [TOOLS / name, *words],
-            cwd=self.folder,
-            env=self.words,
-            text=True,
-            stdin=subprocess.DEVNULL,
-            stdout=subprocess.PIPE,
-            stderr=subprocess.PIPE,
-            start_new_session=True,
-            preexec_fn=lambda: signal.signal(signal.SIGINT, signal.SIG_DFL),
-        )
-        time.sleep(seconds)
+    def interrupted(self, number, is_time, name, *words):
+        """The status of a script that Ctrl-C in a terminal or a signal ends when it is time, and what it printed."""
+        self.sleeps.unlink(missing_ok=True)
+        streams = {"stdin": subprocess.DEVNULL, "stdout": subprocess.PIPE, "stderr": subprocess.PIPE, "text": True}
+        own = {"start_new_session": True, "preexec_fn": lambda: signal.signal(signal.SIGINT, signal.SIG_DFL)}
+        begun = subprocess.Popen([TOOLS / name, *words], cwd=self.folder, env=self.words, **streams, **own)
+        end = time.monotonic() + 60
+        while not is_time() and time.monotonic() < end:
+            time.sleep(0.05)
         (os.killpg if number == signal.SIGINT else os.kill)(begun.pid, number)
         out, err = begun.communicate()
         return begun.returncode, out, err
 
+    def is_asleep(self):
+        """Whether a run of the stub sleeps."""
+        return self.sleeps.exists()
+
+    def logged(self, folder):
+        """The lines of a job log."""
+        path = self.folder / folder / "joblog"
+        return path.read_text().splitlines(keepends=True) if path.exists() else []
+
     def is_alone(self):
         """Whether no run of the stub goes on, in this folder or of a copy in it, and no folder was left."""
-        for _ in range(40):
+        for _ in range(200):
             lines = subprocess.run(["ps", "-eo", "args"], capture_output=True, text=True).stdout
             if (
                 str(self.folder) not in lines.replace(str(pathlib.Path(__file__)), "")
@@ -167,10 +174,10 @@ def calls(room):
         ["Bank"],
     )
     pieces = []
-    result = sygus_client.solve("; two\n; sleep 30\n", program, time=1.5, on_output=pieces.append)
+    result = sygus_client.solve("; two\n; sleep 30\n", program, time=5, on_output=pieces.append)
     yield "client: ends when the time is up", result.status == 124 and len(
         result.answers
-    ) == 1 and 1 < result.seconds < 20
+    ) == 1 and 4 < result.seconds < 20
     yield "client: passes answers on", b"".join(pieces).decode() == result.output
     call = sygus_client.start("; sleep 30\n", program)
     threading.Timer(0.3, call.cancel).start()
@@ -199,7 +206,9 @@ def command(room):
     )
     yield "client: takes options", room.run("sygus_client.py", "problems/i.sl", "--", "--bank", "30000")[0] == 0
     yield "client: refuses words", room.run("sygus_client.py", "--time", "no", "a")[0] == 3
-    yield "client: Ctrl-C", room.interrupted(signal.SIGINT, 1, "sygus_client.py", "problems/j.sl")[::2] == (
+    yield "client: Ctrl-C", room.interrupted(signal.SIGINT, room.is_asleep, "sygus_client.py", "problems/j.sl")[
+        ::2
+    ] == (
         130,
         "",
     ) and room.is_alone()
@@ -232,7 +241,7 @@ def documented(room):
 
 def many(room):
     """tools/many over the problems: the table, what it refuses, and calls that are interrupted."""
-    status, out, err = room.run("many", "--timeout", "2", "problems", "problems/a.sl")
+    status, out, err = room.run("many", "--timeout", "8", "problems", "problems/a.sl")
     with open(room.folder / "sygus-results" / "table.csv") as opened:
         rows = {row["file"]: row for row in csv.DictReader(opened)}
     wanted = {f"problems/{name}": (ends, outcome) for name, (_, ends, outcome) in PROBLEMS.items()}
@@ -253,6 +262,7 @@ def many(room):
     yield "many: options", room.run("many", "--results", "o", "problems/b c/d 'e\".sl", "--", "--size", "20")[0] == 0
     yield "many: refuses options", room.run("many", "--results", "n", "problems", "--", "--sise", "20")[0] == 3
     yield "many: misses a file", room.run("many", "--results", "n", "problems/none.sl")[0] == 4
+    yield "many: a folder of others", room.run("many", "--results", ".", "problems/a.sl")[0] == 3
     yield "many: no files", room.run("many", "--results", "n")[0] == 3 and not (room.folder / "n").exists()
     status, _, err = room.run("many", "--results", "/proc/none", "problems/a.sl")
     yield "many: a folder that can't be written", status == 5 and "Traceback" not in err
@@ -262,23 +272,21 @@ def many(room):
 
 
 def resumed(room):
-    """tools/many is interrupted, its job log cut off and an answer spoilt, and it goes on."""
+    """tools/many is interrupted, its job log cut off, and it goes on."""
     words = ["--jobs", "2", "--results", "r", "problems"]
-    status, out, err = room.interrupted(signal.SIGINT, 4, "many", *words)
-    done = (room.folder / "r" / "joblog").read_text().splitlines(keepends=True)
+    status, out, err = room.interrupted(signal.SIGINT, lambda: len(room.logged("r")) > 3, "many", *words)
+    done = room.logged("r")
     yield "many: Ctrl-C", (status, out) == (130, "") and "--resume" in err and room.is_alone()
-    yield "many: Ctrl-C keeps what is done", len(done) > 2
-    spoilt = done[:2] + ["".join(done[2:])[:-9]]
-    (room.folder / "r" / "joblog").write_text("".join(spoilt))
-    status, out, err = room.interrupted(signal.SIGTERM, 4, "many", "--resume", *words)
+    yield "many: Ctrl-C keeps what is done", len(done) > 3
+    (room.folder / "r" / "joblog").write_text("".join(done)[:-9])
+    status, out, err = room.interrupted(signal.SIGTERM, room.is_asleep, "many", "--resume", *words)
     yield "many: ends by SIGTERM", status == 143 and room.is_alone()
-    status, out, err = room.run("many", "--resume", "--timeout", "1", *words)
-    yield "many: goes on", status == 1 and all(
-        any(outcome in line for line in out.splitlines()) for _, _, outcome in PROBLEMS.values()
-    )
-    again = (room.folder / "r" / "joblog").read_text().splitlines(keepends=True)
+    status, out, err = room.run("many", "--resume", "--timeout", "8", *words)
+    lines = out.splitlines()
+    yield "many: goes on", status == 1 and all(any(it in line for line in lines) for _, _, it in PROBLEMS.values())
+    again = room.logged("r")
     places = sorted(int(line.split("\t")[0]) for line in again[1:])
-    yield "many: runs each once", again[:2] == done[:2] and places == list(range(1, len(PROBLEMS) + 1))
+    yield "many: runs each once", again[: len(done) - 1] == done[:-1] and places == [*range(1, len(PROBLEMS) + 1)]
 
 
 def portfolio(room):
@@ -303,13 +311,16 @@ def portfolio(room):
     yield "portfolio: says what each met", len(others) > 3 and all(
         it.startswith("portfolio: ") and "definitions, fail Bank" in it for it in others
     )
-    status, out, err = room.run("portfolio", "--time", "2", "-", stdin=None, input="; two\n; sleep 30\n")
+    status, out, err = room.run("portfolio", "--time", "8", "-", stdin=None, input="; two\n; sleep 30\n")
     yield "portfolio: the time is up", (status, out) == (
         124,
         "(\n(define-fun g () Int 1)\n)\n",
     ) and "not ended" in err and room.is_alone()
+    os.mkfifo(room.folder / "pipe")
+    threading.Thread(target=lambda: (room.folder / "pipe").write_text("; needs size 20\n")).start()
+    yield "portfolio: a pipe", room.run("portfolio", "pipe") == (0, FOUND, "")
     yield "portfolio: refuses words", room.run("portfolio", "--time", "-1", "a")[0] == 3
-    yield "portfolio: Ctrl-C", room.interrupted(signal.SIGINT, 2, "portfolio", "problems/j.sl") == (
+    yield "portfolio: Ctrl-C", room.interrupted(signal.SIGINT, room.is_asleep, "portfolio", "problems/j.sl") == (
         130,
         "",
         "",
