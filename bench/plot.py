@@ -173,6 +173,9 @@ def main():
         raise Missing("gnuplot isn't installed: apt-get install gnuplot-nox")
     if given.anew and measure(given.words, given.table):
         return 1
+    if not given.table.is_file():
+        say(f"plot.py: {given.table}: there is no table; --anew measures one")
+        return 2
     rows = rows_of(given.table.read_text(), {name_of(file): text_of(file) for file in reversed(problems([]))})
     if not rows:
         say(f"plot.py: {given.table}: there is no row of a problem that was answered")
