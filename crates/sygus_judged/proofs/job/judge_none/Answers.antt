@@ -10,9 +10,9 @@ use Rattle.sy_terms.specs.Values.{Whole}
 use Rattle.sygus_judged.proofs.Judged.{ends_none, ends_told, none_read, none_stated}
 use Rattle.sygus_judged.proofs.job.judge_none.Goals as goal
 
-pub returns-clause-ends : goal.returns-clause-ends
-returns-clause-ends g c limits out =
-    let none = none_stated _ c.in-Ok.claims.statements (rw c.new-problems.ensures at c.in-Ok.ensures.fit) in
+pub returns-in-Ok-clause-ends : goal.returns-in-Ok-clause-ends
+returns-in-Ok-clause-ends g c limits out =
+    let none = none_stated _ c.in-Ok.field-0.statements (rw c.new-problems.ensures at c.in-Ok.ensures.fit) in
     ends_none limits c.args.replies.now.file.now c.args.replies.now.at out _
     (sym (none_read Whole c.args.replies.now.file.now c.args.replies.now.at _ c.new-problems.result c.new-problems.ensures) ∙ c.in-Ok.ensures.read
     ∙ ap (λ statements. Ok (map (statement_of Whole) statements)) none)
