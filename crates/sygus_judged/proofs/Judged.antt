@@ -1,26 +1,24 @@
 -- Judgements of the replies in a file.
-use Rattle.std.proofs.Common.{inl, inr, refl, ap, ◌≡◌, ◌≤◌, ℕ, List, [], ◌∷◌, map, arith, false}
-use Rattle.std.specs.Prelude.{◌⊎◌, Option, Ok, Err}
+use Rattle.std.proofs.Common.{inl, inr, refl, ap, ◌∙◌, ◌≡◌, ◌≤◌, ℕ, List, [], ◌∷◌, map, arith, false}
+use Rattle.std.specs.Prelude.{◌⊎◌, Option, Some, None, Ok, Err}
 use Rattle.std.specs.Io.KnownBytes.{Appends}
 use Rattle.sy_terms.specs.Values.{Val}
 use Rattle.sy_terms.specs.declared.sort.Logic.TheVariants.{Lia}
 use Rattle.sy_grammar_base.specs.Questions.{question_of}
 use Rattle.sy_grammar_base.specs.declared.problem.Problem.{Problem}
 use Rattle.sy_query_limits.specs.declared.Limits.{Limits}
-use Rattle.sy_reply_reader.specs.Replies.{statements_from}
+use Rattle.sy_reply_reader.specs.Replies.{next_item, nothing_left, statements_from}
+use Rattle.sy_text_items.specs.Items.{Item}
 use Rattle.sy_scope.specs.Read.{wish_in}
 use Rattle.sy_scope.specs.declared.job.Job.TheVariants as jobs
 use Rattle.sy_scope_causes.specs.declared.titles.Titles.{Titles}
 use Rattle.sygus_answers.specs.Answers.{replies_of, AreNamedFor, AreOfLogic}
 use Rattle.sygus_verdicts.proofs.Steps.{appended_nothing, lines-none}
 use Rattle.sygus_verdicts.specs.Lines.{memory_line}
-use Rattle.sy_terms.specs.declared.theory.Theory.{Ghosts as TheoryOf}
-use Rattle.sy_reply_statements.specs.Ends.{ReplyReading, RepliesEndAs}
-use Rattle.sy_reply_statements.specs.Fitting.{AreStatedFor}
+use Rattle.sy_reply_statements.specs.Ends.{ReplyReading, RepliesEndAs, ◌>>=◌}
 use Rattle.sy_reply_statements.specs.Statements.{Statement}
 use Rattle.sy_reply_statements.specs.declared.end.ReplyEnd.{ReplyEnd}
 use Rattle.sy_reply_statements.specs.declared.end.ReplyEnd.TheVariants as reply_ends
-use Rattle.sy_reply_statements.specs.declared.stated.Stated.{Stated}
 use Rattle.sy_scope_front.specs.Fronts.{front, front_length}
 use Rattle.sy_scope_names.specs.Jobs.{Wish, wished}
 use Rattle.sy_scope_steps.specs.Files.{file_read}
@@ -128,9 +126,14 @@ ends_none limits file at out err stated = record {
 }
 
 -- there are no statements
-pub none_stated : {T N : Type 0} (theory : TheoryOf T N) (statements : List (Stated T N)) → AreStatedFor theory [] statements → statements ≡ []
-none_stated theory [] fit = refl
-none_stated theory (s ∷ ss) fit = absurd fit
+only_none : (check : ℕ) (found : ReplyReading (Option (Item × ℕ))) (statements : List Statement) → (found >>= nothing_left check) ≡ Ok statements → statements ≡ []
+only_none check (Ok None) statements is = cc
+only_none check (Ok (Some x)) statements is = absurd cc
+only_none check (Err refused) statements is = absurd cc
+
+pub none_stated : (file : List ℕ) (at : ℕ) (statements : List Statement) → replies_read file at (wish_in jobs.Idle) ≡ Ok statements → replies_read file at (wish_in jobs.Idle) ≡ Ok []
+unfolding statements_from
+none_stated file at statements is = is ∙ ap (λ (all : List Statement). Ok all) (only_none 1 (next_item 1 file at) statements is)
 
 -- ---- of the whole file
 

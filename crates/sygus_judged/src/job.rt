@@ -36,7 +36,7 @@ use sygus_judges::Verifying;
 use sygus_verdicts::{Claims, judge_all};
 
 /// The replies in a file: its bytes, and the offset from which they stand.
-#[derive(Clone, Copy, Drop)]
+#[derive(Clone, Copy)]
 pub(crate) struct Replies<'a> {
     pub(crate) file: &'a [u8],
     pub(crate) at: usize,
@@ -84,12 +84,14 @@ fn judge_none<E: Sink>(alloc: Global, replies: &Replies<'_>, err: &mut E) -> End
         wanted: Seq::new(alloc),
         defined: Seq::new(alloc),
     };
-    match claims_of(alloc, replies, Logic::Lia, problems, titles) {
-        Ok(_) => Ended {
-            status: 0,
-            answers: Answers::Idle,
-        },
-        Err(end) => refused_replies(alloc, replies.file, end, err),
+    let claims = match claims_of(alloc, replies, Logic::Lia, problems, titles) {
+        Ok(claims) => claims,
+        Err(end) => return refused_replies(alloc, replies.file, end, err),
+    };
+    drop(claims);
+    Ended {
+        status: 0,
+        answers: Answers::Idle,
     }
 }
 

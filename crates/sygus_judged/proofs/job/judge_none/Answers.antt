@@ -1,21 +1,18 @@
-use Rattle.std.proofs.Common.{◌≡◌, ◌∙◌, refl, ap, map, subst, sym}
-use Rattle.std.specs.Prelude.{Ok, List}
-use Rattle.sy_meaning_integers.specs.declared.theory.IntTheory.{IntTheory}
+use Rattle.std.proofs.Common.{◌≡◌, ◌∙◌, refl, map, subst, sym}
+use Rattle.std.specs.Prelude.{List}
 use Rattle.sy_reply_statements.specs.Ends.{ReplyReading, RepliesEndAs}
 use Rattle.sy_reply_statements.specs.Statements.{Statement, statement_of}
-use Rattle.sy_reply_statements.specs.declared.stated.Stated.{Stated}
 use Rattle.sy_scope.specs.Read.{wish_in}
 use Rattle.sy_scope.specs.declared.job.Job.TheVariants as jobs
 use Rattle.sy_terms.specs.Values.{Whole}
 use Rattle.sygus_judged.proofs.Judged.{ends_none, ends_told, none_read, none_stated}
 use Rattle.sygus_judged.proofs.job.judge_none.Goals as goal
 
-pub returns-in-Ok-clause-ends : goal.returns-in-Ok-clause-ends
-returns-in-Ok-clause-ends g c limits out =
-    let none = none_stated _ c.in-Ok.field-0.statements (rw c.new-problems.ensures at c.in-Ok.ensures.fit) in
+pub returns-clause-ends : goal.returns-clause-ends
+returns-clause-ends g c limits out =
+    let same = none_read Whole c.args.replies.now.file.now c.args.replies.now.at _ c.new-problems.result c.new-problems.ensures in
     ends_none limits c.args.replies.now.file.now c.args.replies.now.at out _
-    (sym (none_read Whole c.args.replies.now.file.now c.args.replies.now.at _ c.new-problems.result c.new-problems.ensures) ∙ c.in-Ok.ensures.read
-    ∙ ap (λ statements. Ok (map (statement_of Whole) statements)) none)
+    (none_stated c.args.replies.now.file.now c.args.replies.now.at (map (statement_of Whole) c.in-Ok.claims.statements) (sym same ∙ c.in-Ok.ensures.read))
 
 pub returns-in-Err-clause-ends : goal.returns-in-Err-clause-ends
 returns-in-Err-clause-ends g c limits out =
