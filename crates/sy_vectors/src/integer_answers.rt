@@ -79,5 +79,5 @@ i|!=//A23/A6|40|999|never
 ii|>-$AB+$A$B|40|999|never
 i|&=%A73=/A75|40|999|38
 i|=%A53|0|0|some
-i|=/AA1|9|9|range
+i|=/AA2|9|9|range
 ";
