@@ -93,8 +93,8 @@ ASKED = {
         ["The constraint of line 6 can't be met at x = "],
     ),
     "a missing argument": (
-        INTEGERS + "(constraint (>= (f x) 0))\n(constraint (= (f x) (+ x y)))\n",
-        ["The constraint of line 6 asks for different values of (f x) at x = "],
+        INTEGERS + "(constraint (= (f x) (+ x y)))\n",
+        ["The constraint of line 5 asks for different values of (f x) at x = "],
     ),
     "assumptions": (
         BYTES + "(assume (bvult x #x10))\n(assume (= x x))\n(assume (bvugt x #x20))\n(constraint (= (f x) x))\n",
