@@ -83,7 +83,13 @@ def term(words, known):
     return taken(words, 0, known)[0]
 
 
-def valued(head, text, told):
+def overflows_lowered(words):
+    """Whether a division has a number at an end of 128 bits: the conditions on its quotient and remainder overflow, so its value isn't
+    proved. That it differs from the value is infeasible all the same, by evaluation."""
+    return words[0] in ("div", "mod") and any(word in (str(LEAST), str(-MOST), str(MOST)) for word in words)
+
+
+def valued(head, text, told, overflows=False):
     """A file that asks for the value of a term, and what a run leaves of it."""
     if told == "none":
         return f"{head}(constraint (= {text} {text}))\n(check-synth)\n", (1, "fail\n", "fail: check-synth 1 Range\n")
@@ -91,12 +97,13 @@ def valued(head, text, told):
         line = head.count("\n") + 1
         return f"{head}(constraint (= {text} {text}))\n(check-synth)\n", (2, "", f"refused: command {line} line {line} column 16 cause 10 SortMismatch\n")
     asked = [f"(constraint ({word} {text} {value(told)}))\n(check-synth)\n" for word in ("=", "distinct")]
-    return head + "".join(asked), (0, "(\n)\ninfeasible\n", "")
+    left = (1, "fail\ninfeasible\n", "fail: check-synth 1 Range\n") if overflows else (0, "(\n)\ninfeasible\n", "")
+    return head + "".join(asked), left
 
 
 def values(stem, row):
     *words, told = row.split(" ")
-    return [], *valued(HEADS[stem], term(words, VARIABLES.get(stem, 0)), told)
+    return [], *valued(HEADS[stem], term(words, VARIABLES.get(stem, 0)), told, overflows_lowered(words))
 
 
 def circuit(row):
