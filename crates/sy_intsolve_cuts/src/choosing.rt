@@ -77,7 +77,7 @@ fn by_scale(
     Ok(paired(multipliers, found))
 }
 
-/// The cut of the lesser magnitude of the two that the row and its opposite suggest.
+/// The cut of the lesser magnitude of the two that the row and its opposite suggest; of equal ones that of the opposite.
 fn by_row(
     alloc: Global,
     vars: &[Sort],
@@ -93,9 +93,9 @@ fn by_row(
         return Ok(None);
     };
     let scale = i128::from(scale);
-    let above = by_scale(alloc, vars, facts, point, tableau, row, scale)?;
     let below = by_scale(alloc, vars, facts, point, tableau, row, -scale)?;
-    Ok(lesser(above, below))
+    let above = by_scale(alloc, vars, facts, point, tableau, row, scale)?;
+    Ok(lesser(below, above))
 }
 
 /// The cut of the least magnitude among those that the tableau's rows suggest: each that has a free variable whose value

@@ -22,36 +22,62 @@ fn sight_at(sights: &[Sight], place: usize) -> Sight {
     }
 }
 
-/// The operation taken from the left over the terms of which this is told.
-fn folded(
+/// What is told of the operation on two terms of which this is told.
+fn computed(
     tables: &mut Tables,
     alloc: Global,
     operation: Operation,
-    sights: &[Sight],
+    first: Sight,
+    second: Sight,
 ) -> Result<Sight, Want> {
-    let mut total = sight_at(sights, 0);
-    for place in 1..sights.len() {
-        let (Sight::Linear(a), Sight::Linear(b)) = (total, sight_at(sights, place)) else {
-            return Ok(Sight::Open);
-        };
-        match tables.computed(alloc, operation, a, b)? {
-            Some(number) => total = Sight::Linear(number),
-            None => return Ok(Sight::Open),
-        }
+    let (Sight::Linear(a), Sight::Linear(b)) = (first, second) else {
+        return Ok(Sight::Open);
+    };
+    match tables.computed(alloc, operation, a, b)? {
+        Some(number) => Ok(Sight::Linear(number)),
+        None => Ok(Sight::Open),
     }
-    Ok(total)
+}
+
+/// What is told of the sum of the terms of which this is told. It is built by halves: the tables keep the sums on the way too,
+/// and from the left these would take memory by the square of the number of terms.
+fn summed(tables: &mut Tables, alloc: Global, sights: &[Sight]) -> Result<Sight, Want> {
+    if sights.len() < 2 {
+        return Ok(sight_at(sights, 0));
+    }
+    let (left, right) = sights.split_at(sights.len() / 2);
+    let left = summed(tables, alloc, left)?;
+    let right = summed(tables, alloc, right)?;
+    computed(tables, alloc, Operation::Sum, left, right)
+}
+
+/// What is told of the first of the terms of which this is told, less all others.
+fn lessened(tables: &mut Tables, alloc: Global, sights: &[Sight]) -> Result<Sight, Want> {
+    match sights.split_first() {
+        Some((first, [])) => Ok(*first),
+        Some((first, others)) => {
+            let sum = summed(tables, alloc, others)?;
+            computed(tables, alloc, Operation::Difference, *first, sum)
+        }
+        None => Ok(Sight::Open),
+    }
+}
+
+/// What is told of the product of the terms of which this is told.
+fn multiplied(tables: &mut Tables, alloc: Global, sights: &[Sight]) -> Result<Sight, Want> {
+    let mut product = sight_at(sights, 0);
+    for place in 1..sights.len() {
+        let factor = sight_at(sights, place);
+        product = computed(tables, alloc, Operation::Product, product, factor)?;
+    }
+    Ok(product)
 }
 
 /// What is told of the opposite of a number.
 fn negated(tables: &mut Tables, alloc: Global, sights: &[Sight]) -> Result<Sight, Want> {
-    let Sight::Linear(number) = sight_at(sights, 0) else {
-        return Ok(Sight::Open);
-    };
-    let nothing = tables.constant(alloc, 0)?;
-    match tables.computed(alloc, Operation::Difference, nothing, number)? {
-        Some(opposite) => Ok(Sight::Linear(opposite)),
-        None => Ok(Sight::Open),
-    }
+    let nothing = Sight::Linear(tables.constant(alloc, 0)?);
+    let number = sight_at(sights, 0);
+    computed(tables, alloc, Operation::Difference, nothing, number)
 }
 
 /// The tests of a query, what a path tells of them, and those that it leaves open.
@@ -278,9 +304,9 @@ impl Asking {
                 self.in_row(alloc, node, operator, sights)
             }
             Op::Neg => negated(&mut self.tables, alloc, sights),
-            Op::Add => folded(&mut self.tables, alloc, Operation::Sum, sights),
-            Op::Sub => folded(&mut self.tables, alloc, Operation::Difference, sights),
-            Op::Mul => folded(&mut self.tables, alloc, Operation::Product, sights),
+            Op::Add => summed(&mut self.tables, alloc, sights),
+            Op::Sub => lessened(&mut self.tables, alloc, sights),
+            Op::Mul => multiplied(&mut self.tables, alloc, sights),
             _ => Ok(Sight::Open),
         }
     }
