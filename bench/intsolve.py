@@ -3,18 +3,26 @@
 
     bench/intsolve.py [--sygus PROGRAM] [FAMILY NUMBER]
 
-The families: `max`, that the greatest of so many numbers, found one by one, isn't one of them or is below one; `step`, that
-a bound of so many variables, of which a step raises any one that is below the bound and keeps the others, doesn't last a
-step; `parity`, that twice a sum of so many numbers is odd; `bounds`, that a number isn't at least each of so many bounds
-that it is at least; `remainder`, that the remainder of a sum by the number isn't that of the remainders' sum; `round`, that
-rounding a quotient by the number up isn't what either of two ways makes; `bits`, that a remainder by two to the number isn't
-the sum of so many bits; `coprime`, that a multiple of the number, which is odd, and of the next odd one isn't one of their
-product; `absolute`, that the absolute value of a sum of so many numbers is above the sum of theirs. Each query is a problem whose constraint is its negation and whose function has one body, so that
-`sygus` answers by that body where its solver of integers refutes the query. The least processor time of five runs of the
-whole program is printed, and the least `--nodes` with which it answers. Without words nineteen queries are decided; without
---sygus it builds the program by ./sygus.
+The families: `max`, that the greatest of so many numbers, found one by one, isn't one of them or is below one;
+`step`, that a bound of so many variables, of which a step raises any one that is below the bound and keeps the
+others, doesn't last a step; `parity`, that twice a sum of so many numbers is odd; `bounds`, that a number isn't at
+least each of so many bounds that it is at least; `remainder`, that the remainder of a sum by the number isn't that of
+the remainders' sum; `round`, that rounding a quotient by the number up isn't what either of two ways makes; `bits`,
+that a remainder by two to the number isn't the sum of so many bits; `digits`, the same of decimal digits; `below`,
+that a remainder by the number isn't from 0 to less than it; `whole`, that the parts of a division aren't the
+dividend; `halved`, that dividing by 2 and then by the number isn't dividing by its double; `inner`, that a remainder
+by the number isn't that of the remainder by five times the number; `common`, that a multiple of the number and of the
+one two above isn't one of their least common multiple; `chinese`, that remainders of 1 and 2 by these, which are odd,
+don't tell the remainder by their product; `leap`, that a year isn't a leap year as it is so many years later;
+`middle`, that a mean that counts the lesser number so often isn't between; `steps`, that a multiple of the number
+isn't one after a step of it; `wheel`, that a counter modulo the number leaves its bounds; `absolute`, that the
+absolute value of a sum of so many numbers is above the sum of theirs. Each query is a problem whose constraint is its
+negation and whose function has one body, so that `sygus` answers by that body where its solver of integers refutes
+the query. The least processor time of five runs of the whole program is printed, and the least `--nodes` with which
+it answers. Without words 33 queries are decided; without --sygus it builds the program by ./sygus.
 """
 import argparse
+import math
 import os
 import tempfile
 
@@ -22,8 +30,13 @@ from runs import answer, run, sygus
 
 RUNS = 5
 MOST = 8_000
-ROWS = [("max", 3), ("max", 5), ("max", 7), ("step", 2), ("step", 4), ("step", 6), ("parity", 2), ("parity", 20), ("bounds", 100), ("bounds", 1000),
-        ("remainder", 10), ("remainder", 1000), ("round", 8), ("bits", 3), ("bits", 4), ("coprime", 3), ("coprime", 9), ("absolute", 2), ("absolute", 5)]
+ROWS = [
+    ("max", 3), ("max", 5), ("max", 7), ("step", 2), ("step", 4), ("step", 6), ("parity", 2), ("parity", 20),
+    ("bounds", 100), ("bounds", 1000), ("remainder", 10), ("remainder", 1000), ("round", 8), ("bits", 3), ("bits", 4),
+    ("digits", 3), ("below", 10), ("whole", 10), ("halved", 3), ("inner", 12), ("common", 4), ("common", 9),
+    ("chinese", 3), ("chinese", 7), ("leap", 400), ("middle", 1), ("steps", 2), ("steps", 3), ("steps", 4),
+    ("steps", 7), ("wheel", 12), ("absolute", 2), ("absolute", 5),
+]
 
 
 def named(first, count):
@@ -87,10 +100,79 @@ def bits(count):
     return 1, f"(= (mod x0 {2 ** count}) {joined('+', digits)})"
 
 
-def coprime(divisor):
-    """That a multiple of both is one of the product."""
-    either = [f"(= 0 (mod x0 {it}))" for it in (divisor, divisor + 2)]
-    return 1, f"(=> {joined('and', either)} (= 0 (mod x0 {divisor * (divisor + 2)})))"
+def digits(count):
+    """That the remainder by ten to the number is the sum of so many digits."""
+    others = [f"(* {10 ** place} (mod (div x0 {10 ** place}) 10))" for place in range(1, count)]
+    return 1, f"(= (mod x0 {10 ** count}) {joined('+', ['(mod x0 10)', *others])})"
+
+
+def below(divisor):
+    """That a remainder is from 0 to less than the divisor."""
+    return 1, f"(and (< (mod x0 {divisor}) {divisor}) (>= (mod x0 {divisor}) 0))"
+
+
+def whole(divisor):
+    """That quotient and remainder make the dividend."""
+    return 1, f"(= (+ (* {divisor} (div x0 {divisor})) (mod x0 {divisor})) x0)"
+
+
+def halved(divisor):
+    """That one divides by a product by dividing by its factors."""
+    return 1, f"(= (div (div x0 2) {divisor}) (div x0 {2 * divisor}))"
+
+
+def inner(divisor):
+    """That the remainder by a multiple keeps the remainder."""
+    return 1, f"(= (mod (mod x0 {5 * divisor}) {divisor}) (mod x0 {divisor}))"
+
+
+def common(divisor):
+    """That a multiple of both is one of the least common multiple."""
+    both = [f"(= (mod x0 {it}) 0)" for it in (divisor, divisor + 2)]
+    return 1, f"(=> {joined('and', both)} (= (mod x0 {math.lcm(divisor, divisor + 2)}) 0))"
+
+
+def chinese(divisor):
+    """That the remainders by both tell the one by the product."""
+    product = divisor * (divisor + 2)
+    told = next(it for it in range(product) if it % divisor == 1 and it % (divisor + 2) == 2)
+    both = f"(and (= (mod x0 {divisor}) 1) (= (mod x0 {divisor + 2}) 2))"
+    return 1, f"(=> {both} (= (mod x0 {product}) {told}))"
+
+
+def leap(years):
+    """That a year is a leap year as it is so many years later."""
+    def is_leap(year):
+        by = {divisor: f"(= (mod {year} {divisor}) 0)" for divisor in (4, 100, 400)}
+        return f"(or (and {by[4]} (not {by[100]})) {by[400]})"
+    return 1, f"(= {is_leap('x0')} {is_leap(f'(+ x0 {years})')})"
+
+
+def middle(weight):
+    """That a mean that counts the lesser number so often is at least that number and below the greater one."""
+    mean = f"(div {joined('+', ['x0'] * weight + ['x1'])} {weight + 1})"
+    return 2, f"(=> (< x0 x1) (and (<= x0 {mean}) (< {mean} x1)))"
+
+
+def lasting(begin, step, end, invariant):
+    """That the invariant, of `a`, holds at the beginning, holds after a step from `a` to `b`, and has the end."""
+    def at(term, *names):
+        return f"(let ({' '.join(f'({own} {name})' for own, name in zip('ab', names))}) {term})"
+    before = at(invariant, "x0")
+    lasts = f"(=> (and {before} {at(step, 'x0', 'x1')}) {at(invariant, 'x1')})"
+    return 2, f"(and (=> {at(begin, 'x0')} {before}) {lasts} (=> {before} {at(end, 'x0')}))"
+
+
+def steps(number):
+    """That a multiple of the number is one after a step of it."""
+    step = f"(and (< a 100) (= b (+ a {number})))"
+    return lasting("(= a 0)", step, f"(not (= a {30 * number + 1}))", f"(= (mod a {number}) 0)")
+
+
+def wheel(number):
+    """That a counter modulo the number keeps its bounds."""
+    step = f"(= b (mod (+ a 1) {number}))"
+    return lasting("(= a 0)", step, f"(< a {number})", f"(and (>= a 0) (< a {number}))")
 
 
 def absolute(count):
@@ -98,8 +180,11 @@ def absolute(count):
     return count, f"(<= (abs {joined('+', named(0, count))}) {joined('+', [f'(abs {name})' for name in named(0, count)])})"
 
 
-FAMILIES = {"max": greatest, "step": step, "parity": parity, "bounds": bounds,
-            "remainder": remainder, "round": rounded, "bits": bits, "coprime": coprime, "absolute": absolute}
+FAMILIES = {
+    "max": greatest, "step": step, "parity": parity, "bounds": bounds, "remainder": remainder, "round": rounded,
+    "bits": bits, "digits": digits, "below": below, "whole": whole, "halved": halved, "inner": inner, "common":
+    common, "chinese": chinese, "leap": leap, "middle": middle, "steps": steps, "wheel": wheel, "absolute": absolute,
+}
 
 
 def file_of(family, number):

@@ -56,9 +56,9 @@ fn suited(vars: &[Sort], form: Form) -> Option<Form>
     }
 }
 
-/// The form that the facts' forms by these multipliers add up to, its constant rounded down, where it is on integer variables
-/// and negative at the point, and the multipliers are below 1. `None` where that isn't so, or a number leaves 128 bits.
-/// `Want` comes where memory runs out, and nowhere else.
+/// The form that the facts' forms by these multipliers add up to, its constant rounded down, where it is on integer
+/// variables and negative at the point, and the multipliers are below 1. `None` where that isn't so, or a number leaves
+/// 128 bits. `Want` comes where memory runs out, and nowhere else.
 pub fn checked(
     alloc: Global,
     vars: &[Sort],

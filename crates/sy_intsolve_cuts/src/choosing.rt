@@ -32,7 +32,8 @@ fn magnitude(form: &Form) -> u128 {
 
 /// The cut of the lesser magnitude.
 fn lesser(first: Option<Rounding>, second: Option<Rounding>) -> Option<Rounding>
-    ensures { (vars : List Sort) (path : List FactOf) (point : List Fraction) → AllFound vars path point first → AllFound vars path point second → AllFound vars path point result }
+    ensures { (vars : List Sort) (path : List FactOf) (point : List Fraction) → AllFound vars path point first →
+        AllFound vars path point second → AllFound vars path point result }
 {
     match (first, second) {
         (Some(first), Some(second)) => {
@@ -49,7 +50,8 @@ fn lesser(first: Option<Rounding>, second: Option<Rounding>) -> Option<Rounding>
 
 /// The cut of these multipliers, where there is a form.
 fn paired(multipliers: Seq<Frac>, found: Option<Form>) -> Option<Rounding>
-    ensures { (vars : List Sort) (path : List FactOf) (point : List Fraction) → IfSome found (IsRoundingForm vars path multipliers (pos 1) point) → AllFound vars path point result }
+    ensures { (vars : List Sort) (path : List FactOf) (point : List Fraction) →
+        IfSome found (IsRoundingForm vars path multipliers (pos 1) point) → AllFound vars path point result }
 {
     match found {
         Some(form) => Some(Rounding { multipliers, form }),
@@ -77,7 +79,7 @@ fn by_scale(
     Ok(paired(multipliers, found))
 }
 
-/// The cut of the lesser magnitude of the two that the row and its opposite suggest; of equal ones that of the opposite.
+/// The cut of the lesser magnitude of the two that the row and its opposite suggest; at a tie that of the opposite.
 fn by_row(
     alloc: Global,
     vars: &[Sort],
@@ -98,8 +100,9 @@ fn by_row(
     Ok(lesser(below, above))
 }
 
-/// The cut of the least magnitude among those that the tableau's rows suggest: each that has a free variable whose value
-/// isn't whole, and its opposite. `None` where no row gives one. `Want` comes where memory runs out, and nowhere else.
+/// The cut of the least magnitude among those that the tableau's rows suggest: each that has a free variable whose
+/// value isn't whole, and its opposite. `None` where no row gives one. `Want` comes where memory runs out, and nowhere
+/// else.
 pub fn best(
     alloc: Global,
     vars: &[Sort],

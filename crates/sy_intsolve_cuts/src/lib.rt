@@ -1,4 +1,5 @@
-// Cuts of a path at a corner: multipliers are read off the last tableau of the simplex method, and what they give is checked.
+// Cuts of a path at a corner: multipliers are read off the last tableau of the simplex method, and what they give is
+// checked.
 #![tactic(auto)]
 
 mod checking;

@@ -45,8 +45,8 @@ fn whole_multiple(scale: u32, coefficient: &Frac) -> Option<u32> {
     }
 }
 
-/// The least whole number by which the row's coefficients of free variables are whole, where the row has a free variable
-/// and a value that isn't whole, and the number is at most 1,000.
+/// The least whole number by which the row's coefficients of free variables are whole, where the row has a free
+/// variable and a value that isn't whole, and the number is at most 1,000.
 pub fn scale_of(tableau: &Tableau, row: usize) -> Option<u32> {
     if !is_broken_row(tableau, row) {
         return None;
@@ -62,8 +62,9 @@ pub fn scale_of(tableau: &Tableau, row: usize) -> Option<u32> {
     Some(scale)
 }
 
-/// The multipliers of the forms by the row, so many times: for the form of a column, what the coefficient times the scale is
-/// above a whole number, and 0 for the others. None where a number leaves 128 bits, or the tableau has no such row.
+/// The multipliers of the forms by the row, so many times: for the form of a column, what the coefficient times the
+/// scale is above a whole number, and 0 for the others. None where a number leaves 128 bits, or the tableau has no such
+/// row.
 pub fn multipliers(
     alloc: Global,
     tableau: &Tableau,

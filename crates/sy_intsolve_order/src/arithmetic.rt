@@ -36,7 +36,8 @@ fn push_all(
     Ok(true)
 }
 
-/// The lesser variable of the two coefficients, and its coefficient in the sum of the first and so many times the second.
+/// The lesser variable of the two coefficients, and its coefficient in the sum of the first and so many times the
+/// second.
 fn least(first: Coefficient, factor: i128, second: Coefficient) -> (u32, Option<i128>) {
     let (variable, number) = first;
     let (other, addend) = second;

@@ -39,8 +39,8 @@ fn computed(
     }
 }
 
-/// What is told of the sum of the terms of which this is told. It is built by halves: the tables keep the sums on the way too,
-/// and from the left these would take memory by the square of the number of terms.
+/// What is told of the sum of the terms of which this is told. It is built by halves: the tables keep the sums on the
+/// way too, and from the left these would take memory by the square of the number of terms.
 fn summed(tables: &mut Tables, alloc: Global, sights: &[Sight]) -> Result<Sight, Want> {
     if sights.len() < 2 {
         return Ok(sight_at(sights, 0));

@@ -99,8 +99,8 @@ impl Counts {
         }
     }
 
-    /// Whether the group of the first node goes before that of the second: by fewer premises round it, then by fewer tests,
-    /// then by rank.
+    /// Whether the group of the first node goes before that of the second: by fewer premises round it, then by fewer
+    /// tests, then by rank.
     fn goes_before(&self, first: &Mark, second: &Mark) -> bool {
         let sizes = (self.size_of(first.group), self.size_of(second.group));
         if first.phase != second.phase {

@@ -48,8 +48,8 @@ fn name_variables(
 }
 
 impl Guide {
-    /// The guide of a search for an assignment that satisfies the query. `Want` comes where memory runs out, and nowhere
-    /// else.
+    /// The guide of a search for an assignment that satisfies the query. `Want` comes where memory runs out, and
+    /// nowhere else.
     pub fn new(alloc: Global, query: &Query<IntTheory>) -> Result<Guide, Want> {
         let mut guide = Guide::empty(alloc);
         match guide.prepare(alloc, query) {
@@ -119,10 +119,10 @@ impl Guide {
         }
     }
 
-    /// A test on which the facts' path can be split, and that is likely to settle much; `None` where no test is found to
-    /// be open. A test that the facts' bounds on differences of variables tell goes before all others, since one of its sides
-    /// then ends at once. Tests in few premises follow, then those in an argument of an implication with few open tests,
-    /// then those that are asked often. `Want` comes where memory runs out, and nowhere else.
+    /// A test on which the facts' path can be split, and that is likely to settle much; `None` where no test is found
+    /// to be open. A test that the facts' bounds on differences of variables tell goes before all others, since one of
+    /// its sides then ends at once. Tests in few premises follow, then those in an argument of an implication with few
+    /// open tests, then those that are asked often. `Want` comes where memory runs out, and nowhere else.
     pub fn choose(
         &mut self,
         alloc: Global,

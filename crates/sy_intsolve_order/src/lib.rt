@@ -1,4 +1,5 @@
-// The choice of the test to split on: a guess by the query's shape and by what a path leaves open, tested before it is taken.
+// The choice of the test to split on: a guess by the query's shape and by what a path leaves open, tested before it is
+// taken.
 #![tactic(auto)]
 
 mod arithmetic;

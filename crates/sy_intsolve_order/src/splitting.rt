@@ -9,8 +9,8 @@ use sy_seq::Want;
 use sy_simplex::is_form;
 use sy_terms::Sort;
 
-/// Whether the path can be split on the test: it is on variables of the query, its negation fits, and the facts don't give
-/// the truth value that it asks for. `Want` comes where memory runs out, and nowhere else.
+/// Whether the path can be split on the test: it is on variables of the query, its negation fits, and the facts don't
+/// give the truth value that it asks for. `Want` comes where memory runs out, and nowhere else.
 pub fn can_split(alloc: Global, vars: &[Sort], facts: &[Fact], test: &Test) -> Result<bool, Want>
     requires { length vars.now < 2 ^ 31 }
     ensures { IfOk result (λ can. can ≡ true → IsPath vars.now facts.now → TestIsOpen vars.now facts.now test.now) }

@@ -7,8 +7,8 @@ use sy_seq::Want;
 /// The most variables of which bounds are kept.
 const MOST: usize = 64;
 
-/// That the number of one place is at most so much above that of another. Place 0 stands for the number 0, and the others
-/// for the variables.
+/// That the number of one place is at most so much above that of another. Place 0 stands for the number 0, and the
+/// others for the variables.
 #[derive(Clone, Copy)]
 struct Edge {
     above: usize,

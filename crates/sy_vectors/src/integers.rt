@@ -69,7 +69,8 @@ mod -170141183460469231731687303715884105728 0|-17014118346046923173168730371588
 = -170141183460469231731687303715884105728 170141183460469231731687303715884105727|false
 ";
 
-/// Terms over the greatest integer, `a`, and 5, `b`: divisions, a sum that isn't chosen, and a product of what is bound.
+/// Terms over the greatest integer, `a`, and 5, `b`: divisions, a sum that isn't chosen, and a product of what is
+/// bound.
 pub const NAMED: &str = "\
 div -/2 neg/1 a 1 neg/1 1|none
 div b 0|0
