@@ -59,19 +59,21 @@ fn lowered(alloc: Global, query: &Query<IntTheory>) -> Result<Query<IntTheory>, 
     Ok(found)
 }
 
-/// The query without `div`, `mod` and `abs`: with fresh variables after its own, and side conditions on these, so that an
-/// assignment satisfies the query exactly where an extension of it satisfies the lowering. A query without the three
+/// The query without `div`, `mod` and `abs`: with fresh variables after its own, and side conditions on these, so that
+/// an assignment satisfies the query exactly where an extension of it satisfies the lowering. A query without the three
 /// operators is its own lowering.
 ///
-/// - A quotient or a remainder by a constant `k` other than 0 becomes a fresh variable `v` or `w`, with the side conditions
-///   `(= a (+ (* k v) w))`, `(<= 0 w)` and `(<= w m)`, where `a` is the lowered dividend and `m` is `|k| - 1`. Where the same
-///   dividend was divided by the same constant before, the variables of then are taken. A division by another term stays.
-/// - `(abs a)` becomes `(ite (<= 0 u) u (- u))`, where `u` is `a` if that is a variable, and else a fresh integer that equals `a`.
-/// - The name of a bound term becomes a fresh variable that equals the lowered term, unless that is a variable or a constant, for
-///   which it stands. So no `let` is left.
+/// - A quotient or a remainder by a constant `k` other than 0 becomes a fresh variable `v` or `w`, with the side
+///   conditions `(= a (+ (* k v) w))`, `(<= 0 w)` and `(<= w m)`, where `a` is the lowered dividend and `m` is
+///   `|k| - 1`. Where the same dividend was divided by the same constant before, the variables of then are taken. A
+///   division by another term stays.
+/// - `(abs a)` becomes `(ite (<= 0 u) u (- u))`, where `u` is `a` if that is a variable, and else a fresh integer that
+///   equals `a`.
+/// - The name of a bound term becomes a fresh variable that equals the lowered term, unless that is a variable or a
+///   constant, for which it stands. So no `let` is left.
 ///
-/// The lowering has at most 20 nodes for each unit of the query's weight and one more, and at most 4 fresh variables for each.
-/// `Want` comes where memory runs out, and where 32 bits don't count the variables.
+/// The lowering has at most 20 nodes for each unit of the query's weight and one more, and at most 4 fresh variables
+/// for each. `Want` comes where memory runs out, and where 32 bits don't count the variables.
 pub fn lower(alloc: Global, query: &Query<IntTheory>) -> Result<Query<IntTheory>, Want>
     ensures is { IfOk result (λ found. query_of Whole found ≡ lowering (query_of Whole query.now)) }
     ensures law { IfOk result (λ found. QueryFits owned numeric (query_of Whole query.now) → IsLowering

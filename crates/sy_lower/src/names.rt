@@ -41,8 +41,8 @@ fn is_name(term: &Term<IntTheory>) -> bool
     }
 }
 
-/// What the name of a bound term stands for: the lowered term where it is a variable or a constant, and else a fresh variable of
-/// its sort that equals it.
+/// What the name of a bound term stands for: the lowered term where it is a variable or a constant, and else a fresh
+/// variable of its sort that equals it.
 pub(crate) fn named(
     alloc: Global,
     progress: &mut Progress,

@@ -30,7 +30,7 @@ pub(crate) struct Pairs {
     ghost keyed: { keys.items ≡ map pair_key (pairs_in all.items) },
 }
 
-/// Whether the pair, which has the key `own`, is of the division of this dividend by this divisor, which has the key `key`.
+/// Whether the pair, of the key `own`, is of the division of this dividend by this divisor, which has the key `key`.
 fn is_of(pair: &Pair, own: u64, dividend: &Term<IntTheory>, divisor: i128, key: u64) -> bool
     requires own { own ≡ pair_key (pair_in pair.now) }
     requires key { key ≡ spec_key (expr_of Whole dividend.now) divisor }

@@ -1,4 +1,4 @@
-// How far a lowering is: the variables that it made, the side conditions on them, and the divisions that they stand for.
+// How far a lowering is: the variables that it made, their side conditions, and the divisions that they stand for.
 ghost use Rattle.std.specs.Prelude.{◌≡◌, ◌+◌, ◌-◌, ◌++◌, ◌∷◌, [], length, pos, unsigned_abs, IfOk, OnOk};
 ghost use Rattle.sy_terms.specs.Values.{Whole};
 ghost use Rattle.sy_terms.specs.Expr.{append};
@@ -140,8 +140,8 @@ impl Progress {
         Ok(made.0)
     }
 
-    /// The variable of the quotient of a division by a number; that of the remainder comes next. Where the same division was
-    /// met before, it is the one of then.
+    /// The variable of the quotient of a division by a number; that of the remainder comes next. Where the same
+    /// division was met before, it is the one of then.
     pub fn divide(
         &mut self,
         alloc: Global,

@@ -12,7 +12,7 @@ use std::alloc::Global;
 use sy_meaning_integers::IntTheory;
 use sy_terms::{Term, Terms, Want};
 
-/// The lowered term, where the names in force stand for these terms. During the call the names of lets stand after them.
+/// The lowered term, where the names in force stand for these terms. During the call those of lets stand after them.
 #[cycle(walk)]
 pub(crate) fn walk(
     alloc: Global,
