@@ -141,7 +141,7 @@ def loaded(path):
 
 def scripts():
     """All scripts in Python."""
-    named = [TOP / "tools" / name for name in ("explain", "from_csv", "fuzz", "many", "portfolio", "tests/run")]
+    named = [TOP / "tools" / name for name in ("explain", "from_csv", "fuzz", "many", "portfolio", "recheck", "tests/run")]
     return [*sorted((TOP / "bench").glob("*.py")), *sorted((TOP / "tools").glob("*.py")), *named]
 
 
