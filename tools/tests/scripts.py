@@ -141,8 +141,9 @@ def loaded(path):
 
 def scripts():
     """All scripts in Python."""
-    named = [TOP / "tools" / name for name in ("explain", "from_csv", "fuzz", "many", "portfolio", "recheck", "tests/run")]
-    return [*sorted((TOP / "bench").glob("*.py")), *sorted((TOP / "tools").glob("*.py")), *named]
+    named = [TOP / "tools" / name for name in ("explain", "from_csv", "fuzz", "lrat", "many", "portfolio", "recheck")]
+    tests = [TOP / "tools" / "tests" / name for name in ("lrat_check.py", "run")]
+    return [*sorted((TOP / "bench").glob("*.py")), *sorted((TOP / "tools").glob("*.py")), *named, *tests]
 
 
 def helps():
