@@ -1,6 +1,8 @@
 """Tests of the scripts beside the program: what their help says, the tables that they print, and what their checks find."""
+import contextlib
 import importlib.machinery
 import importlib.util
+import io
 import os
 import pathlib
 import re
@@ -8,6 +10,7 @@ import shutil
 import subprocess
 import sys
 import tempfile
+import unittest.mock
 
 TOP = pathlib.Path(__file__).resolve().parent.parent.parent
 sys.path[:0] = [str(TOP / "bench"), str(TOP / "tools")]
@@ -89,6 +92,13 @@ SOLVED = [
     ("feasible\n", [], 10, "The solver gave no answer."),
     ("I don't know (yet\n", [], 12, "The output isn't an answer: I don't know (yet"),
     ("unknown\n", [], 12, "The output isn't an answer: unknown"),
+]
+# What mode `check` says of definitions for JUDGED, and as rules of their own; what z3 says; and whether both say the same.
+COUNTED = [
+    (["holds"], "unsat", True), (["holds"], "sat", False), (["refuted at 1"], "sat", True), (["refuted at 1"], "unsat", False),
+    (["not in grammar f", "holds"], "unsat", True), (["not in grammar f", "holds"], "sat", False),
+    (["not in grammar f", "refuted at 1"], "sat", True), (["not in grammar f", "budget Nodes"], "sat", True),
+    (["budget Nodes"], "unsat", True), (["holds"], "timeout", True),
 ]
 # Terms with `let`, and what they are when it is written out.
 BINDINGS = [
@@ -264,7 +274,22 @@ def judged():
         yield "judge without a solver", ended.returncode == 13
 
 
+def counted():
+    """What bench/answers.py counts of verdicts beside z3."""
+    for verdicts, z3, agrees in COUNTED:
+        judge, said = answers.Judge("no program", 1), iter(verdicts)
+        judge.checked = lambda words, text: (0, [f"check-synth 1 {next(said)}"], [])
+        told = unittest.mock.patch.object(answers.Problem, "violated", lambda *_: z3)
+        with tempfile.NamedTemporaryFile("w", suffix=".sl") as file, told:
+            file.write(JUDGED)
+            file.flush()
+            judge.take("one", file.name, "(\n(define-fun f ((x Int)) Int x)\n)\n")
+        with contextlib.redirect_stdout(io.StringIO()):
+            yield f"answers: {verdicts} and {z3}", judge.show() == agrees and sum(judge.counts["one"].values()) == 2
+
+
 def tests():
+    yield from counted()
     yield from crates_in_order()
     yield from helps()
     yield from measured()
