@@ -51,7 +51,7 @@ def nested(size):
 
 
 def bound(size):
-    return f"(let ({''.join(f'(a{number:05} x)' for number in range(size // 18))}) (+ {'a00007 ' * (size // 60)} x))"
+    return f"(let ({''.join(f'(a{number:05} x)' for number in range(size // 12))}) (+ {'a00007 ' * (size // 60)} x))"
 
 
 def chosen(size):

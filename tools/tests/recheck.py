@@ -82,6 +82,7 @@ UNKNOWN = [
     ("max", "(tree", ") (tree", "a bracket closes nothing"),
     ("max", "(tree", "((tree", "a bracket isn't closed"),
     ("max", "(tree", "\\ (tree", "byte "),
+    ("max", "(tree", f"{'(' * 1201}{')' * 1201} (tree", "more than 1,200 lists are open"),
     ("max", "(tree", "(tree) (tree", "a reply too much"),
     ("max", "(declare-var x Int)", "(declare-var x Real)", "a sort"),
 ]

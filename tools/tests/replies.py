@@ -1,5 +1,5 @@
-"""Replies in mode `check`: each broken form is refused at its exact place and by its cause, of two faults the first counts, and
-a reply that is cut off anywhere neither crashes the program nor holds."""
+"""Replies in mode `check`: each broken form is refused at its exact place and by its cause, of two faults the first
+counts, and a reply that is cut off anywhere neither crashes the program nor holds."""
 import subprocess
 
 # Problems, behind which replies stand.
@@ -171,7 +171,8 @@ def tests(program):
         yield f"reply {reply[:60]!r}", judged(program, text) == wanted
     for text, command, cause in FRONTS:
         whole, place = placed(text)
-        yield f"front {text!r}", judged(program, whole) == (2, "", f"refused: command {command} {place} cause {cause}\n")
+        wanted = 2, "", f"refused: command {command} {place} cause {cause}\n"
+        yield f"front {text!r}", judged(program, whole) == wanted
     for text, verdicts, status in JUDGED:
         lines = "".join(f"check-synth {number} {verdict}\n" for number, verdict in enumerate(verdicts, 1))
         yield f"judged {text[-40:]!r}", judged(program, text) == (status, lines, "")

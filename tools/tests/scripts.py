@@ -76,6 +76,25 @@ RUNS = [
     ((-11, "", ""), False),
     ((None, "", ""), False),
 ]
+# The status, the output and the error output of mode `recheck` on a proof of tools/tests/proofs/, and whether tools/fuzz
+# finds nothing wrong with them; in the last two rows the proof is spoilt.
+RECHECKED = [
+    ((0, "check-synth 1 accepted\n", ""), True),
+    ((1, "check-synth 1 proof rejected\n", ""), True),
+    ((1, "check-synth 1 not in grammar |a b|\n", ""), True),
+    ((1, "check-synth 1 budget Range\n", ""), True),
+    ((7, "", "reply refused: check-synth 1 line 1 column 2 cause 27 ProofShape\n"), True),
+    ((2, "", "refused: command 1 line 1 column 2 cause 2 CommandNotInProfile\n"), True),
+    ((1, "check-synth 1 accepted\n", ""), False),
+    ((0, "check-synth 1 proof rejected\n", ""), False),
+    ((0, "check-synth 2 accepted\n", ""), False),
+    ((1, "check-synth 1 budget Nodes\n", ""), False),
+    ((7, "check-synth 1 accepted\n", "reply refused: check-synth 1 line 1 column 2 cause 27 ProofShape\n"), False),
+    ((7, "", ""), False),
+    ((-11, "", ""), False),
+    ((1, "check-synth 1 proof rejected\n", ""), True),
+    ((0, "check-synth 1 accepted\n", ""), False),
+]
 # What a solver prints for JUDGED, what mode `check` says of that, and what tools/judge makes of it: its status, and what its
 # last line begins with.
 JUDGED = "(set-logic LIA)\n(synth-fun f ((x Int)) Int)\n(declare-var y Int)\n(constraint (>= (f y) y))\n(check-synth)\n"
@@ -209,6 +228,15 @@ def fuzzed():
     fuzz.CAUSES, fuzz.BUDGETS = fuzz.causes(), fuzz.budgets()
     for place, (ended, is_right) in enumerate(RUNS):
         yield f"fuzz: run {place}", (fuzz.fault(b"(f)\n", *ended) is None) == is_right
+    fuzz.RECHECK = fuzz.script("recheck")
+    whole = (TOP / "tools" / "tests" / "proofs" / "max.sl").read_bytes()
+    for place, (ended, is_right) in enumerate(RECHECKED):
+        text = whole if place < len(RECHECKED) - 2 else whole.replace(b"farkas 1 1", b"farkas 1 2")
+        yield f"fuzz: recheck {place}", (fuzz.rechecked(text, *ended) is None) == is_right
+    parts = [whole.partition(b"(check-synth)\n")]
+    proofs = [(front + asked, answer) for front, asked, answer in parts]
+    files = [[fuzz.spoilt(proofs, 1, number) for number in range(50)] for _ in range(2)]
+    yield "fuzz: spoilt files", files[0] == files[1] and len({*files[0]}) > 30
     pool = [PROBLEM.encode()]
     yield "fuzz: files", all(fuzz.file_of(pool, 1, number) == fuzz.file_of(pool, 1, number) for number in range(50))
 
