@@ -1,19 +1,25 @@
 #!/usr/bin/env python3
 """Runs `sygus`, and cvc5 where it is installed, on problems, and prints a table of their processor times.
 
-    bench/answers.py [--sygus PROGRAM] [--limit SECONDS] [--cvc5 TIMES] [FILE ..]
+    bench/answers.py [--sygus PROGRAM] [--limit SECONDS] [--cvc5 TIMES] [--judge] [FILE ..]
 
-Without files it takes those of examples/, with its folders advice and gallery, and of bench/problems/. Without --sygus it
-builds the program by ./sygus. Each run has a limit of processor seconds, 20 without --limit, and 6 GB. A comment line `; words: WORDS` of a file
-holds words for `sygus`, as `--size 15`. Each answer of `sygus` is checked: it is definitions of the functions of the file,
-in order, with their arguments and sorts; and where z3 is installed, z3 finds no values at which they violate the problem. A
-line `; answer: fail CAUSE` says that no definitions are wanted, and why; so does `; answer: infeasible`. A line `; leaves: N` has the least number of leaves
-that is known of the conditional trees of an answer, beside which that of `sygus` is shown. At the end stand the counts and
-times of each class of problems, and the problems that cvc5 alone answers, with what `sygus` says. With --cvc5 the times of
-cvc5 stand in that file of JSON: those that are there aren't taken again, and the others are added. The status is 1 where an
-answer is wrong.
+Without files it takes those of examples/, with its folders advice and gallery, and of bench/problems/. Without
+--sygus it builds the program by ./sygus. Each run has a limit of processor seconds, 20 without --limit, and 6 GB. A
+comment line `; words: WORDS` of a file holds words for `sygus`, as `--size 15`. Each answer of `sygus` is checked: it
+is definitions of the functions of the file, in order, with their arguments and sorts; and where z3 is installed, z3
+finds no values at which they violate the problem. A line `; answer: fail CAUSE` says that no definitions are wanted,
+and why; so does `; answer: infeasible`. A line `; leaves: N` has the least number of leaves that is known of the
+conditional trees of an answer, beside which that of `sygus` is shown. At the end stand the counts and times of each
+class of problems, and the problems that cvc5 alone answers, with what `sygus` says. With --cvc5 the times of cvc5
+stand in that file of JSON: those that are there aren't taken again, and the others are added. With --judge mode
+`check` judges the answers of both, beside z3: at the end stand how many hold, are refuted, aren't in the grammar, or
+aren't decided, and whether z3 says the same; a body outside a default grammar is judged again as a rule of its own.
+The status is 1 where an answer is wrong, and with --judge where z3 says otherwise.
 """
 import argparse
+import collections
+import importlib.machinery
+import importlib.util
 import json
 import os
 import re
@@ -21,6 +27,7 @@ import shutil
 import statistics
 import subprocess
 import sys
+import tempfile
 
 from runs import TOP, line_of, name_of, problems, run, sygus, text_of, words_of
 from sygus_client import read_items, write_item
@@ -109,13 +116,18 @@ class Problem:
             return "not the definitions that were asked"
         if not shutil.which("z3"):
             return None
+        found = self.violated(reply)
+        return None if found == "unsat" else f"z3: {found}"
+
+    def violated(self, reply):
+        """What z3 says of values at which a reply's definitions violate the problem: `unsat` where there are none."""
         lines = [f"(set-logic QF_{self.logic})", *map(write_item, self.before), *map(write_item, reply)]
         lines += map(write_item, self.variables)
         lines += [f"(assert {write_item(term)})" for term in self.assumed]
         wanted = ["and", "true", *self.wanted]
         lines += [f"(assert (not {write_item(called(wanted, self.arguments))}))", "(check-sat)"]
         found = subprocess.run(["z3", "-in", "-T:300"], input="\n".join(lines), capture_output=True, text=True).stdout
-        return None if found.strip() == "unsat" else f"z3: {found.strip()[:60]}"
+        return found.strip()[:60]
 
 
 def called(term, arguments):
@@ -127,21 +139,28 @@ def called(term, arguments):
     return [called(part, arguments) for part in term]
 
 
-def fault_of(text, output):
-    """What is wrong with the answers to a file, or None."""
-    replies, problem = read_items(output), Problem()
+def asked_in(text):
+    """What each `check-synth` of a file asks, one after another."""
+    problem = Problem()
     for command in read_items(text):
         if command[0] == "check-synth":
-            if not replies:
-                return "an answer is missing"
-            reply = replies.pop(0)
-            if isinstance(reply, str):
-                return reply
-            fault = problem.fault(reply)
-            if fault:
-                return fault
+            yield problem
         else:
             problem.take(command)
+
+
+def fault_of(text, output):
+    """What is wrong with the answers to a file, or None."""
+    replies = read_items(output)
+    for problem in asked_in(text):
+        if not replies:
+            return "an answer is missing"
+        reply = replies.pop(0)
+        if isinstance(reply, str):
+            return reply
+        fault = problem.fault(reply)
+        if fault:
+            return fault
     return "more than the answers" if replies else None
 
 
@@ -189,17 +208,22 @@ class Beside:
 
     def __init__(self, limit, times):
         self.program, self.limit, self.times = shutil.which("cvc5"), limit, times
-        self.known = {}
+        self.known, self.output = {}, ""
         if times and os.path.exists(times):
             with open(times) as opened:
                 self.known = json.load(opened)
 
-    def seconds(self, file):
-        """The seconds in which cvc5 answers the file; None where it doesn't within the limit."""
-        name = f"{os.path.basename(file)} {self.limit}"
-        if name not in self.known and self.program:
-            ended = run([self.program, "--lang=sygus2", file], self.limit)
-            self.known[name] = ended.seconds if "define-fun" in ended.output and not ended.is_over else None
+    def seconds(self, file, anew):
+        """The seconds in which cvc5 answers the file; None where it doesn't within the limit.
+
+        Where it is asked anew, or that isn't known, `output` is what it prints.
+        """
+        name, self.output = f"{os.path.basename(file)} {self.limit}", ""
+        if self.program and (anew or name not in self.known):
+            ended = run([self.program, "--lang=sygus2", "--dag-thresh=0", file], self.limit)
+            is_answered = "define-fun" in ended.output and not ended.is_over
+            self.output = ended.output if is_answered else ""
+            self.known.setdefault(name, ended.seconds if is_answered else None)
             self.keep()
         return self.known.get(name)
 
@@ -209,14 +233,72 @@ class Beside:
                 json.dump(self.known, opened, indent=0, sort_keys=True)
 
 
-def asked(file, program, beside, limit):
+# What is counted of answers that mode `check` judges, by how its verdict begins.
+VERDICTS = {
+    "holds": "hold", "outside": "hold as rules of their own", "refuted": "refuted",
+    "not in grammar": "not in the grammar", "budget": "not decided", "refused": "refused",
+}
+
+
+class Judge:
+    """Mode `check`, which judges answers beside z3, and what came of it."""
+
+    def __init__(self, program, limit):
+        loader = importlib.machinery.SourceFileLoader("judge", os.path.join(TOP, "tools", "judge"))
+        self.judge = importlib.util.module_from_spec(importlib.util.spec_from_loader("judge", loader))
+        loader.exec_module(self.judge)
+        self.program, self.limit, self.counts, self.faults = program, limit, {}, []
+
+    def checked(self, words, text):
+        with tempfile.NamedTemporaryFile("w", suffix=".sl") as file:
+            file.write(text)
+            file.flush()
+            ended = run([self.program, "--mode", "check", *words, file.name], self.limit)
+        return ended.status, ended.output.splitlines(), ended.errors.splitlines()
+
+    def take(self, solver, file, output):
+        """Judges what a solver printed for a file, and counts it."""
+        text = text_of(file)
+        replies = self.judge.replies_of(output)
+        found = self.judge.verdicts(lambda it: self.checked(words_of(text), it), text, replies)[1]
+        found = found or [("refused", None)] * len(replies)
+        for problem, reply, (verdict, other) in zip(asked_in(text), replies, found):
+            if isinstance(reply, list):
+                verdict = "outside" if other == "holds" else other or verdict
+                self.count(solver, f"{solver}, {name_of(file)}", verdict, problem.violated(reply))
+
+    def count(self, solver, name, verdict, z3):
+        kind = next(kind for kind in VERDICTS if verdict.startswith(kind))
+        wanted = {"holds": "unsat", "outside": "unsat", "refuted": "sat"}.get(kind)
+        counts = self.counts.setdefault(solver, collections.Counter())
+        counts[kind] += 1
+        counts[f"z3 {wanted == z3}" if wanted and z3 in ("sat", "unsat") else "z3 none"] += 1
+        if wanted not in (None, z3) or kind not in ("holds", "outside"):
+            self.faults.append(f"{name}: {verdict}; z3: {z3}")
+
+    def show(self):
+        """Prints the counts, and what neither holds nor is plain. Whether z3 says the same of all."""
+        titles = [*VERDICTS.values(), "z3 says the same", "says otherwise", "isn't asked or doesn't know"]
+        print(f"\n| Answers of | {' | '.join(titles)} |\n|{'---|' * (len(titles) + 1)}")
+        for solver, counts in self.counts.items():
+            kinds = [*VERDICTS, "z3 True", "z3 False", "z3 none"]
+            print(f"| {solver} | {' | '.join(str(counts[kind]) for kind in kinds)} |")
+        print(*self.faults, sep="\n")
+        return not any(counts["z3 False"] for counts in self.counts.values())
+
+
+def asked(file, program, beside, judge, limit):
     """What came of a problem: the row of the table, and what `sums` adds up."""
     text = text_of(file)
     ended = run([program, *words_of(text), file], limit)
     seconds = None if ended.is_over else ended.seconds
     answer, is_right = answer_of(text, ended)
     found = answer == "definitions"
-    other = beside.seconds(file)
+    other = beside.seconds(file, judge is not None)
+    if judge and found:
+        judge.take("`sygus`", file, ended.output)
+    if judge and beside.output:
+        judge.take("cvc5", file, beside.output)
     ratio = seconds / max(other, 0.005) if found and other is not None else None
     least = int(line_of(text, "leaves") or 0)
     leaves = (leaves_in(ended.output), least) if found and least else None
@@ -258,6 +340,7 @@ def main():
     options.add_argument("--sygus", metavar="PROGRAM")
     options.add_argument("--limit", metavar="SECONDS", type=int, default=20)
     options.add_argument("--cvc5", metavar="TIMES")
+    options.add_argument("--judge", action="store_true")
     options.add_argument("files", metavar="FILE", nargs="*")
     options = options.parse_args()
     program = sygus(options.sygus)
@@ -266,9 +349,11 @@ def main():
     beside = Beside(options.limit, options.cvc5)
     if not shutil.which("z3"):
         print("z3 isn't installed: of definitions only names, arguments and sorts are checked", file=sys.stderr)
-    rows = [asked(file, program, beside, options.limit) for file in problems(options.files)]
+    judge = Judge(program, options.limit) if options.judge else None
+    rows = [asked(file, program, beside, judge, options.limit) for file in problems(options.files)]
     sums(rows)
-    sys.exit(0 if all(row["right"] for row in rows) else 1)
+    agrees = judge.show() if judge else True
+    sys.exit(0 if agrees and all(row["right"] for row in rows) else 1)
 
 
 if __name__ == "__main__":

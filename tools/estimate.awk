@@ -1,10 +1,10 @@
 # How many minutes the rest of a build takes, by what is done and the pace so far:
-#     awk -v processors=N -v load=N -v seconds=N -f estimate.awk
-# `load` is that of the machine when the build began, `seconds` the time since then. It reads a line `NAME: BYTES LIBRARY ..` of
-# each crate, the lowest first, with the size of its source and the libraries that it depends on; then a line `NAME proved` or
-# `NAME kept` of each that is done. The last crate is the program.
-# A crate takes some 12 processor seconds and one for each 210 bytes of its source, the program some 350 more. Where nothing
-# else goes on, a processor does 0.9 of them a second.
+#     awk -v processors=N -v seconds=N -f estimate.awk
+# `seconds` is the time since the build began. It reads a line `NAME: BYTES LIBRARY ..` of each crate, the lowest first, with
+# the size of its source and the libraries that it depends on; then a line `NAME proved SECOND` or `NAME kept SECOND` of each
+# that is done, and now and then a line `load SECOND LOAD` with the load of the machine. The last crate is the program.
+# A crate takes some 12 units of work and one for each 210 bytes of its source, the program some 350 more. A crate that rt
+# has kept takes none, and tells nothing of the pace.
 $1 ~ /:$/ {
     name = substr($1, 1, length($1) - 1)
     names[++count] = name
@@ -12,11 +12,21 @@ $1 ~ /:$/ {
     libraries[name] = $0
     next
 }
+# What was long ago counts less: a third of what it does now after 15 minutes.
+$1 == "load" {
+    # the part of the processors that is the build's, where all that runs takes turns
+    share = processors / ($3 > processors ? $3 : processors)
+    had += share * ($2 - last) * exp(($2 - seconds) / 900)
+    last = $2
+    next
+}
 $1 in work {
-    if ($2 == "proved") done += work[$1] + ($1 == names[count] ? 350 : 0)
+    if ($2 == "proved") done += (work[$1] + ($1 == names[count] ? 350 : 0)) * exp(($3 - seconds) / 900)
     is_done[$1] = 1
 }
 END {
+    if (!share) share = 1
+    had += share * (seconds - last)
     work[names[count]] += 350
     for (i = count; i > 0; i--) {
         if (names[i] in is_done) continue
@@ -30,10 +40,10 @@ END {
     if (!(names[count] in is_done)) rest += (processors - 1) * work[names[count]]
     if (processors * longest > rest) rest = processors * longest
     # of each crate under way half of a middling one is done
-    expected = 0.9 * processors * processors / (processors + load)
     under_way = 45 * processors
-    if (under_way > expected * seconds / 2) under_way = expected * seconds / 2
-    # beside what was done counts what the first twentieth of the work would have taken by the load
-    begun = 500
-    printf "%d\n", rest / ((done + under_way + begun) / (seconds + begun / expected)) / 60 + 0.5
+    if (under_way > processors * had / 2) under_way = processors * had / 2
+    # beside what was done counts an eighth of the work, at 1.1 units a second and processor
+    begun = 1500
+    pace = share * (done + under_way + begun) / (had + begun / (1.1 * processors))
+    printf "%d\n", rest / pace / 60 + 0.5
 }

@@ -1,6 +1,8 @@
 """Tests of the scripts beside the program: what their help says, the tables that they print, and what their checks find."""
+import contextlib
 import importlib.machinery
 import importlib.util
+import io
 import os
 import pathlib
 import re
@@ -8,6 +10,7 @@ import shutil
 import subprocess
 import sys
 import tempfile
+import unittest.mock
 
 TOP = pathlib.Path(__file__).resolve().parent.parent.parent
 sys.path[:0] = [str(TOP / "bench"), str(TOP / "tools")]
@@ -73,6 +76,25 @@ RUNS = [
     ((-11, "", ""), False),
     ((None, "", ""), False),
 ]
+# The status, the output and the error output of mode `recheck` on a proof of tools/tests/proofs/, and whether tools/fuzz
+# finds nothing wrong with them; in the last two rows the proof is spoilt.
+RECHECKED = [
+    ((0, "check-synth 1 accepted\n", ""), True),
+    ((1, "check-synth 1 proof rejected\n", ""), True),
+    ((1, "check-synth 1 not in grammar |a b|\n", ""), True),
+    ((1, "check-synth 1 budget Range\n", ""), True),
+    ((7, "", "reply refused: check-synth 1 line 1 column 2 cause 27 ProofShape\n"), True),
+    ((2, "", "refused: command 1 line 1 column 2 cause 2 CommandNotInProfile\n"), True),
+    ((1, "check-synth 1 accepted\n", ""), False),
+    ((0, "check-synth 1 proof rejected\n", ""), False),
+    ((0, "check-synth 2 accepted\n", ""), False),
+    ((1, "check-synth 1 budget Nodes\n", ""), False),
+    ((7, "check-synth 1 accepted\n", "reply refused: check-synth 1 line 1 column 2 cause 27 ProofShape\n"), False),
+    ((7, "", ""), False),
+    ((-11, "", ""), False),
+    ((1, "check-synth 1 proof rejected\n", ""), True),
+    ((0, "check-synth 1 accepted\n", ""), False),
+]
 # What a solver prints for JUDGED, what mode `check` says of that, and what tools/judge makes of it: its status, and what its
 # last line begins with.
 JUDGED = "(set-logic LIA)\n(synth-fun f ((x Int)) Int)\n(declare-var y Int)\n(constraint (>= (f y) y))\n(check-synth)\n"
@@ -89,6 +111,13 @@ SOLVED = [
     ("feasible\n", [], 10, "The solver gave no answer."),
     ("I don't know (yet\n", [], 12, "The output isn't an answer: I don't know (yet"),
     ("unknown\n", [], 12, "The output isn't an answer: unknown"),
+]
+# What mode `check` says of definitions for JUDGED, and as rules of their own; what z3 says; and whether both say the same.
+COUNTED = [
+    (["holds"], "unsat", True), (["holds"], "sat", False), (["refuted at 1"], "sat", True), (["refuted at 1"], "unsat", False),
+    (["not in grammar f", "holds"], "unsat", True), (["not in grammar f", "holds"], "sat", False),
+    (["not in grammar f", "refuted at 1"], "sat", True), (["not in grammar f", "budget Nodes"], "sat", True),
+    (["budget Nodes"], "unsat", True), (["holds"], "timeout", True),
 ]
 # Terms with `let`, and what they are when it is written out.
 BINDINGS = [
@@ -141,8 +170,9 @@ def loaded(path):
 
 def scripts():
     """All scripts in Python."""
-    named = [TOP / "tools" / name for name in ("explain", "from_csv", "fuzz", "many", "portfolio", "tests/run")]
-    return [*sorted((TOP / "bench").glob("*.py")), *sorted((TOP / "tools").glob("*.py")), *named]
+    named = [TOP / "tools" / name for name in ("explain", "from_csv", "fuzz", "lrat", "many", "portfolio", "recheck")]
+    tests = [TOP / "tools" / "tests" / name for name in ("lrat_check.py", "run")]
+    return [*sorted((TOP / "bench").glob("*.py")), *sorted((TOP / "tools").glob("*.py")), *named, *tests]
 
 
 def helps():
@@ -198,6 +228,15 @@ def fuzzed():
     fuzz.CAUSES, fuzz.BUDGETS = fuzz.causes(), fuzz.budgets()
     for place, (ended, is_right) in enumerate(RUNS):
         yield f"fuzz: run {place}", (fuzz.fault(b"(f)\n", *ended) is None) == is_right
+    fuzz.RECHECK = fuzz.script("recheck")
+    whole = (TOP / "tools" / "tests" / "proofs" / "max.sl").read_bytes()
+    for place, (ended, is_right) in enumerate(RECHECKED):
+        text = whole if place < len(RECHECKED) - 2 else whole.replace(b"farkas 1 1", b"farkas 1 2")
+        yield f"fuzz: recheck {place}", (fuzz.rechecked(text, *ended) is None) == is_right
+    parts = [whole.partition(b"(check-synth)\n")]
+    proofs = [(front + asked, answer) for front, asked, answer in parts]
+    files = [[fuzz.spoilt(proofs, 1, number) for number in range(50)] for _ in range(2)]
+    yield "fuzz: spoilt files", files[0] == files[1] and len({*files[0]}) > 30
     pool = [PROBLEM.encode()]
     yield "fuzz: files", all(fuzz.file_of(pool, 1, number) == fuzz.file_of(pool, 1, number) for number in range(50))
 
@@ -263,7 +302,22 @@ def judged():
         yield "judge without a solver", ended.returncode == 13
 
 
+def counted():
+    """What bench/answers.py counts of verdicts beside z3."""
+    for verdicts, z3, agrees in COUNTED:
+        judge, said = answers.Judge("no program", 1), iter(verdicts)
+        judge.checked = lambda words, text: (0, [f"check-synth 1 {next(said)}"], [])
+        told = unittest.mock.patch.object(answers.Problem, "violated", lambda *_: z3)
+        with tempfile.NamedTemporaryFile("w", suffix=".sl") as file, told:
+            file.write(JUDGED)
+            file.flush()
+            judge.take("one", file.name, "(\n(define-fun f ((x Int)) Int x)\n)\n")
+        with contextlib.redirect_stdout(io.StringIO()):
+            yield f"answers: {verdicts} and {z3}", judge.show() == agrees and sum(judge.counts["one"].values()) == 2
+
+
 def tests():
+    yield from counted()
     yield from crates_in_order()
     yield from helps()
     yield from measured()

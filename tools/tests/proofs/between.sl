@@ -1,0 +1,10 @@
+(set-logic LIA)
+(synth-fun f ((x Int)) Int ((S Int)) ((S Int (0 x))))
+(declare-var x Int)
+(assume (< 0 (* 2 x) 2))
+(constraint (= (f x) 1))
+(check-synth)
+(
+(define-fun f ((x Int)) Int 0)
+)
+(tree (split (atleast (- 1) (0 2))) (split (atleast 1 (0 (- 2)))) (branch 0 0) (farkas 1 0 2) (farkas 0 1 2) (shown) (shown))

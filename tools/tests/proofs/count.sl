@@ -1,0 +1,11 @@
+(set-logic LIA)
+(define-fun pre ((x Int) (n Int)) Bool (and (= x 0) (<= 0 n)))
+(define-fun trans ((x Int) (n Int) (y Int) (m Int)) Bool (and (< x n) (= y (+ x 1)) (= m n)))
+(define-fun post ((x Int) (n Int)) Bool (<= x n))
+(synth-inv inv ((x Int) (n Int)))
+(inv-constraint inv pre trans post)
+(check-synth)
+(
+(define-fun inv ((x Int) (n Int)) Bool (<= x n))
+)
+(tree (split (atleast 0 (0 1))) (split (atleast 0 (0 (- 1)))) (split (atleast 0 (1 1))) (split (atleast 0 (0 (- 1)) (1 1))) (split (atleast (- 1) (0 (- 1)) (1 1))) (split (atleast (- 1) (0 (- 1)) (2 1))) (split (atleast 1 (0 1) (2 (- 1)))) (split (atleast 0 (1 (- 1)) (3 1))) (split (atleast 0 (1 1) (3 (- 1)))) (split (atleast 0 (2 (- 1)) (3 1))) (shown) (farkas 0 0 0 0 1 0 1 1 0 1) (split (atleast 0 (2 (- 1)) (3 1))) (shown) (shown) (split (atleast 0 (2 (- 1)) (3 1))) (shown) (shown) (split (atleast 0 (2 (- 1)) (3 1))) (shown) (shown) (split (atleast 0 (2 (- 1)) (3 1))) (shown) (shown) (split (atleast 0 (2 (- 1)) (3 1))) (shown) (shown) (farkas 0 1 1 1) (split (atleast 0 (0 (- 1)) (1 1))) (farkas 1 0 1 1) (split (atleast 0 (2 (- 1)) (3 1))) (shown) (shown) (split (atleast 0 (0 (- 1)) (1 1))) (split (atleast (- 1) (0 (- 1)) (1 1))) (split (atleast (- 1) (0 (- 1)) (2 1))) (split (atleast 1 (0 1) (2 (- 1)))) (split (atleast 0 (1 (- 1)) (3 1))) (split (atleast 0 (1 1) (3 (- 1)))) (split (atleast 0 (2 (- 1)) (3 1))) (shown) (farkas 0 0 0 1 0 1 1 0 1) (split (atleast 0 (2 (- 1)) (3 1))) (shown) (shown) (split (atleast 0 (2 (- 1)) (3 1))) (shown) (shown) (split (atleast 0 (2 (- 1)) (3 1))) (shown) (shown) (split (atleast 0 (2 (- 1)) (3 1))) (shown) (shown) (split (atleast 0 (2 (- 1)) (3 1))) (shown) (shown) (split (atleast 0 (2 (- 1)) (3 1))) (shown) (shown) (split (atleast 0 (0 (- 1)) (1 1))) (split (atleast (- 1) (0 (- 1)) (1 1))) (split (atleast (- 1) (0 (- 1)) (2 1))) (split (atleast 1 (0 1) (2 (- 1)))) (split (atleast 0 (1 (- 1)) (3 1))) (split (atleast 0 (1 1) (3 (- 1)))) (split (atleast 0 (2 (- 1)) (3 1))) (shown) (farkas 0 0 1 0 1 1 0 1) (split (atleast 0 (2 (- 1)) (3 1))) (shown) (shown) (split (atleast 0 (2 (- 1)) (3 1))) (shown) (shown) (split (atleast 0 (2 (- 1)) (3 1))) (shown) (shown) (split (atleast 0 (2 (- 1)) (3 1))) (shown) (shown) (split (atleast 0 (2 (- 1)) (3 1))) (shown) (shown) (split (atleast 0 (2 (- 1)) (3 1))) (shown) (shown))

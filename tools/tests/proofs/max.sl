@@ -1,0 +1,10 @@
+(set-logic LIA)
+(synth-fun f ((x Int) (y Int)) Int ((S Int) (C Bool)) ((S Int (x y (ite C S S))) (C Bool ((<= x y)))))
+(declare-var x Int)
+(declare-var y Int)
+(constraint (and (>= (f x y) x) (>= (f x y) y) (or (= (f x y) x) (= (f x y) y))))
+(check-synth)
+(
+(define-fun f ((x Int) (y Int)) Int (ite (<= x y) y x))
+)
+(tree (split (atleast 0 (0 (- 1)) (1 1))) (shown) (split (atleast 0 (0 1) (1 (- 1)))) (shown) (farkas 1 1))

@@ -1,0 +1,11 @@
+(set-logic LIA)
+(synth-fun f ((x Int)) Int ((S Int)) ((S Int (0 x))))
+(declare-var x Int)
+(declare-var y Int)
+(assume (= (* 2 x) (+ (* 2 y) 1)))
+(constraint (= (f x) 1))
+(check-synth)
+(
+(define-fun f ((x Int)) Int 0)
+)
+(tree (split (atleast (- 1) (0 2) (1 (- 2)))) (split (atleast 1 (0 (- 2)) (1 2))) (cut 2 1 0) (farkas 0 1 2) (shown) (shown))
