@@ -1,6 +1,7 @@
 # shellcheck shell=sh
 # Read by ./sygus, which sets `top`, the repository's folder. `preview [OPTIONS] FILE ..` runs the program by `rt try`, which
-# proves nothing and keeps nothing: each call builds anew, and a call with several files builds once.
+# proves nothing and keeps nothing: each call builds anew, and a call with several files builds once. Of one file
+# tools/explain says what is wrong with it, or what to try.
 # The status is the program's own, or with several files 0 where it ended on each; 70 where it didn't end.
 
 # Runs `rt try` with these arguments, shows what it says, and gives the program's status.
@@ -15,8 +16,17 @@ try() (
         echo "sygus: the program wasn't run to its end: rt try ended with status $status" >&2
         exit 70
     fi
+    [ -z "$file" ] || explain
     exit "$status"
 )
+
+# What tools/explain makes of the line of a refusal or of a `fail` that was said, where Python is there.
+explain() {
+    line=$(grep -Em 1 '^(refused|reply refused|fail): ' "$said") && command -v python3 >/dev/null 2>&1 || return 0
+    echo "$line" >"$said"
+    # shellcheck disable=SC2086
+    SAID=$said "$top/tools/explain" $options -- "$file" >&2 </dev/null
+}
 
 # Runs it on copies of several files, each under its number and name.
 try_each() (
@@ -33,7 +43,7 @@ try_each() (
 )
 
 preview() {
-    options=''
+    options='' file=''
     while :; do
         case ${1-} in
         --*=*) options="$options $1" ;;
@@ -58,6 +68,7 @@ preview() {
     if [ $# -gt 1 ]; then
         try_each "$@"
     elif [ -f "$1" ]; then
+        file=$1
         # shellcheck disable=SC2086
         try -- $options - <"$1"
     else

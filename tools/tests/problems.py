@@ -259,6 +259,16 @@ def reserved():
     yield "from_csv: words of the language", words <= from_csv.RESERVED
 
 
+def unasked():
+    """What tools/explain says of a file that asks nothing."""
+    with tempfile.NamedTemporaryFile("w", suffix=".sl") as problem, tempfile.TemporaryDirectory() as folder:
+        problem.write(INTEGERS)
+        problem.flush()
+        env = {**os.environ, "SYGUS": str(script(folder, SILENT))}
+        ended = subprocess.run([EXPLAIN, problem.name], env=env, capture_output=True, text=True)
+    yield "explain without check-synth", (ended.returncode, "(check-synth) is missing" in ended.stdout) == (0, True)
+
+
 def cut_off():
     """On a full disk and a closed pipe each ends by 5, on Ctrl-C by 130 with the program that it runs; without a
     traceback.
@@ -307,4 +317,5 @@ def tests():
     yield from further()
     yield from tables()
     yield from reserved()
+    yield from unasked()
     yield from cut_off()

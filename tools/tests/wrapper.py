@@ -155,7 +155,8 @@ def previews(room):
     lines = err.splitlines()
     unproved = [place for place, line in enumerate(lines) if line.startswith("sygus: ") and "proved" in line and "./sygus FILE" in line]
     yield "./sygus --preview: says first and last that nothing is proved", unproved == [0, len(lines) - 1]
-    yield "./sygus --preview: shows what is said", lines[1:-1] == ["fail: check-synth 1 Size", "run=ended status=1 runners=1 proved=no"]
+    yield "./sygus --preview: shows what is said", lines[1:3] == ["fail: check-synth 1 Size", "run=ended status=1 runners=1 proved=no"]
+    yield "./sygus --preview: explains it", lines[3] == lines[1] and lines[4].startswith("  No solution within --size")
     yield "./sygus --preview: takes standard input", room.answer("--preview", "-", given="()\n")[1] == "sygus: try -- -\n()\n"
     yield "./sygus --preview: takes a number", room.answer("--preview", "--mode", "drill", "7")[1] == "sygus: try -- --mode drill 7\n"
     counted = "cases=2 ended=2 fault=0 proved=no"

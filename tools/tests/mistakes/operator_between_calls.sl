@@ -1,0 +1,5 @@
+(set-logic BV)
+(synth-fun f ((x (_ BitVec 8))) (_ BitVec 8))
+(declare-var x (_ BitVec 8))
+(constraint ((f x) bvuge x))
+(check-synth)
