@@ -4,6 +4,7 @@ ghost use Rattle.sy_query_base.specs.Answers.{Answers};
 ghost use Rattle.sy_query_base.specs.Asked.{query_of};
 ghost use Rattle.sy_meaning_words.specs.Vectors.{vector};
 ghost use Rattle.sy_bits_terms.specs.Clauses.{HasCircuitClauses};
+ghost use Rattle.sy_clauses.specs.Clauses.{Refutes};
 ghost use Rattle.sy_cdcl.specs.Answer.{AnswersFormula};
 ghost use Rattle.sy_bits.specs.Proofs as proofs;
 ghost use Rattle.sy_bits.specs.Soundness.{sound};
@@ -13,6 +14,8 @@ use std::alloc::{AllocError, Global};
 use sy_bits_circuit::Circuit;
 use sy_bits_clauses::{circuit_of, countable_size};
 use sy_cdcl::{Solved, solve};
+use sy_clauses::Log;
+use sy_clauses_trim::trimmed;
 use sy_meaning_words::BvTheory;
 use sy_query_base::{Decide, Query, Verdict};
 use sy_query_corners::corner_model;
@@ -95,10 +98,10 @@ fn answer(
     ensures { IfOk result (Answers vector proofs.Accepted proofs.budget proofs.Shows (query_of vector query.now) limits.now) }
 {
     match solved {
-        Solved::Refuted(log) => Ok(Verdict::Never(BvProof {
-            cnf: circuit.into_cnf(),
-            log,
-        })),
+        Solved::Refuted(log) => {
+            let proof = proof_by(alloc, circuit, log)?;
+            Ok(Verdict::Never(proof))
+        }
         Solved::Model(bits) => {
             let values = circuit.read(alloc, &bits);
             drop(bits);
@@ -112,6 +115,26 @@ fn answer(
                 return Err(AllocError);
             }
             Ok(Verdict::Spent(BvSpent::Clauses(circuit.into_cnf(), log)))
+        }
+    }
+}
+
+/// The circuit's clauses, and of a log that refutes them the lines that its last one needs.
+fn proof_by(alloc: Global, circuit: Circuit, log: Log) -> Result<BvProof, Want>
+    requires { Refutes circuit.clauses log }
+    ensures cnf { IfOk result (λ proof. proof.cnf ≡ circuit.clauses) }
+    ensures refuted { IfOk result (λ proof. Refutes proof.cnf proof.log) }
+{
+    let shorter = trimmed(alloc, circuit.cnf(), &log);
+    drop(log);
+    match shorter {
+        Ok(log) => Ok(BvProof {
+            cnf: circuit.into_cnf(),
+            log,
+        }),
+        Err(end) => {
+            drop(circuit);
+            Err(end)
         }
     }
 }

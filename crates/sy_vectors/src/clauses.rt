@@ -8,6 +8,7 @@ use std::alloc::Global;
 use std::process::Abort;
 use sy_cdcl::{Solved, solve};
 use sy_clauses::{Cnf, Line, Lit, Log, Step, check};
+use sy_clauses_trim::trimmed;
 use sy_terms::Seq;
 
 /// The clause of these literals.
@@ -127,11 +128,17 @@ pub fn is_found(rt: &impl Abort, alloc: Global, row: &str) -> bool {
     finds(rt, alloc, &cnf, number(row, 2), field(row, 3))
 }
 
-/// Whether the checker accepts the row's log of its formula just where the row tells so.
+/// Whether the checker accepts the row's log of its formula just where the row tells so, and then also as many lines of
+/// it as the row tells, those that the last one needs.
 pub fn is_right(rt: &impl Abort, alloc: Global, row: &str) -> bool {
     let cnf = formula(rt, alloc, row);
     let log = log(rt, alloc, field(row, 2));
-    check(alloc, &cnf, &log).expect(rt, row) == (field(row, 3) == "accepted")
+    if !check(alloc, &cnf, &log).expect(rt, row) {
+        return field(row, 3) == "refused";
+    }
+    let shorter = trimmed(alloc, &cnf, &log).expect(rt, row);
+    let is_shorter = shorter.lines.len() == number(row, 4) as usize;
+    is_shorter && field(row, 3) == "accepted" && check(alloc, &cnf, &shorter).expect(rt, row)
 }
 
 /// Appends that the first variable, if it is true, makes the second true.
@@ -226,12 +233,16 @@ pub const FORMULAS: &str = "\
 1|a A|0|spent 0
 ";
 
-/// Formulas with logs, and whether these are accepted: of one of two and neither; of a literal and its negation; and of an
-/// empty clause behind another, which is refuted by no line, and by none that leads away from it.
+/// Formulas with logs, whether these are accepted, and how many lines their last ones need: of one of two and neither;
+/// of a literal and its negation; and of an empty clause behind another, which is refuted by no line, and by none that
+/// leads away from it.
 pub const LOGS: &str = "\
-2|ab A B|0 01 12|accepted
-2|ab A B|1 00 12|accepted
-2|ab A B|0 12;1 03|accepted
+2|ab A B|0 01 12|accepted|1
+2|ab A B|1 00 12|accepted|1
+2|ab A B|0 12;1 03|accepted|2
+2|ab A B|1;0 01;4 12|accepted|2
+2|ab A B|0 12;0 01;2;4 15|accepted|3
+2|ab A B|0 12;1 03;0 01 12|accepted|1
 2|ab A B||refused
 2|ab A B|0 01|refused
 2|ab A B|0 01 12;1|refused
@@ -240,8 +251,8 @@ pub const LOGS: &str = "\
 2|ab A B|3|refused
 2|ab A B|0 12;1 04|refused
 1|a A||refused
-1|a A|0 01|accepted
-1|a ||accepted
-1|a |1|accepted
+1|a A|0 01|accepted|1
+1|a ||accepted|0
+1|a |1|accepted|1
 1|a |0|refused
 ";

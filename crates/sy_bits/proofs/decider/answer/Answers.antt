@@ -14,4 +14,4 @@ returns-else-limits-gt-MOST_LEARNED c =
     let found = subst (AnswersFormula c.args.circuit.clauses (min c.args.limits.now.clauses 2147483647)) c.in-Fuel.is c.requires.solved in
     let many : length c.in-Fuel.log.lines ≡ c.args.limits.now.clauses = omega (arith, found.1, c.if-limits-gt-MOST_LEARNED.false) in
     let few : c.args.limits.now.clauses < 3 ^ c.args.circuit.clauses.vars = omega (arith, found.2, c.if-limits-gt-MOST_LEARNED.false) in
-    rw c.into_cnf-in-Fuel.ensures (record { circuit = c.requires.clauses; learned = found.0; many = many; few = few })
+    rw c.into_cnf.ensures (record { circuit = c.requires.clauses; learned = found.0; many = many; few = few })
