@@ -1,3 +1,4 @@
+pub mod Clauses
 pub mod Growing
 pub mod Lists
 pub mod Logs

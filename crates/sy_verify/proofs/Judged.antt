@@ -1,6 +1,7 @@
 -- What a solver's answer to the query of bodies says of the bodies.
 use Rattle.std.specs.Prelude.{ℕ, Bool, ◌≡◌, refl, List}
 use Rattle.std.proofs.Common.{subst, sym}
+use Rattle.sy_text_items.specs.Items.{Item}
 use Rattle.sy_terms.specs.Values.{Val}
 use Rattle.sy_terms.specs.Expr.{Expr}
 use Rattle.sy_terms.specs.declared.op.Op.{Op}
@@ -12,6 +13,7 @@ use Rattle.sy_query_base.proofs.Solved.{solved}
 use Rattle.sy_query_base.proofs.Violations.{says}
 use Rattle.sy_verify.specs.Checking.{IsCounterexample}
 use Rattle.sy_verify.specs.Posing.{IsPosed}
+use Rattle.sy_verify.specs.Rechecking.{IsProved}
 
 -- a query that is never satisfied
 pub holds : {P : Type 0} (accepted : Query → P → Type 0) (owned : Op → Bool) (question : Question) (bodies : List Expr) (limit : ℕ) (query : Query) (proof : P) → IsPosed owned question bodies limit → query ≡ violating question bodies →
@@ -24,3 +26,10 @@ pub refuted : (question : Question) (bodies : List Expr) (query : Query) (values
 refuted question bodies query values is satisfies =
     let satisfies' : Satisfies (violating question bodies) values = subst (λ q. Satisfies q values) is satisfies in
     record { sorted = satisfies'.sorted; violates = (says question bodies values satisfies'.sorted).0 satisfies' }
+
+-- a query that an item proves never to be satisfied
+pub proved : (proves : Query → Item → Type 0) (owned : Op → Bool) (question : Question) (bodies : List Expr) (limit : ℕ) (query : Query) (item : Item) → IsPosed owned question bodies limit → query ≡ violating question bodies →
+    IsNever query → proves query item → IsProved proves question bodies item
+proved proves owned question bodies limit query item posed is never proof =
+    let solution = solved proves question bodies query item is (subst (IsViolation question bodies) (sym is) (says question bodies)) never proof posed.members in
+    record { solves = solution.solves; proof = subst (λ q. proves q item) is proof }

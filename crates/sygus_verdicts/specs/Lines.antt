@@ -7,7 +7,7 @@ use Rattle.sy_terms.specs.Values.{Val, Truth, Whole, Bits}
 use Rattle.sy_scope_causes.specs.declared.titles.Title.{Title}
 use Rattle.sy_scope_causes.specs.declared.titles.Titles.{Titles}
 use Rattle.sy_reply_lines.specs.Lines.{fail_name}
-use Rattle.sygus_verdicts.specs.Verdicts.{Verdict, Holds, NoDefinitions, NotMember, Refuted, Budget}
+use Rattle.sygus_verdicts.specs.Verdicts.{Verdict, Holds, Accepted, Rejected, NoDefinitions, NotMember, Refuted, Budget, Clauses, NoClauses}
 
 -- a whole number; one below 0 as `(- n)`
 abbrev pub whole_text : ℤ → List ℕ
@@ -32,10 +32,14 @@ title_text (Some title) = symbol_text title.name
 
 unfoldable pub verdict_text : Titles → Verdict → List ℕ
 verdict_text titles Holds = codes "holds"
+verdict_text titles Accepted = codes "accepted"
+verdict_text titles Rejected = codes "proof rejected"
 verdict_text titles NoDefinitions = codes "no definitions"
 verdict_text titles (NotMember function) = codes "not in grammar " ++ title_text (slice_get titles.wanted function)
 verdict_text titles (Refuted values) = codes "refuted at" ++ values_text values
 verdict_text titles (Budget name) = codes "budget " ++ fail_name name
+verdict_text titles (Clauses text) = codes "clauses\n" ++ text
+verdict_text titles NoClauses = codes "no clauses"
 
 -- check-synth K VERDICT
 abbrev pub verdict_line : Titles → ℕ → Verdict → List ℕ

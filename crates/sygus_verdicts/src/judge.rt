@@ -51,7 +51,7 @@ pub trait Judge<T: Theory> {
         requires { spec.IsPrintable (verdict found.now) }
         ensures { OnOk result (out.new ≡ out.old ++ verdict_text titles.now (verdict found.now)) };
 
-    /// Whether the definitions solve the problem.
+    /// Whether the verdict is good: the definitions solve the problem, a proof shows it, or clauses are given.
     fn is_good(found: &Self::Found) -> bool
         ensures { result ≡ spec.is_good (verdict found.now) };
 }

@@ -7,5 +7,8 @@ mod text;
 mod verdicts;
 
 pub use judge::Judge;
-pub use text::{put_budget, put_holds, put_not_member, put_refuted};
+pub use text::{
+    put_accepted, put_budget, put_clauses, put_holds, put_no_clauses, put_not_member, put_refuted,
+    put_rejected,
+};
 pub use verdicts::{Claims, Judged, judge_all};

@@ -53,6 +53,22 @@ pub fn put_holds(out: &mut Bytes, titles: &Titles) -> Result<(), Want>
     put(out, "holds")
 }
 
+/// Appends the verdict that a proof in text shows that the definitions solve the problem.
+#[tactic(auto, unfolding(crate::specs::Lines::verdict_text))]
+pub fn put_accepted(out: &mut Bytes, titles: &Titles) -> Result<(), Want>
+    ensures { OnOk result (out.new ≡ out.old ++ lines.verdict_text titles.now spec.Accepted) }
+{
+    put(out, "accepted")
+}
+
+/// Appends the verdict that there is no proof in text that shows this.
+#[tactic(auto, unfolding(crate::specs::Lines::verdict_text))]
+pub fn put_rejected(out: &mut Bytes, titles: &Titles) -> Result<(), Want>
+    ensures { OnOk result (out.new ≡ out.old ++ lines.verdict_text titles.now spec.Rejected) }
+{
+    put(out, "proof rejected")
+}
+
 /// Appends the verdict that the body of the function of this number is the first that is no member of its grammar.
 #[tactic(auto, unfolding(crate::specs::Lines::verdict_text))]
 pub fn put_not_member(out: &mut Bytes, titles: &Titles, function: u32) -> Result<(), Want>
@@ -99,4 +115,22 @@ pub fn put_budget(out: &mut Bytes, titles: &Titles, name: FailName) -> Result<()
 {
     put(out, "budget ")?;
     put(out, name_text(name))
+}
+
+/// Appends the verdict that has the clauses of the definitions' query.
+#[tactic(auto, unfolding(crate::specs::Lines::verdict_text))]
+pub fn put_clauses(out: &mut Bytes, titles: &Titles, text: &[u8]) -> Result<(), Want>
+    ensures { OnOk result (out.new ≡ out.old ++ lines.verdict_text titles.now (spec.Clauses text.now)) }
+{
+    put(out, "clauses\n")?;
+    out.append(text)?;
+    Ok(())
+}
+
+/// Appends the verdict that the definitions' query has no clauses.
+#[tactic(auto, unfolding(crate::specs::Lines::verdict_text))]
+pub fn put_no_clauses(out: &mut Bytes, titles: &Titles) -> Result<(), Want>
+    ensures { OnOk result (out.new ≡ out.old ++ lines.verdict_text titles.now spec.NoClauses) }
+{
+    put(out, "no clauses")
 }

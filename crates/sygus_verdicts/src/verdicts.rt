@@ -51,7 +51,7 @@ pub fn judge_all<T: Theory, J: Judge<T>, O: Sink, E: Sink>(
     ensures status { (result.status ≤ 1) ⊎ ((result.status ≡ 5) ⊎ (result.status ≡ 6)) }
     ensures right { AreJudgedFor T.Theory J.Judge limits.now claims.now.problems claims.now.statements result.answers }
 
-    // 0 and 1: every statement is judged, and 0 says that all hold
+    // 0 and 1: every statement is judged, and 0 says that all are good
     ensures every { result.status ≤ 1 → length result.answers ≡ length claims.now.problems }
     ensures replied { result.status ≤ 1 → Appends (O.written out.old) (O.written out.new)
         (verdict_lines claims.now.titles 1 (verdicts_for J.Judge result.answers)) }
@@ -149,7 +149,7 @@ fn found_of<T: Theory, J: Judge<T>>(
     }
 }
 
-/// 0 where all definitions solve their problems, else 1.
+/// 0 where all verdicts are good, else 1.
 fn status_of<T: Theory, J: Judge<T>>(answers: &[Option<J::Found>]) -> u8
     ensures { result ≡ verdicts_status (verdicts_for J.Judge answers.now) }
 {
@@ -161,7 +161,7 @@ fn status_of<T: Theory, J: Judge<T>>(answers: &[Option<J::Found>]) -> u8
     0
 }
 
-/// Whether there are definitions, and they solve the problem.
+/// Whether there are definitions, and the verdict on them is good.
 fn is_good<T: Theory, J: Judge<T>>(answer: &Option<J::Found>) -> bool
     ensures { result ≡ spec.is_good (verdict_for J.Judge answer.now) }
 {

@@ -6,7 +6,7 @@ use Rattle.sy_grammar_base.specs.Questions.{question_of}
 use Rattle.sygus_judged.proofs.job.judge_job.Goals as goal
 
 pub returns-in-Idle-clause-ends : goal.returns-in-Idle-clause-ends
-returns-in-Idle-clause-ends g c = rw c.in-Idle.is (c.judge_none.ensures.ends c.args.limits.now (g.O.Sink.written c.args.out.now))
+returns-in-Idle-clause-ends g c = rw c.in-Idle.is (c.judge_none.ensures.ends (g.O.Sink.written c.args.out.now))
 
 pub judge_ints-requires-clause-few : goal.judge_ints-requires-clause-few
 judge_ints-requires-clause-few g c =

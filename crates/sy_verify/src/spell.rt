@@ -1,0 +1,42 @@
+// The clauses of the query of bodies.
+ghost use Rattle.std.specs.Prelude.{IfOk};
+ghost use Rattle.sy_terms_laws.specs.Evaluation.{BodiesFit};
+ghost use Rattle.sy_grammar_base.specs.Fits.{ProblemFits};
+ghost use Rattle.sy_grammar_base.specs.Questions.{signatures};
+ghost use Rattle.sy_verify.specs.Clauses.{IsSpelledFor};
+
+use crate::clause_writer::ClauseWriter;
+use std::alloc::Global;
+use sy_grammar_base::Problem;
+use sy_io::Bytes;
+use sy_terms::{Bodies, Theory, Want};
+
+/// What is said of the bodies of a problem's functions whose query's clauses are asked for: the first of these cases
+/// that applies.
+#[derive(Drop)]
+pub enum Spelled {
+    /// The function of this number is the first whose body is no member of its grammar.
+    NotMember(u32),
+    /// The bodies' query weighs more than the limit.
+    Heavy,
+    /// The text of clauses of the bodies' query.
+    Clauses(Bytes),
+    /// The bodies' query has no clauses.
+    NoClauses,
+}
+
+/// The clauses of the query of the problem and the bodies, where they are members of their grammars and it weighs no more
+/// than `limit`. `Want` comes where memory runs out, where 32 bits don't count a function or one of the query's positions,
+/// and where the writer answers it.
+pub fn spell<T: Theory, W: ClauseWriter<T>>(
+    alloc: Global,
+    problem: &Problem<T>,
+    bodies: &Bodies<T>,
+    limit: u32,
+) -> Result<Spelled, Want>
+    requires problem { ProblemFits T.Theory problem.now }
+    requires bodies { BodiesFit T.owned T.denotes problem.now.defs bodies.now (signatures problem.now) }
+    ensures { IfOk result (IsSpelledFor T.Theory W.ClauseWriter problem.now limit bodies.now) }
+{
+    Err(Want {})
+}
