@@ -4,12 +4,13 @@ import pathlib
 TOP = pathlib.Path(__file__).resolve().parent.parent.parent
 # The most bytes of an input.
 LONGEST = 4194304
-# Files of examples/ that no default limit answers, or none within half a minute.
-SLOW = "clauses_16_bits clauses_100000 bank_40000 nodes_4000 pivots_10000 weight_64_bits".split()
+# Limits within which each file of examples/ is answered, or given up, in seconds.
+BOUNDS = "--bank 5000 --weight 50000 --clauses 3000 --nodes 300".split()
 
 
-def examples():
-    return [path for path in sorted((TOP / "examples").rglob("*.sl")) if path.stem not in SLOW]
+def files():
+    for folder in (TOP / "examples", TOP / "tools" / "tests" / "runs"):
+        yield from sorted(folder.rglob("*.sl"))
 
 
 def is_proof(line):
@@ -23,11 +24,11 @@ def verdicts(out):
 
 
 def accepted(run, program):
-    """Each file of examples/ has the answers that it has without proofs, and all proofs are accepted."""
-    for path in examples():
+    """Each file has the answers that it has without proofs, and all proofs are accepted."""
+    for path in files():
         text = path.read_text()
-        plain = run(program, [str(path)])
-        status, out, err = run(program, ["--proofs", str(path)])
+        plain = run(program, [*BOUNDS, str(path)])
+        status, out, err = run(program, [*BOUNDS, "--proofs", str(path)])
         without = "".join(line for line in out.splitlines(True) if not is_proof(line))
         yield f"{path.name} without its proofs", (status, without, err) == plain
         if status < 2 and len(text) + len(out) <= LONGEST:

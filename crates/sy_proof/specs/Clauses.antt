@@ -5,18 +5,14 @@ use Rattle.sy_text_reader.specs.Spelling.{numeral_text}
 use Rattle.sy_clauses.specs.declared.Cnf.{Cnf}
 use Rattle.sy_clauses.specs.declared.Lit.{Lit}
 
--- the number of the variable, from 1 on, behind a minus where it is negated
+-- the number of the variable, from 1 on, behind a minus where it is negated, and a space
 abbrev pub literal_text : Lit → List ℕ
-literal_text literal = (if literal.positive then [] else codes "-") ++ numeral_text (literal.var + 1)
+literal_text literal = (if literal.positive then [] else codes "-") ++ (numeral_text (literal.var + 1) ++ codes " ")
 
--- each literal and a space
-abbrev pub literals_text : List Lit → List ℕ
-literals_text literals = concat (map (λ literal. literal_text literal ++ codes " ") literals)
-
--- each clause behind byte 10, and ended by 0
-abbrev pub clause_lines : List (List Lit) → List ℕ
-clause_lines clauses = concat (map (λ clause. codes "\n" ++ literals_text clause ++ codes "0") clauses)
+-- byte 10, each literal, and 0
+abbrev pub clause_text : List Lit → List ℕ
+clause_text clause = codes "\n" ++ (concat (map literal_text clause) ++ codes "0")
 
 abbrev pub clauses_text : Cnf → List ℕ
 clauses_text cnf =
-    codes "p cnf " ++ numeral_text cnf.vars ++ codes " " ++ numeral_text (length cnf.clauses) ++ clause_lines cnf.clauses
+    codes "p cnf " ++ (numeral_text cnf.vars ++ (codes " " ++ (numeral_text (length cnf.clauses) ++ concat (map clause_text cnf.clauses))))

@@ -17,7 +17,7 @@ use Rattle.sy_verify.specs.declared.clause_writer.ClauseWriter.{Ghosts as Writer
 use Rattle.sy_verify.specs.declared.posed.Posed.{Posed}
 use Rattle.sy_verify.specs.declared.proof_checker.ProofChecker.{Ghosts as CheckerOf}
 use Rattle.sy_verify.specs.declared.rechecked.Rechecked.{Rechecked}
-use Rattle.sy_verify.specs.declared.spell.Spelled.{Spelled}
+use Rattle.sy_verify.specs.declared.spelled.Spelled.{Spelled}
 
 abbrev pub PosesFor : {T N : Type 0} → TheoryOf T N → Problem T N → ℕ → List (Term T N) → Posed T N → Type 0
 PosesFor theory problem limit bodies =

@@ -6,8 +6,8 @@ use Rattle.sy_grammar_base.specs.Questions.{Question}
 use Rattle.sy_query_base.specs.Asked.{Query}
 use Rattle.sy_query_base.specs.Queries.{violating}
 use Rattle.sy_verify.specs.Posing.{IsFirstOutside, IsHeavy, IsPosed}
-use Rattle.sy_verify.specs.declared.spell.Spelled.{Spelled}
-use Rattle.sy_verify.specs.declared.spell.Spelled.TheVariants.{NotMember, Heavy, Clauses, NoClauses}
+use Rattle.sy_verify.specs.declared.spelled.Spelled.{Spelled}
+use Rattle.sy_verify.specs.declared.spelled.Spelled.TheVariants.{NotMember, Heavy, Clauses, NoClauses}
 
 abbrev pub IsSpelled : (Op → Bool) → (Query → List ℕ → Type 0) → (Query → Type 0) → Question → ℕ → List Expr → Spelled → Type 0
 IsSpelled owned spells lacks question limit bodies (NotMember function) = IsFirstOutside question.goals bodies function

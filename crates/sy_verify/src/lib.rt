@@ -7,15 +7,13 @@ mod judge;
 mod members;
 mod posed;
 mod proof_checker;
-mod recheck;
 mod rechecked;
-mod spell;
+mod spelled;
 
 pub use checked::Checked;
 pub use clause_writer::ClauseWriter;
 pub use judge::verify;
 pub use posed::{Posed, pose};
 pub use proof_checker::{Checking, ProofChecker};
-pub use recheck::recheck;
-pub use rechecked::Rechecked;
-pub use spell::{Spelled, spell};
+pub use rechecked::{Rechecked, recheck};
+pub use spelled::{Spelled, spell};

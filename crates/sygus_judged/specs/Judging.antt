@@ -24,7 +24,7 @@ use Rattle.sy_verify.specs.Checking.{IsChecked}
 use Rattle.sy_verify.specs.Spelling.{IsSpelled}
 use Rattle.sy_verify.specs.declared.checked.Checked.{Checked}
 use Rattle.sy_verify.specs.declared.rechecked.Rechecked.{Rechecked}
-use Rattle.sy_verify.specs.declared.spell.Spelled.{Spelled}
+use Rattle.sy_verify.specs.declared.spelled.Spelled.{Spelled}
 use Rattle.sy_verify_logs.specs.Logs as logs
 use Rattle.sy_verify_trees.specs.Trees as trees
 use Rattle.sygus_answers.specs.Answers.{AreOfLogic}

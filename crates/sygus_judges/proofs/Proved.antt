@@ -1,8 +1,8 @@
 -- What is found of proofs and clauses can be written.
 use Rattle.sy_verify.specs.declared.rechecked.Rechecked.{Rechecked}
 use Rattle.sy_verify.specs.declared.rechecked.Rechecked.TheVariants as rechecked
-use Rattle.sy_verify.specs.declared.spell.Spelled.{Spelled}
-use Rattle.sy_verify.specs.declared.spell.Spelled.TheVariants as spelled
+use Rattle.sy_verify.specs.declared.spelled.Spelled.{Spelled}
+use Rattle.sy_verify.specs.declared.spelled.Spelled.TheVariants as spelled
 use Rattle.sygus_verdicts.specs.Verdicts.{IsPrintable}
 use Rattle.sygus_judges.specs.Proofs.{verdict_rechecked, verdict_spelled}
 

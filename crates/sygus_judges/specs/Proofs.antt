@@ -9,8 +9,8 @@ use Rattle.sy_query_base.specs.Asked.{Query}
 use Rattle.sy_verify.specs.Rechecking.{IsRechecked}
 use Rattle.sy_verify.specs.declared.rechecked.Rechecked.{Rechecked}
 use Rattle.sy_verify.specs.declared.rechecked.Rechecked.TheVariants as rechecked
-use Rattle.sy_verify.specs.declared.spell.Spelled.{Spelled}
-use Rattle.sy_verify.specs.declared.spell.Spelled.TheVariants as spelled
+use Rattle.sy_verify.specs.declared.spelled.Spelled.{Spelled}
+use Rattle.sy_verify.specs.declared.spelled.Spelled.TheVariants as spelled
 use Rattle.sygus_verdicts.specs.Verdicts as verdicts
 
 -- definitions without a proof are rejected
