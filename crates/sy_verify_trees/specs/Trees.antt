@@ -49,4 +49,4 @@ abbrev pub SpellsClauses : Query → List ℕ → Type 0
 SpellsClauses query text = ⊥
 
 abbrev pub LacksClauses : Query → Type 0
-LacksClauses query = ⊤
+LacksClauses query = Unit {0}

@@ -17,10 +17,10 @@ use Rattle.sy_scope_causes.specs.declared.titles.Titles.{Titles}
 use Rattle.sygus_answers.specs.Answers.{replies_of, AreNamedFor, AreOfLogic}
 use Rattle.sygus_verdicts.proofs.Steps.{appended_nothing, lines-none}
 use Rattle.sygus_verdicts.specs.Clauses.{verdicts_for}
-use Rattle.sygus_verdicts.specs.Verdicts.{verdict_on}
+use Rattle.sygus_verdicts.specs.Verdicts.{verdict_on, verdicts_status}
 use Rattle.sygus_verdicts.specs.declared.judge.Judge.{Ghosts as JudgeOf}
 use Rattle.sygus_words.specs.declared.settings.Settings.{Settings}
-use Rattle.sygus_verdicts.specs.Lines.{memory_line}
+use Rattle.sygus_verdicts.specs.Lines.{memory_line, verdict_lines, WritesMostLines}
 use Rattle.sy_reply_statements.specs.Ends.{ReplyReading, RepliesEndAs, ◌>>=◌}
 use Rattle.sy_reply_statements.specs.Statements.{Statement}
 use Rattle.sy_reply_statements.specs.declared.end.ReplyEnd.{ReplyEnd}
@@ -30,7 +30,7 @@ use Rattle.sy_scope_names.specs.Jobs.{Wish, wished}
 use Rattle.sy_scope_steps.specs.Files.{file_read}
 use Rattle.sygus_answers.specs.declared.answers.Answers.{Answers}
 use Rattle.sygus_answers.specs.declared.answers.Answers.TheVariants.{Idle}
-use Rattle.sygus_judged.specs.Claimed.{EndsReplies, IsTold, JudgesWith, RefusesStatements, StopsReplies}
+use Rattle.sygus_judged.specs.Claimed.{EndsClaims, EndsReplies, IsTold, RefusesStatements, StopsReplies}
 use Rattle.sygus_judged.specs.Ends.{JudgesFile, RefusesReplies, StopsJudging}
 use Rattle.sygus_judged.specs.Judging.{AreOfMode, AreRightVerdicts, JudgesReplies, WritesVerdicts, WritesLines, WritesLinesCut, replies_read, verdicts_of, wants_proofs}
 
@@ -55,36 +55,53 @@ not_two status (inr high) is = omega (arith, high.0, is)
 
 -- ---- statements that are judged
 
-module _ {T N J F : Type 0} (theory : TheoryOf T N) (judge : JudgeOf J T F N) (logic : Logic) (settings : Settings) (file : List ℕ) (at : ℕ) (problems : List (Problem T N)) (titles : Titles) (status : ℕ) (found : List (Option F)) (out out' err err' : Option (List ℕ))
-    (judged : JudgesWith theory judge logic settings file at problems titles status found out out' err err') (answers : Answers) where
+module _ {T N J F : Type 0} (theory : TheoryOf T N) (judge : JudgeOf J T F N) (logic : Logic) (settings : Settings) (problems : List (Problem T N)) (titles : Titles) (statements : List Statement) (status : ℕ) (found : List (Option F)) (out out' err err' : Option (List ℕ)) (answers : Answers) where
   -- what a judge finds is kept as answers
-  pub ends_kept : AreOfLogic (Some logic) answers → AreOfMode settings.mode answers → AreRightVerdicts settings.limits (map (question_of theory.denotes) problems) judged.statements answers → replies_of answers ≡ [] → AreNamedFor answers
-      → verdicts_of answers ≡ verdicts_for judge found → EndsReplies settings file at (wish_over theory.denotes logic (problems, titles)) status answers out out' err err'
-  ends_kept kept mode right unsolved named verdicts =
-      let judges : (Written : Wish → Type 0) → Written (wish_over theory.denotes logic (problems, titles)) → JudgesReplies settings file at (wish_over theory.denotes logic (problems, titles)) answers Written = λ Written written. record {
-        statements = judged.statements;
-        stated = judged.stated;
-        logic = kept;
-        mode = mode;
-        right = right;
-        written = written;
-      } in
-      record {
-        only = only status judged.only;
-        unsolved = unsolved;
-        named = named;
-        judged = λ small. judges (WritesVerdicts status answers out out' err err') (record {
-          every = ap length verdicts ∙ length-map found (verdict_on judge.verdict) ∙ judged.every small ∙ sym (length-map problems (question_of theory.denotes));
-          lined = rw verdicts (judged.lined small);
-          good = rw verdicts (judged.good small);
-          silent = judged.silent small;
-        });
-        cut_off = λ is. inr (judges (WritesLinesCut answers out out') (rw verdicts (judged.cut_off is)));
-        memory = λ is. inr (judges (WritesLines answers out out') (rw verdicts (judged.memory is)));
-        memory_line = judged.memory_line;
-        refused = λ is. absurd (never_seven status judged.only is);
-        idle = λ is. absurd (never_seven status judged.only is);
-      }
+  pub ends_kept : AreOfLogic (Some logic) answers → AreOfMode settings.mode answers → AreRightVerdicts settings.limits (map (question_of theory.denotes) problems) statements answers → replies_of answers ≡ [] → AreNamedFor answers → verdicts_of answers ≡ verdicts_for judge found
+      → (status ≤ 1) ⊎ ((status ≡ 5) ⊎ (status ≡ 6)) → (status ≤ 1 → length found ≡ length problems) → (status ≤ 1 → Appends out out' (verdict_lines titles 1 (verdicts_for judge found))) → (status ≤ 1 → status ≡ verdicts_status (verdicts_for judge found)) → (status ≤ 1 → err' ≡ err)
+      → (status ≡ 5 → WritesMostLines titles (verdicts_for judge found) out out') → (status ≡ 6 → Appends out out' (verdict_lines titles 1 (verdicts_for judge found))) → (status ≡ 6 → Appends err err' memory_line)
+      → EndsClaims settings (wish_over theory.denotes logic (problems, titles)) statements status answers out out' err err'
+  ends_kept kept mode right unsolved named verdicts within every lined good silent cut memory line = record {
+    only = within;
+    logic = kept;
+    mode = mode;
+    right = right;
+    unsolved = unsolved;
+    named = named;
+    judged = λ small. record {
+      every = ap length verdicts ∙ length-map found (verdict_on judge.verdict) ∙ every small ∙ sym (length-map problems (question_of theory.denotes));
+      lined = rw verdicts (lined small);
+      good = rw verdicts (good small);
+      silent = silent small;
+    };
+    cut_off = λ is. rw verdicts (cut is);
+    memory = λ is. rw verdicts (memory is);
+    memory_line = line;
+  }
+
+module _ (settings : Settings) (file : List ℕ) (at : ℕ) (wish : Wish) (statements : List Statement) (status : ℕ) (answers : Answers) (out out' err err' : Option (List ℕ)) (ends : EndsClaims settings wish statements status answers out out' err err') (stated : replies_read (wants_proofs settings.mode) file at wish ≡ Ok statements) where
+  judges : (Written : Wish → Type 0) → Written wish → JudgesReplies settings file at wish answers Written
+  judges Written written = record {
+    statements = statements;
+    stated = stated;
+    logic = ends.logic;
+    mode = ends.mode;
+    right = ends.right;
+    written = written;
+  }
+
+  pub ends_claims : EndsReplies settings file at wish status answers out out' err err'
+  ends_claims = record {
+    only = only status ends.only;
+    unsolved = ends.unsolved;
+    named = ends.named;
+    judged = λ small. judges (WritesVerdicts status answers out out' err err') (ends.judged small);
+    cut_off = λ is. inr (judges (WritesLinesCut answers out out') (ends.cut_off is));
+    memory = λ is. inr (judges (WritesLines answers out out') (ends.memory is));
+    memory_line = ends.memory_line;
+    refused = λ is. absurd (never_seven status ends.only is);
+    idle = λ is. absurd (never_seven status ends.only is);
+  }
 
 -- ---- statements that aren't read
 

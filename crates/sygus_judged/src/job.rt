@@ -1,5 +1,5 @@
 // Judging the replies to the problems of a file.
-ghost use Rattle.std.specs.Prelude.{◌≡◌, ◌≤◌, ◌⊎◌, ℕ, List, Option, true, length, map, IfOk, IfErr, OnErr};
+ghost use Rattle.std.specs.Prelude.{◌≡◌, ◌≤◌, ◌⊎◌, ℕ, List, Option, true, length, map, IfOk};
 ghost use Rattle.std.specs.Io.KnownBytes.{Appends};
 ghost use Rattle.sy_io.specs.Causes.{Rose};
 ghost use Rattle.sy_meaning_integers.specs.Lia as lia;
@@ -14,10 +14,9 @@ ghost use Rattle.sy_reply_statements.specs.Fitting.{AreStatedFor};
 ghost use Rattle.sy_reply_statements.specs.Statements.{statement_of};
 ghost use Rattle.sy_scope.specs.Fit.{JobFits, ProblemsFit};
 ghost use Rattle.sy_scope.specs.Read.{wish_in, wish_over};
-ghost use Rattle.sy_grammar_base.specs.Fits.{ProblemFits};
 ghost use Rattle.sygus_verdicts.specs.Lines.{memory_line};
 ghost use Rattle.sygus_input.specs.Inputs.{judges};
-ghost use Rattle.sygus_judged.specs.Claimed.{EndsReplies, IsTold, JudgesWith};
+ghost use Rattle.sygus_judged.specs.Claimed.{EndsClaims, EndsReplies, IsTold};
 ghost use Rattle.sygus_judged.specs.Judging as spec;
 
 use std::alloc::Global;
@@ -32,11 +31,11 @@ use sy_reply_statements::{ReplyEnd, reply_refusal_text};
 use sy_scope::Job;
 use sy_scope_causes::Titles;
 use sy_terms::{Logic, Seq, Theory};
-use sygus_answers::{Answers, Ended, unanswered};
 use sy_verify_logs::{LogChecker, LogClauses};
 use sy_verify_trees::{NoClauses, TreeChecker};
+use sygus_answers::{Answers, Ended, unanswered};
 use sygus_judges::{Rechecking, Spelling, Verifying};
-use sygus_verdicts::{Claims, Judge, Judged, judge_all};
+use sygus_verdicts::{Claims, judge_all};
 use sygus_words::{Mode, Settings};
 
 /// Replies to be judged: the settings of the run, the bytes of the file, and the offset from which they stand.
@@ -67,8 +66,18 @@ pub(crate) fn judge_job<O: Sink, E: Sink>(
 {
     match job {
         Job::Idle => judge_none(alloc, replies, err),
-        Job::Ints(problems, titles) => judge_ints(alloc, replies, problems, titles, out, err),
-        Job::Bits(problems, titles) => judge_bits(alloc, replies, problems, titles, out, err),
+        Job::Ints(problems, titles) => {
+            match claims_of(alloc, replies, Logic::Lia, problems, titles) {
+                Ok(claims) => judge_ints(alloc, &claims, replies.settings, out, err),
+                Err(end) => refused_replies(alloc, replies.file, end, err),
+            }
+        }
+        Job::Bits(problems, titles) => {
+            match claims_of(alloc, replies, Logic::Bv, problems, titles) {
+                Ok(claims) => judge_bits(alloc, &claims, replies.settings, out, err),
+                Err(end) => refused_replies(alloc, replies.file, end, err),
+            }
+        }
     }
 }
 
@@ -95,155 +104,108 @@ fn judge_none<E: Sink>(alloc: Global, replies: &Replies<'_>, err: &mut E) -> End
     }
 }
 
-/// Judges the replies to problems over integers.
+/// Judges what replies state on problems over integers, by the judge of the mode.
 fn judge_ints<O: Sink, E: Sink>(
     alloc: Global,
-    replies: &Replies<'_>,
-    problems: Seq<Problem<IntTheory>>,
-    titles: Titles,
+    claims: &Claims<IntTheory>,
+    settings: &Settings,
     out: &mut O,
     err: &mut E,
 ) -> Ended
-    requires mode { judges replies.now.settings.now.mode ≡ true }
-    requires at { replies.now.at ≤ length replies.now.file.now }
-    requires few { length problems ≤ 16 }
-    requires fit { ProblemsFit lia.owned lia.numeric Whole problems }
-    ensures ends { EndsReplies replies.now.settings.now replies.now.file.now replies.now.at
-        (wish_over Whole Lia (problems, titles)) result.status result.answers
+    requires mode { judges settings.now.mode ≡ true }
+    requires few { length claims.now.problems ≤ 16 }
+    requires fit { ProblemsFit lia.owned lia.numeric Whole claims.now.problems }
+    requires stated { AreStatedFor ⟦<IntTheory as Theory>⟧ claims.now.problems claims.now.statements }
+    ensures ends { EndsClaims settings.now (wish_over Whole Lia (claims.now.problems, claims.now.titles))
+        (map (statement_of Whole) claims.now.statements) result.status result.answers
         (O.written out.old) (O.written out.new) (E.written err.old) (E.written err.new) }
     ensures write { result.status ≡ 5 → Rose (O.faults out.old) (O.faults out.new) ⊎ Rose (E.faults err.old)
         (E.faults err.new) }
-    ensures silent { result.status ≡ 7 → out.new ≡ out.old }
 {
-    match replies.settings.mode {
+    let limits = &settings.limits;
+    match settings.mode {
         Mode::Check => {
             let mut judge = Verifying {
                 decide: IntDecide::new(),
             };
-            match judge_with(alloc, replies, Logic::Lia, problems, titles, &mut judge, out, err) {
-                Ok(judged) => Ended {
-                    status: judged.status,
-                    answers: Answers::IntChecks(judged.answers),
-                },
-                Err(ended) => ended,
+            let judged = judge_all(alloc, claims, limits, &mut judge, out, err);
+            Ended {
+                status: judged.status,
+                answers: Answers::IntChecks(judged.answers),
             }
         }
         Mode::Recheck => {
             let mut judge = Rechecking {
                 checker: TreeChecker,
             };
-            match judge_with(alloc, replies, Logic::Lia, problems, titles, &mut judge, out, err) {
-                Ok(judged) => Ended {
-                    status: judged.status,
-                    answers: Answers::IntRechecks(judged.answers),
-                },
-                Err(ended) => ended,
+            let judged = judge_all(alloc, claims, limits, &mut judge, out, err);
+            Ended {
+                status: judged.status,
+                answers: Answers::IntRechecks(judged.answers),
             }
         }
         Mode::Clauses => {
             let mut judge = Spelling { writer: NoClauses };
-            match judge_with(alloc, replies, Logic::Lia, problems, titles, &mut judge, out, err) {
-                Ok(judged) => Ended {
-                    status: judged.status,
-                    answers: Answers::IntSpellings(judged.answers),
-                },
-                Err(ended) => ended,
+            let judged = judge_all(alloc, claims, limits, &mut judge, out, err);
+            Ended {
+                status: judged.status,
+                answers: Answers::IntSpellings(judged.answers),
             }
         }
         Mode::Solve | Mode::Least | Mode::Drill(_) => unreachable!(),
     }
 }
 
-/// Judges the replies to problems over bit vectors.
+/// Judges what replies state on problems over bit vectors, by the judge of the mode.
 fn judge_bits<O: Sink, E: Sink>(
     alloc: Global,
-    replies: &Replies<'_>,
-    problems: Seq<Problem<BvTheory>>,
-    titles: Titles,
+    claims: &Claims<BvTheory>,
+    settings: &Settings,
     out: &mut O,
     err: &mut E,
 ) -> Ended
-    requires mode { judges replies.now.settings.now.mode ≡ true }
-    requires at { replies.now.at ≤ length replies.now.file.now }
-    requires few { length problems ≤ 16 }
-    requires fit { ProblemsFit vectors.owned vectors.is_bits vectors.vector problems }
-    ensures ends { EndsReplies replies.now.settings.now replies.now.file.now replies.now.at
-        (wish_over vectors.vector Bv (problems, titles)) result.status result.answers
+    requires mode { judges settings.now.mode ≡ true }
+    requires few { length claims.now.problems ≤ 16 }
+    requires fit { ProblemsFit vectors.owned vectors.is_bits vectors.vector claims.now.problems }
+    requires stated { AreStatedFor ⟦<BvTheory as Theory>⟧ claims.now.problems claims.now.statements }
+    ensures ends { EndsClaims settings.now (wish_over vectors.vector Bv (claims.now.problems, claims.now.titles))
+        (map (statement_of vectors.vector) claims.now.statements) result.status result.answers
         (O.written out.old) (O.written out.new) (E.written err.old) (E.written err.new) }
     ensures write { result.status ≡ 5 → Rose (O.faults out.old) (O.faults out.new) ⊎ Rose (E.faults err.old)
         (E.faults err.new) }
-    ensures silent { result.status ≡ 7 → out.new ≡ out.old }
 {
-    match replies.settings.mode {
+    let limits = &settings.limits;
+    match settings.mode {
         Mode::Check => {
             let mut judge = Verifying {
                 decide: BvDecide::new(),
             };
-            match judge_with(alloc, replies, Logic::Bv, problems, titles, &mut judge, out, err) {
-                Ok(judged) => Ended {
-                    status: judged.status,
-                    answers: Answers::BitChecks(judged.answers),
-                },
-                Err(ended) => ended,
+            let judged = judge_all(alloc, claims, limits, &mut judge, out, err);
+            Ended {
+                status: judged.status,
+                answers: Answers::BitChecks(judged.answers),
             }
         }
         Mode::Recheck => {
             let mut judge = Rechecking {
                 checker: LogChecker,
             };
-            match judge_with(alloc, replies, Logic::Bv, problems, titles, &mut judge, out, err) {
-                Ok(judged) => Ended {
-                    status: judged.status,
-                    answers: Answers::BitRechecks(judged.answers),
-                },
-                Err(ended) => ended,
+            let judged = judge_all(alloc, claims, limits, &mut judge, out, err);
+            Ended {
+                status: judged.status,
+                answers: Answers::BitRechecks(judged.answers),
             }
         }
         Mode::Clauses => {
             let mut judge = Spelling { writer: LogClauses };
-            match judge_with(alloc, replies, Logic::Bv, problems, titles, &mut judge, out, err) {
-                Ok(judged) => Ended {
-                    status: judged.status,
-                    answers: Answers::BitSpellings(judged.answers),
-                },
-                Err(ended) => ended,
+            let judged = judge_all(alloc, claims, limits, &mut judge, out, err);
+            Ended {
+                status: judged.status,
+                answers: Answers::BitSpellings(judged.answers),
             }
         }
         Mode::Solve | Mode::Least | Mode::Drill(_) => unreachable!(),
     }
-}
-
-/// Reads the replies to problems of a theory, and judges them by this judge; or ends, where they aren't read.
-fn judge_with<T: Theory, J: Judge<T>, O: Sink, E: Sink>(
-    alloc: Global,
-    replies: &Replies<'_>,
-    logic: Logic,
-    problems: Seq<Problem<T>>,
-    titles: Titles,
-    judge: &mut J,
-    out: &mut O,
-    err: &mut E,
-) -> Result<Judged<J::Found>, Ended>
-    requires at { replies.now.at ≤ length replies.now.file.now }
-    requires theory { IsTheoryOf logic T.owned T.numeric }
-    requires few { length problems ≤ 16 }
-    requires fit { ProblemsFit T.owned T.numeric T.denotes problems }
-    ensures judged { IfOk result (λ judged. JudgesWith T.Theory J.Judge logic replies.now.settings.now replies.now.file.now
-        replies.now.at problems titles judged.status judged.answers (O.written out.old) (O.written out.new) (E.written err.old) (E.written err.new)) }
-    ensures ended { IfErr result (λ ended. EndsReplies replies.now.settings.now replies.now.file.now replies.now.at
-        (wish_over T.denotes logic (problems, titles)) ended.status ended.answers
-        (O.written out.old) (O.written out.new) (E.written err.old) (E.written err.new)) }
-    ensures write { IfOk result (λ judged. judged.status ≡ 5 → Rose (O.faults out.old) (O.faults out.new)
-        ⊎ Rose (E.faults err.old) (E.faults err.new)) }
-    ensures write_ended { IfErr result (λ ended. ended.status ≡ 5 → Rose (E.faults err.old) (E.faults err.new)) }
-    ensures silent { OnErr result (out.new ≡ out.old) }
-{
-    let claims = match claims_of(alloc, replies, logic, problems, titles) {
-        Ok(claims) => claims,
-        Err(end) => return Err(refused_replies(alloc, replies.file, end, err)),
-    };
-    let judged = judge_all(alloc, &claims, &replies.settings.limits, judge, out, err);
-    Ok(judged)
 }
 
 /// The problems of a file with what its replies state on each.

@@ -1,16 +1,19 @@
-use Rattle.std.proofs.Common.{refl}
+use Rattle.std.proofs.Common.{refl, ap}
 use Rattle.sy_terms.specs.declared.sort.Logic.TheVariants.{Bv}
 use Rattle.sygus_judged.proofs.Judged.{ends_kept}
 use Rattle.sygus_judged.proofs.job.judge_bits.Goals as goal
 
-pub returns-in-Check-Ok-clause-ends : goal.returns-in-Check-Ok-clause-ends
-returns-in-Check-Ok-clause-ends g c =
-    ends_kept _ _ Bv _ _ _ _ _ _ _ _ _ _ _ c.in-Check-Ok.ensures.judged _ refl c.in-Check.is c.in-Check-Ok.ensures.judged.right refl tt refl
+pub returns-in-Check-clause-ends : goal.returns-in-Check-clause-ends
+returns-in-Check-clause-ends g c =
+    let judged = c.judge_all-judged.ensures in
+    ends_kept _ _ Bv _ _ _ _ _ _ _ _ _ _ _ refl c.in-Check.is judged.right refl tt refl judged.status judged.every judged.replied judged.good (λ small. ap g.E.Sink.written (judged.silent small)) judged.cut_off judged.memory judged.memory_line
 
-pub returns-in-Recheck-Ok-clause-ends : goal.returns-in-Recheck-Ok-clause-ends
-returns-in-Recheck-Ok-clause-ends g c =
-    ends_kept _ _ Bv _ _ _ _ _ _ _ _ _ _ _ c.in-Recheck-Ok.ensures.judged _ refl c.in-Recheck.is c.in-Recheck-Ok.ensures.judged.right refl tt refl
+pub returns-in-Recheck-clause-ends : goal.returns-in-Recheck-clause-ends
+returns-in-Recheck-clause-ends g c =
+    let judged = c.judge_all-judged-in-Recheck.ensures in
+    ends_kept _ _ Bv _ _ _ _ _ _ _ _ _ _ _ refl c.in-Recheck.is judged.right refl tt refl judged.status judged.every judged.replied judged.good (λ small. ap g.E.Sink.written (judged.silent small)) judged.cut_off judged.memory judged.memory_line
 
-pub returns-in-Clauses-Ok-clause-ends : goal.returns-in-Clauses-Ok-clause-ends
-returns-in-Clauses-Ok-clause-ends g c =
-    ends_kept _ _ Bv _ _ _ _ _ _ _ _ _ _ _ c.in-Clauses-Ok.ensures.judged _ refl c.in-Clauses.is c.in-Clauses-Ok.ensures.judged.right refl tt refl
+pub returns-in-Clauses-clause-ends : goal.returns-in-Clauses-clause-ends
+returns-in-Clauses-clause-ends g c =
+    let judged = c.judge_all-judged-in-Clauses.ensures in
+    ends_kept _ _ Bv _ _ _ _ _ _ _ _ _ _ _ refl c.in-Clauses.is judged.right refl tt refl judged.status judged.every judged.replied judged.good (λ small. ap g.E.Sink.written (judged.silent small)) judged.cut_off judged.memory judged.memory_line
