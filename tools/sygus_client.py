@@ -47,7 +47,9 @@ LIMITS = {
     "nodes": 8000,
     "pivots": 100000,
 }
-MODES = ("solve", "least", "check", "drill")
+# The options without a value, which stand in mode `solve` alone.
+FLAGS = ("proofs",)
+MODES = ("solve", "least", "check", "recheck", "clauses", "drill")
 TIME_IS_UP, INTERRUPTED = 124, 130
 # What each status of a call says.
 STATUSES = {
@@ -65,7 +67,10 @@ STATUSES = {
 }
 FAIL = re.compile(r"^fail: check-synth (\d+) (\w+)$", re.M)
 REFUSED = re.compile(r"^refused: command (\d+) line (\d+) column (\d+) cause (\d+) (\w+)(?: (\w+))?$", re.M)
-VERDICT = re.compile(r"^check-synth \d+ (holds|no definitions|not in grammar|refuted|budget \w+)", re.M)
+VERDICT = re.compile(
+    r"^check-synth \d+ (holds|accepted|proof rejected|no definitions|not in grammar|refuted|budget \w+|clauses|no clauses)",
+    re.M,
+)
 # An answer that docs/USAGE.md has advice on, as a row of its tables.
 ADVICE = re.compile(r"^\| `(\w+)` \| (.*) \| (1\. .*) \|$", re.M)
 TOKEN = re.compile(r";[^\n\r]*|\|[^|]*\||\"(?:[^\"]|\"\")*\"|[()]|[^\s()|\";]+")
@@ -115,12 +120,16 @@ class Definition:
 
 @dataclasses.dataclass
 class Answer:
-    """The answer to a `check-synth`: its kind is `definitions`, `infeasible` or `fail`, which has a cause."""
+    """The answer to a `check-synth`: its kind is `definitions`, `infeasible` or `fail`, which has a cause.
+
+    The proof of definitions is a line of text, where it was asked for.
+    """
 
     kind: str
     definitions: list = dataclasses.field(default_factory=list)
     cause: str = ""
     text: str = ""
+    proof: str = ""
 
     def word(self):
         return f"fail {self.cause}".strip() if self.kind == "fail" else self.kind
@@ -186,6 +195,9 @@ def answers_of(output, errors=""):
         if item in ("infeasible", "fail"):
             cause = causes.get(len(answers) + 1, "") if item == "fail" else ""
             answers.append(Answer(item, [], cause, f"{item}\n"))
+        elif item[0:1] in (["log"], ["tree"]):
+            if answers:
+                answers[-1].proof = f"{write_item(item)}\n"
         elif isinstance(item, list):
             found = [
                 definition_of(it) for it in item if isinstance(it, list) and len(it) == 5 and it[0] == "define-fun"
@@ -277,11 +289,13 @@ def build(wrapper):
 
 
 def words_of(options):
-    """Options by name as words of a command line: `size=20` is `--size 20`."""
-    unknown = sorted(set(options) - set(LIMITS) - {"mode"})
+    """Options by name as words of a command line: `size=20` is `--size 20`, and `proofs=True` is `--proofs`."""
+    unknown = sorted(set(options) - set(LIMITS) - {"mode", *FLAGS})
     if unknown:
-        raise TypeError(f"sygus has no option {unknown[0]}: it has mode, {', '.join(LIMITS)}")
-    return [word for name, value in options.items() if value is not None for word in (f"--{name}", str(value))]
+        raise TypeError(f"sygus has no option {unknown[0]}: it has mode, {', '.join([*LIMITS, *FLAGS])}")
+    flags = [f"--{name}" for name, value in options.items() if name in FLAGS and value]
+    given = [it for it in options.items() if it[0] not in FLAGS and it[1] is not None]
+    return [*flags, *(word for name, value in given for word in (f"--{name}", str(value)))]
 
 
 class Call:
@@ -406,7 +420,8 @@ def solve(problem, program=None, time=None, processor_time=None, memory=None, on
     """Runs sygus on a problem, a text or a pathlib.Path, and gives a `Result`.
 
     `time` and `processor_time` bound seconds, `memory` bytes; `on_output` gets each piece of output, as bytes, when it
-    comes. Other names are options of sygus: `size=20`, `mode="least"`. `Missing` where there is no program.
+    comes. Other names are options of sygus: `size=20`, `mode="least"`, `proofs=True`. `Missing` where there is no
+    program.
     """
     return start(problem, program, time, processor_time, memory, on_output, **options).result()
 

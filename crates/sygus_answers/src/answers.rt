@@ -10,7 +10,7 @@ use sy_loop_outcome::Outcome;
 use sy_meaning_integers::IntTheory;
 use sy_meaning_words::BvTheory;
 use sy_terms::Seq;
-use sy_verify::Checked;
+use sy_verify::{Checked, Rechecked, Spelled};
 use sygus_replies::last;
 
 /// The answers to the problems of a file, in order.
@@ -26,6 +26,14 @@ pub enum Answers {
     IntChecks(Seq<Option<Checked<IntTheory, Tree, IntSpent>>>),
     /// What was found of the reply to each `check-synth` over bit vectors; `None` where it gives no definitions.
     BitChecks(Seq<Option<Checked<BvTheory, BvProof, BvSpent>>>),
+    /// So of each reply over integers with the proof that follows it.
+    IntRechecks(Seq<Option<Rechecked>>),
+    /// So over bit vectors.
+    BitRechecks(Seq<Option<Rechecked>>),
+    /// So of the clauses of each reply over integers.
+    IntSpellings(Seq<Option<Spelled>>),
+    /// So over bit vectors.
+    BitSpellings(Seq<Option<Spelled>>),
 }
 
 /// How a run ended: the status of the program, and the answers.

@@ -1,14 +1,14 @@
 -- What words ask for, by their one reading.
-use Rattle.std.proofs.Common.{◌≡◌, ◌<◌, ◌+◌, ◌∙◌, refl, sym, List, ℕ, length, Some, None, arith}
+use Rattle.std.proofs.Common.{◌≡◌, ◌<◌, ◌+◌, ◌∙◌, refl, sym, ap, true, false, List, ℕ, length, Some, None, arith}
 use Rattle.std.specs.Prelude.{Option, IfSome, replicate}
 use Rattle.std.proofs.lemmas.List.{length-replicate}
 use Rattle.sy_io.specs.Source.{Holding, bytes_under}
 use Rattle.sy_query_limits.specs.declared.Limits.{Limits}
 use Rattle.sygus_words.proofs.Readings.{one_reading}
 use Rattle.sygus_words.specs.CommandLine.{IsReading}
-use Rattle.sygus_words.specs.declared.settings.Mode.TheVariants.{Check, Drill}
+use Rattle.sygus_words.specs.declared.settings.Mode.TheVariants.{Drill}
 use Rattle.sygus_words.specs.declared.settings.Settings.{Settings}
-use Rattle.sygus_input.specs.Inputs.{AskDrill, AskNoDrill, AskJudging, AskNoJudging, AskFile, AskReplies, HasNoFile, HasNoInput, IsFileOf, IsInput, IsInputBy, NameTooLong, longest}
+use Rattle.sygus_input.specs.Inputs.{AskDrill, AskNoDrill, AskJudging, AskNoJudging, AskFile, AskReplies, HasNoFile, HasNoInput, IsFileOf, IsInput, IsInputBy, NameTooLong, judges, longest}
 use Rattle.sygus_input.specs.declared.input.Input.{Input}
 use Rattle.sygus_input.specs.declared.input.Input.TheVariants as inputs
 use Rattle.sygus_input.specs.declared.input.InputFault.{InputFault}
@@ -42,36 +42,37 @@ asks_none words settings accepted other number limits asked =
     other number (one.0 ∙ asked.mode)
 
 -- for replies to be judged, or for none
-pub asks_judging : (words : List (List ℕ)) (settings : Settings) → IsReading words settings → settings.mode ≡ Check → AskJudging words
+pub asks_judging : (words : List (List ℕ)) (settings : Settings) → IsReading words settings → judges settings.mode ≡ true → AskJudging words
 asks_judging words settings accepted mode = record {
   settings = settings;
   accepted = accepted;
   mode = mode;
 }
 
-pub asks_no_judging : (words : List (List ℕ)) (settings : Settings) → IsReading words settings → (settings.mode ≡ Check → ⊥) → AskNoJudging words
+pub asks_no_judging : (words : List (List ℕ)) (settings : Settings) → IsReading words settings → judges settings.mode ≡ false → AskNoJudging words
 asks_no_judging words settings accepted other asked =
     let one = one_reading words settings asked.settings accepted asked.accepted in
-    other (one.0 ∙ asked.mode)
+    let both : false ≡ true = sym other ∙ ap judges one.0 ∙ asked.mode in
+    cc
 
 -- not for both
 pub asks_one : (words : List (List ℕ)) (number : ℕ) (limits : Limits) → AskDrill words number limits → AskJudging words → ⊥
 asks_one words number limits drill judging =
     let one = one_reading words drill.settings judging.settings drill.accepted judging.accepted in
-    let both = sym drill.mode ∙ one.0 ∙ judging.mode in
+    let both : false ≡ true = ap judges (sym drill.mode ∙ one.0) ∙ judging.mode in
     cc
 
 -- for the replies in the file under their name
-pub asks_replies : (words : List (List ℕ)) (held : Option Holding) (settings : Settings) (file : List ℕ) → IsReading words settings → AskNoDrill words → settings.mode ≡ Check → IsFileOf held settings file → AskReplies words held settings file
+pub asks_replies : (words : List (List ℕ)) (held : Option Holding) (settings : Settings) (file : List ℕ) → IsReading words settings → AskNoDrill words → judges settings.mode ≡ true → IsFileOf held settings file → AskReplies words held settings file
 asks_replies words held settings file accepted none mode of = record {
   no_drill = none;
-  judging = asks_judging words settings accepted mode;
+  mode = mode;
   named = record { accepted = accepted; told = of.told };
   short = of.short;
 }
 
 -- for the problems of the file under their name
-pub asks_file : (words : List (List ℕ)) (held : Option Holding) (settings : Settings) (file : List ℕ) → IsReading words settings → AskNoDrill words → (settings.mode ≡ Check → ⊥) → IsFileOf held settings file → AskFile words held settings file
+pub asks_file : (words : List (List ℕ)) (held : Option Holding) (settings : Settings) (file : List ℕ) → IsReading words settings → AskNoDrill words → judges settings.mode ≡ false → IsFileOf held settings file → AskFile words held settings file
 asks_file words held settings file accepted none other of = record {
   no_drill = none;
   no_judging = asks_no_judging words settings accepted other;

@@ -1,10 +1,11 @@
 -- What words ask a run for, and the file under their name.
-use Rattle.std.specs.Prelude.{ℕ, ◌≡◌, ◌<◌, ◌≤◌, List, length, Option, IfSome}
+use Rattle.std.specs.Prelude.{ℕ, Bool, true, false, ◌≡◌, ◌<◌, ◌≤◌, List, length, Option, IfSome}
 use Rattle.sy_io.specs.Causes.{Rose}
 use Rattle.sy_io.specs.Source.{Holding, bytes_under}
 use Rattle.sy_query_limits.specs.declared.Limits.{Limits}
 use Rattle.sygus_words.specs.CommandLine.{IsReading}
-use Rattle.sygus_words.specs.declared.settings.Mode.TheVariants.{Check, Drill}
+use Rattle.sygus_words.specs.declared.settings.Mode.{Mode}
+use Rattle.sygus_words.specs.declared.settings.Mode.TheVariants.{Solve, Least, Check, Recheck, Clauses, Drill}
 use Rattle.sygus_words.specs.declared.settings.Settings.{Settings}
 use Rattle.sygus_input.specs.declared.input.Input.{Input}
 use Rattle.sygus_input.specs.declared.input.Input.TheVariants as inputs
@@ -14,6 +15,15 @@ use Rattle.sygus_input.specs.declared.input.InputFault.TheVariants as faults
 -- the most bytes that a file may have
 abbrev pub longest : ℕ
 longest = 4194304
+
+-- the modes that judge the replies in a file
+abbrev pub judges : Mode → Bool
+judges Solve = false
+judges Least = false
+judges Check = true
+judges Recheck = true
+judges Clauses = true
+judges (Drill n) = false
 
 -- words that are no command line of the program
 abbrev pub HaveNoReading : List (List ℕ) → Type 0
@@ -34,7 +44,7 @@ AskNoDrill words = (number : ℕ) (limits : Limits) → AskDrill words number li
 pub record AskJudging (words : List (List ℕ)) : Type 0 where
   pub settings : Settings
   pub accepted : IsReading words settings
-  pub mode : settings.mode ≡ Check
+  pub mode : judges settings.mode ≡ true
 
 -- they ask for none
 abbrev pub AskNoJudging : List (List ℕ) → Type 0
@@ -52,7 +62,7 @@ pub record Names (words : List (List ℕ)) (held : Option Holding) (settings : S
 -- they ask for the replies in this file, which isn't too long
 pub record AskReplies (words : List (List ℕ)) (held : Option Holding) (settings : Settings) (file : List ℕ) : Type 0 where
   pub no_drill : AskNoDrill words
-  pub judging : AskJudging words
+  pub mode : judges settings.mode ≡ true
   pub named : Names words held settings file
   pub short : length file ≤ longest
 
@@ -66,8 +76,8 @@ pub record AskFile (words : List (List ℕ)) (held : Option Holding) (settings :
 -- the file as input, by the mode of its settings
 abbrev pub IsInputBy : Settings → List ℕ → Input → Type 0
 IsInputBy settings file (inputs.Drill number limits) = ⊥
-IsInputBy settings file (inputs.File by bytes) = (settings.mode ≡ Check → ⊥) × (by ≡ settings) × (bytes ≡ file)
-IsInputBy settings file (inputs.Judge by bytes) = (settings.mode ≡ Check) × (by ≡ settings) × (bytes ≡ file)
+IsInputBy settings file (inputs.File by bytes) = (judges settings.mode ≡ false) × (by ≡ settings) × (bytes ≡ file)
+IsInputBy settings file (inputs.Judge by bytes) = (judges settings.mode ≡ true) × (by ≡ settings) × (bytes ≡ file)
 
 -- they ask for this
 abbrev pub IsInput : List (List ℕ) → Option Holding → Input → Type 0

@@ -11,7 +11,7 @@ pub enum Input {
     Drill(u32, Limits),
     /// The problems of a file, by these settings: its bytes.
     File(Settings, Bytes),
-    /// The replies in a file, by these settings: its bytes.
+    /// The replies in a file, judged by these settings: its bytes.
     Judge(Settings, Bytes),
 }
 

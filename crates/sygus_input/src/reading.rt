@@ -44,8 +44,8 @@ fn input_of(settings: Settings, file: Bytes) -> Input
     ensures { IsInputBy settings file result }
 {
     match settings.mode {
-        Mode::Check => Input::Judge(settings, file),
-        _ => Input::File(settings, file),
+        Mode::Check | Mode::Recheck | Mode::Clauses => Input::Judge(settings, file),
+        Mode::Solve | Mode::Least | Mode::Drill(_) => Input::File(settings, file),
     }
 }
 

@@ -1,20 +1,26 @@
 -- Judgements of the replies in a file.
-use Rattle.std.proofs.Common.{inl, inr, refl, ap, ◌∙◌, ◌≡◌, ◌≤◌, ℕ, List, [], ◌∷◌, map, arith, false}
-use Rattle.std.specs.Prelude.{◌⊎◌, Option, Some, None, Ok, Err}
+use Rattle.std.proofs.Common.{inl, inr, refl, sym, ap, ◌∙◌, ◌≡◌, ◌≤◌, ℕ, List, [], ◌∷◌, length, map, arith}
+use Rattle.std.proofs.lemmas.List.{length-map}
+use Rattle.std.specs.Prelude.{◌⊎◌, Bool, Option, Some, None, Ok, Err}
 use Rattle.std.specs.Io.KnownBytes.{Appends}
 use Rattle.sy_terms.specs.Values.{Val}
+use Rattle.sy_terms.specs.declared.sort.Logic.{Logic}
 use Rattle.sy_terms.specs.declared.sort.Logic.TheVariants.{Lia}
+use Rattle.sy_terms.specs.declared.theory.Theory.{Ghosts as TheoryOf}
 use Rattle.sy_grammar_base.specs.Questions.{question_of}
 use Rattle.sy_grammar_base.specs.declared.problem.Problem.{Problem}
-use Rattle.sy_query_limits.specs.declared.Limits.{Limits}
 use Rattle.sy_reply_reader.specs.Replies.{next_item, nothing_left, statements_from}
 use Rattle.sy_text_items.specs.Items.{Item}
-use Rattle.sy_scope.specs.Read.{wish_in}
+use Rattle.sy_scope.specs.Read.{wish_in, wish_over}
 use Rattle.sy_scope.specs.declared.job.Job.TheVariants as jobs
 use Rattle.sy_scope_causes.specs.declared.titles.Titles.{Titles}
 use Rattle.sygus_answers.specs.Answers.{replies_of, AreNamedFor, AreOfLogic}
 use Rattle.sygus_verdicts.proofs.Steps.{appended_nothing, lines-none}
-use Rattle.sygus_verdicts.specs.Lines.{memory_line}
+use Rattle.sygus_verdicts.specs.Clauses.{verdicts_for}
+use Rattle.sygus_verdicts.specs.Verdicts.{verdict_on, verdicts_status}
+use Rattle.sygus_verdicts.specs.declared.judge.Judge.{Ghosts as JudgeOf}
+use Rattle.sygus_words.specs.declared.settings.Settings.{Settings}
+use Rattle.sygus_verdicts.specs.Lines.{memory_line, verdict_lines, WritesMostLines}
 use Rattle.sy_reply_statements.specs.Ends.{ReplyReading, RepliesEndAs, ◌>>=◌}
 use Rattle.sy_reply_statements.specs.Statements.{Statement}
 use Rattle.sy_reply_statements.specs.declared.end.ReplyEnd.{ReplyEnd}
@@ -24,9 +30,9 @@ use Rattle.sy_scope_names.specs.Jobs.{Wish, wished}
 use Rattle.sy_scope_steps.specs.Files.{file_read}
 use Rattle.sygus_answers.specs.declared.answers.Answers.{Answers}
 use Rattle.sygus_answers.specs.declared.answers.Answers.TheVariants.{Idle}
-use Rattle.sygus_judged.specs.Claimed.{EndsReplies, IsTold, RefusesStatements, StopsReplies}
+use Rattle.sygus_judged.specs.Claimed.{EndsClaims, EndsReplies, IsTold, RefusesStatements, StopsReplies}
 use Rattle.sygus_judged.specs.Ends.{JudgesFile, RefusesReplies, StopsJudging}
-use Rattle.sygus_judged.specs.Judging.{AreRightVerdicts, JudgesReplies, WritesVerdicts, WritesLines, WritesLinesCut, replies_read}
+use Rattle.sygus_judged.specs.Judging.{AreOfMode, AreRightVerdicts, JudgesReplies, WritesVerdicts, WritesLines, WritesLinesCut, replies_read, verdicts_of, wants_proofs}
 
 -- what the status of a judging rules out
 only : (status : ℕ) → (status ≤ 1) ⊎ ((status ≡ 5) ⊎ (status ≡ 6)) → (status ≤ 1) ⊎ ((5 ≤ status) × (status ≤ 7))
@@ -49,29 +55,52 @@ not_two status (inr high) is = omega (arith, high.0, is)
 
 -- ---- statements that are judged
 
-module _ (limits : Limits) (file : List ℕ) (at : ℕ) (wish : Wish) (statements : List Statement) (status : ℕ) (answers : Answers) (out out' err err' : Option (List ℕ)) where
-  judges : (Written : Wish → Type 0) → replies_read file at wish ≡ Ok statements → AreOfLogic wish.logic answers → AreRightVerdicts limits wish.questions statements answers → Written wish → JudgesReplies limits file at wish answers Written
-  judges Written stated logic right written = record {
+module _ {T N J F : Type 0} (theory : TheoryOf T N) (judge : JudgeOf J T F N) (logic : Logic) (settings : Settings) (problems : List (Problem T N)) (titles : Titles) (statements : List Statement) (status : ℕ) (found : List (Option F)) (out out' err err' : Option (List ℕ)) (answers : Answers) where
+  -- what a judge finds is kept as answers
+  pub ends_kept : AreOfLogic (Some logic) answers → AreOfMode settings.mode answers → AreRightVerdicts settings.limits (map (question_of theory.denotes) problems) statements answers → replies_of answers ≡ [] → AreNamedFor answers → verdicts_of answers ≡ verdicts_for judge found
+      → (status ≤ 1) ⊎ ((status ≡ 5) ⊎ (status ≡ 6)) → (status ≤ 1 → length found ≡ length problems) → (status ≤ 1 → Appends out out' (verdict_lines titles 1 (verdicts_for judge found))) → (status ≤ 1 → status ≡ verdicts_status (verdicts_for judge found)) → (status ≤ 1 → err' ≡ err)
+      → (status ≡ 5 → WritesMostLines titles (verdicts_for judge found) out out') → (status ≡ 6 → Appends out out' (verdict_lines titles 1 (verdicts_for judge found))) → (status ≡ 6 → Appends err err' memory_line)
+      → EndsClaims settings (wish_over theory.denotes logic (problems, titles)) statements status answers out out' err err'
+  ends_kept kept mode right unsolved named verdicts within every lined good silent cut memory line = record {
+    only = within;
+    logic = kept;
+    mode = mode;
+    right = right;
+    unsolved = unsolved;
+    named = named;
+    judged = λ small. record {
+      every = ap length verdicts ∙ length-map found (verdict_on judge.verdict) ∙ every small ∙ sym (length-map problems (question_of theory.denotes));
+      lined = rw verdicts (lined small);
+      good = rw verdicts (good small);
+      silent = silent small;
+    };
+    cut_off = λ is. rw verdicts (cut is);
+    memory = λ is. rw verdicts (memory is);
+    memory_line = line;
+  }
+
+module _ (settings : Settings) (file : List ℕ) (at : ℕ) (wish : Wish) (statements : List Statement) (status : ℕ) (answers : Answers) (out out' err err' : Option (List ℕ)) (ends : EndsClaims settings wish statements status answers out out' err err') (stated : replies_read (wants_proofs settings.mode) file at wish ≡ Ok statements) where
+  judges : (Written : Wish → Type 0) → Written wish → JudgesReplies settings file at wish answers Written
+  judges Written written = record {
     statements = statements;
     stated = stated;
-    logic = logic;
-    right = right;
+    logic = ends.logic;
+    mode = ends.mode;
+    right = ends.right;
     written = written;
   }
 
-  pub ends_claims : replies_read file at wish ≡ Ok statements → (status ≤ 1) ⊎ ((status ≡ 5) ⊎ (status ≡ 6)) → AreOfLogic wish.logic answers → AreRightVerdicts limits wish.questions statements answers → replies_of answers ≡ [] → AreNamedFor answers
-      → (status ≤ 1 → WritesVerdicts status answers out out' err err' wish) → (status ≡ 5 → WritesLinesCut answers out out' wish) → (status ≡ 6 → WritesLines answers out out' wish) → (status ≡ 6 → Appends err err' memory_line)
-      → EndsReplies limits file at wish status answers out out' err err'
-  ends_claims stated within logic right unsolved named all cut memory line = record {
-    only = only status within;
-    unsolved = unsolved;
-    named = named;
-    judged = λ small. judges (WritesVerdicts status answers out out' err err') stated logic right (all small);
-    cut_off = λ is. inr (judges (WritesLinesCut answers out out') stated logic right (cut is));
-    memory = λ is. inr (judges (WritesLines answers out out') stated logic right (memory is));
-    memory_line = line;
-    refused = λ is. absurd (never_seven status within is);
-    idle = λ is. absurd (never_seven status within is);
+  pub ends_claims : EndsReplies settings file at wish status answers out out' err err'
+  ends_claims = record {
+    only = only status ends.only;
+    unsolved = ends.unsolved;
+    named = ends.named;
+    judged = λ small. judges (WritesVerdicts status answers out out' err err') (ends.judged small);
+    cut_off = λ is. inr (judges (WritesLinesCut answers out out') (ends.cut_off is));
+    memory = λ is. inr (judges (WritesLines answers out out') (ends.memory is));
+    memory_line = ends.memory_line;
+    refused = λ is. absurd (never_seven status ends.only is);
+    idle = λ is. absurd (never_seven status ends.only is);
   }
 
 -- ---- statements that aren't read
@@ -80,9 +109,9 @@ pub told : (end : ReplyEnd) (read : ReplyReading (List Statement)) (file : List 
 told reply_ends.Want read file err err' is line = absurd line
 told (reply_ends.Refused refused) read file err err' is line = record { refused = refused; stated = is; line = line }
 
-pub ends_told : (limits : Limits) (file : List ℕ) (at : ℕ) (wish : Wish) (end : ReplyEnd) (status : ℕ) (answers : Answers) (out out' err err' : Option (List ℕ)) → RepliesEndAs end (replies_read file at wish) → (5 ≤ status) × (status ≤ 7) → answers ≡ Idle → out' ≡ out
-    → (status ≡ 6 → Appends err err' memory_line) → (status ≡ 7 → IsTold end file err err') → EndsReplies limits file at wish status answers out out' err err'
-ends_told limits file at wish end status answers out out' err err' ended within idle same line tells = record {
+pub ends_told : (settings : Settings) (file : List ℕ) (at : ℕ) (wish : Wish) (end : ReplyEnd) (status : ℕ) (answers : Answers) (out out' err err' : Option (List ℕ)) → RepliesEndAs end (replies_read (wants_proofs settings.mode) file at wish) → (5 ≤ status) × (status ≤ 7) → answers ≡ Idle → out' ≡ out
+    → (status ≡ 6 → Appends err err' memory_line) → (status ≡ 7 → IsTold end file err err') → EndsReplies settings file at wish status answers out out' err err'
+ends_told settings file at wish end status answers out out' err err' ended within idle same line tells = record {
   only = inr within;
   unsolved = rw idle refl;
   named = rw idle tt;
@@ -90,19 +119,19 @@ ends_told limits file at wish end status answers out out' err err' ended within 
   cut_off = λ is. inl (idle, same);
   memory = λ is. inl (idle, same);
   memory_line = line;
-  refused = λ is. told end (replies_read file at wish) file err err' ended (tells is);
+  refused = λ is. told end (replies_read (wants_proofs settings.mode) file at wish) file err err' ended (tells is);
   idle = λ is. idle;
 }
 
 -- ---- where there are no problems
 
 -- the names of functions don't matter
-pub none_read : {T N : Type 0} (number : N → Val) (file : List ℕ) (at : ℕ) (titles : Titles) (problems : List (Problem T N)) → problems ≡ [] → statements_from false Lia titles file 1 (map (question_of number) problems) at ≡ replies_read file at (wish_in jobs.Idle)
+pub none_read : {T N : Type 0} (number : N → Val) (proofs : Bool) (file : List ℕ) (at : ℕ) (titles : Titles) (problems : List (Problem T N)) → problems ≡ [] → statements_from proofs Lia titles file 1 (map (question_of number) problems) at ≡ replies_read proofs file at (wish_in jobs.Idle)
 unfolding statements_from
-none_read {T} {N} number file at titles problems none = ap (λ (ps : List (Problem T N)). statements_from false Lia titles file 1 (map (question_of number) ps) at) none
+none_read {T} {N} number proofs file at titles problems none = ap (λ (ps : List (Problem T N)). statements_from proofs Lia titles file 1 (map (question_of number) ps) at) none
 
-pub ends_none : (limits : Limits) (file : List ℕ) (at : ℕ) (out err : Option (List ℕ)) → replies_read file at (wish_in jobs.Idle) ≡ Ok [] → EndsReplies limits file at (wish_in jobs.Idle) 0 Idle out out err err
-ends_none limits file at out err stated = record {
+pub ends_none : (settings : Settings) (file : List ℕ) (at : ℕ) (out err : Option (List ℕ)) → replies_read (wants_proofs settings.mode) file at (wish_in jobs.Idle) ≡ Ok [] → EndsReplies settings file at (wish_in jobs.Idle) 0 Idle out out err err
+ends_none settings file at out err stated = record {
   only = inl (omega arith);
   unsolved = refl;
   named = tt;
@@ -110,6 +139,7 @@ ends_none limits file at out err stated = record {
     statements = [];
     stated = stated;
     logic = refl;
+    mode = tt;
     right = tt;
     written = record {
       every = refl;
@@ -131,21 +161,21 @@ only_none check (Ok None) statements is = cc
 only_none check (Ok (Some x)) statements is = absurd cc
 only_none check (Err refused) statements is = absurd cc
 
-pub none_stated : (file : List ℕ) (at : ℕ) (statements : List Statement) → replies_read file at (wish_in jobs.Idle) ≡ Ok statements → replies_read file at (wish_in jobs.Idle) ≡ Ok []
+pub none_stated : (proofs : Bool) (file : List ℕ) (at : ℕ) (statements : List Statement) → replies_read proofs file at (wish_in jobs.Idle) ≡ Ok statements → replies_read proofs file at (wish_in jobs.Idle) ≡ Ok []
 unfolding statements_from
-none_stated file at statements is = is ∙ ap (λ (all : List Statement). Ok all) (only_none 1 (next_item 1 file at) statements is)
+none_stated proofs file at statements is = is ∙ ap (λ (all : List Statement). Ok all) (only_none 1 (next_item 1 file at) statements is)
 
 -- ---- of the whole file
 
-module _ (limits : Limits) (file : List ℕ) (wish : Wish) (reads : wished (file_read (front file)) ≡ Ok wish) where
-  pub judges_file : (answers : Answers) (Written : Wish → Type 0) → JudgesReplies limits file (front_length file) wish answers Written → JudgesFile limits file answers Written
+module _ (settings : Settings) (file : List ℕ) (wish : Wish) (reads : wished (file_read (front file)) ≡ Ok wish) where
+  pub judges_file : (answers : Answers) (Written : Wish → Type 0) → JudgesReplies settings file (front_length file) wish answers Written → JudgesFile settings file answers Written
   judges_file answers Written at = record { wish = wish; reads = reads; judges = at }
 
-  pub stops_file : (answers : Answers) (out out' : Option (List ℕ)) (Written : Wish → Type 0) → StopsReplies limits file (front_length file) wish answers out out' Written → StopsJudging limits file answers out out' Written
+  pub stops_file : (answers : Answers) (out out' : Option (List ℕ)) (Written : Wish → Type 0) → StopsReplies settings file (front_length file) wish answers out out' Written → StopsJudging settings file answers out out' Written
   stops_file answers out out' Written (inl nothing) = inl nothing
   stops_file answers out out' Written (inr at) = inr (judges_file answers Written at)
 
-  pub refuses_file : (err err' : Option (List ℕ)) → RefusesStatements (replies_read file (front_length file) wish) file err err' → RefusesReplies file err err'
+  pub refuses_file : (err err' : Option (List ℕ)) → RefusesStatements (replies_read (wants_proofs settings.mode) file (front_length file) wish) file err err' → RefusesReplies settings file err err'
   refuses_file err err' at = record {
     wish = wish;
     reads = reads;

@@ -1,8 +1,7 @@
--- How a run in mode `check` may end.
+-- How a run that judges replies may end.
 use Rattle.std.specs.Prelude.{ℕ, ◌≡◌, ◌<◌, ◌≤◌, ◌⊎◌, List, length, Option, Ok, Err}
 use Rattle.std.specs.Io.KnownBytes.{Appends}
 use Rattle.sy_io.specs.Source.{Holding}
-use Rattle.sy_query_limits.specs.declared.Limits.{Limits}
 use Rattle.sy_reply_lines.specs.Lines.{refusal_line}
 use Rattle.sy_reply_statements.specs.Lines.{reply_refusal_line}
 use Rattle.sy_reply_statements.specs.declared.refused.ReplyRefused.{ReplyRefused}
@@ -15,13 +14,13 @@ use Rattle.sygus_answers.specs.declared.answers.Answers.TheVariants.{Idle}
 use Rattle.sygus_input.specs.Inputs.{Names, longest}
 use Rattle.sygus_replies.specs.Texts.{too_long_line}
 use Rattle.sygus_words.specs.declared.settings.Settings.{Settings}
-use Rattle.sygus_judged.specs.Judging.{JudgesReplies, WritesVerdicts, WritesLines, WritesLinesCut, replies_read}
+use Rattle.sygus_judged.specs.Judging.{JudgesReplies, WritesVerdicts, WritesLines, WritesLinesCut, replies_read, wants_proofs}
 
 -- the front of the file is in the profile, its replies are read, the judgements so far are right, and this was written of them
-pub record JudgesFile (limits : Limits) (file : List ℕ) (answers : Answers) (Written : Wish → Type 0) : Type 0 where
+pub record JudgesFile (settings : Settings) (file : List ℕ) (answers : Answers) (Written : Wish → Type 0) : Type 0 where
   pub wish : Wish
   pub reads : wished (file_read (front file)) ≡ Ok wish
-  pub judges : JudgesReplies limits file (front_length file) wish answers Written
+  pub judges : JudgesReplies settings file (front_length file) wish answers Written
 
 -- the front isn't, and this line tells its first fault
 pub record RefusesFront (file : List ℕ) (err err' : Option (List ℕ)) : Type 0 where
@@ -30,16 +29,16 @@ pub record RefusesFront (file : List ℕ) (err err' : Option (List ℕ)) : Type 
   pub line : Appends err err' (refusal_line file refused)
 
 -- the replies are refused, and this line tells the first fault in them
-pub record RefusesReplies (file : List ℕ) (err err' : Option (List ℕ)) : Type 0 where
+pub record RefusesReplies (settings : Settings) (file : List ℕ) (err err' : Option (List ℕ)) : Type 0 where
   pub wish : Wish
   pub reads : wished (file_read (front file)) ≡ Ok wish
   pub refused : ReplyRefused
-  pub stated : replies_read file (front_length file) wish ≡ Err refused
+  pub stated : replies_read (wants_proofs settings.mode) file (front_length file) wish ≡ Err refused
   pub line : Appends err err' (reply_refusal_line file refused)
 
 -- nothing was judged, or this was written of the judgements so far
-abbrev pub StopsJudging : Limits → List ℕ → Answers → Option (List ℕ) → Option (List ℕ) → (Wish → Type 0) → Type 0
-StopsJudging limits file answers out out' Written = ((answers ≡ Idle) × (out' ≡ out)) ⊎ JudgesFile limits file answers Written
+abbrev pub StopsJudging : Settings → List ℕ → Answers → Option (List ℕ) → Option (List ℕ) → (Wish → Type 0) → Type 0
+StopsJudging settings file answers out out' Written = ((answers ≡ Idle) × (out' ≡ out)) ⊎ JudgesFile settings file answers Written
 
 -- ---- the same of the file that words name
 
@@ -48,7 +47,7 @@ pub record Judges (words : List (List ℕ)) (held : Option Holding) (answers : A
   pub file : List ℕ
   pub named : Names words held settings file
   pub short : length file ≤ longest
-  pub judges : JudgesFile settings.limits file answers Written
+  pub judges : JudgesFile settings file answers Written
 
 -- the front is refused, or the file is too long
 pub record FrontIsRefused (words : List (List ℕ)) (held : Option Holding) (err err' : Option (List ℕ)) : Type 0 where
@@ -62,7 +61,7 @@ pub record RepliesAreRefused (words : List (List ℕ)) (held : Option Holding) (
   pub file : List ℕ
   pub named : Names words held settings file
   pub short : length file ≤ longest
-  pub refuses : RefusesReplies file err err'
+  pub refuses : RefusesReplies settings file err err'
 
 -- at 0 and 1 each reply has its verdict, and the lines of all are written; at 2, 4 and 7 nothing is; at 5 and 6 the
 -- verdicts so far are right, and their lines are written, at 5 cut off in the last

@@ -1,5 +1,5 @@
 // Judging the replies to the problems of a file.
-ghost use Rattle.std.specs.Prelude.{◌≡◌, ◌≤◌, ◌⊎◌, ℕ, List, Option, false, length, map, IfOk};
+ghost use Rattle.std.specs.Prelude.{◌≡◌, ◌≤◌, ◌⊎◌, ℕ, List, Option, true, length, map, IfOk};
 ghost use Rattle.std.specs.Io.KnownBytes.{Appends};
 ghost use Rattle.sy_io.specs.Causes.{Rose};
 ghost use Rattle.sy_meaning_integers.specs.Lia as lia;
@@ -14,9 +14,10 @@ ghost use Rattle.sy_reply_statements.specs.Fitting.{AreStatedFor};
 ghost use Rattle.sy_reply_statements.specs.Statements.{statement_of};
 ghost use Rattle.sy_scope.specs.Fit.{JobFits, ProblemsFit};
 ghost use Rattle.sy_scope.specs.Read.{wish_in, wish_over};
-ghost use Rattle.sy_query_limits.specs.declared.Limits.{Limits};
 ghost use Rattle.sygus_verdicts.specs.Lines.{memory_line};
-ghost use Rattle.sygus_judged.specs.Claimed.{EndsReplies, IsTold};
+ghost use Rattle.sygus_input.specs.Inputs.{judges};
+ghost use Rattle.sygus_judged.specs.Claimed.{EndsClaims, EndsReplies, IsTold};
+ghost use Rattle.sygus_judged.specs.Judging as spec;
 
 use std::alloc::Global;
 use sy_bits::BvDecide;
@@ -25,37 +26,40 @@ use sy_intsolve::IntDecide;
 use sy_io::Sink;
 use sy_meaning_integers::IntTheory;
 use sy_meaning_words::BvTheory;
-use sy_query_limits::Limits;
 use sy_reply_reader::read_reply;
 use sy_reply_statements::{ReplyEnd, reply_refusal_text};
 use sy_scope::Job;
 use sy_scope_causes::Titles;
 use sy_terms::{Logic, Seq, Theory};
+use sy_verify_logs::{LogChecker, LogClauses};
+use sy_verify_trees::{NoClauses, TreeChecker};
 use sygus_answers::{Answers, Ended, unanswered};
-use sygus_judges::Verifying;
+use sygus_judges::{Rechecking, Spelling, Verifying};
 use sygus_verdicts::{Claims, judge_all};
+use sygus_words::{Mode, Settings};
 
-/// The replies in a file: its bytes, and the offset from which they stand.
+/// Replies to be judged: the settings of the run, the bytes of the file, and the offset from which they stand.
 #[derive(Clone, Copy)]
 pub(crate) struct Replies<'a> {
+    pub(crate) settings: &'a Settings,
     pub(crate) file: &'a [u8],
     pub(crate) at: usize,
 }
 
-/// Reads the replies of a file, and judges them in order, each with the solver of the file's logic.
+/// Reads the replies of a file, and judges them in order, each by a judge of the mode for the file's logic.
 pub(crate) fn judge_job<O: Sink, E: Sink>(
     alloc: Global,
     job: Job,
     replies: &Replies<'_>,
-    limits: &Limits,
     out: &mut O,
     err: &mut E,
 ) -> Ended
+    requires mode { judges replies.now.settings.now.mode ≡ true }
     requires at { replies.now.at ≤ length replies.now.file.now }
     requires few { length (wish_in job).questions ≤ 16 }
     requires fit { JobFits job }
-    ensures ends { EndsReplies limits.now replies.now.file.now replies.now.at (wish_in job) result.status result.answers
-        (O.written out.old) (O.written out.new) (E.written err.old) (E.written err.new) }
+    ensures ends { EndsReplies replies.now.settings.now replies.now.file.now replies.now.at (wish_in job) result.status
+        result.answers (O.written out.old) (O.written out.new) (E.written err.old) (E.written err.new) }
     ensures write { result.status ≡ 5 → Rose (O.faults out.old) (O.faults out.new) ⊎ Rose (E.faults err.old)
         (E.faults err.new) }
     ensures silent { result.status ≡ 7 → out.new ≡ out.old }
@@ -63,10 +67,16 @@ pub(crate) fn judge_job<O: Sink, E: Sink>(
     match job {
         Job::Idle => judge_none(alloc, replies, err),
         Job::Ints(problems, titles) => {
-            judge_ints(alloc, replies, problems, titles, limits, out, err)
+            match claims_of(alloc, replies, Logic::Lia, problems, titles) {
+                Ok(claims) => judge_ints(alloc, &claims, replies.settings, out, err),
+                Err(end) => refused_replies(alloc, replies.file, end, err),
+            }
         }
         Job::Bits(problems, titles) => {
-            judge_bits(alloc, replies, problems, titles, limits, out, err)
+            match claims_of(alloc, replies, Logic::Bv, problems, titles) {
+                Ok(claims) => judge_bits(alloc, &claims, replies.settings, out, err),
+                Err(end) => refused_replies(alloc, replies.file, end, err),
+            }
         }
     }
 }
@@ -74,8 +84,7 @@ pub(crate) fn judge_job<O: Sink, E: Sink>(
 /// The replies to no problem: there is none, or the first one is refused.
 fn judge_none<E: Sink>(alloc: Global, replies: &Replies<'_>, err: &mut E) -> Ended
     requires { replies.now.at ≤ length replies.now.file.now }
-    ensures ends { (limits : Limits) (out : Option (List ℕ)) → EndsReplies limits replies.now.file.now replies.now.at
-        (wish_in Job.Idle)
+    ensures ends { (out : Option (List ℕ)) → EndsReplies replies.now.settings.now replies.now.file.now replies.now.at (wish_in Job.Idle)
         result.status result.answers out out (E.written err.old) (E.written err.new) }
     ensures write { result.status ≡ 5 → Rose (E.faults err.old) (E.faults err.new) }
 {
@@ -95,6 +104,110 @@ fn judge_none<E: Sink>(alloc: Global, replies: &Replies<'_>, err: &mut E) -> End
     }
 }
 
+/// Judges what replies state on problems over integers, by the judge of the mode.
+fn judge_ints<O: Sink, E: Sink>(
+    alloc: Global,
+    claims: &Claims<IntTheory>,
+    settings: &Settings,
+    out: &mut O,
+    err: &mut E,
+) -> Ended
+    requires mode { judges settings.now.mode ≡ true }
+    requires few { length claims.now.problems ≤ 16 }
+    requires fit { ProblemsFit lia.owned lia.numeric Whole claims.now.problems }
+    requires stated { AreStatedFor ⟦<IntTheory as Theory>⟧ claims.now.problems claims.now.statements }
+    ensures ends { EndsClaims settings.now (wish_over Whole Lia (claims.now.problems, claims.now.titles))
+        (map (statement_of Whole) claims.now.statements) result.status result.answers
+        (O.written out.old) (O.written out.new) (E.written err.old) (E.written err.new) }
+    ensures write { result.status ≡ 5 → Rose (O.faults out.old) (O.faults out.new) ⊎ Rose (E.faults err.old)
+        (E.faults err.new) }
+{
+    let limits = &settings.limits;
+    match settings.mode {
+        Mode::Check => {
+            let mut judge = Verifying {
+                decide: IntDecide::new(),
+            };
+            let judged = judge_all(alloc, claims, limits, &mut judge, out, err);
+            Ended {
+                status: judged.status,
+                answers: Answers::IntChecks(judged.answers),
+            }
+        }
+        Mode::Recheck => {
+            let mut judge = Rechecking {
+                checker: TreeChecker,
+            };
+            let judged = judge_all(alloc, claims, limits, &mut judge, out, err);
+            Ended {
+                status: judged.status,
+                answers: Answers::IntRechecks(judged.answers),
+            }
+        }
+        Mode::Clauses => {
+            let mut judge = Spelling { writer: NoClauses };
+            let judged = judge_all(alloc, claims, limits, &mut judge, out, err);
+            Ended {
+                status: judged.status,
+                answers: Answers::IntSpellings(judged.answers),
+            }
+        }
+        Mode::Solve | Mode::Least | Mode::Drill(_) => unreachable!(),
+    }
+}
+
+/// Judges what replies state on problems over bit vectors, by the judge of the mode.
+fn judge_bits<O: Sink, E: Sink>(
+    alloc: Global,
+    claims: &Claims<BvTheory>,
+    settings: &Settings,
+    out: &mut O,
+    err: &mut E,
+) -> Ended
+    requires mode { judges settings.now.mode ≡ true }
+    requires few { length claims.now.problems ≤ 16 }
+    requires fit { ProblemsFit vectors.owned vectors.is_bits vectors.vector claims.now.problems }
+    requires stated { AreStatedFor ⟦<BvTheory as Theory>⟧ claims.now.problems claims.now.statements }
+    ensures ends { EndsClaims settings.now (wish_over vectors.vector Bv (claims.now.problems, claims.now.titles))
+        (map (statement_of vectors.vector) claims.now.statements) result.status result.answers
+        (O.written out.old) (O.written out.new) (E.written err.old) (E.written err.new) }
+    ensures write { result.status ≡ 5 → Rose (O.faults out.old) (O.faults out.new) ⊎ Rose (E.faults err.old)
+        (E.faults err.new) }
+{
+    let limits = &settings.limits;
+    match settings.mode {
+        Mode::Check => {
+            let mut judge = Verifying {
+                decide: BvDecide::new(),
+            };
+            let judged = judge_all(alloc, claims, limits, &mut judge, out, err);
+            Ended {
+                status: judged.status,
+                answers: Answers::BitChecks(judged.answers),
+            }
+        }
+        Mode::Recheck => {
+            let mut judge = Rechecking {
+                checker: LogChecker,
+            };
+            let judged = judge_all(alloc, claims, limits, &mut judge, out, err);
+            Ended {
+                status: judged.status,
+                answers: Answers::BitRechecks(judged.answers),
+            }
+        }
+        Mode::Clauses => {
+            let mut judge = Spelling { writer: LogClauses };
+            let judged = judge_all(alloc, claims, limits, &mut judge, out, err);
+            Ended {
+                status: judged.status,
+                answers: Answers::BitSpellings(judged.answers),
+            }
+        }
+        Mode::Solve | Mode::Least | Mode::Drill(_) => unreachable!(),
+    }
+}
+
 /// The problems of a file with what its replies state on each.
 fn claims_of<T: Theory>(
     alloc: Global,
@@ -107,7 +220,8 @@ fn claims_of<T: Theory>(
     requires theory { IsTheoryOf logic T.owned T.numeric }
     requires few { length problems ≤ 16 }
     ensures read { ReadsReplies (λ claims. map (statement_of T.denotes) claims.statements) result
-        (statements_from false logic titles replies.now.file.now 1 (map (question_of T.denotes) problems) replies.now.at) }
+        (statements_from (spec.wants_proofs replies.now.settings.now.mode) logic titles replies.now.file.now 1
+        (map (question_of T.denotes) problems) replies.now.at) }
     ensures problems { IfOk result (λ claims. claims.problems ≡ problems) }
     ensures titles { IfOk result (λ claims. claims.titles ≡ titles) }
     ensures fit { IfOk result (λ claims. AreStatedFor T.Theory problems claims.statements) }
@@ -119,7 +233,7 @@ fn claims_of<T: Theory>(
         logic,
         &titles,
         &problems,
-        false,
+        wants_proofs(replies.settings.mode),
     );
     match read {
         Ok(statements) => Ok(Claims {
@@ -131,71 +245,13 @@ fn claims_of<T: Theory>(
     }
 }
 
-/// Judges the replies to problems over integers.
-fn judge_ints<O: Sink, E: Sink>(
-    alloc: Global,
-    replies: &Replies<'_>,
-    problems: Seq<Problem<IntTheory>>,
-    titles: Titles,
-    limits: &Limits,
-    out: &mut O,
-    err: &mut E,
-) -> Ended
-    requires at { replies.now.at ≤ length replies.now.file.now }
-    requires few { length problems ≤ 16 }
-    requires fit { ProblemsFit lia.owned lia.numeric Whole problems }
-    ensures ends { EndsReplies limits.now replies.now.file.now replies.now.at (wish_over Whole Lia (problems, titles))
-        result.status
-        result.answers (O.written out.old) (O.written out.new) (E.written err.old) (E.written err.new) }
-    ensures write { result.status ≡ 5 → Rose (O.faults out.old) (O.faults out.new) ⊎ Rose (E.faults err.old)
-        (E.faults err.new) }
-    ensures silent { result.status ≡ 7 → out.new ≡ out.old }
+/// Whether the item of a proof follows each reply.
+fn wants_proofs(mode: Mode) -> bool
+    ensures { result ≡ spec.wants_proofs mode }
 {
-    let claims = match claims_of(alloc, replies, Logic::Lia, problems, titles) {
-        Ok(claims) => claims,
-        Err(end) => return refused_replies(alloc, replies.file, end, err),
-    };
-    let mut judge = Verifying {
-        decide: IntDecide::new(),
-    };
-    let judged = judge_all(alloc, &claims, limits, &mut judge, out, err);
-    Ended {
-        status: judged.status,
-        answers: Answers::IntChecks(judged.answers),
-    }
-}
-
-/// Judges the replies to problems over bit vectors.
-fn judge_bits<O: Sink, E: Sink>(
-    alloc: Global,
-    replies: &Replies<'_>,
-    problems: Seq<Problem<BvTheory>>,
-    titles: Titles,
-    limits: &Limits,
-    out: &mut O,
-    err: &mut E,
-) -> Ended
-    requires at { replies.now.at ≤ length replies.now.file.now }
-    requires few { length problems ≤ 16 }
-    requires fit { ProblemsFit vectors.owned vectors.is_bits vectors.vector problems }
-    ensures ends { EndsReplies limits.now replies.now.file.now replies.now.at
-        (wish_over vectors.vector Bv (problems, titles)) result.status
-        result.answers (O.written out.old) (O.written out.new) (E.written err.old) (E.written err.new) }
-    ensures write { result.status ≡ 5 → Rose (O.faults out.old) (O.faults out.new) ⊎ Rose (E.faults err.old)
-        (E.faults err.new) }
-    ensures silent { result.status ≡ 7 → out.new ≡ out.old }
-{
-    let claims = match claims_of(alloc, replies, Logic::Bv, problems, titles) {
-        Ok(claims) => claims,
-        Err(end) => return refused_replies(alloc, replies.file, end, err),
-    };
-    let mut judge = Verifying {
-        decide: BvDecide::new(),
-    };
-    let judged = judge_all(alloc, &claims, limits, &mut judge, out, err);
-    Ended {
-        status: judged.status,
-        answers: Answers::BitChecks(judged.answers),
+    match mode {
+        Mode::Recheck => true,
+        Mode::Solve | Mode::Least | Mode::Check | Mode::Clauses | Mode::Drill(_) => false,
     }
 }
 

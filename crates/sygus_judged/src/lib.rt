@@ -1,4 +1,4 @@
-// Judging the replies in a file: how a run in mode `check` may end.
+// Judging the replies in a file: how a run that judges them may end.
 #![tactic(auto)]
 
 mod file;

@@ -12,7 +12,7 @@ pub fn tries_trees(mode: Mode) -> bool
     match mode {
         Mode::Solve => true,
         Mode::Least => false,
-        Mode::Check => true,
+        Mode::Check | Mode::Recheck | Mode::Clauses => true,
         Mode::Drill(_) => true,
     }
 }

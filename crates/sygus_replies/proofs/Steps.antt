@@ -11,7 +11,7 @@ use Rattle.sy_terms.specs.declared.sort.Sort.{Sort}
 use Rattle.sy_grammar_base.specs.Questions.{Question, question_of}
 use Rattle.sy_grammar_base.specs.declared.problem.Problem.{Problem}
 use Rattle.sy_scope_causes.specs.declared.titles.Titles.{Titles}
-use Rattle.sygus_replies.specs.Replies.{Reply}
+use Rattle.sygus_replies.specs.Replies.{Reply, Shown}
 use Rattle.sygus_replies.specs.Answerable.{IsAnswerable}
 use Rattle.sygus_replies.specs.Texts.{answer_text, texts, answer_line, answer_lines}
 use Rattle.sygus_replies.specs.Answered.{AreRight, WritesMost, BreaksNext}
@@ -32,15 +32,15 @@ pub right-none : {A : Type 0} (Right : Question → A → Type 0) (questions : L
 unfolding AreRight
 right-none Right questions = tt
 
-pub texts-more : (titles : Titles) (questions : List Question) (replies : List Reply) (question : Question) (reply : Reply) → length replies < length questions → question ≡ get_or questions (length replies) question
-    → texts titles questions (replies ++ reply ∷ []) ≡ texts titles questions replies ++ answer_text titles question reply
+pub texts-more : (titles : Titles) (questions : List Question) (all : List Shown) (question : Question) (shown : Shown) → length all < length questions → question ≡ get_or questions (length all) question
+    → texts titles questions (all ++ shown ∷ []) ≡ texts titles questions all ++ answer_text titles question shown
 unfolding texts
-texts-more titles [] replies question reply lt e = absurd (omega arith)
-texts-more titles (q ∷ qs) [] question reply lt e =
-    append-nil (answer_text titles q reply) ∙ ap (λ (x : Question). answer_text titles x reply) (sym e)
-texts-more titles (q ∷ qs) (r ∷ rest) question reply lt e =
-    ap (λ (xs : List ℕ). answer_text titles q r ++ xs) (texts-more titles qs rest question reply (omega arith) e)
-    ∙ sym (append_assoc (answer_text titles q r) (texts titles qs rest) (answer_text titles question reply))
+texts-more titles [] all question shown lt e = absurd (omega arith)
+texts-more titles (q ∷ qs) [] question shown lt e =
+    append-nil (answer_text titles q shown) ∙ ap (λ (x : Question). answer_text titles x shown) (sym e)
+texts-more titles (q ∷ qs) (r ∷ rest) question shown lt e =
+    ap (λ (xs : List ℕ). answer_text titles q r ++ xs) (texts-more titles qs rest question shown (omega arith) e)
+    ∙ sym (append_assoc (answer_text titles q r) (texts titles qs rest) (answer_text titles question shown))
 
 pub right-more : {A : Type 0} (Right : Question → A → Type 0) (questions : List Question) (answers : List A) (question : Question) (answer : A) → length answers < length questions → question ≡ get_or questions (length answers) question
     → AreRight Right questions answers → Right question answer → AreRight Right questions (answers ++ answer ∷ [])
@@ -62,7 +62,7 @@ lines-more k (r ∷ rest) reply =
     ∙ ap (λ (n : ℕ). (answer_line k r ++ answer_lines (k + 1) rest) ++ answer_line n reply) e
 
 -- the replies to one answer more
-pub replies-more : {A : Type 0} (reply : A → Reply) (answers new : List A) (answer : A) → new ≡ answers ++ answer ∷ [] → map reply new ≡ map reply answers ++ reply answer ∷ []
+pub replies-more : {A R : Type 0} (reply : A → R) (answers new : List A) (answer : A) → new ≡ answers ++ answer ∷ [] → map reply new ≡ map reply answers ++ reply answer ∷ []
 replies-more reply answers new answer more = ap (map reply) more ∙ map-append reply answers (answer ∷ [])
 
 pub take-past : (xs ys : List ℕ) (n : ℕ) → take (length xs + n) (xs ++ ys) ≡ xs ++ take n ys
@@ -72,36 +72,36 @@ take-past (x ∷ xs) ys n =
     ap (λ (k : ℕ). take k (x ∷ (xs ++ ys))) e ∙ ap (λ (zs : List ℕ). x ∷ zs) (take-past xs ys n)
 
 -- the text of the last reply was cut off
-pub most-more : {A : Type 0} (Right : Question → A → Type 0) (reply : A → Reply) (titles : Titles) (questions : List Question) (question : Question) (old new : List A) (before between after : Option (List ℕ))
-    → (next : BreaksNext Right reply titles question old new between after) → length old < length questions → question ≡ get_or questions (length old) question
-    → Appends before between (texts titles questions (map reply old)) → WritesMost titles questions (map reply new) before after
-most-more Right reply titles questions question old new before between after next lt at written =
-    let count = length-map old reply in
-    let less : length (map reply old) < length questions = omega (arith, count, lt) in
-    let here : question ≡ get_or questions (length (map reply old)) question = rw count at in
+pub most-more : {A : Type 0} (Right : Question → A → Type 0) (shown : A → Shown) (titles : Titles) (questions : List Question) (question : Question) (old new : List A) (before between after : Option (List ℕ))
+    → (next : BreaksNext Right shown titles question old new between after) → length old < length questions → question ≡ get_or questions (length old) question
+    → Appends before between (texts titles questions (map shown old)) → WritesMost titles questions (map shown new) before after
+most-more Right shown titles questions question old new before between after next lt at written =
+    let count = length-map old shown in
+    let less : length (map shown old) < length questions = omega (arith, count, lt) in
+    let here : question ≡ get_or questions (length (map shown old)) question = rw count at in
     record {
-      earlier = map reply old;
-      last = reply next.answer ∷ [];
-      split = replies-more reply old new next.answer next.more;
+      earlier = map shown old;
+      last = shown next.answer ∷ [];
+      split = replies-more shown old new next.answer next.more;
       one = omega arith;
-      count = length (texts titles questions (map reply old)) + next.count;
+      count = length (texts titles questions (map shown old)) + next.count;
       whole = omega arith;
       written = rw (
-        replies-more reply old new next.answer next.more,
-        texts-more titles questions (map reply old) question (reply next.answer) less here,
-        take-past (texts titles questions (map reply old)) (answer_text titles question (reply next.answer)) next.count,
+        replies-more shown old new next.answer next.more,
+        texts-more titles questions (map shown old) question (shown next.answer) less here,
+        take-past (texts titles questions (map shown old)) (answer_text titles question (shown next.answer)) next.count,
       )
           (appended_more _ _ _ _ _ written next.begun);
     }
 
 -- all texts were written
-pub most-all : (titles : Titles) (questions : List Question) (replies : List Reply) (before after : Option (List ℕ)) → Appends before after (texts titles questions replies) → WritesMost titles questions replies before after
-most-all titles questions replies before after written = record {
-  earlier = replies;
+pub most-all : (titles : Titles) (questions : List Question) (shown : List Shown) (before after : Option (List ℕ)) → Appends before after (texts titles questions shown) → WritesMost titles questions shown before after
+most-all titles questions shown before after written = record {
+  earlier = shown;
   last = [];
-  split = sym (append-nil replies);
+  split = sym (append-nil shown);
   one = omega arith;
-  count = length (texts titles questions replies);
+  count = length (texts titles questions shown);
   whole = omega arith;
   written = rw take-length written;
 }

@@ -4,19 +4,23 @@ use Rattle.sy_grammar_base.specs.Questions.{Question}
 use Rattle.sy_scope_causes.specs.declared.titles.Titles.{Titles}
 use Rattle.sy_reply_lines.specs.Lines.{fail_line}
 use Rattle.sy_reply.specs.Replies.{line, reply_text}
-use Rattle.sygus_replies.specs.Replies.{Reply, Defined, Infeasible, Failed}
+use Rattle.sygus_replies.specs.Replies.{Reply, Defined, Infeasible, Failed, Shown}
 
--- the text of the reply to one check-synth: definitions, `infeasible`, or `fail`
-unfoldable pub answer_text : Titles → Question → Reply → List ℕ
-answer_text titles question (Defined bodies) = reply_text titles question bodies
-answer_text titles question Infeasible = line (codes "infeasible")
-answer_text titles question (Failed name) = line (codes "fail")
+-- the text of a reply: definitions, `infeasible`, or `fail`
+unfoldable pub plain_text : Titles → Question → Reply → List ℕ
+plain_text titles question (Defined bodies) = reply_text titles question bodies
+plain_text titles question Infeasible = line (codes "infeasible")
+plain_text titles question (Failed name) = line (codes "fail")
+
+-- the same, followed by the line of its proof
+abbrev pub answer_text : Titles → Question → Shown → List ℕ
+answer_text titles question shown = plain_text titles question shown.reply ++ shown.proof
 
 -- the texts of the replies to the first questions, one after the other
-unfoldable pub texts : Titles → List Question → List Reply → List ℕ
+unfoldable pub texts : Titles → List Question → List Shown → List ℕ
 texts titles questions [] = []
-texts titles [] (reply ∷ replies) = []
-texts titles (question ∷ questions) (reply ∷ replies) = answer_text titles question reply ++ texts titles questions replies
+texts titles [] (shown ∷ rest) = []
+texts titles (question ∷ questions) (shown ∷ rest) = answer_text titles question shown ++ texts titles questions rest
 
 -- the line of the reply to check-synth number k, where it is a fail
 unfoldable pub answer_line : ℕ → Reply → List ℕ

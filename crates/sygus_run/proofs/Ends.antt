@@ -1,6 +1,6 @@
 -- How a run ends.
 use Rattle.std.proofs.Common.{inl, inr, refl, ◌≡◌, ◌≢◌, ◌≤◌, ◌++◌, List, ℕ, zero, suc, arith}
-use Rattle.std.specs.Prelude.{◌⊎◌, Option, Ok}
+use Rattle.std.specs.Prelude.{◌⊎◌, Bool, Option, Ok}
 use Rattle.std.specs.Io.KnownBytes.{Appends}
 use Rattle.sy_io.specs.Causes.{Rose}
 use Rattle.sy_io.specs.Source.{Holding}
@@ -34,7 +34,7 @@ module _ (words : List (List ℕ)) (held : Option Holding) (settings : Settings)
     reads = reads;
   }
 
-  pub all_answered : (answers : Answers) (out out' err err' : Option (List ℕ)) → AnswersFile settings file answers (WritesAll answers out out' err err') → Answered words held answers out out' err err'
+  pub all_answered : (answers : Answers) (out out' err err' : Option (List ℕ)) → AnswersFile settings file answers (WritesAll settings.proofs answers out out' err err') → Answered words held answers out out' err err'
   all_answered answers out out' err err' at = record {
     settings = settings;
     wish = at.wish;
@@ -46,7 +46,7 @@ module _ (words : List (List ℕ)) (held : Option Holding) (settings : Settings)
     lines = at.written.lines;
   }
 
-  midway : (answers : Answers) (Written : Wish → Type 0) → AnswersFile settings file answers Written → Midway words held answers Written
+  midway : (answers : Answers) (Written : Bool → Wish → Type 0) → AnswersFile settings file answers (Written settings.proofs) → Midway words held answers Written
   midway answers Written at = record {
     settings = settings;
     wish = at.wish;
@@ -56,13 +56,13 @@ module _ (words : List (List ℕ)) (held : Option Holding) (settings : Settings)
     written = at.written;
   }
 
-  pub cut_off : (answers : Answers) (out out' : Option (List ℕ)) → Stops settings file answers out out' (WritesCut answers out out') → IsCutOff words held answers out out'
+  pub cut_off : (answers : Answers) (out out' : Option (List ℕ)) → Stops settings file answers out out' (WritesCut settings.proofs answers out out') → IsCutOff words held answers out out'
   cut_off answers out out' (inl nothing) = inl nothing
-  cut_off answers out out' (inr at) = inr (midway answers (WritesCut answers out out') at)
+  cut_off answers out out' (inr at) = inr (midway answers (λ proofs. WritesCut proofs answers out out') at)
 
-  pub wants_memory : (answers : Answers) (out out' : Option (List ℕ)) → Stops settings file answers out out' (WritesTexts answers out out') → WantsMemory words held answers out out'
+  pub wants_memory : (answers : Answers) (out out' : Option (List ℕ)) → Stops settings file answers out out' (WritesTexts settings.proofs answers out out') → WantsMemory words held answers out out'
   wants_memory answers out out' (inl nothing) = inl nothing
-  wants_memory answers out out' (inr at) = inr (midway answers (WritesTexts answers out out') at)
+  wants_memory answers out out' (inr at) = inr (midway answers (λ proofs. WritesTexts proofs answers out out') at)
 
   pub refuses : (err err' : Option (List ℕ)) → RefusesFile file err err' → FileIsRefused words held err err'
   refuses err err' at = record {
@@ -75,7 +75,7 @@ module _ (words : List (List ℕ)) (held : Option Holding) (settings : Settings)
 -- ---- of the replies in the file that words name
 
 module _ (words : List (List ℕ)) (held : Option Holding) (settings : Settings) (file : List ℕ) (asked : AskReplies words held settings file) where
-  judges : (answers : Answers) (Written : Wish → Type 0) → JudgesFile settings.limits file answers Written → Judges words held answers Written
+  judges : (answers : Answers) (Written : Wish → Type 0) → JudgesFile settings file answers Written → Judges words held answers Written
   judges answers Written at = record {
     settings = settings;
     file = file;
@@ -84,7 +84,7 @@ module _ (words : List (List ℕ)) (held : Option Holding) (settings : Settings)
     judges = at;
   }
 
-  stops : (answers : Answers) (out out' : Option (List ℕ)) (Written : Wish → Type 0) → StopsJudging settings.limits file answers out out' Written → ((answers ≡ Idle) × (out' ≡ out)) ⊎ Judges words held answers Written
+  stops : (answers : Answers) (out out' : Option (List ℕ)) (Written : Wish → Type 0) → StopsJudging settings file answers out out' Written → ((answers ≡ Idle) × (out' ≡ out)) ⊎ Judges words held answers Written
   stops answers out out' Written (inl nothing) = inl nothing
   stops answers out out' Written (inr at) = inr (judges answers Written at)
 
@@ -98,9 +98,9 @@ module _ (words : List (List ℕ)) (held : Option Holding) (settings : Settings)
   nothing status A (inl low) two seven (inr (inl is)) = absurd (omega (arith, low, is))
   nothing status A (inr high) two seven (inr (inl is)) = absurd (omega (arith, high.0, is))
 
-  pub ends_judged : (status : ℕ) (answers : Answers) (out out' err err' : Option (List ℕ)) → (status ≤ 2) ⊎ ((5 ≤ status) × (status ≤ 7)) → (status ≤ 1 → JudgesFile settings.limits file answers (WritesVerdicts status answers out out' err err'))
-      → (status ≡ 2 → RefusesFront file err err') → (status ≡ 7 → RefusesReplies file err err') → (status ≡ 2 → (answers ≡ Idle) × (out' ≡ out)) → (status ≡ 7 → (answers ≡ Idle) × (out' ≡ out))
-      → (status ≡ 5 → StopsJudging settings.limits file answers out out' (WritesLinesCut answers out out')) → (status ≡ 6 → StopsJudging settings.limits file answers out out' (WritesLines answers out out'))
+  pub ends_judged : (status : ℕ) (answers : Answers) (out out' err err' : Option (List ℕ)) → (status ≤ 2) ⊎ ((5 ≤ status) × (status ≤ 7)) → (status ≤ 1 → JudgesFile settings file answers (WritesVerdicts status answers out out' err err'))
+      → (status ≡ 2 → RefusesFront file err err') → (status ≡ 7 → RefusesReplies settings file err err') → (status ≡ 2 → (answers ≡ Idle) × (out' ≡ out)) → (status ≡ 7 → (answers ≡ Idle) × (out' ≡ out))
+      → (status ≡ 5 → StopsJudging settings file answers out out' (WritesLinesCut answers out out')) → (status ≡ 6 → StopsJudging settings file answers out out' (WritesLines answers out out'))
       → EndsJudged words held status answers out out' err err'
   ends_judged status answers out out' err err' within judged front replies two seven cut memory = record {
     only = only status within;

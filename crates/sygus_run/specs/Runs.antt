@@ -1,5 +1,5 @@
 -- How a run may end.
-use Rattle.std.specs.Prelude.{ℕ, ◌≡◌, ◌<◌, ◌≤◌, ◌⊎◌, List, length, Option, Ok, Err}
+use Rattle.std.specs.Prelude.{ℕ, Bool, ◌≡◌, ◌<◌, ◌≤◌, ◌⊎◌, List, length, Option, Ok, Err}
 use Rattle.std.specs.Io.KnownBytes.{Appends}
 use Rattle.sy_io.specs.Source.{Holding}
 use Rattle.sygus_input.specs.Inputs.{Names, longest}
@@ -14,7 +14,7 @@ use Rattle.sygus_replies.specs.Texts.{texts, answer_lines, words_line, read_line
 use Rattle.sygus_replies.specs.Answered.{WritesMost}
 use Rattle.sygus_answers.specs.declared.answers.Answers.{Answers}
 use Rattle.sygus_answers.specs.declared.answers.Answers.TheVariants.{Idle}
-use Rattle.sygus_answers.specs.Answers.{replies_of, AreOfLogic}
+use Rattle.sygus_answers.specs.Answers.{replies_of, shown_in, AreOfLogic}
 use Rattle.sygus_search.specs.RightAnswers.{AreRightAnswers}
 
 -- the file of these words is in the profile, and this is what it asks for
@@ -24,7 +24,7 @@ pub record PosesFile (words : List (List ℕ)) (held : Option Holding) (settings
   pub short : length file ≤ longest
   pub reads : wished (file_read file) ≡ Ok wish
 
--- every problem of the file is answered, and the texts are written
+-- every problem of the file is answered, and the texts are written, with proofs where these are asked for
 pub record Answered (words : List (List ℕ)) (held : Option Holding) (answers : Answers) (out out' err err' : Option (List ℕ)) : Type 0 where
   pub settings : Settings
   pub wish : Wish
@@ -32,7 +32,7 @@ pub record Answered (words : List (List ℕ)) (held : Option Holding) (answers :
   pub logic : AreOfLogic wish.logic answers
   pub right : AreRightAnswers settings.mode settings.limits wish.questions answers
   pub every : length (replies_of answers) ≡ length wish.questions
-  pub replied : Appends out out' (texts wish.titles wish.questions (replies_of answers))
+  pub replied : Appends out out' (texts wish.titles wish.questions (shown_in settings.proofs answers))
   pub lines : Appends err err' (answer_lines 1 (replies_of answers))
 
 -- a file that is refused at its first fault, or is too long, and the line that says so
@@ -43,24 +43,25 @@ pub record FileIsRefused (words : List (List ℕ)) (held : Option Holding) (err 
   pub why : ((longest < length file) × Appends err err' too_long_line)
       ⊎ ((length file ≤ longest) × ((refused : Refused) × (wished (file_read file) ≡ Err refused) × Appends err err' (refusal_line file refused)))
 
--- the run ended among the problems of its file: the answers so far are right, and of their texts this was written
-pub record Midway (words : List (List ℕ)) (held : Option Holding) (answers : Answers) (Written : Wish → Type 0) : Type 0 where
+-- the run ended among the problems of its file: the answers so far are right, and of their texts, with proofs or without,
+-- this was written
+pub record Midway (words : List (List ℕ)) (held : Option Holding) (answers : Answers) (Written : Bool → Wish → Type 0) : Type 0 where
   pub settings : Settings
   pub wish : Wish
   pub posed : PosesFile words held settings wish
   pub logic : AreOfLogic wish.logic answers
   pub right : AreRightAnswers settings.mode settings.limits wish.questions answers
-  pub written : Written wish
+  pub written : Written settings.proofs wish
 
 -- a write failed: nothing was answered, or the texts were cut off in the last one
 abbrev pub IsCutOff : List (List ℕ) → Option Holding → Answers → Option (List ℕ) → Option (List ℕ) → Type 0
 IsCutOff words held answers out out' = ((answers ≡ Idle) × (out' ≡ out))
-    ⊎ Midway words held answers (λ wish. WritesMost wish.titles wish.questions (replies_of answers) out out')
+    ⊎ Midway words held answers (λ proofs wish. WritesMost wish.titles wish.questions (shown_in proofs answers) out out')
 
 -- memory was wanted: nothing was answered, or all texts so far are written
 abbrev pub WantsMemory : List (List ℕ) → Option Holding → Answers → Option (List ℕ) → Option (List ℕ) → Type 0
 WantsMemory words held answers out out' = ((answers ≡ Idle) × (out' ≡ out))
-    ⊎ Midway words held answers (λ wish. Appends out out' (texts wish.titles wish.questions (replies_of answers)))
+    ⊎ Midway words held answers (λ proofs wish. Appends out out' (texts wish.titles wish.questions (shown_in proofs answers)))
 
 -- the status of a run without input, and its line
 abbrev pub fault_status : InputFault → ℕ

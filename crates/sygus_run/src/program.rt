@@ -21,12 +21,13 @@ use sygus_solve::answer_file;
 
 /// Reads the words, then the input, checks the whole file, and answers its problems in order. Each reply goes out
 /// before the next problem is sought. In mode `drill` the file is made from a number, and one line goes out in place of
-/// a reply. In mode `check` the replies that follow the problems in the file are judged, and one line of each goes out
-/// before the next is judged.
+/// a reply. In modes `check`, `recheck` and `clauses` the replies that follow the problems in the file are judged, by a
+/// solver, by the proofs behind them and by the clauses of their queries, and what is found of each goes out before the
+/// next is judged. With `--proofs` a line with its proof follows each solution.
 ///
 /// The status is 0 where no answer is a fail and 1 where some is, 2 where the file is refused, 3 where the words are, 4
-/// where a read failed, 5 where a write did, and 6 where memory was wanted. At 5 and 6 the answers are those so far. In
-/// mode `check` it is 0 where all replies hold and else 1, and 7 where the replies are refused.
+/// where a read failed, 5 where a write did, and 6 where memory was wanted. At 5 and 6 the answers are those so far.
+/// Where replies are judged it is 0 where all verdicts are good and else 1, and 7 where the replies are refused.
 pub fn run<S: Source, O: Sink, E: Sink>(
     alloc: Global,
     words: &[String],
@@ -42,7 +43,7 @@ pub fn run<S: Source, O: Sink, E: Sink>(
     ensures unread { (number : ℕ) (limits : Limits) → AskDrill (map string_bytes words.now) number limits → source.new ≡
         source.old }
 
-    // mode check: each reply has its right verdict, and only there replies are refused
+    // modes check, recheck and clauses: each reply has its right verdict, and only there replies are refused
     ensures judged { AskJudging (map string_bytes words.now) →
         EndsJudged (map string_bytes words.now) (S.held source.old) result.status result.answers
         (O.written out.old) (O.written out.new) (E.written err.old) (E.written err.new) }
@@ -97,7 +98,7 @@ pub fn run<S: Source, O: Sink, E: Sink>(
             answer_file(alloc, &settings, file.as_slice(), out, err)
         }
         Ok(Input::Judge(settings, file)) => {
-            judge_file(alloc, &settings.limits, file.as_slice(), out, err)
+            judge_file(alloc, &settings, file.as_slice(), out, err)
         }
         Err(fault) => without_input(err, fault),
     }

@@ -11,7 +11,7 @@ use Rattle.sy_loop_outcome.specs.declared.outcome.Outcome.{Outcome}
 use Rattle.sy_loop.specs.Least.{FindsLeast}
 use Rattle.sygus_modes.specs.Reaches.{reach_of}
 use Rattle.sygus_words.specs.declared.settings.Mode.{Mode}
-use Rattle.sygus_words.specs.declared.settings.Mode.TheVariants.{Solve, Least, Check, Drill}
+use Rattle.sygus_words.specs.declared.settings.Mode.TheVariants.{Solve, Least, Check, Recheck, Clauses, Drill}
 use Rattle.sygus_search.specs.Finding.{FindsBeyondFor}
 use Rattle.sygus_search.specs.RightAnswers.{RightOutcomeFor}
 
@@ -20,10 +20,14 @@ module _ {T N D P S : Type 0} (theory : TheoryOf T N) (solver : DecideOf D T P S
   with_trees Solve is right well = record { right = right; well = well }
   with_trees Least is right well = absurd (cc)
   with_trees Check is right well = record { right = right; well = well }
+  with_trees Recheck is right well = record { right = right; well = well }
+  with_trees Clauses is right well = record { right = right; well = well }
   with_trees (Drill n) is right well = record { right = right; well = well }
 
   pub without_trees : (mode : Mode) → (reach_of mode ≡ Joins → ⊥) → IsRightFor theory solver Sizes problem limits outcome → FindsLeast theory.denotes Sizes (question_of theory.denotes problem) outcome → RightOutcomeFor theory solver mode limits (question_of theory.denotes problem) outcome
   without_trees Solve is right well = absurd (is refl)
   without_trees Least is right well = record { right = right; well = well }
   without_trees Check is right well = absurd (is refl)
+  without_trees Recheck is right well = absurd (is refl)
+  without_trees Clauses is right well = absurd (is refl)
   without_trees (Drill n) is right well = absurd (is refl)

@@ -21,10 +21,10 @@ use Rattle.sy_loop.specs.Least.{FindsLeast}
 use Rattle.sygus_search.specs.Finding.{FindsBeyond}
 use Rattle.sygus_modes.specs.Reaches.{reach_of}
 use Rattle.sygus_words.specs.declared.settings.Mode.{Mode}
-use Rattle.sygus_words.specs.declared.settings.Mode.TheVariants.{Solve, Least, Check, Drill}
+use Rattle.sygus_words.specs.declared.settings.Mode.TheVariants.{Solve, Least, Check, Recheck, Clauses, Drill}
 use Rattle.sygus_replies.specs.Answered.{AreRight}
 use Rattle.sygus_answers.specs.declared.answers.Answers.{Answers}
-use Rattle.sygus_answers.specs.declared.answers.Answers.TheVariants.{Idle, Ints, Bits, IntChecks, BitChecks}
+use Rattle.sygus_answers.specs.declared.answers.Answers.TheVariants.{Idle, Ints, Bits, IntChecks, BitChecks, IntRechecks, BitRechecks, IntSpellings, BitSpellings}
 
 -- bodies that are found are of the least bound in which any solve the problem: in modes `solve` and `drill`, unless a bank was
 -- full or a number had left the 128 bits before
@@ -32,6 +32,8 @@ abbrev pub FindsWell : {T P S N : Type 0} → (N → Val) → Mode → Limits �
 FindsWell number Solve limits question outcome = FindsBeyond number question limits outcome
 FindsWell number Least limits question outcome = FindsLeast number Sizes question outcome
 FindsWell number Check limits question outcome = FindsBeyond number question limits outcome
+FindsWell number Recheck limits question outcome = FindsBeyond number question limits outcome
+FindsWell number Clauses limits question outcome = FindsBeyond number question limits outcome
 FindsWell number (Drill n) limits question outcome = FindsBeyond number question limits outcome
 
 -- the outcome is right within these limits, and so are bodies that are found
@@ -57,3 +59,7 @@ AreRightAnswers mode limits questions (Bits outcomes) =
     AreRight (RightOutcome vectors.owned vectors.vector bits.Accepted bits.budget bits.Shows mode limits) questions outcomes
 AreRightAnswers mode limits questions (IntChecks found) = ⊥
 AreRightAnswers mode limits questions (BitChecks found) = ⊥
+AreRightAnswers mode limits questions (IntRechecks found) = ⊥
+AreRightAnswers mode limits questions (BitRechecks found) = ⊥
+AreRightAnswers mode limits questions (IntSpellings found) = ⊥
+AreRightAnswers mode limits questions (BitSpellings found) = ⊥

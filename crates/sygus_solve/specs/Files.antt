@@ -1,5 +1,5 @@
 -- How the answering of a file may end.
-use Rattle.std.specs.Prelude.{ℕ, ◌≡◌, ◌⊎◌, List, length, Option, Ok, Err}
+use Rattle.std.specs.Prelude.{ℕ, Bool, ◌≡◌, ◌⊎◌, List, length, Option, Ok, Err}
 use Rattle.std.specs.Io.KnownBytes.{Appends}
 use Rattle.sygus_words.specs.declared.settings.Settings.{Settings}
 use Rattle.sy_scope_causes.specs.declared.cause.Refused.{Refused}
@@ -10,7 +10,7 @@ use Rattle.sygus_replies.specs.Texts.{texts, answer_lines}
 use Rattle.sygus_replies.specs.Answered.{WritesMost}
 use Rattle.sygus_answers.specs.declared.answers.Answers.{Answers}
 use Rattle.sygus_answers.specs.declared.answers.Answers.TheVariants.{Idle}
-use Rattle.sygus_answers.specs.Answers.{replies_of, AreOfLogic}
+use Rattle.sygus_answers.specs.Answers.{replies_of, shown_in, AreOfLogic}
 use Rattle.sygus_search.specs.RightAnswers.{AreRightAnswers}
 
 -- the file is in the profile, the answers so far are right, and this was written of what it asks for
@@ -27,19 +27,19 @@ pub record RefusesFile (file : List ℕ) (err err' : Option (List ℕ)) : Type 0
   pub reads : wished (file_read file) ≡ Err refused
   pub line : Appends err err' (refusal_line file refused)
 
--- each problem has its answer, and texts and lines of all are written
-pub record WritesAll (answers : Answers) (out out' err err' : Option (List ℕ)) (wish : Wish) : Type 0 where
+-- each problem has its answer, and texts, with proofs where these are asked for, and lines of all are written
+pub record WritesAll (proofs : Bool) (answers : Answers) (out out' err err' : Option (List ℕ)) (wish : Wish) : Type 0 where
   pub every : length (replies_of answers) ≡ length wish.questions
-  pub replied : Appends out out' (texts wish.titles wish.questions (replies_of answers))
+  pub replied : Appends out out' (texts wish.titles wish.questions (shown_in proofs answers))
   pub lines : Appends err err' (answer_lines 1 (replies_of answers))
 
 -- the texts of the answers so far are written
-abbrev pub WritesTexts : Answers → Option (List ℕ) → Option (List ℕ) → Wish → Type 0
-WritesTexts answers out out' wish = Appends out out' (texts wish.titles wish.questions (replies_of answers))
+abbrev pub WritesTexts : Bool → Answers → Option (List ℕ) → Option (List ℕ) → Wish → Type 0
+WritesTexts proofs answers out out' wish = Appends out out' (texts wish.titles wish.questions (shown_in proofs answers))
 
 -- they are, but cut off in the last one
-abbrev pub WritesCut : Answers → Option (List ℕ) → Option (List ℕ) → Wish → Type 0
-WritesCut answers out out' wish = WritesMost wish.titles wish.questions (replies_of answers) out out'
+abbrev pub WritesCut : Bool → Answers → Option (List ℕ) → Option (List ℕ) → Wish → Type 0
+WritesCut proofs answers out out' wish = WritesMost wish.titles wish.questions (shown_in proofs answers) out out'
 
 -- nothing was answered, or this was written of the answers so far
 abbrev pub Stops : Settings → List ℕ → Answers → Option (List ℕ) → Option (List ℕ) → (Wish → Type 0) → Type 0

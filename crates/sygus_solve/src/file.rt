@@ -30,7 +30,7 @@ pub fn answer_file<O: Sink, E: Sink>(
 
     // 0 and 1: every problem has its right answer
     ensures answered { result.status ≤ 1 → AnswersFile settings.now file.now result.answers
-        (WritesAll result.answers (O.written out.old) (O.written out.new) (E.written err.old) (E.written err.new)) }
+        (WritesAll settings.now.proofs result.answers (O.written out.old) (O.written out.new) (E.written err.old) (E.written err.new)) }
     ensures all_settled { result.status ≡ 0 → All IsSettled (replies_of result.answers) }
     ensures some_fail { result.status ≡ 1 → Any IsFail (replies_of result.answers) }
 
@@ -44,17 +44,17 @@ pub fn answer_file<O: Sink, E: Sink>(
         (E.faults err.new) }
     ensures cut_off { result.status ≡ 5 → Stops settings.now file.now result.answers (O.written out.old)
         (O.written out.new)
-        (WritesCut result.answers (O.written out.old) (O.written out.new)) }
+        (WritesCut settings.now.proofs result.answers (O.written out.old) (O.written out.new)) }
 
     // 6: memory was wanted
     ensures memory { result.status ≡ 6 → Stops settings.now file.now result.answers (O.written out.old)
         (O.written out.new)
-        (WritesTexts result.answers (O.written out.old) (O.written out.new)) }
+        (WritesTexts settings.now.proofs result.answers (O.written out.old) (O.written out.new)) }
     ensures memory_line { result.status ≡ 6 → Appends (E.written err.old) (E.written err.new)
         (answer_lines 1 (replies_of result.answers) ++ memory_line) }
 {
     match read_file(alloc, file) {
-        Ok(job) => answer(alloc, job, settings.mode, &settings.limits, out, err),
+        Ok(job) => answer(alloc, job, settings, out, err),
         Err(ScopeEnd::Refused(refused)) => match refusal_text(alloc, file, &refused) {
             Ok(line) => unanswered(err, line.as_slice(), 2),
             Err(_) => unanswered(err, b"want of memory\n", 6),

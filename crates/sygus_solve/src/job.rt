@@ -8,25 +8,26 @@ ghost use Rattle.sy_scope.specs.Read.{wish_in};
 ghost use Rattle.sygus_replies.specs.Answered.{WritesMost};
 ghost use Rattle.sygus_replies.specs.Replies.{IsSettled, IsFail};
 ghost use Rattle.sygus_replies.specs.Texts.{texts, answer_lines, memory_line};
-ghost use Rattle.sygus_answers.specs.Answers.{replies_of, AreOfLogic, AreNamedFor};
+ghost use Rattle.sygus_answers.specs.Answers.{replies_of, shown_in, AreOfLogic, AreNamedFor};
 ghost use Rattle.sygus_search.specs.RightAnswers.{AreRightAnswers};
 
+use crate::printers::{Logs, Trees};
 use crate::problems::solve;
 use std::alloc::Global;
 use sy_bits::BvDecide;
 use sy_intsolve::IntDecide;
 use sy_io::Sink;
-use sy_query_limits::Limits;
+use sy_meaning_integers::IntTheory;
+use sy_meaning_words::BvTheory;
 use sy_scope::Job;
 use sygus_answers::{Answers, Ended};
-use sygus_words::Mode;
+use sygus_words::Settings;
 
-/// Answers the problems of a file in order, each by the search of this mode with the solver of the file's logic.
+/// Answers the problems of a file in order, each by the search of the settings' mode with the solver of the file's logic.
 pub(crate) fn answer<O: Sink, E: Sink>(
     alloc: Global,
     job: Job,
-    mode: Mode,
-    limits: &Limits,
+    settings: &Settings,
     out: &mut O,
     err: &mut E,
 ) -> Ended
@@ -35,13 +36,13 @@ pub(crate) fn answer<O: Sink, E: Sink>(
     requires fit { JobFits job }
     ensures status { (result.status ≤ 1) ⊎ ((result.status ≡ 5) ⊎ (result.status ≡ 6)) }
     ensures logic { AreOfLogic (wish_in job).logic result.answers }
-    ensures right { AreRightAnswers mode limits.now (wish_in job).questions result.answers }
+    ensures right { AreRightAnswers settings.now.mode settings.now.limits (wish_in job).questions result.answers }
     ensures named { AreNamedFor result.answers }
 
     // 0 and 1: every problem is answered
     ensures every { result.status ≤ 1 → length (replies_of result.answers) ≡ length (wish_in job).questions }
     ensures replied { result.status ≤ 1 → Appends (O.written out.old) (O.written out.new)
-        (texts (wish_in job).titles (wish_in job).questions (replies_of result.answers)) }
+        (texts (wish_in job).titles (wish_in job).questions (shown_in settings.now.proofs result.answers)) }
     ensures lines { result.status ≤ 1 → Appends (E.written err.old) (E.written err.new)
         (answer_lines 1 (replies_of result.answers)) }
     ensures all_settled { result.status ≡ 0 → All IsSettled (replies_of result.answers) }
@@ -51,11 +52,11 @@ pub(crate) fn answer<O: Sink, E: Sink>(
     ensures write { result.status ≡ 5 → Rose (O.faults out.old) (O.faults out.new) ⊎ Rose (E.faults err.old)
         (E.faults err.new) }
     ensures cut_off { result.status ≡ 5 → WritesMost (wish_in job).titles (wish_in job).questions
-        (replies_of result.answers) (O.written out.old) (O.written out.new) }
+        (shown_in settings.now.proofs result.answers) (O.written out.old) (O.written out.new) }
 
     // 6: memory was wanted
     ensures memory { result.status ≡ 6 → Appends (O.written out.old) (O.written out.new)
-        (texts (wish_in job).titles (wish_in job).questions (replies_of result.answers)) }
+        (texts (wish_in job).titles (wish_in job).questions (shown_in settings.now.proofs result.answers)) }
     ensures memory_line { result.status ≡ 6 → Appends (E.written err.old) (E.written err.new)
         (answer_lines 1 (replies_of result.answers) ++ memory_line) }
 {
@@ -66,12 +67,11 @@ pub(crate) fn answer<O: Sink, E: Sink>(
         },
         Job::Ints(problems, titles) => {
             let mut decide = IntDecide::new();
-            let solved = solve(
+            let solved = solve::<IntTheory, IntDecide, Trees, O, E>(
                 alloc,
                 problems.as_slice(),
                 &titles,
-                mode,
-                limits,
+                settings,
                 &mut decide,
                 out,
                 err,
@@ -83,12 +83,11 @@ pub(crate) fn answer<O: Sink, E: Sink>(
         }
         Job::Bits(problems, titles) => {
             let mut decide = BvDecide::new();
-            let solved = solve(
+            let solved = solve::<BvTheory, BvDecide, Logs, O, E>(
                 alloc,
                 problems.as_slice(),
                 &titles,
-                mode,
-                limits,
+                settings,
                 &mut decide,
                 out,
                 err,

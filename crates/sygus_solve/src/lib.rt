@@ -3,6 +3,7 @@
 
 mod file;
 mod job;
+mod printers;
 mod problems;
 
 pub use file::answer_file;

@@ -5,7 +5,7 @@ ghost use Rattle.sy_io.specs.Causes.{Rose};
 ghost use Rattle.sy_grammar_base.specs.Questions.{question_of};
 ghost use Rattle.sygus_replies.specs.Answerable.{IsAnswerable, IsAnswerableFor};
 ghost use Rattle.sygus_replies.specs.Answered.{WritesMost, AnswersNext, BreaksNext};
-ghost use Rattle.sygus_replies.specs.Replies.{IsSettled, IsFail, reply_for, replies_for};
+ghost use Rattle.sygus_replies.specs.Replies.{IsSettled, IsFail, reply_for, replies_for, shown_for, all_shown_for};
 ghost use Rattle.sygus_replies.specs.Texts.{texts, answer_lines, memory_line};
 ghost use Rattle.sygus_search.specs.RightAnswers.{RightOutcomeFor, AreRightFor};
 
@@ -14,21 +14,19 @@ use sy_grammar_base::Problem;
 use sy_io::Sink;
 use sy_loop_outcome::Outcome;
 use sy_query_base::Decide;
-use sy_query_limits::Limits;
 use sy_scope_causes::Titles;
 use sy_terms::{Seq, Theory, Want};
-use sygus_replies::{WriteFault, answer_line, answer_text, last, write_both};
+use sygus_replies::{Prints, WriteFault, answer_line, answer_text, last, write_both};
 use sygus_search::{Solved, sought, status_of};
-use sygus_words::Mode;
+use sygus_words::Settings;
 
-/// Answers the problems in order, each by the search of this mode with this solver. Of each answer the text and the
-/// line are written before the next problem is sought.
-pub(crate) fn solve<T: Theory, D: Decide<T>, O: Sink, E: Sink>(
+/// Answers the problems in order, each by the search of the settings' mode with this solver. Of each answer the text,
+/// with the proof where proofs are asked for, and the line are written before the next problem is sought.
+pub(crate) fn solve<T: Theory, D: Decide<T>, S: Prints<D::Proof>, O: Sink, E: Sink>(
     alloc: Global,
     problems: &[Problem<T>],
     titles: &Titles,
-    mode: Mode,
-    limits: &Limits,
+    settings: &Settings,
     decide: &mut D,
     out: &mut O,
     err: &mut E,
@@ -36,12 +34,13 @@ pub(crate) fn solve<T: Theory, D: Decide<T>, O: Sink, E: Sink>(
     requires few { length problems.now < 2 ^ 31 }
     requires answerable { All (IsAnswerable T.owned T.numeric titles.now) (map (question_of T.denotes) problems.now) }
     ensures status { (result.status ≤ 1) ⊎ ((result.status ≡ 5) ⊎ (result.status ≡ 6)) }
-    ensures right { AreRightFor T.Theory D.Decide mode limits.now problems.now result.answers }
+    ensures right { AreRightFor T.Theory D.Decide settings.now.mode settings.now.limits problems.now result.answers }
 
     // 0 and 1: every problem is answered
     ensures every { result.status ≤ 1 → length result.answers ≡ length problems.now }
     ensures replied { result.status ≤ 1 → Appends (O.written out.old) (O.written out.new)
-        (texts titles.now (map (question_of T.denotes) problems.now) (replies_for T.Theory D.Decide result.answers)) }
+        (texts titles.now (map (question_of T.denotes) problems.now)
+        (all_shown_for T.Theory D.Decide S.Prints settings.now.proofs result.answers)) }
     ensures lines { result.status ≤ 1 → Appends (E.written err.old) (E.written err.new)
         (answer_lines 1 (replies_for T.Theory D.Decide result.answers)) }
     ensures all_settled { result.status ≡ 0 → All IsSettled (replies_for T.Theory D.Decide result.answers) }
@@ -51,22 +50,23 @@ pub(crate) fn solve<T: Theory, D: Decide<T>, O: Sink, E: Sink>(
     ensures write { result.status ≡ 5 → Rose (O.faults out.old) (O.faults out.new) ⊎ Rose (E.faults err.old)
         (E.faults err.new) }
     ensures cut_off { result.status ≡ 5 → WritesMost titles.now (map (question_of T.denotes) problems.now)
-        (replies_for T.Theory D.Decide result.answers) (O.written out.old) (O.written out.new) }
+        (all_shown_for T.Theory D.Decide S.Prints settings.now.proofs result.answers) (O.written out.old)
+        (O.written out.new) }
 
     // 6: memory was wanted
     ensures memory { result.status ≡ 6 → Appends (O.written out.old) (O.written out.new)
-        (texts titles.now (map (question_of T.denotes) problems.now) (replies_for T.Theory D.Decide result.answers)) }
+        (texts titles.now (map (question_of T.denotes) problems.now)
+        (all_shown_for T.Theory D.Decide S.Prints settings.now.proofs result.answers)) }
     ensures memory_line { result.status ≡ 6 → Appends (E.written err.old) (E.written err.new)
         (answer_lines 1 (replies_for T.Theory D.Decide result.answers) ++ memory_line) }
 {
     let mut answers = Seq::new(alloc);
     for problem in problems {
-        match answer_next(
+        match answer_next::<T, D, S, O, E>(
             alloc,
             titles,
             problem,
-            mode,
-            limits,
+            settings,
             decide,
             &mut answers,
             out,
@@ -92,12 +92,11 @@ enum Stop {
 }
 
 /// Answers one problem, and writes its text and its line.
-fn answer_next<T: Theory, D: Decide<T>, O: Sink, E: Sink>(
+fn answer_next<T: Theory, D: Decide<T>, S: Prints<D::Proof>, O: Sink, E: Sink>(
     alloc: Global,
     titles: &Titles,
     problem: &Problem<T>,
-    mode: Mode,
-    limits: &Limits,
+    settings: &Settings,
     decide: &mut D,
     answers: &mut Seq<Outcome<T, D::Proof, D::Spent>>,
     out: &mut O,
@@ -105,11 +104,13 @@ fn answer_next<T: Theory, D: Decide<T>, O: Sink, E: Sink>(
 ) -> Result<(), Stop>
     requires few { length answers.old < 2 ^ 31 }
     requires answerable { IsAnswerableFor T.Theory titles.now problem.now }
-    ensures ok { OnOk result (AnswersNext (RightOutcomeFor T.Theory D.Decide mode limits.now)
-        (reply_for T.Theory D.Decide) titles.now (question_of T.denotes problem.now)
+    ensures ok { OnOk result (AnswersNext
+        (RightOutcomeFor T.Theory D.Decide settings.now.mode settings.now.limits) (reply_for T.Theory D.Decide)
+        (shown_for T.Theory D.Decide S.Prints settings.now.proofs) titles.now (question_of T.denotes problem.now)
         answers.old answers.new (O.written out.old) (O.written out.new) (E.written err.old) (E.written err.new)) }
-    ensures broken { IsErrOf result Stop.Write → BreaksNext (RightOutcomeFor T.Theory D.Decide mode limits.now)
-        (reply_for T.Theory D.Decide) titles.now (question_of T.denotes problem.now)
+    ensures broken { IsErrOf result Stop.Write → BreaksNext
+        (RightOutcomeFor T.Theory D.Decide settings.now.mode settings.now.limits)
+        (shown_for T.Theory D.Decide S.Prints settings.now.proofs) titles.now (question_of T.denotes problem.now)
         answers.old answers.new (O.written out.old) (O.written out.new) }
     ensures cause { IsErrOf result Stop.Write → Rose (O.faults out.old) (O.faults out.new) ⊎ Rose (E.faults err.old)
         (E.faults err.new) }
@@ -120,10 +121,10 @@ fn answer_next<T: Theory, D: Decide<T>, O: Sink, E: Sink>(
     ensures later_err { E.faults err.old ≤ E.faults err.new }
 {
     let check = (answers.len() + 1) as u32;
-    let Ok(answer) = sought(alloc, problem, mode, limits, decide) else {
+    let Ok(answer) = sought(alloc, problem, settings.mode, &settings.limits, decide) else {
         return Err(Stop::Memory);
     };
-    let Ok(text) = answer_text::<T, D>(alloc, titles, problem, &answer) else {
+    let Ok(text) = answer_text::<T, D, S>(alloc, titles, problem, &answer, settings.proofs) else {
         drop(answer);
         return Err(Stop::Memory);
     };

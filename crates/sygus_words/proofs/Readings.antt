@@ -1,5 +1,6 @@
 -- Words have one reading.
-use Rattle.std.proofs.Common.{◌≡◌, ◌<◌, ◌^◌, ℕ, List, inl, inr, Option, Some, None, arith, codes, get_or, sym, ap, ◌∙◌}
+use Rattle.std.proofs.Common.{◌≡◌, ◌<◌, ◌^◌, ℕ, List, Option, Some, None, arith, codes, get_or, nat_eq, refl, sym, ap, ◌∙◌}
+use Rattle.std.specs.Prelude.{if◌then◌else◌}
 use Rattle.std.specs.Fmt.{decimal}
 use Rattle.std.specs.Str.Parse.{AllDigits, digits_value}
 use Rattle.std.proofs.lemmas.Fmt.{digits_value-decimal}
@@ -9,7 +10,7 @@ use Rattle.sy_query_limits.specs.declared.Limits.{Limits}
 use Rattle.sygus_numbers.specs.Numbers.{LimitIs}
 use Rattle.sygus_words.specs.CommandLine.{DrillIs, ModeIs, AreLimits, IsReading, word_value}
 use Rattle.sygus_words.specs.declared.settings.Mode.{Mode}
-use Rattle.sygus_words.specs.declared.settings.Mode.TheVariants.{Drill}
+use Rattle.sygus_words.specs.declared.settings.Mode.TheVariants.{Solve, Least, Check, Recheck, Clauses, Drill}
 use Rattle.sygus_words.specs.declared.settings.Settings.{Settings}
 
 -- a spelling is that of one number
@@ -22,29 +23,37 @@ one_limit : (default greatest : ℕ) (text : Option Text) (n m : ℕ) → greate
 one_limit default greatest None n m lt first second = first ∙ sym second
 one_limit default greatest (Some text) n m lt first second = one_number n m (omega (arith, lt, first.2)) (omega (arith, lt, second.2)) (sym first.0 ∙ second.0)
 
-one_drill : (file : Option Text) (m k : Mode) → DrillIs file m → DrillIs file k → m ≡ k
-one_drill file m k first second =
-    let same : decimal first.0 ≡ decimal second.0 = let e : Some (decimal first.0) ≡ Some (decimal second.0) = sym first.1 ∙ second.1 in cc in
-    first.3 ∙ ap Drill (one_number first.0 second.0 (omega (arith, first.2)) (omega (arith, second.2)) same) ∙ sym second.3
+-- the number that a text spells
+number_in : Option Text → ℕ
+number_in None = 0
+number_in (Some text) = digits_value 10 text
 
-one_mode : (text file : Option Text) (m k : Mode) → ModeIs text file m → ModeIs text file k → m ≡ k
+drill_in : (file : Option Text) (n : ℕ) → DrillIs file n → n ≡ number_in file
+unfolding number_in
+drill_in file n is =
+    let own = numerals_by_value (AllDigits 10) tells_digits in
+    rw is.0 (sym (digits_value-decimal own n (omega (arith, is.1))))
+
+-- the mode of a word, by its fourth letter, with the number of a drill
+mode_by : ℕ → ℕ → Mode
+mode_by letter number =
+    if nat_eq letter 118 then Solve else (if nat_eq letter 115 then Least else (if nat_eq letter 99 then Check else (if nat_eq letter 104 then Recheck else (if nat_eq letter 117 then Clauses else Drill number))))
+
+mode_in : Text → Option Text → Mode
+mode_in text file = mode_by (get_or text 3 0) (number_in file)
+
+named : (text : Text) (file : Option Text) (mode : Mode) → ModeIs (Some text) file mode → mode ≡ mode_in text file
+unfolding mode_in mode_by
+named text file Solve is = rw is.0 refl
+named text file Least is = rw is.0 refl
+named text file Check is = rw is.0 refl
+named text file Recheck is = rw is.0 refl
+named text file Clauses is = rw is.0 refl
+named text file (Drill n) is = ap Drill (drill_in file n is.1) ∙ rw is.0 refl
+
+pub one_mode : (text file : Option Text) (m k : Mode) → ModeIs text file m → ModeIs text file k → m ≡ k
 one_mode None file m k first second = first ∙ sym second
-one_mode (Some text) file m k (inl first) (inl second) = first.1 ∙ sym second.1
-one_mode (Some text) file m k (inl first) (inr (inl second)) = absurd (let first : 115 ≡ 108 = ap (λ (l : List ℕ). get_or l 0 0) (sym first.0 ∙ second.0) in omega (arith, first))
-one_mode (Some text) file m k (inl first) (inr (inr (inl second))) = absurd (let first : 115 ≡ 99 = ap (λ (l : List ℕ). get_or l 0 0) (sym first.0 ∙ second.0) in omega (arith, first))
-one_mode (Some text) file m k (inl first) (inr (inr (inr second))) = absurd (let first : 115 ≡ 100 = ap (λ (l : List ℕ). get_or l 0 0) (sym first.0 ∙ second.0) in omega (arith, first))
-one_mode (Some text) file m k (inr (inl first)) (inl second) = absurd (let first : 108 ≡ 115 = ap (λ (l : List ℕ). get_or l 0 0) (sym first.0 ∙ second.0) in omega (arith, first))
-one_mode (Some text) file m k (inr (inl first)) (inr (inl second)) = first.1 ∙ sym second.1
-one_mode (Some text) file m k (inr (inl first)) (inr (inr (inl second))) = absurd (let first : 108 ≡ 99 = ap (λ (l : List ℕ). get_or l 0 0) (sym first.0 ∙ second.0) in omega (arith, first))
-one_mode (Some text) file m k (inr (inl first)) (inr (inr (inr second))) = absurd (let first : 108 ≡ 100 = ap (λ (l : List ℕ). get_or l 0 0) (sym first.0 ∙ second.0) in omega (arith, first))
-one_mode (Some text) file m k (inr (inr (inl first))) (inl second) = absurd (let first : 99 ≡ 115 = ap (λ (l : List ℕ). get_or l 0 0) (sym first.0 ∙ second.0) in omega (arith, first))
-one_mode (Some text) file m k (inr (inr (inl first))) (inr (inl second)) = absurd (let first : 99 ≡ 108 = ap (λ (l : List ℕ). get_or l 0 0) (sym first.0 ∙ second.0) in omega (arith, first))
-one_mode (Some text) file m k (inr (inr (inl first))) (inr (inr (inl second))) = first.1 ∙ sym second.1
-one_mode (Some text) file m k (inr (inr (inl first))) (inr (inr (inr second))) = absurd (let first : 99 ≡ 100 = ap (λ (l : List ℕ). get_or l 0 0) (sym first.0 ∙ second.0) in omega (arith, first))
-one_mode (Some text) file m k (inr (inr (inr first))) (inl second) = absurd (let first : 100 ≡ 115 = ap (λ (l : List ℕ). get_or l 0 0) (sym first.0 ∙ second.0) in omega (arith, first))
-one_mode (Some text) file m k (inr (inr (inr first))) (inr (inl second)) = absurd (let first : 100 ≡ 108 = ap (λ (l : List ℕ). get_or l 0 0) (sym first.0 ∙ second.0) in omega (arith, first))
-one_mode (Some text) file m k (inr (inr (inr first))) (inr (inr (inl second))) = absurd (let first : 100 ≡ 99 = ap (λ (l : List ℕ). get_or l 0 0) (sym first.0 ∙ second.0) in omega (arith, first))
-one_mode (Some text) file m k (inr (inr (inr first))) (inr (inr (inr second))) = one_drill file m k first.1 second.1
+one_mode (Some text) file m k first second = named text file m first ∙ sym (named text file k second)
 
 one_choice : (value : Text → Option Text) (l m : Limits) → AreLimits value l → AreLimits value m → l ≡ m
 one_choice value l m first second = λ i. record {

@@ -1,14 +1,14 @@
--- The command line of the program: `sygus [--mode solve|least|check|drill] [--size N] [--rounds N] [--points N] [--bank N]
--- [--weight N] [--clauses N] [--nodes N] [--pivots N] FILE`.
-use Rattle.std.specs.Prelude.{◌≡◌, ◌≤◌, ◌⊎◌, ℕ, true, List, [], ◌∷◌, Option, Some, None, codes}
+-- The command line of the program: `sygus [--mode solve|least|check|recheck|clauses|drill] [--size N] [--rounds N]
+-- [--points N] [--bank N] [--weight N] [--clauses N] [--nodes N] [--pivots N] [--proofs] FILE`.
+use Rattle.std.specs.Prelude.{◌≡◌, ◌≤◌, ℕ, Bool, true, false, List, [], ◌∷◌, Option, Some, None, bytes_eq, codes}
 use Rattle.std.specs.Fmt.{decimal}
 use Rattle.clap.specs.Words.{App, Rule, Text, fault_of, first_of, matches_of, new_rule}
 use Rattle.clap.specs.Simple.{new_shape}
-use Rattle.clap.specs.declared.builder.ArgAction.TheVariants.{Set}
+use Rattle.clap.specs.declared.builder.ArgAction.TheVariants.{Set, SetTrue}
 use Rattle.sy_query_limits.specs.declared.Limits.{Limits}
 use Rattle.sygus_numbers.specs.Numbers.{LimitIs}
 use Rattle.sygus_words.specs.declared.settings.Mode.{Mode}
-use Rattle.sygus_words.specs.declared.settings.Mode.TheVariants.{Solve, Least, Check, Drill}
+use Rattle.sygus_words.specs.declared.settings.Mode.TheVariants.{Solve, Least, Check, Recheck, Clauses, Drill}
 use Rattle.sygus_words.specs.declared.settings.Settings.{Settings}
 use Rattle.sygus_words.specs.declared.settings.WordFault.{WordFault}
 use Rattle.sygus_words.specs.declared.settings.WordFault.TheVariants.{Refused, Want}
@@ -16,6 +16,10 @@ use Rattle.sygus_words.specs.declared.settings.WordFault.TheVariants.{Refused, W
 -- an option that takes one value
 abbrev pub option_rule : Text → Rule
 option_rule name = record (new_rule name) { long = Some name; action = Some Set }
+
+-- an option without a value
+abbrev pub flag_rule : Text → Rule
+flag_rule name = record (new_rule name) { long = Some name; action = Some SetTrue }
 
 -- the one word that is no option
 abbrev pub file_rule : Rule
@@ -26,7 +30,8 @@ abbrev pub sygus : App
 sygus = record {
   top = record (new_shape (codes "sygus")) {
     rules = option_rule (codes "mode") ∷ option_rule (codes "size") ∷ option_rule (codes "rounds") ∷ option_rule (codes "points") ∷ option_rule (codes "bank")
-        ∷ option_rule (codes "weight") ∷ option_rule (codes "clauses") ∷ option_rule (codes "nodes") ∷ option_rule (codes "pivots") ∷ file_rule ∷ [];
+        ∷ option_rule (codes "weight") ∷ option_rule (codes "clauses") ∷ option_rule (codes "nodes") ∷ option_rule (codes "pivots")
+        ∷ flag_rule (codes "proofs") ∷ file_rule ∷ [];
     disable_help_flag = true;
     disable_version_flag = true;
   };
@@ -37,15 +42,37 @@ sygus = record {
 abbrev pub greatest_drill : ℕ
 greatest_drill = 999999999
 
--- the drill of the number of which FILE is the decimal spelling
-abbrev pub DrillIs : Option Text → Mode → Type 0
-DrillIs file mode = (n : ℕ) × (file ≡ Some (decimal n)) × (n ≤ greatest_drill) × (mode ≡ Drill n)
+-- FILE is the decimal spelling of this number of a drill
+abbrev pub DrillIs : Option Text → ℕ → Type 0
+DrillIs file n = (file ≡ Some (decimal n)) × (n ≤ greatest_drill)
+
+-- the word that names a mode
+abbrev pub mode_word : Mode → Text
+mode_word Solve = codes "solve"
+mode_word Least = codes "least"
+mode_word Check = codes "check"
+mode_word Recheck = codes "recheck"
+mode_word Clauses = codes "clauses"
+mode_word (Drill n) = codes "drill"
+
+-- FILE suits the mode: in mode `drill` a number stands there
+abbrev pub FileSuits : Option Text → Mode → Type 0
+FileSuits file (Drill n) = DrillIs file n
+FileSuits file _ = Unit {0}
 
 -- the mode that an option's value and FILE give
 abbrev pub ModeIs : Option Text → Option Text → Mode → Type 0
 ModeIs None file mode = mode ≡ Solve
-ModeIs (Some text) file mode =
-    ((text ≡ codes "solve") × (mode ≡ Solve)) ⊎ (((text ≡ codes "least") × (mode ≡ Least)) ⊎ (((text ≡ codes "check") × (mode ≡ Check)) ⊎ ((text ≡ codes "drill") × DrillIs file mode)))
+ModeIs (Some text) file mode = (text ≡ mode_word mode) × FileSuits file mode
+
+-- a flag is set
+abbrev pub is_set : Option Text → Bool
+is_set None = false
+is_set (Some text) = bytes_eq text (codes "true")
+
+-- whether proofs are asked for: by a flag, in mode `solve` alone
+abbrev pub ProofsAre : Option Text → Mode → Bool → Type 0
+ProofsAre value mode proofs = (proofs ≡ is_set value) × (proofs ≡ true → mode ≡ Solve)
 
 -- the limits, with their defaults and greatest values
 pub record AreLimits (value : Text → Option Text) (limits : Limits) : Type 0 where
@@ -62,6 +89,7 @@ pub record AreLimits (value : Text → Option Text) (limits : Limits) : Type 0 w
 pub record AreSettings (value : Text → Option Text) (settings : Settings) : Type 0 where
   pub mode : ModeIs (value (codes "mode")) (value (codes "FILE")) settings.mode
   pub limits : AreLimits value settings.limits
+  pub proofs : ProofsAre (value (codes "proofs")) settings.mode settings.proofs
   pub file : value (codes "FILE") ≡ Some settings.file
 
 -- the value that clap's matches of the words have for an option or for FILE

@@ -14,6 +14,14 @@ fn option<'a>(alloc: Global, name: &'a str) -> Arg<'a>
     Arg::new(alloc, name).long(name).action(ArgAction::Set)
 }
 
+/// An option without a value.
+fn flag<'a>(alloc: Global, name: &'a str) -> Arg<'a>
+    ensures rule { rule_of result ≡ line.flag_rule name.entry.now }
+    ensures local { result.global ≡ false }
+{
+    Arg::new(alloc, name).long(name).action(ArgAction::SetTrue)
+}
+
 /// The name of the file, which has to be there.
 fn file<'a>(alloc: Global) -> Arg<'a>
     ensures rule { rule_of result ≡ line.file_rule }
@@ -40,6 +48,7 @@ pub fn command<'a>(alloc: Global) -> Result<Command<'a>, AllocError>
         .arg(option(alloc, "clauses"))?
         .arg(option(alloc, "nodes"))?
         .arg(option(alloc, "pivots"))?
+        .arg(flag(alloc, "proofs"))?
         .arg(file(alloc))?;
     Ok(command)
 }

@@ -17,6 +17,10 @@ pub enum Mode {
     Least,
     /// The replies that follow the problems in the file are judged.
     Check,
+    /// So they are, by the proofs that follow them.
+    Recheck,
+    /// Of each such reply the clauses are written that say that it is no solution.
+    Clauses,
     /// No file is read: the problem that is made from a number of at most 999,999,999 is solved.
     Drill(u32),
 }
@@ -57,6 +61,8 @@ impl FileName {
 pub struct Settings {
     pub mode: Mode,
     pub limits: Limits,
+    /// Whether each solution comes with its proof, in mode `solve` alone.
+    pub proofs: bool,
     pub file: FileName,
 }
 

@@ -1,10 +1,10 @@
 // Reading the words of a command line.
-ghost use Rattle.std.specs.Prelude.{◌≡◌, ◌≤◌, ◌<◌, ◌^◌, ℕ, [], map, codes, IfOk, IfErr, MatchOption};
+ghost use Rattle.std.specs.Prelude.{◌≡◌, ◌≤◌, ◌<◌, ◌^◌, ℕ, Bool, [], map, codes, IfOk, IfErr, MatchOption};
 ghost use Rattle.std.specs.Fmt.{decimal};
 ghost use Rattle.std.specs.String.{string_bytes};
 ghost use Rattle.clap.specs.Words.{fault_of, first_value, found_of, matches_of, rows_of};
 ghost use Rattle.sygus_numbers.specs.Numbers.{LimitIs};
-ghost use Rattle.sygus_words.specs.CommandLine.{sygus, greatest_drill, DrillIs, ModeIs, AreLimits, AreSettings, IsReading, WordsAreRefused};
+ghost use Rattle.sygus_words.specs.CommandLine.{sygus, greatest_drill, DrillIs, ModeIs, ProofsAre, AreLimits, AreSettings, IsReading, WordsAreRefused};
 ghost use Rattle.sygus_words.specs.declared.settings.Settings.{Settings};
 ghost use Rattle.sygus_words.specs.declared.settings.WordFault.TheVariants.{Refused};
 ghost use Rattle.sygus_words.specs.declared.settings.Mode.{Mode};
@@ -56,14 +56,13 @@ fn drill_number(text: &str) -> Option<u32>
     }
 }
 
-/// Mode `drill`, whose number stands in FILE's place.
-fn drill(matches: &ArgMatches<'_>) -> Option<Mode>
-    ensures { MatchOption result ((m : Mode) → DrillIs (first_value (found_of matches.now) (codes "FILE")) m → ⊥)
-        (λ m. DrillIs (first_value (found_of matches.now) (codes "FILE")) m) }
+/// The number of a drill, which stands in FILE's place.
+fn drill(matches: &ArgMatches<'_>) -> Option<u32>
+    ensures { MatchOption result ((n : ℕ) → DrillIs (first_value (found_of matches.now) (codes "FILE")) n → ⊥)
+        (λ n. DrillIs (first_value (found_of matches.now) (codes "FILE")) n) }
 {
     let file = matches.get_str("FILE")?;
-    let number = drill_number(file)?;
-    Some(Mode::Drill(number))
+    drill_number(file)
 }
 
 /// The mode, which is `solve` where none is named.
@@ -76,8 +75,23 @@ fn mode(matches: &ArgMatches<'_>) -> Option<Mode>
         None | Some("solve") => Some(Mode::Solve),
         Some("least") => Some(Mode::Least),
         Some("check") => Some(Mode::Check),
-        Some("drill") => drill(matches),
+        Some("recheck") => Some(Mode::Recheck),
+        Some("clauses") => Some(Mode::Clauses),
+        Some("drill") => drill(matches).map(Mode::Drill),
         Some(_) => None,
+    }
+}
+
+/// Whether proofs are asked for, which only mode `solve` gives.
+fn proofs(matches: &ArgMatches<'_>, mode: Mode) -> Option<bool>
+    ensures { MatchOption result
+        ((b : Bool) → ProofsAre (first_value (found_of matches.now) (codes "proofs")) mode b → ⊥)
+        (λ b. ProofsAre (first_value (found_of matches.now) (codes "proofs")) mode b) }
+{
+    match (matches.get_str("proofs"), mode) {
+        (Some("true"), Mode::Solve) => Some(true),
+        (Some("true"), _) => None,
+        (_, _) => Some(false),
     }
 }
 
@@ -93,11 +107,19 @@ fn settings(alloc: Global, matches: &ArgMatches<'_>) -> Result<Settings, WordFau
     let Some(limits) = limits(matches) else {
         return Err(WordFault::Refused);
     };
+    let Some(proofs) = proofs(matches, mode) else {
+        return Err(WordFault::Refused);
+    };
     let Some(file) = matches.get_str("FILE") else {
         return Err(WordFault::Refused);
     };
     let file = FileName::new(String::from_str(alloc, file)?);
-    Ok(Settings { mode, limits, file })
+    Ok(Settings {
+        mode,
+        limits,
+        proofs,
+        file,
+    })
 }
 
 /// What `clap` makes of the words.
@@ -117,9 +139,10 @@ fn parsed<'a>(alloc: Global, words: &'a [String]) -> Result<ArgMatches<'a>, Word
 
 /// The settings that the words of a command line ask for; the first word is the program's name. An option is written
 /// `--NAME VALUE` or `--NAME=VALUE`, and the one word that is no option is the name of the file. `Refused` comes where
-/// `clap` refuses the words, where the mode is none of `solve`, `least`, `check` and `drill`, where the value of a
-/// limit isn't the decimal spelling, without sign and leading zeros, of a number from 1 to its greatest value, or where
-/// in mode `drill` the name of the file isn't so spelled a number from 0 to 999,999,999:
+/// `clap` refuses the words, where the mode is none of `solve`, `least`, `check`, `recheck`, `clauses` and `drill`,
+/// where the value of a limit isn't the decimal spelling, without sign and leading zeros, of a number from 1 to its
+/// greatest value, where `--proofs` stands in another mode than `solve`, or where in mode `drill` the name of the file
+/// isn't so spelled a number from 0 to 999,999,999:
 ///
 /// | Option | Default | Greatest |
 /// |---|---|---|

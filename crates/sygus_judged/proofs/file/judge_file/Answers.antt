@@ -20,7 +20,7 @@ returns-in-Ok-clause-named g c = c.judge_job.ensures.ends.named
 pub returns-in-Ok-clause-judged : goal.returns-in-Ok-clause-judged
 returns-in-Ok-clause-judged g c small =
     let ends = rw c.in-Ok.ensures.start at c.judge_job.ensures.ends in
-    judges_file c.args.limits.now c.args.file.now (wish_in c.in-Ok.job) c.in-Ok.ensures.read _ _ (ends.judged small)
+    judges_file c.args.settings.now c.args.file.now (wish_in c.in-Ok.job) c.in-Ok.ensures.read _ _ (ends.judged small)
 
 pub returns-in-Ok-clause-front_refused : goal.returns-in-Ok-clause-front_refused
 returns-in-Ok-clause-front_refused g c is = absurd (not_two _ c.judge_job.ensures.ends.only is)
@@ -34,7 +34,7 @@ returns-in-Ok-clause-silent g c is = absurd (not_two _ c.judge_job.ensures.ends.
 pub returns-in-Ok-clause-reply_refused : goal.returns-in-Ok-clause-reply_refused
 returns-in-Ok-clause-reply_refused g c is =
     let ends = rw c.in-Ok.ensures.start at c.judge_job.ensures.ends in
-    refuses_file c.args.limits.now c.args.file.now (wish_in c.in-Ok.job) c.in-Ok.ensures.read _ _ (ends.refused is)
+    refuses_file c.args.settings.now c.args.file.now (wish_in c.in-Ok.job) c.in-Ok.ensures.read _ _ (ends.refused is)
 
 pub returns-in-Ok-clause-reply_idle : goal.returns-in-Ok-clause-reply_idle
 returns-in-Ok-clause-reply_idle g c is = c.judge_job.ensures.ends.idle is
@@ -42,12 +42,12 @@ returns-in-Ok-clause-reply_idle g c is = c.judge_job.ensures.ends.idle is
 pub returns-in-Ok-clause-cut_off : goal.returns-in-Ok-clause-cut_off
 returns-in-Ok-clause-cut_off g c is =
     let ends = rw c.in-Ok.ensures.start at c.judge_job.ensures.ends in
-    stops_file c.args.limits.now c.args.file.now (wish_in c.in-Ok.job) c.in-Ok.ensures.read _ _ _ _ (ends.cut_off is)
+    stops_file c.args.settings.now c.args.file.now (wish_in c.in-Ok.job) c.in-Ok.ensures.read _ _ _ _ (ends.cut_off is)
 
 pub returns-in-Ok-clause-memory : goal.returns-in-Ok-clause-memory
 returns-in-Ok-clause-memory g c is =
     let ends = rw c.in-Ok.ensures.start at c.judge_job.ensures.ends in
-    stops_file c.args.limits.now c.args.file.now (wish_in c.in-Ok.job) c.in-Ok.ensures.read _ _ _ _ (ends.memory is)
+    stops_file c.args.settings.now c.args.file.now (wish_in c.in-Ok.job) c.in-Ok.ensures.read _ _ _ _ (ends.memory is)
 
 pub returns-in-Ok-clause-memory_line : goal.returns-in-Ok-clause-memory_line
 returns-in-Ok-clause-memory_line g c is = c.judge_job.ensures.ends.memory_line is

@@ -1,7 +1,7 @@
 use Rattle.std.proofs.Common.{refl, ap}
 use Rattle.std.proofs.lemmas.List.Elements.{All-nil}
 use Rattle.sygus_replies.specs.Replies.{IsSettled}
-use Rattle.sygus_input.proofs.Asking.{asks_one}
+use Rattle.sygus_input.proofs.Asking.{asks_judging, asks_one}
 use Rattle.sygus_replies.proofs.Steps.{lines-none}
 use Rattle.sygus_drills.proofs.Drilling.{ends_that}
 use Rattle.sygus_run.proofs.Ends as ends
@@ -59,10 +59,15 @@ returns-in-Ok-File-clause-judged g c asked =
     let file = rw c.in-Ok-File.field-0-is at c.in-Ok-File.ensures.ok in
     absurd (file.no_judging asked)
 
-pub judge_file-requires : goal.judge_file-requires
-judge_file-requires g c =
+pub judge_file-requires-clause-short : goal.judge_file-requires-clause-short
+judge_file-requires-clause-short g c =
     let asked = rw c.in-Ok-Judge.field-0-is at c.in-Ok-Judge.ensures.ok in
     rw c.as_slice-in-Ok-Judge.ensures asked.short
+
+pub judge_file-requires-clause-mode : goal.judge_file-requires-clause-mode
+judge_file-requires-clause-mode g c =
+    let asked = rw c.in-Ok-Judge.field-0-is at c.in-Ok-Judge.ensures.ok in
+    asked.mode
 
 pub returns-in-Ok-Judge-clause-drill : goal.returns-in-Ok-Judge-clause-drill
 returns-in-Ok-Judge-clause-drill g c number limits drill =
@@ -87,32 +92,32 @@ returns-in-Ok-Judge-clause-judged g c _ =
 pub returns-in-Ok-Judge-clause-reply_refused : goal.returns-in-Ok-Judge-clause-reply_refused
 returns-in-Ok-Judge-clause-reply_refused g c _ =
     let asked = rw c.in-Ok-Judge.field-0-is at c.in-Ok-Judge.ensures.ok in
-    asked.judging
+    asks_judging _ c.in-Ok-Judge.settings asked.named.accepted asked.mode
 
 pub returns-in-Ok-Judge-clause-answered : goal.returns-in-Ok-Judge-clause-answered
 returns-in-Ok-Judge-clause-answered g c solving small =
     let asked = rw c.in-Ok-Judge.field-0-is at c.in-Ok-Judge.ensures.ok in
-    absurd (solving.1 asked.judging)
+    absurd (solving.1 (asks_judging _ c.in-Ok-Judge.settings asked.named.accepted asked.mode))
 
 pub returns-in-Ok-Judge-clause-cut_off : goal.returns-in-Ok-Judge-clause-cut_off
 returns-in-Ok-Judge-clause-cut_off g c solving is =
     let asked = rw c.in-Ok-Judge.field-0-is at c.in-Ok-Judge.ensures.ok in
-    absurd (solving.1 asked.judging)
+    absurd (solving.1 (asks_judging _ c.in-Ok-Judge.settings asked.named.accepted asked.mode))
 
 pub returns-in-Ok-Judge-clause-some_fail : goal.returns-in-Ok-Judge-clause-some_fail
 returns-in-Ok-Judge-clause-some_fail g c none is =
     let asked = rw c.in-Ok-Judge.field-0-is at c.in-Ok-Judge.ensures.ok in
-    absurd (none asked.judging)
+    absurd (none (asks_judging _ c.in-Ok-Judge.settings asked.named.accepted asked.mode))
 
 pub returns-in-Ok-Judge-clause-refused : goal.returns-in-Ok-Judge-clause-refused
 returns-in-Ok-Judge-clause-refused g c none is =
     let asked = rw c.in-Ok-Judge.field-0-is at c.in-Ok-Judge.ensures.ok in
-    absurd (none asked.judging)
+    absurd (none (asks_judging _ c.in-Ok-Judge.settings asked.named.accepted asked.mode))
 
 pub returns-in-Ok-Judge-clause-memory : goal.returns-in-Ok-Judge-clause-memory
 returns-in-Ok-Judge-clause-memory g c none is =
     let asked = rw c.in-Ok-Judge.field-0-is at c.in-Ok-Judge.ensures.ok in
-    absurd (none asked.judging)
+    absurd (none (asks_judging _ c.in-Ok-Judge.settings asked.named.accepted asked.mode))
 
 pub returns-in-Ok-Judge-clause-all_settled : goal.returns-in-Ok-Judge-clause-all_settled
 returns-in-Ok-Judge-clause-all_settled g c is = rw c.judge_file.ensures.unsolved (All-nil IsSettled)

@@ -36,5 +36,5 @@ pub returns-in-Bits-clause-named : goal.returns-in-Bits-clause-named
 returns-in-Bits-clause-named g c =
     let fit = rw c.in-Bits.is at c.requires.fit in
     let fits = All-map (QuestionFits vectors.owned vectors.is_bits) (question_of vectors.vector) c.in-Bits.problems fit in
-    bits_named c.args.mode c.args.limits.now (map (question_of vectors.vector) c.in-Bits.problems) c.solve-solved-in-Bits.result.answers fits
+    bits_named c.args.settings.now.mode c.args.settings.now.limits (map (question_of vectors.vector) c.in-Bits.problems) c.solve-solved-in-Bits.result.answers fits
     (rw c.as_slice-in-Bits.ensures at c.solve-solved-in-Bits.ensures.right)

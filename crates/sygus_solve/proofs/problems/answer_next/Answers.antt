@@ -6,4 +6,4 @@ pub sought-requires : goal.sought-requires
 sought-requires g c = record { problem = c.requires.answerable.fits }
 
 pub answer_text-requires-clause-members : goal.answer_text-requires-clause-members
-answer_text-requires-clause-members g c = right_members g.T.Theory g.D.Decide c.args.mode c.args.limits.now (question_of g.T.Theory.denotes c.args.problem.now) c.in-Ok.answer c.in-Ok.ensures
+answer_text-requires-clause-members g c = right_members g.T.Theory g.D.Decide c.args.settings.now.mode c.args.settings.now.limits (question_of g.T.Theory.denotes c.args.problem.now) c.in-Ok.answer c.in-Ok.ensures

@@ -2,7 +2,7 @@ use Rattle.std.proofs.Common.{◌≡◌, ◌<◌, ◌∷◌, [], inl, inr, lengt
 use Rattle.std.proofs.lemmas.List.{length-map}
 use Rattle.sy_io.proofs.Streams.{appended_more}
 use Rattle.sy_grammar_base.specs.Questions.{question_of}
-use Rattle.sygus_replies.specs.Replies.{reply_for, replies_for}
+use Rattle.sygus_replies.specs.Replies.{reply_for, replies_for, shown_for, all_shown_for}
 use Rattle.sygus_replies.proofs.Steps.{appended_nothing, texts-none, lines-none, right-none, replies-more, texts-more, right-more, lines-more, most-more, most-all, question_at, question_count, question_answerable}
 use Rattle.sygus_search.specs.RightAnswers.{RightOutcomeFor}
 use Rattle.sygus_answers.proofs.RuledOut.{not_five, not_six, five_not_small, five_not_none, five_not_one, five_not_six, six_not_small, six_not_none, six_not_one}
@@ -32,21 +32,24 @@ loop-problem-preserved g c =
     let questions = map (question_of number) c.args.problems.now in
     let question = question_of number c.problem-item.result in
     let old = c.loop-problem.answers in
-    let replies = map reply old in
+    let shown = shown_for g.T.Theory g.D.Decide g.S.Prints c.args.settings.now.proofs in
+    let before = map shown old in
+    let counted = length-map old shown in
     let count = length-map old reply in
     let lt : length old < length questions = omega (arith, question_count number c.args.problems.now) in
     let here : length old < length c.args.problems.now = omega arith in
     let item : c.problem-item.result ≡ get_or c.args.problems.now (length old) c.problem-item.result = cc in
     let at : question ≡ get_or questions (length old) question = question_at number c.args.problems.now (length old) c.problem-item.result here item in
-    let less : length replies < length questions = omega (arith, count, lt) in
-    let at' : question ≡ get_or questions (length replies) question = rw count at in
+    let less : length before < length questions = omega (arith, counted, lt) in
+    let at' : question ≡ get_or questions (length before) question = rw counted at in
     let more = replies-more reply old _ next.answer next.more in
+    let more' = replies-more shown old _ next.answer next.more in
     record {
       count = rw next.more (omega (arith, length-append old (next.answer ∷ [])));
       right = rw next.more (right-more _ questions old question next.answer lt at c.loop-problem.invariant.right next.right);
-      replied = rw (more, texts-more c.args.titles.now questions replies question (reply next.answer) less at')
+      replied = rw (more', texts-more c.args.titles.now questions before question (shown next.answer) less at')
           (appended_more _ _ _ _ _ c.loop-problem.invariant.replied next.replied);
-      lined = rw (more, lines-more 1 replies (reply next.answer), count)
+      lined = rw (more, lines-more 1 (map reply old) (reply next.answer), count)
           (appended_more _ _ _ _ _ c.loop-problem.invariant.lined next.lined);
       later_out = omega arith;
       later_err = omega arith;
@@ -76,12 +79,12 @@ returns-in-Err-Write-clause-cut_off g c _ =
     let here : length old < length c.args.problems.now = omega arith in
     let item : c.problem-item.result ≡ get_or c.args.problems.now (length old) c.problem-item.result = cc in
     let at : question ≡ get_or questions (length old) question = question_at number c.args.problems.now (length old) c.problem-item.result here item in
-    most-more (RightOutcomeFor g.T.Theory g.D.Decide c.args.mode c.args.limits.now) (reply_for g.T.Theory g.D.Decide) _ questions question old _ _ _ _ next lt at c.loop-problem.invariant.replied
+    most-more (RightOutcomeFor g.T.Theory g.D.Decide c.args.settings.now.mode c.args.settings.now.limits) (shown_for g.T.Theory g.D.Decide g.S.Prints c.args.settings.now.proofs) _ questions question old _ _ _ _ next lt at c.loop-problem.invariant.replied
 
 pub returns-in-Err-Memory-clause-cut_off : goal.returns-in-Err-Memory-clause-cut_off
 returns-in-Err-Memory-clause-cut_off g c _ =
     rw (c.in-Err-Memory.ensures.unchanged (cc), c.in-Err-Memory.ensures.unwritten (cc))
-    (most-all _ _ (replies_for g.T.Theory g.D.Decide c.loop-problem.answers) _ _ c.loop-problem.invariant.replied)
+    (most-all _ _ (all_shown_for g.T.Theory g.D.Decide g.S.Prints c.args.settings.now.proofs c.loop-problem.answers) _ _ c.loop-problem.invariant.replied)
 
 pub returns-in-Err-Memory-clause-memory_line : goal.returns-in-Err-Memory-clause-memory_line
 returns-in-Err-Memory-clause-memory_line g c is =

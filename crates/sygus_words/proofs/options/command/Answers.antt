@@ -22,4 +22,5 @@ returns c =
     let clauses = c.in_ok-arg-7.ensures.shape c.option-7.ensures.local ∙ ap₂ with_rule weight c.option-7.ensures.rule in
     let nodes = c.in_ok-arg-8.ensures.shape c.option-8.ensures.local ∙ ap₂ with_rule clauses c.option-8.ensures.rule in
     let pivots = c.in_ok-arg-9.ensures.shape c.option-9.ensures.local ∙ ap₂ with_rule nodes c.option-9.ensures.rule in
-    c.in_ok-command.ensures.shape c.file.ensures.local ∙ ap₂ with_rule pivots c.file.ensures.rule
+    let proofs = c.in_ok-arg-10.ensures.shape c.flag.ensures.local ∙ ap₂ with_rule pivots c.flag.ensures.rule in
+    c.in_ok-command.ensures.shape c.file.ensures.local ∙ ap₂ with_rule proofs c.file.ensures.rule
