@@ -1,5 +1,5 @@
 // The tables, row by row.
-use crate::{clauses, deep, texts};
+use crate::{clauses, texts};
 use std::alloc::Global;
 use std::process::Abort;
 
@@ -15,18 +15,12 @@ const TABLES: [(&str, &str); 6] = [
 
 /// What stands in no table.
 const OTHERS: &str = "\
-a resolution§\
-a tree on the left§\
-a tree on the right§\
-a tree that is too deep";
+a resolution";
 
 /// Whether this holds.
 fn holds(rt: &impl Abort, alloc: Global, row: &str) -> bool {
     match row {
         "a resolution" => clauses::is_resolved(rt, alloc),
-        "a tree on the left" => deep::is_deep_on_the_left(rt, alloc),
-        "a tree on the right" => deep::is_deep_on_the_right(rt, alloc),
-        "a tree that is too deep" => deep::is_too_deep(rt, alloc),
         _ => false,
     }
 }

@@ -18,7 +18,8 @@ pub const TREES: &str = "\
 (tree (shown))
 §(tree (farkas))
 §(tree (farkas 0 1 (- 1) (/ 1 2) (/ (- 7) 3)))
-§(tree (farkas min (/ min 3) (/ 1 170141183460469231731687303715884105727)))
+§(tree (farkas 170141183460469231731687303715884105727 (/ (- 170141183460469231731687303715884105727) 2)))
+§(tree (farkas (- 170141183460469231731687303715884105727) (/ 1 170141183460469231731687303715884105727)))
 §(tree (split (holds 4294967295)) (shown) (farkas 1 1))
 §(tree (split (atleast (- 5))) (shown) (shown))
 §(tree (split (atleast 3 (0 2) (1 (- 2)) (7 min))) (farkas 1) (shown))
@@ -75,10 +76,10 @@ tree§\
 (tree (farkas (/ 3 1)))§\
 (tree (farkas (/ 1 0)))§\
 (tree (farkas (/ 1 (- 2))))§\
+(tree (farkas min))§\
+(tree (farkas (/ min 3)))§\
 (tree (farkas (- 0)))§\
 (tree (farkas (- min)))§\
-(tree (farkas 170141183460469231731687303715884105728))§\
-(tree (farkas (- 170141183460469231731687303715884105728)))§\
 (tree (farkas x))";
 
 /// The item that the text begins with.
