@@ -48,6 +48,13 @@ for option, least in re.findall(r"^; needs (\w+) (\w+)", text, re.M):
         sys.exit(print("fail") or 1)
 print("infeasible" if "; infeasible" in text else "(\n(define-fun f ((x Int)) Int (+ x 1))\n)")
 """
+# Stands for ssh: it runs the words in the folder of the host, and in none where that isn't there.
+SSH = """#!/bin/sh
+cd "$HOSTS/$1" || exit 255
+shift
+[ "$1" != -- ] || shift
+HOME=$PWD exec sh -c "$*"
+"""
 FOUND = "(\n(define-fun f ((x Int)) Int (+ x 1))\n)\n"
 # Problems by their names, with the status and what came of each in eight seconds.
 PROBLEMS = {
@@ -289,6 +296,27 @@ def resumed(room):
     yield "many: runs each once", again[: len(done) - 1] == done[:-1] and places == [*range(1, len(PROBLEMS) + 1)]
 
 
+def hosts(room):
+    """tools/many on two hosts, and where one of them can't be reached."""
+    folder = room.folder / "hosts"
+    for name in ("one", "two", "bin"):
+        (folder / name).mkdir(parents=True)
+    (folder / "bin" / "ssh").write_text(SSH)
+    (folder / "bin" / "ssh").chmod(0o755)
+    (folder / "list").write_text("1/one\n1/two\n1/three\n")
+    room.words.update(HOSTS=str(folder), PATH=f"{folder}/bin:{os.environ['PATH']}")
+    named = ["a.sl", "b c/d 'e\".sl", "b c/f.sl", "g.sl", "h.sl", "i.sl"]
+    files = [f"problems/{name}" for name in named]
+    status, out, err = room.run("many", "--hosts", "hosts/list", "--results", "h", *files)
+    with open(room.folder / "h" / "table.csv") as opened:
+        rows = list(csv.DictReader(opened))
+    found = [(row["status"], row["outcome"]) for row in rows]
+    yield "many: hosts", (status, found) == (1, [PROBLEMS[name][1:] for name in named])
+    yield "many: both hosts", {row["host"] for row in rows} == {"one", "two"}
+    yield "many: a host that isn't there", "many: three can't be reached, and is left out\n" in err
+    yield "many: leaves nothing on a host", not [*(folder / "one").iterdir(), *(folder / "two").iterdir()]
+
+
 def portfolio(room):
     """tools/portfolio: who answers, what is said where none does, and calls that are interrupted."""
     yield "portfolio: answers as the program", room.run("portfolio", "problems/a.sl") == (0, FOUND, "")
@@ -359,3 +387,5 @@ def tests():
             yield from many(room)
             yield from resumed(room)
             yield from portfolio(room)
+            if shutil.which("rsync"):
+                yield from hosts(room)
