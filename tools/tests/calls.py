@@ -296,6 +296,14 @@ def resumed(room):
     yield "many: runs each once", again[: len(done) - 1] == done[:-1] and places == [*range(1, len(PROBLEMS) + 1)]
 
 
+def unread(room):
+    """`--resume` repeats a run whose file couldn't be read, as where a host lost it."""
+    (room.folder / "unread.sl").write_text("; ends 4\n")
+    first = room.run("many", "--results", "u", "unread.sl"), room.logged("u")
+    again = room.run("many", "--results", "u", "--resume"), room.logged("u")
+    yield "many: repeats what wasn't read", first[0][0] == again[0][0] == 1 and first[1] != again[1]
+
+
 def hosts(room):
     """tools/many on two hosts, and where one of them can't be reached."""
     folder = room.folder / "hosts"
@@ -386,6 +394,7 @@ def tests():
         if shutil.which("parallel"):
             yield from many(room)
             yield from resumed(room)
+            yield from unread(room)
             yield from portfolio(room)
             if shutil.which("rsync"):
                 yield from hosts(room)
