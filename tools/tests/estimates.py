@@ -82,7 +82,7 @@ def made_up(below, sizes, machine, kept):
         told = [(second, f"{name} proved {second:.0f}") for name, second in done.items()]
         told += [(0, f"{name} kept 0") for name in kept]
         told += [(at, f"load {at} {load + processors}") for at in range(0, int(max(done.values())), 15)]
-        yield worst(lines_of(below, sizes), told, processors, 1)
+        yield worst(lines_of(below, sizes), told, processors, 2 if kept else 1)
 
 
 def real(path):
