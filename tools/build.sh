@@ -53,24 +53,40 @@ weigh() {
     done
 }
 
-# How many minutes are left, by the log.
+# How many seconds ago the build began.
+age() {
+    echo "$(($(date +%s) - begun))"
+}
+
+# Notes the load of the machine, which an estimate asks for.
+note_load() {
+    echo "load $(age) $(cut -d ' ' -f 1 /proc/loadavg 2>/dev/null || echo 0)" >>"$room/told"
+}
+
+# How many minutes are left, by what was told so far.
 minutes_left() {
     {
         echo "$weights"
-        awk '/^rt: [a-z_]+ (proved$|is kept:)/ { print $2, ($3 == "is" ? "kept" : "proved") }' "$log"
-    } | awk -v processors="$processors" -v load="$load" -v seconds="$(($(date +%s) - begun))" -f "$top/tools/estimate.awk"
+        cat "$room/told"
+    } | awk -v processors="$processors" -v seconds="$(age)" -f "$top/tools/estimate.awk"
 }
 
 # Says which crates are proved, as the log tells it, and what the rest takes, until the room has a file `ended`.
 tell() {
-    told=0 is_over=''
+    told=0 turns=0 is_over=''
     while [ -z "$is_over" ]; do
         sleep 1
+        turns=$((turns + 1))
+        [ $((turns % 15)) -ne 0 ] || note_load
         [ ! -e "$room/ended" ] || is_over=yes
-        for crate in $(awk '/^rt: [a-z_]+ (proved$|is kept:)/ { print $2 }' "$log" | tail -n "+$((told + 1))"); do
+        awk -v told="$told" '/^rt: [a-z_]+ (proved$|is kept:)/ && ++count > told {
+            print $2, ($3 == "is" ? "kept" : "proved")
+        }' "$log" >"$room/found"
+        while read -r crate how; do
             told=$((told + 1))
+            echo "$crate $how $(age)" >>"$room/told"
             say "[$told of $total] $crate; some $(minutes_left) minutes left"
-        done
+        done <"$room/found"
     done
 }
 
@@ -86,7 +102,8 @@ end_all() {
 
 build_in_room() {
     furnish >"$log" 2>&1 || return 1
-    weights=$(weigh) begun=$(date +%s) load=$(cut -d ' ' -f 1 /proc/loadavg 2>/dev/null || echo 0)
+    weights=$(weigh) begun=$(date +%s)
+    note_load
     say "proving and building $total crates: some $(minutes_left) minutes, less where rt has kept some"
     [ "$name" != sygus ] || say "an unproved answer in some three minutes, beside this: ./sygus --preview FILE"
     (cd "$room" && exec env ${SYGUS_JOBS:+RT_JOBS="$SYGUS_JOBS"} rt ci) >"$log" 2>&1 </dev/null &

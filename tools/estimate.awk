@@ -42,8 +42,8 @@ END {
     # of each crate under way half of a middling one is done
     under_way = 45 * processors
     if (under_way > processors * had / 2) under_way = processors * had / 2
-    # beside what was done counts an eighth of the work, at 1.1 units a second and processor
-    begun = 1500
-    pace = share * (done + under_way + begun) / (had + begun / (1.1 * processors))
+    # beside what was done count five minutes in which a processor does 1.1 units a second
+    had += 300
+    pace = share * (done + under_way + 330 * processors) / had
     printf "%d\n", rest / pace / 60 + 0.5
 }

@@ -1,13 +1,14 @@
-"""Tests of tools/estimate.awk on builds that are made up: the crates of this repository, each of which takes up to half as long
-again as its size says, or up to two fifths less, are proved side by side by a clock that doesn't wait."""
+"""Tests of tools/estimate.awk: on a real build, which builds/ keeps, and on builds that are made up, in which the crates of
+this repository, each of which takes up to half as long again as its size says, or up to two fifths less, are proved side by
+side by a clock that doesn't wait."""
 import heapq
 import pathlib
 import random
 import subprocess
 
 TOP = pathlib.Path(__file__).resolve().parent.parent.parent
-# The processors, the load of others beside them, and the part of each processor that is left of it.
-MACHINES = [(4, 0, 0.9), (4, 4, 0.45), (4, 12, 0.25), (4, 0, 0.5), (2, 0, 0.9)]
+# The processors, the load of others beside them, and the units of work that each processor does in a second.
+MACHINES = [(4, 0, 1.5), (4, 0, 0.9), (4, 4, 0.6), (4, 12, 0.3), (2, 0, 1.5), (2, 2, 0.6)]
 
 
 def crates():
@@ -30,51 +31,88 @@ def size(name):
     return sum(path.stat().st_size for path in (TOP / "crates" / name / "src").rglob("*.rt"))
 
 
-def build(below, sizes, processors, part, seed):
-    """When each crate is done, where those that the longest chain waits for go first."""
+def build(below, sizes, machine, kept, seed):
+    """When each crate that isn't kept is done, where those that the longest chain waits for go first."""
+    processors, _, part = machine
     chance = random.Random(seed)
     takes = {name: (12 + sizes[name] / 210) * chance.uniform(0.6, 1.5) / part for name in below}
     takes["sygus"] = 360 / part
     chain = {}
     for name in reversed(below):
         chain[name] = takes[name] + max((chain[it] for it in chain if name in below[it]), default=0)
-    now, running, done, rest = 0.0, [], {}, sorted(below, key=lambda name: -chain[name])
+    now, running, done = 0.0, [], dict.fromkeys(kept, 0)
+    rest = sorted((name for name in below if name not in kept), key=lambda name: -chain[name])
     while len(done) < len(below):
         for name in [name for name in rest if done.keys() >= set(below[name])][:processors - len(running)]:
             rest.remove(name)
             heapq.heappush(running, (now + takes[name], name))
         now, name = heapq.heappop(running)
         done[name] = now
-    return done
+    return {name: second for name, second in done.items() if name not in kept}
 
 
-def minutes_left(below, sizes, done, **options):
-    lines = [f"{name}: {sizes[name]} {' '.join(below[name])}" for name in below] + [f"{name} proved" for name in done]
-    words = [it for name, value in options.items() for it in ("-v", f"{name}={value}")]
+def minutes_left(crates, told, processors, seconds):
+    """What tools/estimate.awk says of lines of crates and of what was told so far."""
+    words = ["-v", f"processors={processors}", "-v", f"seconds={seconds}"]
     command = ["awk", *words, "-f", TOP / "tools" / "estimate.awk"]
-    return int(subprocess.run(command, input="\n".join(lines) + "\n", capture_output=True, text=True).stdout)
+    ended = subprocess.run(command, input="\n".join([*crates, *told]) + "\n", capture_output=True, text=True)
+    return int(ended.stdout)
 
 
-def worst(below, sizes, machine, seed):
-    """How far the end is from where it was said to be, at worst, as a part of the time of the whole build."""
-    processors, load, part = machine
-    done = list(build(below, sizes, processors, part, seed).items())
-    end, names = done[-1][1], [name for name, _ in done]
-    found = []
-    for place in range(len(done) // 10, len(done), 9):
-        now = done[place - 1][1]
-        left = minutes_left(below, sizes, names[:place], processors=processors, load=load, seconds=int(now))
+def lines_of(below, sizes):
+    return [f"{name}: {sizes[name]} {' '.join(below[name])}" for name in below]
+
+
+def worst(crates, told, processors, first):
+    """How far the end is from where it is said to be at each tenth of the time from this one on, at worst, as a part of the
+    whole; it is said each time that a crate is done."""
+    end, found = max(second for second, line in told if "proved" in line), []
+    for tenth in range(first, 10):
+        now = max(second for second, line in told if second <= tenth * end / 10 and "load" not in line)
+        left = minutes_left(crates, [line for second, line in sorted(told) if second <= now], processors, int(now))
         found.append(abs(now + 60 * left - end) / end)
     return max(found)
+
+
+def made_up(below, sizes, machine, kept):
+    """How far the estimates of three builds that are made up are off."""
+    processors, load, _ = machine
+    for seed in range(3):
+        done = build(below, sizes, machine, kept, seed)
+        told = [(second, f"{name} proved {second:.0f}") for name, second in done.items()]
+        told += [(0, f"{name} kept 0") for name in kept]
+        told += [(at, f"load {at} {load + processors}") for at in range(0, int(max(done.values())), 15)]
+        yield worst(lines_of(below, sizes), told, processors, 2 if kept else 1)
+
+
+def real(path):
+    """How far the estimates of a build that is kept are off: its crates, a blank line, and what was told in each second. While
+    the first tenth of it was done the machine was idle, and then others took up to seven eighths of it."""
+    crates, _, told = path.read_text().partition("\n\n")
+    told = [(int(line.split()[-1 if "load" not in line else 1]), line) for line in told.splitlines()]
+    return worst(crates.splitlines(), told, 4, 2)
 
 
 def tests():
     below = crates()
     sizes = {name: size(name) for name in below}
+    names = list(below)
     for machine in MACHINES:
-        off = max(worst(below, sizes, machine, seed) for seed in range(3))
-        yield f"estimate: within a third, on {machine} (off by {off:.2f})", off <= 1 / 3
-    kept = minutes_left(below, sizes, [], processors=4, load=0, seconds=0)
-    yield "estimate: less than an hour and a half from nothing", 20 < kept < 90
-    every = [*below]
-    yield "estimate: nothing is left at the end", minutes_left(below, sizes, every, processors=4, load=0, seconds=3000) == 0
+        for kept in ([], names[:len(names) // 2]):
+            off = max(made_up(below, sizes, machine, kept))
+            yield f"estimate: within a third, on {machine}, {len(kept)} kept (off by {off:.2f})", off <= 1 / 3
+    for path in (TOP / "tools" / "tests" / "builds").glob("*.txt"):
+        off = real(path)
+        yield f"estimate: within a third of {path.name} (off by {off:.2f})", off <= 1 / 3
+    lines = lines_of(below, sizes)
+    first = minutes_left(lines, ["load 0 0.5"], 4, 0)
+    yield "estimate: less than an hour and a half from nothing", 20 < first < 90
+    busy = minutes_left(lines, ["load 0 8.0"], 4, 0)
+    yield "estimate: twice as long on a machine of which half is free", 1.9 * first < busy < 2.1 * first
+    every = [f"{name} proved {20 * place}" for place, name in enumerate(names)]
+    yield "estimate: nothing is left at the end", minutes_left(lines, every, 4, 3000) == 0
+    kept = [f"{name} kept 5" for name in names[:-3]]
+    yield "estimate: what is kept isn't proved again", minutes_left(lines, kept, 4, 5) < first / 2
+    slow = [f"{names[0]} proved 100"]
+    both = minutes_left(lines, [*slow, *kept[1:]], 4, 100), minutes_left(lines, kept, 4, 5)
+    yield "estimate: what is kept tells nothing of the pace", both[0] >= both[1]

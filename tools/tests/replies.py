@@ -17,8 +17,9 @@ TWICE = """(set-logic BV)
 (check-synth)
 """
 NONE = "(set-logic LIA)\n(check-synth)\n(check-synth)\n"
+LATE = "(set-logic LIA)\n(synth-fun f () Int)\n(check-synth)\n(define-fun g () Int 1)\n"
 # What @ stands for in replies to ONE and to TWICE.
-HEADS = {ONE: "define-fun f ((x Int) (b Bool)) Int", TWICE: "define-fun f ((x (_ BitVec 8))) (_ BitVec 8)", NONE: ""}
+HEADS = {ONE: "define-fun f ((x Int) (b Bool)) Int", TWICE: "define-fun f ((x (_ BitVec 8))) (_ BitVec 8)"}
 # Replies, with a caret in front of the fault; the number of the check-synth; and the cause.
 REFUSED = [
     # their number
@@ -35,7 +36,7 @@ REFUSED = [
     (ONE, "fail ^|fail", 2, "21 ReplyText Unclosed"),
     (ONE, "fail 0^1", 2, "21 ReplyText BadByte"),
     (ONE, f"fail {'(' * 1200}^(", 2, "21 ReplyText TooDeep"),
-    (NONE, "() (()^", 2, "21 ReplyText Unclosed"),
+    (NONE, "() ^(()", 2, "21 ReplyText Unclosed"),
     # their form
     (ONE, "(^5)", 1, "22 ReplyShape"),
     (ONE, "^0", 1, "22 ReplyShape"),
@@ -90,6 +91,7 @@ REFUSED = [
     (ONE, "((@ (let ((^let x)) x)))", 1, "25 ReplyTerm NameTaken"),
     (TWICE, "((@ ^(_ bv256 8)) (define-fun g () Bool true))\nfail", 1, "25 ReplyTerm LiteralRange"),
     (TWICE, "((@ ((_ extract 7 0) x)) (define-fun g () Bool ^x))\nfail", 1, "25 ReplyTerm UnknownName"),
+    (LATE, "((@ ^g))", 1, "25 ReplyTerm UnknownName"),
     # two faults: of each definition its form, name, signature and body come before the next one's
     (TWICE, "((@ ^y)\n (define-fun h () Bool))\nfail", 1, "25 ReplyTerm UnknownName"),
     (TWICE, "(^(define-fun f ((x Bool)) (_ BitVec 8) y)\n (define-fun f () Bool true))\nfail", 1, "24 ReplySignature"),
@@ -109,7 +111,7 @@ FRONTS = [
     ("(set-logic LIA)\n(check-synth)\n^(fail", 3, "1 Text Unclosed"),
     ("(set-logic LIA)\n(check-synth)\n((define-fun f () Int 0^1))", 3, "1 Text BadByte"),
     ("(set-logic LIA)\n(check-synth)\n^)", 3, "1 Text Stray"),
-    ("(set-logic LIA)\n(constraint ^)", 2, "3 Shape"),
+    ("(set-logic LIA)\n^(constraint )\n(check-synth)\nfail", 2, "3 Shape"),
     ("(set-logic LIA)\n(constraint ^x)\n(check-synth)\nfail\n(5", 2, "8 UnknownName"),
     ("(^check-synth)\nfail\n", 1, "4 Logic"),
     ("(set-logic LIA)\n(^define-rec f () Int 0)\nfail\n", 2, "2 CommandNotInProfile"),
@@ -124,16 +126,14 @@ JUDGED = [
     # exchanged
     (SMALL + "(constraint (= (f) 0))\n(check-synth)\n(constraint (= 0 1))\n(check-synth)\n"
      "((define-fun f () Int 1)) ((define-fun f () Int 0))", ["refuted at", "refuted at"], 1),
-    # a definition behind its check-synth
+    # a definition that nothing names behind its check-synth
     (SMALL + "(constraint (= f 1))\n(check-synth)\n(define-fun g () Int 1)\n(check-synth)\n"
      "infeasible ; none\n((define-fun f () Int (+ 0 1)))", ["no definitions", "holds"], 1),
-    (SMALL + "(constraint (= f 1))\n(check-synth)\n(define-fun g () Int 1)\n((define-fun f () Int g))",
-     ["not in grammar f"], 1),
     # bars, other names of arguments, and comments between items
     (STEPS + "(declare-var x Int)\n(constraint (> (f x) x))\n(check-synth)\n; a comment\n"
      "(;another\n(define-fun |f| ((|a b| Int)) Int (g |a b|)))\n; the last", ["holds"], 0),
     # no functions
-    ("(set-logic LIA)\n(declare-var x Int)\n(constraint (<= x 5))\n(check-synth)\n()", ["refuted at 6"], 1),
+    ("(set-logic LIA)\n(declare-var x Int)\n(constraint (distinct x 6))\n(check-synth)\n()", ["refuted at 6"], 1),
     ("(set-logic LIA)\n(constraint true)\n(check-synth)\n()", ["holds"], 0),
     # values of all sorts
     ("(set-logic BV)\n(declare-var x (_ BitVec 5))\n(declare-var y (_ BitVec 64))\n(declare-var z Bool)\n"
@@ -166,7 +166,7 @@ def placed(text):
 
 def tests(program):
     for problem, reply, check, cause in REFUSED:
-        text, place = placed(problem + reply.replace("@", HEADS[problem]))
+        text, place = placed(problem + reply.replace("@", HEADS.get(problem, "define-fun f () Int")))
         wanted = 7, "", f"reply refused: check-synth {check} {place} cause {cause}\n"
         yield f"reply {reply[:60]!r}", judged(program, text) == wanted
     for text, command, cause in FRONTS:
