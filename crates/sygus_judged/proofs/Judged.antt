@@ -6,7 +6,6 @@ use Rattle.std.specs.Io.KnownBytes.{Appends}
 use Rattle.sy_terms.specs.Values.{Val}
 use Rattle.sy_terms.specs.declared.sort.Logic.{Logic}
 use Rattle.sy_terms.specs.declared.sort.Logic.TheVariants.{Lia}
-use Rattle.sy_terms.specs.declared.theory.Theory.{Ghosts as TheoryOf}
 use Rattle.sy_grammar_base.specs.Questions.{question_of}
 use Rattle.sy_grammar_base.specs.declared.problem.Problem.{Problem}
 use Rattle.sy_reply_reader.specs.Replies.{next_item, nothing_left, statements_from}
@@ -16,9 +15,7 @@ use Rattle.sy_scope.specs.declared.job.Job.TheVariants as jobs
 use Rattle.sy_scope_causes.specs.declared.titles.Titles.{Titles}
 use Rattle.sygus_answers.specs.Answers.{replies_of, AreNamedFor, AreOfLogic}
 use Rattle.sygus_verdicts.proofs.Steps.{appended_nothing, lines-none}
-use Rattle.sygus_verdicts.specs.Clauses.{verdicts_for}
-use Rattle.sygus_verdicts.specs.Verdicts.{verdict_on, verdicts_status}
-use Rattle.sygus_verdicts.specs.declared.judge.Judge.{Ghosts as JudgeOf}
+use Rattle.sygus_verdicts.specs.Verdicts.{Verdict, verdict_on, verdicts_status}
 use Rattle.sygus_words.specs.declared.settings.Settings.{Settings}
 use Rattle.sygus_verdicts.specs.Lines.{memory_line, verdict_lines, WritesMostLines}
 use Rattle.sy_reply_statements.specs.Ends.{ReplyReading, RepliesEndAs, ◌>>=◌}
@@ -55,12 +52,12 @@ not_two status (inr high) is = omega (arith, high.0, is)
 
 -- ---- statements that are judged
 
-module _ {T N J F : Type 0} (theory : TheoryOf T N) (judge : JudgeOf J T F N) (logic : Logic) (settings : Settings) (problems : List (Problem T N)) (titles : Titles) (statements : List Statement) (status : ℕ) (found : List (Option F)) (out out' err err' : Option (List ℕ)) (answers : Answers) where
+module _ {T N F : Type 0} (number : N → Val) (verdict : F → Verdict) (logic : Logic) (settings : Settings) (problems : List (Problem T N)) (titles : Titles) (statements : List Statement) (status : ℕ) (found : List (Option F)) (out out' err err' : Option (List ℕ)) (answers : Answers) where
   -- what a judge finds is kept as answers
-  pub ends_kept : AreOfLogic (Some logic) answers → AreOfMode settings.mode answers → AreRightVerdicts settings.limits (map (question_of theory.denotes) problems) statements answers → replies_of answers ≡ [] → AreNamedFor answers → verdicts_of answers ≡ verdicts_for judge found
-      → (status ≤ 1) ⊎ ((status ≡ 5) ⊎ (status ≡ 6)) → (status ≤ 1 → length found ≡ length problems) → (status ≤ 1 → Appends out out' (verdict_lines titles 1 (verdicts_for judge found))) → (status ≤ 1 → status ≡ verdicts_status (verdicts_for judge found)) → (status ≤ 1 → err' ≡ err)
-      → (status ≡ 5 → WritesMostLines titles (verdicts_for judge found) out out') → (status ≡ 6 → Appends out out' (verdict_lines titles 1 (verdicts_for judge found))) → (status ≡ 6 → Appends err err' memory_line)
-      → EndsClaims settings (wish_over theory.denotes logic (problems, titles)) statements status answers out out' err err'
+  pub ends_kept : AreOfLogic (Some logic) answers → AreOfMode settings.mode answers → AreRightVerdicts settings.limits (map (question_of number) problems) statements answers → replies_of answers ≡ [] → AreNamedFor answers → verdicts_of answers ≡ map (verdict_on verdict) found
+      → (status ≤ 1) ⊎ ((status ≡ 5) ⊎ (status ≡ 6)) → (status ≤ 1 → length found ≡ length problems) → (status ≤ 1 → Appends out out' (verdict_lines titles 1 (map (verdict_on verdict) found))) → (status ≤ 1 → status ≡ verdicts_status (map (verdict_on verdict) found)) → (status ≤ 1 → err' ≡ err)
+      → (status ≡ 5 → WritesMostLines titles (map (verdict_on verdict) found) out out') → (status ≡ 6 → Appends out out' (verdict_lines titles 1 (map (verdict_on verdict) found))) → (status ≡ 6 → Appends err err' memory_line)
+      → EndsClaims settings (wish_over number logic (problems, titles)) statements status answers out out' err err'
   ends_kept kept mode right unsolved named verdicts within every lined good silent cut memory line = record {
     only = within;
     logic = kept;
@@ -69,7 +66,7 @@ module _ {T N J F : Type 0} (theory : TheoryOf T N) (judge : JudgeOf J T F N) (l
     unsolved = unsolved;
     named = named;
     judged = λ small. record {
-      every = ap length verdicts ∙ length-map found (verdict_on judge.verdict) ∙ every small ∙ sym (length-map problems (question_of theory.denotes));
+      every = ap length verdicts ∙ length-map found (verdict_on verdict) ∙ every small ∙ sym (length-map problems (question_of number));
       lined = rw verdicts (lined small);
       good = rw verdicts (good small);
       silent = silent small;

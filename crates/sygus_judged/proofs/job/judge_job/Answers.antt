@@ -38,23 +38,23 @@ returns-in-Err-clause-ends g c =
 pub judge_bits-requires-clause-few : goal.judge_bits-requires-clause-few
 judge_bits-requires-clause-few g c =
     let few = rw c.in-Bits.is at c.requires.few in
-    let problems = c.in-Ok-in-Bits.ensures.problems in
+    let problems = c.in-Ok-claims_of.ensures.problems in
     rw problems (omega (arith, few, length-map c.in-Bits.problems (question_of vector)))
 
 pub judge_bits-requires-clause-fit : goal.judge_bits-requires-clause-fit
 judge_bits-requires-clause-fit g c =
     let fit = rw c.in-Bits.is at c.requires.fit in
-    rw c.in-Ok-in-Bits.ensures.problems fit
+    rw c.in-Ok-claims_of.ensures.problems fit
 
 pub judge_bits-requires-clause-stated : goal.judge_bits-requires-clause-stated
-judge_bits-requires-clause-stated g c = rw c.in-Ok-in-Bits.ensures.problems c.in-Ok-in-Bits.ensures.fit
+judge_bits-requires-clause-stated g c = rw c.in-Ok-claims_of.ensures.problems c.in-Ok-claims_of.ensures.fit
 
-pub returns-in-Ok-in-Bits-clause-ends : goal.returns-in-Ok-in-Bits-clause-ends
-returns-in-Ok-in-Bits-clause-ends g c =
-    let ends = rw (c.in-Ok-in-Bits.ensures.problems, c.in-Ok-in-Bits.ensures.titles) at c.judge_bits.ensures.ends in
-    rw c.in-Bits.is (ends_claims c.args.replies.now.settings.now c.args.replies.now.file.now c.args.replies.now.at (wish_over vector Bv (c.in-Bits.problems, c.in-Bits.titles)) _ _ _ _ _ _ _ ends c.in-Ok-in-Bits.ensures.read)
+pub returns-in-Ok-claims_of-clause-ends : goal.returns-in-Ok-claims_of-clause-ends
+returns-in-Ok-claims_of-clause-ends g c =
+    let ends = rw (c.in-Ok-claims_of.ensures.problems, c.in-Ok-claims_of.ensures.titles) at c.judge_bits.ensures.ends in
+    rw c.in-Bits.is (ends_claims c.args.replies.now.settings.now c.args.replies.now.file.now c.args.replies.now.at (wish_over vector Bv (c.in-Bits.problems, c.in-Bits.titles)) _ _ _ _ _ _ _ ends c.in-Ok-claims_of.ensures.read)
 
-pub returns-in-Err-in-Bits-clause-ends : goal.returns-in-Err-in-Bits-clause-ends
-returns-in-Err-in-Bits-clause-ends g c =
-    rw c.in-Bits.is (ends_told c.args.replies.now.settings.now c.args.replies.now.file.now c.args.replies.now.at (wish_over vector Bv (c.in-Bits.problems, c.in-Bits.titles)) c.in-Err-in-Bits.end _ _ _ _ _ _ c.in-Err-in-Bits.ensures.read
-    c.refused_replies-in-Bits.ensures.status c.refused_replies-in-Bits.ensures.answers refl c.refused_replies-in-Bits.ensures.memory_line c.refused_replies-in-Bits.ensures.refused)
+pub returns-in-Err-claims_of-clause-ends : goal.returns-in-Err-claims_of-clause-ends
+returns-in-Err-claims_of-clause-ends g c =
+    rw c.in-Bits.is (ends_told c.args.replies.now.settings.now c.args.replies.now.file.now c.args.replies.now.at (wish_over vector Bv (c.in-Bits.problems, c.in-Bits.titles)) c.in-Err-claims_of.end _ _ _ _ _ _ c.in-Err-claims_of.ensures.read
+    c.refused_replies-in-Err-claims_of.ensures.status c.refused_replies-in-Err-claims_of.ensures.answers refl c.refused_replies-in-Err-claims_of.ensures.memory_line c.refused_replies-in-Err-claims_of.ensures.refused)
