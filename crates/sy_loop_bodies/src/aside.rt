@@ -5,7 +5,7 @@ use std::alloc::Global;
 use sy_terms::{Bodies, Term, Theory, Want};
 
 /// How many bodies are set aside at most.
-const MOST_ASIDE: usize = 8;
+const MOST_ASIDE: usize = 4;
 
 /// Bodies that weren't decided within small limits, each once. How many more may be left so is a guide to a search,
 /// and so is all that is set aside: what is answered of it is proved like any other body.

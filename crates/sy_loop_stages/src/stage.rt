@@ -38,6 +38,7 @@ pub(crate) const WHOLE: Effort = Effort {
 };
 
 /// The limits of a search, those of the query of one body beyond it, and the effort there.
+#[derive(Clone, Copy)]
 pub(crate) struct Stage {
     pub(crate) limits: Limits,
     pub(crate) clauses: u32,
@@ -51,8 +52,8 @@ pub(crate) fn early_stage(limits: &Limits) -> Stage
 {
     Stage {
         limits: lowered_limits(limits, EARLY_BANK),
-        clauses: 1_000,
-        nodes: 100,
+        clauses: eighth(limits.clauses, 1_000),
+        nodes: eighth(limits.nodes, 100),
         effort: Effort {
             refuted: 64,
             undecided: 4,
@@ -67,8 +68,8 @@ pub(crate) fn whole_stage(limits: &Limits) -> Stage
 {
     Stage {
         limits: *limits,
-        clauses: MOST_CLAUSES,
-        nodes: MOST_NODES,
+        clauses: eighth(limits.clauses, MOST_CLAUSES),
+        nodes: eighth(limits.nodes, MOST_NODES),
         effort: WHOLE,
     }
 }
@@ -83,14 +84,19 @@ pub(crate) fn wide_stage(limits: &Limits, bank: u32) -> Stage
             size: limits.size.max(WIDE_SIZE),
             ..lowered
         },
-        clauses: FEW_CLAUSES,
-        nodes: FEW_NODES,
+        clauses: eighth(limits.clauses, 1_000),
+        nodes: eighth(limits.nodes, 200),
         effort: Effort {
             refuted: 256,
             undecided: 4,
-            banks: 2,
+            banks: 1,
         },
     }
+}
+
+/// An eighth of the limit, at most so much.
+fn eighth(limit: u32, most: u32) -> u32 {
+    (limit / 8).max(1).min(most)
 }
 
 /// At most so many kept terms, and few clauses and inner nodes.
@@ -120,9 +126,9 @@ pub(crate) fn limits_of_one_body(stage: &Stage, is_closed: bool) -> Limits {
     }
 }
 
-/// The limits for the query of each of so many bodies that were set aside: half of the limits for all of them.
+/// The limits for the query of each of so many bodies that were set aside: a quarter of the limits for all of them.
 pub(crate) fn shared_limits(limits: &Limits, count: usize) -> Limits {
-    let parts = 2 * count.max(1).min(64) as u32;
+    let parts = 4 * count.max(1).min(64) as u32;
     Limits {
         clauses: (limits.clauses / parts).max(1),
         nodes: (limits.nodes / parts).max(1),
