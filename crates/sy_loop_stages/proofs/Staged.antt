@@ -61,7 +61,7 @@ module _ {T N P S : Type 0} (owned : Op → Bool) (number : N → Val) (accepted
 
   -- after a stage had ended, so is what a search up to no larger sizes than may be finds
   pub found_within : (stage : Limits) (outcome : Outcome T P S N)
-      → HasStopped {T} {S} {N} owned number budget shows question limits → stage.size ≤ most_beyond limits.size
+      → HasStopped T owned number budget shows question limits → stage.size ≤ most_beyond limits.size
       → FindsIn owned number budget shows question stage outcome
       → FindsBeyond owned number budget shows question limits outcome
   found_within stage (Found bodies proof) stopped le (inl least) = inl least
@@ -99,7 +99,7 @@ module _ {T N P S : Type 0} (owned : Op → Bool) (number : N → Val) (accepted
 
   -- the whole search ended
   pub has_stopped : (cause : FailCause T S N) → CauseHolds owned number budget shows Joins question limits cause
-      → HasStopped {T} {S} {N} owned number budget shows question limits
+      → HasStopped T owned number budget shows question limits
   has_stopped cause holds = record { stage = limits; of = whole_is_stage limits; cause = cause; holds = holds }
 
 module _ {T N D P S : Type 0} (theory : TheoryOf T N) (solver : DecideOf D T P S N)

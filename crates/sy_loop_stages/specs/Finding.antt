@@ -21,7 +21,7 @@ use Rattle.sy_loop.specs.Least.{AreLeast}
 use Rattle.sy_loop_stages.specs.Stages.{stages, most_beyond}
 
 -- the search within the limits of a stage ended by a cause that holds
-pub record HasStopped {T S N : Type 0} (owned : Op → Bool) (number : N → Val) (budget : S → FailName)
+pub record HasStopped (T : Type 0) {S N : Type 0} (owned : Op → Bool) (number : N → Val) (budget : S → FailName)
     (shows : Query → Limits → FailName → S → Type 0) (question : Question) (limits : Limits) : Type 0 where
   pub stage : Limits
   pub of : Contains (stages limits) stage
@@ -29,17 +29,17 @@ pub record HasStopped {T S N : Type 0} (owned : Op → Bool) (number : N → Val
   pub holds : CauseHolds owned number budget shows Joins question stage cause
 
 -- in place of that the bodies are answered: members of bounded sizes
-pub record AreBeyond {T S N : Type 0} (owned : Op → Bool) (number : N → Val) (budget : S → FailName)
+pub record AreBeyond (T : Type 0) {S N : Type 0} (owned : Op → Bool) (number : N → Val) (budget : S → FailName)
     (shows : Query → Limits → FailName → S → Type 0) (question : Question) (limits : Limits) (bodies : List Expr) : Type 0 where
-  pub stopped : HasStopped {T} {S} {N} owned number budget shows question limits
+  pub stopped : HasStopped T owned number budget shows question limits
   pub within : AreWithin question.pool (most_beyond limits.size) question.goals bodies
 
 -- what is found is of the least bound in which anything solves the problem, or the search of a stage had ended before
 abbrev pub FindsBeyond : {T P S N : Type 0} → (Op → Bool) → (N → Val) → (S → FailName)
     → (Query → Limits → FailName → S → Type 0) → Question → Limits → Outcome T P S N → Type 0
-FindsBeyond {T} {P} {S} {N} owned number budget shows question limits (Found bodies proof) =
+FindsBeyond {T} owned number budget shows question limits (Found bodies proof) =
     AreLeast Joins question (map (expr_of number) bodies)
-    ⊎ AreBeyond {T} {S} {N} owned number budget shows question limits (map (expr_of number) bodies)
+    ⊎ AreBeyond T owned number budget shows question limits (map (expr_of number) bodies)
 FindsBeyond owned number budget shows question limits Infeasible = Unit {0}
 FindsBeyond owned number budget shows question limits (Fail cause) = Unit {0}
 

@@ -24,7 +24,7 @@ use Rattle.sy_loop.specs.Least.{AreLeast}
 use Rattle.sy_loop_stages.specs.Finding.{FindsBeyondFor, HasStopped}
 
 -- a search within these limits ended by a cause that holds, and the bodies are members of sizes within them
-pub record AreAfter {T S N : Type 0} (owned : Op → Bool) (number : N → Val) (budget : S → FailName)
+pub record AreAfter (T : Type 0) {S N : Type 0} (owned : Op → Bool) (number : N → Val) (budget : S → FailName)
     (shows : Query → Limits → FailName → S → Type 0) (question : Question) (limits : Limits) (bodies : List Expr) : Type 0 where
   pub cause : FailCause T S N
   pub holds : CauseHolds owned number budget shows Joins question limits cause
@@ -33,9 +33,9 @@ pub record AreAfter {T S N : Type 0} (owned : Op → Bool) (number : N → Val) 
 -- what is found is of the least bound in which anything solves the problem, or is answered after that
 abbrev pub FindsIn : {T P S N : Type 0} → (Op → Bool) → (N → Val) → (S → FailName)
     → (Query → Limits → FailName → S → Type 0) → Question → Limits → Outcome T P S N → Type 0
-FindsIn {T} {P} {S} {N} owned number budget shows question limits (Found bodies proof) =
+FindsIn {T} owned number budget shows question limits (Found bodies proof) =
     AreLeast Joins question (map (expr_of number) bodies)
-    ⊎ AreAfter {T} {S} {N} owned number budget shows question limits (map (expr_of number) bodies)
+    ⊎ AreAfter T owned number budget shows question limits (map (expr_of number) bodies)
 FindsIn owned number budget shows question limits Infeasible = Unit {0}
 FindsIn owned number budget shows question limits (Fail cause) = Unit {0}
 
@@ -57,12 +57,12 @@ module _ {T N D P S : Type 0} (theory : TheoryOf T N) (solver : DecideOf D T P S
 
   abbrev pub HasStoppedFor : Type 0
   HasStoppedFor =
-      HasStopped {T} {S} {N} theory.owned theory.denotes solver.budget solver.shows
+      HasStopped T theory.owned theory.denotes solver.budget solver.shows
       (question_of theory.denotes problem) limits
 
   abbrev pub AreAfterFor : List Expr → Type 0
   AreAfterFor =
-      AreAfter {T} {S} {N} theory.owned theory.denotes solver.budget solver.shows
+      AreAfter T theory.owned theory.denotes solver.budget solver.shows
       (question_of theory.denotes problem) limits
 
   -- the bodies solve the problem, as the proof shows, and are answered after a search
