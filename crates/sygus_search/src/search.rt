@@ -61,7 +61,7 @@ pub fn sought<T: Theory, D: Decide<T>>(
 /// Whether the search of this mode goes by stages, if it tries conditional trees.
 fn is_staged(mode: Mode) -> bool {
     match mode {
-        Mode::Solve | Mode::Check => true,
+        Mode::Solve | Mode::Check | Mode::Recheck | Mode::Clauses => true,
         Mode::Least | Mode::Drill(_) => false,
     }
 }
