@@ -81,7 +81,8 @@ module _ {T N P S : Type 0} (owned : Op → Bool) (number : N → Val) (accepted
       → FindsBeyond owned number budget shows question limits outcome
   after_stage stage (Found bodies proof) of le (inl least) = inl least
   after_stage stage (Found bodies proof) of le (inr after) =
-      let stopped = record { stage = stage; of = of; cause = after.cause; holds = after.holds } in
+      let stopped : HasStopped T owned number budget shows question limits =
+      record { stage = stage; of = of; cause = after.cause; holds = after.holds } in
       found_within stage (Found bodies proof) stopped le (inr after)
   after_stage stage Infeasible of le is = tt
   after_stage stage (Fail cause) of le is = tt
