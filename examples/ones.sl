@@ -1,8 +1,8 @@
-; A sum of nine ones has size 17, and bodies of at most 12 are sought: `--size 17` finds it.
+; A sum of twelve ones has size 23, and bodies of at most 20 are sought: `--size 23` finds it.
 ; answer: fail Size
 (set-logic BV)
 (synth-fun f () (_ BitVec 8)
   ((S (_ BitVec 8)))
   ((S (_ BitVec 8) (#x01 (bvadd #x01 S)))))
-(constraint (= f #x09))
+(constraint (= f #x0c))
 (check-synth)

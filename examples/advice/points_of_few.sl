@@ -1,5 +1,5 @@
 ; The same by four of them.
-; words: --points 4
+; words: --mode least --points 4
 (set-logic BV)
 (synth-fun f ((x (_ BitVec 8))) (_ BitVec 8)
   ((S (_ BitVec 8)))

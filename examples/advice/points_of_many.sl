@@ -1,5 +1,5 @@
 ; Eight examples, where a function may be asked at four tuples of arguments.
-; words: --points 4
+; words: --mode least --points 4
 ; answer: fail Points
 (set-logic BV)
 (synth-fun f ((x (_ BitVec 8))) (_ BitVec 8)

@@ -1,8 +1,8 @@
-; Nine as a sum of ones has size 17.
+; Twelve as a sum of ones has size 23.
 ; answer: fail Size
 (set-logic BV)
 (synth-fun f () (_ BitVec 8)
   ((S (_ BitVec 8)))
   ((S (_ BitVec 8) (#x01 (bvadd #x01 S)))))
-(constraint (= f #x09))
+(constraint (= f #x0c))
 (check-synth)

@@ -1,4 +1,4 @@
-; The two lowest ones cleared, by a subtraction that is needed twice: the body has size 13.
+; The three lowest ones cleared, by a subtraction that is needed three times: the body has size 29.
 ; answer: fail Size
 (set-logic BV)
 (define-fun drop ((x (_ BitVec 8))) (_ BitVec 8) (bvand x (bvsub x #x01)))
@@ -6,5 +6,5 @@
   ((S (_ BitVec 8)))
   ((S (_ BitVec 8) (x (bvand S S) (bvsub S #x01)))))
 (declare-var x (_ BitVec 8))
-(constraint (= (f x) (drop (drop x))))
+(constraint (= (f x) (drop (drop (drop x)))))
 (check-synth)

@@ -39,8 +39,8 @@ REFUSED = (3, "", "refused: words\n")
 MISSPELT = ["", "0", "+1", "-1", "01", "1.0", "one"]
 # Runs whose error output takes nothing: words, the input, and what is left.
 UNTOLD = [
-    (["--size", "2", "vector_next.sl"], "", (5, "fail\n")),
-    (["--size", "14", "eight.sl"], "", (5, "fail\n")),
+    (["--mode", "least", "--size", "2", "vector_next.sl"], "", (5, "fail\n")),
+    (["--mode", "least", "--size", "14", "eight.sl"], "", (5, "fail\n")),
     (["vector_next.sl"], "", (0, NEXT)),
     (["vector_above.sl"], "", (0, "infeasible\n")),
     (["-"], "(set-info :source |ab", (5, "")),

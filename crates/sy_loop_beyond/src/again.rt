@@ -5,12 +5,9 @@ ghost use Rattle.sy_loop_bodies.specs.Clauses.{AreAssignedFor, IsBankFor, IsFoun
 
 use crate::banks::bank_over;
 use sy_bank::Bank;
-use sy_loop_bodies::{Task, mixed_assignment, solve_kept, solve_scanned, wished_tuples};
+use sy_loop_bodies::{Aside, Task, mixed_assignment, solve_kept, solve_scanned, wished_tuples};
 use sy_query_base::Decide;
 use sy_terms::{Bodies, Theory, Values, Want};
-
-/// How many banks are built at most.
-const MOST_BANKS: u32 = 2;
 
 /// How many assignments that look random are added.
 const MIXED: u64 = 4;
@@ -22,6 +19,7 @@ pub(crate) fn solve_again<T: Theory, D: Decide<T>>(
     task: &Task<T>,
     decide: &mut D,
     assignments: &mut Vec<Values<T>>,
+    aside: &mut Aside<T>,
 ) -> Result<Option<(Bodies<T>, D::Proof)>, Want>
     requires problem { ProblemFits T.Theory task.now.problem.now }
     requires one { length task.now.problem.now.wanted ≡ 1 }
@@ -29,9 +27,9 @@ pub(crate) fn solve_again<T: Theory, D: Decide<T>>(
     ensures { IfOk result (IsFoundFor T.Theory D.Decide task.now.problem.now task.now.bound) }
 {
     add_mixed(task, assignments)?;
-    for _ in 0..MOST_BANKS {
+    for _ in 0..task.effort.banks {
         let known = assignments.len();
-        if let Some(found) = solve_wished(task, decide, assignments)? {
+        if let Some(found) = solve_wished(task, decide, assignments, aside)? {
             return Ok(Some(found));
         }
         if assignments.len() == known {
@@ -46,6 +44,7 @@ fn solve_wished<T: Theory, D: Decide<T>>(
     task: &Task<T>,
     decide: &mut D,
     assignments: &mut Vec<Values<T>>,
+    aside: &mut Aside<T>,
 ) -> Result<Option<(Bodies<T>, D::Proof)>, Want>
     requires problem { ProblemFits T.Theory task.now.problem.now }
     requires one { length task.now.problem.now.wanted ≡ 1 }
@@ -56,7 +55,7 @@ fn solve_wished<T: Theory, D: Decide<T>>(
     let Some(bank) = wished_bank(task, assignments.as_slice())? else {
         return Ok(None);
     };
-    solve_over(task, decide, &bank, assignments)
+    solve_over(task, decide, &bank, assignments, aside)
 }
 
 /// A bank of the one function at the tuples that constraints want at the assignments; `None` where there is none, or one of
@@ -104,6 +103,7 @@ fn solve_over<T: Theory, D: Decide<T>>(
     decide: &mut D,
     bank: &Bank<T>,
     assignments: &mut Vec<Values<T>>,
+    aside: &mut Aside<T>,
 ) -> Result<Option<(Bodies<T>, D::Proof)>, Want>
     requires problem { ProblemFits T.Theory task.now.problem.now }
     requires one { length task.now.problem.now.wanted ≡ 1 }
@@ -112,11 +112,12 @@ fn solve_over<T: Theory, D: Decide<T>>(
     ensures assigned { OnOk result (AreAssignedFor T.Theory task.now.problem.now assignments.new.items) }
     ensures found { IfOk result (IsFoundFor T.Theory D.Decide task.now.problem.now task.now.bound) }
 {
+    aside.allow(task.effort.undecided);
     for size in 0..=task.bound {
         let kept = bank.kept(0, size);
-        if let Some(found) = solve_kept(task, decide, kept, assignments)? {
+        if let Some(found) = solve_kept(task, decide, kept, assignments, aside)? {
             return Ok(Some(found));
         }
     }
-    solve_scanned(task, decide, bank, assignments)
+    solve_scanned(task, decide, bank, assignments, aside)
 }

@@ -4,53 +4,35 @@ ghost use Rattle.sy_grammar_base.specs.Fits.{ProblemFits};
 ghost use Rattle.sy_loop_bodies.specs.Clauses.{AreAssignedFor, IsBankFor, IsFoundFor, WereAssignedFor};
 
 use crate::again::solve_again;
-use std::alloc::Global;
 use sy_bank::Bank;
-use sy_grammar_base::Problem;
-use sy_loop_bodies::{Task, copied_assignments, solve_kept, solve_scanned};
+use sy_loop_bodies::{Aside, Task, copied_assignments, solve_kept, solve_scanned};
 use sy_points::Stored;
 use sy_query_base::Decide;
-use sy_query_limits::Limits;
 use sy_terms::{Bodies, Theory, Values, Want};
 
-/// How many clauses the solver may learn of one body's query: what is hard to decide is passed over.
-const MOST_CLAUSES: u32 = 10_000;
-
-/// How many inner nodes its tree may have, over integers.
-const MOST_NODES: u32 = 500;
-
-/// Bodies that solve the problem, with the solver's proof, of sizes up to `bound`: a kept term of the bank's greatest size,
-/// or what a rule of the start symbol gives of kept terms. Each is judged at the stored assignments and at those that
-/// refuted others before it, and then decided. `None` where none was found to solve the problem, or too many weren't
-/// decided; nothing follows from it. `Want` comes where memory runs out, where 32 bits don't count the positions of a
-/// query, the points of a bank or the function's arguments, and where `decide` answers it.
+/// Bodies that solve the problem, with the solver's proof, of sizes up to the task's bound: a kept term of the bank's
+/// greatest size, or what a rule of the start symbol gives of kept terms. Each is judged at the stored assignments and at
+/// those that refuted others before it, and then decided. `None` where none was found to solve the problem, or too many
+/// weren't decided, which are set aside; nothing follows from it. `Want` comes where memory runs out, where 32 bits don't
+/// count the positions of a query, the points of a bank or the function's arguments, and where `decide` answers it.
 pub fn solve_beyond<T: Theory, D: Decide<T>>(
-    alloc: Global,
-    problem: &Problem<T>,
-    limits: &Limits,
+    task: &Task<T>,
     decide: &mut D,
     bank: &Bank<T>,
     stored: &Stored<T>,
-    bound: u32,
+    aside: &mut Aside<T>,
 ) -> Result<Option<(Bodies<T>, D::Proof)>, Want>
-    requires problem { ProblemFits T.Theory problem.now }
-    requires bank { IsBankFor T.Theory problem.now bank.now }
-    requires stored { WereAssignedFor T.Theory problem.now stored.now }
-    ensures { IfOk result (IsFoundFor T.Theory D.Decide problem.now bound) }
+    requires problem { ProblemFits T.Theory task.now.problem.now }
+    requires bank { IsBankFor T.Theory task.now.problem.now bank.now }
+    requires stored { WereAssignedFor T.Theory task.now.problem.now stored.now }
+    ensures { IfOk result (IsFoundFor T.Theory D.Decide task.now.problem.now task.now.bound) }
 {
     let level = bank.upto();
-    if level > bound {
+    if level > task.bound {
         return Ok(None);
     }
-    let limits = limits_of_one_body(limits);
-    let task = Task {
-        alloc,
-        problem,
-        limits: &limits,
-        bound,
-    };
-    let mut assignments = copied_assignments(alloc, problem, stored)?;
-    solve_onwards(&task, decide, bank, level, &mut assignments)
+    let mut assignments = copied_assignments(task.alloc, task.problem, stored)?;
+    solve_onwards(task, decide, bank, level, &mut assignments, aside)
 }
 
 /// The first body that is found to solve the problem: a kept term of this size, a combination of kept terms, or one over
@@ -61,6 +43,7 @@ fn solve_onwards<T: Theory, D: Decide<T>>(
     bank: &Bank<T>,
     level: u32,
     assignments: &mut Vec<Values<T>>,
+    aside: &mut Aside<T>,
 ) -> Result<Option<(Bodies<T>, D::Proof)>, Want>
     requires problem { ProblemFits T.Theory task.now.problem.now }
     requires bank { IsBankFor T.Theory task.now.problem.now bank.now }
@@ -68,47 +51,30 @@ fn solve_onwards<T: Theory, D: Decide<T>>(
     requires assigned { AreAssignedFor T.Theory task.now.problem.now assignments.old.items }
     ensures { IfOk result (IsFoundFor T.Theory D.Decide task.now.problem.now task.now.bound) }
 {
+    aside.allow(task.effort.undecided);
     let last = bank.kept(0, level);
-    if let Some(found) = solve_kept(task, decide, last, assignments)? {
+    if let Some(found) = solve_kept(task, decide, last, assignments, aside)? {
         return Ok(Some(found));
     }
-    if let Some(found) = solve_scanned(task, decide, bank, assignments)? {
+    if let Some(found) = solve_scanned(task, decide, bank, assignments, aside)? {
         return Ok(Some(found));
     }
-    solve_again(task, decide, assignments)
+    solve_again(task, decide, assignments, aside)
 }
 
 /// The same where no bank is full: bodies over banks that are built anew, without terms that leave the 128 bits. `None`
 /// and `Want` come as there.
 pub fn solve_anew<T: Theory, D: Decide<T>>(
-    alloc: Global,
-    problem: &Problem<T>,
-    limits: &Limits,
+    task: &Task<T>,
     decide: &mut D,
     stored: &Stored<T>,
-    bound: u32,
+    aside: &mut Aside<T>,
 ) -> Result<Option<(Bodies<T>, D::Proof)>, Want>
-    requires problem { ProblemFits T.Theory problem.now }
-    requires one { length problem.now.wanted ≡ 1 }
-    requires stored { WereAssignedFor T.Theory problem.now stored.now }
-    ensures { IfOk result (IsFoundFor T.Theory D.Decide problem.now bound) }
+    requires problem { ProblemFits T.Theory task.now.problem.now }
+    requires one { length task.now.problem.now.wanted ≡ 1 }
+    requires stored { WereAssignedFor T.Theory task.now.problem.now stored.now }
+    ensures { IfOk result (IsFoundFor T.Theory D.Decide task.now.problem.now task.now.bound) }
 {
-    let limits = limits_of_one_body(limits);
-    let task = Task {
-        alloc,
-        problem,
-        limits: &limits,
-        bound,
-    };
-    let mut assignments = copied_assignments(alloc, problem, stored)?;
-    solve_again(&task, decide, &mut assignments)
-}
-
-/// The limits for the query of one body.
-fn limits_of_one_body(limits: &Limits) -> Limits {
-    Limits {
-        clauses: limits.clauses.min(MOST_CLAUSES),
-        nodes: limits.nodes.min(MOST_NODES),
-        ..*limits
-    }
+    let mut assignments = copied_assignments(task.alloc, task.problem, stored)?;
+    solve_again(task, decide, &mut assignments, aside)
 }

@@ -4,6 +4,7 @@ ghost use Rattle.sy_terms.specs.Denoted.{expr_of};
 ghost use Rattle.sy_grammar_base.specs.Fits.{ProblemFits};
 ghost use Rattle.sy_loop_bodies.specs.Clauses.{AreAssignedFor, AreFoundFor, AreWithinFor, IsFoundFor, IsSmallFor, IsVerdictFor};
 
+use crate::aside::Aside;
 use crate::judging::meet_all;
 use std::alloc::Global;
 use sy_grammar_base::Problem;
@@ -13,27 +14,37 @@ use sy_query_base::{Decide, Verdict};
 use sy_query_limits::Limits;
 use sy_terms::{Bodies, Seq, Term, Theory, Values, Want};
 
-/// How many bodies that weren't decided are passed over, of kept terms and of combinations each.
-pub(crate) const MOST_SPENT: u32 = 8;
+/// How much is tried.
+#[derive(Clone, Copy)]
+pub struct Effort {
+    /// How many combinations of one bank a solver refutes at most, each with a counterexample.
+    pub refuted: u32,
+    /// How many bodies of one bank are left undecided at most, of kept terms and of combinations each.
+    pub undecided: u32,
+    /// How many further banks are built at most.
+    pub banks: u32,
+}
 
-/// What stays the same while bodies are tried: the problem, the limits, and the greatest size of a body.
+/// What stays the same while bodies are tried: the problem, the limits, the greatest size of a body, and the effort.
 #[derive(Drop)]
 pub struct Task<'a, T: Theory> {
     pub alloc: Global,
     pub problem: &'a Problem<T>,
     pub limits: &'a Limits,
     pub bound: u32,
+    pub effort: Effort,
 }
 
 /// Tries the term as the one body: at the assignments, and where it meets the problem there, by the solver. `None` where it
-/// wasn't found to solve the problem. An assignment at which the solver sees it violate the problem is one more. `left` is
-/// one less where it isn't decided, since its query is too heavy or a budget of the solver ran out.
+/// wasn't found to solve the problem. An assignment at which the solver sees it violate the problem is one more. It is set
+/// aside where it isn't decided, since its query is too heavy or a budget of the solver ran out; where it was set aside
+/// before, it is passed over.
 pub(crate) fn try_body<T: Theory, D: Decide<T>>(
     task: &Task<T>,
     decide: &mut D,
     term: Term<T>,
     assignments: &mut Vec<Values<T>>,
-    left: &mut u32,
+    aside: &mut Aside<T>,
 ) -> Result<Option<(Bodies<T>, D::Proof)>, Want>
     requires problem { ProblemFits T.Theory task.now.problem.now }
     requires term { IsSmallFor T.Theory task.now.problem.now task.now.bound (expr_of T.denotes term) }
@@ -41,9 +52,12 @@ pub(crate) fn try_body<T: Theory, D: Decide<T>>(
     ensures assigned { OnOk result (AreAssignedFor T.Theory task.now.problem.now assignments.new.items) }
     ensures found { IfOk result (IsFoundFor T.Theory D.Decide task.now.problem.now task.now.bound) }
 {
+    if aside.has(&term) {
+        return Ok(None);
+    }
     let mut bodies = Seq::new(task.alloc);
     bodies.push(term)?;
-    let found = proof_of(task, decide, &bodies, assignments, left)?;
+    let found = proof_of(task, decide, &bodies, assignments, aside)?;
     let Some(proof) = found else {
         return Ok(None);
     };
@@ -56,7 +70,7 @@ fn proof_of<T: Theory, D: Decide<T>>(
     decide: &mut D,
     bodies: &Bodies<T>,
     assignments: &mut Vec<Values<T>>,
-    left: &mut u32,
+    aside: &mut Aside<T>,
 ) -> Result<Option<D::Proof>, Want>
     requires problem { ProblemFits T.Theory task.now.problem.now }
     requires within { AreWithinFor T.Theory task.now.problem.now task.now.bound bodies.now }
@@ -75,7 +89,7 @@ fn proof_of<T: Theory, D: Decide<T>>(
             Ok(None)
         }
         _ => {
-            *left = left.saturating_sub(1);
+            aside.add(task.alloc, bodies)?;
             Ok(None)
         }
     }

@@ -4,17 +4,20 @@ ghost use Rattle.sy_bank_rows.specs.Stored.{entries_of};
 ghost use Rattle.sy_grammar_base.specs.Fits.{ProblemFits};
 ghost use Rattle.sy_loop_bodies.specs.Clauses.{AreAssignedFor, AreSmallFor, IsFoundFor};
 
-use crate::body::{MOST_SPENT, Task, try_body};
+use crate::aside::Aside;
+use crate::body::{Task, try_body};
 use sy_bank_rows::Kept;
 use sy_query_base::Decide;
 use sy_terms::{Bodies, Theory, Values, Want};
 
-/// The first of the kept terms that solves the problem as the one body; `None` where none was found to.
+/// The first of the kept terms that solves the problem as the one body; `None` where none was found to, or no more may be
+/// left undecided.
 pub fn solve_kept<T: Theory, D: Decide<T>>(
     task: &Task<T>,
     decide: &mut D,
     kept: &[Kept<T>],
     assignments: &mut Vec<Values<T>>,
+    aside: &mut Aside<T>,
 ) -> Result<Option<(Bodies<T>, D::Proof)>, Want>
     requires problem { ProblemFits T.Theory task.now.problem.now }
     requires kept { AreSmallFor T.Theory task.now.problem.now task.now.bound (entries_of T.denotes kept.now) }
@@ -22,14 +25,13 @@ pub fn solve_kept<T: Theory, D: Decide<T>>(
     ensures assigned { OnOk result (AreAssignedFor T.Theory task.now.problem.now assignments.new.items) }
     ensures found { IfOk result (IsFoundFor T.Theory D.Decide task.now.problem.now task.now.bound) }
 {
-    let mut left = MOST_SPENT;
     for entry in kept {
-        let term = entry.term(task.alloc)?;
-        if let Some(found) = try_body(task, decide, term, assignments, &mut left)? {
-            return Ok(Some(found));
-        }
-        if left == 0 {
+        if aside.is_spent() {
             return Ok(None);
+        }
+        let term = entry.term(task.alloc)?;
+        if let Some(found) = try_body(task, decide, term, assignments, aside)? {
+            return Ok(Some(found));
         }
     }
     Ok(None)

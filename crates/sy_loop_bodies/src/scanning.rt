@@ -5,7 +5,8 @@ ghost use Rattle.sy_grammar_base.specs.Fits.{ProblemFits};
 ghost use Rattle.sy_grammar_base.specs.Solving.{AreValues};
 ghost use Rattle.sy_loop_bodies.specs.Clauses.{AreAssignedFor, IsFoundFor};
 
-use crate::body::{MOST_SPENT, Task, try_body};
+use crate::aside::Aside;
+use crate::body::{Task, try_body};
 use crate::columns::{columns, number, point_of};
 use crate::guess::guessed_term;
 use crate::shapes::{pools_of, shapes_of};
@@ -19,9 +20,6 @@ use sy_terms::{Bodies, Theory, Value, Values, Want};
 
 /// How many combinations are tried at most.
 const MOST_GUESSES: u32 = 4_096;
-
-/// How many of them a solver refutes at most, each with a counterexample.
-const MOST_ASKED: u32 = 256;
 
 /// A scan, and what it was told of: the numbers of its shapes' rules, how many of the assignments, and the tuples at which
 /// constraints want values there, each once.
@@ -40,6 +38,7 @@ pub fn solve_scanned<T: Theory, D: Decide<T>>(
     decide: &mut D,
     bank: &Bank<T>,
     assignments: &mut Vec<Values<T>>,
+    aside: &mut Aside<T>,
 ) -> Result<Option<(Bodies<T>, D::Proof)>, Want>
     requires problem { ProblemFits T.Theory task.now.problem.now }
     requires one { length task.now.problem.now.wanted ≡ 1 }
@@ -51,7 +50,8 @@ pub fn solve_scanned<T: Theory, D: Decide<T>>(
         return Ok(None);
     };
     let mut scanning = scanning_of(task, &wanted.grammar, bank)?;
-    solve_guessed(task, decide, bank, &mut scanning, assignments)
+    aside.allow(task.effort.undecided);
+    solve_guessed(task, decide, bank, &mut scanning, assignments, aside)
 }
 
 /// A scan of the combinations of the bank's kept terms, which was told of no assignment.
@@ -88,6 +88,7 @@ fn solve_guessed<T: Theory, D: Decide<T>>(
     bank: &Bank<T>,
     scanning: &mut Scanning<T>,
     assignments: &mut Vec<Values<T>>,
+    aside: &mut Aside<T>,
 ) -> Result<Option<(Bodies<T>, D::Proof)>, Want>
     requires problem { ProblemFits T.Theory task.now.problem.now }
     requires one { length task.now.problem.now.wanted ≡ 1 }
@@ -95,21 +96,20 @@ fn solve_guessed<T: Theory, D: Decide<T>>(
     ensures assigned { OnOk result (AreAssignedFor T.Theory task.now.problem.now assignments.new.items) }
     ensures found { IfOk result (IsFoundFor T.Theory D.Decide task.now.problem.now task.now.bound) }
 {
-    let mut left = MOST_SPENT;
-    let mut asked = 0u32;
+    let mut refuted = 0u32;
     for _ in 0..MOST_GUESSES {
+        if aside.is_spent() || refuted >= task.effort.refuted {
+            return Ok(None);
+        }
         tell(task, bank, assignments.as_slice(), scanning)?;
         let Some((rule, places)) = next_guess(scanning)? else {
             return Ok(None);
         };
-        if let Some(found) = try_guess(task, decide, bank, rule, places, assignments, &mut left)? {
+        if let Some(found) = try_guess(task, decide, bank, rule, places, assignments, aside)? {
             return Ok(Some(found));
         }
         if assignments.len() > scanning.told {
-            asked = asked.saturating_add(1);
-        }
-        if left == 0 || asked == MOST_ASKED {
-            return Ok(None);
+            refuted = refuted.saturating_add(1);
         }
     }
     Ok(None)
@@ -134,7 +134,7 @@ fn try_guess<T: Theory, D: Decide<T>>(
     rule: u32,
     places: Vec<usize>,
     assignments: &mut Vec<Values<T>>,
-    left: &mut u32,
+    aside: &mut Aside<T>,
 ) -> Result<Option<(Bodies<T>, D::Proof)>, Want>
     requires problem { ProblemFits T.Theory task.now.problem.now }
     requires one { length task.now.problem.now.wanted ≡ 1 }
@@ -145,7 +145,7 @@ fn try_guess<T: Theory, D: Decide<T>>(
     let Some(term) = guessed_term(task, bank, rule, places.as_slice())? else {
         return Ok(None);
     };
-    try_body(task, decide, term, assignments, left)
+    try_body(task, decide, term, assignments, aside)
 }
 
 /// Tells the scan what constraints want at the assignments of which it wasn't told.

@@ -1,6 +1,4 @@
-pub mod Beyond
 pub mod Computing
-pub mod Left
 pub mod Named
 pub mod Ranges
 pub mod Seeking

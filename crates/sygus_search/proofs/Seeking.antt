@@ -12,11 +12,11 @@ use Rattle.sy_loop.specs.Least.{FindsLeast}
 use Rattle.sygus_modes.specs.Reaches.{reach_of}
 use Rattle.sygus_words.specs.declared.settings.Mode.{Mode}
 use Rattle.sygus_words.specs.declared.settings.Mode.TheVariants.{Solve, Least, Check, Recheck, Clauses, Drill}
-use Rattle.sygus_search.specs.Finding.{FindsBeyondFor}
+use Rattle.sy_loop_stages.specs.Finding.{FindsBeyondFor}
 use Rattle.sygus_search.specs.RightAnswers.{RightOutcomeFor}
 
 module _ {T N D P S : Type 0} (theory : TheoryOf T N) (solver : DecideOf D T P S N) (limits : Limits) (problem : Problem T N) (outcome : Outcome T P S N) where
-  pub with_trees : (mode : Mode) → reach_of mode ≡ Joins → IsRightFor theory solver Joins problem limits outcome → FindsBeyondFor theory problem limits outcome → RightOutcomeFor theory solver mode limits (question_of theory.denotes problem) outcome
+  pub with_trees : (mode : Mode) → reach_of mode ≡ Joins → IsRightFor theory solver Joins problem limits outcome → FindsBeyondFor theory solver problem limits outcome → RightOutcomeFor theory solver mode limits (question_of theory.denotes problem) outcome
   with_trees Solve is right well = record { right = right; well = well }
   with_trees Least is right well = absurd (cc)
   with_trees Check is right well = record { right = right; well = well }

@@ -18,7 +18,7 @@ use Rattle.sy_loop_bounds.specs.declared.reach.Reach.TheVariants.{Sizes}
 use Rattle.sy_loop_outcome.specs.Right.{IsRight}
 use Rattle.sy_loop_outcome.specs.declared.outcome.Outcome.{Outcome}
 use Rattle.sy_loop.specs.Least.{FindsLeast}
-use Rattle.sygus_search.specs.Finding.{FindsBeyond}
+use Rattle.sy_loop_stages.specs.Finding.{FindsBeyond}
 use Rattle.sygus_modes.specs.Reaches.{reach_of}
 use Rattle.sygus_words.specs.declared.settings.Mode.{Mode}
 use Rattle.sygus_words.specs.declared.settings.Mode.TheVariants.{Solve, Least, Check, Recheck, Clauses, Drill}
@@ -26,21 +26,21 @@ use Rattle.sygus_replies.specs.Answered.{AreRight}
 use Rattle.sygus_answers.specs.declared.answers.Answers.{Answers}
 use Rattle.sygus_answers.specs.declared.answers.Answers.TheVariants.{Idle, Ints, Bits, IntChecks, BitChecks, IntRechecks, BitRechecks, IntSpellings, BitSpellings}
 
--- bodies that are found are of the least bound in which any solve the problem: in modes `solve` and `drill`, unless a bank was
--- full or a number had left the 128 bits before
-abbrev pub FindsWell : {T P S N : Type 0} → (N → Val) → Mode → Limits → Question → Outcome T P S N → Type 0
-FindsWell number Solve limits question outcome = FindsBeyond number question limits outcome
-FindsWell number Least limits question outcome = FindsLeast number Sizes question outcome
-FindsWell number Check limits question outcome = FindsBeyond number question limits outcome
-FindsWell number Recheck limits question outcome = FindsBeyond number question limits outcome
-FindsWell number Clauses limits question outcome = FindsBeyond number question limits outcome
-FindsWell number (Drill n) limits question outcome = FindsBeyond number question limits outcome
+-- bodies that are found are of the least bound in which any solve the problem: in modes `solve` and `drill`, unless the search
+-- of a stage had ended before
+abbrev pub FindsWell : {T P S N : Type 0} → (Op → Bool) → (N → Val) → (S → FailName) → (Query → Limits → FailName → S → Type 0) → Mode → Limits → Question → Outcome T P S N → Type 0
+FindsWell owned number budget shows Solve limits question outcome = FindsBeyond owned number budget shows question limits outcome
+FindsWell owned number budget shows Least limits question outcome = FindsLeast number Sizes question outcome
+FindsWell owned number budget shows Check limits question outcome = FindsBeyond owned number budget shows question limits outcome
+FindsWell owned number budget shows Recheck limits question outcome = FindsBeyond owned number budget shows question limits outcome
+FindsWell owned number budget shows Clauses limits question outcome = FindsBeyond owned number budget shows question limits outcome
+FindsWell owned number budget shows (Drill n) limits question outcome = FindsBeyond owned number budget shows question limits outcome
 
 -- the outcome is right within these limits, and so are bodies that are found
 pub record RightOutcome {T P S N : Type 0} (owned : Op → Bool) (number : N → Val) (accepted : Query → P → Type 0) (budget : S → FailName) (shows : Query → Limits → FailName → S → Type 0)
     (mode : Mode) (limits : Limits) (question : Question) (outcome : Outcome T P S N) : Type 0 where
   pub right : IsRight owned number accepted budget shows (reach_of mode) question limits outcome
-  pub well : FindsWell number mode limits question outcome
+  pub well : FindsWell owned number budget shows mode limits question outcome
 
 -- the same for a theory and a solver
 abbrev pub RightOutcomeFor : {T N D P S : Type 0} → TheoryOf T N → DecideOf D T P S N → Mode → Limits → Question → Outcome T P S N → Type 0

@@ -2,6 +2,5 @@
 #![tactic(auto)]
 
 mod search;
-mod synthesis;
 
 pub use search::{Solved, sought, status_of};

@@ -5,11 +5,11 @@ ghost use Rattle.sy_grammar_base.specs.Questions.{question_of};
 ghost use Rattle.sygus_replies.specs.Replies.{IsSettled, IsFail, replies_for};
 ghost use Rattle.sygus_search.specs.RightAnswers.{RightOutcomeFor};
 
-use crate::synthesis::synthesise_beyond;
 use std::alloc::Global;
 use sy_grammar_base::Problem;
 use sy_loop::synthesise_least;
 use sy_loop_outcome::Outcome;
+use sy_loop_stages::synthesise_beyond;
 use sy_query_base::Decide;
 use sy_query_limits::Limits;
 use sy_terms::{Seq, Theory, Want};
@@ -51,9 +51,17 @@ pub fn sought<T: Theory, D: Decide<T>>(
     ensures { IfOk result (RightOutcomeFor T.Theory D.Decide mode limits.now (question_of T.denotes problem.now)) }
 {
     if tries_trees(mode) {
-        let outcome = synthesise_beyond(alloc, problem, limits, decide)?;
+        let outcome = synthesise_beyond(alloc, problem, limits, is_staged(mode), decide)?;
         return Ok(outcome);
     }
     let least = synthesise_least(alloc, problem, limits, decide)?;
     Ok(least)
+}
+
+/// Whether the search of this mode goes by stages, if it tries conditional trees.
+fn is_staged(mode: Mode) -> bool {
+    match mode {
+        Mode::Solve | Mode::Check | Mode::Recheck | Mode::Clauses => true,
+        Mode::Least | Mode::Drill(_) => false,
+    }
 }

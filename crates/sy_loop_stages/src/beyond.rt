@@ -1,0 +1,71 @@
+// The search for solutions alone after a search that ended by a limit.
+ghost use Rattle.std.specs.Prelude.{◌≡◌, length, IfOk, IfSome};
+ghost use Rattle.sy_grammar_base.specs.Fits.{ProblemFits};
+ghost use Rattle.sy_loop_bodies.specs.Clauses.{IsFoundFor};
+ghost use Rattle.sy_loop_bounds.specs.declared.reach.Reach.TheVariants.{Joins};
+ghost use Rattle.sy_loop_outcome.specs.Right.{IsRightFor};
+ghost use Rattle.sy_loop_stages.specs.Searched.{CauseHoldsFor, SolvesInFor};
+
+use crate::stage::{Stage, limits_of_one_body};
+use std::alloc::Global;
+use sy_grammar_base::Problem;
+use sy_loop_beyond::{solve_anew, solve_beyond};
+use sy_loop_bodies::{Aside, Task};
+use sy_loop_outcome::{FailCause, Outcome};
+use sy_query_base::Decide;
+use sy_query_limits::Limits;
+use sy_terms::{Bodies, Theory, Want};
+
+/// A solution that is found after the outcome, where that is a fail.
+pub(crate) fn found_beyond<T: Theory, D: Decide<T>>(
+    alloc: Global,
+    problem: &Problem<T>,
+    stage: &Stage,
+    decide: &mut D,
+    outcome: &Outcome<T, D::Proof, D::Spent>,
+    aside: &mut Aside<T>,
+) -> Result<Option<(Bodies<T>, D::Proof)>, Want>
+    requires problem { ProblemFits T.Theory problem.now }
+    requires one { length problem.now.wanted ≡ 1 }
+    requires right { IsRightFor T.Theory D.Decide Joins problem.now stage.now.limits outcome.now }
+    ensures { IfOk result (λ found. IfSome found (SolvesInFor T.Theory D.Decide problem.now stage.now.limits)) }
+{
+    let Outcome::Fail(cause) = outcome else {
+        return Ok(None);
+    };
+    let limits = limits_of_one_body(stage, problem.vars.len() == 0);
+    let task = Task {
+        alloc,
+        problem,
+        limits: &limits,
+        bound: stage.limits.size,
+        effort: stage.effort,
+    };
+    let found = found_after_cause(&task, &stage.limits, decide, cause, aside)?;
+    Ok(found)
+}
+
+/// A solution that is found after a search within the limits ended by the cause. No bodies within the size are left
+/// where none of them solve the problem.
+fn found_after_cause<T: Theory, D: Decide<T>>(
+    task: &Task<T>,
+    _limits: &Limits,
+    decide: &mut D,
+    cause: &FailCause<T, D::Spent>,
+    aside: &mut Aside<T>,
+) -> Result<Option<(Bodies<T>, D::Proof)>, Want>
+    requires problem { ProblemFits T.Theory task.now.problem.now }
+    requires one { length task.now.problem.now.wanted ≡ 1 }
+    requires holds { CauseHoldsFor T.Theory D.Decide task.now.problem.now _limits.now cause.now }
+    ensures { IfOk result (IsFoundFor T.Theory D.Decide task.now.problem.now task.now.bound) }
+{
+    match cause {
+        FailCause::Size => Ok(None),
+        FailCause::Bank(stored, _, bank, _, _) => solve_beyond(task, decide, bank, stored, aside),
+        FailCause::Rounds(stored) => solve_anew(task, decide, stored, aside),
+        FailCause::Points(stored, _, _, _, _) => solve_anew(task, decide, stored, aside),
+        FailCause::Weight(stored, _) => solve_anew(task, decide, stored, aside),
+        FailCause::Decide(stored, _, _) => solve_anew(task, decide, stored, aside),
+        FailCause::Range(stored, _) => solve_anew(task, decide, stored, aside),
+    }
+}
