@@ -1,5 +1,5 @@
 -- Assignments after which a search ended, and the bank of the one function.
-use Rattle.std.proofs.Common.{◌≡◌, ◌∙◌, ap, arith, ℕ, zero, suc, List, [], ◌∷◌, length, slice_get, Some, refl}
+use Rattle.std.proofs.Common.{◌≡◌, ◌∙◌, ap, arith, ℕ, zero, suc, List, [], ◌∷◌, length, slice_get, Some}
 use Rattle.std.specs.Option.{option_map}
 use Rattle.std.proofs.lemmas.Option.{slice_get-map}
 use Rattle.sy_terms.specs.Values.{Val}

@@ -1,5 +1,5 @@
 -- What is found in a stage is found beyond.
-use Rattle.std.proofs.Common.{◌≡◌, ◌≤◌, ◌<◌, ◌-◌, arith, refl, subst, sym, ℕ, List, [], ◌∷◌, map, Option, Some, None, inl, inr}
+use Rattle.std.proofs.Common.{◌≤◌, ◌-◌, arith, refl, subst, sym, ℕ, List, [], ◌∷◌, map, Option, Some, None, inl, inr}
 use Rattle.std.specs.Prelude.{Bool, IfSome, Contains}
 use Rattle.sy_terms.specs.Values.{Val}
 use Rattle.sy_terms.specs.Expr.{Expr}
@@ -7,7 +7,7 @@ use Rattle.sy_terms.specs.Denoted.{expr_of}
 use Rattle.sy_terms.specs.declared.op.Op.{Op}
 use Rattle.sy_terms.specs.declared.term.Term.{Term}
 use Rattle.sy_terms.specs.declared.theory.Theory.{Ghosts as TheoryOf}
-use Rattle.sy_grammar_base.specs.Questions.{Goal, Question, question_of}
+use Rattle.sy_grammar_base.specs.Questions.{Goal, Question}
 use Rattle.sy_grammar_base.specs.Solving.{AreWithin}
 use Rattle.sy_grammar_base.specs.Trees.{tree_size}
 use Rattle.sy_grammar_base.specs.declared.problem.Problem.{Problem}
@@ -19,12 +19,11 @@ use Rattle.sy_loop_bodies.specs.Clauses.{IsFoundFor}
 use Rattle.sy_loop_bounds.specs.declared.reach.Reach.TheVariants.{Joins}
 use Rattle.sy_loop_outcome.specs.Right.{CauseHolds, IsRight}
 use Rattle.sy_loop_outcome.specs.declared.outcome.FailCause.{FailCause}
-use Rattle.sy_loop_outcome.specs.declared.outcome.FailCause.TheVariants.{Size}
 use Rattle.sy_loop_outcome.specs.declared.outcome.Outcome.{Outcome}
 use Rattle.sy_loop_outcome.specs.declared.outcome.Outcome.TheVariants.{Found, Infeasible, Fail}
 use Rattle.sy_loop.specs.Least.{FindsLeast}
 use Rattle.sy_loop_stages.specs.Finding.{FindsBeyond, HasStopped}
-use Rattle.sy_loop_stages.specs.Searched.{CauseHoldsFor, FindsIn, IsAnswerFor, HasStoppedFor, Lasts, SolvesInFor}
+use Rattle.sy_loop_stages.specs.Searched.{CauseHoldsFor, FindsIn, Lasts, SolvesInFor}
 use Rattle.sy_loop_stages.specs.Stages.{lowered, stages, most_beyond}
 
 -- members within a bound are so within a larger one
