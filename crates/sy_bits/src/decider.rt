@@ -10,10 +10,11 @@ ghost use Rattle.sy_bits.specs.Proofs as proofs;
 ghost use Rattle.sy_bits.specs.Soundness.{sound};
 
 use crate::answers::{BvProof, BvSpent};
+use crate::turns::solve_in_turns;
 use std::alloc::{AllocError, Global};
 use sy_bits_circuit::Circuit;
 use sy_bits_clauses::{circuit_of, countable_size};
-use sy_cdcl::{Solved, solve};
+use sy_cdcl::Solved;
 use sy_clauses::Log;
 use sy_clauses_trim::trimmed;
 use sy_meaning_words::BvTheory;
@@ -66,7 +67,7 @@ impl Decide<BvTheory> for BvDecide {
         }
         let circuit = circuit_of(alloc, query, size)?;
         let fuel = limits.clauses.min(MOST_LEARNED);
-        match solve(alloc, circuit.cnf(), fuel) {
+        match solve_in_turns(alloc, circuit.cnf(), fuel) {
             Ok(solved) => answer(alloc, query, limits, circuit, solved),
             Err(end) => {
                 drop(circuit);

@@ -3,6 +3,7 @@
 
 mod answers;
 mod decider;
+mod turns;
 
 pub use answers::{BvProof, BvSpent};
 pub use decider::BvDecide;

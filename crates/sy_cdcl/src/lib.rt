@@ -10,4 +10,5 @@ mod store;
 mod trail;
 mod watches;
 
-pub use solver::{Solved, solve};
+pub use order::{Plan, Start, USUAL_PLAN};
+pub use solver::{Solved, solve, solve_by};

@@ -5,6 +5,27 @@ ghost use Rattle.std.specs.Prelude.{◌<◌, ◌+◌, ◌^◌};
 use std::alloc::{AllocError, Global};
 use sy_seq::Want;
 
+/// In which order variables that no conflict has used are decided.
+#[derive(Clone, Copy, Debug, PartialEq, Eq)]
+pub enum Start {
+    FirstVariable,
+    LastVariable,
+}
+
+/// How a search decides. Any plan is right.
+#[derive(Clone, Copy, Debug, PartialEq, Eq)]
+pub struct Plan {
+    pub start: Start,
+    /// Each conflict counts for more than the one before it by one part in so many; 0 is as 1.
+    pub aging: u64,
+}
+
+/// From the first variable on, where older conflicts are forgotten slowly.
+pub const USUAL_PLAN: Plan = Plan {
+    start: Start::FirstVariable,
+    aging: 17,
+};
+
 /// A heap of variables by activity, with the place of each that is in it.
 #[derive(Drop)]
 pub struct Order {
@@ -14,6 +35,7 @@ pub struct Order {
     places: Vec<usize>,
     size: usize,
     step: u64,
+    aging: u64,
 }
 
 /// What a variable that is not in the heap has as its place.
@@ -40,34 +62,47 @@ fn all_false(alloc: Global, count: u32) -> Result<Vec<bool>, Want> {
     Ok(values)
 }
 
-/// So many variables in order.
-fn numbers(alloc: Global, count: u32) -> Result<Vec<u32>, Want> {
-    let mut numbers = Vec::new(alloc);
-    for number in 0..count {
-        numbers.push(number)?;
+impl Start {
+    /// The variable at a place, of so many; also the place of a variable.
+    fn at(self, place: u32, count: u32) -> u32
+        requires { place < count }
+    {
+        match self {
+            Start::FirstVariable => place,
+            Start::LastVariable => count - 1 - place,
+        }
     }
-    Ok(numbers)
-}
 
-/// The places of so many variables in order.
-fn numbered_places(alloc: Global, count: u32) -> Result<Vec<usize>, Want> {
-    let mut places = Vec::new(alloc);
-    for place in 0..count {
-        places.push(place as usize)?;
+    /// So many variables in order.
+    fn numbers(self, alloc: Global, count: u32) -> Result<Vec<u32>, Want> {
+        let mut numbers = Vec::new(alloc);
+        for place in 0..count {
+            numbers.push(self.at(place, count))?;
+        }
+        Ok(numbers)
     }
-    Ok(places)
+
+    /// The places of so many variables.
+    fn places(self, alloc: Global, count: u32) -> Result<Vec<usize>, Want> {
+        let mut places = Vec::new(alloc);
+        for number in 0..count {
+            places.push(self.at(number, count) as usize)?;
+        }
+        Ok(places)
+    }
 }
 
 impl Order {
-    /// All variables in order, with the value false.
-    pub fn new(alloc: Global, vars: u32) -> Result<Order, Want> {
+    /// All variables in the order that the plan begins with, with the value false.
+    pub fn new(alloc: Global, vars: u32, plan: Plan) -> Result<Order, Want> {
         Ok(Order {
             activity: zeros(alloc, vars)?,
             phases: all_false(alloc, vars)?,
-            heap: numbers(alloc, vars)?,
-            places: numbered_places(alloc, vars)?,
+            heap: plan.start.numbers(alloc, vars)?,
+            places: plan.start.places(alloc, vars)?,
             size: vars as usize,
             step: 0x10000,
+            aging: plan.aging,
         })
     }
 
@@ -210,7 +245,7 @@ impl Order {
 
     /// A conflict has passed: later ones count for more.
     pub fn age(&mut self) {
-        self.step = self.step.saturating_add(self.step / 17);
+        self.step = self.step.saturating_add(self.step / self.aging.max(1));
         if self.step > LIMIT {
             self.scale();
         }

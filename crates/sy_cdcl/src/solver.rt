@@ -13,7 +13,7 @@ ghost use Rattle.sy_cdcl.specs.Answer.{AnswersFormula, IsRunEnd, IsUnstopped, Is
 ghost use Rattle.sy_cdcl.specs.States.{StateIsSound, IsFresh, IsFinalConflict, clauses_known};
 
 use crate::analysis::{analyze, go_back, last_falsified};
-use crate::order::Order;
+use crate::order::{Order, Plan, USUAL_PLAN};
 use crate::propagation::{attach, propagate};
 use crate::shortening::conclude;
 use crate::store::Store;
@@ -329,13 +329,13 @@ fn learn_from(
 }
 
 /// The state before any clause was looked at.
-fn fresh_state(alloc: Global, cnf: &Cnf) -> Result<State, Want>
+fn fresh_state(alloc: Global, cnf: &Cnf, plan: Plan) -> Result<State, Want>
     ensures { IfOk result (λ s. IsFresh cnf.now s) }
 {
     Ok(State {
         trail: Trail::new(alloc, cnf.vars)?,
         watches: Watches::new(alloc, cnf.vars)?,
-        order: Order::new(alloc, cnf.vars)?,
+        order: Order::new(alloc, cnf.vars, plan)?,
         marks: Marks::new(alloc),
         store: Store::new(alloc, cnf.clauses.as_slice())?,
         derived: Vec::new(alloc),
@@ -444,6 +444,25 @@ fn log_of(state: State) -> Log
     Log { lines: state.lines }
 }
 
+/// Decides the formula by the plan, with at most `fuel` learned clauses. The answer is as that of [`solve`],
+/// whatever the plan.
+pub fn solve_by(alloc: Global, cnf: &Cnf, plan: Plan, fuel: u32) -> Result<Solved, Want>
+    requires vars { VarsFit cnf.now }
+    requires clauses_fit { length cnf.now.clauses < 2 ^ 31 }
+    requires fuel_fits { fuel < 2 ^ 31 }
+    ensures answer { IfOk result (λ solved. AnswersFormula cnf.now fuel solved) }
+    ensures enough { IfOk result (λ solved. 3 ^ cnf.now.vars ≤ fuel → IsUnstopped solved) }
+{
+    let mut state = fresh_state(alloc, cnf, plan)?;
+    let end = learn(alloc, &mut state, cnf, fuel)?;
+    let log = log_of(state);
+    match end {
+        End::Empty => Ok(Solved::Refuted(log)),
+        End::Model(values) => Ok(Solved::Model(values)),
+        End::Spent => Ok(Solved::Fuel(log)),
+    }
+}
+
 /// Decides the formula, with at most `fuel` learned clauses.
 ///
 /// `Refuted` has a log of at most `fuel` lines that [`check`](sy_clauses::check) accepts, `Model` a
@@ -457,12 +476,6 @@ pub fn solve(alloc: Global, cnf: &Cnf, fuel: u32) -> Result<Solved, Want>
     ensures answer { IfOk result (λ solved. AnswersFormula cnf.now fuel solved) }
     ensures enough { IfOk result (λ solved. 3 ^ cnf.now.vars ≤ fuel → IsUnstopped solved) }
 {
-    let mut state = fresh_state(alloc, cnf)?;
-    let end = learn(alloc, &mut state, cnf, fuel)?;
-    let log = log_of(state);
-    match end {
-        End::Empty => Ok(Solved::Refuted(log)),
-        End::Model(values) => Ok(Solved::Model(values)),
-        End::Spent => Ok(Solved::Fuel(log)),
-    }
+    let solved = solve_by(alloc, cnf, USUAL_PLAN, fuel)?;
+    Ok(solved)
 }

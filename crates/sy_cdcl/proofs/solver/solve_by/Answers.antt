@@ -2,7 +2,7 @@ use Rattle.std.proofs.Common.{subst}
 use Rattle.std.proofs.lemmas.Result.{IfOk-from_err}
 use Rattle.sy_cdcl.specs.declared.solver.End.{End}
 use Rattle.sy_cdcl.specs.Answer.{IsRunEnd}
-use Rattle.sy_cdcl.proofs.solver.solve.Goals as goal
+use Rattle.sy_cdcl.proofs.solver.solve_by.Goals as goal
 
 pub returns-in-Empty-clause-answer : goal.returns-in-Empty-clause-answer
 returns-in-Empty-clause-answer c = rw c.log_of-log.ensures
