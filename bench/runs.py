@@ -3,6 +3,7 @@ import collections
 import glob
 import os
 import re
+import signal
 import subprocess
 import sys
 
@@ -63,7 +64,8 @@ def run(words, limit=None):
     """Runs a program with at most so many processor seconds, where there is a limit, and 6 GB."""
     ended = Call(words, processor_time=limit, memory=MEMORY).result()
     status = 128 - ended.status if ended.status > 128 else ended.status
-    is_over = status < 0 and limit is not None and ended.processor_seconds > 0.99 * limit
+    # on a busy machine the limit's own signal may come before these seconds are counted
+    is_over = limit is not None and (status == -signal.SIGXCPU or status < 0 and ended.processor_seconds > 0.99 * limit)
     return Run(status, ended.processor_seconds, ended.output, ended.errors, ended.memory, is_over)
 
 
