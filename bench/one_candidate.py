@@ -1,7 +1,8 @@
 #!/usr/bin/env python3
 """Runs `sygus` beside cvc5 on problems of one candidate, which is right, and whose query is a hard one.
 
-    bench/one_candidate.py [--sygus PROGRAM] [--limit SECONDS] [--first BITS] [--last BITS] [--write FOLDER] FAMILY ..
+    bench/one_candidate.py [--sygus PROGRAM] [--limit SECONDS] [--first BITS] [--last BITS]
+                           [--write FOLDER] FAMILY [FAMILY ..]
 
 A grammar has one body, so that a run is the time of one query. The families:
 

@@ -182,8 +182,9 @@ def helps():
             said = subprocess.run([sys.executable, path, "--help"], capture_output=True, text=True).stdout
             usage, _, rest = said.removeprefix("usage: ").partition("\n\n")
             taken = " ".join(usage.split()).replace(" [-h]", "").replace("...", "..")
-            head = re.search(r"^    (\S+/)?(.*)$", rest, re.M)
-            yield f"help of {path.name}", path.stat().st_mode & 0o111 != 0 and head is not None and taken == head[2]
+            head = re.search(r"^    (?:\S+/)?(.*(?:\n {8,}\[.*)*)$", rest, re.M)
+            is_same = head is not None and taken == " ".join(head[1].split())
+            yield f"help of {path.name}", path.stat().st_mode & 0o111 != 0 and is_same
 
 
 def measured():

@@ -194,7 +194,7 @@ def give(source, text):
 
 def slow(program):
     """Sources of which each read gets one byte."""
-    for name, words, answer in [*ANSWERED, ("vector_next.sl", ["--size", "2"], None)]:
+    for name, words, answer in [*ANSWERED, ("vector_next.sl", ["--mode", "least", "--size", "2"], None)]:
         near, far = socket.socketpair(socket.AF_UNIX, socket.SOCK_SEQPACKET)
         giver = threading.Thread(target=give, args=(far, (RUNS / name).read_text()))
         giver.start()
