@@ -37,7 +37,7 @@ def outside(logic, program, path, folder, limit):
 
 
 def measure(program, file, limit):
-    """A row: the logic, the bytes of the proofs, the seconds of each run, and who doesn't accept. None where none is asked."""
+    """A row: the logic, the bytes of proofs, the seconds of each run, and who doesn't accept. None where there are none."""
     text = text_of(file)
     words = words_of(text)
     if "--mode" in words:
@@ -67,7 +67,8 @@ def measure(program, file, limit):
 
 def told(rows):
     """The sums of each logic."""
-    print("| Over | files | bytes, median | greatest | `solve` s | with `--proofs` | `recheck` s | outside s | not accepted |")
+    heads = ["Over", "files", "bytes, median", "greatest", "`solve` s", "with `--proofs`", "`recheck` s", "outside s"]
+    print(f"| {' | '.join(heads)} | not accepted |")
     print("|---|---|---|---|---|---|---|---|---|")
     for logic in ["integers", "bit vectors"]:
         of = [row for row in rows if row["logic"] == logic]
@@ -95,8 +96,8 @@ def main():
             continue
         rows.append(row)
         if options.table:
-            parts = [f"{row.get(part, 0):.3f}" for part in ["solve", "proofs", "recheck", "outside"]]
-            print(f"| {name_of(file)} | {row['bytes']:,} | {' | '.join(parts)} | {', '.join(row['refused'])} |", flush=True)
+            seconds = " | ".join(f"{row.get(part, 0):.3f}" for part in ["solve", "proofs", "recheck", "outside"])
+            print(f"| {name_of(file)} | {row['bytes']:,} | {seconds} | {', '.join(row['refused'])} |", flush=True)
     told(rows)
     return 1 if any(set(row["refused"]) - {"too long"} for row in rows) else 0
 

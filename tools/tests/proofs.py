@@ -1,5 +1,9 @@
 """Proofs behind answers: what `--proofs` writes is accepted by mode `recheck`, and what isn't that is rejected."""
+import os
 import pathlib
+import subprocess
+import sys
+import tempfile
 
 TOP = pathlib.Path(__file__).resolve().parent.parent.parent
 # The most bytes of an input.
@@ -62,6 +66,23 @@ def clauses(run, program):
     yield "clauses as DIMACS", (status, said, err) == (0, "check-synth 1 clauses", "") and well and within
 
 
+def kept(run, program):
+    """The answers with proofs that are kept in examples/proofs/ are accepted, over integers by tools/recheck too, over
+    vectors by what checks tools/lrat's files."""
+    tools = TOP / "tools"
+    for path in sorted((TOP / "examples" / "proofs").glob("*.answer")):
+        text = (TOP / "examples" / f"{path.stem}.sl").read_text() + path.read_text()
+        yield f"{path.name} is accepted", run(program, ["--mode", "recheck", "-"], input=text) == (0, "check-synth 1 accepted\n", "")
+        with tempfile.TemporaryDirectory() as folder:
+            words = [tools / "recheck", "-"] if "(tree" in text else [tools / "lrat", "-", folder]
+            told = subprocess.run(words, input=text, capture_output=True, text=True, env={**os.environ, "SYGUS": str(program)})
+            well = told.returncode == 0
+            for cnf in sorted(pathlib.Path(folder).glob("*.cnf")):
+                checker = [sys.executable, tools / "tests" / "lrat_check.py", cnf, cnf.with_suffix(".lrat")]
+                well = well and subprocess.run(checker, capture_output=True).returncode == 0
+            yield f"{path.name} is accepted by others", well
+
+
 def tests(run, program):
-    for part in (accepted, spoilt, clauses):
+    for part in (accepted, spoilt, clauses, kept):
         yield from part(run, program)
