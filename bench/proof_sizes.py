@@ -1,7 +1,7 @@
 #!/usr/bin/env python3
 """Measures proofs: their bytes, the time of modes `solve` and `recheck`, and what checkers of others say of each.
 
-    bench/proofs.py [--sygus PROGRAM] [--limit SECONDS] [--table] [FILE ..]
+    bench/proof_sizes.py [--sygus PROGRAM] [--limit SECONDS] [--table] [FILE ..]
 
 Each file is answered with and without `--proofs`, and the answers of definitions are checked again by mode `recheck`;
 over integers by tools/recheck too, over bit vectors by tools/lrat and a checker of LRAT, as tools/tests has it. Without
