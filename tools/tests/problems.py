@@ -297,6 +297,8 @@ def interrupted(program, problem):
         stdout=subprocess.PIPE,
         stderr=subprocess.PIPE,
         text=True,
+        # a shell's background job ignores Ctrl-C, and what it runs would too
+        preexec_fn=lambda: signal.signal(signal.SIGINT, signal.SIG_DFL),
     ) as child:
         passed = [child.stdout.readline() for _ in range(3)]
         child.send_signal(signal.SIGINT)
