@@ -22,7 +22,7 @@ LONGEST, COUNT = 4_194_304, 16
 MOST_SECONDS, MOST_RATIO = 2, 1.2
 # Questions whose decision takes long enough to be measured.
 WIDE = [("square-of-sum", 64), ("remainder-by-8", 32), ("sum-by-xor-and", 32), ("maximum", 64), ("or-by-sum", 64)]
-WHOLE = [("max", 5), ("max", 7), ("step", 6), ("bounds", 100), ("bits", 4), ("remainder", 1000), ("coprime", 9)]
+WHOLE = [("max", 5), ("max", 7), ("step", 6), ("bounds", 100), ("bits", 4), ("remainder", 1000), ("common", 9)]
 
 
 def files(front, reply, size):
