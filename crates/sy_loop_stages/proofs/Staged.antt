@@ -1,7 +1,7 @@
 -- What is found in a stage is found beyond.
 use Rattle.std.proofs.Common.{◌≤◌, ◌-◌, arith, refl, subst, sym, ℕ, List, [], ◌∷◌, map, Option, Some, None, inl, inr}
 use Rattle.std.specs.Prelude.{Bool, IfSome, Contains}
-use Rattle.std.proofs.Math.Nat.{le-max_right, max-least}
+use Rattle.std.proofs.Math.Nat.{le-max_right}
 use Rattle.sy_terms.specs.Values.{Val}
 use Rattle.sy_terms.specs.Expr.{Expr}
 use Rattle.sy_terms.specs.Denoted.{expr_of}
@@ -39,7 +39,7 @@ widened pool m n (goal ∷ goals) (body ∷ bodies) le is =
 
 -- a search up to no larger sizes than may be found beyond finds none beyond that either
 wider : (small size : ℕ) → small ≤ most_beyond size → most_beyond small ≤ most_beyond size
-wider small size le = max-least small 1024 (most_beyond size) le (le-max_right size 1024)
+wider small size le = omega (arith, le, le-max_right size 1024)
 
 -- the whole search is a stage, and so is the early one
 pub whole_is_stage : (limits : Limits) → Contains (stages limits) limits
