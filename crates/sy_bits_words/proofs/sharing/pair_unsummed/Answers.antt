@@ -1,4 +1,4 @@
-use Rattle.std.proofs.Common.{subst, sym}
+use Rattle.std.proofs.Common.{refl, subst, sym}
 use Rattle.sy_bits_operators.specs.declared.signal.Signal.TheVariants as signals
 use Rattle.sy_bits_words.specs.Standing.{Serves}
 use Rattle.sy_bits_words.proofs.Tables.{all-grown}
