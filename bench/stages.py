@@ -17,7 +17,6 @@ answered.
 """
 import argparse
 import os
-import shutil
 import sys
 import tempfile
 
@@ -80,7 +79,7 @@ RINGS = {"places": "(and (< h {k}) (< t {k}))", "count": "(and (<= c {k}) (< t {
 def rings():
     for numbers in SORTS:
         for small in (False, True):
-            for k in (10, 12):
+            for k in (10,):
                 for name, post in RINGS.items():
                     def trans(it, k=k):
                         step = "(ite (= (+ {0} 1) {1}) 0 (+ {0} 1))"
@@ -171,7 +170,7 @@ TABLES = {
 
 def tables():
     for numbers in SORTS:
-        for rows in (30, 50):
+        for rows in (40,):
             for name, function in TABLES.items():
                 lines = [f"(constraint (= (f {numbers.number(x)}) {numbers.number(function(x))}))" for x in range(rows)]
                 text = "\n".join([f"(set-logic {numbers.logic})", f"(synth-fun f ((x {numbers.sort})) {numbers.sort})", *lines, "(check-synth)", ""])
@@ -181,22 +180,57 @@ def tables():
 FAMILIES = {"ring": rings, "counters": counters, "search": searches, "tricks": tricks, "tables": tables}
 
 
+def of_families(names):
+    """The texts of the families' problems by their names."""
+    return {name: text for family in names or FAMILIES for name, text in FAMILIES[family]()}
+
+
+def write_files(folder, texts):
+    """Writes the problems into the folder, and gives the names of the files."""
+    os.makedirs(folder, exist_ok=True)
+    for name, text in texts.items():
+        path = os.path.join(folder, f"{name}.sl")
+        with open(path, "w") as file:
+            file.write(text)
+        yield path
+
+
+def told(ended, limit):
+    """The seconds of an answer, or why there is none."""
+    if ended.is_over:
+        return f"over {limit} s"
+    return f"{ended.seconds:.2f}" if answer(ended) == "definitions" else f"{ended.errors.strip().split(chr(10))[-1]}, {ended.seconds:.2f}"
+
+
 def main():
     parser = argparse.ArgumentParser(description=__doc__, formatter_class=argparse.RawDescriptionHelpFormatter)
     parser.add_argument("--sygus", metavar="PROGRAM")
     parser.add_argument("--limit", metavar="SECONDS", type=int, default=20)
     parser.add_argument("--cvc5", action="store_true")
     parser.add_argument("--write", metavar="FOLDER")
-    parser.add_argument("families", metavar="FAMILY", nargs="*")
+    parser.add_argument("families", metavar="FAMILY", nargs="*", choices=[[], *FAMILIES])
     options = parser.parse_args()
-    files = {name: text for family in options.families or FAMILIES for name, text in FAMILIES[family]()}
+    texts = of_families(options.families)
     if options.write:
-        os.makedirs(options.write, exist_ok=True)
-        for name, text in files.items():
-            with open(os.path.join(options.write, f"{name}.sl"), "w") as file:
-                file.write(text)
-        print(len(files), "files")
+        print(len(list(write_files(options.write, texts))), "files")
         return
+    commands = {"sygus": [sygus(options.sygus)]}
+    if options.cvc5:
+        commands["cvc5"] = ["cvc5", "--lang=sygus2"]
+    print("| File | " + " | ".join(f"`{name}` s" for name in commands) + " |")
+    print("|---|" + "---|" * len(commands))
+    ends = {name: [] for name in commands}
+    with tempfile.TemporaryDirectory() as folder:
+        for path in write_files(folder, texts):
+            for name, command in commands.items():
+                ends[name].append(run([*command, path], options.limit))
+            cells = [told(list_of[-1], options.limit) for list_of in ends.values()]
+            print(f"| {os.path.basename(path).removesuffix('.sl')} | " + " | ".join(cells) + " |", flush=True)
+    print()
+    for name, list_of in ends.items():
+        answered = [ended.seconds for ended in list_of if answer(ended) == "definitions"]
+        print(f"{name}: {len(answered)} of {len(list_of)}, {sum(answered):.2f} s, the others {sum(ended.seconds for ended in list_of) - sum(answered):.2f} s")
+    sys.exit(3 * sum(answer(ended) == "definitions" for ended in ends["sygus"]) < len(texts))
 
 
 if __name__ == "__main__":
