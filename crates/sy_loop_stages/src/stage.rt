@@ -22,7 +22,7 @@ pub(crate) const MOST_SIZE: u32 = 1_024;
 
 /// How many clauses the solver may learn of the query of one body beyond the whole search: what is hard to decide is
 /// set aside.
-const MOST_CLAUSES: u32 = 10_000;
+const MOST_CLAUSES: u32 = 8_000;
 
 /// How many inner nodes its tree may have there.
 const MOST_NODES: u32 = 500;
