@@ -64,10 +64,10 @@ judged_status status (inr high) five six = inr (inr (high_status status high.0 h
 
 -- a reading gives a value or a fault
 not_both : {A E : Type 0} (read : Result A E) (value : A) (fault : E) → read ≡ Ok value → read ≡ Err fault → ⊥
-not_both read value fault ok err = let both : Ok value ≡ Err fault = sym ok ∙ err in cc
+not_both read value fault ok err = let both = sym ok ∙ err in cc
 
 one_value : {A E : Type 0} (read : Result A E) (value other : A) → read ≡ Ok value → read ≡ Ok other → value ≡ other
-one_value read value other first second = let both : Ok value ≡ Ok other = sym first ∙ second in cc
+one_value read value other first second = let both = sym first ∙ second in cc
 
 pub not_five : {A B : Type 0} (status : ℕ) → (status ≡ 5 → A ⊎ B) → (A → ⊥) → (B → ⊥) → status ≡ 5 → ⊥
 not_five {A} {B} status rose one other is = ⊎_elim (λ (a : A). one a) (λ (b : B). other b) (rose is)
