@@ -77,7 +77,7 @@ fn wished_bank<T: Theory>(
         task.alloc,
         task.problem,
         tuples.as_slice(),
-        task.bound,
+        task.size,
         task.limits.bank,
     )
 }
@@ -113,7 +113,8 @@ fn solve_over<T: Theory, D: Decide<T>>(
     ensures found { IfOk result (IsFoundFor T.Theory D.Decide task.now.problem.now task.now.bound) }
 {
     aside.allow(task.effort.undecided);
-    for size in 0..=task.bound {
+    let upto = task.size.min(task.bound);
+    for size in 0..=upto {
         let kept = bank.kept(0, size);
         if let Some(found) = solve_kept(task, decide, kept, assignments, aside)? {
             return Ok(Some(found));

@@ -25,12 +25,14 @@ pub struct Effort {
     pub banks: u32,
 }
 
-/// What stays the same while bodies are tried: the problem, the limits, the greatest size of a body, and the effort.
+/// What stays the same while bodies are tried: the problem, the limits, up to which size banks are built and their terms
+/// combined, the greatest size of any body, and the effort.
 #[derive(Drop)]
 pub struct Task<'a, T: Theory> {
     pub alloc: Global,
     pub problem: &'a Problem<T>,
     pub limits: &'a Limits,
+    pub size: u32,
     pub bound: u32,
     pub effort: Effort,
 }

@@ -32,7 +32,7 @@ pub(crate) fn columns<T: Theory>(
 }
 
 /// Where the tuple stands among the points.
-pub(crate) fn point_of<T: Theory>(points: &[Values<T>], tuple: &[Value<T::Num>]) -> Option<usize> {
+pub fn point_of<T: Theory>(points: &[Values<T>], tuple: &[Value<T::Num>]) -> Option<usize> {
     for point in 0..points.len() {
         if same_values::<T>(points[point].as_slice(), tuple) {
             return Some(point);
@@ -108,7 +108,7 @@ fn term_number<T: Theory>(
 }
 
 /// The value as a number: a truth value is 0 or 1.
-pub(crate) fn number<T: Theory>(value: &Value<T::Num>) -> i128 {
+pub fn number<T: Theory>(value: &Value<T::Num>) -> i128 {
     match value {
         Value::Truth(truth) => i128::from(*truth),
         Value::Num(_) => number_of::<T>(value),

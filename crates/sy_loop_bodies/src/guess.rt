@@ -32,7 +32,7 @@ pub(crate) fn guessed_term<T: Theory>(
 }
 
 /// Whether the derivation of the term that is found has a size within the bound.
-pub(crate) fn is_small<T: Theory>(task: &Task<T>, term: &Term<T>) -> Result<bool, Want>
+pub fn is_small<T: Theory>(task: &Task<T>, term: &Term<T>) -> Result<bool, Want>
     requires problem { ProblemFits T.Theory task.now.problem.now }
     requires one { length task.now.problem.now.wanted ≡ 1 }
     ensures { IfOk result (λ small. IsTrue small → IsSmallFor T.Theory task.now.problem.now task.now.bound (expr_of T.denotes term.now)) }

@@ -63,7 +63,7 @@ fn scanning_of<T: Theory>(
     let shapes = shapes_of(task.alloc, grammar)?;
     let rules = rules_of(task.alloc, shapes.as_slice())?;
     let pools = pools_of(task.alloc, grammar, bank)?;
-    let scan = Scan::new(task.alloc, shapes, pools, task.bound)?;
+    let scan = Scan::new(task.alloc, shapes, pools, task.size)?;
     Ok(Scanning {
         scan,
         rules,

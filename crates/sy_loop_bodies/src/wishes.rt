@@ -10,7 +10,7 @@ use sy_terms::{Fun, Op, Seq, Term, Terms, Theory, Value, Values, Want};
 
 /// An argument tuple of the function to be found, and the value that is wanted of it.
 #[derive(Drop)]
-pub(crate) struct Wish<T: Theory> {
+pub struct Wish<T: Theory> {
     pub tuple: Values<T>,
     pub value: Value<T::Num>,
 }
@@ -20,7 +20,7 @@ pub(crate) struct Wish<T: Theory> {
 /// be false; so does a part of `and`, `or` and `=>`, where the others leave it no choice. Nothing is wanted where an assumption
 /// is false. What is wanted is a guide to a search: a solution is proved by its query. `Want` comes where memory runs out,
 /// and nowhere else.
-pub(crate) fn wishes_at<T: Theory>(
+pub fn wishes_at<T: Theory>(
     alloc: Global,
     problem: &Problem<T>,
     values: &[Value<T::Num>],

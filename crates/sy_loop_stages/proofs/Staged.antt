@@ -1,6 +1,7 @@
 -- What is found in a stage is found beyond.
 use Rattle.std.proofs.Common.{◌≤◌, ◌-◌, arith, refl, subst, sym, ℕ, List, [], ◌∷◌, map, Option, Some, None, inl, inr}
 use Rattle.std.specs.Prelude.{Bool, IfSome, Contains}
+use Rattle.std.proofs.Math.Nat.{le-max_right}
 use Rattle.sy_terms.specs.Values.{Val}
 use Rattle.sy_terms.specs.Expr.{Expr}
 use Rattle.sy_terms.specs.Denoted.{expr_of}
@@ -36,6 +37,10 @@ widened pool m n (goal ∷ goals) (body ∷ bodies) le is =
     let size = tree_size goal.grammar pool 0 is.0 in
     (is.0, is.1, omega (arith, le, is.2), widened pool (m - size) (n - size) goals bodies (omega (arith, le)) is.3)
 
+-- a search up to no larger sizes than may be found beyond finds none beyond that either
+wider : (small size : ℕ) → small ≤ most_beyond size → most_beyond small ≤ most_beyond size
+wider small size le = omega (arith, le, le-max_right size 1024)
+
 -- the whole search is a stage, and so is the early one
 pub whole_is_stage : (limits : Limits) → Contains (stages limits) limits
 whole_is_stage limits = (1, omega arith, refl)
@@ -69,7 +74,8 @@ module _ {T N P S : Type 0} (owned : Op → Bool) (number : N → Val) (accepted
       let most = most_beyond limits.size in
       inr (record {
         stopped = stopped;
-        within = widened question.pool stage.size most question.goals terms le after.within;
+        within = widened question.pool (most_beyond stage.size) most question.goals terms
+            (wider stage.size limits.size le) after.within;
       })
   found_within stage Infeasible stopped le is = tt
   found_within stage (Fail cause) stopped le is = tt
@@ -106,7 +112,7 @@ module _ {T N D P S : Type 0} (theory : TheoryOf T N) (solver : DecideOf D T P S
     (problem : Problem T N) (limits : Limits) where
   -- what solves the problem within the size is answered after the cause
   pub solves_in : (cause : FailCause T S N) (found : Option (List (Term T N) × P))
-      → CauseHoldsFor theory solver problem limits cause → IsFoundFor theory solver problem limits.size found
+      → CauseHoldsFor theory solver problem limits cause → IsFoundFor theory solver problem (most_beyond limits.size) found
       → IfSome found (SolvesInFor theory solver problem limits)
   solves_in cause None holds is = tt
   solves_in cause (Some solution) holds is = (is.0, record { cause = cause; holds = holds; within = is.1 })

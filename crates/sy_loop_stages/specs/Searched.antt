@@ -22,13 +22,14 @@ use Rattle.sy_loop_outcome.specs.declared.outcome.Outcome.{Outcome}
 use Rattle.sy_loop_outcome.specs.declared.outcome.Outcome.TheVariants.{Found, Infeasible, Fail}
 use Rattle.sy_loop.specs.Least.{AreLeast}
 use Rattle.sy_loop_stages.specs.Finding.{FindsBeyondFor, HasStopped}
+use Rattle.sy_loop_stages.specs.Stages.{most_beyond}
 
--- a search within these limits ended by a cause that holds, and the bodies are members of sizes within them
+-- a search within these limits ended by a cause that holds, and the bodies are members of bounded sizes
 pub record AreAfter (T : Type 0) {S N : Type 0} (owned : Op → Bool) (number : N → Val) (budget : S → FailName)
     (shows : Query → Limits → FailName → S → Type 0) (question : Question) (limits : Limits) (bodies : List Expr) : Type 0 where
   pub cause : FailCause T S N
   pub holds : CauseHolds owned number budget shows Joins question limits cause
-  pub within : AreWithin question.pool limits.size question.goals bodies
+  pub within : AreWithin question.pool (most_beyond limits.size) question.goals bodies
 
 -- what is found is of the least bound in which anything solves the problem, or is answered after that
 abbrev pub FindsIn : {T P S N : Type 0} → (Op → Bool) → (N → Val) → (S → FailName)

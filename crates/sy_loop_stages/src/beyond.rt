@@ -1,20 +1,20 @@
 // The search for solutions alone after a search that ended by a limit.
 ghost use Rattle.std.specs.Prelude.{◌≡◌, length, IfOk, IfSome};
 ghost use Rattle.sy_grammar_base.specs.Fits.{ProblemFits};
-ghost use Rattle.sy_loop_bodies.specs.Clauses.{IsFoundFor};
+ghost use Rattle.sy_loop_bodies.specs.Clauses.{AreAssignedFor, IsFoundFor};
 ghost use Rattle.sy_loop_bounds.specs.declared.reach.Reach.TheVariants.{Joins};
 ghost use Rattle.sy_loop_outcome.specs.Right.{IsRightFor};
 ghost use Rattle.sy_loop_stages.specs.Searched.{CauseHoldsFor, SolvesInFor};
 
-use crate::stage::{Stage, limits_of_one_body};
+use crate::stage::{MOST_SIZE, Stage, limits_of_one_body};
 use std::alloc::Global;
 use sy_grammar_base::Problem;
 use sy_loop_beyond::{solve_anew, solve_beyond};
-use sy_loop_bodies::{Aside, Task};
+use sy_loop_bodies::{Aside, Task, copied_assignments};
 use sy_loop_outcome::{FailCause, Outcome};
 use sy_query_base::Decide;
 use sy_query_limits::Limits;
-use sy_terms::{Bodies, Theory, Want};
+use sy_terms::{Bodies, Theory, Values, Want};
 
 /// A solution that is found after the outcome, where that is a fail.
 pub(crate) fn found_beyond<T: Theory, D: Decide<T>>(
@@ -38,7 +38,8 @@ pub(crate) fn found_beyond<T: Theory, D: Decide<T>>(
         alloc,
         problem,
         limits: &limits,
-        bound: stage.limits.size,
+        size: stage.limits.size,
+        bound: stage.limits.size.max(MOST_SIZE),
         effort: stage.effort,
     };
     let found = found_after_cause(&task, &stage.limits, decide, cause, aside)?;
@@ -49,23 +50,50 @@ pub(crate) fn found_beyond<T: Theory, D: Decide<T>>(
 /// where none of them solve the problem.
 fn found_after_cause<T: Theory, D: Decide<T>>(
     task: &Task<T>,
-    _limits: &Limits,
+    limits: &Limits,
     decide: &mut D,
     cause: &FailCause<T, D::Spent>,
     aside: &mut Aside<T>,
 ) -> Result<Option<(Bodies<T>, D::Proof)>, Want>
     requires problem { ProblemFits T.Theory task.now.problem.now }
     requires one { length task.now.problem.now.wanted ≡ 1 }
-    requires holds { CauseHoldsFor T.Theory D.Decide task.now.problem.now _limits.now cause.now }
+    requires holds { CauseHoldsFor T.Theory D.Decide task.now.problem.now limits.now cause.now }
     ensures { IfOk result (IsFoundFor T.Theory D.Decide task.now.problem.now task.now.bound) }
 {
+    let mut assignments = assigned_before::<T, D>(task, limits, cause)?;
     match cause {
         FailCause::Size => Ok(None),
-        FailCause::Bank(stored, _, bank, _, _) => solve_beyond(task, decide, bank, stored, aside),
-        FailCause::Rounds(stored) => solve_anew(task, decide, stored, aside),
-        FailCause::Points(stored, _, _, _, _) => solve_anew(task, decide, stored, aside),
-        FailCause::Weight(stored, _) => solve_anew(task, decide, stored, aside),
-        FailCause::Decide(stored, _, _) => solve_anew(task, decide, stored, aside),
-        FailCause::Range(stored, _) => solve_anew(task, decide, stored, aside),
+        FailCause::Bank(_, _, bank, _, _) => {
+            solve_beyond(task, decide, bank, &mut assignments, aside)
+        }
+        FailCause::Rounds(_)
+        | FailCause::Points(_, _, _, _, _)
+        | FailCause::Weight(_, _)
+        | FailCause::Decide(_, _, _)
+        | FailCause::Range(_, _) => solve_anew(task, decide, &mut assignments, aside),
+    }
+}
+
+/// Copies of the assignments that the search stored before it ended by the cause.
+fn assigned_before<T: Theory, D: Decide<T>>(
+    task: &Task<T>,
+    _limits: &Limits,
+    cause: &FailCause<T, D::Spent>,
+) -> Result<Vec<Values<T>>, Want>
+    requires holds { CauseHoldsFor T.Theory D.Decide task.now.problem.now _limits.now cause.now }
+    ensures { IfOk result (λ copies. AreAssignedFor T.Theory task.now.problem.now copies.items) }
+{
+    match cause {
+        FailCause::Size => Ok(Vec::new(task.alloc)),
+        FailCause::Rounds(stored) => copied_assignments(task.alloc, task.problem, stored),
+        FailCause::Points(stored, _, _, _, _) => copied_assignments(
+            task.alloc,
+            task.problem,
+            stored,
+        ),
+        FailCause::Bank(stored, _, _, _, _) => copied_assignments(task.alloc, task.problem, stored),
+        FailCause::Weight(stored, _) => copied_assignments(task.alloc, task.problem, stored),
+        FailCause::Decide(stored, _, _) => copied_assignments(task.alloc, task.problem, stored),
+        FailCause::Range(stored, _) => copied_assignments(task.alloc, task.problem, stored),
     }
 }

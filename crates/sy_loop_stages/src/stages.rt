@@ -203,6 +203,7 @@ fn found_again<T: Theory, D: Decide<T>>(
         alloc,
         problem,
         limits: &shared,
+        size: limits.size,
         bound: limits.size.max(MOST_SIZE),
         effort: WHOLE,
     };
