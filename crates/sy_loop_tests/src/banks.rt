@@ -1,5 +1,5 @@
-// Banks of small grammars over one argument: how many terms are kept at each size, which ones, and how the search for them
-// ends.
+// Banks of small grammars over one argument: how many terms are kept at each size, which ones, and how the search for
+// them ends.
 
 use crate::parts::{nonterminals, part};
 use crate::points::{points, value};
@@ -73,8 +73,8 @@ fn is_term<T: Theory>(
     found.equals(&wanted)
 }
 
-/// Whether the bank keeps these terms, between spaces, of the first nonterminal, by size and in order; where the row names
-/// none, any.
+/// Whether the bank keeps these terms, between spaces, for the first nonterminal, by size and in order; where the row
+/// names none, any.
 fn keeps_terms<T: Theory>(
     rt: &impl Abort,
     alloc: Global,
@@ -142,11 +142,12 @@ pub(crate) fn is_right<T: Theory>(
     is_right
 }
 
-/// Grammars, the argument's values, the sizes up to which a bank is built and grown, and the cap; then how many terms are
-/// kept at each size, after which none is; whether the bank is whole, dropped a term, or is full before one of a size; and,
-/// where they are named, the terms kept for the first nonterminal, and the next one of a bank that is full. First stand all
-/// constants and arguments, by their digits, where one term is enough without points; then sums, as they are built and as
-/// they are grown; a term that isn't computable; what derives nothing; and chains, in whatever order they stand.
+/// Grammars, the argument's values, the sizes up to which a bank is built and grown, and the cap; then how many terms
+/// are kept at each size, after which none is; whether the bank is whole, dropped a term, or is full before one of a
+/// size; and, where they are named, the terms kept for the first nonterminal, and the next one of a bank that is full.
+/// First stand all constants and arguments, by their digits, where one term is enough without points; then sums, as
+/// they are built and as they are grown; a term that isn't computable; what derives nothing; and chains, in whatever
+/// order they stand.
 pub(crate) const INTEGERS: &str = "\
 bank of integers|k v|30 50|6|6|99|0 5 1 4 6 16 32|whole
 bank of integers|k v|30|9|9|20|0 5 1 4 6 4|full 5

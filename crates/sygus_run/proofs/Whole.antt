@@ -106,9 +106,9 @@ judges_by settings file status answers Written err err' short (inl small) judged
     record {
       judged = λ wish statements fits reads stated. small;
       reply_refused = λ wish why fits reads stated. absurd (
-        not_both (replies_read (wants_proofs settings.mode) file (front_length file) wish) at.judges.statements why
-        (ap (replies_read (wants_proofs settings.mode) file (front_length file)) (one_value read wish at.wish reads at.reads) ∙ at.judges.stated) stated
-      );
+          not_both (replies_read (wants_proofs settings.mode) file (front_length file) wish) at.judges.statements why
+          (ap (replies_read (wants_proofs settings.mode) file (front_length file)) (one_value read wish at.wish reads at.reads) ∙ at.judges.stated) stated
+          );
       front_refused = λ why reads. absurd (not_both read at.wish why at.reads reads);
       too_long = λ long. absurd (omega (arith, long, short));
     }
@@ -126,9 +126,9 @@ judges_by settings file status answers Written err err' short (inr (inr is)) jud
     let read = wished (file_read (front file)) in
     record {
       judged = λ wish statements fits reads stated. absurd (
-        not_both (replies_read (wants_proofs settings.mode) file (front_length file) wish) statements at.refused stated
-        (ap (replies_read (wants_proofs settings.mode) file (front_length file)) (one_value read wish at.wish reads at.reads) ∙ at.stated)
-      );
+          not_both (replies_read (wants_proofs settings.mode) file (front_length file) wish) statements at.refused stated
+          (ap (replies_read (wants_proofs settings.mode) file (front_length file)) (one_value read wish at.wish reads at.reads) ∙ at.stated)
+          );
       reply_refused = λ wish why fits reads stated. is;
       front_refused = λ why reads. absurd (not_both read at.wish why at.reads reads);
       too_long = λ long. absurd (omega (arith, long, short));

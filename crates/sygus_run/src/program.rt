@@ -7,7 +7,8 @@ ghost use Rattle.sygus_replies.specs.Replies.{IsSettled, IsFail};
 ghost use Rattle.sygus_replies.specs.Texts.{answer_lines, words_line, read_line, memory_line};
 ghost use Rattle.sygus_answers.specs.Answers.{replies_of, AreNamedFor};
 ghost use Rattle.sygus_input.specs.Inputs.{AskDrill, AskJudging, AskNoJudging, AskSolving, HaveNoReading};
-ghost use Rattle.sygus_run.specs.Runs.{Answered, EndsWhole, FileIsRefused, GoesWell, IsCutOff, NamesKnown, WantsMemory, fault_status, fault_line};
+ghost use Rattle.sygus_run.specs.Runs.{Answered, EndsWhole, FileIsRefused, GoesWell, IsCutOff, NamesKnown, WantsMemory};
+ghost use Rattle.sygus_run.specs.Runs.{fault_line, fault_status};
 ghost use Rattle.sygus_drills.specs.Drills.{EndsDrill};
 ghost use Rattle.sygus_judged.specs.Ends.{EndsJudged};
 ghost use Rattle.sy_query_limits.specs.declared.Limits.{Limits};
@@ -39,8 +40,8 @@ pub fn run<S: Source, O: Sink, E: Sink>(
 ) -> Ended
     ensures status { result.status ≤ 7 }
 
-    // where no read and no write fails and memory is enough, the words and the file decide: a file in the profile is answered,
-    // and any other is refused; words that have no reading are
+    // where no read and no write fails and memory is enough, the words and the file decide: a file in the profile is
+    // answered, and any other is refused; so are words that have no reading
     ensures complete { (settings : Settings) (file : List ℕ) →
         NamesKnown (map string_bytes words.now) (S.held source.old) settings file →
         GoesWell result.status (S.faults source.old) (S.faults source.new) (O.faults out.old) (O.faults out.new)
