@@ -14,7 +14,7 @@ use Rattle.sy_scope_causes.specs.declared.titles.Titles.{Titles}
 use Rattle.sygus_replies.specs.Replies.{Reply, Shown}
 use Rattle.sygus_replies.specs.Answerable.{IsAnswerable}
 use Rattle.sygus_replies.specs.Texts.{answer_text, texts, answer_line, answer_lines, memory_line}
-use Rattle.sygus_replies.specs.Answered.{AreRight, WritesMost, WritesMostFails, BreaksNext, next_line}
+use Rattle.sygus_replies.specs.Answered.{AreRight, WritesMost, WritesMostFails, BreaksNext}
 
 pub appended_nothing : (before : Option (List ℕ)) → Appends before before []
 appended_nothing None = tt

@@ -1,5 +1,5 @@
 -- Right answers are complete.
-use Rattle.std.specs.Prelude.{Bool, List, [], ◌∷◌, map, ◌≡◌}
+use Rattle.std.specs.Prelude.{Bool, List, [], ◌∷◌, map}
 use Rattle.sy_terms.specs.Values.{Val, Whole}
 use Rattle.sy_terms.specs.declared.op.Op.{Op}
 use Rattle.sy_meaning_integers.specs.Lia as lia

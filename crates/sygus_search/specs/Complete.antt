@@ -1,5 +1,5 @@
 -- What is replied to problems that some bodies in bound solve.
-use Rattle.std.specs.Prelude.{ℕ, List}
+use Rattle.std.specs.Prelude.{List}
 use Rattle.sy_grammar_base.specs.Questions.{Question}
 use Rattle.sy_query_limits.specs.declared.FailName.{FailName}
 use Rattle.sy_query_limits.specs.declared.FailName.TheVariants as names
