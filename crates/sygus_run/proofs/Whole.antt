@@ -72,6 +72,10 @@ one_value read value other first second = let both = sym first ∙ second in cc
 pub not_five : {A B : Type 0} (status : ℕ) → (status ≡ 5 → A ⊎ B) → (A → ⊥) → (B → ⊥) → status ≡ 5 → ⊥
 not_five {A} {B} status rose one other is = ⊎_elim (λ (a : A). one a) (λ (b : B). other b) (rose is)
 
+-- what is longer isn't short
+not_long : (n most : ℕ) → most < n → n ≤ most → ⊥
+not_long n most long short = omega (arith, long, short)
+
 -- ---- a file of its settings
 
 solves_by : (settings : Settings) (file : List ℕ) (status : ℕ) (answers : Answers) (out out' err err' : Option (List ℕ)) → length file ≤ longest → (status ≤ 1) ⊎ (status ≡ 2)
@@ -88,7 +92,7 @@ solves_by settings file status answers out out' err err' short (inl small) answe
                 (answers_complete settings.mode settings.limits at.wish.questions answers at.right),
           );
       refused = λ why reads. absurd (not_both read at.wish why at.reads reads);
-      too_long = λ long. absurd (omega (arith, long, short));
+      too_long = λ long. absurd (not_long (length file) longest long short);
     }
 solves_by settings file status answers out out' err err' short (inr is) answered refused =
     let at = refused is in
@@ -110,7 +114,7 @@ judges_by settings file status answers Written err err' short (inl small) judged
           (ap (replies_read (wants_proofs settings.mode) file (front_length file)) (one_value read wish at.wish reads at.reads) ∙ at.judges.stated) stated
           );
       front_refused = λ why reads. absurd (not_both read at.wish why at.reads reads);
-      too_long = λ long. absurd (omega (arith, long, short));
+      too_long = λ long. absurd (not_long (length file) longest long short);
     }
 judges_by settings file status answers Written err err' short (inr (inl is)) judged front_refused reply_refused =
     let at = front_refused is in
@@ -131,7 +135,7 @@ judges_by settings file status answers Written err err' short (inr (inr is)) jud
           );
       reply_refused = λ wish why fits reads stated. is;
       front_refused = λ why reads. absurd (not_both read at.wish why at.reads reads);
-      too_long = λ long. absurd (omega (arith, long, short));
+      too_long = λ long. absurd (not_long (length file) longest long short);
     }
 
 -- ---- by the mode
@@ -154,15 +158,15 @@ by_judging (Drill n) limits file status answers is whole = absurd cc
 
 long_solves : (mode : Mode) (limits : Limits) (file : List ℕ) (status : ℕ) (answers : Answers) → longest < length file → status ≡ 2 → SolvesWhole mode limits file status answers
 long_solves mode limits file status answers long is = record {
-  answered = λ wish fits reads. absurd (omega (arith, long, fits));
+  answered = λ wish fits reads. absurd (not_long (length file) longest long fits);
   refused = λ why reads. is;
   too_long = λ l. is;
 }
 
 long_judges : (mode : Mode) (file : List ℕ) (status : ℕ) → longest < length file → status ≡ 2 → JudgesWhole mode file status
 long_judges mode file status long is = record {
-  judged = λ wish statements fits reads stated. absurd (omega (arith, long, fits));
-  reply_refused = λ wish why fits reads stated. absurd (omega (arith, long, fits));
+  judged = λ wish statements fits reads stated. absurd (not_long (length file) longest long fits);
+  reply_refused = λ wish why fits reads stated. absurd (not_long (length file) longest long fits);
   front_refused = λ why reads. is;
   too_long = λ l. is;
 }
