@@ -2,6 +2,7 @@
 use Rattle.std.proofs.Common.{inl, inr, refl, sym, ap, subst, ◌∙◌, ◌≡◌, ◌≢◌, ◌≤◌, ◌<◌, List, ℕ, zero, suc, arith, true, false, ⊎_elim}
 use Rattle.std.specs.Prelude.{◌⊎◌, Bool, Option, Some, None, Ok, Err, Result, length}
 use Rattle.std.specs.Io.KnownBytes.{Appends}
+use Rattle.std.proofs.lemmas.Bool.{true≢false}
 use Rattle.sy_io.specs.Causes.{Rose}
 use Rattle.sy_io.specs.Source.{Holding, bytes_under}
 use Rattle.sy_query_limits.specs.declared.Limits.{Limits}
@@ -143,18 +144,18 @@ judges_by settings file status answers Written err err' short (inr (inr is)) jud
 by_solving : (mode : Mode) (limits : Limits) (file : List ℕ) (status : ℕ) (answers : Answers) → judges mode ≡ false → ((n : ℕ) → mode ≡ Drill n → ⊥) → SolvesWhole mode limits file status answers → EndsWhole mode limits file status answers
 by_solving Solve limits file status answers other none whole = whole
 by_solving Least limits file status answers other none whole = whole
-by_solving Check limits file status answers other none whole = absurd cc
-by_solving Recheck limits file status answers other none whole = absurd cc
-by_solving Clauses limits file status answers other none whole = absurd cc
+by_solving Check limits file status answers other none whole = absurd (true≢false other)
+by_solving Recheck limits file status answers other none whole = absurd (true≢false other)
+by_solving Clauses limits file status answers other none whole = absurd (true≢false other)
 by_solving (Drill n) limits file status answers other none whole = absurd (none n refl)
 
 by_judging : (mode : Mode) (limits : Limits) (file : List ℕ) (status : ℕ) (answers : Answers) → judges mode ≡ true → JudgesWhole mode file status → EndsWhole mode limits file status answers
-by_judging Solve limits file status answers is whole = absurd cc
-by_judging Least limits file status answers is whole = absurd cc
+by_judging Solve limits file status answers is whole = absurd (true≢false (sym is))
+by_judging Least limits file status answers is whole = absurd (true≢false (sym is))
 by_judging Check limits file status answers is whole = whole
 by_judging Recheck limits file status answers is whole = whole
 by_judging Clauses limits file status answers is whole = whole
-by_judging (Drill n) limits file status answers is whole = absurd cc
+by_judging (Drill n) limits file status answers is whole = absurd (true≢false (sym is))
 
 long_solves : (mode : Mode) (limits : Limits) (file : List ℕ) (status : ℕ) (answers : Answers) → longest < length file → status ≡ 2 → SolvesWhole mode limits file status answers
 long_solves mode limits file status answers long is = record {
@@ -181,8 +182,11 @@ by_length (Drill n) limits file status answers none long is = absurd (none n ref
 
 -- ---- the file that words name
 
+not_told : (holding : Holding) → None ≡ Some holding → ⊥
+not_told holding told = cc
+
 told_alike : (held : Option Holding) (holding : Holding) (words : List (List ℕ)) (s t : Settings) (f g : List ℕ) → held ≡ Some holding → s ≡ t → Names words held s f → Names words held t g → f ≡ g
-told_alike None holding words s t f g told same first second = absurd cc
+told_alike None holding words s t f g told same first second = absurd (not_told holding told)
 told_alike (Some h) holding words s t f g told same first second = first.told ∙ ap (λ (r : Settings). bytes_under h r.file) same ∙ sym second.told
 
 judging_or_not : (words : List (List ℕ)) (settings : Settings) → IsReading words settings → AskNoJudging words → judges settings.mode ≡ false
