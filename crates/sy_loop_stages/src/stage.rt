@@ -22,13 +22,13 @@ pub(crate) const MOST_SIZE: u32 = 1_024;
 
 /// How many clauses the solver may learn of the query of one body beyond the whole search: what is hard to decide is
 /// set aside.
-const MOST_CLAUSES: u32 = 10_000;
+const MOST_CLAUSES: u32 = 8_000;
 
 /// How many inner nodes its tree may have there.
 const MOST_NODES: u32 = 500;
 
 /// The weight of a query without variables, whose circuit has constants alone.
-const CLOSED_WEIGHT: u32 = 64_000_000;
+const CLOSED_WEIGHT: u32 = 4_000_000_000;
 
 /// The effort beyond the whole search.
 pub(crate) const WHOLE: Effort = Effort {
@@ -44,6 +44,8 @@ pub(crate) struct Stage {
     pub(crate) clauses: u32,
     pub(crate) nodes: u32,
     pub(crate) effort: Effort,
+    /// Whether bodies that were set aside before are tried once more beyond it.
+    pub(crate) again: bool,
 }
 
 /// The search with few kept terms.
@@ -59,6 +61,7 @@ pub(crate) fn early_stage(limits: &Limits) -> Stage
             undecided: 4,
             banks: 1,
         },
+        again: false,
     }
 }
 
@@ -71,6 +74,7 @@ pub(crate) fn whole_stage(limits: &Limits) -> Stage
         clauses: eighth(limits.clauses, MOST_CLAUSES),
         nodes: eighth(limits.nodes, MOST_NODES),
         effort: WHOLE,
+        again: true,
     }
 }
 
@@ -82,6 +86,8 @@ pub(crate) fn wide_stage(limits: &Limits, bank: u32) -> Stage
     Stage {
         limits: Limits {
             size: limits.size.max(WIDE_SIZE),
+            clauses: eighth(limits.clauses, FEW_CLAUSES),
+            nodes: eighth(limits.nodes, FEW_NODES),
             ..lowered
         },
         clauses: eighth(limits.clauses, 1_000),
@@ -91,6 +97,7 @@ pub(crate) fn wide_stage(limits: &Limits, bank: u32) -> Stage
             undecided: 4,
             banks: 1,
         },
+        again: false,
     }
 }
 
@@ -126,12 +133,19 @@ pub(crate) fn limits_of_one_body(stage: &Stage, is_closed: bool) -> Limits {
     }
 }
 
-/// The limits for the query of each of so many bodies that were set aside: a quarter of the limits for all of them.
-pub(crate) fn shared_limits(limits: &Limits, count: usize) -> Limits {
+/// The limits for the query of each of so many bodies that were set aside: a quarter of the limits for all of them. `None`
+/// where that is less than twice what each had beyond the whole search.
+pub(crate) fn shared_limits(limits: &Limits, count: usize) -> Option<Limits> {
     let parts = 4 * count.max(1).min(64) as u32;
-    Limits {
-        clauses: (limits.clauses / parts).max(1),
-        nodes: (limits.nodes / parts).max(1),
-        ..*limits
+    let clauses = limits.clauses / parts;
+    let nodes = limits.nodes / parts;
+    let before = whole_stage(limits);
+    if clauses / 2 < before.clauses && nodes / 2 < before.nodes {
+        return None;
     }
+    Some(Limits {
+        clauses: clauses.max(1),
+        nodes: nodes.max(1),
+        ..*limits
+    })
 }
