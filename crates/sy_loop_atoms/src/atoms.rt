@@ -252,7 +252,12 @@ impl<T: Theory> Atoms<T> {
     }
 
     /// Adds the literal, which is found by the key.
-    fn push(&mut self, task: &Task<T>, key: u64, literal: Literal<T>) -> Result<Option<usize>, Want> {
+    fn push(
+        &mut self,
+        task: &Task<T>,
+        key: u64,
+        literal: Literal<T>,
+    ) -> Result<Option<usize>, Want> {
         if self.is_full() {
             return Ok(None);
         }

@@ -163,7 +163,11 @@ impl<T: Theory> Atoms<T> {
         requires { ProblemFits T.Theory task.now.problem.now }
     {
         let copy = term.copy(task.alloc)?;
-        let said = if truth { Some(copy) } else { negated(task.alloc, Some(copy))? };
+        let said = if truth {
+            Some(copy)
+        } else {
+            negated(task.alloc, Some(copy))?
+        };
         let Some(said) = said else {
             return Ok(None);
         };
@@ -218,7 +222,11 @@ impl<T: Theory> Atoms<T> {
             let (negation, round) = comparison.relation.negation();
             (negation, comparison.turned != round)
         };
-        let terms = if turned { (second, first) } else { (first, second) };
+        let terms = if turned {
+            (second, first)
+        } else {
+            (first, second)
+        };
         self.related(task, relation, order, terms, true)
     }
 
@@ -238,14 +246,24 @@ impl<T: Theory> Atoms<T> {
                 continue;
             };
             let names = names_with(task, statement, call, true)?;
-            if let Some(formula) = self.formula_under(task, names.as_slice(), &statement.term, true)? {
+            if let Some(formula) = self.formula_under(
+                task,
+                names.as_slice(),
+                &statement.term,
+                true,
+            )? {
                 for clause in &formula {
                     whole.push(clause.clone()?)?;
                 }
                 parts.push(formula)?;
             }
             let names = names_with(task, statement, call, false)?;
-            if let Some(formula) = self.formula_under(task, names.as_slice(), &statement.term, false)? {
+            if let Some(formula) = self.formula_under(
+                task,
+                names.as_slice(),
+                &statement.term,
+                false,
+            )? {
                 parts.push(formula)?;
             }
         }

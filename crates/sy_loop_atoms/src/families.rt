@@ -109,7 +109,11 @@ impl<T: Theory> Atoms<T> {
                 side = side.opposite()?;
             }
             let term = compared(self.writing(task), operator, &side)?;
-            let term = if not { negated(task.alloc, term)? } else { term };
+            let term = if not {
+                negated(task.alloc, term)?
+            } else {
+                term
+            };
             best = better(task, best, term)?;
         }
         Ok(best)

@@ -163,7 +163,9 @@ impl Sum {
 pub(crate) fn mixed(seed: u64, number: i128) -> u64 {
     let low = (number.unsigned_abs() % (1 << 64)) as u64;
     let turned = if number < 0 { low.wrapping_add(7) } else { low };
-    seed.wrapping_mul(11_400_714_819_323_198_485).wrapping_add(turned) ^ (seed >> 29)
+    seed.wrapping_mul(11_400_714_819_323_198_485)
+        .wrapping_add(turned)
+        ^ (seed >> 29)
 }
 
 /// The greatest common divisor.
@@ -187,7 +189,11 @@ pub(crate) fn settled(kind: Kind, sum: Sum) -> Option<Settled> {
     let divisor = sum.divisor();
     if divisor == 0 {
         let holds = kind.holds(sum.constant);
-        return Some(if holds { Settled::Always } else { Settled::Never });
+        return Some(if holds {
+            Settled::Always
+        } else {
+            Settled::Never
+        });
     }
     match kind {
         Kind::AtMost => Some(Settled::Open(least_bound(sum, divisor))),
@@ -208,10 +214,18 @@ fn least_bound(sum: Sum, divisor: i128) -> Sum {
 /// The equality or its negation with its coefficients divided, which divides them.
 fn least_equality(kind: Kind, sum: Sum, divisor: i128) -> Settled {
     if sum.constant.checked_rem(divisor) != Some(0) {
-        return if kind == Kind::Equal { Settled::Never } else { Settled::Always };
+        return if kind == Kind::Equal {
+            Settled::Never
+        } else {
+            Settled::Always
+        };
     }
     let mut least = sum;
-    let factor = if least.is_turned() { divisor.wrapping_neg() } else { divisor };
+    let factor = if least.is_turned() {
+        divisor.wrapping_neg()
+    } else {
+        divisor
+    };
     least.divide(factor);
     least.constant = least.constant.checked_div(factor).unwrap_or(0);
     Settled::Open(least)

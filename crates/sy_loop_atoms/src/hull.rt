@@ -47,7 +47,12 @@ impl<T: Theory> Atoms<T> {
     }
 
     /// Adds so many of the equalities, the shortest first.
-    fn add_shortest(&mut self, task: &Task<T>, rows: Vec<Vec<i128>>, most: usize) -> Result<(), Want>
+    fn add_shortest(
+        &mut self,
+        task: &Task<T>,
+        rows: Vec<Vec<i128>>,
+        most: usize,
+    ) -> Result<(), Want>
         requires { ProblemFits T.Theory task.now.problem.now }
     {
         let mut taken = Vec::from_elem(task.alloc, false, rows.len())?;
@@ -158,7 +163,10 @@ fn rows_of<T: Theory>(
     for (tuple, inside) in tuples.iter().zip(inside) {
         if *inside {
             let row = row_of::<T>(alloc, tuple.as_slice())?;
-            if row.iter().all(|number| number.saturating_abs() <= MOST_NUMBER) {
+            if row
+                .iter()
+                .all(|number| number.saturating_abs() <= MOST_NUMBER)
+            {
                 rows.push(row)?;
             }
         }
@@ -191,11 +199,7 @@ fn range_of(sum: &Sum, rows: &[Vec<i128>]) -> Option<(i128, i128)> {
 
 /// The rows without fractions so that each has a column in which it alone has a number; `None` where numbers grow too large,
 /// or nothing is left open.
-fn reduced(
-    alloc: Global,
-    rows: &[Vec<i128>],
-    columns: usize,
-) -> Result<Option<Vec<Row>>, Want> {
+fn reduced(alloc: Global, rows: &[Vec<i128>], columns: usize) -> Result<Option<Vec<Row>>, Want> {
     let mut system: Vec<Row> = Vec::new(alloc);
     for row in rows {
         if let Some(new) = rest_of(row, system.as_slice())? {
@@ -250,7 +254,8 @@ fn lead_of(numbers: &[i128]) -> Option<usize> {
 
 /// Makes the number in the column 0 by a multiple of the other row, and answers whether numbers stay small enough.
 fn take_out(numbers: &mut Vec<i128>, other: &[i128], column: usize) -> bool {
-    let (Some(own), Some(factor)) = (numbers.get(column).copied(), other.get(column).copied()) else {
+    let (Some(own), Some(factor)) = (numbers.get(column).copied(), other.get(column).copied())
+    else {
         return false;
     };
     if own == 0 {
@@ -398,5 +403,9 @@ fn length_of(row: &[i128], greatest: i128) -> u128 {
             sum = sum.saturating_add(number.unsigned_abs());
         }
     }
-    if any { width.saturating_mul(1 << 90).saturating_add(sum) } else { u128::MAX }
+    if any {
+        width.saturating_mul(1 << 90).saturating_add(sum)
+    } else {
+        u128::MAX
+    }
 }

@@ -77,10 +77,7 @@ impl<T: Theory> Atoms<T> {
 }
 
 /// The comparison of a sum with 0 that the term says; `None` where it says none.
-pub(crate) fn form_of<T: Theory>(
-    over: Over,
-    term: &Term<T>,
-) -> Result<Option<(Kind, Sum)>, Want> {
+pub(crate) fn form_of<T: Theory>(over: Over, term: &Term<T>) -> Result<Option<(Kind, Sum)>, Want> {
     match term {
         Term::App(Op::Not, terms) => match terms.get(0) {
             Some(Term::App(operator, terms)) => form_of_pair(over, operator, terms, false),

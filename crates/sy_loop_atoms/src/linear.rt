@@ -53,7 +53,11 @@ fn add_all<T: Theory>(
     sum: &mut Sum,
 ) -> bool {
     for (i, term) in terms.as_slice().iter().enumerate() {
-        let factor = if i < place || place == 0 { first } else { second };
+        let factor = if i < place || place == 0 {
+            first
+        } else {
+            second
+        };
         if !add(over, term, factor, sum) {
             return false;
         }

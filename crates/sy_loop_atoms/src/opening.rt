@@ -117,13 +117,7 @@ fn opened_call<T: Theory>(
     match function {
         Fun::Defined(number) => match task.problem.defs.get(number as usize) {
             Some(definition) => {
-                opened(
-                    task,
-                    arguments.as_slice(),
-                    &definition.body,
-                    depth,
-                    opening,
-                )
+                opened(task, arguments.as_slice(), &definition.body, depth, opening)
             }
             None => Ok(None),
         },

@@ -129,11 +129,19 @@ pub(crate) fn spelled<T: Theory>(
         let Some((operator, turned, not)) = way_of(relation, order, way) else {
             continue;
         };
-        let (left, right) = if turned { (second, first) } else { (first, second) };
+        let (left, right) = if turned {
+            (second, first)
+        } else {
+            (first, second)
+        };
         let left = left.copy(task.alloc)?;
         let right = right.copy(task.alloc)?;
         let term = pair(task.alloc, operator, left, right)?;
-        let found = if not { negated(task.alloc, Some(term))? } else { Some(term) };
+        let found = if not {
+            negated(task.alloc, Some(term))?
+        } else {
+            Some(term)
+        };
         best = better(task, best, found)?;
     }
     Ok(best)

@@ -87,7 +87,9 @@ fn sides_size(writing: Writing, sum: &Sum) -> u32 {
         right = right.saturating_add(1);
         size = size.saturating_add(constant_size(writing, second));
     }
-    size.saturating_add(left).saturating_add(right).saturating_sub(1)
+    size.saturating_add(left)
+        .saturating_add(right)
+        .saturating_sub(1)
 }
 
 /// The bound that the negation of this bound says.

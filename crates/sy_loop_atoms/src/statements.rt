@@ -39,6 +39,11 @@ impl<T: Theory> Statements<T> {
         }
         Ok(statements)
     }
+
+    /// How many nodes the statements have.
+    pub fn nodes(&self) -> u64 {
+        MOST_NODES.saturating_sub(self.left)
+    }
 }
 
 /// So many variables, in order.
