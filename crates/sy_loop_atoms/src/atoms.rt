@@ -11,7 +11,7 @@ use crate::values::value_at;
 use std::collections::HashMap;
 use sy_grammar_sizes::number_of;
 use sy_loop_bodies::Task;
-use sy_terms::{Op, Sort, Term, Theory, Value, Want};
+use sy_terms::{Sort, Term, Terms, Theory, Value, Want};
 
 /// How many literals there are at most.
 pub(crate) const MOST_LITERALS: usize = 8_000;
@@ -50,6 +50,8 @@ pub struct Atoms<T: Theory> {
     pub(crate) free: bool,
     /// The sums of one and two arguments.
     pub(crate) sums: Vec<Sum>,
+    /// Whether vectors are compared in two's complement somewhere.
+    pub(crate) signed: bool,
     /// How many more nodes of the problem are looked at.
     pub(crate) left: u32,
     /// How many more ways to write comparisons are tried.
@@ -70,6 +72,7 @@ impl<T: Theory> Atoms<T> {
         atoms.add_truths(task)?;
         atoms.add_program(task, statements)?;
         atoms.add_pairs(task)?;
+        atoms.add_vectors(task)?;
         Ok(atoms)
     }
 
@@ -90,6 +93,7 @@ impl<T: Theory> Atoms<T> {
             constants,
             free: false,
             sums: Vec::new(alloc),
+            signed: false,
             left: 20_000,
             tests: 3_000,
             negates: None,
@@ -447,18 +451,22 @@ fn truth_at<T: Theory>(
 
 /// A number by which the term is found.
 #[cycle(key)]
-pub(crate) fn term_key<T: Theory>(term: &Term<T>, seed: u64) -> u64 {
+fn term_key<T: Theory>(term: &Term<T>, seed: u64) -> u64 {
     match term {
         Term::Const(value) => mixed(seed, number_of::<T>(value)),
         Term::Var(position) => mixed(seed.wrapping_add(1), i128::from(*position)),
-        Term::App(operator, terms) => {
-            let mut key = mixed(seed, if operator.equals(&Op::Not) { 3 } else { 2 });
-            for term in terms.as_slice() {
-                key = term_key(term, key);
-            }
-            key
-        }
-        Term::Call(_, terms) => mixed(seed, terms.len() as i128),
-        Term::Let(terms, _) => mixed(seed, terms.len() as i128),
+        Term::App(_, terms) => terms_key(terms, seed.wrapping_add(2)),
+        Term::Call(_, terms) => terms_key(terms, seed.wrapping_add(3)),
+        Term::Let(terms, _) => terms_key(terms, seed.wrapping_add(4)),
     }
+}
+
+/// A number by which the terms are found.
+#[cycle(key)]
+fn terms_key<T: Theory>(terms: &Terms<T>, seed: u64) -> u64 {
+    let mut key = seed;
+    for term in terms.as_slice() {
+        key = mixed(term_key(term, 5), i128::from(key));
+    }
+    key
 }

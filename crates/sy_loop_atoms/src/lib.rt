@@ -16,6 +16,7 @@ mod relations;
 mod sides;
 mod statements;
 mod values;
+mod vectors;
 
 pub use atoms::{Atoms, Traits};
 pub use statements::Statements;

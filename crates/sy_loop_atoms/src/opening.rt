@@ -56,7 +56,10 @@ pub(crate) fn opened<T: Theory>(
     depth: u32,
     opening: &mut Opening<T>,
 ) -> Result<Option<Term<T>>, Want> {
-    if depth == 0 || !opening.take(1) {
+    if depth == 0 {
+        return Ok(None);
+    }
+    if !opening.take(1) {
         return Ok(None);
     }
     match term {

@@ -4,12 +4,14 @@ ghost use Rattle.sy_grammar_base.specs.Fits.{ProblemFits};
 use crate::atoms::{Atoms, kind_of};
 use crate::forms::Kind;
 use crate::linear::difference;
-use crate::relations::{Comparison, Relation, comparison_of, order_of};
+use crate::relations::{Comparison, Order, Relation, comparison_of, order_of};
+use crate::sides::constant_term;
 use crate::statements::{Statement, Statements};
 use crate::values::sort_of;
 use std::alloc::Global;
+use sy_grammar_sizes::number_of;
 use sy_loop_bodies::Task;
-use sy_terms::{Sort, Term, Terms, Theory, Value, Want};
+use sy_terms::{Op, Sort, Term, Terms, Theory, Value, Want};
 
 /// Where variables stand among the arguments of a call.
 pub(crate) type Names<T> = Vec<Option<Term<T>>>;
@@ -65,6 +67,9 @@ impl<T: Theory> Atoms<T> {
         if let Some(comparison) = comparison_of(operator) {
             self.take_pairs(task, names, comparison, terms)?;
         }
+        if operator.equals(&Op::Mod) {
+            self.take_remainders(task, names, term, terms)?;
+        }
         self.take_terms(task, names, terms)
     }
 
@@ -109,6 +114,32 @@ impl<T: Theory> Atoms<T> {
         Ok(())
     }
 
+    /// Adds the equalities of the remainder with what it may be, where its divisor is a small constant.
+    fn take_remainders(
+        &mut self,
+        task: &Task<T>,
+        names: &[Option<Term<T>>],
+        term: &Term<T>,
+        terms: &Terms<T>,
+    ) -> Result<(), Want>
+        requires { ProblemFits T.Theory task.now.problem.now }
+    {
+        let Some(Term::Const(divisor)) = terms.get(1) else {
+            return Ok(());
+        };
+        let Some(remainder) = renamed(task.alloc, names, term)? else {
+            return Ok(());
+        };
+        for number in 0..number_of::<T>(divisor).min(8) {
+            if let Some(constant) = constant_term::<T>(task.alloc, number)? {
+                for relation in [Relation::Equal, Relation::Unequal] {
+                    self.related(task, relation, None, (&remainder, &constant), true)?;
+                }
+            }
+        }
+        Ok(())
+    }
+
     /// Adds what can be said of the two terms, which stand in a comparison of the problem.
     fn take_pair(
         &mut self,
@@ -129,14 +160,32 @@ impl<T: Theory> Atoms<T> {
             Some(order) => Some(order),
             None => order_of(sort),
         };
+        if let Some(order) = &order {
+            self.signed = self.signed || order.is_signed();
+        }
+        self.say_all(task, order, (first, second), true)?;
+        self.add_beside(task, comparison.relation, first, second)
+    }
+
+    /// Adds all that can be said of the two terms.
+    pub(crate) fn say_all(
+        &mut self,
+        task: &Task<T>,
+        order: Option<Order>,
+        terms: (&Term<T>, &Term<T>),
+        program: bool,
+    ) -> Result<(), Want>
+        requires { ProblemFits T.Theory task.now.problem.now }
+    {
+        let (first, second) = terms;
         for relation in [Relation::Equal, Relation::Unequal] {
-            self.related(task, relation, order, (first, second), true)?;
+            self.related(task, relation, order, (first, second), program)?;
         }
         for relation in [Relation::AtMost, Relation::Less] {
-            self.related(task, relation, order, (first, second), true)?;
-            self.related(task, relation, order, (second, first), true)?;
+            self.related(task, relation, order, (first, second), program)?;
+            self.related(task, relation, order, (second, first), program)?;
         }
-        self.add_beside(task, comparison.relation, first, second)
+        Ok(())
     }
 
     /// Adds the neighbours of a comparison of two integers.

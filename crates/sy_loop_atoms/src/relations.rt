@@ -51,6 +51,13 @@ impl Relation {
     }
 }
 
+impl Order {
+    /// Whether it is that of two's complement.
+    pub fn is_signed(&self) -> bool {
+        self.less.equals(&Op::BvSlt)
+    }
+}
+
 /// The order of the integers.
 fn integers() -> Order {
     Order {
@@ -72,7 +79,7 @@ fn unsigned() -> Order {
 }
 
 /// The order of vectors in two's complement.
-fn signed() -> Order {
+pub(crate) fn signed() -> Order {
     Order {
         less: Op::BvSlt,
         at_most: Op::BvSle,

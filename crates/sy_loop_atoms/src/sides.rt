@@ -258,14 +258,15 @@ fn multiple<T: Theory>(
 /// The sum of the terms; `None` where there are none.
 fn added<T: Theory>(alloc: Global, terms: Vec<Term<T>>) -> Result<Option<Term<T>>, Want> {
     let mut left = terms;
-    let Some(last) = left.pop() else {
-        return Ok(None);
-    };
-    let mut sum = last;
-    while let Some(term) = left.pop() {
-        sum = pair(alloc, Op::Add, term, sum)?;
+    left.reverse();
+    let mut sum = None;
+    for term in left {
+        sum = match sum {
+            Some(rest) => Some(pair(alloc, Op::Add, term, rest)?),
+            None => Some(term),
+        };
     }
-    Ok(Some(sum))
+    Ok(sum)
 }
 
 /// The integer as a term; `None` where it isn't one of the theory.
