@@ -1,7 +1,7 @@
 // The search for a formula that solves the problem, and for a shorter one.
 ghost use Rattle.std.specs.Prelude.{◌≡◌, length, IfOk, OnOk};
 ghost use Rattle.sy_grammar_base.specs.Fits.{ProblemFits};
-ghost use Rattle.sy_loop_bodies.specs.Clauses.{AreAssignedFor, IsFoundFor};
+ghost use Rattle.sy_loop_bodies.specs.Clauses.{AreAssignedFor, AreFoundFor, IsFoundFor};
 
 use crate::asking::try_formula;
 use crate::learning::Learning;
@@ -113,28 +113,31 @@ fn solve_learning<T: Theory, D: Decide<T>>(
         if let Some(found) = try_formula(task, decide, learning, formula, assignments, aside)? {
             let size = learning.learner.size_of(formula);
             learning.learner.shrink(true);
-            return solve_shorter(task, decide, learning, (size, found), assignments, aside);
+            return solve_shorter(task, decide, learning, size, found, assignments, aside);
         }
     }
     Ok(None)
 }
 
-/// The shortest formula that was found to solve the problem, of which one is known with its size.
+/// The shortest formula that is found to solve the problem, of which one of this size is known.
 fn solve_shorter<T: Theory, D: Decide<T>>(
     task: &Task<T>,
     decide: &mut D,
     learning: &mut Learning<T>,
-    known: (u64, (Bodies<T>, D::Proof)),
+    size: u64,
+    best: (Bodies<T>, D::Proof),
     assignments: &mut Vec<Values<T>>,
     aside: &mut Aside<T>,
 ) -> Result<Option<(Bodies<T>, D::Proof)>, Want>
     requires problem { ProblemFits T.Theory task.now.problem.now }
     requires one { length task.now.problem.now.wanted ≡ 1 }
+    requires best { AreFoundFor T.Theory D.Decide task.now.problem.now task.now.bound best.0 best.1 }
     requires assigned { AreAssignedFor T.Theory task.now.problem.now assignments.old.items }
     ensures assigned { OnOk result (AreAssignedFor T.Theory task.now.problem.now assignments.new.items) }
     ensures found { IfOk result (IsFoundFor T.Theory D.Decide task.now.problem.now task.now.bound) }
 {
-    let (mut size, mut best) = known;
+    let mut size = size;
+    let mut best = best;
     for _ in 0..MOST_SHORTER {
         let Some(formula) = learning.shorter_formula(size)? else {
             return Ok(Some(best));
