@@ -4,7 +4,7 @@ ghost use Rattle.sy_grammar_base.specs.Fits.{ProblemFits};
 use crate::families::{constants_of, is_free, pool_of};
 use crate::forms::{Kind, Settled, Sum, mixed, settled};
 use crate::linear::{Over, difference};
-use crate::relations::{Order, Relation, Spelled, spelled};
+use crate::relations::{Order, Relation, Spelled, always, spelled};
 use crate::sides::{Writing, form_size, form_term};
 use crate::statements::Statements;
 use crate::values::value_at;
@@ -32,6 +32,8 @@ pub(crate) struct Literal<T: Theory> {
     pub form: Option<(Kind, Sum)>,
     pub term: Option<Term<T>>,
     pub traits: Traits,
+    /// The literal that says the contrary, where it was met.
+    pub contrary: Option<usize>,
 }
 
 /// Literals of the one function's arguments, by number: comparisons and other terms of sort Bool. They are a guide to a
@@ -328,6 +330,7 @@ impl<T: Theory> Atoms<T> {
             form: Some((kind, sum)),
             term,
             traits,
+            contrary: None,
         };
         self.push(task, key, literal)
     }
@@ -380,6 +383,7 @@ impl<T: Theory> Atoms<T> {
             form: None,
             term: Some(spelled.term),
             traits,
+            contrary: None,
         };
         self.push(task, key, literal)
     }
@@ -396,6 +400,9 @@ impl<T: Theory> Atoms<T> {
         requires { ProblemFits T.Theory task.now.problem.now }
     {
         let (first, second) = terms;
+        if always(relation, order, first, second).is_some() {
+            return Ok(None);
+        }
         let sum = difference(self.over(task), first, second)?;
         let Some(sum) = sum else {
             let Some(found) = spelled(task, relation, order, first, second)? else {

@@ -22,8 +22,8 @@ struct Row {
 }
 
 impl<T: Theory> Atoms<T> {
-    /// Adds equalities of sums of integer arguments that hold at all tuples inside, the shortest first and at most so many,
-    /// and their bounds.
+    /// Adds equalities of sums of arguments that hold at all tuples inside, the shortest first and at most so many; of integers
+    /// their bounds too.
     pub fn add_hull(
         &mut self,
         task: &Task<T>,
@@ -33,6 +33,23 @@ impl<T: Theory> Atoms<T> {
     ) -> Result<(), Want>
         requires { ProblemFits T.Theory task.now.problem.now }
     {
+        self.add_linear(task, tuples, inside, most)?;
+        self.add_modular(task, tuples, inside, most)
+    }
+
+    /// The same of integers alone.
+    fn add_linear(
+        &mut self,
+        task: &Task<T>,
+        tuples: &[Values<T>],
+        inside: &[bool],
+        most: usize,
+    ) -> Result<(), Want>
+        requires { ProblemFits T.Theory task.now.problem.now }
+    {
+        if !self.sorts.contains(&Sort::Int) {
+            return Ok(());
+        }
         let rows = rows_of::<T>(task.alloc, tuples, inside)?;
         let columns = self.sorts.len().saturating_add(1);
         if rows.len() < 2 {
@@ -120,7 +137,7 @@ impl<T: Theory> Atoms<T> {
     }
 
     /// Notes that the literal holds at all points inside.
-    fn mark_hull(&mut self, place: usize) {
+    pub(crate) fn mark_hull(&mut self, place: usize) {
         if let Some(literal) = self.literals.get_mut(place) {
             literal.traits.hull = true;
         }
