@@ -182,7 +182,7 @@ pub(crate) fn common(a: u128, b: u128) -> u128 {
 
 /// The comparison with the least numbers that says the same over integers; equalities begin with a coefficient above 0.
 /// `None` where its numbers are too large.
-pub(crate) fn settled(kind: Kind, sum: Sum) -> Option<Settled> {
+pub(crate) fn least_form(kind: Kind, sum: Sum) -> Option<Settled> {
     if !sum.is_small() {
         return None;
     }

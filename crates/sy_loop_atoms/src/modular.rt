@@ -2,7 +2,7 @@
 ghost use Rattle.sy_grammar_base.specs.Fits.{ProblemFits};
 
 use crate::atoms::Atoms;
-use crate::relations::{Relation, spelled};
+use crate::relations::{Relation, best_spelling};
 use crate::sides::pair;
 use std::alloc::Global;
 use sy_grammar_sizes::number_of;
@@ -144,7 +144,7 @@ impl<T: Theory> Atoms<T> {
             return Ok(());
         };
         self.tests = self.tests.saturating_sub(1);
-        if let Some(found) = spelled(task, Relation::Equal, None, &left, &right)? {
+        if let Some(found) = best_spelling(task, Relation::Equal, None, &left, &right)? {
             looking.left = looking.left.saturating_sub(1);
             if let Some(place) = self.add_term(task, found, false, false)? {
                 self.mark_hull(place);

@@ -171,7 +171,7 @@ fn vector_of<T: Theory>(term: &Term<T>) -> Option<(u8, i128)> {
 }
 
 /// The least way to say this of the two terms that the grammar has; `None` where it has none.
-pub(crate) fn spelled<T: Theory>(
+pub(crate) fn best_spelling<T: Theory>(
     task: &Task<T>,
     relation: Relation,
     order: Option<Order>,
