@@ -69,8 +69,7 @@ impl<T: Theory> Atoms<T> {
         };
         for clause in formula {
             let fits = clause.len() >= 2 && clause.len() <= 4 && self.clauses.len() < MOST_KEPT;
-            let known = self.clauses.iter().any(|other| *other == clause);
-            if fits && !known {
+            if fits && !self.clauses.contains(&clause) {
                 self.clauses.push(clause)?;
             }
         }
@@ -319,9 +318,8 @@ impl<T: Theory> Atoms<T> {
                 None => break,
             }
         }
-        let known = self.goals.iter().any(|other| *other == formula);
-        let holds = formula.iter().all(|clause| !clause.is_empty());
-        if holds && !known && !formula.is_empty() && formula.len() <= 24 && self.goals.len() < 12 {
+        let fits = is_open(formula.as_slice()) && self.goals.len() < MOST_CLAUSES;
+        if fits && !self.goals.contains(&formula) {
             self.goals.push(formula)?;
         }
         Ok(())
@@ -342,6 +340,16 @@ impl<T: Theory> Atoms<T> {
             None => Ok(None),
         }
     }
+}
+
+/// Whether the formula has clauses, not too many, and each a literal.
+fn is_open(formula: &[Vec<usize>]) -> bool {
+    for clause in formula {
+        if clause.is_empty() {
+            return false;
+        }
+    }
+    formula.len() >= 1 && formula.len() <= 24
 }
 
 /// Whether a clause of the formula has the literal, and no other that isn't in this clause.

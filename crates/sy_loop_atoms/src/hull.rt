@@ -12,7 +12,7 @@ use sy_terms::{Sort, Theory, Value, Values, Want};
 const MOST_NUMBER: i128 = 1_000_000_000;
 
 /// The greatest magnitude of a number of a row.
-const MOST_ENTRY: i128 = 1 << 62;
+const MOST_ENTRY: u128 = 1 << 62;
 
 /// A row of a system of equations, and the column in which it alone has a number.
 #[derive(Drop)]
@@ -180,15 +180,22 @@ fn rows_of<T: Theory>(
     for (tuple, inside) in tuples.iter().zip(inside) {
         if *inside {
             let row = row_of::<T>(alloc, tuple.as_slice())?;
-            if row
-                .iter()
-                .all(|number| number.saturating_abs() <= MOST_NUMBER)
-            {
+            if are_small(row.as_slice()) {
                 rows.push(row)?;
             }
         }
     }
     Ok(rows)
+}
+
+/// Whether no number is too large.
+fn are_small(row: &[i128]) -> bool {
+    for number in row {
+        if number.saturating_abs() > MOST_NUMBER {
+            return false;
+        }
+    }
+    true
 }
 
 /// The numbers of the values, with a 1 behind.
@@ -293,7 +300,7 @@ fn cross(a: i128, b: i128, c: i128, d: i128) -> Option<i128> {
     let first = a.checked_mul(b)?;
     let second = c.checked_mul(d)?;
     let number = first.checked_sub(second)?;
-    if number > MOST_ENTRY || number < -MOST_ENTRY {
+    if number.unsigned_abs() > MOST_ENTRY {
         return None;
     }
     Some(number)
@@ -317,13 +324,23 @@ fn divide_all(numbers: &mut Vec<i128>) {
 fn basis_of(alloc: Global, system: &[Row], columns: usize) -> Result<Vec<Vec<i128>>, Want> {
     let mut basis = Vec::new(alloc);
     for column in 0..columns {
-        if !system.iter().any(|row| row.lead == column) {
+        if !leads(system, column) {
             if let Some(numbers) = solution(alloc, system, columns, column)? {
                 basis.push(numbers)?;
             }
         }
     }
     Ok(basis)
+}
+
+/// Whether the column is a row's own.
+fn leads(system: &[Row], column: usize) -> bool {
+    for row in system {
+        if row.lead == column {
+            return true;
+        }
+    }
+    false
 }
 
 /// The coefficients with a number in the open column and in those of the rows that it needs.

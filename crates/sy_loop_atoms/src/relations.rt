@@ -253,8 +253,10 @@ pub(crate) fn better<T: Theory>(
     let Some(size) = size_of(task, &term)? else {
         return Ok(best);
     };
-    match best {
-        Some(other) if other.size <= size => Ok(Some(other)),
-        _ => Ok(Some(Spelled { term, size })),
+    if let Some(other) = &best {
+        if other.size <= size {
+            return Ok(best);
+        }
     }
+    Ok(Some(Spelled { term, size }))
 }
