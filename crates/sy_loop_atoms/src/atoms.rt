@@ -2,9 +2,9 @@
 ghost use Rattle.sy_grammar_base.specs.Fits.{ProblemFits};
 
 use crate::families::{constants_of, is_free, pool_of};
-use crate::forms::{Kind, Settled, Sum, mixed, settled};
+use crate::forms::{Kind, Settled, Sum, least_form, mixed};
 use crate::linear::{Over, difference};
-use crate::relations::{Order, Relation, Spelled, spelled};
+use crate::relations::{Order, Relation, Spelled, always, best_spelling};
 use crate::sides::{Writing, form_size, form_term};
 use crate::statements::Statements;
 use crate::values::value_at;
@@ -32,6 +32,8 @@ pub(crate) struct Literal<T: Theory> {
     pub form: Option<(Kind, Sum)>,
     pub term: Option<Term<T>>,
     pub traits: Traits,
+    /// The literal that says the contrary, where it was met.
+    pub contrary: Option<usize>,
 }
 
 /// Literals of the one function's arguments, by number: comparisons and other terms of sort Bool. They are a guide to a
@@ -287,7 +289,7 @@ impl<T: Theory> Atoms<T> {
     ) -> Result<Option<usize>, Want>
         requires { ProblemFits T.Theory task.now.problem.now }
     {
-        let Some(Settled::Open(sum)) = settled(kind, sum) else {
+        let Some(Settled::Open(sum)) = least_form(kind, sum) else {
             return Ok(None);
         };
         if let Some(place) = self.place_of_form(kind, &sum) {
@@ -328,6 +330,7 @@ impl<T: Theory> Atoms<T> {
             form: Some((kind, sum)),
             term,
             traits,
+            contrary: None,
         };
         self.push(task, key, literal)
     }
@@ -341,7 +344,7 @@ impl<T: Theory> Atoms<T> {
         spelled: Spelled<T>,
         program: bool,
     ) -> Result<Option<usize>, Want> {
-        let Some(Settled::Open(sum)) = settled(kind, sum) else {
+        let Some(Settled::Open(sum)) = least_form(kind, sum) else {
             return Ok(None);
         };
         let Some(place) = self.place_of_form(kind, &sum) else {
@@ -380,6 +383,7 @@ impl<T: Theory> Atoms<T> {
             form: None,
             term: Some(spelled.term),
             traits,
+            contrary: None,
         };
         self.push(task, key, literal)
     }
@@ -396,9 +400,12 @@ impl<T: Theory> Atoms<T> {
         requires { ProblemFits T.Theory task.now.problem.now }
     {
         let (first, second) = terms;
+        if always(relation, order, first, second).is_some() {
+            return Ok(None);
+        }
         let sum = difference(self.over(task), first, second)?;
         let Some(sum) = sum else {
-            let Some(found) = spelled(task, relation, order, first, second)? else {
+            let Some(found) = best_spelling(task, relation, order, first, second)? else {
                 return Ok(None);
             };
             return self.add_term(task, found, program, relation == Relation::Unequal);
@@ -408,7 +415,7 @@ impl<T: Theory> Atoms<T> {
         if self.free {
             return self.add_form(task, kind, sum, program);
         }
-        match spelled(task, relation, order, first, second)? {
+        match best_spelling(task, relation, order, first, second)? {
             Some(found) => self.add_spelled(task, kind, sum, found, program),
             None => self.add_form(task, kind, sum, program),
         }

@@ -3,7 +3,7 @@ ghost use Rattle.sy_grammar_base.specs.Fits.{ProblemFits};
 
 use crate::atoms::Atoms;
 use crate::program::{names_with, renamed};
-use crate::relations::{Comparison, comparison_of, order_of};
+use crate::relations::{Comparison, always, comparison_of, order_of};
 use crate::sides::negated;
 use crate::statements::Statements;
 use crate::values::sort_of;
@@ -69,8 +69,7 @@ impl<T: Theory> Atoms<T> {
         };
         for clause in formula {
             let fits = clause.len() >= 2 && clause.len() <= 4 && self.clauses.len() < MOST_KEPT;
-            let known = self.clauses.iter().any(|other| *other == clause);
-            if fits && !known {
+            if fits && !self.clauses.contains(&clause) {
                 self.clauses.push(clause)?;
             }
         }
@@ -163,16 +162,14 @@ impl<T: Theory> Atoms<T> {
         requires { ProblemFits T.Theory task.now.problem.now }
     {
         let copy = term.copy(task.alloc)?;
-        let said = if truth {
-            Some(copy)
-        } else {
-            negated(task.alloc, Some(copy))?
+        let plain = self.add_truth(task, copy)?;
+        let copy = term.copy(task.alloc)?;
+        let negation = match negated(task.alloc, Some(copy))? {
+            Some(negation) => self.add_truth(task, negation)?,
+            None => None,
         };
-        let Some(said) = said else {
-            return Ok(None);
-        };
-        let literal = self.add_truth(task, said)?;
-        alone(task.alloc, literal)
+        self.pair_up(plain, negation);
+        alone(task.alloc, if truth { plain } else { negation })
     }
 
     /// The clause of the comparison.
@@ -191,21 +188,24 @@ impl<T: Theory> Atoms<T> {
         let [first, second] = terms.as_slice() else {
             return Ok(None);
         };
-        let literal = self.literal_of_pair(task, comparison, first, second, truth)?;
-        alone(task.alloc, literal)
+        if comparison.turned {
+            self.formula_of_said(task, comparison, (second, first), truth)
+        } else {
+            self.formula_of_said(task, comparison, (first, second), truth)
+        }
     }
 
-    /// The literal that says that the comparison of the terms has this truth.
-    fn literal_of_pair(
+    /// The clause that says that the comparison of the terms, which stand as its relation has them, has this truth.
+    fn formula_of_said(
         &mut self,
         task: &Task<T>,
         comparison: Comparison,
-        first: &Term<T>,
-        second: &Term<T>,
+        terms: (&Term<T>, &Term<T>),
         truth: bool,
-    ) -> Result<Option<usize>, Want>
+    ) -> Result<Option<Formula>, Want>
         requires { ProblemFits T.Theory task.now.problem.now }
     {
+        let (first, second) = terms;
         let Some(sort) = sort_of(task, first)? else {
             return Ok(None);
         };
@@ -216,18 +216,53 @@ impl<T: Theory> Atoms<T> {
             Some(order) => Some(order),
             None => order_of(sort),
         };
-        let (relation, turned) = if truth {
-            (comparison.relation, comparison.turned)
-        } else {
-            let (negation, round) = comparison.relation.negation();
-            (negation, comparison.turned != round)
-        };
-        let terms = if turned {
+        if let Some(known) = always(comparison.relation, order, first, second) {
+            return Ok(Some(constant(task.alloc, known == truth)?));
+        }
+        let plain = self.related(task, comparison.relation, order, terms, true)?;
+        let (contrary, turned) = comparison.relation.negation();
+        let others = if turned {
             (second, first)
         } else {
             (first, second)
         };
-        self.related(task, relation, order, terms, true)
+        let negation = self.related(task, contrary, order, others, true)?;
+        self.pair_up(plain, negation);
+        alone(task.alloc, if truth { plain } else { negation })
+    }
+
+    /// Notes that the two literals say the contrary.
+    fn pair_up(&mut self, first: Option<usize>, second: Option<usize>) {
+        let (Some(first), Some(second)) = (first, second) else {
+            return;
+        };
+        if let Some(literal) = self.literals.get_mut(first) {
+            literal.contrary = Some(second);
+        }
+        if let Some(literal) = self.literals.get_mut(second) {
+            literal.contrary = Some(first);
+        }
+    }
+
+    /// The literal that says the contrary.
+    fn contrary(&self, literal: usize) -> Option<usize> {
+        self.literals.get(literal)?.contrary
+    }
+
+    /// The formula with literals left out of clauses that another clause makes needless: the other has the contrary, and
+    /// nothing else that isn't in the clause.
+    fn shortened(&self, alloc: Global, formula: &[Vec<usize>]) -> Result<Option<Formula>, Want> {
+        for (place, clause) in formula.iter().enumerate() {
+            for literal in clause {
+                let Some(contrary) = self.contrary(*literal) else {
+                    continue;
+                };
+                if has_beside(formula, clause.as_slice(), contrary) {
+                    return Ok(Some(without(alloc, formula, place, *literal)?));
+                }
+            }
+        }
+        Ok(None)
     }
 
     /// Keeps the formulas to begin with: what a call has to imply, of all statements with one call and of each; and what has
@@ -267,18 +302,24 @@ impl<T: Theory> Atoms<T> {
                 parts.push(formula)?;
             }
         }
-        self.keep_goal(whole)?;
+        self.keep_goal(task.alloc, whole)?;
         for part in parts {
-            self.keep_goal(part)?;
+            self.keep_goal(task.alloc, part)?;
         }
         Ok(())
     }
 
     /// Keeps the formula where it says something and there are few.
-    fn keep_goal(&mut self, formula: Formula) -> Result<(), Want> {
-        let known = self.goals.iter().any(|other| *other == formula);
-        let holds = formula.iter().all(|clause| !clause.is_empty());
-        if holds && !known && !formula.is_empty() && formula.len() <= 24 && self.goals.len() < 12 {
+    fn keep_goal(&mut self, alloc: Global, formula: Formula) -> Result<(), Want> {
+        let mut formula = formula;
+        for _ in 0..MOST_CLAUSES {
+            match self.shortened(alloc, formula.as_slice())? {
+                Some(shorter) => formula = shorter,
+                None => break,
+            }
+        }
+        let fits = is_open(formula.as_slice()) && self.goals.len() < MOST_CLAUSES;
+        if fits && !self.goals.contains(&formula) {
             self.goals.push(formula)?;
         }
         Ok(())
@@ -299,6 +340,56 @@ impl<T: Theory> Atoms<T> {
             None => Ok(None),
         }
     }
+}
+
+/// Whether the formula has clauses, not too many, and each a literal.
+fn is_open(formula: &[Vec<usize>]) -> bool {
+    for clause in formula {
+        if clause.is_empty() {
+            return false;
+        }
+    }
+    formula.len() >= 1 && formula.len() <= 24
+}
+
+/// Whether a clause of the formula has the literal, and no other that isn't in this clause.
+fn has_beside(formula: &[Vec<usize>], clause: &[usize], literal: usize) -> bool {
+    for other in formula {
+        if other.contains(&literal) && is_beside(other.as_slice(), clause, literal) {
+            return true;
+        }
+    }
+    false
+}
+
+/// Whether all of the first literals but this one are among the others.
+fn is_beside(first: &[usize], second: &[usize], literal: usize) -> bool {
+    for other in first {
+        if *other != literal && !second.contains(other) {
+            return false;
+        }
+    }
+    true
+}
+
+/// The formula without the literal in the clause at the place.
+fn without(
+    alloc: Global,
+    formula: &[Vec<usize>],
+    place: usize,
+    literal: usize,
+) -> Result<Formula, Want> {
+    let mut clauses = Vec::with_capacity(alloc, formula.len())?;
+    for (number, clause) in formula.iter().enumerate() {
+        let mut shorter = Vec::with_capacity(alloc, clause.len())?;
+        for other in clause {
+            if number != place || *other != literal {
+                shorter.push(*other)?;
+            }
+        }
+        clauses.push(shorter)?;
+    }
+    Ok(clauses)
 }
 
 /// Whether the operator makes truth values of truth values.

@@ -198,7 +198,7 @@ fn add_resolvent(first: &Clause, second: &Clause, all: &mut Vec<Clause>) -> Resu
         points: first.points & !differ,
         inside: first.inside & !differ,
     };
-    if !all.iter().any(|other| *other == clause) {
+    if !all.contains(&clause) {
         all.push(clause)?;
     }
     Ok(())

@@ -3,7 +3,7 @@ use std::alloc::Global;
 use sy_terms::Want;
 
 /// The greatest magnitude of a coefficient or a constant.
-const MOST: i128 = 1 << 62;
+const MOST: u128 = 1 << 62;
 
 /// How a sum compares with 0.
 #[derive(Clone, Copy, PartialEq, Eq)]
@@ -123,13 +123,23 @@ impl Sum {
 
     /// How many coefficients aren't 0.
     pub fn width(&self) -> usize {
-        self.coefficients.iter().filter(|c| **c != 0).count()
+        let mut width = 0usize;
+        for coefficient in &self.coefficients {
+            if *coefficient != 0 {
+                width = width.saturating_add(1);
+            }
+        }
+        width
     }
 
     /// Whether all of its numbers are small enough.
     fn is_small(&self) -> bool {
-        let small = |number: &i128| *number < MOST && *number > -MOST;
-        small(&self.constant) && self.coefficients.iter().all(small)
+        for coefficient in &self.coefficients {
+            if coefficient.unsigned_abs() >= MOST {
+                return false;
+            }
+        }
+        self.constant.unsigned_abs() < MOST
     }
 
     /// The greatest common divisor of the coefficients; 0 where all are 0.
@@ -182,7 +192,7 @@ pub(crate) fn common(a: u128, b: u128) -> u128 {
 
 /// The comparison with the least numbers that says the same over integers; equalities begin with a coefficient above 0.
 /// `None` where its numbers are too large.
-pub(crate) fn settled(kind: Kind, sum: Sum) -> Option<Settled> {
+pub(crate) fn least_form(kind: Kind, sum: Sum) -> Option<Settled> {
     if !sum.is_small() {
         return None;
     }

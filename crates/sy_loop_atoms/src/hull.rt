@@ -12,7 +12,7 @@ use sy_terms::{Sort, Theory, Value, Values, Want};
 const MOST_NUMBER: i128 = 1_000_000_000;
 
 /// The greatest magnitude of a number of a row.
-const MOST_ENTRY: i128 = 1 << 62;
+const MOST_ENTRY: u128 = 1 << 62;
 
 /// A row of a system of equations, and the column in which it alone has a number.
 #[derive(Drop)]
@@ -22,8 +22,8 @@ struct Row {
 }
 
 impl<T: Theory> Atoms<T> {
-    /// Adds equalities of sums of integer arguments that hold at all tuples inside, the shortest first and at most so many,
-    /// and their bounds.
+    /// Adds equalities of sums of arguments that hold at all tuples inside, the shortest first and at most so many; of integers
+    /// their bounds too.
     pub fn add_hull(
         &mut self,
         task: &Task<T>,
@@ -33,6 +33,23 @@ impl<T: Theory> Atoms<T> {
     ) -> Result<(), Want>
         requires { ProblemFits T.Theory task.now.problem.now }
     {
+        self.add_linear(task, tuples, inside, most)?;
+        self.add_modular(task, tuples, inside, most)
+    }
+
+    /// The same of integers alone.
+    fn add_linear(
+        &mut self,
+        task: &Task<T>,
+        tuples: &[Values<T>],
+        inside: &[bool],
+        most: usize,
+    ) -> Result<(), Want>
+        requires { ProblemFits T.Theory task.now.problem.now }
+    {
+        if !self.sorts.contains(&Sort::Int) {
+            return Ok(());
+        }
         let rows = rows_of::<T>(task.alloc, tuples, inside)?;
         let columns = self.sorts.len().saturating_add(1);
         if rows.len() < 2 {
@@ -120,7 +137,7 @@ impl<T: Theory> Atoms<T> {
     }
 
     /// Notes that the literal holds at all points inside.
-    fn mark_hull(&mut self, place: usize) {
+    pub(crate) fn mark_hull(&mut self, place: usize) {
         if let Some(literal) = self.literals.get_mut(place) {
             literal.traits.hull = true;
         }
@@ -163,15 +180,22 @@ fn rows_of<T: Theory>(
     for (tuple, inside) in tuples.iter().zip(inside) {
         if *inside {
             let row = row_of::<T>(alloc, tuple.as_slice())?;
-            if row
-                .iter()
-                .all(|number| number.saturating_abs() <= MOST_NUMBER)
-            {
+            if are_small(row.as_slice()) {
                 rows.push(row)?;
             }
         }
     }
     Ok(rows)
+}
+
+/// Whether no number is too large.
+fn are_small(row: &[i128]) -> bool {
+    for number in row {
+        if number.saturating_abs() > MOST_NUMBER {
+            return false;
+        }
+    }
+    true
 }
 
 /// The numbers of the values, with a 1 behind.
@@ -276,7 +300,7 @@ fn cross(a: i128, b: i128, c: i128, d: i128) -> Option<i128> {
     let first = a.checked_mul(b)?;
     let second = c.checked_mul(d)?;
     let number = first.checked_sub(second)?;
-    if number > MOST_ENTRY || number < -MOST_ENTRY {
+    if number.unsigned_abs() > MOST_ENTRY {
         return None;
     }
     Some(number)
@@ -300,13 +324,23 @@ fn divide_all(numbers: &mut Vec<i128>) {
 fn basis_of(alloc: Global, system: &[Row], columns: usize) -> Result<Vec<Vec<i128>>, Want> {
     let mut basis = Vec::new(alloc);
     for column in 0..columns {
-        if !system.iter().any(|row| row.lead == column) {
+        if !leads(system, column) {
             if let Some(numbers) = solution(alloc, system, columns, column)? {
                 basis.push(numbers)?;
             }
         }
     }
     Ok(basis)
+}
+
+/// Whether the column is a row's own.
+fn leads(system: &[Row], column: usize) -> bool {
+    for row in system {
+        if row.lead == column {
+            return true;
+        }
+    }
+    false
 }
 
 /// The coefficients with a number in the open column and in those of the rows that it needs.

@@ -10,6 +10,7 @@ mod forms;
 mod hull;
 mod kept;
 mod linear;
+mod modular;
 mod opening;
 mod program;
 mod relations;

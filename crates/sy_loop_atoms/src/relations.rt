@@ -3,6 +3,7 @@ ghost use Rattle.sy_grammar_base.specs.Fits.{ProblemFits};
 
 use crate::sides::{negated, pair};
 use crate::values::size_of;
+use sy_grammar_sizes::number_of;
 use sy_loop_bodies::Task;
 use sy_terms::{Op, Sort, Term, Theory, Want};
 
@@ -121,8 +122,56 @@ pub(crate) fn comparison_of(operator: &Op) -> Option<Comparison> {
     })
 }
 
+/// What the relation of the two terms always is, where it is seen at once; `None` where it isn't.
+pub(crate) fn always<T: Theory>(
+    relation: Relation,
+    order: Option<Order>,
+    first: &Term<T>,
+    second: &Term<T>,
+) -> Option<bool> {
+    let is_reflexive = relation == Relation::AtMost || relation == Relation::Equal;
+    if first.equals(second) {
+        return Some(is_reflexive);
+    }
+    if order?.is_signed() {
+        return None;
+    }
+    match relation {
+        Relation::AtMost if is_least(first) || is_greatest(second) => Some(true),
+        Relation::Less if is_least(second) || is_greatest(first) => Some(false),
+        _ => None,
+    }
+}
+
+/// Whether the term is the vector 0.
+fn is_least<T: Theory>(term: &Term<T>) -> bool {
+    match vector_of(term) {
+        Some((_, number)) => number == 0,
+        None => false,
+    }
+}
+
+/// Whether the term is the greatest vector of its width.
+fn is_greatest<T: Theory>(term: &Term<T>) -> bool {
+    match vector_of(term) {
+        Some((width, number)) => number.saturating_add(1) == 1 << width.min(64),
+        None => false,
+    }
+}
+
+/// The width and the number of the vector that the term is.
+fn vector_of<T: Theory>(term: &Term<T>) -> Option<(u8, i128)> {
+    let Term::Const(value) = term else {
+        return None;
+    };
+    match T::value_sort(value) {
+        Sort::Bits(width) => Some((width, number_of::<T>(value))),
+        Sort::Bool | Sort::Int => None,
+    }
+}
+
 /// The least way to say this of the two terms that the grammar has; `None` where it has none.
-pub(crate) fn spelled<T: Theory>(
+pub(crate) fn best_spelling<T: Theory>(
     task: &Task<T>,
     relation: Relation,
     order: Option<Order>,
@@ -204,8 +253,10 @@ pub(crate) fn better<T: Theory>(
     let Some(size) = size_of(task, &term)? else {
         return Ok(best);
     };
-    match best {
-        Some(other) if other.size <= size => Ok(Some(other)),
-        _ => Ok(Some(Spelled { term, size })),
+    if let Some(other) = &best {
+        if other.size <= size {
+            return Ok(best);
+        }
     }
+    Ok(Some(Spelled { term, size }))
 }

@@ -54,8 +54,12 @@ fn multiple_size(writing: Writing, factor: i128) -> u32 {
 
 /// The constant that stands on the left, and the one on the right; 0 stands for none.
 fn constants_of(sum: &Sum) -> (i128, i128) {
-    let has_left = sum.coefficients.iter().any(|c| *c > 0);
-    let has_right = sum.coefficients.iter().any(|c| *c < 0);
+    let mut has_left = false;
+    let mut has_right = false;
+    for coefficient in &sum.coefficients {
+        has_left = has_left || *coefficient > 0;
+        has_right = has_right || *coefficient < 0;
+    }
     let constant = sum.constant;
     if (constant > 0 && has_right) || (constant < 0 && !has_left) {
         (constant, 0)

@@ -15,5 +15,5 @@ derive-requires g c =
     let grammars = problem_grammars g.T.Theory.owned g.T.Theory.numeric g.T.Theory.denotes problem c.requires in
     let within = slice_get_within problem.wanted 0 wanted c.in-Some.ensures in
     let fits = subst (GrammarFits g.T.Theory.owned g.T.Theory.numeric g.T.Theory.denotes problem) (get_or_from_slice_get problem.wanted 0 wanted wanted c.in-Some.ensures)
-        (All-get_or (GrammarFits g.T.Theory.owned g.T.Theory.numeric g.T.Theory.denotes problem) problem.wanted 0 wanted within grammars) in
+    (All-get_or (GrammarFits g.T.Theory.owned g.T.Theory.numeric g.T.Theory.denotes problem) problem.wanted 0 wanted within grammars) in
     record { numbered = numbered g.T.Theory.numeric (scope_of g.T.Theory.owned problem.defs) (syntax_from g.T.Theory.denotes wanted.grammar) fits.formed }
