@@ -10,8 +10,11 @@ use sy_loop_bodies::{Aside, Task, is_small, try_term};
 use sy_query_base::Decide;
 use sy_terms::{Bodies, Term, Theory, Values, Want};
 
+/// How often the literals of a formula that wasn't decided are made dearer, so that another one comes.
+const SHIFTS: u32 = 4;
+
 /// Tries the formula as the one body. Where it is refuted, what constraints say at the assignment is told; where it isn't
-/// decided, or the grammar hasn't it, another one is wanted, and `failed` counts one more.
+/// decided, or the grammar hasn't it, another one is wanted.
 pub(crate) fn try_formula<T: Theory, D: Decide<T>>(
     task: &Task<T>,
     decide: &mut D,
@@ -28,12 +31,51 @@ pub(crate) fn try_formula<T: Theory, D: Decide<T>>(
 {
     let known = assignments.len();
     if let Some(term) = written(task, learning, formula)? {
-        if let Some(found) = try_term(task, decide, term, assignments, aside)? {
+        if let Some(found) = try_new(task, decide, learning, term, assignments, aside)? {
             return Ok(Some(found));
         }
     }
     hear(task, learning, formula, known, assignments.as_slice())?;
     Ok(None)
+}
+
+/// Tries the term as the one body, where it isn't one of those that weren't decided.
+fn try_new<T: Theory, D: Decide<T>>(
+    task: &Task<T>,
+    decide: &mut D,
+    learning: &mut Learning<T>,
+    term: Term<T>,
+    assignments: &mut Vec<Values<T>>,
+    aside: &mut Aside<T>,
+) -> Result<Option<(Bodies<T>, D::Proof)>, Want>
+    requires problem { ProblemFits T.Theory task.now.problem.now }
+    requires one { length task.now.problem.now.wanted ≡ 1 }
+    requires assigned { AreAssignedFor T.Theory task.now.problem.now assignments.old.items }
+    ensures assigned { OnOk result (AreAssignedFor T.Theory task.now.problem.now assignments.new.items) }
+    ensures found { IfOk result (IsFoundFor T.Theory D.Decide task.now.problem.now task.now.bound) }
+{
+    if has_term(learning.undecided.as_slice(), &term) {
+        return Ok(None);
+    }
+    let known = assignments.len();
+    let copy = term.copy(task.alloc)?;
+    if let Some(found) = try_term(task, decide, term, assignments, aside)? {
+        return Ok(Some(found));
+    }
+    if assignments.len() == known {
+        learning.undecided.push(copy)?;
+    }
+    Ok(None)
+}
+
+/// Whether the term is one of these.
+fn has_term<T: Theory>(terms: &[Term<T>], term: &Term<T>) -> bool {
+    for other in terms {
+        if other.equals(term) {
+            return true;
+        }
+    }
+    false
 }
 
 /// Takes what came of a formula that wasn't found to solve the problem, where so many assignments were known before.
@@ -51,7 +93,9 @@ fn hear<T: Theory>(
         learning.learner.refuted(formula, asked.as_slice());
         return Ok(());
     }
-    learning.learner.set_aside(formula);
+    for _ in 0..SHIFTS {
+        learning.learner.set_aside(formula);
+    }
     learning.failed = learning.failed.saturating_add(1);
     Ok(())
 }

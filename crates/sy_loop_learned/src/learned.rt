@@ -13,9 +13,6 @@ use sy_terms::{Bodies, Sort, Theory, Values, Want};
 /// After so many formulas that failed what they changed is forgotten.
 const ATTEMPT: u32 = 150;
 
-/// How many formulas may fail without a counterexample.
-const MOST_FAILED: u32 = 16;
-
 /// How many of the problem's own formulas are tried.
 const MOST_GOALS: usize = 8;
 
@@ -77,8 +74,13 @@ fn solve_given<T: Theory, D: Decide<T>>(
             return Ok(None);
         };
         let formula = formula.as_slice();
-        if let Some(found) = try_formula(task, decide, learning, formula, assignments, aside)? {
-            return Ok(Some(found));
+        if learning.is_spent(task) {
+            return Ok(None);
+        }
+        if !learning.is_wrong(task, formula)? {
+            if let Some(found) = try_formula(task, decide, learning, formula, assignments, aside)? {
+                return Ok(Some(found));
+            }
         }
     }
     Ok(None)
@@ -100,7 +102,7 @@ fn solve_learning<T: Theory, D: Decide<T>>(
     ensures found { IfOk result (IsFoundFor T.Theory D.Decide task.now.problem.now task.now.bound) }
 {
     for round in 0..task.effort.refuted {
-        if learning.is_over || learning.failed >= MOST_FAILED {
+        if learning.is_spent(task) {
             return Ok(None);
         }
         if round % ATTEMPT == ATTEMPT - 1 {

@@ -7,13 +7,16 @@ use sy_bank_level::Bank;
 use sy_loop_atoms::{Atoms, Statements};
 use sy_loop_bodies::{Task, is_small};
 use sy_loop_learn::{Class, Learner, Traits};
-use sy_terms::{Theory, Values, Want};
+use sy_terms::{Term, Theory, Values, Want};
 
 /// How many nodes of statements are evaluated in telling of assignments at most.
 const MOST_WORK: u64 = 20_000_000;
 
 /// How many equalities are taken of the points inside.
 const MOST_EQUALITIES: usize = 8;
+
+/// How many formulas may fail without a counterexample, apart from those that aren't decided.
+const MOST_FAILED: u32 = 16;
 
 /// How many points a learner has room for.
 pub(crate) const MOST_POINTS: usize = 1_024;
@@ -32,7 +35,8 @@ pub(crate) struct Learning<T: Theory> {
     pub(crate) is_over: bool,
     /// How many points were inside when equalities were looked for.
     pub(crate) inside: usize,
-    /// How many formulas failed without a counterexample.
+    /// Formulas that weren't decided, and how many others failed without a counterexample.
+    pub(crate) undecided: Vec<Term<T>>,
     pub(crate) failed: u32,
     /// How the grammar writes formulas.
     pub(crate) way: Way,
@@ -57,6 +61,7 @@ impl<T: Theory> Learning<T> {
             work: MOST_WORK,
             is_over: false,
             inside: 0,
+            undecided: Vec::new(task.alloc),
             failed: 0,
             way: Way {
                 conjunction: Word::Plain,
@@ -184,6 +189,27 @@ impl<T: Theory> Learning<T> {
         Ok(None)
     }
 
+    /// Whether no more formulas are to be tried.
+    pub(crate) fn is_spent(&self, task: &Task<T>) -> bool {
+        let undecided = self.undecided.len() >= task.effort.undecided as usize;
+        self.is_over || undecided || self.failed >= MOST_FAILED
+    }
+
+    /// Whether the formula is another truth than a point's label.
+    pub(crate) fn is_wrong(&self, task: &Task<T>, formula: &[Vec<usize>]) -> Result<bool, Want>
+        requires { ProblemFits T.Theory task.now.problem.now }
+    {
+        for (point, tuple) in self.tuples.iter().enumerate() {
+            if let Some(label) = self.learner.label(point) {
+                let truths = self.atoms.truths(task, tuple.as_slice(), 0)?;
+                if holds(truths.as_slice(), formula) != label {
+                    return Ok(true);
+                }
+            }
+        }
+        Ok(false)
+    }
+
     /// The problem's own formula of this place.
     pub(crate) fn given_formula(
         &self,
@@ -220,6 +246,26 @@ impl<T: Theory> Learning<T> {
         }
         self.take_literals(task)
     }
+}
+
+/// Whether each clause has a literal that is true.
+fn holds(truths: &[bool], formula: &[Vec<usize>]) -> bool {
+    for clause in formula {
+        if !is_some(truths, clause.as_slice()) {
+            return false;
+        }
+    }
+    true
+}
+
+/// Whether one of the literals is true.
+fn is_some(truths: &[bool], clause: &[usize]) -> bool {
+    for literal in clause {
+        if truths.get(*literal) == Some(&true) {
+            return true;
+        }
+    }
+    false
 }
 
 /// The truths of a literal at all points.

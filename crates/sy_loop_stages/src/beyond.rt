@@ -111,6 +111,7 @@ fn found_learned<T: Theory, D: Decide<T>>(
     let limits = limits_of_formula(stage);
     let effort = Effort {
         refuted: stage.learning.queries,
+        undecided: stage.learning.undecided,
         ..task.effort
     };
     let task = Task {

@@ -41,6 +41,7 @@ pub(crate) const WHOLE: Effort = Effort {
 #[derive(Clone, Copy)]
 pub(crate) struct Learning {
     pub(crate) queries: u32,
+    pub(crate) undecided: u32,
     pub(crate) clauses: u32,
     pub(crate) nodes: u32,
 }
@@ -70,7 +71,8 @@ pub(crate) fn early_stage(limits: &Limits) -> Stage
         },
         learning: Learning {
             queries: 256,
-            clauses: limits.clauses.min(2_000),
+            undecided: 2,
+            clauses: limits.clauses.min(16_000),
             nodes: limits.nodes.min(2_000),
         },
     }
@@ -87,7 +89,8 @@ pub(crate) fn whole_stage(limits: &Limits) -> Stage
         effort: WHOLE,
         learning: Learning {
             queries: 64,
-            clauses: limits.clauses.min(10_000),
+            undecided: 2,
+            clauses: limits.clauses.min(64_000),
             nodes: limits.nodes.min(4_000),
         },
     }
@@ -112,6 +115,7 @@ pub(crate) fn wide_stage(limits: &Limits, bank: u32) -> Stage
         },
         learning: Learning {
             queries: 0,
+            undecided: 0,
             clauses: 1,
             nodes: 1,
         },
