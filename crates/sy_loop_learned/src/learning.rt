@@ -12,7 +12,7 @@ use sy_terms::{Term, Theory, Values, Want};
 /// How many nodes of statements are evaluated in telling of assignments at most.
 const MOST_WORK: u64 = 20_000_000;
 
-/// How many equalities are taken of the points inside.
+/// How many equalities are taken of the points inside; half of it, where there are no more points than that.
 const MOST_EQUALITIES: usize = 8;
 
 /// How many formulas may fail without a counterexample, apart from those that aren't decided.
@@ -144,12 +144,13 @@ impl<T: Theory> Learning<T> {
             return Ok(());
         }
         self.inside = count;
-        self.atoms.add_hull(
-            task,
-            self.tuples.as_slice(),
-            insides.as_slice(),
-            MOST_EQUALITIES,
-        )?;
+        let most = if count < MOST_EQUALITIES {
+            MOST_EQUALITIES / 2
+        } else {
+            MOST_EQUALITIES
+        };
+        self.atoms
+            .add_hull(task, self.tuples.as_slice(), insides.as_slice(), most)?;
         self.take_literals(task)
     }
 

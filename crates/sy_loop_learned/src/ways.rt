@@ -56,7 +56,10 @@ fn joined_right<T: Theory>(
     let Some(mut whole) = left.pop() else {
         return Ok(Term::Const(Value::Truth(is_and)));
     };
-    while let Some(term) = left.pop() {
+    for _ in 0..left.len() {
+        let Some(term) = left.pop() else {
+            break;
+        };
         whole = pair(alloc, word, is_and, term, whole)?;
     }
     Ok(whole)
