@@ -12,6 +12,9 @@ use sy_terms::{Bodies, Theory, Values, Want};
 /// How many assignments that look random are added.
 const MIXED: u64 = 4;
 
+/// At how many tuples that constraints want terms are told apart at most.
+const MOST_TUPLES: usize = 64;
+
 /// The first body that is found to solve the problem over banks at the tuples of all assignments so far and of some that look
 /// random: a full bank keeps terms that differ at the tuples that counterexamples asked, which are often alike. `None` where
 /// none was found to.
@@ -69,7 +72,7 @@ fn wished_bank<T: Theory>(
     requires assigned { AreAssignedFor T.Theory task.now.problem.now assignments.now }
     ensures { IfOk result (λ found. IfSome found (IsBankFor T.Theory task.now.problem.now)) }
 {
-    let tuples = wished_tuples(task, assignments)?;
+    let tuples = wished_tuples(task, assignments, MOST_TUPLES)?;
     if tuples.is_empty() {
         return Ok(None);
     }

@@ -1,5 +1,5 @@
 -- Which formulas meet conditions on the labels of points.
-use Rattle.std.specs.Prelude.{ℕ, ◌/◌, ◌%◌, ◌^◌, ◌==◌, List, Bool, true, false, ◌≡◌, ◌<◌, All, Option, Some, None, slice_get}
+use Rattle.std.specs.Prelude.{ℕ, ◌/◌, ◌%◌, ◌^◌, ◌==◌, List, Bool, false, ◌<◌, All, Option, Some, None, slice_get}
 use Rattle.std.specs.List.{list_all, list_any}
 use Rattle.std.specs.Global.{Vec}
 use mathlib.Core.Bool.{beq}
@@ -34,9 +34,9 @@ abbrev pub meets : List Literal → List (Vec ℕ) → List Label → Bool
 meets literals formula condition =
     list_any (λ label. beq (formula_holds literals formula label.point) label.inside) condition
 
--- one label of each condition is the formula's
-abbrev pub MeetsAll : List Literal → List (Vec Label) → List (Vec ℕ) → Type 0
-MeetsAll literals conditions formula = list_all (λ condition. meets literals formula condition.items) conditions ≡ true
+-- whether one label of each condition is the formula's
+abbrev pub meets_all : List Literal → List (Vec Label) → List (Vec ℕ) → Bool
+meets_all literals conditions formula = list_all (λ condition. meets literals formula condition.items) conditions
 
 -- the formula has literals of these numbers alone
 abbrev pub IsBelow : ℕ → List (Vec ℕ) → Type 0

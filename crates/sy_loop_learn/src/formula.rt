@@ -7,14 +7,8 @@ use crate::clause::{Clause, clause_cost, joined};
 use crate::labels::Label;
 use crate::literal::Literal;
 use crate::row::Row;
+use crate::score::Priced;
 use sy_seq::Want;
-
-/// A clause's place, by which clauses are ordered: the dearest first.
-#[derive(Clone, Copy, PartialEq, Eq, PartialOrd, Ord)]
-struct Rank {
-    cheapness: u32,
-    place: usize,
-}
 
 /// Sets a mark.
 fn set(marks: &mut Vec<bool>, place: usize, value: bool) {
@@ -64,7 +58,7 @@ pub(crate) fn meets_all(
     formula: &[Vec<usize>],
     conditions: &[Vec<Label>],
 ) -> bool
-    ensures { IsTrue result → spec.MeetsAll literals.now conditions.now formula.now }
+    ensures { result ≡ spec.meets_all literals.now conditions.now formula.now }
 {
     conditions
         .iter()
@@ -88,17 +82,16 @@ pub(crate) fn is_below(formula: &[Vec<usize>], bound: usize) -> bool
 }
 
 impl Learner {
-    /// The places of the clauses, the dearest first.
-    fn ranks(&self, clauses: &[Clause]) -> Result<Vec<Rank>, Want> {
-        let mut ranks = Vec::new(self.alloc);
-        for (place, clause) in clauses.iter().enumerate() {
+    /// The places of the clauses by ascending cost.
+    fn places_by_cost(&self, clauses: &[Clause]) -> Result<Vec<Priced>, Want> {
+        let mut places = Vec::new(self.alloc);
+        for (number, clause) in clauses.iter().enumerate() {
             let numbers = clause.literals.as_slice();
             let cost = clause_cost(self.literals.as_slice(), numbers, self.shrinking);
-            let cheapness = u32::MAX.saturating_sub(cost);
-            ranks.push(Rank { cheapness, place })?;
+            places.push(Priced { cost, number })?;
         }
-        ranks.sort()?;
-        Ok(ranks)
+        places.sort()?;
+        Ok(places)
     }
 
     /// Whether the marked ones of these clauses do.
@@ -115,10 +108,11 @@ impl Learner {
     /// Marks at clauses that do without the others; the dearest are left out first.
     fn needed(&self, clauses: &[Clause]) -> Result<Vec<bool>, Want> {
         let mut marks = Vec::from_elem(self.alloc, true, clauses.len())?;
-        for rank in &self.ranks(clauses)? {
-            set(&mut marks, rank.place, false);
+        let places = self.places_by_cost(clauses)?;
+        for place in places.iter().rev() {
+            set(&mut marks, place.number, false);
             if !self.suffices(clauses, marks.as_slice()) {
-                set(&mut marks, rank.place, true);
+                set(&mut marks, place.number, true);
             }
         }
         Ok(marks)

@@ -1,6 +1,6 @@
 // What is learned from, and formulas.
-ghost use Rattle.std.specs.Prelude.{◌≡◌, IfOk, IfSome, length};
-ghost use Rattle.sy_loop_learn.specs.Formulas.{IsBelow, MeetsAll};
+ghost use Rattle.std.specs.Prelude.{◌≡◌, IfOk, IfSome, length, true};
+ghost use Rattle.sy_loop_learn.specs.Formulas as spec;
 
 use crate::class::Class;
 use crate::clause::{Clause, clause_of, has_clause, in_order, refresh};
@@ -8,6 +8,7 @@ use crate::formula::{is_below, meets_all};
 use crate::labels::{Label, Labels};
 use crate::literal::{Literal, Traits};
 use crate::row::{POINTS, Row};
+use crate::score::Priced;
 use std::alloc::Global;
 use sy_seq::Want;
 
@@ -21,13 +22,6 @@ const CHEAPEST: usize = 400;
 const NARROW: usize = 80;
 /// What a formula that fails adds to the cost of a literal.
 const BUMP: u32 = 7;
-
-/// A literal's place among the cheapest.
-#[derive(Clone, Copy, PartialEq, Eq, PartialOrd, Ord)]
-struct Price {
-    cost: u32,
-    number: usize,
-}
 
 /// Points with conditions on their labels, and literals by whose truth at these points formulas are learned.
 #[derive(Drop)]
@@ -191,7 +185,7 @@ impl Learner {
         for (number, literal) in self.literals.iter().enumerate() {
             if literal.known {
                 let cost = literal.cost(self.shrinking);
-                prices.push(Price { cost, number })?;
+                prices.push(Priced { cost, number })?;
             }
         }
         prices.sort()?;
@@ -211,9 +205,10 @@ impl Learner {
 
     /// Clauses of literals whose conjunction meets all conditions; `None` where the class has none.
     pub fn next_formula(&mut self) -> Result<Option<Vec<Vec<usize>>>, Want>
-        ensures below { IfOk result (λ found. IfSome found (λ formula. IsBelow (length self.new.literals.items) formula.items)) }
+        ensures below { IfOk result (λ found. IfSome found (λ formula.
+            spec.IsBelow (length self.new.literals.items) formula.items)) }
         ensures met { IfOk result (λ found. IfSome found (λ formula.
-            MeetsAll self.new.literals.items self.new.labels.conditions.items formula.items)) }
+            spec.meets_all self.new.literals.items self.new.labels.conditions.items formula.items ≡ true)) }
     {
         let is_over = self.class == Class::Narrow && self.answered >= NARROW;
         if is_over || self.contradicts() {
@@ -238,6 +233,17 @@ impl Learner {
         Ok(Some(formula))
     }
 
+    /// The class after this one, if there is one.
+    fn next_class(&self) -> Option<Class> {
+        match self.class {
+            Class::Narrow => Some(Class::Pairs),
+            Class::Singles if self.joins => Some(Class::Pairs),
+            Class::Pairs if !self.shrinking => Some(Class::Bounds),
+            Class::Bounds if self.joins => Some(Class::Triples),
+            _ => None,
+        }
+    }
+
     /// Goes on to the next class; `false` where there is none. In shrinking two classes come, each at first by cost for
     /// the square root of the number of excluded points, and then by cost for each.
     pub fn widen(&mut self) -> bool {
@@ -245,23 +251,11 @@ impl Learner {
             self.steep = true;
             return true;
         }
-        let next = match self.class {
-            Class::Narrow => Class::Pairs,
-            Class::Singles => Class::Pairs,
-            Class::Pairs => Class::Bounds,
-            Class::Bounds => Class::Triples,
-            Class::Triples => return false,
-        };
-        let is_last = if self.shrinking {
-            next == Class::Bounds
-        } else {
-            next == Class::Triples
-        };
-        if is_last && (self.shrinking || !self.joins) {
+        let Some(class) = self.next_class() else {
             return false;
-        }
+        };
+        self.class = class;
         self.steep = false;
-        self.class = next;
         true
     }
 

@@ -1,4 +1,11 @@
-// How good a clause is.
+// How good a clause is, and the order by cost.
+
+/// A number of something that costs so much.
+#[derive(Clone, Copy, PartialEq, Eq, PartialOrd, Ord)]
+pub(crate) struct Priced {
+    pub(crate) cost: u32,
+    pub(crate) number: usize,
+}
 
 /// What a clause costs, and how many points it excludes that have to be out.
 #[derive(Clone, Copy)]

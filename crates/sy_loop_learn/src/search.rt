@@ -9,6 +9,12 @@ use sy_seq::Want;
 
 /// How many of the cheapest literals are taken for clauses of three.
 const TRIPLES: usize = 80;
+/// What a clause of the problem is cheaper by.
+const GIVEN_BONUS: u32 = 30;
+/// What a clause of an earlier formula is cheaper by.
+const KEPT_BONUS: u32 = 10;
+/// The least that a second literal costs.
+const LEAST: u32 = 20;
 /// How many clauses are kept.
 const KEPT: usize = 2_000;
 
@@ -135,14 +141,14 @@ impl Learner {
     fn best_kept(&self, target: &Target, before: Option<Found>) -> Option<Found> {
         let mut best = before;
         for (number, clause) in self.given.iter().enumerate() {
-            if let Some(score) = self.serving(target, clause, 30) {
+            if let Some(score) = self.serving(target, clause, GIVEN_BONUS) {
                 let source = Source::Given(number);
                 best = self.better(best, Found { source, score });
             }
         }
         if self.class.has_pairs() {
             for (number, clause) in self.kept.iter().enumerate() {
-                if let Some(score) = self.serving(target, clause, 10) {
+                if let Some(score) = self.serving(target, clause, KEPT_BONUS) {
                     let source = Source::Kept(number);
                     best = self.better(best, Found { source, score });
                 }
@@ -172,7 +178,9 @@ impl Learner {
         others: &[usize],
         before: Option<Found>,
     ) -> Option<Found> {
-        let a = self.literals.get(first)?;
+        let Some(a) = self.literals.get(first) else {
+            return before;
+        };
         let mut rest = target.inside;
         rest.remove(&a.row);
         let mut best = before;
@@ -198,7 +206,7 @@ impl Learner {
         };
         let cost = literal.cost(self.shrinking).saturating_add(JOIN);
         let least = Score {
-            cost: cost.saturating_add(20),
+            cost: cost.saturating_add(LEAST),
             excluded: target.need.count_beyond(&Row::empty()),
         };
         !least.is_better(&best.score, self.steep)
