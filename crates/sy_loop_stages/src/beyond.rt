@@ -6,6 +6,7 @@ ghost use Rattle.sy_loop_bounds.specs.declared.reach.Reach.TheVariants.{Joins};
 ghost use Rattle.sy_loop_outcome.specs.Right.{IsRightFor};
 ghost use Rattle.sy_loop_stages.specs.Searched.{CauseHoldsFor, SolvesInFor};
 
+use crate::own::{try_aside, try_own};
 use crate::stage::{MOST_SIZE, Stage, limits_of_formula, limits_of_one_body};
 use std::alloc::Global;
 use sy_bank::Bank;
@@ -44,6 +45,9 @@ pub(crate) fn found_beyond<T: Theory, D: Decide<T>>(
         bound: stage.limits.size.max(MOST_SIZE),
         effort: stage.effort,
     };
+    if let Some(again) = try_aside(&task, stage, decide, cause, aside)? {
+        return Ok(Some(again));
+    }
     let found = found_after_cause(&task, stage, decide, cause, aside)?;
     Ok(found)
 }
@@ -63,6 +67,9 @@ fn found_after_cause<T: Theory, D: Decide<T>>(
     ensures { IfOk result (IsFoundFor T.Theory D.Decide task.now.problem.now task.now.bound) }
 {
     let mut assignments = assigned_before::<T, D>(task, &stage.limits, cause)?;
+    if let Some(own) = try_own(task, decide, cause, &mut assignments, aside)? {
+        return Ok(Some(own));
+    }
     let bank = bank_of::<T, D>(cause);
     if let Some(found) = found_learned(task, stage, decide, bank, &mut assignments, aside)? {
         return Ok(Some(found));

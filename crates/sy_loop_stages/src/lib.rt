@@ -2,6 +2,8 @@
 #![tactic(auto)]
 
 mod beyond;
+mod causes;
+mod own;
 mod search;
 mod stage;
 mod stages;

@@ -30,7 +30,6 @@ pub(crate) fn run_stage<T: Theory, D: Decide<T>>(
     ensures right { IfOk result (IsRightFor T.Theory D.Decide Joins problem.now stage.now.limits) }
     ensures found { IfOk result (FindsInFor T.Theory D.Decide problem.now stage.now.limits) }
 {
-    aside.begin();
     let outcome = synthesise(alloc, problem, &stage.limits, decide)?;
     let found = match found_beyond(alloc, problem, stage, decide, &outcome, aside) {
         Ok(found) => found,

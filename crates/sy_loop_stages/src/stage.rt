@@ -22,7 +22,7 @@ pub(crate) const MOST_SIZE: u32 = 1_024;
 
 /// How many clauses the solver may learn of the query of one body beyond the whole search: what is hard to decide is
 /// set aside.
-const MOST_CLAUSES: u32 = 10_000;
+const MOST_CLAUSES: u32 = 8_000;
 
 /// How many inner nodes its tree may have there.
 const MOST_NODES: u32 = 500;
@@ -54,6 +54,8 @@ pub(crate) struct Stage {
     pub(crate) nodes: u32,
     pub(crate) effort: Effort,
     pub(crate) learning: Learning,
+    /// Whether bodies that were set aside before are tried once more beyond it.
+    pub(crate) again: bool,
 }
 
 /// The search with few kept terms.
@@ -75,6 +77,7 @@ pub(crate) fn early_stage(limits: &Limits) -> Stage
             clauses: limits.clauses.min(16_000),
             nodes: limits.nodes.min(2_000),
         },
+        again: false,
     }
 }
 
@@ -93,6 +96,7 @@ pub(crate) fn whole_stage(limits: &Limits) -> Stage
             clauses: limits.clauses.min(64_000),
             nodes: limits.nodes.min(4_000),
         },
+        again: true,
     }
 }
 
@@ -104,6 +108,8 @@ pub(crate) fn wide_stage(limits: &Limits, bank: u32) -> Stage
     Stage {
         limits: Limits {
             size: limits.size.max(WIDE_SIZE),
+            clauses: eighth(limits.clauses, FEW_CLAUSES),
+            nodes: eighth(limits.nodes, FEW_NODES),
             ..lowered
         },
         clauses: eighth(limits.clauses, 1_000),
@@ -119,6 +125,7 @@ pub(crate) fn wide_stage(limits: &Limits, bank: u32) -> Stage
             clauses: 1,
             nodes: 1,
         },
+        again: false,
     }
 }
 
@@ -154,14 +161,21 @@ pub(crate) fn limits_of_one_body(stage: &Stage, is_closed: bool) -> Limits {
     }
 }
 
-/// The limits for the query of each of so many bodies that were set aside: a quarter of the limits for all of them.
-pub(crate) fn shared_limits(limits: &Limits, count: usize) -> Limits {
+/// The limits for the query of each of so many bodies that were set aside: a quarter of the limits for all of them. `None`
+/// where that is less than twice what each had beyond the whole search.
+pub(crate) fn shared_limits(limits: &Limits, count: usize) -> Option<Limits> {
     let parts = 4 * count.max(1).min(64) as u32;
-    Limits {
-        clauses: (limits.clauses / parts).max(1),
-        nodes: (limits.nodes / parts).max(1),
-        ..*limits
+    let clauses = limits.clauses / parts;
+    let nodes = limits.nodes / parts;
+    let before = whole_stage(limits);
+    if clauses / 2 < before.clauses && nodes / 2 < before.nodes {
+        return None;
     }
+    Some(Limits {
+        clauses: clauses.max(1),
+        nodes: nodes.max(1),
+        ..*limits
+    })
 }
 
 /// The limits for the query of one learned formula.

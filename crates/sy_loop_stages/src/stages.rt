@@ -6,6 +6,7 @@ ghost use Rattle.sy_loop_outcome.specs.Right.{IsRightFor};
 ghost use Rattle.sy_loop_stages.specs.Finding.{FindsBeyondFor};
 ghost use Rattle.sy_loop_stages.specs.Searched.{HasStoppedFor, IsAnswerFor};
 
+use crate::causes::{is_bank, is_undecided};
 use crate::search::{discard, is_size, lasts, run_stage};
 use crate::stage::{
     EARLY_BANK, MOST_SIZE, WHOLE, WIDE_SIZE, early_stage, shared_limits, whole_stage, wide_stage,
@@ -14,7 +15,7 @@ use std::alloc::Global;
 use sy_grammar_base::Problem;
 use sy_loop::synthesise;
 use sy_loop_bodies::{Aside, Task, solve_aside};
-use sy_loop_outcome::Outcome;
+use sy_loop_outcome::{FailCause, Outcome};
 use sy_query_base::Decide;
 use sy_query_limits::Limits;
 use sy_terms::{Theory, Want};
@@ -121,22 +122,25 @@ fn found_after<T: Theory, D: Decide<T>>(
     let Outcome::Fail(cause) = outcome else {
         return Ok(None);
     };
-    let by_size = is_size::<T, D>(cause);
-    let wider = found_wider(alloc, problem, limits, by_size, decide, aside)?;
+    let wider = found_wider(alloc, problem, limits, cause, decide, aside)?;
     if let Some(found) = wider {
         return Ok(Some(found));
+    }
+    if is_undecided::<T, D>(cause) && aside.len() < 2 {
+        return Ok(None);
     }
     let again = found_again(alloc, problem, limits, decide, aside)?;
     Ok(again)
 }
 
 /// The first solution that searches up to larger sizes find, with few kept terms; with all of them only where the
-/// search ended after its greatest size, since else its bank was full before.
+/// search ended after its greatest size, since else its bank was full before. Where it ended by another limit than these
+/// two, that ends the searches with more terms too, so only the one with the fewest is tried.
 fn found_wider<T: Theory, D: Decide<T>>(
     alloc: Global,
     problem: &Problem<T>,
     limits: &Limits,
-    by_size: bool,
+    cause: &FailCause<T, D::Spent>,
     decide: &mut D,
     aside: &mut Aside<T>,
 ) -> Result<Option<Outcome<T, D::Proof, D::Spent>>, Want>
@@ -145,11 +149,13 @@ fn found_wider<T: Theory, D: Decide<T>>(
     requires stopped { HasStoppedFor T.Theory D.Decide problem.now limits.now }
     ensures { IfOk result (λ found. IfSome found (IsAnswerFor T.Theory D.Decide problem.now limits.now)) }
 {
+    let by_size = is_size::<T, D>(cause);
     if by_size && limits.size >= WIDE_SIZE {
         return Ok(None);
     }
+    let is_full = by_size || is_bank::<T, D>(cause);
     for bank in WIDE_BANKS {
-        if bank < limits.bank {
+        if bank < limits.bank && (is_full || bank == EARLY_BANK) {
             if let Some(found) = found_wide(alloc, problem, limits, bank, decide, aside)? {
                 return Ok(Some(found));
             }
@@ -198,7 +204,9 @@ fn found_again<T: Theory, D: Decide<T>>(
     requires stopped { HasStoppedFor T.Theory D.Decide problem.now limits.now }
     ensures { IfOk result (λ found. IfSome found (IsAnswerFor T.Theory D.Decide problem.now limits.now)) }
 {
-    let shared = shared_limits(limits, aside.len());
+    let Some(shared) = shared_limits(limits, aside.len()) else {
+        return Ok(None);
+    };
     let task = Task {
         alloc,
         problem,
