@@ -71,7 +71,7 @@ fn found_after_cause<T: Theory, D: Decide<T>>(
         return Ok(Some(own));
     }
     let bank = bank_of::<T, D>(cause);
-    if let Some(found) = found_learned(task, stage, decide, bank, &mut assignments, aside)? {
+    if let Some(found) = found_learned(task, stage, decide, bank, &mut assignments)? {
         return Ok(Some(found));
     }
     match cause {
@@ -100,14 +100,14 @@ fn bank_of<'a, T: Theory, D: Decide<T>>(cause: &'a FailCause<T, D::Spent>) -> Op
     }
 }
 
-/// A learned formula that solves the problem.
+/// A learned formula that solves the problem. What isn't decided of formulas is apart from what others set aside, since the
+/// limits are others.
 fn found_learned<T: Theory, D: Decide<T>>(
     task: &Task<T>,
     stage: &Stage,
     decide: &mut D,
     bank: Option<&Bank<T>>,
     assignments: &mut Vec<Values<T>>,
-    aside: &mut Aside<T>,
 ) -> Result<Option<(Bodies<T>, D::Proof)>, Want>
     requires problem { ProblemFits T.Theory task.now.problem.now }
     requires one { length task.now.problem.now.wanted ≡ 1 }
@@ -129,7 +129,8 @@ fn found_learned<T: Theory, D: Decide<T>>(
         bound: task.bound,
         effort,
     };
-    solve_learned(&task, decide, bank, assignments, aside)
+    let mut aside = Aside::new(task.alloc);
+    solve_learned(&task, decide, bank, assignments, &mut aside)
 }
 
 /// Copies of the assignments that the search stored before it ended by the cause.
