@@ -44,10 +44,9 @@ evaluated {T} {N} number query defs values value truth fits closed none nothing 
     let open_sorts = no_items query.variables closed in
     let by_defs : GivesValue {T = T} owned number [] [] values query.body value = subst (λ (ds : List (Def T N)). GivesValue owned number ds [] values query.body value) none gives in
     let at_none : GivesValue {T = T} owned number [] [] [] query.body value = subst (λ (vs : List Val). GivesValue {T = T} {N = N} owned number [] [] vs query.body value) nothing by_defs in
-    let has = at_none [] tt (record { sort = sorts.Bool; is = subst (λ ss. sort_in (query_scope owned) ss query.body ≡ Some sorts.Bool) open_sorts fits.body }) in
-    (
-    (λ yes. record { sorted = record { sorted = sym open_sorts; valid = All-nil (λ v. valid v ≡ true) }; true = sym has.meaning ∙ is ∙ ap Truth yes }),
-    (λ satisfied. ap truth_in (sym is ∙ has.meaning ∙ satisfied.true)),
+    let has = at_none [] tt (record { sort = sorts.Bool; is = subst (λ ss. sort_in (query_scope owned) ss query.body ≡ Some sorts.Bool) open_sorts fits.body }) in (
+      (λ yes. record { sorted = record { sorted = sym open_sorts; valid = All-nil (λ v. valid v ≡ true) }; true = sym has.meaning ∙ is ∙ ap Truth yes }),
+      (λ satisfied. ap truth_in (sym is ∙ has.meaning ∙ satisfied.true)),
     )
 
 -- the query of a constant
@@ -69,11 +68,11 @@ constant_satisfied truth values = ((λ satisfied. (satisfied.sorted, ap truth_in
 alike : (query : Query) (truth : Bool) → query.variables ≡ [] → (IsTrue truth ↔ Satisfies query []) → (values : List Val) → Satisfies (constantly truth) values ↔ Satisfies query values
 alike query truth closed says values = (
   (λ satisfied.
-    let both = (constant_satisfied truth values).0 satisfied in
-    subst (λ (vs : List Val). Satisfies query vs) (sym (no_values values [] both.0.sorted refl)) (says.0 both.1)),
+      let both = (constant_satisfied truth values).0 satisfied in
+      subst (λ (vs : List Val). Satisfies query vs) (sym (no_values values [] both.0.sorted refl)) (says.0 both.1)),
   (λ satisfied.
-    let none = no_values values query.variables satisfied.sorted.sorted closed in
-    (constant_satisfied truth values).1 (subst (λ ss. AreValues ss values) closed satisfied.sorted, says.1 (subst (λ (vs : List Val). Satisfies query vs) none satisfied))),
+      let none = no_values values query.variables satisfied.sorted.sorted closed in
+      (constant_satisfied truth values).1 (subst (λ ss. AreValues ss values) closed satisfied.sorted, says.1 (subst (λ (vs : List Val). Satisfies query vs) none satisfied))),
 )
 
 -- what is written as a constant, without variables
