@@ -44,7 +44,8 @@ pub fn solve_learned<T: Theory, D: Decide<T>>(
     if let Some(found) = solve_given(task, decide, &mut learning, assignments, aside)? {
         return Ok(Some(found));
     }
-    solve_learning(task, decide, bank, &mut learning, assignments, aside)
+    let found = solve_learning(task, decide, bank, &mut learning, assignments, aside)?;
+    Ok(found)
 }
 
 /// Whether the function to be found gives a truth value.
@@ -115,7 +116,8 @@ fn solve_learning<T: Theory, D: Decide<T>>(
         if let Some(found) = try_formula(task, decide, learning, formula, assignments, aside)? {
             let size = learning.learner.size_of(formula);
             learning.learner.shrink(true);
-            return solve_shorter(task, decide, learning, size, found, assignments, aside);
+            let best = solve_shorter(task, decide, learning, size, found, assignments, aside)?;
+            return Ok(best);
         }
     }
     Ok(None)

@@ -130,7 +130,8 @@ fn found_learned<T: Theory, D: Decide<T>>(
         effort,
     };
     let mut aside = Aside::new(task.alloc);
-    solve_learned(&task, decide, bank, assignments, &mut aside)
+    let found = solve_learned(&task, decide, bank, assignments, &mut aside)?;
+    Ok(found)
 }
 
 /// Copies of the assignments that the search stored before it ended by the cause.
