@@ -262,8 +262,10 @@ fn holds(truths: &[bool], formula: &[Vec<usize>]) -> bool {
 /// Whether one of the literals is true.
 fn is_some(truths: &[bool], clause: &[usize]) -> bool {
     for literal in clause {
-        if truths.get(*literal) == Some(&true) {
-            return true;
+        if let Some(truth) = truths.get(*literal) {
+            if *truth {
+                return true;
+            }
         }
     }
     false
