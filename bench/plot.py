@@ -128,11 +128,8 @@ def beside(rows, file):
         f'set arrow from {0.8 * LEAST},{limit} to {1.5 * limit},{limit} nohead dt 3 lc rgb "#888888"',
     ]
     lines += [
-        (
-            f'set label "cvc5 gives no answer" at {1.05 * limit},{1.2 * LEAST} rotate by 90 offset character 0.8,0 tc'
-            ' rgb "#666666"'
-        ),
-        f'set label "sygus gives no answer" at {1.2 * LEAST},{1.2 * limit} tc rgb "#666666"',
+        f'set label "cvc5 gives no answer" at {1.38 * limit},{1.2 * LEAST} rotate by 90 tc rgb "#666666"',
+        f'set label "sygus gives no answer" at {1.2 * LEAST},{1.38 * limit} tc rgb "#666666"',
     ]
     parts = ['x with lines lc rgb "#aaaaaa" title "equal"']
     for place, kind in enumerate(KINDS):

@@ -28,6 +28,8 @@ SECONDS = 20
 # The limits of one question.
 LIMITS = "--size 24 --clauses 10000 --nodes 2000 --bank 10000".split()
 QUESTION_SECONDS = 4
+# The last line of what is found where some of it shows that there is no solution.
+UNSOLVABLE = "So there is no solution, and larger limits don't help."
 
 
 # Text with places
@@ -668,10 +670,10 @@ def findings(text, ask, count=1):
     try:
         problem = Problem(text, count)
         rows = different_rows(problem)
-        found = rows + endless(problem) + vacuous(problem, ask)
-        if not rows and not found:
-            found += impossible(problem, ask) or lacking(problem, ask)
-        return found + bad_runs(problem, ask)
+        odd = endless(problem) + vacuous(problem, ask)
+        unsolvable = rows if rows or odd else impossible(problem, ask) or lacking(problem, ask)
+        unsolvable += bad_runs(problem, ask)
+        return odd + unsolvable + [UNSOLVABLE] * bool(unsolvable)
     except (TooLarge, RecursionError, Broken):
         return []
 

@@ -13,6 +13,7 @@ TOP = pathlib.Path(__file__).resolve().parent.parent.parent
 sys.path.insert(0, str(TOP / "tools"))
 import problem_checks
 import scripts
+from problem_checks import UNSOLVABLE
 
 HERE = pathlib.Path(__file__).resolve().parent
 EXPLAIN, FROM_CSV, CHECKS = (TOP / "tools" / name for name in ("explain", "from_csv", "problem_checks.py"))
@@ -59,17 +60,17 @@ LOOP = (
 SEEN = {
     "rows": (
         INTEGERS + "(constraint (= (f 1) 3))\n(constraint (= (f (- 1)) 5))\n(constraint (= 4 (f 1)))\n",
-        ["Lines 5 and 7: (f 1) is to be 3 and 4. "],
+        ["Lines 5 and 7: (f 1) is to be 3 and 4. ", UNSOLVABLE],
     ),
     "rows of vectors": (
         BYTES
         + "(constraint (= (f #x01) #x03))\n(constraint (= (f #b00000001) (_ bv3 8)))\n(constraint (= (f (_ bv1 8))"
         " #x04))\n",
-        ["Lines 5 and 7: (f (_ bv1 8)) is to be #x03 and #x04. "],
+        ["Lines 5 and 7: (f (_ bv1 8)) is to be #x03 and #x04. ", UNSOLVABLE],
     ),
     "rows of a predicate": (
         "(set-logic LIA)\n(synth-fun p ((x Int)) Bool)\n(constraint (p 1))\n(constraint (not (p 1)))\n",
-        ["Lines 3 and 4: (p 1) is to be true and false. "],
+        ["Lines 3 and 4: (p 1) is to be true and false. ", UNSOLVABLE],
     ),
     "equal rows": (INTEGERS + "(constraint (= (f 1) 3))\n(constraint (= (f 1) 3))\n", []),
     "a rule without a leaf": (
@@ -86,15 +87,15 @@ SEEN = {
 ASKED = {
     "no value": (
         INTEGERS + "(constraint (>= (f x) x))\n(constraint (>= (f x) 0))\n(constraint (<= (f x) 6))\n",
-        ["The constraints of lines 5 and 7 together can't be met at x = "],
+        ["The constraints of lines 5 and 7 together can't be met at x = ", UNSOLVABLE],
     ),
     "no value of two calls": (
         BYTES + "(declare-var y B)\n(constraint (let ((a (f x)) (b (f y))) (distinct a b)))\n",
-        ["The constraint of line 6 can't be met at x = "],
+        ["The constraint of line 6 can't be met at x = ", UNSOLVABLE],
     ),
     "a missing argument": (
         INTEGERS + "(constraint (= (f x) (+ x y)))\n",
-        ["The constraint of line 5 asks for different values of (f x) at x = "],
+        ["The constraint of line 5 asks for different values of (f x) at x = ", UNSOLVABLE],
     ),
     "assumptions": (
         BYTES + "(assume (bvult x #x10))\n(assume (= x x))\n(assume (bvugt x #x20))\n(constraint (= (f x) x))\n",
@@ -111,6 +112,7 @@ ASKED = {
             "  step 4: i = 4, s = 3",
             "  step 5: i = 5, s = 7",
             "  step 6: i = 6, s = 12 (post is false)",
+            UNSOLVABLE,
         ],
     ),
     "a loop that is right": (LOOP % 42, []),
@@ -119,10 +121,16 @@ ASKED = {
         [
             "No invariant exists for line 6: the loop reaches a state where post is false, already where it begins.",
             "  step 0: i = 0, s = (- 3) (pre is true) (post is false)",
+            UNSOLVABLE,
         ],
     ),
     "nothing": (INTEGERS + "(constraint (>= (f x) x))\n(constraint (>= (f x) 0))\n", []),
 }
+# A definition that can't be read, and what calls it.
+UNREAD = (
+    "(set-logic LIA)\n(synth-inv inv ((i Int)))\n(define-fun pre ((i Int)) Bool (= i 0))\n(define-fun trans ((i Int)"
+    " (i' Int)) Bool (= i' i))\n(define-fun post ((i Int)) Bool (= i 0))\n(inv-constraint inv pre trans post)\n(check-synth)\n"
+)
 # Tables, the words, and the lines of the problem or the reason of the refusal.
 TABLES = {
     "names": (
@@ -216,6 +224,10 @@ def asked(program):
         yield f"explain a problem: {name}", all(f"\n  {line}" in said for line in wanted) and (
             "Nothing was found wrong" in said
         ) == (not wanted)
+        yield f"explain what to try: {name}", UNSOLVABLE not in wanted or "Try, in this order" not in said
+    env = {**os.environ, "SYGUS": str(program)}
+    said = subprocess.run([EXPLAIN, "-"], input=UNREAD, env=env, capture_output=True, text=True).stdout
+    yield "explain: nothing follows from what can't be read", "BadByte" in said and "Further on" not in said
 
 
 def further():

@@ -41,6 +41,7 @@ pub fn query_circuit(alloc: Global, query: &Query<BvTheory>) -> Result<Option<Ci
     ensures variables { IfOk result (λ found. IfSome found (λ circuit. circuit.variables ≡ query.now.vars)) }
     ensures clauses { IfOk result (λ found. IfSome found (λ circuit. HasCircuitClauses (query_of vector query.now) circuit.clauses)) }
     ensures vars { IfOk result (λ found. IfSome found (λ circuit. VarsFit circuit.clauses)) }
+    ensures count { IfOk result (λ found. IfSome found (λ circuit. length circuit.clauses.clauses < 2 ^ 31)) }
 {
     let countable = countable_size(alloc, query)?;
     let least = countable.unwrap_or(LARGEST);

@@ -1,5 +1,5 @@
 // Circuits of queries without variables, which are true or false once and for all.
-ghost use Rattle.std.specs.Prelude.{◌≡◌, ◌≤◌, ◌↔◌, [], length, IfOk, IfSome, IsTrue};
+ghost use Rattle.std.specs.Prelude.{◌≡◌, ◌≤◌, ◌<◌, ◌^◌, ◌↔◌, [], length, IfOk, IfSome, IsTrue};
 ghost use Rattle.sy_query_base.specs.Asked.{query_of, QueryFits, Satisfies};
 ghost use Rattle.sy_meaning_words.specs.Vectors.{vector, owned, is_bits};
 ghost use Rattle.sy_clauses.specs.Clauses.{VarsFit};
@@ -24,6 +24,7 @@ pub(crate) fn closed_circuit(
     ensures variables { IfOk result (λ found. IfSome found (λ circuit. circuit.variables ≡ query.now.vars)) }
     ensures clauses { IfOk result (λ found. IfSome found (λ circuit. HasCircuitClauses (query_of vector query.now) circuit.clauses)) }
     ensures vars { IfOk result (λ found. IfSome found (λ circuit. VarsFit circuit.clauses)) }
+    ensures count { IfOk result (λ found. IfSome found (λ circuit. length circuit.clauses.clauses < 2 ^ 31)) }
 {
     if query.vars.len() > 0 || size == 0 {
         return Ok(None);

@@ -13,8 +13,8 @@ use Rattle.sy_grammar_base.specs.declared.problem.Problem.{Problem}
 use Rattle.sy_scope_causes.specs.declared.titles.Titles.{Titles}
 use Rattle.sygus_replies.specs.Replies.{Reply, Shown}
 use Rattle.sygus_replies.specs.Answerable.{IsAnswerable}
-use Rattle.sygus_replies.specs.Texts.{answer_text, texts, answer_line, answer_lines}
-use Rattle.sygus_replies.specs.Answered.{AreRight, WritesMost, BreaksNext}
+use Rattle.sygus_replies.specs.Texts.{answer_text, texts, answer_line, answer_lines, memory_line}
+use Rattle.sygus_replies.specs.Answered.{AreRight, WritesMost, WritesMostFails, BreaksNext}
 
 pub appended_nothing : (before : Option (List ℕ)) → Appends before before []
 appended_nothing None = tt
@@ -72,10 +72,10 @@ take-past (x ∷ xs) ys n =
     ap (λ (k : ℕ). take k (x ∷ (xs ++ ys))) e ∙ ap (λ (zs : List ℕ). x ∷ zs) (take-past xs ys n)
 
 -- the text of the last reply was cut off
-pub most-more : {A : Type 0} (Right : Question → A → Type 0) (shown : A → Shown) (titles : Titles) (questions : List Question) (question : Question) (old new : List A) (before between after : Option (List ℕ))
-    → (next : BreaksNext Right shown titles question old new between after) → length old < length questions → question ≡ get_or questions (length old) question
+pub most-more : {A : Type 0} (Right : Question → A → Type 0) (reply : A → Reply) (shown : A → Shown) (titles : Titles) (questions : List Question) (question : Question) (old new : List A) (before between after err err' : Option (List ℕ))
+    → (next : BreaksNext Right reply shown titles question old new between after err err') → length old < length questions → question ≡ get_or questions (length old) question
     → Appends before between (texts titles questions (map shown old)) → WritesMost titles questions (map shown new) before after
-most-more Right shown titles questions question old new before between after next lt at written =
+most-more Right reply shown titles questions question old new before between after err err' next lt at written =
     let count = length-map old shown in
     let less : length (map shown old) < length questions = omega (arith, count, lt) in
     let here : question ≡ get_or questions (length (map shown old)) question = rw count at in
@@ -104,6 +104,29 @@ most-all titles questions shown before after written = record {
   count = length (texts titles questions shown);
   whole = omega arith;
   written = rw take-length written;
+}
+
+-- the line of the last reply was cut off
+pub fails-more : {A : Type 0} (Right : Question → A → Type 0) (reply : A → Reply) (shown : A → Shown) (titles : Titles) (question : Question) (old new : List A) (out out' before between after : Option (List ℕ))
+    → (next : BreaksNext Right reply shown titles question old new out out' between after) → Appends before between (answer_lines 1 (map reply old)) → WritesMostFails (map reply new) before after
+fails-more Right reply shown titles question old new out out' before between after next written = record {
+  earlier = map reply old;
+  last = reply next.answer ∷ [];
+  split = replies-more reply old new next.answer next.more;
+  one = omega arith;
+  count = next.line_count;
+  written = rw (length-map old reply) (appended_more _ _ _ _ _ written next.line_begun);
+}
+
+-- all lines were written, and that of want of memory was cut off
+pub fails-all : (replies : List Reply) (before between after : Option (List ℕ)) (count : ℕ) → Appends before between (answer_lines 1 replies) → Appends between after (take count memory_line) → WritesMostFails replies before after
+fails-all replies before between after count written begun = record {
+  earlier = replies;
+  last = [];
+  split = sym (append-nil replies);
+  one = omega arith;
+  count = count;
+  written = appended_more _ _ _ _ _ written begun;
 }
 
 module _ {T N : Type 0} (number : N → Val) where

@@ -13,6 +13,8 @@ pub struct WriteFault;
 pub fn last<E: Sink>(err: &mut E, line: &[u8], status: u8) -> u8
     ensures written { result ≢ 5 → (result ≡ status) × Appends (E.written err.old) (E.written err.new) line.now }
     ensures fault { result ≡ 5 → status ≢ 5 → Rose (E.faults err.old) (E.faults err.new) }
+    ensures begun { result ≡ 5 → status ≢ 5 → (count : ℕ) × Appends (E.written err.old) (E.written err.new)
+        (take count line.now) }
     ensures later { E.faults err.old ≤ E.faults err.new }
 {
     match write_whole(err, line) {
@@ -31,6 +33,8 @@ pub fn write_both<O: Sink, E: Sink>(
     ensures replied { OnOk result (Appends (O.written out.old) (O.written out.new) text.now) }
     ensures lined { OnOk result (Appends (E.written err.old) (E.written err.new) line.now) }
     ensures begun { OnErr result ((count : ℕ) × Appends (O.written out.old) (O.written out.new) (take count text.now)) }
+    ensures line_begun { OnErr result
+        ((count : ℕ) × Appends (E.written err.old) (E.written err.new) (take count line.now)) }
     ensures cause { OnErr result (Rose (O.faults out.old) (O.faults out.new) ⊎ Rose (E.faults err.old) (E.faults err.new)) }
     ensures later_out { O.faults out.old ≤ O.faults out.new }
     ensures later_err { E.faults err.old ≤ E.faults err.new }

@@ -1,15 +1,18 @@
 // The run over words, a source and two sinks.
-ghost use Rattle.std.specs.Prelude.{ℕ, ◌≡◌, ◌≢◌, ◌≤◌, ◌⊎◌, ◌++◌, map, string_bytes, All, Any};
+ghost use Rattle.std.specs.Prelude.{ℕ, List, ◌≡◌, ◌≢◌, ◌≤◌, ◌⊎◌, ◌++◌, map, string_bytes, All, Any};
 ghost use Rattle.std.specs.Io.KnownBytes.{Appends};
 ghost use Rattle.sy_io.specs.Causes.{Rose};
+ghost use Rattle.sygus_replies.specs.Answered.{WritesMostFails};
 ghost use Rattle.sygus_replies.specs.Replies.{IsSettled, IsFail};
 ghost use Rattle.sygus_replies.specs.Texts.{answer_lines, words_line, read_line, memory_line};
 ghost use Rattle.sygus_answers.specs.Answers.{replies_of, AreNamedFor};
 ghost use Rattle.sygus_input.specs.Inputs.{AskDrill, AskJudging, AskNoJudging, AskSolving, HaveNoReading};
-ghost use Rattle.sygus_run.specs.Runs.{Answered, FileIsRefused, IsCutOff, WantsMemory, fault_status, fault_line};
+ghost use Rattle.sygus_run.specs.Runs.{Answered, EndsWhole, FileIsRefused, GoesWell, IsCutOff, NamesKnown, WantsMemory};
+ghost use Rattle.sygus_run.specs.Runs.{fault_line, fault_status};
 ghost use Rattle.sygus_drills.specs.Drills.{EndsDrill};
 ghost use Rattle.sygus_judged.specs.Ends.{EndsJudged};
 ghost use Rattle.sy_query_limits.specs.declared.Limits.{Limits};
+ghost use Rattle.sygus_words.specs.declared.settings.Settings.{Settings};
 
 use std::alloc::Global;
 use sy_io::{Sink, Source};
@@ -36,6 +39,17 @@ pub fn run<S: Source, O: Sink, E: Sink>(
     err: &mut E,
 ) -> Ended
     ensures status { result.status ≤ 7 }
+
+    // where no read and no write fails and memory is enough, the words and the file decide: a file in the profile is
+    // answered, and any other is refused; so are words that have no reading
+    ensures complete { (settings : Settings) (file : List ℕ) →
+        NamesKnown (map string_bytes words.now) (S.held source.old) settings file →
+        GoesWell result.status (S.faults source.old) (S.faults source.new) (O.faults out.old) (O.faults out.new)
+        (E.faults err.old) (E.faults err.new) →
+        EndsWhole settings.mode settings.limits file result.status result.answers }
+    ensures complete_words { HaveNoReading (map string_bytes words.now) →
+        GoesWell result.status (S.faults source.old) (S.faults source.new) (O.faults out.old) (O.faults out.new)
+        (E.faults err.old) (E.faults err.new) → result.status ≡ 3 }
 
     // mode drill: the problem of the number's file has its right answer, one line tells it, and the source isn't used
     ensures drill { (number : ℕ) (limits : Limits) → AskDrill (map string_bytes words.now) number limits →
@@ -84,6 +98,8 @@ pub fn run<S: Source, O: Sink, E: Sink>(
     ensures cut_off { AskSolving (map string_bytes words.now) → result.status ≡ 5 → IsCutOff
         (map string_bytes words.now) (S.held source.old) result.answers
         (O.written out.old) (O.written out.new) }
+    ensures cut_lines { AskSolving (map string_bytes words.now) → result.status ≡ 5 → (result.answers ≡ Answers.Idle)
+        ⊎ WritesMostFails (replies_of result.answers) (E.written err.old) (E.written err.new) }
 
     // 6: out of memory
     ensures memory { AskNoJudging (map string_bytes words.now) → result.status ≡ 6 → WantsMemory

@@ -1,3 +1,4 @@
+pub mod Complete
 pub mod Computing
 pub mod Named
 pub mod Ranges

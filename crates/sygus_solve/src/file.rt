@@ -3,6 +3,7 @@ ghost use Rattle.std.specs.Prelude.{◌≡◌, ◌≤◌, ◌⊎◌, ◌++◌, l
 ghost use Rattle.std.specs.Io.KnownBytes.{Appends};
 ghost use Rattle.sy_io.specs.Causes.{Rose};
 ghost use Rattle.sygus_input.specs.Inputs.{longest};
+ghost use Rattle.sygus_replies.specs.Answered.{WritesMostFails};
 ghost use Rattle.sygus_replies.specs.Replies.{IsSettled, IsFail};
 ghost use Rattle.sygus_replies.specs.Texts.{answer_lines, memory_line};
 ghost use Rattle.sygus_answers.specs.Answers.{replies_of, AreNamedFor};
@@ -45,6 +46,8 @@ pub fn answer_file<O: Sink, E: Sink>(
     ensures cut_off { result.status ≡ 5 → Stops settings.now file.now result.answers (O.written out.old)
         (O.written out.new)
         (WritesCut settings.now.proofs result.answers (O.written out.old) (O.written out.new)) }
+    ensures cut_lines { result.status ≡ 5 → (result.answers ≡ Answers.Idle)
+        ⊎ WritesMostFails (replies_of result.answers) (E.written err.old) (E.written err.new) }
 
     // 6: memory was wanted
     ensures memory { result.status ≡ 6 → Stops settings.now file.now result.answers (O.written out.old)

@@ -5,7 +5,7 @@ ghost use Rattle.sy_io.specs.Causes.{Rose};
 ghost use Rattle.sy_reply.specs.Writable.{IsTitled};
 ghost use Rattle.sy_scope.specs.Fit.{JobFits};
 ghost use Rattle.sy_scope.specs.Read.{wish_in};
-ghost use Rattle.sygus_replies.specs.Answered.{WritesMost};
+ghost use Rattle.sygus_replies.specs.Answered.{WritesMost, WritesMostFails};
 ghost use Rattle.sygus_replies.specs.Replies.{IsSettled, IsFail};
 ghost use Rattle.sygus_replies.specs.Texts.{texts, answer_lines, memory_line};
 ghost use Rattle.sygus_answers.specs.Answers.{replies_of, shown_in, AreOfLogic, AreNamedFor};
@@ -53,6 +53,8 @@ pub(crate) fn answer<O: Sink, E: Sink>(
         (E.faults err.new) }
     ensures cut_off { result.status ≡ 5 → WritesMost (wish_in job).titles (wish_in job).questions
         (shown_in settings.now.proofs result.answers) (O.written out.old) (O.written out.new) }
+    ensures cut_lines { result.status ≡ 5 → WritesMostFails (replies_of result.answers) (E.written err.old)
+        (E.written err.new) }
 
     // 6: memory was wanted
     ensures memory { result.status ≡ 6 → Appends (O.written out.old) (O.written out.new)

@@ -4,7 +4,7 @@ ghost use Rattle.std.specs.Io.KnownBytes.{Appends};
 ghost use Rattle.sy_io.specs.Causes.{Rose};
 ghost use Rattle.sy_grammar_base.specs.Questions.{question_of};
 ghost use Rattle.sygus_replies.specs.Answerable.{IsAnswerable, IsAnswerableFor};
-ghost use Rattle.sygus_replies.specs.Answered.{WritesMost, AnswersNext, BreaksNext};
+ghost use Rattle.sygus_replies.specs.Answered.{WritesMost, WritesMostFails, AnswersNext, BreaksNext};
 ghost use Rattle.sygus_replies.specs.Replies.{IsSettled, IsFail, reply_for, replies_for, shown_for, all_shown_for};
 ghost use Rattle.sygus_replies.specs.Texts.{texts, answer_lines, memory_line};
 ghost use Rattle.sygus_search.specs.RightAnswers.{RightOutcomeFor, AreRightFor};
@@ -52,6 +52,8 @@ pub(crate) fn solve<T: Theory, D: Decide<T>, S: Prints<D::Proof>, O: Sink, E: Si
     ensures cut_off { result.status ≡ 5 → WritesMost titles.now (map (question_of T.denotes) problems.now)
         (all_shown_for T.Theory D.Decide S.Prints settings.now.proofs result.answers) (O.written out.old)
         (O.written out.new) }
+    ensures cut_lines { result.status ≡ 5 → WritesMostFails (replies_for T.Theory D.Decide result.answers)
+        (E.written err.old) (E.written err.new) }
 
     // 6: memory was wanted
     ensures memory { result.status ≡ 6 → Appends (O.written out.old) (O.written out.new)
@@ -109,9 +111,9 @@ fn answer_next<T: Theory, D: Decide<T>, S: Prints<D::Proof>, O: Sink, E: Sink>(
         (shown_for T.Theory D.Decide S.Prints settings.now.proofs) titles.now (question_of T.denotes problem.now)
         answers.old answers.new (O.written out.old) (O.written out.new) (E.written err.old) (E.written err.new)) }
     ensures broken { IsErrOf result Stop.Write → BreaksNext
-        (RightOutcomeFor T.Theory D.Decide settings.now.mode settings.now.limits)
+        (RightOutcomeFor T.Theory D.Decide settings.now.mode settings.now.limits) (reply_for T.Theory D.Decide)
         (shown_for T.Theory D.Decide S.Prints settings.now.proofs) titles.now (question_of T.denotes problem.now)
-        answers.old answers.new (O.written out.old) (O.written out.new) }
+        answers.old answers.new (O.written out.old) (O.written out.new) (E.written err.old) (E.written err.new) }
     ensures cause { IsErrOf result Stop.Write → Rose (O.faults out.old) (O.faults out.new) ⊎ Rose (E.faults err.old)
         (E.faults err.new) }
     ensures unchanged { IsErrOf result Stop.Memory → answers.new ≡ answers.old }

@@ -5,6 +5,7 @@ use Rattle.sygus_input.proofs.Asking.{asks_judging, asks_one}
 use Rattle.sygus_replies.proofs.Steps.{lines-none}
 use Rattle.sygus_drills.proofs.Drilling.{ends_that}
 use Rattle.sygus_run.proofs.Ends as ends
+use Rattle.sygus_run.proofs.Whole as whole
 use Rattle.sygus_run.proofs.program.run.Goals as goal
 
 pub returns-in-Ok-Drill-clause-drill : goal.returns-in-Ok-Drill-clause-drill
@@ -12,12 +13,27 @@ returns-in-Ok-Drill-clause-drill g c number limits asked =
     let first = rw c.in-Ok-Drill.field-0-is at c.in-Ok-Drill.ensures.ok in
     ends_that _ c.in-Ok-Drill.number number c.in-Ok-Drill.limits limits _ _ _ _ _ _ first asked c.drill.ensures.ends
 
+pub returns-in-Ok-Drill-clause-complete : goal.returns-in-Ok-Drill-clause-complete
+returns-in-Ok-Drill-clause-complete g c settings file known well =
+    let asked = rw c.in-Ok-Drill.field-0-is at c.in-Ok-Drill.ensures.ok in
+    whole.drilled _ _ settings file known _ _ c.in-Ok-Drill.number c.in-Ok-Drill.limits asked c.drill.ensures.status
+    (whole.not_five _ c.drill.ensures.write well.writes well.tells) well.memory
+
+pub returns-in-Ok-Drill-clause-complete_words : goal.returns-in-Ok-Drill-clause-complete_words
+returns-in-Ok-Drill-clause-complete_words g c none well =
+    let asked = rw c.in-Ok-Drill.field-0-is at c.in-Ok-Drill.ensures.ok in
+    absurd (none asked.settings asked.accepted)
+
 pub returns-in-Ok-Drill-clause-answered : goal.returns-in-Ok-Drill-clause-answered
 returns-in-Ok-Drill-clause-answered g c asked small =
     absurd (asked.0 c.in-Ok-Drill.number c.in-Ok-Drill.limits (rw c.in-Ok-Drill.field-0-is at c.in-Ok-Drill.ensures.ok))
 
 pub returns-in-Ok-Drill-clause-cut_off : goal.returns-in-Ok-Drill-clause-cut_off
 returns-in-Ok-Drill-clause-cut_off g c asked is =
+    absurd (asked.0 c.in-Ok-Drill.number c.in-Ok-Drill.limits (rw c.in-Ok-Drill.field-0-is at c.in-Ok-Drill.ensures.ok))
+
+pub returns-in-Ok-Drill-clause-cut_lines : goal.returns-in-Ok-Drill-clause-cut_lines
+returns-in-Ok-Drill-clause-cut_lines g c asked is =
     absurd (asked.0 c.in-Ok-Drill.number c.in-Ok-Drill.limits (rw c.in-Ok-Drill.field-0-is at c.in-Ok-Drill.ensures.ok))
 
 pub returns-in-Ok-Drill-clause-judged : goal.returns-in-Ok-Drill-clause-judged
@@ -28,6 +44,18 @@ pub answer_file-requires : goal.answer_file-requires
 answer_file-requires g c =
     let asked = rw c.in-Ok-File.field-0-is at c.in-Ok-File.ensures.ok in
     rw c.as_slice.ensures asked.short
+
+pub returns-in-Ok-File-clause-complete : goal.returns-in-Ok-File-clause-complete
+returns-in-Ok-File-clause-complete g c settings file known well =
+    let asked = rw c.in-Ok-File.field-0-is at c.in-Ok-File.ensures.ok in
+    whole.solved _ _ settings file known _ _ c.in-Ok-File.settings _ _ _ _ _ asked c.answer_file.ensures.status
+    (whole.not_five _ c.answer_file.ensures.write well.writes well.tells) well.memory
+    (rw c.as_slice.ensures at c.answer_file.ensures.answered) (rw c.as_slice.ensures at c.answer_file.ensures.refused)
+
+pub returns-in-Ok-File-clause-complete_words : goal.returns-in-Ok-File-clause-complete_words
+returns-in-Ok-File-clause-complete_words g c none well =
+    let asked = rw c.in-Ok-File.field-0-is at c.in-Ok-File.ensures.ok in
+    absurd (none c.in-Ok-File.settings asked.named.accepted)
 
 pub returns-in-Ok-File-clause-drill : goal.returns-in-Ok-File-clause-drill
 returns-in-Ok-File-clause-drill g c number limits asked =
@@ -69,6 +97,19 @@ judge_file-requires-clause-mode g c =
     let asked = rw c.in-Ok-Judge.field-0-is at c.in-Ok-Judge.ensures.ok in
     asked.mode
 
+pub returns-in-Ok-Judge-clause-complete : goal.returns-in-Ok-Judge-clause-complete
+returns-in-Ok-Judge-clause-complete g c settings file known well =
+    let asked = rw c.in-Ok-Judge.field-0-is at c.in-Ok-Judge.ensures.ok in
+    whole.judged _ _ settings file known _ _ c.in-Ok-Judge.settings _ _ _ _ asked c.judge_file.ensures.status
+    (whole.not_five _ c.judge_file.ensures.write well.writes well.tells) well.memory
+    (rw c.as_slice-in-Ok-Judge.ensures at c.judge_file.ensures.judged) (rw c.as_slice-in-Ok-Judge.ensures at c.judge_file.ensures.front_refused)
+    (rw c.as_slice-in-Ok-Judge.ensures at c.judge_file.ensures.reply_refused)
+
+pub returns-in-Ok-Judge-clause-complete_words : goal.returns-in-Ok-Judge-clause-complete_words
+returns-in-Ok-Judge-clause-complete_words g c none well =
+    let asked = rw c.in-Ok-Judge.field-0-is at c.in-Ok-Judge.ensures.ok in
+    absurd (none c.in-Ok-Judge.settings asked.named.accepted)
+
 pub returns-in-Ok-Judge-clause-drill : goal.returns-in-Ok-Judge-clause-drill
 returns-in-Ok-Judge-clause-drill g c number limits drill =
     let asked = rw c.in-Ok-Judge.field-0-is at c.in-Ok-Judge.ensures.ok in
@@ -104,6 +145,11 @@ returns-in-Ok-Judge-clause-cut_off g c solving is =
     let asked = rw c.in-Ok-Judge.field-0-is at c.in-Ok-Judge.ensures.ok in
     absurd (solving.1 (asks_judging _ c.in-Ok-Judge.settings asked.named.accepted asked.mode))
 
+pub returns-in-Ok-Judge-clause-cut_lines : goal.returns-in-Ok-Judge-clause-cut_lines
+returns-in-Ok-Judge-clause-cut_lines g c solving is =
+    let asked = rw c.in-Ok-Judge.field-0-is at c.in-Ok-Judge.ensures.ok in
+    absurd (solving.1 (asks_judging _ c.in-Ok-Judge.settings asked.named.accepted asked.mode))
+
 pub returns-in-Ok-Judge-clause-some_fail : goal.returns-in-Ok-Judge-clause-some_fail
 returns-in-Ok-Judge-clause-some_fail g c none is =
     let asked = rw c.in-Ok-Judge.field-0-is at c.in-Ok-Judge.ensures.ok in
@@ -124,6 +170,16 @@ returns-in-Ok-Judge-clause-all_settled g c is = rw c.judge_file.ensures.unsolved
 
 pub returns-in-Ok-Judge-clause-memory_line : goal.returns-in-Ok-Judge-clause-memory_line
 returns-in-Ok-Judge-clause-memory_line g c is = rw (c.judge_file.ensures.unsolved, lines-none) (c.judge_file.ensures.memory_line is)
+
+pub returns-in-Err-clause-complete : goal.returns-in-Err-clause-complete
+returns-in-Err-clause-complete g c settings file known well =
+    whole.without _ _ settings file known _ _ c.in-Err.fault _ _ _ _ c.in-Err.ensures.fault well.reads
+    (λ is. well.tells (c.without_input.ensures.write is)) well.memory c.without_input.ensures.written
+
+pub returns-in-Err-clause-complete_words : goal.returns-in-Err-clause-complete_words
+returns-in-Err-clause-complete_words g c none well =
+    whole.refused_words _ _ _ _ _ _ _ c.in-Err.fault none c.in-Err.ensures.fault well.reads
+    (λ is. well.tells (c.without_input.ensures.write is)) well.memory c.without_input.ensures.written
 
 pub returns-in-Err-clause-judged : goal.returns-in-Err-clause-judged
 returns-in-Err-clause-judged g c asked =

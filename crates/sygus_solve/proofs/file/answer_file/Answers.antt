@@ -32,6 +32,9 @@ returns-in-Ok-clause-cut_off g c is = inr (record {
   written = c.answer.ensures.cut_off is;
 })
 
+pub returns-in-Ok-clause-cut_lines : goal.returns-in-Ok-clause-cut_lines
+returns-in-Ok-clause-cut_lines g c is = inr (c.answer.ensures.cut_lines is)
+
 pub returns-in-Ok-clause-memory : goal.returns-in-Ok-clause-memory
 returns-in-Ok-clause-memory g c is = inr (record {
   wish = wish_in c.in-Ok.job;

@@ -3,7 +3,7 @@ use Rattle.std.proofs.lemmas.List.{length-map}
 use Rattle.sy_io.proofs.Streams.{appended_more}
 use Rattle.sy_grammar_base.specs.Questions.{question_of}
 use Rattle.sygus_replies.specs.Replies.{reply_for, replies_for, shown_for, all_shown_for}
-use Rattle.sygus_replies.proofs.Steps.{appended_nothing, texts-none, lines-none, right-none, replies-more, texts-more, right-more, lines-more, most-more, most-all, question_at, question_count, question_answerable}
+use Rattle.sygus_replies.proofs.Steps.{appended_nothing, texts-none, lines-none, right-none, replies-more, texts-more, right-more, lines-more, most-more, most-all, fails-more, fails-all, question_at, question_count, question_answerable}
 use Rattle.sygus_search.specs.RightAnswers.{RightOutcomeFor}
 use Rattle.sygus_answers.proofs.RuledOut.{not_five, not_six, five_not_small, five_not_none, five_not_one, five_not_six, six_not_small, six_not_none, six_not_one}
 use Rattle.sygus_solve.proofs.problems.solve.Goals as goal
@@ -79,7 +79,18 @@ returns-in-Err-Write-clause-cut_off g c _ =
     let here : length old < length c.args.problems.now = omega arith in
     let item : c.problem-item.result ≡ get_or c.args.problems.now (length old) c.problem-item.result = cc in
     let at : question ≡ get_or questions (length old) question = question_at number c.args.problems.now (length old) c.problem-item.result here item in
-    most-more (RightOutcomeFor g.T.Theory g.D.Decide c.args.settings.now.mode c.args.settings.now.limits) (shown_for g.T.Theory g.D.Decide g.S.Prints c.args.settings.now.proofs) _ questions question old _ _ _ _ next lt at c.loop-problem.invariant.replied
+    most-more (RightOutcomeFor g.T.Theory g.D.Decide c.args.settings.now.mode c.args.settings.now.limits) (reply_for g.T.Theory g.D.Decide) (shown_for g.T.Theory g.D.Decide g.S.Prints c.args.settings.now.proofs) _ questions question old _ _ _ _ _ _ next lt at c.loop-problem.invariant.replied
+
+pub returns-in-Err-Write-clause-cut_lines : goal.returns-in-Err-Write-clause-cut_lines
+returns-in-Err-Write-clause-cut_lines g c _ =
+    fails-more (RightOutcomeFor g.T.Theory g.D.Decide c.args.settings.now.mode c.args.settings.now.limits) (reply_for g.T.Theory g.D.Decide) (shown_for g.T.Theory g.D.Decide g.S.Prints c.args.settings.now.proofs)
+    _ _ c.loop-problem.answers _ _ _ _ _ _ (c.in-Err-Write.ensures.broken (cc)) c.loop-problem.invariant.lined
+
+pub returns-in-Err-Memory-clause-cut_lines : goal.returns-in-Err-Memory-clause-cut_lines
+returns-in-Err-Memory-clause-cut_lines g c is =
+    let begun = c.last-status.ensures.begun is (λ h. cc) in
+    rw (c.in-Err-Memory.ensures.unchanged (cc))
+    (fails-all _ _ _ _ begun.0 c.loop-problem.invariant.lined (rw (c.in-Err-Memory.ensures.unlined (cc)) at begun.1))
 
 pub returns-in-Err-Memory-clause-cut_off : goal.returns-in-Err-Memory-clause-cut_off
 returns-in-Err-Memory-clause-cut_off g c _ =
@@ -143,6 +154,9 @@ returns-clause-write g c is = not_five c.status_of-status.result c.status_of-sta
 
 pub returns-clause-cut_off : goal.returns-clause-cut_off
 returns-clause-cut_off g c is = not_five c.status_of-status.result c.status_of-status.ensures.bound is
+
+pub returns-clause-cut_lines : goal.returns-clause-cut_lines
+returns-clause-cut_lines g c is = not_five c.status_of-status.result c.status_of-status.ensures.bound is
 
 pub returns-clause-memory : goal.returns-clause-memory
 returns-clause-memory g c is = not_six c.status_of-status.result c.status_of-status.ensures.bound is
