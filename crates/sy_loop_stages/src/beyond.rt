@@ -121,7 +121,7 @@ fn found_learned<T: Theory, D: Decide<T>>(
         undecided: stage.learning.undecided,
         ..task.effort
     };
-    let task = Task {
+    let limited = Task {
         alloc: task.alloc,
         problem: task.problem,
         limits: &limits,
@@ -130,7 +130,7 @@ fn found_learned<T: Theory, D: Decide<T>>(
         effort,
     };
     let mut aside = Aside::new(task.alloc);
-    let found = solve_learned(&task, decide, bank, assignments, &mut aside)?;
+    let found = solve_learned(&limited, decide, bank, assignments, &mut aside)?;
     Ok(found)
 }
 
