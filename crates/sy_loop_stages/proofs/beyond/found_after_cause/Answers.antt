@@ -19,3 +19,6 @@ solve_beyond-requires-clause-bank g c =
 
 pub returns-in-Some : goal.returns-in-Some
 returns-in-Some g c = rw c.in-Some.is at c.in_ok-own.ensures.found
+
+pub returns-in-Some-2 : goal.returns-in-Some-2
+returns-in-Some-2 g c = rw c.in-Some-2.is at c.in_ok-found.ensures.found
