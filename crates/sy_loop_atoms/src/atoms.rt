@@ -1,23 +1,23 @@
 // Literals of the one function's arguments.
 ghost use Rattle.sy_grammar_base.specs.Fits.{ProblemFits};
 
-use crate::families::{constants_of, is_free, pool_of};
-use crate::forms::{Kind, Settled, Sum, least_form, mixed};
-use crate::linear::{Over, difference};
-use crate::relations::{Order, Relation, Spelled, always, best_spelling};
-use crate::sides::{Writing, form_size, form_term};
+use crate::families::{constants_of, pool_of};
+use crate::saying::{Order, Relation, always, say, say_plainly};
 use crate::statements::Statements;
-use crate::values::value_at;
+use crate::sums::{Kind, Sum, sum_of};
+use crate::tokens::{Span, Token, part, plain_size, term_key};
+use crate::values::{term_of, value_of};
+use std::alloc::Global;
 use std::collections::HashMap;
 use sy_grammar_sizes::number_of;
 use sy_loop_bodies::Task;
-use sy_terms::{Sort, Term, Terms, Theory, Value, Want};
+use sy_terms::{Op, Sort, Term, Theory, Value, Want};
 
 /// How many literals there are at most.
-pub(crate) const MOST_LITERALS: usize = 8_000;
+const MOST_LITERALS: usize = 8_000;
 
-/// What a literal costs is made of: its size, whether it stands in the problem, whether it is an equality that was found to
-/// hold at all points inside, and whether it says that two terms differ.
+/// What the cost of a literal is made of: its size, whether it stands in the problem, whether it is an equality that was found
+/// to hold at all points inside, and whether it says that two terms differ.
 #[derive(Clone, Copy)]
 pub struct Traits {
     pub size: u32,
@@ -26,11 +26,11 @@ pub struct Traits {
     pub unequal: bool,
 }
 
-/// A literal: a comparison of a sum, or another term; a comparison has a term where the grammar has it in a way of its own.
-#[derive(Drop)]
-pub(crate) struct Literal<T: Theory> {
+/// A literal: its tokens' span, and the comparison of a sum with 0 that it is.
+#[derive(Clone, Copy)]
+pub(crate) struct Literal {
+    pub span: Span,
     pub form: Option<(Kind, Sum)>,
-    pub term: Option<Term<T>>,
     pub traits: Traits,
     /// The literal that says the contrary, where it was met.
     pub contrary: Option<usize>,
@@ -39,8 +39,10 @@ pub(crate) struct Literal<T: Theory> {
 /// Literals of the one function's arguments, by number: comparisons and other terms of sort Bool. They are a guide to a
 /// search: what is made of them is tested and proved afterwards.
 #[derive(Drop)]
-pub struct Atoms<T: Theory> {
-    pub(crate) literals: Vec<Literal<T>>,
+pub struct Atoms {
+    pub(crate) literals: Vec<Literal>,
+    /// The tokens of all literals.
+    pub(crate) tokens: Vec<Token>,
     /// Numbers of literals by what they say.
     pub(crate) places: HashMap<u64, Vec<usize>>,
     /// The sorts of the arguments.
@@ -52,34 +54,32 @@ pub struct Atoms<T: Theory> {
     pub(crate) free: bool,
     /// The sums of one and two arguments.
     pub(crate) sums: Vec<Sum>,
-    /// Whether vectors are compared in two's complement somewhere.
-    pub(crate) signed: bool,
-    /// How many more nodes of the problem are looked at.
+    /// How many more ways to write literals are tried.
     pub(crate) left: u32,
-    /// How many more ways to write comparisons are tried.
-    pub(crate) tests: u32,
-    /// Whether the grammar has negations of kept terms, once one was tried.
-    pub(crate) negates: Option<bool>,
     pub(crate) clauses: Vec<Vec<usize>>,
     pub(crate) goals: Vec<Vec<Vec<usize>>>,
+    /// Room for the two sides of a comparison, for it, and for the sums of a term.
+    pub(crate) first: Vec<Token>,
+    pub(crate) second: Vec<Token>,
+    pub(crate) said: Vec<Token>,
+    pub(crate) stack: Vec<Sum>,
 }
 
-impl<T: Theory> Atoms<T> {
+impl Atoms {
     /// The literals that stand in the problem, put over the arguments, and comparisons of one or two arguments.
-    pub fn new(task: &Task<T>, statements: &Statements<T>) -> Result<Atoms<T>, Want>
+    pub fn new<T: Theory>(task: &Task<T>, statements: &Statements) -> Result<Atoms, Want>
         requires { ProblemFits T.Theory task.now.problem.now }
     {
         let mut atoms = Atoms::empty(task)?;
-        atoms.free = is_free(task, &atoms)?;
-        atoms.add_truths(task)?;
+        atoms.see_grammar(task)?;
         atoms.add_program(task, statements)?;
+        atoms.add_goals(task, statements)?;
         atoms.add_pairs(task)?;
-        atoms.add_vectors(task)?;
         Ok(atoms)
     }
 
     /// No literals.
-    fn empty(task: &Task<T>) -> Result<Atoms<T>, Want> {
+    fn empty<T: Theory>(task: &Task<T>) -> Result<Atoms, Want> {
         let alloc = task.alloc;
         let mut sorts = Vec::new(alloc);
         if let Some(wanted) = task.problem.wanted.get(0) {
@@ -89,18 +89,20 @@ impl<T: Theory> Atoms<T> {
         let constants = constants_of(alloc, pool.as_slice())?;
         Ok(Atoms {
             literals: Vec::new(alloc),
+            tokens: Vec::new(alloc),
             places: HashMap::new(alloc),
             sorts,
             pool,
             constants,
             free: false,
             sums: Vec::new(alloc),
-            signed: false,
-            left: 20_000,
-            tests: 3_000,
-            negates: None,
+            left: 4_000,
             clauses: Vec::new(alloc),
             goals: Vec::new(alloc),
+            first: Vec::new(alloc),
+            second: Vec::new(alloc),
+            said: Vec::new(alloc),
+            stack: Vec::new(alloc),
         })
     }
 
@@ -127,58 +129,59 @@ impl<T: Theory> Atoms<T> {
         self.clauses.as_slice()
     }
 
-    /// Formulas to begin with: what the function has to imply, and what has to imply it, as clauses of literals.
+    /// Formulas to begin with, as clauses of literals: what the function has to imply, and what has to imply it.
     pub fn goals(&self) -> &[Vec<Vec<usize>>] {
         self.goals.as_slice()
     }
 
     /// The truths at the tuple of the literals from this number on; what isn't computable there is false.
-    pub fn truths(
+    pub fn truths<T: Theory>(
         &self,
         task: &Task<T>,
         tuple: &[Value<T::Num>],
         from: usize,
-    ) -> Result<Vec<bool>, Want>
-        requires { ProblemFits T.Theory task.now.problem.now }
-    {
-        let mut numbers = Vec::with_capacity(task.alloc, tuple.len())?;
+    ) -> Result<Vec<bool>, Want> {
+        let alloc = task.alloc;
+        let mut numbers = Vec::with_capacity(alloc, tuple.len())?;
         for value in tuple {
             numbers.push(number_of::<T>(value))?;
         }
-        let mut truths = Vec::new(task.alloc);
+        let mut truths = Vec::with_capacity(alloc, self.literals.len())?;
         for literal in self.literals.iter().skip(from) {
-            let truth = truth_at(task, literal, numbers.as_slice(), tuple)?;
+            let truth = match &literal.form {
+                Some((kind, sum)) => match sum.value(numbers.as_slice()) {
+                    Some(value) => kind.holds(value),
+                    None => false,
+                },
+                None => {
+                    let tokens = part(self.tokens.as_slice(), literal.span);
+                    value_of::<T>(alloc, tokens, tuple)? == Some(Value::Truth(true))
+                }
+            };
             truths.push(truth)?;
         }
         Ok(truths)
     }
 
     /// The literal as a term.
-    pub fn term(&self, task: &Task<T>, literal: usize) -> Result<Option<Term<T>>, Want> {
-        let Some(found) = self.literals.get(literal) else {
-            return Ok(None);
-        };
-        if let Some(term) = &found.term {
-            let copy = term.copy(task.alloc)?;
-            return Ok(Some(copy));
-        }
-        match &found.form {
-            Some((kind, sum)) => form_term(self.writing(task), *kind, sum),
+    pub fn term<T: Theory>(&self, task: &Task<T>, literal: usize) -> Result<Option<Term<T>>, Want> {
+        match self.literals.get(literal) {
+            Some(found) => term_of::<T>(task.alloc, part(self.tokens.as_slice(), found.span)),
             None => Ok(None),
         }
     }
 
     /// The literal of the bound from the other side: `t >= c` of `t <= c`.
-    pub fn opposite(&self, literal: usize) -> Result<Option<usize>, Want> {
-        let Some((Kind::AtMost, sum)) = self.form_at(literal) else {
-            return Ok(None);
-        };
-        let opposite = sum.opposite()?;
-        Ok(self.place_of_form(Kind::AtMost, &opposite))
+    pub fn opposite(&self, literal: usize) -> Option<usize> {
+        let (kind, sum) = self.literals.get(literal)?.form?;
+        if kind != Kind::AtMost {
+            return None;
+        }
+        self.find_form(kind, &sum.opposite())
     }
 
     /// The literal of the equality that two bounds from both sides say together; maybe a new one.
-    pub fn joined(
+    pub fn joined<T: Theory>(
         &mut self,
         task: &Task<T>,
         first: usize,
@@ -186,48 +189,27 @@ impl<T: Theory> Atoms<T> {
     ) -> Result<Option<usize>, Want>
         requires { ProblemFits T.Theory task.now.problem.now }
     {
-        if self.opposite(first)? != Some(second) {
+        if self.opposite(first) != Some(second) {
             return Ok(None);
         }
-        let Some((_, sum)) = self.form_at(first) else {
-            return Ok(None);
-        };
-        let sum = sum.copy()?;
-        self.add_form(task, Kind::Equal, sum, false)
-    }
-
-    /// The comparison that the literal is.
-    fn form_at(&self, literal: usize) -> Option<(Kind, &Sum)> {
-        let (kind, sum) = self.literals.get(literal)?.form.as_ref()?;
-        Some((*kind, sum))
-    }
-
-    /// How comparisons are written.
-    pub(crate) fn writing(&self, task: &Task<T>) -> Writing<'_> {
-        Writing {
-            alloc: task.alloc,
-            pool: self.pool.as_slice(),
+        match self.literals.get(first) {
+            Some(
+                Literal {
+                    form: Some((_, sum)),
+                    ..
+                },
+            ) => {
+                let sum = *sum;
+                self.add_form(task, Kind::Equal, &sum, false)
+            }
+            _ => Ok(None),
         }
-    }
-
-    /// The arguments' sorts.
-    pub(crate) fn over(&self, task: &Task<T>) -> Over<'_> {
-        Over {
-            alloc: task.alloc,
-            sorts: self.sorts.as_slice(),
-        }
-    }
-
-    /// Whether there is no room for more literals.
-    pub(crate) fn is_full(&self) -> bool {
-        self.literals.len() >= MOST_LITERALS
     }
 
     /// The literal of the comparison, where there is one.
-    fn place_of_form(&self, kind: Kind, sum: &Sum) -> Option<usize> {
-        let key = sum.key(kind);
-        for place in self.places.get(&key)?.as_slice() {
-            if let Some((other, found)) = self.form_at(*place) {
+    pub(crate) fn find_form(&self, kind: Kind, sum: &Sum) -> Option<usize> {
+        for place in self.places.get(&sum.key(kind))?.as_slice() {
+            if let Some((other, found)) = self.literals.get(*place)?.form {
                 if other == kind && found.equals(sum) {
                     return Some(*place);
                 }
@@ -236,89 +218,99 @@ impl<T: Theory> Atoms<T> {
         None
     }
 
-    /// The literal of the term, where there is one.
-    fn place_of_term(&self, key: u64, term: &Term<T>) -> Option<usize> {
-        for place in self.places.get(&key)?.as_slice() {
-            if let Some(literal) = self.literals.get(*place) {
-                if let Some(other) = &literal.term {
-                    if literal.form.is_none() && other.equals(term) {
-                        return Some(*place);
-                    }
-                }
+    /// The literal of the tokens, where there is one.
+    pub(crate) fn find(&self, said: &[Token]) -> Option<usize> {
+        for place in self.places.get(&term_key(said))?.as_slice() {
+            let tokens = part(self.tokens.as_slice(), self.literals.get(*place)?.span);
+            if tokens == said {
+                return Some(*place);
             }
         }
         None
     }
 
     /// Notes that the literal stands in the problem, where it does.
-    fn mark(&mut self, literal: usize, program: bool) {
-        if let Some(found) = self.literals.get_mut(literal) {
-            found.traits.program = found.traits.program || program;
+    fn mark(&mut self, place: usize, program: bool) {
+        if let Some(literal) = self.literals.get_mut(place) {
+            literal.traits.program = literal.traits.program || program;
         }
     }
 
-    /// Adds the literal, which is found by the key.
-    fn push(
+    /// The literal of what was said, of this size, added where it is new. Where it is a comparison of a sum and another way
+    /// to write that was larger, it takes its place.
+    pub(crate) fn add_said(
         &mut self,
-        task: &Task<T>,
-        key: u64,
-        literal: Literal<T>,
+        alloc: Global,
+        form: Option<(Kind, Sum)>,
+        traits: Traits,
     ) -> Result<Option<usize>, Want> {
-        if self.is_full() {
+        let (known, key) = match &form {
+            Some((kind, sum)) => (self.find_form(*kind, sum), sum.key(*kind)),
+            None => (
+                self.find(self.said.as_slice()),
+                term_key(self.said.as_slice()),
+            ),
+        };
+        let from = self.tokens.len();
+        let to = from.saturating_add(self.said.len());
+        let span = Span { from, to };
+        if let Some(place) = known {
+            self.mark(place, traits.program);
+            if let Some(literal) = self.literals.get_mut(place) {
+                if traits.size < literal.traits.size {
+                    literal.traits.size = traits.size;
+                    literal.span = span;
+                    self.tokens.extend_from_slice(self.said.as_slice())?;
+                }
+            }
+            return Ok(known);
+        }
+        if self.literals.len() >= MOST_LITERALS {
             return Ok(None);
         }
-        let place = self.literals.len();
-        self.literals.push(literal)?;
+        self.tokens.extend_from_slice(self.said.as_slice())?;
+        let contrary = None;
+        self.literals.push(Literal {
+            span,
+            form,
+            traits,
+            contrary,
+        })?;
+        self.note(alloc, key)
+    }
+
+    /// Notes the key of the last literal, and answers its number.
+    fn note(&mut self, alloc: Global, key: u64) -> Result<Option<usize>, Want> {
+        let place = self.literals.len().saturating_sub(1);
         if let Some(places) = self.places.get_mut(&key) {
             places.push(place)?;
             return Ok(Some(place));
         }
-        let mut places = Vec::with_capacity(task.alloc, 1)?;
+        let mut places = Vec::with_capacity(alloc, 1)?;
         places.push(place)?;
         self.places.insert(key, places)?;
         Ok(Some(place))
     }
 
-    /// The literal of the comparison of the sum with 0, added where it is new and the grammar has it; `None` where there is none.
-    pub(crate) fn add_form(
+    /// The literal of the comparison of the sum with 0, added where it is new and the grammar has it.
+    pub(crate) fn add_form<T: Theory>(
         &mut self,
         task: &Task<T>,
         kind: Kind,
-        sum: Sum,
+        sum: &Sum,
         program: bool,
     ) -> Result<Option<usize>, Want>
         requires { ProblemFits T.Theory task.now.problem.now }
     {
-        let Some(Settled::Open(sum)) = least_form(kind, sum) else {
+        let Some(least) = sum.least(kind) else {
             return Ok(None);
         };
-        if let Some(place) = self.place_of_form(kind, &sum) {
+        if let Some(place) = self.find_form(kind, &least) {
             self.mark(place, program);
             return Ok(Some(place));
         }
-        if self.free {
-            return self.push_form(task, kind, sum, None, program);
-        }
-        let found = self.styled(task, kind, &sum)?;
-        match found {
-            Some(_) => self.push_form(task, kind, sum, found, program),
-            None => Ok(None),
-        }
-    }
-
-    /// Adds the comparison, with the term that the grammar has for it where it has one of its own.
-    fn push_form(
-        &mut self,
-        task: &Task<T>,
-        kind: Kind,
-        sum: Sum,
-        spelled: Option<Spelled<T>>,
-        program: bool,
-    ) -> Result<Option<usize>, Want> {
-        let key = sum.key(kind);
-        let (term, size) = match spelled {
-            Some(found) => (Some(found.term), found.size),
-            None => (None, form_size(self.writing(task), kind, &sum)?),
+        let Some(size) = self.say_form(task, kind, &least)? else {
+            return Ok(None);
         };
         let traits = Traits {
             size,
@@ -326,75 +318,84 @@ impl<T: Theory> Atoms<T> {
             hull: false,
             unequal: kind == Kind::Unequal,
         };
-        let literal = Literal {
-            form: Some((kind, sum)),
-            term,
-            traits,
-            contrary: None,
-        };
-        self.push(task, key, literal)
+        self.add_said(task.alloc, Some((kind, least)), traits)
     }
 
-    /// The literal of a comparison that the grammar has as this term, added where it is new.
-    pub(crate) fn add_spelled(
+    /// Writes the comparison, and answers its size; `None` where the grammar hasn't it.
+    pub(crate) fn say_form<T: Theory>(
         &mut self,
         task: &Task<T>,
         kind: Kind,
-        sum: Sum,
-        spelled: Spelled<T>,
-        program: bool,
-    ) -> Result<Option<usize>, Want> {
-        let Some(Settled::Open(sum)) = least_form(kind, sum) else {
-            return Ok(None);
+        sum: &Sum,
+    ) -> Result<Option<u32>, Want>
+        requires { ProblemFits T.Theory task.now.problem.now }
+    {
+        let relation = match kind {
+            Kind::AtMost => Relation::AtMost,
+            Kind::Equal => Relation::Equal,
+            Kind::Unequal => Relation::Unequal,
         };
-        let Some(place) = self.place_of_form(kind, &sum) else {
-            return self.push_form(task, kind, sum, Some(spelled), program);
-        };
-        self.mark(place, program);
-        if let Some(literal) = self.literals.get_mut(place) {
-            if spelled.size < literal.traits.size {
-                literal.traits.size = spelled.size;
-                literal.term = Some(spelled.term);
-            }
+        self.write_sides(sum)?;
+        if self.free {
+            return self.say_freely(relation, sum);
         }
-        Ok(Some(place))
+        if self.left == 0 {
+            return Ok(None);
+        }
+        self.left = self.left.saturating_sub(1);
+        let terms = (self.first.as_slice(), self.second.as_slice());
+        if let Some(size) = say(task, &mut self.said, relation, Order::Integers, terms)? {
+            return Ok(Some(size));
+        }
+        if kind != Kind::AtMost {
+            return Ok(None);
+        }
+        self.write_sides(&sum.plus(-1))?;
+        let terms = (self.first.as_slice(), self.second.as_slice());
+        say(task, &mut self.said, Relation::Less, Order::Integers, terms)
     }
 
-    /// The literal of the term, added where it is new.
-    pub(crate) fn add_term(
-        &mut self,
-        task: &Task<T>,
-        spelled: Spelled<T>,
-        program: bool,
-        unequal: bool,
-    ) -> Result<Option<usize>, Want> {
-        let key = term_key(&spelled.term, 5);
-        if let Some(place) = self.place_of_term(key, &spelled.term) {
-            self.mark(place, program);
-            return Ok(Some(place));
+    /// Writes the relation of the sum's sides in a grammar that has all comparisons, and answers its size: a bound as the
+    /// negation of the one beyond it, where that is smaller.
+    fn say_freely(&mut self, relation: Relation, sum: &Sum) -> Result<Option<u32>, Want> {
+        say_plainly(
+            &mut self.said,
+            relation,
+            (self.first.as_slice(), self.second.as_slice()),
+        )?;
+        let size = plain_size(self.said.as_slice(), self.pool.as_slice());
+        if relation != Relation::AtMost {
+            return Ok(Some(size));
         }
-        let traits = Traits {
-            size: spelled.size,
-            program,
-            hull: false,
-            unequal,
-        };
-        let literal = Literal {
-            form: None,
-            term: Some(spelled.term),
-            traits,
-            contrary: None,
-        };
-        self.push(task, key, literal)
+        self.write_sides(&sum.beyond())?;
+        let left = plain_size(self.first.as_slice(), self.pool.as_slice());
+        let right = plain_size(self.second.as_slice(), self.pool.as_slice());
+        let other = left.saturating_add(right).saturating_add(2);
+        if other < size {
+            say_plainly(
+                &mut self.said,
+                relation,
+                (self.first.as_slice(), self.second.as_slice()),
+            )?;
+            self.said.push(Token::Apply(Op::Not, 1))?;
+        }
+        Ok(Some(size.min(other)))
+    }
+
+    /// Writes the two sides of the comparison of the sum with 0.
+    fn write_sides(&mut self, sum: &Sum) -> Result<(), Want> {
+        let (left, right) = sum.constants();
+        sum.write_side(1, left, self.pool.as_slice(), &mut self.first)?;
+        sum.write_side(-1, right, self.pool.as_slice(), &mut self.second)
     }
 
     /// The literal that says this of the two terms, added where it is new; `None` where the grammar has none.
-    pub(crate) fn related(
+    pub(crate) fn related<T: Theory>(
         &mut self,
         task: &Task<T>,
         relation: Relation,
-        order: Option<Order>,
-        terms: (&Term<T>, &Term<T>),
+        order: Order,
+        terms: (&[Token], &[Token]),
         program: bool,
     ) -> Result<Option<usize>, Want>
         requires { ProblemFits T.Theory task.now.problem.now }
@@ -403,77 +404,55 @@ impl<T: Theory> Atoms<T> {
         if always(relation, order, first, second).is_some() {
             return Ok(None);
         }
-        let sum = difference(self.over(task), first, second)?;
-        let Some(sum) = sum else {
-            let Some(found) = best_spelling(task, relation, order, first, second)? else {
-                return Ok(None);
-            };
-            return self.add_term(task, found, program, relation == Relation::Unequal);
+        let form = match self.difference(first, second)? {
+            Some(sum) => Some(form_of(relation, &sum)),
+            None => None,
         };
-        let (kind, more) = kind_of(relation);
-        let sum = sum.plus(more)?;
-        if self.free {
-            return self.add_form(task, kind, sum, program);
+        if let Some((kind, sum)) = &form {
+            if self.free || sum.least(*kind).is_none() {
+                return self.add_form(task, *kind, sum, program);
+            }
         }
-        match best_spelling(task, relation, order, first, second)? {
-            Some(found) => self.add_spelled(task, kind, sum, found, program),
-            None => self.add_form(task, kind, sum, program),
+        let Some(size) = say(task, &mut self.said, relation, order, terms)? else {
+            return Ok(None);
+        };
+        let least = match &form {
+            Some((kind, sum)) => match sum.least(*kind) {
+                Some(least) => Some((*kind, least)),
+                None => None,
+            },
+            None => None,
+        };
+        let traits = Traits {
+            size,
+            program,
+            hull: false,
+            unequal: relation == Relation::Unequal,
+        };
+        self.add_said(task.alloc, least, traits)
+    }
+
+    /// The first term less the second, where both are sums of integer arguments.
+    pub(crate) fn difference(
+        &mut self,
+        first: &[Token],
+        second: &[Token],
+    ) -> Result<Option<Sum>, Want> {
+        let left = sum_of(first, self.sorts.as_slice(), &mut self.stack)?;
+        let right = sum_of(second, self.sorts.as_slice(), &mut self.stack)?;
+        match (left, right) {
+            (Some(left), Some(right)) => Ok(Some(left.with(&right, -1))),
+            _ => Ok(None),
         }
     }
 }
 
-/// How the difference of two integers, with this much added, compares with 0.
-pub(crate) fn kind_of(relation: Relation) -> (Kind, i128) {
+/// The comparison with 0 of the difference of two terms of which this is said.
+pub(crate) fn form_of(relation: Relation, sum: &Sum) -> (Kind, Sum) {
     match relation {
-        Relation::Less => (Kind::AtMost, 1),
-        Relation::AtMost => (Kind::AtMost, 0),
-        Relation::Equal => (Kind::Equal, 0),
-        Relation::Unequal => (Kind::Unequal, 0),
+        Relation::Less => (Kind::AtMost, sum.plus(1)),
+        Relation::AtMost => (Kind::AtMost, *sum),
+        Relation::Equal => (Kind::Equal, *sum),
+        Relation::Unequal => (Kind::Unequal, *sum),
     }
-}
-
-/// The truth of the literal at the tuple, whose integers are these numbers.
-fn truth_at<T: Theory>(
-    task: &Task<T>,
-    literal: &Literal<T>,
-    numbers: &[i128],
-    tuple: &[Value<T::Num>],
-) -> Result<bool, Want>
-    requires { ProblemFits T.Theory task.now.problem.now }
-{
-    if let Some((kind, sum)) = &literal.form {
-        return match sum.value(numbers) {
-            Some(value) => Ok(kind.holds(value)),
-            None => Ok(false),
-        };
-    }
-    let Some(term) = &literal.term else {
-        return Ok(false);
-    };
-    match value_at(task, term, tuple)? {
-        Some(Value::Truth(truth)) => Ok(truth),
-        _ => Ok(false),
-    }
-}
-
-/// A number by which the term is found.
-#[cycle(key)]
-fn term_key<T: Theory>(term: &Term<T>, seed: u64) -> u64 {
-    match term {
-        Term::Const(value) => mixed(seed, number_of::<T>(value)),
-        Term::Var(position) => mixed(seed.wrapping_add(1), i128::from(*position)),
-        Term::App(_, terms) => terms_key(terms, seed.wrapping_add(2)),
-        Term::Call(_, terms) => terms_key(terms, seed.wrapping_add(3)),
-        Term::Let(terms, _) => terms_key(terms, seed.wrapping_add(4)),
-    }
-}
-
-/// A number by which the terms are found.
-#[cycle(key)]
-fn terms_key<T: Theory>(terms: &Terms<T>, seed: u64) -> u64 {
-    let mut key = seed;
-    for term in terms.as_slice() {
-        key = mixed(term_key(term, 5), i128::from(key));
-    }
-    key
 }

@@ -1,44 +1,35 @@
 // What statements say of labels of points, at values of the variables.
-ghost use Rattle.sy_grammar_base.specs.Fits.{ProblemFits};
-
-use crate::statements::{Statement, Statements};
-use crate::values::value_at;
+use crate::opening::Opening;
+use crate::statements::Statements;
+use crate::tokens::{Span, part};
+use crate::values::value_of;
 use std::alloc::Global;
 use sy_loop_bodies::{Task, point_of};
-use sy_terms::{Seq, Term, Theory, Value, Values, Want, copied_values};
+use sy_terms::{Seq, Theory, Value, Values, Want, copied_values};
 
 /// How many points one statement may ask.
 const MOST_POINTS: usize = 4;
 
-/// The tuples that a statement asks, each once, and for each of its calls which of them.
-#[derive(Drop)]
-struct Asked<T: Theory> {
-    tuples: Vec<Values<T>>,
-    which: Vec<usize>,
-}
-
-/// Points by their bits, and those of them that are inside: one of them has to be labelled so.
+/// Points by their bits, and those of them that are inside: one of them is labelled so in every solution.
 #[derive(Clone, Copy, PartialEq, Eq)]
 struct Clause {
     points: u32,
     inside: u32,
 }
 
-impl<T: Theory> Statements<T> {
+impl Statements {
     /// What the statements say of the function at these values of the variables: of each list one label holds in every
     /// solution, that of a place in `tuples`, and whether it is inside. New tuples are put behind, each once. Where a list
     /// is empty there is no solution. What asks too many points, or isn't computable, says nothing.
-    pub fn conditions_at(
+    pub fn conditions_at<T: Theory>(
         &self,
         task: &Task<T>,
         values: &[Value<T::Num>],
         tuples: &mut Vec<Values<T>>,
-    ) -> Result<Vec<Vec<(usize, bool)>>, Want>
-        requires { ProblemFits T.Theory task.now.problem.now }
-    {
-        let mut conditions = Vec::new(task.alloc);
+    ) -> Result<Vec<Vec<(usize, bool)>>, Want> {
+        let mut conditions: Vec<Vec<(usize, bool)>> = Vec::new(task.alloc);
         for statement in &self.items {
-            add_conditions(task, statement, values, tuples, &mut conditions)?;
+            add_conditions::<T>(task.alloc, statement, values, tuples, &mut conditions)?;
         }
         Ok(conditions)
     }
@@ -46,81 +37,59 @@ impl<T: Theory> Statements<T> {
 
 /// Adds what the statement says.
 fn add_conditions<T: Theory>(
-    task: &Task<T>,
-    statement: &Statement<T>,
+    alloc: Global,
+    statement: &Opening,
     values: &[Value<T::Num>],
     tuples: &mut Vec<Values<T>>,
     conditions: &mut Vec<Vec<(usize, bool)>>,
-) -> Result<(), Want>
-    requires { ProblemFits T.Theory task.now.problem.now }
-{
-    let Some(asked) = asked_by(task, statement, values)? else {
+) -> Result<(), Want> {
+    let mut asked: Vec<usize> = Vec::new(alloc);
+    let mut which: Vec<usize> = Vec::new(alloc);
+    for call in &statement.calls {
+        let Some(place) = place_at::<T>(alloc, statement, call.as_slice(), values, tuples)? else {
+            return Ok(());
+        };
+        let number = asked.iter().position(|other| *other == place);
+        which.push(number.unwrap_or(asked.len()))?;
+        if number.is_none() {
+            asked.push(place)?;
+        }
+    }
+    if asked.len() > MOST_POINTS {
         return Ok(());
-    };
-    let refuted = refuted(task, statement, values, &asked)?;
-    let clauses = resolved(task.alloc, refuted)?;
+    }
+    let mut clauses = refuted::<T>(alloc, statement, values, which.as_slice(), asked.len())?;
+    resolve(&mut clauses)?;
     for clause in &clauses {
         if !is_implied(clauses.as_slice(), clause) {
-            let condition = condition_of(task.alloc, clause, &asked, tuples)?;
-            conditions.push(condition)?;
+            conditions.push(condition_of(alloc, clause, asked.as_slice())?)?;
         }
     }
     Ok(())
 }
 
-/// The tuples that the statement asks; `None` where they are too many, or one isn't computable.
-fn asked_by<T: Theory>(
-    task: &Task<T>,
-    statement: &Statement<T>,
+/// Where the values of the spans stand among the tuples; they are put behind where they don't. `None` where one isn't
+/// computable.
+fn place_at<T: Theory>(
+    alloc: Global,
+    statement: &Opening,
+    spans: &[Span],
     values: &[Value<T::Num>],
-) -> Result<Option<Asked<T>>, Want>
-    requires { ProblemFits T.Theory task.now.problem.now }
-{
-    let mut asked = Asked {
-        tuples: Vec::new(task.alloc),
-        which: Vec::new(task.alloc),
-    };
-    for call in &statement.calls {
-        let Some(tuple) = tuple_at(task, call.as_slice(), values)? else {
-            return Ok(None);
-        };
-        let place = place_of::<T>(tuple, &mut asked.tuples)?;
-        asked.which.push(place)?;
-        if asked.tuples.len() > MOST_POINTS {
-            return Ok(None);
-        }
-    }
-    Ok(Some(asked))
-}
-
-/// The values of the terms; `None` where one isn't computable.
-fn tuple_at<T: Theory>(
-    task: &Task<T>,
-    terms: &[Term<T>],
-    values: &[Value<T::Num>],
-) -> Result<Option<Values<T>>, Want>
-    requires { ProblemFits T.Theory task.now.problem.now }
-{
-    let mut tuple = Seq::new(task.alloc);
-    for term in terms {
-        match value_at(task, term, values)? {
+    tuples: &mut Vec<Values<T>>,
+) -> Result<Option<usize>, Want> {
+    let mut tuple = Seq::new(alloc);
+    for span in spans {
+        let tokens = part(statement.values.as_slice(), *span);
+        match value_of::<T>(alloc, tokens, values)? {
             Some(value) => tuple.push(value)?,
             None => return Ok(None),
         }
     }
-    Ok(Some(tuple))
-}
-
-/// Where the tuple stands; it is put behind where it doesn't.
-fn place_of<T: Theory>(tuple: Values<T>, tuples: &mut Vec<Values<T>>) -> Result<usize, Want> {
-    match point_of::<T>(tuples.as_slice(), tuple.as_slice()) {
-        Some(place) => Ok(place),
-        None => {
-            let place = tuples.len();
-            tuples.push(tuple)?;
-            Ok(place)
-        }
+    let known = point_of::<T>(tuples.as_slice(), tuple.as_slice());
+    if known.is_none() {
+        tuples.push(tuple)?;
     }
+    Ok(Some(known.unwrap_or(tuples.len().saturating_sub(1))))
 }
 
 /// The bit of a point.
@@ -135,20 +104,22 @@ fn bit(place: usize) -> u32 {
     }
 }
 
-/// One clause for each labelling of the points that makes the statement false: another label holds.
+/// One clause for each labelling of so many points that makes the statement false: another label holds.
 fn refuted<T: Theory>(
-    task: &Task<T>,
-    statement: &Statement<T>,
+    alloc: Global,
+    statement: &Opening,
     values: &[Value<T::Num>],
-    asked: &Asked<T>,
-) -> Result<Vec<Clause>, Want>
-    requires { ProblemFits T.Theory task.now.problem.now }
-{
-    let mut clauses = Vec::new(task.alloc);
-    let many = bit(asked.tuples.len());
+    which: &[usize],
+    count: usize,
+) -> Result<Vec<Clause>, Want> {
+    let mut clauses = Vec::new(alloc);
+    let many = bit(count);
     for labels in 0..many {
-        let longer = labelled::<T>(task.alloc, values, labels, asked.which.as_slice())?;
-        let found = value_at(task, &statement.term, longer.as_slice())?;
+        let mut longer = copied_values::<T>(alloc, values)?;
+        for place in which {
+            longer.push(Value::Truth(labels & bit(*place) != 0))?;
+        }
+        let found = value_of::<T>(alloc, statement.tokens.as_slice(), longer.as_slice())?;
         if let Some(Value::Truth(false)) = found {
             let points = many.saturating_sub(1);
             clauses.push(Clause {
@@ -160,48 +131,33 @@ fn refuted<T: Theory>(
     Ok(clauses)
 }
 
-/// The values, and behind them the labels of the calls' points.
-fn labelled<T: Theory>(
-    alloc: Global,
-    values: &[Value<T::Num>],
-    labels: u32,
-    which: &[usize],
-) -> Result<Values<T>, Want> {
-    let mut longer = copied_values::<T>(alloc, values)?;
-    for place in which {
-        longer.push(Value::Truth(labels & bit(*place) != 0))?;
-    }
-    Ok(longer)
-}
-
-/// The clauses, and what follows by resolving two that differ in the label of one point alone.
-fn resolved(alloc: Global, clauses: Vec<Clause>) -> Result<Vec<Clause>, Want> {
-    let mut all = clauses;
+/// Adds what follows by resolving two clauses that differ in the label of one point alone.
+fn resolve(clauses: &mut Vec<Clause>) -> Result<(), Want> {
     for _ in 0..MOST_POINTS {
-        let known = all.clone()?;
-        for (place, first) in known.iter().enumerate() {
-            for second in known.iter().take(place) {
-                add_resolvent(first, second, &mut all)?;
+        let count = clauses.len();
+        for place in 0..count {
+            for other in 0..place {
+                if let Some(clause) = resolvent(clauses[place], clauses[other]) {
+                    if !clauses.contains(&clause) {
+                        clauses.push(clause)?;
+                    }
+                }
             }
         }
     }
-    Ok(all)
+    Ok(())
 }
 
-/// Adds what follows from two clauses that differ in the label of one point alone.
-fn add_resolvent(first: &Clause, second: &Clause, all: &mut Vec<Clause>) -> Result<(), Want> {
+/// What follows from two clauses that differ in the label of one point alone.
+fn resolvent(first: Clause, second: Clause) -> Option<Clause> {
     let differ = first.inside ^ second.inside;
     if first.points != second.points || differ.count_ones() != 1 {
-        return Ok(());
+        return None;
     }
-    let clause = Clause {
+    Some(Clause {
         points: first.points & !differ,
         inside: first.inside & !differ,
-    };
-    if !all.contains(&clause) {
-        all.push(clause)?;
-    }
-    Ok(())
+    })
 }
 
 /// Whether another of the clauses says more.
@@ -215,19 +171,16 @@ fn is_implied(clauses: &[Clause], clause: &Clause) -> bool {
     false
 }
 
-/// The clause over places among the tuples.
-fn condition_of<T: Theory>(
+/// The clause over the places of its points among the tuples.
+fn condition_of(
     alloc: Global,
     clause: &Clause,
-    asked: &Asked<T>,
-    tuples: &mut Vec<Values<T>>,
+    asked: &[usize],
 ) -> Result<Vec<(usize, bool)>, Want> {
     let mut condition = Vec::new(alloc);
-    for (place, tuple) in asked.tuples.iter().enumerate() {
-        if clause.points & bit(place) != 0 {
-            let copy = copied_values::<T>(alloc, tuple.as_slice())?;
-            let number = place_of::<T>(copy, tuples)?;
-            condition.push((number, clause.inside & bit(place) != 0))?;
+    for (number, place) in asked.iter().enumerate() {
+        if clause.points & bit(number) != 0 {
+            condition.push((*place, clause.inside & bit(number) != 0))?;
         }
     }
     Ok(condition)

@@ -1,30 +1,32 @@
 // Equalities and bounds that hold at all points inside.
 ghost use Rattle.sy_grammar_base.specs.Fits.{ProblemFits};
 
-use crate::atoms::Atoms;
-use crate::forms::{Kind, Sum, common};
+use crate::atoms::{Atoms, Traits};
+use crate::saying::{Order, Relation, say};
+use crate::sums::{Kind, Sum, WIDTH, common};
+use crate::tokens::Token;
 use std::alloc::Global;
 use sy_grammar_sizes::number_of;
 use sy_loop_bodies::Task;
-use sy_terms::{Sort, Theory, Value, Values, Want};
-
-/// The greatest magnitude of a number of a point that is looked at.
-const MOST_NUMBER: i128 = 1_000_000_000;
+use sy_terms::{Op, Sort, Theory, Values, Want};
 
 /// The greatest magnitude of a number of a row.
 const MOST_ENTRY: u128 = 1 << 62;
 
+/// The greatest magnitude of an integer of a point that is looked at.
+const MOST_NUMBER: u128 = 1_000_000_000;
+
 /// A row of a system of equations, and the column in which it alone has a number.
-#[derive(Drop)]
+#[derive(Clone, Copy)]
 struct Row {
-    numbers: Vec<i128>,
+    sum: Sum,
     lead: usize,
 }
 
-impl<T: Theory> Atoms<T> {
+impl Atoms {
     /// Adds equalities of sums of arguments that hold at all tuples inside, the shortest first and at most so many; of integers
     /// their bounds too.
-    pub fn add_hull(
+    pub fn add_hull<T: Theory>(
         &mut self,
         task: &Task<T>,
         tuples: &[Values<T>],
@@ -33,118 +35,93 @@ impl<T: Theory> Atoms<T> {
     ) -> Result<(), Want>
         requires { ProblemFits T.Theory task.now.problem.now }
     {
-        self.add_linear(task, tuples, inside, most)?;
-        self.add_modular(task, tuples, inside, most)
-    }
-
-    /// The same of integers alone.
-    fn add_linear(
-        &mut self,
-        task: &Task<T>,
-        tuples: &[Values<T>],
-        inside: &[bool],
-        most: usize,
-    ) -> Result<(), Want>
-        requires { ProblemFits T.Theory task.now.problem.now }
-    {
-        if !self.sorts.contains(&Sort::Int) {
-            return Ok(());
-        }
-        let rows = rows_of::<T>(task.alloc, tuples, inside)?;
-        let columns = self.sorts.len().saturating_add(1);
+        self.left = self.left.max(200);
+        let rows = self.rows_of::<T>(task.alloc, tuples, inside)?;
         if rows.len() < 2 {
             return Ok(());
         }
-        let Some(system) = reduced(task.alloc, rows.as_slice(), columns)? else {
-            return Ok(());
-        };
-        let basis = basis_of(task.alloc, system.as_slice(), columns)?;
-        let found = combinations(task.alloc, basis)?;
-        self.add_shortest(task, found, most)
+        let mut system = Vec::new(task.alloc);
+        reduce(rows.as_slice(), &mut system)?;
+        let mut found = Vec::new(task.alloc);
+        solutions(system.as_slice(), self.sorts.as_slice(), &mut found)?;
+        combine(&mut found)?;
+        for _ in 0..most {
+            let Some(sum) = self.shortest(&mut found) else {
+                break;
+            };
+            self.add_equality(task, &sum)?;
+        }
+        self.look_at_vectors(task, rows.as_slice(), most)
     }
 
-    /// Adds so many of the equalities, the shortest first.
-    fn add_shortest(
-        &mut self,
-        task: &Task<T>,
-        rows: Vec<Vec<i128>>,
-        most: usize,
-    ) -> Result<(), Want>
-        requires { ProblemFits T.Theory task.now.problem.now }
-    {
-        let mut taken = Vec::from_elem(task.alloc, false, rows.len())?;
-        for _ in 0..most {
-            let Some(place) = self.shortest(rows.as_slice(), taken.as_slice()) else {
-                return Ok(());
-            };
-            if let Some(mark) = taken.get_mut(place) {
-                *mark = true;
+    /// The numbers of the tuples inside, each with a 1 behind. An integer that is too large leaves its tuple out.
+    fn rows_of<T: Theory>(
+        &self,
+        alloc: Global,
+        tuples: &[Values<T>],
+        inside: &[bool],
+    ) -> Result<Vec<Sum>, Want> {
+        let mut rows = Vec::new(alloc);
+        for (tuple, is_inside) in tuples.iter().zip(inside) {
+            let mut row = Sum::constant(1);
+            let mut fits = *is_inside;
+            for (place, value) in tuple.as_slice().iter().enumerate().take(WIDTH) {
+                let number = number_of::<T>(value);
+                let is_integer = self.sorts.get(place) == Some(&Sort::Int);
+                fits = fits && (!is_integer || number.unsigned_abs() <= MOST_NUMBER);
+                row = row.with(&Sum::of(&[(place, 1)]), number);
             }
-            if let Some(row) = rows.get(place) {
-                self.add_equality(task, row.as_slice())?;
+            if fits {
+                rows.push(row)?;
             }
         }
-        Ok(())
+        Ok(rows)
     }
 
-    /// The place of the shortest row that isn't taken, whose numbers aren't too large.
-    fn shortest(&self, rows: &[Vec<i128>], taken: &[bool]) -> Option<usize> {
-        let mut greatest = 12;
+    /// Takes out the shortest of the sums, if one is short enough.
+    fn shortest(&self, sums: &mut Vec<Sum>) -> Option<Sum> {
+        let mut greatest = 12i128;
         for number in &self.pool {
-            greatest = number.saturating_abs().max(greatest);
+            greatest = greatest.max(number.saturating_abs());
         }
         let mut best = None;
         let mut least = u128::MAX;
-        for (place, row) in rows.iter().enumerate() {
-            let length = length_of(row.as_slice(), greatest);
-            let open = taken.get(place) == Some(&false) && self.is_integral(row.as_slice());
-            if open && length < least {
+        for (place, sum) in sums.iter().enumerate() {
+            let length = length_of(sum, greatest.unsigned_abs());
+            if length < least {
                 least = length;
                 best = Some(place);
             }
         }
-        best
-    }
-
-    /// Whether the row has numbers at integer arguments alone.
-    fn is_integral(&self, row: &[i128]) -> bool {
-        for (sort, number) in self.sorts.iter().zip(row) {
-            if *number != 0 && *sort != Sort::Int {
-                return false;
-            }
+        let place = best?;
+        let found = *sums.get(place)?;
+        if let Some(sum) = sums.get_mut(place) {
+            *sum = Sum::constant(0);
         }
-        true
+        Some(found)
     }
 
-    /// Adds the equality of the row with 0, and both of its bounds.
-    fn add_equality(&mut self, task: &Task<T>, row: &[i128]) -> Result<(), Want>
+    /// Adds the equality of the sum with 0, and both of its bounds.
+    fn add_equality<T: Theory>(&mut self, task: &Task<T>, sum: &Sum) -> Result<(), Want>
         requires { ProblemFits T.Theory task.now.problem.now }
     {
-        let Some((constant, coefficients)) = row.split_last() else {
-            return Ok(());
-        };
-        let sum = Sum {
-            coefficients: coefficients.to_vec(task.alloc)?,
-            constant: *constant,
-        };
-        let opposite = sum.opposite()?;
-        if let Some(place) = self.add_both(task, Kind::Equal, &sum, false)? {
+        if let Some(place) = self.add_both(task, Kind::Equal, sum, false)? {
             self.mark_hull(place);
         }
-        self.add_both(task, Kind::AtMost, &sum, false)?;
-        self.add_both(task, Kind::AtMost, &opposite, false)?;
+        self.add_both(task, Kind::AtMost, sum, false)?;
+        self.add_both(task, Kind::AtMost, &sum.opposite(), false)?;
         Ok(())
     }
 
     /// Notes that the literal holds at all points inside.
-    pub(crate) fn mark_hull(&mut self, place: usize) {
+    fn mark_hull(&mut self, place: usize) {
         if let Some(literal) = self.literals.get_mut(place) {
             literal.traits.hull = true;
         }
     }
 
     /// Adds the least and the greatest values at the tuples inside of sums of one and two arguments, as bounds.
-    pub fn add_bounds(
+    pub fn add_bounds<T: Theory>(
         &mut self,
         task: &Task<T>,
         tuples: &[Values<T>],
@@ -152,294 +129,311 @@ impl<T: Theory> Atoms<T> {
     ) -> Result<(), Want>
         requires { ProblemFits T.Theory task.now.problem.now }
     {
-        let rows = rows_of::<T>(task.alloc, tuples, inside)?;
+        self.left = self.left.max(400);
+        let rows = self.rows_of::<T>(task.alloc, tuples, inside)?;
         for place in 0..self.sums.len() {
-            let Some(sum) = self.sums.get(place) else {
-                return Ok(());
-            };
-            let Some((least, greatest)) = range_of(sum, rows.as_slice()) else {
-                continue;
-            };
-            let above = sum.plus(greatest.saturating_neg())?;
-            let opposite = sum.opposite()?;
-            let below = opposite.plus(least)?;
-            self.add_both(task, Kind::AtMost, &above, false)?;
-            self.add_both(task, Kind::AtMost, &below, false)?;
+            let sum = self.sums[place];
+            if let Some((least, greatest)) = range_of(&sum, rows.as_slice()) {
+                let above = sum.plus(greatest.saturating_neg());
+                let below = sum.opposite().plus(least);
+                self.add_both(task, Kind::AtMost, &above, false)?;
+                self.add_both(task, Kind::AtMost, &below, false)?;
+            }
+        }
+        Ok(())
+    }
+
+    /// Adds so many equalities of sums of two to four vectors of one width that hold at all rows.
+    fn look_at_vectors<T: Theory>(
+        &mut self,
+        task: &Task<T>,
+        rows: &[Sum],
+        most: usize,
+    ) -> Result<(), Want>
+        requires { ProblemFits T.Theory task.now.problem.now }
+    {
+        let mut left = most;
+        let count = self.sorts.len().min(8);
+        for size in 2..5u32 {
+            for number in 0..6561u32 {
+                let parts = signs_of(number, count);
+                if left == 0 || width_of(&parts) != size {
+                    continue;
+                }
+                if let Some(width) = self.common_width(&parts) {
+                    if self.look(task, rows, &parts, width)? {
+                        left = left.saturating_sub(1);
+                    }
+                }
+            }
+        }
+        Ok(())
+    }
+
+    /// The width of the arguments in the sum, which all are vectors of it.
+    fn common_width(&self, sum: &Sum) -> Option<u8> {
+        let mut common = None;
+        for (number, sort) in sum.numbers.iter().zip(&self.sorts) {
+            if *number != 0 {
+                match (sort, common) {
+                    (Sort::Bits(width), None) => common = Some(*width),
+                    (Sort::Bits(width), Some(other)) if *width == other => {}
+                    _ => return None,
+                }
+            }
+        }
+        common
+    }
+
+    /// Adds the equality of the sum with 0, 1 or -1, where it holds at all rows, and answers whether it does.
+    fn look<T: Theory>(
+        &mut self,
+        task: &Task<T>,
+        rows: &[Sum],
+        parts: &Sum,
+        width: u8,
+    ) -> Result<bool, Want>
+        requires { ProblemFits T.Theory task.now.problem.now }
+    {
+        let Some(constant) = constant_at_all(rows, parts, width) else {
+            return Ok(false);
+        };
+        self.write_vectors(&parts.opposite(), width, constant == 1)?;
+        self.second.clear();
+        self.second.extend_from_slice(self.first.as_slice())?;
+        self.write_vectors(parts, width, constant > 1)?;
+        let terms = (self.first.as_slice(), self.second.as_slice());
+        let Some(size) = say(
+            task,
+            &mut self.said,
+            Relation::Equal,
+            Order::Unsigned,
+            terms,
+        )?
+        else {
+            return Ok(false);
+        };
+        let traits = Traits {
+            size,
+            program: false,
+            hull: true,
+            unequal: false,
+        };
+        if let Some(place) = self.add_said(task.alloc, None, traits)? {
+            self.mark_hull(place);
+        }
+        Ok(true)
+    }
+
+    /// Writes the sum of the vectors with coefficients above 0, and 1 where it is to be added; 0 where there are none.
+    fn write_vectors(&mut self, parts: &Sum, width: u8, one: bool) -> Result<(), Want> {
+        self.first.clear();
+        let mut position = 0u32;
+        for number in parts.numbers.iter().take(WIDTH) {
+            if *number > 0 {
+                self.first.push(Token::Variable(position))?;
+            }
+            position = position.saturating_add(1);
+        }
+        if one || self.first.is_empty() {
+            let number = i128::from(one);
+            self.first.push(Token::Constant(Sort::Bits(width), number))?;
+        }
+        for _ in 1..self.first.len() {
+            self.first.push(Token::Apply(Op::BvAdd, 2))?;
         }
         Ok(())
     }
 }
 
-/// The numbers of the tuples inside, each with a 1 behind, where they aren't too large.
-fn rows_of<T: Theory>(
-    alloc: Global,
-    tuples: &[Values<T>],
-    inside: &[bool],
-) -> Result<Vec<Vec<i128>>, Want> {
-    let mut rows = Vec::new(alloc);
-    for (tuple, inside) in tuples.iter().zip(inside) {
-        if *inside {
-            let row = row_of::<T>(alloc, tuple.as_slice())?;
-            if are_small(row.as_slice()) {
-                rows.push(row)?;
-            }
-        }
-    }
-    Ok(rows)
-}
-
-/// Whether no number is too large.
-fn are_small(row: &[i128]) -> bool {
-    for number in row {
-        if number.saturating_abs() > MOST_NUMBER {
-            return false;
-        }
-    }
-    true
-}
-
-/// The numbers of the values, with a 1 behind.
-fn row_of<T: Theory>(alloc: Global, values: &[Value<T::Num>]) -> Result<Vec<i128>, Want> {
-    let mut row = Vec::with_capacity(alloc, values.len())?;
-    for value in values {
-        row.push(number_of::<T>(value))?;
-    }
-    row.push(1)?;
-    Ok(row)
-}
-
 /// The least and the greatest value of the sum at the rows.
-fn range_of(sum: &Sum, rows: &[Vec<i128>]) -> Option<(i128, i128)> {
-    let mut range = None;
+fn range_of(sum: &Sum, rows: &[Sum]) -> Option<(i128, i128)> {
+    let first = sum.value(&rows.first()?.numbers[..WIDTH])?;
+    let mut range = (first, first);
     for row in rows {
-        let value = sum.value(row.as_slice())?;
-        range = match range {
-            Some((least, greatest)) => Some((value.min(least), value.max(greatest))),
-            None => Some((value, value)),
+        let value = sum.value(&row.numbers[..WIDTH])?;
+        range = (value.min(range.0), value.max(range.1));
+    }
+    Some(range)
+}
+
+/// The sum of so many arguments with coefficients 0, 1 and -1 of this number, the first of which is 1.
+fn signs_of(number: u32, count: usize) -> Sum {
+    let mut sum = Sum::constant(0);
+    let mut left = number;
+    for place in 0..count.min(WIDTH) {
+        sum.numbers[place] = match left % 3 {
+            0 => 0,
+            1 => 1,
+            _ => -1,
         };
+        left /= 3;
     }
-    range
+    let is_turned = sum.numbers.iter().find(|number| **number != 0) == Some(&-1);
+    if left != 0 || is_turned {
+        Sum::constant(0)
+    } else {
+        sum
+    }
 }
 
-/// The rows without fractions so that each has a column in which it alone has a number; `None` where numbers grow too large,
-/// or nothing is left open.
-fn reduced(alloc: Global, rows: &[Vec<i128>], columns: usize) -> Result<Option<Vec<Row>>, Want> {
-    let mut system: Vec<Row> = Vec::new(alloc);
+/// How many coefficients aren't 0.
+fn width_of(sum: &Sum) -> u32 {
+    let mut width = 0u32;
+    for number in sum.numbers.iter().take(WIDTH) {
+        if *number != 0 {
+            width = width.saturating_add(1);
+        }
+    }
+    width
+}
+
+/// What the sum is at all rows modulo the width, if it is the same, and 0, 1 or -1; of four vectors only 0.
+fn constant_at_all(rows: &[Sum], parts: &Sum, width: u8) -> Option<i128> {
+    let modulus = 1i128 << width.min(64);
+    let mut common = None;
     for row in rows {
-        if let Some(new) = rest_of(row, system.as_slice())? {
-            if !add_row(new, &mut system)? {
-                return Ok(None);
+        let value = parts
+            .value(&row.numbers[..WIDTH])?
+            .checked_rem_euclid(modulus)?;
+        match common {
+            Some(other) if other != value => return None,
+            _ => common = Some(value),
+        }
+    }
+    let constant = common?;
+    let is_short = constant <= 1 || constant == modulus.saturating_sub(1);
+    if is_short && (constant == 0 || width_of(parts) < 4) {
+        Some(constant)
+    } else {
+        None
+    }
+}
+
+/// Makes rows of the system of those, so that each has a column in which it alone has a number. What grows too large is left out.
+fn reduce(rows: &[Sum], system: &mut Vec<Row>) -> Result<(), Want> {
+    for row in rows {
+        let mut rest = Some(*row);
+        for other in system.iter() {
+            if let Some(sum) = rest {
+                rest = without(&sum, &other.sum, other.lead);
             }
-            if system.len() >= columns {
-                return Ok(None);
+        }
+        let Some(sum) = rest else {
+            continue;
+        };
+        if let Some(lead) = lead_of(&sum) {
+            for other in system.iter_mut() {
+                if let Some(less) = without(&other.sum, &sum, lead) {
+                    other.sum = less;
+                }
             }
+            system.push(Row { sum, lead })?;
         }
     }
-    Ok(Some(system))
+    Ok(())
 }
 
-/// What is left of the row where the system's columns are taken out, with its own column; `None` where nothing is, or numbers
-/// grow too large.
-fn rest_of(row: &Vec<i128>, system: &[Row]) -> Result<Option<Row>, Want> {
-    let mut numbers = row.clone()?;
-    for other in system {
-        if !take_out(&mut numbers, other.numbers.as_slice(), other.lead) {
-            return Ok(None);
-        }
-    }
-    let Some(lead) = lead_of(numbers.as_slice()) else {
-        return Ok(None);
-    };
-    Ok(Some(Row { numbers, lead }))
-}
-
-/// Adds the row, and takes its column out of the others; answers whether numbers stay small enough.
-fn add_row(new: Row, system: &mut Vec<Row>) -> Result<bool, Want> {
-    for row in system.iter_mut() {
-        if !take_out(&mut row.numbers, new.numbers.as_slice(), new.lead) {
-            return Ok(false);
-        }
-    }
-    system.push(new)?;
-    Ok(true)
-}
-
-/// The last column but the constants' with a number; that one where it alone has one.
-fn lead_of(numbers: &[i128]) -> Option<usize> {
-    let last = numbers.len().checked_sub(1)?;
+/// The last column with a number but the constants', or that one.
+fn lead_of(sum: &Sum) -> Option<usize> {
     let mut lead = None;
-    for (column, number) in numbers.iter().enumerate() {
-        if *number != 0 && (column < last || lead.is_none()) {
+    for (column, number) in sum.numbers.iter().enumerate() {
+        if *number != 0 && (column < WIDTH || lead.is_none()) {
             lead = Some(column);
         }
     }
     lead
 }
 
-/// Makes the number in the column 0 by a multiple of the other row, and answers whether numbers stay small enough.
-fn take_out(numbers: &mut Vec<i128>, other: &[i128], column: usize) -> bool {
-    let (Some(own), Some(factor)) = (numbers.get(column).copied(), other.get(column).copied())
-    else {
-        return false;
-    };
+/// A multiple of the sum less one of the other, in which the column has 0; `None` where numbers grow too large.
+fn without(sum: &Sum, other: &Sum, column: usize) -> Option<Sum> {
+    let own = *sum.numbers.get(column)?;
+    let factor = *other.numbers.get(column)?;
     if own == 0 {
-        return true;
+        return Some(*sum);
     }
-    for (number, beside) in numbers.iter_mut().zip(other) {
-        let Some(left) = cross(*number, factor, *beside, own) else {
-            return false;
-        };
-        *number = left;
-    }
-    divide_all(numbers);
-    true
-}
-
-/// The first product less the second, where it is small enough.
-fn cross(a: i128, b: i128, c: i128, d: i128) -> Option<i128> {
-    let first = a.checked_mul(b)?;
-    let second = c.checked_mul(d)?;
-    let number = first.checked_sub(second)?;
-    if number.unsigned_abs() > MOST_ENTRY {
-        return None;
-    }
-    Some(number)
-}
-
-/// Divides the numbers by what divides them all.
-fn divide_all(numbers: &mut Vec<i128>) {
-    let mut divisor = 0u128;
-    for number in numbers.iter() {
-        divisor = common(divisor, number.unsigned_abs());
-    }
-    let divisor = i128::try_from(divisor).unwrap_or(1);
-    if divisor > 1 {
-        for number in numbers.iter_mut() {
-            *number = number.checked_div(divisor).unwrap_or(0);
-        }
-    }
-}
-
-/// Rows of coefficients that give 0 at all rows of the system: one for each column that no row of it has for its own.
-fn basis_of(alloc: Global, system: &[Row], columns: usize) -> Result<Vec<Vec<i128>>, Want> {
-    let mut basis = Vec::new(alloc);
-    for column in 0..columns {
-        if !leads(system, column) {
-            if let Some(numbers) = solution(alloc, system, columns, column)? {
-                basis.push(numbers)?;
-            }
-        }
-    }
-    Ok(basis)
-}
-
-/// Whether the column is a row's own.
-fn leads(system: &[Row], column: usize) -> bool {
-    for row in system {
-        if row.lead == column {
-            return true;
-        }
-    }
-    false
-}
-
-/// The coefficients with a number in the open column and in those of the rows that it needs.
-fn solution(
-    alloc: Global,
-    system: &[Row],
-    columns: usize,
-    column: usize,
-) -> Result<Option<Vec<i128>>, Want> {
-    let Some(own) = multiple_of(system, column) else {
-        return Ok(None);
-    };
-    let mut numbers = Vec::from_elem(alloc, 0i128, columns)?;
-    if let Some(number) = numbers.get_mut(column) {
-        *number = own;
-    }
-    for row in system {
-        let (open, lead) = pair_of(row, column);
-        let Some(product) = open.checked_mul(own) else {
-            return Ok(None);
-        };
-        if let Some(number) = numbers.get_mut(row.lead) {
-            *number = product.checked_div(lead).unwrap_or(0).saturating_neg();
-        }
-    }
-    divide_all(&mut numbers);
-    Ok(Some(numbers))
-}
-
-/// The row's numbers in the column and in its own.
-fn pair_of(row: &Row, column: usize) -> (i128, i128) {
-    let open = row.numbers.get(column).copied().unwrap_or(0);
-    let lead = row.numbers.get(row.lead).copied().unwrap_or(1);
-    (open, lead)
-}
-
-/// A number of the column by which all rows' own numbers are whole.
-fn multiple_of(system: &[Row], column: usize) -> Option<i128> {
-    let mut multiple = 1u128;
-    for row in system {
-        let (open, lead) = pair_of(row, column);
-        let lead = lead.unsigned_abs();
-        let need = lead.checked_div(common(lead, open.unsigned_abs()))?;
-        let part = need.checked_div(common(need, multiple))?;
-        multiple = multiple.checked_mul(part)?;
-        if multiple > 1_000_000_000 {
+    let left = Sum::constant(0)
+        .with(sum, factor)
+        .with(other, own.saturating_neg());
+    for number in &left.numbers {
+        if number.unsigned_abs() > MOST_ENTRY {
             return None;
         }
     }
-    i128::try_from(multiple).ok()
+    Some(left.divided(left.divisor(17).max(1)))
 }
 
-/// The rows, and the sums and differences of two of them.
-fn combinations(alloc: Global, basis: Vec<Vec<i128>>) -> Result<Vec<Vec<i128>>, Want> {
-    let mut all = Vec::new(alloc);
-    for row in &basis {
-        all.push(row.clone()?)?;
-    }
-    for (place, first) in basis.iter().enumerate() {
-        for second in basis.iter().take(place) {
-            all.push(combined(first, second, 1)?)?;
-            all.push(combined(first, second, -1)?)?;
+/// Sums that are 0 at all rows of the system: one for each integer argument, and the constant, that no row has for its own.
+fn solutions(system: &[Row], sorts: &[Sort], found: &mut Vec<Sum>) -> Result<(), Want> {
+    for column in 0..17usize {
+        let is_open = column == WIDTH || sorts.get(column) == Some(&Sort::Int);
+        let is_led = system.iter().any(|row| row.lead == column);
+        if is_open && !is_led {
+            if let Some(sum) = solution(system, column) {
+                found.push(sum)?;
+            }
         }
     }
-    Ok(all)
+    Ok(())
 }
 
-/// The first row and a multiple of the second.
-fn combined(first: &Vec<i128>, second: &[i128], factor: i128) -> Result<Vec<i128>, Want> {
-    let mut sum = first.clone()?;
-    for (number, other) in sum.iter_mut().zip(second) {
-        *number = number.saturating_add(other.saturating_mul(factor));
+/// The sum with a number in the open column and in those of the rows that it needs.
+fn solution(system: &[Row], column: usize) -> Option<Sum> {
+    let mut multiple = 1u128;
+    for row in system {
+        let open = row.sum.numbers.get(column)?.unsigned_abs();
+        let lead = row.sum.numbers.get(row.lead)?.unsigned_abs();
+        let need = lead.checked_div(common(lead, open))?;
+        multiple = multiple.checked_mul(need.checked_div(common(need, multiple))?)?;
+        if multiple > MOST_NUMBER {
+            return None;
+        }
     }
-    divide_all(&mut sum);
-    Ok(sum)
+    let own = i128::try_from(multiple).ok()?;
+    let mut sum = Sum::constant(0);
+    *sum.numbers.get_mut(column)? = own;
+    for row in system {
+        let open = row.sum.numbers.get(column)?.checked_mul(own)?;
+        let lead = *row.sum.numbers.get(row.lead)?;
+        *sum.numbers.get_mut(row.lead)? = open.checked_div(lead)?.saturating_neg();
+    }
+    Some(sum.divided(sum.divisor(17).max(1)))
 }
 
-/// How long the equality of the row is: by how many numbers it has, and then by their magnitudes. The greatest of all where
-/// it has no coefficient, or a larger one than this.
-fn length_of(row: &[i128], greatest: i128) -> u128 {
-    let Some((constant, coefficients)) = row.split_last() else {
-        return u128::MAX;
+/// Adds the sums and differences of two of the sums.
+fn combine(sums: &mut Vec<Sum>) -> Result<(), Want> {
+    let count = sums.len();
+    for first in 0..count {
+        for second in 0..first {
+            for factor in [1, -1] {
+                let sum = sums[first].with(&sums[second], factor);
+                sums.push(sum.divided(sum.divisor(17).max(1)))?;
+            }
+        }
+    }
+    Ok(())
+}
+
+/// How long the equality of the sum with 0 is: by how many numbers it has, and then by their magnitudes. The greatest of all
+/// where it has no coefficient, or one that is larger than this.
+fn length_of(sum: &Sum, greatest: u128) -> u128 {
+    let mut length = if sum.numbers[WIDTH] == 0 {
+        0u128
+    } else {
+        1 << 90
     };
-    let mut width = if *constant == 0 { 0u128 } else { 1 };
-    let mut sum = 0u128;
-    let mut any = false;
-    for number in coefficients {
-        if number.saturating_abs() > greatest {
+    for number in sum.numbers.iter().take(WIDTH) {
+        let magnitude = number.unsigned_abs();
+        if magnitude > greatest {
             return u128::MAX;
         }
-        if *number != 0 {
-            any = true;
-            width = width.saturating_add(1);
-            sum = sum.saturating_add(number.unsigned_abs());
+        if magnitude != 0 {
+            length = length.saturating_add(1 << 90).saturating_add(magnitude);
         }
     }
-    if any {
-        width.saturating_mul(1 << 90).saturating_add(sum)
-    } else {
+    if width_of(sum) == 0 {
         u128::MAX
+    } else {
+        length
     }
 }

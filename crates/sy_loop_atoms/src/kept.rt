@@ -1,163 +1,123 @@
 // Terms of a bank as literals.
 ghost use Rattle.sy_grammar_base.specs.Fits.{ProblemFits};
 
-use crate::atoms::Atoms;
-use crate::forms::{Kind, Sum};
-use crate::linear::{Over, difference};
-use crate::relations::{Relation, Spelled, comparison_of};
-use crate::sides::negated;
-use crate::values::size_of;
+use crate::atoms::{Atoms, Traits, form_of};
+use crate::opening::opened;
+use crate::saying::comparison_of;
+use crate::sums::{Kind, Sum};
+use crate::tokens::{Token, operands, part};
 use sy_bank_level::Bank;
-use sy_bank_rows::Kept;
 use sy_loop_bodies::Task;
-use sy_terms::{Op, Term, Terms, Theory, Want};
+use sy_terms::{Op, Term, Theory, Want};
 
 /// How many kept terms become literals at most.
 const MOST_TERMS: usize = 2_500;
 
-impl<T: Theory> Atoms<T> {
+impl Atoms {
     /// Adds the kept terms of the start symbol that aren't made of others by `and`, `or` and the like, the smallest first, and
     /// their negations.
-    pub fn add_kept(&mut self, task: &Task<T>, bank: &Bank<T>) -> Result<(), Want>
+    pub fn add_kept<T: Theory>(&mut self, task: &Task<T>, bank: &Bank<T>) -> Result<(), Want>
         requires { ProblemFits T.Theory task.now.problem.now }
     {
         let most = self.len().saturating_add(MOST_TERMS);
         for size in 0..u64::from(bank.upto()) + 1 {
             for kept in bank.kept(0, size as u32) {
                 if self.len() < most {
-                    self.add_entry(task, kept, size as u32)?;
+                    let term = kept.term(task.alloc)?;
+                    self.add_entry(task, &term, size as u32)?;
                 }
             }
         }
         Ok(())
     }
 
-    /// Adds the kept term of this size.
-    fn add_entry(&mut self, task: &Task<T>, kept: &Kept<T>, size: u32) -> Result<(), Want>
+    /// Adds the term, which the grammar has with this size, and its negation.
+    fn add_entry<T: Theory>(
+        &mut self,
+        task: &Task<T>,
+        term: &Term<T>,
+        size: u32,
+    ) -> Result<(), Want>
         requires { ProblemFits T.Theory task.now.problem.now }
     {
-        let term = kept.term(task.alloc)?;
-        if !is_literal(&term) {
-            return Ok(());
-        }
-        if let Some((kind, sum)) = form_of(self.over(task), &term)? {
-            let _known = self.add_spelled(task, kind, sum, Spelled { term, size }, false)?;
-            return Ok(());
-        }
-        let copy = term.copy(task.alloc)?;
-        let unequal = is_unequal(&term);
-        let _known = self.add_term(task, Spelled { term, size }, false, unequal)?;
-        self.add_negation(task, copy, size)
-    }
-
-    /// Adds the negation of the term of this size, where the grammar has it.
-    fn add_negation(&mut self, task: &Task<T>, term: Term<T>, size: u32) -> Result<(), Want>
-        requires { ProblemFits T.Theory task.now.problem.now }
-    {
-        if is_negation(&term) || self.negates == Some(false) {
-            return Ok(());
-        }
-        let unequal = is_equality(&term);
-        let Some(negation) = negated(task.alloc, Some(term))? else {
+        let found = opened(task, self.sorts.len(), &[term])?;
+        let Some(opening) = found else {
             return Ok(());
         };
-        if self.negates.is_none() {
-            let found = size_of(task, &negation)?;
-            self.negates = Some(found.is_some());
+        let Some(Token::Apply(operator, _)) = opening.tokens.last() else {
+            return Ok(());
+        };
+        if is_joined(operator) {
+            return Ok(());
         }
-        if self.negates == Some(true) {
-            let spelled = Spelled {
-                term: negation,
-                size: size.saturating_add(1),
-            };
-            self.add_term(task, spelled, false, unequal)?;
+        let is_negation = operator.equals(&Op::Not);
+        let form = self.form_said(opening.tokens.as_slice())?;
+        self.said.clear();
+        self.said.extend_from_slice(opening.tokens.as_slice())?;
+        let traits = Traits {
+            size,
+            program: false,
+            hull: false,
+            unequal: is_unequal(opening.tokens.as_slice()),
+        };
+        let plain = self.add_said(task.alloc, form, traits)?;
+        if form.is_none() && !is_negation {
+            self.said.push(Token::Apply(Op::Not, 1))?;
+            let negation = self.add_size(task, false)?;
+            self.pair_up(plain, negation);
         }
         Ok(())
     }
-}
 
-/// The comparison of a sum with 0 that the term says; `None` where it says none.
-pub(crate) fn form_of<T: Theory>(over: Over, term: &Term<T>) -> Result<Option<(Kind, Sum)>, Want> {
-    match term {
-        Term::App(Op::Not, terms) => match terms.get(0) {
-            Some(Term::App(operator, terms)) => form_of_pair(over, operator, terms, false),
-            _ => Ok(None),
-        },
-        Term::App(operator, terms) => form_of_pair(over, operator, terms, true),
-        _ => Ok(None),
+    /// The comparison of a sum with 0 that the term says; `None` where it says none.
+    fn form_said(&mut self, tokens: &[Token]) -> Result<Option<(Kind, Sum)>, Want> {
+        let mut place = tokens.len().saturating_sub(1);
+        let is_negated = tokens.get(place) == Some(&Token::Apply(Op::Not, 1));
+        if is_negated {
+            place = place.saturating_sub(1);
+        }
+        let Some(Token::Apply(operator, 2)) = tokens.get(place) else {
+            return Ok(None);
+        };
+        let Some(comparison) = comparison_of(operator) else {
+            return Ok(None);
+        };
+        let (relation, round) = if is_negated {
+            comparison.relation.negation()
+        } else {
+            (comparison.relation, false)
+        };
+        let (first, second) = operands(tokens, place);
+        let (first, second) = (part(tokens, first), part(tokens, second));
+        let found = if comparison.turned != round {
+            self.difference(second, first)?
+        } else {
+            self.difference(first, second)?
+        };
+        let Some(sum) = found else {
+            return Ok(None);
+        };
+        let (kind, sum) = form_of(relation, &sum);
+        Ok(match sum.least(kind) {
+            Some(least) => Some((kind, least)),
+            None => None,
+        })
     }
 }
 
-/// The comparison of a sum with 0 that says that the comparison of two terms has this truth.
-fn form_of_pair<T: Theory>(
-    over: Over,
-    operator: &Op,
-    terms: &Terms<T>,
-    truth: bool,
-) -> Result<Option<(Kind, Sum)>, Want> {
-    let Some(comparison) = comparison_of(operator) else {
-        return Ok(None);
-    };
-    let [first, second] = terms.as_slice() else {
-        return Ok(None);
-    };
-    let (relation, round) = if truth {
-        (comparison.relation, false)
-    } else {
-        comparison.relation.negation()
-    };
-    let sum = if comparison.turned != round {
-        difference(over, second, first)?
-    } else {
-        difference(over, first, second)?
-    };
-    let Some(sum) = sum else {
-        return Ok(None);
-    };
-    match relation {
-        Relation::Less => Ok(Some((Kind::AtMost, sum.plus(1)?))),
-        Relation::AtMost => Ok(Some((Kind::AtMost, sum))),
-        Relation::Equal => Ok(Some((Kind::Equal, sum))),
-        Relation::Unequal => Ok(Some((Kind::Unequal, sum))),
-    }
-}
-
-/// Whether the term isn't made of several others of sort Bool.
-fn is_literal<T: Theory>(term: &Term<T>) -> bool {
-    match term {
-        Term::App(operator, _) => match operator {
-            Op::And | Op::Or | Op::Implies | Op::Xor | Op::Ite => false,
-            _ => true,
-        },
-        Term::Const(_) => false,
-        _ => true,
-    }
-}
-
-/// Whether the term is a negation.
-fn is_negation<T: Theory>(term: &Term<T>) -> bool {
-    match term {
-        Term::App(operator, _) => operator.equals(&Op::Not),
-        _ => false,
-    }
-}
-
-/// Whether the term is an equality.
-fn is_equality<T: Theory>(term: &Term<T>) -> bool {
-    match term {
-        Term::App(operator, _) => operator.equals(&Op::Equal),
+/// Whether the operator makes truth values of truth values.
+fn is_joined(operator: &Op) -> bool {
+    match operator {
+        Op::And | Op::Or | Op::Implies | Op::Xor | Op::Ite => true,
         _ => false,
     }
 }
 
 /// Whether the term says that others differ.
-fn is_unequal<T: Theory>(term: &Term<T>) -> bool {
-    match term {
-        Term::App(Op::Not, terms) => match terms.get(0) {
-            Some(inner) => is_equality(inner),
-            None => false,
-        },
-        Term::App(operator, _) => operator.equals(&Op::Distinct),
+fn is_unequal(tokens: &[Token]) -> bool {
+    match tokens {
+        [.., Token::Apply(Op::Equal, _), Token::Apply(Op::Not, _)] => true,
+        [.., Token::Apply(Op::Distinct, _)] => true,
         _ => false,
     }
 }

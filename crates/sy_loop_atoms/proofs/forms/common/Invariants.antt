@@ -1,4 +1,0 @@
-use Rattle.sy_loop_atoms.proofs.forms.common.Given as goal
-
-abbrev pub decreases-loop-y : goal.decreases-loop-y
-decreases-loop-y l = l.y
