@@ -400,7 +400,8 @@ impl Atoms {
     ) -> Result<Option<usize>, Want>
         requires { ProblemFits T.Theory task.now.problem.now }
     {
-        let (first, second) = terms;
+        let is_turned = is_behind(relation, terms.0, terms.1);
+        let (first, second) = if is_turned { (terms.1, terms.0) } else { terms };
         if always(relation, order, first, second).is_some() {
             return Ok(None);
         }
@@ -413,7 +414,7 @@ impl Atoms {
                 return self.add_form(task, *kind, sum, program);
             }
         }
-        let Some(size) = say(task, &mut self.said, relation, order, terms)? else {
+        let Some(size) = say(task, &mut self.said, relation, order, (first, second))? else {
             return Ok(None);
         };
         let least = match &form {
@@ -444,6 +445,18 @@ impl Atoms {
             (Some(left), Some(right)) => Ok(Some(left.with(&right, -1))),
             _ => Ok(None),
         }
+    }
+}
+
+/// Whether the first of two terms that are said to be equal or not is rather the second: a constant, or a later variable.
+fn is_behind(relation: Relation, first: &[Token], second: &[Token]) -> bool {
+    if relation != Relation::Equal && relation != Relation::Unequal {
+        return false;
+    }
+    match (first, second) {
+        ([Token::Variable(a)], [Token::Variable(b)]) => a > b,
+        ([Token::Constant(_, _)], _) => true,
+        _ => false,
     }
 }
 

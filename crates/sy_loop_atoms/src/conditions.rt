@@ -43,26 +43,26 @@ fn add_conditions<T: Theory>(
     tuples: &mut Vec<Values<T>>,
     conditions: &mut Vec<Vec<(usize, bool)>>,
 ) -> Result<(), Want> {
-    let mut asked: Vec<usize> = Vec::new(alloc);
-    let mut which: Vec<usize> = Vec::new(alloc);
+    let mut asked = Vec::new(alloc);
+    let mut which = Vec::new(alloc);
     for call in &statement.calls {
-        let Some(place) = place_at::<T>(alloc, statement, call.as_slice(), values, tuples)? else {
-            return Ok(());
-        };
-        let number = asked.iter().position(|other| *other == place);
-        which.push(number.unwrap_or(asked.len()))?;
-        if number.is_none() {
-            asked.push(place)?;
+        match place_at::<T>(alloc, statement, call.as_slice(), values, &mut asked)? {
+            Some(place) if place < MOST_POINTS => which.push(place)?,
+            _ => return Ok(()),
         }
     }
-    if asked.len() > MOST_POINTS {
+    let mut clauses = refuted::<T>(alloc, statement, values, which.as_slice(), asked.len())?;
+    if clauses.is_empty() {
         return Ok(());
     }
-    let mut clauses = refuted::<T>(alloc, statement, values, which.as_slice(), asked.len())?;
     resolve(&mut clauses)?;
+    let mut places = Vec::with_capacity(alloc, asked.len())?;
+    for tuple in asked {
+        places.push(place_of::<T>(tuple, tuples)?)?;
+    }
     for clause in &clauses {
         if !is_implied(clauses.as_slice(), clause) {
-            conditions.push(condition_of(alloc, clause, asked.as_slice())?)?;
+            conditions.push(condition_of(alloc, clause, places.as_slice())?)?;
         }
     }
     Ok(())
@@ -85,11 +85,17 @@ fn place_at<T: Theory>(
             None => return Ok(None),
         }
     }
+    Ok(Some(place_of::<T>(tuple, tuples)?))
+}
+
+/// Where the tuple stands; it is put behind where it doesn't.
+fn place_of<T: Theory>(tuple: Values<T>, tuples: &mut Vec<Values<T>>) -> Result<usize, Want> {
     let known = point_of::<T>(tuples.as_slice(), tuple.as_slice());
+    let place = known.unwrap_or(tuples.len());
     if known.is_none() {
         tuples.push(tuple)?;
     }
-    Ok(Some(known.unwrap_or(tuples.len().saturating_sub(1))))
+    Ok(place)
 }
 
 /// The bit of a point.
@@ -137,27 +143,20 @@ fn resolve(clauses: &mut Vec<Clause>) -> Result<(), Want> {
         let count = clauses.len();
         for place in 0..count {
             for other in 0..place {
-                if let Some(clause) = resolvent(clauses[place], clauses[other]) {
-                    if !clauses.contains(&clause) {
-                        clauses.push(clause)?;
-                    }
+                let (first, second) = (clauses[place], clauses[other]);
+                let differ = first.inside ^ second.inside;
+                let clause = Clause {
+                    points: first.points & !differ,
+                    inside: first.inside & !differ,
+                };
+                let resolves = first.points == second.points && differ.count_ones() == 1;
+                if resolves && !clauses.contains(&clause) {
+                    clauses.push(clause)?;
                 }
             }
         }
     }
     Ok(())
-}
-
-/// What follows from two clauses that differ in the label of one point alone.
-fn resolvent(first: Clause, second: Clause) -> Option<Clause> {
-    let differ = first.inside ^ second.inside;
-    if first.points != second.points || differ.count_ones() != 1 {
-        return None;
-    }
-    Some(Clause {
-        points: first.points & !differ,
-        inside: first.inside & !differ,
-    })
 }
 
 /// Whether another of the clauses says more.

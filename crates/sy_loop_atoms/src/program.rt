@@ -9,7 +9,7 @@ use crate::sums::Kind;
 use crate::tokens::{Class, Span, Token, class_of, operands, part};
 use std::alloc::Global;
 use sy_loop_bodies::Task;
-use sy_terms::{Op, Sort, Theory, Want};
+use sy_terms::{Sort, Theory, Want};
 
 /// A variable that is no argument.
 pub(crate) const NAMELESS: u32 = u32::MAX;
@@ -54,9 +54,6 @@ impl Atoms {
             return Ok(());
         }
         self.left = self.left.saturating_sub(1);
-        if operator.equals(&Op::Mod) {
-            return self.add_remainders(task, first, second);
-        }
         match comparison_of(operator) {
             Some(comparison) if comparison.turned => {
                 self.add_compared(task, comparison, second, first)
@@ -112,30 +109,6 @@ impl Atoms {
         self.related(task, Relation::Less, order, terms, program)?;
         self.related(task, Relation::AtMost, order, turned, program)?;
         self.related(task, Relation::Less, order, turned, program)?;
-        Ok(())
-    }
-
-    /// Adds the equalities of the remainder with what it may be, where its divisor is a small constant.
-    fn add_remainders<T: Theory>(
-        &mut self,
-        task: &Task<T>,
-        first: &[Token],
-        second: &[Token],
-    ) -> Result<(), Want>
-        requires { ProblemFits T.Theory task.now.problem.now }
-    {
-        let [Token::Constant(Sort::Int, divisor)] = second else {
-            return Ok(());
-        };
-        let mut remainder = first.to_vec(task.alloc)?;
-        remainder.extend_from_slice(second)?;
-        remainder.push(Token::Apply(Op::Mod, 2))?;
-        for number in 0..(*divisor).min(8) {
-            let constant = [Token::Constant(Sort::Int, number)];
-            let terms = (remainder.as_slice(), &constant[..]);
-            self.related(task, Relation::Equal, Order::Integers, terms, true)?;
-            self.related(task, Relation::Unequal, Order::Integers, terms, true)?;
-        }
         Ok(())
     }
 }

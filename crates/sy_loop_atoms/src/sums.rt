@@ -1,5 +1,5 @@
 // Sums of integer arguments.
-use crate::tokens::{Token, is_repeated, mixed};
+use crate::tokens::{Token, mixed};
 use sy_terms::{Op, Sort, Want};
 
 /// How many arguments sums have; those behind aren't summed.
@@ -236,9 +236,9 @@ fn write_multiple(
     if factor == 1 {
         return side.push(argument);
     }
-    if is_repeated(factor, pool) {
+    if factor <= 4 && !pool.contains(&factor) {
         side.push(argument)?;
-        for _ in 1..factor.min(4) {
+        for _ in 1..factor {
             side.push(argument)?;
             side.push(Token::Apply(Op::Add, 2))?;
         }

@@ -1,4 +1,5 @@
 // Terms as tokens: an operator stands behind the terms to which it is applied.
+use crate::saying::comparison_of;
 use sy_grammar_sizes::digits;
 use sy_terms::{Op, Sort};
 
@@ -61,17 +62,6 @@ fn constant_size(number: i128, pool: &[i128]) -> u32 {
     digits(number.unsigned_abs()).saturating_add(1)
 }
 
-/// Whether a multiple by this factor is smaller as a sum than as a product.
-pub(crate) fn is_repeated(factor: i128, pool: &[i128]) -> bool {
-    let product = constant_size(factor, pool);
-    match factor {
-        2 => product > 1,
-        3 => product > 3,
-        4 => product > 5,
-        _ => false,
-    }
-}
-
 /// The size of the term in a grammar that has all of its operators and all constants.
 pub(crate) fn plain_size(tokens: &[Token], pool: &[i128]) -> u32 {
     let mut size = 0u32;
@@ -117,39 +107,27 @@ pub(crate) enum Class {
 
 /// What the values of the term are, where its variables have these sorts.
 pub(crate) fn class_of(tokens: &[Token], sorts: &[Sort]) -> Class {
-    let mut place = tokens.len();
-    for _ in 0..tokens.len() {
-        place = place.saturating_sub(1);
-        match tokens.get(place) {
-            Some(Token::Apply(Op::Ite, _)) => {}
-            Some(Token::Apply(operator, _)) => return class_given(operator),
-            Some(Token::Constant(sort, _)) => return class_in(Some(sort)),
-            Some(Token::Variable(position)) => return class_in(sorts.get(*position as usize)),
-            None => return Class::Truth,
+    let mut last = tokens.last();
+    for token in tokens.iter().rev() {
+        last = Some(token);
+        if !matches!(token, Token::Apply(Op::Ite, _)) {
+            break;
         }
     }
-    Class::Truth
-}
-
-/// What the values of the sort are.
-fn class_in(sort: Option<&Sort>) -> Class {
-    match sort {
-        Some(Sort::Int) => Class::Integer,
-        Some(Sort::Bits(_)) => Class::Vector,
+    match last {
+        Some(Token::Constant(Sort::Int, _)) => Class::Integer,
+        Some(Token::Constant(Sort::Bits(_), _)) => Class::Vector,
+        Some(Token::Variable(position)) => match sorts.get(*position as usize) {
+            Some(Sort::Int) => Class::Integer,
+            Some(Sort::Bits(_)) => Class::Vector,
+            _ => Class::Truth,
+        },
+        Some(Token::Apply(operator, _)) => match operator {
+            Op::Neg | Op::Sub | Op::Add | Op::Mul | Op::Div | Op::Mod | Op::Abs => Class::Integer,
+            Op::Not | Op::And | Op::Or | Op::Xor | Op::Implies => Class::Truth,
+            _ if comparison_of(operator).is_some() => Class::Truth,
+            _ => Class::Vector,
+        },
         _ => Class::Truth,
-    }
-}
-
-/// What the values of the operator, which isn't `ite`, are.
-fn class_given(operator: &Op) -> Class {
-    match operator {
-        Op::Neg | Op::Sub | Op::Add | Op::Mul | Op::Div | Op::Mod | Op::Abs => Class::Integer,
-        Op::Not | Op::And | Op::Or | Op::Xor | Op::Implies | Op::Equal | Op::Distinct => {
-            Class::Truth
-        }
-        Op::Le | Op::Lt | Op::Ge | Op::Gt => Class::Truth,
-        Op::BvUlt | Op::BvUle | Op::BvUgt | Op::BvUge => Class::Truth,
-        Op::BvSlt | Op::BvSle | Op::BvSgt | Op::BvSge => Class::Truth,
-        _ => Class::Vector,
     }
 }
