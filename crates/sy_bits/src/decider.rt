@@ -13,7 +13,7 @@ use crate::answers::{BvProof, BvSpent};
 use crate::turns::solve_in_turns;
 use std::alloc::{AllocError, Global};
 use sy_bits_circuit::Circuit;
-use sy_bits_clauses::{circuit_of, countable_size};
+use sy_bits_clauses::query_circuit;
 use sy_cdcl::Solved;
 use sy_clauses::Log;
 use sy_clauses_trim::trimmed;
@@ -30,8 +30,9 @@ const MOST_LEARNED: u32 = 2_147_483_647;
 /// the circuit clauses of the query, or of one that the same values satisfy and that is easier to search, and searches a
 /// model or a refutation of them that learns at most as many clauses as the limit `clauses`.
 ///
-/// A query whose variables and clauses may be 2^31 or more is answered as want of memory, and so is a search that
-/// learns 2^31 - 1 clauses below its limit.
+/// A query with variables, of which and of whose clauses there may be 2^31 or more, is answered as want of memory where none
+/// of these assignments satisfies it, and so is a search that learns 2^31 - 1 clauses below its limit. What has no
+/// variables is evaluated, however large it is.
 #[derive(Clone, Copy, Debug, PartialEq, Eq)]
 pub struct BvDecide;
 
@@ -59,13 +60,14 @@ impl Decide<BvTheory> for BvDecide {
         query: &Query<BvTheory>,
         limits: &Limits,
     ) -> Result<Verdict<BvTheory, BvProof, BvSpent>, Want> {
-        let Some(size) = countable_size(alloc, query)? else {
+        if query.vars.len() > 0 {
+            if let Some(values) = corner_model(alloc, query)? {
+                return Ok(Verdict::Model(values));
+            }
+        }
+        let Some(circuit) = query_circuit(alloc, query)? else {
             return Err(AllocError);
         };
-        if let Some(values) = corner_model(alloc, query)? {
-            return Ok(Verdict::Model(values));
-        }
-        let circuit = circuit_of(alloc, query, size)?;
         let fuel = limits.clauses.min(MOST_LEARNED);
         match solve_in_turns(alloc, circuit.cnf(), fuel) {
             Ok(solved) => answer(alloc, query, limits, circuit, solved),

@@ -6,8 +6,9 @@ ghost use Rattle.sy_clauses.specs.Clauses.{VarsFit};
 ghost use Rattle.sy_bits_terms.specs.Clauses.{HasCircuitClauses, query_size};
 ghost use Rattle.sy_bits_clauses.specs.Alike.{SpeaksFor};
 
+use crate::closed::closed_circuit;
 use crate::fitting::fits;
-use crate::room::countable_size;
+use crate::room::{LARGEST, countable_size};
 use std::alloc::Global;
 use sy_bits_circuit::{Circuit, blast};
 use sy_clauses::Cnf;
@@ -33,11 +34,31 @@ const MOST_NAMED: u64 = 16;
 /// The most variables and clauses for each unit of a query's size.
 const MOST_EACH: u64 = 1000;
 
+/// A circuit whose clauses say what the query says. `None` where the query has variables, and its variables and clauses
+/// may be 2^31 or more; one without variables has the clauses of a constant, whatever its size is.
+pub fn query_circuit(alloc: Global, query: &Query<BvTheory>) -> Result<Option<Circuit>, Want>
+    requires fits { QueryFits owned is_bits (query_of vector query.now) }
+    ensures variables { IfOk result (λ found. IfSome found (λ circuit. circuit.variables ≡ query.now.vars)) }
+    ensures clauses { IfOk result (λ found. IfSome found (λ circuit. HasCircuitClauses (query_of vector query.now) circuit.clauses)) }
+    ensures vars { IfOk result (λ found. IfSome found (λ circuit. VarsFit circuit.clauses)) }
+{
+    let countable = countable_size(alloc, query)?;
+    let least = countable.unwrap_or(LARGEST);
+    if let Some(circuit) = closed_circuit(alloc, query, least)? {
+        return Ok(Some(circuit));
+    }
+    let Some(size) = countable else {
+        return Ok(None);
+    };
+    let circuit = circuit_of(alloc, query, size)?;
+    Ok(Some(circuit))
+}
+
 /// A circuit whose clauses say what the query of this size says: that of a query which the same values satisfy and which is
 /// easier to search, where it has no more variables and clauses than the query's own may have, and else the query's own.
 /// Where the query gets too large with small terms in the places of their names, constants and variables alone are written
 /// there.
-pub fn circuit_of(alloc: Global, query: &Query<BvTheory>, size: u32) -> Result<Circuit, Want>
+fn circuit_of(alloc: Global, query: &Query<BvTheory>, size: u32) -> Result<Circuit, Want>
     requires fits { QueryFits owned is_bits (query_of vector query.now) }
     requires size { size ≡ query_size (query_of vector query.now) }
     requires room { 1000 * query_size (query_of vector query.now) < 2 ^ 31 }

@@ -2,9 +2,9 @@
 #![tactic(auto)]
 
 mod clauses;
+mod closed;
 mod fitting;
 mod room;
 
-pub use clauses::circuit_of;
+pub use clauses::query_circuit;
 pub use fitting::fits;
-pub use room::countable_size;

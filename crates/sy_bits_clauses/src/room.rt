@@ -13,7 +13,7 @@ use sy_terms::{Sort, Want};
 
 /// The greatest size of a query whose circuit clauses are sure to be fewer than 2^31: they are at most 1000 for each
 /// unit of size.
-const LARGEST: u32 = 2_147_483;
+pub(crate) const LARGEST: u32 = 2_147_483;
 
 /// How many bits a value of the sort has.
 fn sort_width(sort: Sort) -> u8
@@ -40,7 +40,7 @@ fn room_after(sorts: &[Sort], room: u32) -> Option<u32>
 }
 
 /// The query's size, where the variables and the clauses of its circuit are sure to be fewer than 2^31 each.
-pub fn countable_size(alloc: Global, query: &Query<BvTheory>) -> Result<Option<u32>, Want>
+pub(crate) fn countable_size(alloc: Global, query: &Query<BvTheory>) -> Result<Option<u32>, Want>
     requires { QueryFits owned is_bits (query_of vector query.now) }
     ensures { IfOk result (λ found. MatchOption found
         (2 ^ 31 ≤ 1000 * query_size (query_of vector query.now))

@@ -82,7 +82,7 @@ fn filled_rule<T: Theory>(
 }
 
 /// The kept term of this place among those of the nonterminal, by size and then in the order in which they were found.
-fn kept_at<T: Theory>(bank: &Bank<T>, nonterminal: u32, place: usize) -> Option<&Kept<T>> {
+pub fn kept_at<T: Theory>(bank: &Bank<T>, nonterminal: u32, place: usize) -> Option<&Kept<T>> {
     let mut left = place;
     for size in 0..u64::from(bank.upto()) + 1 {
         let kept = bank.kept(nonterminal, size as u32);

@@ -10,7 +10,8 @@ use crate::body::{Task, try_body};
 use crate::columns::{columns, number, point_of};
 use crate::guess::guessed_term;
 use crate::shapes::{pools_of, shapes_of};
-use crate::wishes::{Wish, wishes_at};
+use crate::tuples::spaced_wishes;
+use crate::wishes::Wish;
 use std::alloc::Global;
 use sy_bank_level::Bank;
 use sy_grammar_base::Grammar;
@@ -20,6 +21,9 @@ use sy_terms::{Bodies, Theory, Value, Values, Want};
 
 /// How many combinations are tried at most.
 const MOST_GUESSES: u32 = 4_096;
+
+/// Of how much that constraints want at one assignment a scan is told at most.
+const MOST_TOLD: usize = 64;
 
 /// A scan, and what it was told of: the numbers of its shapes' rules, how many of the assignments, and the tuples at which
 /// constraints want values there, each once.
@@ -175,7 +179,7 @@ fn tell_at<T: Theory>(
     requires problem { ProblemFits T.Theory task.now.problem.now }
     requires values { AreValues task.now.problem.now.vars (vals_of T.denotes values.now) }
 {
-    for wish in wishes_at(task.alloc, task.problem, values)? {
+    for wish in spaced_wishes(task, values, MOST_TOLD)? {
         tell_wish(task, bank, wish, scanning)?;
     }
     Ok(())

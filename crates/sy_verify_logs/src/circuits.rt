@@ -8,7 +8,7 @@ ghost use Rattle.sy_bits_terms.specs.Clauses.{HasCircuitClauses};
 
 use std::alloc::Global;
 use sy_bits_circuit::Circuit;
-use sy_bits_clauses::{circuit_of, countable_size};
+use sy_bits_clauses::query_circuit;
 use sy_clauses::{Log, check};
 use sy_meaning_words::BvTheory;
 use sy_query_base::Query;
@@ -19,10 +19,9 @@ pub(crate) fn circuit_for(alloc: Global, query: &Query<BvTheory>) -> Result<Circ
     requires { QueryFits owned is_bits (query_of vector query.now) }
     ensures { IfOk result (λ circuit. HasCircuitClauses (query_of vector query.now) circuit.clauses) }
 {
-    let Some(size) = countable_size(alloc, query)? else {
+    let Some(circuit) = query_circuit(alloc, query)? else {
         return Err(Want {});
     };
-    let circuit = circuit_of(alloc, query, size)?;
     Ok(circuit)
 }
 
