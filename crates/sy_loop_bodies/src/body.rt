@@ -14,6 +14,9 @@ use sy_query_base::{Decide, Verdict};
 use sy_query_limits::Limits;
 use sy_terms::{Bodies, Seq, Term, Theory, Values, Want};
 
+/// The most nodes of a query in which a body stands in the place of each constraint.
+const MOST_NODES: u64 = 8_000_000;
+
 /// How much is tried.
 #[derive(Clone, Copy)]
 pub struct Effort {
@@ -97,6 +100,15 @@ fn proof_of<T: Theory, D: Decide<T>>(
     }
 }
 
+/// How many nodes a query has in which the one body stands in the place of each constraint.
+fn nodes_of<T: Theory>(task: &Task<T>, bodies: &Bodies<T>) -> u64 {
+    let Some(body) = bodies.get(0) else {
+        return 0;
+    };
+    let constraints = task.problem.constraints.len() as u64;
+    body.size(MOST_NODES).saturating_mul(constraints)
+}
+
 /// What the solver answers to the query of the bodies; `None` where that is too heavy.
 fn verdict_on<T: Theory, D: Decide<T>>(
     task: &Task<T>,
@@ -107,6 +119,9 @@ fn verdict_on<T: Theory, D: Decide<T>>(
     requires within { AreWithinFor T.Theory task.now.problem.now task.now.bound bodies.now }
     ensures { IfOk result (λ found. IfSome found (IsVerdictFor T.Theory D.Decide task.now.problem.now task.now.bound bodies.now)) }
 {
+    if nodes_of(task, bodies) > MOST_NODES {
+        return Ok(None);
+    }
     let query = match build(task.alloc, task.problem, bodies, task.limits.weight) {
         Ok(query) => query,
         Err(Built::Heavy) => return Ok(None),

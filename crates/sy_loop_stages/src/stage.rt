@@ -27,8 +27,8 @@ const MOST_CLAUSES: u32 = 10_000;
 /// How many inner nodes its tree may have there.
 const MOST_NODES: u32 = 500;
 
-/// The weight of a query without variables, whose circuit has constants alone.
-const CLOSED_WEIGHT: u32 = 64_000_000;
+/// The weight of a query without variables, which is evaluated.
+const CLOSED_WEIGHT: u32 = 4_000_000_000;
 
 /// The effort beyond the whole search.
 pub(crate) const WHOLE: Effort = Effort {

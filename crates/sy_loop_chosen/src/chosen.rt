@@ -1,0 +1,137 @@
+// Bodies that choose, judged at all that constraints want and then tried.
+ghost use Rattle.std.specs.Prelude.{◌≡◌, length, IfOk, OnOk};
+ghost use Rattle.sy_grammar_base.specs.Fits.{ProblemFits};
+ghost use Rattle.sy_loop_bodies.specs.Clauses.{AreAssignedFor, IsFoundFor};
+
+use crate::plans::planned_term;
+use crate::rules::rules_of;
+use crate::tables::{Wanted, pools_of, wanted_at, wanted_of};
+use crate::values::words_at;
+use std::alloc::Global;
+use sy_bank_level::Bank;
+use sy_loop_bodies::{Aside, Task, point_of, try_term, wishes_of};
+use sy_loop_choices::{Plan, Shape, choose};
+use sy_query_base::Decide;
+use sy_terms::{Bodies, Term, Theory, Values, Want, copied_values};
+
+/// At how many tuples of one assignment a body is judged at most.
+pub(crate) const MOST_WISHES: usize = 1_000_000;
+
+/// How many tuples at which a body is wrong are answered at most.
+const MOST_WRONG: usize = 16;
+
+/// A body that has the wanted values at the bank's points, found as one that chooses between kept terms, if it solves the problem.
+/// `None` where none was found to. Where it has other values than constraints want, some tuples at which it has are added to
+/// `wrong`: a bank over these as well may have better ones.
+pub fn solve_chosen<T: Theory, D: Decide<T>>(
+    task: &Task<T>,
+    decide: &mut D,
+    bank: &Bank<T>,
+    wrong: &mut Vec<Values<T>>,
+    assignments: &mut Vec<Values<T>>,
+    aside: &mut Aside<T>,
+) -> Result<Option<(Bodies<T>, D::Proof)>, Want>
+    requires problem { ProblemFits T.Theory task.now.problem.now }
+    requires one { length task.now.problem.now.wanted ≡ 1 }
+    requires assigned { AreAssignedFor T.Theory task.now.problem.now assignments.old.items }
+    ensures assigned { OnOk result (AreAssignedFor T.Theory task.now.problem.now assignments.new.items) }
+    ensures found { IfOk result (IsFoundFor T.Theory D.Decide task.now.problem.now task.now.bound) }
+{
+    let wishes = wishes_of(task, assignments.as_slice(), MOST_WISHES)?;
+    let wanted = wanted_of(task.alloc, wishes)?;
+    let Some(term) = chosen_term(task, bank, &wanted)? else {
+        return Ok(None);
+    };
+    let known = wrong.len();
+    add_wrong(task, &term, &wanted, bank.points(), wrong)?;
+    if wrong.len() > known {
+        return Ok(None);
+    }
+    try_term(task, decide, term, assignments, aside)
+}
+
+/// A body with the wanted values at the bank's points; `None` where none was found.
+fn chosen_term<T: Theory>(
+    task: &Task<T>,
+    bank: &Bank<T>,
+    wanted: &Wanted<T>,
+) -> Result<Option<Term<T>>, Want> {
+    let alloc = task.alloc;
+    let Some(function) = task.problem.wanted.get(0) else {
+        return Ok(None);
+    };
+    let Some(words) = wanted_at(alloc, wanted, bank.points())? else {
+        return Ok(None);
+    };
+    let grammar = &function.grammar;
+    let (shapes, rules) = rules_of(alloc, grammar, &task.problem.defs, bank.points())?;
+    let seen = sy_loop_choices::Task {
+        pools: pools_of(alloc, grammar, bank)?,
+        shapes,
+        wanted: words,
+        complete: bank.upto().saturating_sub(1),
+    };
+    let Some(plan) = choose(alloc, &rules, &seen)? else {
+        return Ok(None);
+    };
+    if plan.size > task.bound {
+        return Ok(None);
+    }
+    planned_term(alloc, grammar, bank, seen.shapes.as_slice(), &plan)
+}
+
+/// Adds tuples at which the term has another value than is wanted there, evenly spaced.
+fn add_wrong<T: Theory>(
+    task: &Task<T>,
+    term: &Term<T>,
+    wanted: &Wanted<T>,
+    points: &[Values<T>],
+    wrong: &mut Vec<Values<T>>,
+) -> Result<(), Want> {
+    let Some(function) = task.problem.wanted.get(0) else {
+        return Ok(());
+    };
+    let sorts = function.grammar.args().as_slice();
+    let defs = &task.problem.defs;
+    let Some(found) = words_at(task.alloc, defs, sorts, wanted.tuples.as_slice(), term)? else {
+        return Ok(());
+    };
+    let places = differing(task.alloc, found.as_slice(), wanted.words.as_slice())?;
+    let count = places.len();
+    let mut due = 0usize;
+    for place in places {
+        due = due.saturating_add(MOST_WRONG.min(count));
+        if due >= count {
+            due -= count;
+            add_other(task.alloc, wanted.tuples.get(place), points, wrong)?;
+        }
+    }
+    Ok(())
+}
+
+/// Adds the tuple where it is none of the points.
+fn add_other<T: Theory>(
+    alloc: Global,
+    tuple: Option<&Values<T>>,
+    points: &[Values<T>],
+    wrong: &mut Vec<Values<T>>,
+) -> Result<(), Want> {
+    if let Some(tuple) = tuple {
+        if point_of::<T>(points, tuple.as_slice()).is_none() {
+            let copy = copied_values::<T>(alloc, tuple.as_slice())?;
+            wrong.push(copy)?;
+        }
+    }
+    Ok(())
+}
+
+/// The places at which the two lists differ.
+fn differing(alloc: Global, found: &[u64], wanted: &[u64]) -> Result<Vec<usize>, Want> {
+    let mut places = Vec::new(alloc);
+    for (place, (first, second)) in found.iter().zip(wanted).enumerate() {
+        if first != second {
+            places.push(place)?;
+        }
+    }
+    Ok(places)
+}
