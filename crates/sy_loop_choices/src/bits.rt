@@ -43,8 +43,10 @@ pub(crate) fn bits_of<R: Rules>(search: &Search<R>, pool: u32) -> Result<Option<
 /// The first shape that joins two terms of the pool by a conjunction.
 fn conjunction<R: Rules>(search: &Search<R>, pool: u32) -> Option<usize> {
     for (number, shape) in search.task.shapes.iter().enumerate() {
-        let own = shape.pool == pool && shape.operands.as_slice() == [pool, pool].as_slice();
-        if own && search.operation(number) == Some(Operation::And) {
+        if shape.pool == pool
+            && are_of(shape.operands.as_slice(), pool, 2)
+            && search.operation(number) == Some(Operation::And)
+        {
             return Some(number);
         }
     }
@@ -86,23 +88,33 @@ fn least_way<R: Rules>(
 ) -> Option<Way> {
     let mut least: Option<Way> = None;
     for (number, shape) in search.task.shapes.iter().enumerate() {
-        if shape.pool != pool || shape.operands.as_slice() != [pool].as_slice() {
-            continue;
-        }
-        if let Some(Operation::Right(by)) = search.operation(number) {
-            if let Some(size) = size_before(ways, bit, by) {
-                let way = Way {
-                    shape: number,
-                    by,
-                    size: size.saturating_add(shape.size),
-                };
-                if least.is_none_or(|other| way.size < other.size) {
-                    least = Some(way);
+        if shape.pool == pool && are_of(shape.operands.as_slice(), pool, 1) {
+            if let Some(Operation::Right(by)) = search.operation(number) {
+                if let Some(size) = size_before(ways, bit, by) {
+                    let way = Way {
+                        shape: number,
+                        by,
+                        size: size.saturating_add(shape.size),
+                    };
+                    least = Some(smaller(least, way));
                 }
             }
         }
     }
     least
+}
+
+/// Whether there are so many operands, all of the pool.
+fn are_of(operands: &[u32], pool: u32, count: usize) -> bool {
+    operands.len() == count && operands.iter().all(|operand| *operand == pool)
+}
+
+/// The smaller one of the ways, the new one if there was none.
+fn smaller(least: Option<Way>, way: Way) -> Way {
+    match least {
+        Some(other) if other.size <= way.size => other,
+        _ => way,
+    }
 }
 
 /// The size of the way to the bit before a shift by so much.
@@ -116,7 +128,7 @@ fn size_before(ways: &[Option<Way>], bit: u32, by: u32) -> Option<u32> {
 }
 
 impl Bits {
-    /// The shapes on the way to the bit, the first one last; and its size.
+    /// The way to the bit, if there is one.
     pub(crate) fn way(&self, bit: u32) -> Option<Way> {
         *self.ways.get(bit as usize)?
     }
@@ -164,17 +176,14 @@ fn gather_bits_of<R: Rules>(
     for place in 0..search.task.columns(pool).len().min(MOST_TERMS) {
         let column = search.task.values(pool, place);
         let size = fixed.saturating_add(search.task.size(pool, place));
-        for (bit, way) in bits.ways.iter().enumerate() {
-            if let Some(way) = way {
-                let set = bit_points(column, bit as u32);
+        for bit in 0..64 {
+            if let Some(way) = bits.way(bit) {
+                let set = bit_points(column, bit);
                 gathered.offer_condition(Condition {
                     row: (set & there) | ((set ^ gathered.all) & here),
                     size: size.saturating_add(way.size),
                     chooser: number,
-                    made: Made::Bit {
-                        place,
-                        bit: bit as u32,
-                    },
+                    made: Made::Bit { place, bit },
                 })?;
             }
         }

@@ -1,4 +1,7 @@
 // Trees of choices, over more and more parts.
+ghost use Rattle.std.specs.Prelude.{IfOk, IfSome};
+ghost use Rattle.sy_loop_choices.specs.Plans.{IsPlan};
+
 use crate::bits::gather_bits;
 use crate::columns::{Rules, Task};
 use crate::further::{gather_further_conditions, gather_further_leaves};
@@ -38,7 +41,9 @@ struct Trees {
 /// A plan of a body with the wanted value at each point: the first one of at most eight choices, or the smallest of all that
 /// were made. `None` where no rule chooses, or no tree serves all points. `Want` comes where memory runs out, and nowhere
 /// else.
-pub fn choose<R: Rules>(alloc: Global, rules: &R, task: &Task) -> Result<Option<Plan>, Want> {
+pub fn choose<R: Rules>(alloc: Global, rules: &R, task: &Task) -> Result<Option<Plan>, Want>
+    ensures { IfOk result (λ found. IfSome found (IsPlan task.now.pools.items task.now.shapes.items)) }
+{
     let search = Search::new(alloc, rules, task)?;
     if search.choosers.is_empty() || task.wanted.is_empty() {
         return Ok(None);
@@ -117,6 +122,6 @@ impl Trees {
 
 /// How many choices are few over so many points.
 fn few_choices(points: usize) -> u32 {
-    let most = (points / 8).max(1);
-    FEW_CHOICES.min(most as u32)
+    let most = u32::try_from(points / 8).unwrap_or(FEW_CHOICES);
+    FEW_CHOICES.min(most.max(1))
 }

@@ -8,6 +8,8 @@ use sy_seq::Want;
 const SAMPLES: usize = 100;
 
 const MOST_SAMPLES: usize = 2_000;
+/// How many rules that choose are taken at most.
+const MOST_CHOOSERS: usize = 8;
 
 /// A rule that has the value of its part `yes` or of its part `no`, as its other parts say.
 #[derive(Drop)]
@@ -263,7 +265,8 @@ pub(crate) fn choosers<R: Rules>(
     let mut found = Vec::new(alloc);
     for (number, shape) in task.shapes.iter().enumerate() {
         let count = shape.operands.len();
-        if shape.pool == 0 && count >= 3 && count <= 5 {
+        let may_choose = shape.pool == 0 && count >= 3 && count <= 5;
+        if may_choose && found.len() < MOST_CHOOSERS {
             if let Some(chooser) = chooser(alloc, rules, task, number)? {
                 found.push(chooser)?;
             }
@@ -282,7 +285,7 @@ fn chooser<R: Rules>(
     let operands = task.operands(shape);
     for no in 0..operands.len() {
         for yes in 0..no {
-            if operands[yes] == 0 && operands[no] == 0 {
+            if operands.get(yes) == Some(&0) && operands.get(no) == Some(&0) {
                 let mut chooser = of_parts(alloc, operands, shape, (yes, no))?;
                 if chooser.chooses(alloc, rules, task)? {
                     chooser.test = chooser.test(alloc, rules, task)?;

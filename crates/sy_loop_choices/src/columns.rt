@@ -78,7 +78,7 @@ impl Task {
     /// The greatest value of the pool.
     pub fn greatest(&self, pool: u32) -> u64 {
         match self.pools.get(pool as usize) {
-            Some(pool) if pool.bits < 64 => (1 << pool.bits) - 1,
+            Some(pool) if pool.bits < 64 => u64::MAX ^ (u64::MAX << pool.bits),
             _ => u64::MAX,
         }
     }

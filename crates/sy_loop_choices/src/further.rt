@@ -1,5 +1,4 @@
 // Leaves and conditions one rule further than kept terms.
-use crate::choosers::Chooser;
 use crate::columns::Rules;
 use crate::gathered::{Condition, Gathered, Leaf, Made};
 use crate::rows::agreement;
@@ -41,23 +40,28 @@ pub(crate) fn gather_further_conditions<R: Rules>(
     search: &Search<R>,
     gathered: &mut Gathered,
 ) -> Result<(), Want> {
+    let mut left = MOST_COMBINATIONS;
     for (number, chooser) in search.choosers.iter().enumerate() {
         if let [pool] = chooser.others.as_slice() {
-            gather_of_pool(search, number, chooser, *pool, gathered)?;
+            left = gather_of_pool(search, number, *pool, left, gathered)?;
         }
     }
     Ok(())
 }
 
-/// The same of one chooser, whose other part is of this pool.
+/// The same of the chooser of this number, whose other part is of this pool, with at most so many combinations. How many are
+/// left.
 fn gather_of_pool<R: Rules>(
     search: &Search<R>,
     number: usize,
-    chooser: &Chooser,
     pool: u32,
+    most: usize,
     gathered: &mut Gathered,
-) -> Result<(), Want> {
-    let mut left = MOST_COMBINATIONS;
+) -> Result<usize, Want> {
+    let mut left = most;
+    let Some(chooser) = search.choosers.get(number) else {
+        return Ok(left);
+    };
     let added = search.task.added(chooser.shape);
     for shape in 0..search.task.shapes.len() {
         for (first, second) in combinations(search, shape, pool, left)? {
@@ -77,7 +81,7 @@ fn gather_of_pool<R: Rules>(
             }
         }
     }
-    Ok(())
+    Ok(left)
 }
 
 /// The places of kept terms over which the shape, if it is one of the pool's that doesn't choose, gives what isn't kept: of

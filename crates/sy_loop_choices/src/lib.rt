@@ -13,11 +13,13 @@ mod pairs;
 mod plan;
 mod rows;
 mod search;
+mod tables;
 mod tree;
 mod writer;
 
 pub use choose::choose;
 pub use columns::{Column, Pool, Rules, Shape, Task};
 pub use operations::{Operation, operations};
-pub use plan::{Node, Plan};
+pub use plan::{Node, Plan, is_plan};
 pub use rows::MOST_POINTS;
+pub use tables::Table;

@@ -4,6 +4,7 @@ use crate::gathered::{Gathered, Leaf, Made};
 use crate::operations::Operation;
 use crate::rows::listed;
 use crate::search::Search;
+use crate::tables::Table;
 use std::alloc::Global;
 use sy_seq::Want;
 
@@ -52,56 +53,9 @@ struct Part {
     values: (u64, u64),
 }
 
-/// Kept terms by their values at two points.
-#[derive(Drop)]
-struct Table {
-    /// For each number of values one more than the place of the first term; 0 where there is none.
-    heads: Vec<usize>,
-    /// For each term one more than the place of the next one.
-    next: Vec<usize>,
-}
-
-impl Table {
-    /// The terms, the first ones first.
-    fn new(alloc: Global, parts: &[Part]) -> Result<Table, Want> {
-        let size = parts.len().saturating_mul(2).saturating_add(1);
-        let mut table = Table {
-            heads: Vec::from_elem(alloc, 0, size)?,
-            next: Vec::from_elem(alloc, 0, parts.len())?,
-        };
-        for place in (0..parts.len()).rev() {
-            let number = table.number(parts[place].values);
-            if let Some(head) = table.heads.get_mut(number) {
-                if let Some(next) = table.next.get_mut(place) {
-                    *next = *head;
-                }
-                *head = place + 1;
-            }
-        }
-        Ok(table)
-    }
-
-    /// Where the terms of these values begin.
-    fn number(&self, values: (u64, u64)) -> usize {
-        let mixed = mixed(mixed(0, values.0), values.1);
-        mixed.checked_rem(self.heads.len() as u64).unwrap_or(0) as usize
-    }
-
-    /// One more than the place of the first term; 0 where there is none.
-    fn first(&self, values: (u64, u64)) -> usize {
-        self.heads.get(self.number(values)).copied().unwrap_or(0)
-    }
-
-    /// One more than the place of the next term; 0 where there is none.
-    fn next(&self, place: usize) -> usize {
-        self.next.get(place).copied().unwrap_or(0)
-    }
-}
-
-/// A number for both numbers.
-fn mixed(seed: u64, number: u64) -> u64 {
-    let product = (seed ^ number).wrapping_mul(11400714819323198485);
-    product ^ (product >> 32)
+/// A number for both values.
+fn joined(values: (u64, u64)) -> u64 {
+    values.0.wrapping_mul(11400714819323198485) ^ values.1
 }
 
 /// Gathers pairs that serve at points which are drawn, mostly from those that no leaf serves.
@@ -278,21 +232,28 @@ fn look_up<R: Rules>(
     wanted: (u64, u64),
     gathered: &mut Gathered,
 ) -> Result<(), Want> {
-    let table = Table::new(search.alloc, parts.1.as_slice())?;
+    let mut numbers = Vec::with_capacity(search.alloc, parts.1.len())?;
+    for part in parts.1 {
+        numbers.push(joined(part.values))?;
+    }
+    let table = Table::new(search.alloc, numbers.as_slice())?;
     for first in parts.0 {
         let one = joint.partner(first.values.0, wanted.0);
         let two = joint.partner(first.values.1, wanted.1);
         let mut taken = 0;
-        let mut place = table.first((one, two));
+        let mut next = table.first(joined((one, two)));
         for _ in 0..MOST_MET {
-            let Some(second) = place.checked_sub(1).and_then(|place| parts.1.get(place)) else {
+            let Some(place) = next else {
+                break;
+            };
+            let Some(second) = parts.1.get(place) else {
                 break;
             };
             if second.values == (one, two) && taken < MOST_TAKEN {
                 taken += 1;
                 gather(search, joint, first.place, second.place, gathered)?;
             }
-            place = table.next(second.place);
+            next = table.next(place);
         }
     }
     Ok(())

@@ -1,4 +1,7 @@
 // Plans of bodies.
+ghost use Rattle.std.specs.Prelude.{◌<◌, All, IsTrue};
+ghost use Rattle.sy_loop_choices.specs.Plans.{IsPlan, IsStep};
+
 use crate::columns::{Pool, Shape};
 
 /// A step of a plan.
@@ -19,17 +22,22 @@ pub struct Plan {
 }
 
 /// Whether the steps are of these pools and shapes, each over earlier ones, and there is one.
-pub(crate) fn is_plan(pools: &[Pool], shapes: &[Shape], plan: &Plan) -> bool {
-    for (number, node) in plan.nodes.iter().enumerate() {
-        if !is_step(pools, shapes, number, node) {
+pub fn is_plan(pools: &[Pool], shapes: &[Shape], plan: &Plan) -> bool
+    ensures { IsTrue result → IsPlan pools.now shapes.now plan.now }
+{
+    let nodes = plan.nodes.as_slice();
+    for number in 0..nodes.len() {
+        if !is_step(pools, shapes, number, &nodes[number]) {
             return false;
         }
     }
-    !plan.nodes.is_empty()
+    !nodes.is_empty()
 }
 
 /// Whether the step is of these pools and shapes, over earlier ones than this.
-fn is_step(pools: &[Pool], shapes: &[Shape], number: usize, node: &Node) -> bool {
+fn is_step(pools: &[Pool], shapes: &[Shape], number: usize, node: &Node) -> bool
+    ensures { IsTrue result → IsStep pools.now shapes.now number node.now }
+{
     match node {
         Node::Kept { pool, place } => match pools.get(*pool as usize) {
             Some(pool) => *place < pool.columns.len(),
@@ -45,7 +53,9 @@ fn is_step(pools: &[Pool], shapes: &[Shape], number: usize, node: &Node) -> bool
 }
 
 /// Whether all parts are below the number.
-fn are_before(parts: &[usize], number: usize) -> bool {
+fn are_before(parts: &[usize], number: usize) -> bool
+    ensures { IsTrue result → All (λ part. part < number) parts.now }
+{
     for part in parts {
         if *part >= number {
             return false;

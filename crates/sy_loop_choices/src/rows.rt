@@ -8,7 +8,7 @@ pub const MOST_POINTS: usize = 128;
 /// All points, of which there are so many.
 pub(crate) fn all_points(count: usize) -> u128 {
     if count < MOST_POINTS {
-        (1 << count) - 1
+        u128::MAX ^ (u128::MAX << count)
     } else {
         u128::MAX
     }
@@ -44,9 +44,8 @@ pub(crate) fn points_of(column: &[u64], value: u64) -> u128 {
 pub(crate) fn bit_points(column: &[u64], bit: u32) -> u128 {
     let mut row = 0u128;
     let mut point = 1u128;
-    let mask = 1u64.wrapping_shl(bit);
     for x in column {
-        if *x & mask != 0 {
+        if x.checked_shr(bit).unwrap_or(0) & 1 == 1 {
             row |= point;
         }
         point <<= 1;

@@ -22,8 +22,12 @@ pub(crate) fn written<R: Rules>(
     let count = tree.branches.len();
     let mut numbers = Vec::from_elem(search.alloc, 0, count)?;
     for place in (0..count).rev() {
-        let number = push_branch(search, gathered, &tree.branches[place], &numbers, &mut plan)?;
-        numbers[place] = number;
+        if let Some(branch) = tree.branches.get(place) {
+            let number = push_branch(search, gathered, branch, &numbers, &mut plan)?;
+            if let Some(slot) = numbers.get_mut(place) {
+                *slot = number;
+            }
+        }
     }
     Ok(plan)
 }
