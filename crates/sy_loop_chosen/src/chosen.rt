@@ -4,18 +4,22 @@ ghost use Rattle.sy_grammar_base.specs.Fits.{ProblemFits};
 ghost use Rattle.sy_loop_bodies.specs.Clauses.{AreAssignedFor, IsFoundFor};
 
 use crate::plans::planned_term;
-use crate::rules::rules_of;
+use crate::rules::{RuleValues, rules_of};
 use crate::tables::{Wanted, pools_of, wanted_at, wanted_of};
 use crate::values::words_at;
 use std::alloc::Global;
 use sy_bank_level::Bank;
+use sy_loop_below::below;
 use sy_loop_bodies::{Aside, Task, point_of, try_term, wishes_of};
-use sy_loop_choices::{Plan, Shape, choose};
+use sy_loop_choices::{Plan, choose};
 use sy_query_base::Decide;
 use sy_terms::{Bodies, Term, Theory, Values, Want, copied_values};
 
 /// At how many tuples of one assignment a body is judged at most.
 pub(crate) const MOST_WISHES: usize = 1_000_000;
+
+/// How many choices are few.
+const FEW_CHOICES: u32 = 8;
 
 /// How many tuples at which a body is wrong are answered at most.
 const MOST_WRONG: usize = 16;
@@ -71,13 +75,40 @@ fn chosen_term<T: Theory>(
         wanted: words,
         complete: bank.upto().saturating_sub(1),
     };
-    let Some(plan) = choose(alloc, &rules, &seen)? else {
+    let is_closed = task.problem.vars.len() == 0;
+    let Some(plan) = plan_of(alloc, &rules, &seen, is_closed)? else {
         return Ok(None);
     };
     if plan.size > task.bound {
         return Ok(None);
     }
     planned_term(alloc, grammar, bank, seen.shapes.as_slice(), &plan)
+}
+
+/// A plan of a body with the wanted values. Where that chooses often, or there is none, a body below known operations comes
+/// first, if all that is wanted is known.
+fn plan_of<T: Theory>(
+    alloc: Global,
+    rules: &RuleValues<'_, T>,
+    seen: &sy_loop_choices::Task,
+    is_closed: bool,
+) -> Result<Option<Plan>, Want> {
+    let chosen = choose(alloc, rules, seen)?;
+    if !is_closed || chooses_little(&chosen) {
+        return Ok(chosen);
+    }
+    match below(alloc, rules, seen)? {
+        Some(plan) => Ok(Some(plan)),
+        None => Ok(chosen),
+    }
+}
+
+/// Whether there is a plan that doesn't choose often.
+fn chooses_little(plan: &Option<Plan>) -> bool {
+    match plan {
+        Some(plan) => plan.choices <= FEW_CHOICES,
+        None => false,
+    }
 }
 
 /// Adds tuples at which the term has another value than is wanted there, evenly spaced.
@@ -103,7 +134,7 @@ fn add_wrong<T: Theory>(
         due = due.saturating_add(MOST_WRONG.min(count));
         if due >= count {
             due -= count;
-            add_other(task.alloc, wanted.tuples.get(place), points, wrong)?;
+            add_other::<T>(task.alloc, wanted.tuples.get(place), points, wrong)?;
         }
     }
     Ok(())
