@@ -4,8 +4,8 @@ The tables are runs/*.txt. A row is a command line behind `$`, in the folder run
 those of its output behind `>`, those of its error output behind `!`, and its status behind `=`. Beside them stand command
 lines alone (command_lines.txt: what comes of each, a colon, and its words), files at each limit and one above it, files that
 are cut off anywhere, inputs that give one byte a read or fail after any byte, and outputs that take no more than so many
-bytes; what is read of files (readings.py); what is answered to small questions (questions.py); how replies are judged
-(replies.py); and proofs (proofs.py).
+bytes; what is read of files (readings.py); what is answered to small questions (questions.py) and to examples
+(by_example.py); how replies are judged (replies.py); and proofs (proofs.py).
 """
 import os
 import pathlib
@@ -20,6 +20,7 @@ import threading
 TOP = pathlib.Path(__file__).resolve().parent.parent.parent
 RUNS = TOP / "tools" / "tests" / "runs"
 sys.path.insert(0, str(TOP / "bench"))
+import by_example
 import drill
 import proofs
 import questions
@@ -234,5 +235,6 @@ def tests(program):
         yield from part(program)
     yield from readings.tests(run, program)
     yield from questions.tests(run, program)
+    yield from by_example.tests(run, program)
     yield from replies.tests(program)
     yield from proofs.tests(run, program)

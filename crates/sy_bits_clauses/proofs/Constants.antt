@@ -4,14 +4,18 @@ use Rattle.std.proofs.Common.{refl, sym, ap, subst, ◌∙◌, arith}
 use Rattle.std.proofs.lemmas.List.{length-map}
 use Rattle.std.proofs.lemmas.List.Elements.{All-nil}
 use Rattle.sy_terms.specs.Values.{Val, Truth, Whole, Bits}
-use Rattle.sy_terms.specs.Expr.{Constant}
+use Rattle.sy_terms.specs.Expr.{Expr, Constant}
+use Rattle.sy_terms.specs.Denoted.{expr_of, expr_of-Const}
 use Rattle.sy_terms.specs.Theories.{sort_of_value, valid}
 use Rattle.sy_terms.specs.Fitting.{sort_in}
 use Rattle.sy_terms.specs.Meaning.{meaning}
 use Rattle.sy_terms.specs.declared.op.Op.{Op}
 use Rattle.sy_terms.specs.declared.sort.Sort.{Sort}
 use Rattle.sy_terms.specs.declared.sort.Sort.TheVariants as sorts
+use Rattle.sy_terms.specs.declared.sort.Value.TheVariants as values
 use Rattle.sy_terms.specs.declared.term.Def.{Def}
+use Rattle.sy_terms.specs.declared.term.Term.{Term}
+use Rattle.sy_terms.specs.declared.term.Term.TheVariants.{Const}
 use Rattle.sy_terms_laws.specs.Evaluation.{GivesValue}
 use Rattle.sy_grammar_base.specs.Formed.{is_known}
 use Rattle.sy_grammar_base.specs.Solving.{AreValues}
@@ -26,9 +30,9 @@ no_items [] none = refl
 no_items (x ∷ xs) none = absurd (omega (arith, none))
 
 no_values : (values : List Val) (kinds : List Sort) → map sort_of_value values ≡ kinds → kinds ≡ [] → values ≡ []
-no_values values kinds sorted none = no_items values (sym (length-map sort_of_value values) ∙ ap length (sorted ∙ none))
+no_values values kinds sorted none = no_items values (sym (length-map values sort_of_value) ∙ ap length (sorted ∙ none))
 
-truth_in : Val → Bool
+abbrev truth_in : Val → Bool
 truth_in (Truth truth) = truth
 truth_in (Whole number) = false
 truth_in (Bits width number) = false
@@ -55,8 +59,7 @@ unfolding sort_in
 constant_fits truth = record { variables = All-nil (λ sort. is_known is_bits sort ≡ true); body = refl }
 
 pub constant_size : (truth : Bool) → query_size (constantly truth) ≡ 1
-unfolding weight
-unfolding sort_in
+unfolding weight sort_in
 constant_size truth = refl
 
 constant_satisfied : (truth : Bool) (values : List Val) → Satisfies (constantly truth) values ↔ (AreValues [] values × IsTrue truth)
@@ -72,6 +75,20 @@ alike query truth closed says values = (
     let none = no_values values query.variables satisfied.sorted.sorted closed in
     (constant_satisfied truth values).1 (subst (λ ss. AreValues ss values) closed satisfied.sorted, says.1 (subst (λ (vs : List Val). Satisfies query vs) none satisfied))),
 )
+
+-- what is written as a constant, without variables
+pub constant_written : (T : Type 0) {N : Type 0} (number : N → Val) (vars : List Sort) (truth : Bool) → vars ≡ [] →
+    let term : Term T N = Const (values.Truth truth) in let query : Query = record { variables = vars; body = expr_of number term } in query ≡ constantly truth
+constant_written T {N} number vars truth none =
+    let term : Term T N = Const (values.Truth truth) in
+    let query : List Sort → Expr → Query = λ vs body. record { variables = vs; body = body } in
+    ap (λ vs. query vs (expr_of number term)) none ∙ ap (query []) (expr_of-Const T number (values.Truth truth))
+
+pub written_fits : (query : Query) (truth : Bool) → query ≡ constantly truth → QueryFits owned is_bits query
+written_fits query truth same = subst (λ q. QueryFits owned is_bits q) (sym same) (constant_fits truth)
+
+pub written_room : (query : Query) (truth : Bool) → query ≡ constantly truth → 1000 * query_size query < 2 ^ 31
+written_room query truth same = let one : query_size query ≡ 1 = ap query_size same ∙ constant_size truth in omega (arith, one)
 
 -- the constant's clauses say what the query says
 pub says_closed : (query : Query) (truth : Bool) (size : ℕ) (circuit : Blasted) → length query.variables ≡ 0 → 1 ≤ size → size ≤ query_size query → (IsTrue truth ↔ Satisfies query []) →

@@ -1,18 +1,19 @@
-use Rattle.std.proofs.Common.{rules, ◌≡◌, ◌≤◌, ◌↔◌, [], length, IfOk, IfSome, IsTrue, ℕ, ◌+◌, ◌-◌, ◌*◌, ◌<◌, ◌/◌, ◌%◌, Bool, true, false, nat_eq, nat_lt, List, ◌∷◌, ◌++◌, slice_index_or, slice_set, bit_and, bit_or, Fits, w8, w32, w64, Bor, MutBor}
-use Rattle.sy_query_base.specs.Asked.{query_of, QueryFits, Satisfies}
-use Rattle.sy_meaning_words.specs.Vectors.{vector, owned, is_bits}
-use Rattle.sy_clauses.specs.Clauses.{VarsFit}
-use Rattle.sy_bits_terms.specs.Clauses.{HasCircuitClauses, query_size}
+use Rattle.std.proofs.Common.{arith, subst}
+use Rattle.sy_query_base.specs.Asked.{Query, query_of}
+use Rattle.sy_meaning_words.specs.Vectors.{vector}
+use Rattle.sy_meaning_words.specs.declared.theory.BvTheory.{BvTheory}
+use Rattle.sy_bits_terms.specs.Clauses.{HasCircuitClauses}
+use Rattle.sy_bits_clauses.proofs.Constants.{constant_written, written_fits, written_room, says_closed}
 use Rattle.sy_bits_clauses.proofs.closed.closed_circuit.Goals as goal
 
--- src/closed.rt:38:9
 pub blast-circuit-requires-clause-fits : goal.blast-circuit-requires-clause-fits
-blast-circuit-requires-clause-fits c = ?
+blast-circuit-requires-clause-fits c = written_fits _ c.in-Some.truth (constant_written BvTheory vector c.new.result c.in-Some.truth c.new.ensures)
 
--- src/closed.rt:38:9
 pub blast-circuit-requires-clause-room : goal.blast-circuit-requires-clause-room
-blast-circuit-requires-clause-room c = ?
+blast-circuit-requires-clause-room c = written_room _ c.in-Some.truth (constant_written BvTheory vector c.new.result c.in-Some.truth c.new.ensures)
 
--- src/closed.rt:17:1
 pub returns-clause-clauses : goal.returns-clause-clauses
-returns-clause-clauses c = ?
+returns-clause-clauses c =
+    says_closed (query_of vector c.args.query.now) c.in-Some.truth c.args.size c.in_ok-circuit.field-0 (omega (arith, c.len.ensures, c.if-len-gt0.false)) (omega (arith, c.if-size-eq0.false)) c.requires.size
+    (rw c.in-Some.is at c.in_ok-truth.ensures)
+    (subst (λ (q : Query). HasCircuitClauses q c.in_ok-circuit.field-0.clauses) (constant_written BvTheory vector c.new.result c.in-Some.truth c.new.ensures) c.in_ok-circuit.ensures.clauses)
