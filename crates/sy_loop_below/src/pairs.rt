@@ -6,6 +6,8 @@ use sy_seq::Want;
 
 /// How many kept terms of one slot are met at most.
 const MOST_MET: usize = 64;
+/// How many pairs of one operation are met at most in a layer.
+const MOST_PAIRS: usize = 50_000;
 /// How many kept terms are judged in pairs.
 const MOST_SERVING: usize = 600;
 /// How many pairs are tried at all points.
@@ -195,9 +197,10 @@ impl<'a> Looking<'a> {
         let count = serving.len() as u64;
         self.charge(count.saturating_mul(count) / 8);
         for (number, (first, x)) in serving.iter().enumerate() {
-            for (second, y) in serving.iter().skip(number) {
-                if target.serves(wanted, joint.operation.value(target.greatest, *x, *y)) {
-                    self.try_pair(joint, target, *first, *second)?;
+            for place in number..serving.len() {
+                let (second, y) = serving.get(place).copied().unwrap_or((0, 0));
+                if target.serves(wanted, joint.operation.value(target.greatest, *x, y)) {
+                    self.try_pair(joint, target, *first, second)?;
                 }
             }
         }
@@ -225,6 +228,7 @@ impl<'a> Looking<'a> {
         first: usize,
         second: usize,
     ) -> Result<(), Want> {
+        self.charge(1);
         if self.is_over() || !self.making.serves(joint.operation, target, first, second) {
             return Ok(());
         }
@@ -296,6 +300,9 @@ fn push_met(
                 met.push((first, second))?;
             }
             next = table.next(second);
+        }
+        if met.len() > MOST_PAIRS {
+            return Ok(());
         }
     }
     Ok(())

@@ -23,7 +23,9 @@ impl Table {
             marks: Vec::from_elem(alloc, 0, (slots / 4).max(1))?,
         };
         for place in (0..numbers.len()).rev() {
-            table.insert(place, mixed(numbers[place]));
+            if let Some(number) = numbers.get(place) {
+                table.insert(place, mixed(*number));
+            }
         }
         Ok(table)
     }
