@@ -17,106 +17,93 @@ use sy_seq::Want;
 
 /// A tree of so few choices is taken at once.
 const FEW_CHOICES: u32 = 8;
-/// How many rounds of pairs there are.
-const ROUNDS: usize = 4;
 
 /// What is gathered, one after the other.
 #[derive(Clone, Copy)]
 enum Stage {
-    Kept,
+    KeptLeaves,
+    KeptConditions,
     FurtherConditions,
     Bits,
     FurtherLeaves,
     Pairs,
 }
 
-/// What was gathered, and the smallest tree.
-#[derive(Drop)]
-struct Trees {
-    gathered: Gathered,
-    draws: Draws,
-    smallest: Option<Tree>,
-}
+/// All of it in order. Points are drawn for pairs again and again.
+const STAGES: [Stage; 9] = [
+    Stage::KeptLeaves,
+    Stage::KeptConditions,
+    Stage::FurtherConditions,
+    Stage::Bits,
+    Stage::FurtherLeaves,
+    Stage::Pairs,
+    Stage::Pairs,
+    Stage::Pairs,
+    Stage::Pairs,
+];
 
 /// A plan of a body with the wanted value at each point: the first one of at most eight choices, or the smallest of all that
 /// were made. `None` where no rule chooses, or no tree serves all points. `Want` comes where memory runs out, and nowhere
 /// else.
-pub fn choose<R: Rules>(alloc: Global, rules: &R, task: &Task) -> Result<Option<Plan>, Want>
+pub fn choose<'a, R: Rules>(
+    alloc: Global,
+    rules: &'a R,
+    task: &'a Task,
+) -> Result<Option<Plan>, Want>
     ensures { IfOk result (λ found. IfSome found (IsPlan task.now.pools.items task.now.shapes.items)) }
 {
     let search = Search::new(alloc, rules, task)?;
     if search.choosers.is_empty() || task.wanted.is_empty() {
         return Ok(None);
     }
-    let mut trees = Trees {
-        gathered: Gathered::new(alloc, all_points(task.wanted.len())),
-        draws: Draws(88172645463325252),
-        smallest: None,
-    };
-    trees.go_through(&search)?;
-    let Some(tree) = trees.smallest else {
+    let mut gathered = Gathered::new(alloc, all_points(task.wanted.len()));
+    let Some(tree) = found_tree(&search, &mut gathered)? else {
         return Ok(None);
     };
-    let plan = written(&search, &trees.gathered, &tree)?;
+    let plan = written(&search, &gathered, &tree)?;
     let whole = is_plan(task.pools.as_slice(), task.shapes.as_slice(), &plan);
     if whole { Ok(Some(plan)) } else { Ok(None) }
 }
 
-impl Trees {
-    /// Goes through the stages until a tree chooses few times.
-    fn go_through<R: Rules>(&mut self, search: &Search<R>) -> Result<(), Want> {
-        let stages = [
-            Stage::Kept,
-            Stage::FurtherConditions,
-            Stage::Bits,
-            Stage::FurtherLeaves,
-        ];
-        for stage in stages {
-            if self.goes_on(search, stage)? {
-                return Ok(());
+/// The first tree that chooses few times, or the smallest one of all stages.
+fn found_tree<R: Rules>(search: &Search<R>, gathered: &mut Gathered) -> Result<Option<Tree>, Want> {
+    let few = few_choices(search.task.wanted.len());
+    let mut draws = Draws(88172645463325252);
+    let mut smallest = None;
+    for stage in STAGES {
+        gather(search, stage, &mut draws, gathered)?;
+        if let Some(tree) = tree_of(search.alloc, gathered)? {
+            if tree.choices <= few {
+                return Ok(Some(tree));
             }
+            smallest = Some(smaller(smallest, tree));
         }
-        for _ in 0..ROUNDS {
-            if self.goes_on(search, Stage::Pairs)? {
-                return Ok(());
-            }
-        }
-        Ok(())
     }
+    Ok(smallest)
+}
 
-    /// Gathers what is of the stage, and makes a tree. Whether that chooses few times.
-    fn goes_on<R: Rules>(&mut self, search: &Search<R>, stage: Stage) -> Result<bool, Want> {
-        let gathered = &mut self.gathered;
-        match stage {
-            Stage::Kept => {
-                search.gather_leaves(gathered)?;
-                search.gather_conditions(gathered)?;
-            }
-            Stage::FurtherConditions => gather_further_conditions(search, gathered)?,
-            Stage::Bits => gather_bits(search, gathered)?,
-            Stage::FurtherLeaves => gather_further_leaves(search, gathered)?,
-            Stage::Pairs => gather_pairs(search, &mut self.draws, gathered)?,
-        }
-        self.try_tree(search)
+/// Gathers what is of the stage.
+fn gather<R: Rules>(
+    search: &Search<R>,
+    stage: Stage,
+    draws: &mut Draws,
+    gathered: &mut Gathered,
+) -> Result<(), Want> {
+    match stage {
+        Stage::KeptLeaves => search.gather_leaves(gathered),
+        Stage::KeptConditions => search.gather_conditions(gathered),
+        Stage::FurtherConditions => gather_further_conditions(search, gathered),
+        Stage::Bits => gather_bits(search, gathered),
+        Stage::FurtherLeaves => gather_further_leaves(search, gathered),
+        Stage::Pairs => gather_pairs(search, draws, gathered),
     }
+}
 
-    /// Makes a tree, and keeps it if it is the smallest. Whether it chooses few times.
-    fn try_tree<R: Rules>(&mut self, search: &Search<R>) -> Result<bool, Want> {
-        if self.gathered.unserved() != 0 {
-            return Ok(false);
-        }
-        let Some(tree) = tree_of(search.alloc, &self.gathered)? else {
-            return Ok(false);
-        };
-        let few = tree.choices <= few_choices(search.task.wanted.len());
-        let smaller = match &self.smallest {
-            Some(other) => tree.size < other.size,
-            None => true,
-        };
-        if few || smaller {
-            self.smallest = Some(tree);
-        }
-        Ok(few)
+/// The smaller one of the trees, the new one if there was none.
+fn smaller(smallest: Option<Tree>, tree: Tree) -> Tree {
+    match smallest {
+        Some(other) if other.size <= tree.size => other,
+        _ => tree,
     }
 }
 

@@ -41,7 +41,7 @@ impl Table {
         }
         let block = slot_of(mixed >> 6, self.marks.len());
         if let Some(marks) = self.marks.get_mut(block) {
-            *marks |= 1 << (mixed & 63);
+            *marks |= 1 << (mixed % 64);
         }
     }
 
@@ -49,7 +49,7 @@ impl Table {
     pub fn first(&self, number: u64) -> Option<usize> {
         let mixed = mixed(number);
         let marks = self.marks.get(slot_of(mixed >> 6, self.marks.len()))?;
-        if *marks >> (mixed & 63) & 1 == 0 {
+        if *marks >> (mixed % 64) & 1 == 0 {
             return None;
         }
         self.heads
