@@ -2,10 +2,10 @@
 // up among pairs of kept terms. Which body is named is a guess: whoever takes it proves of it what is to hold.
 #![tactic(auto)]
 
-mod below;
+mod bodies;
 mod layers;
 mod pairs;
 mod places;
 mod wanted;
 
-pub use below::below;
+pub use bodies::below;

@@ -1,11 +1,14 @@
 // Pairs of kept terms that have what is wanted inside of operations.
 use crate::layers::{Layer, Making};
 use crate::wanted::Target;
+use std::alloc::Global;
 use sy_loop_choices::{Operation, Table};
 use sy_seq::Want;
 
 /// How many kept terms of one slot are met at most.
 const MOST_MET: usize = 64;
+/// How many pairs of one operation are met at most in a layer.
+const MOST_PAIRS: usize = 50_000;
 /// How many kept terms are judged in pairs.
 const MOST_SERVING: usize = 600;
 /// How many pairs are tried at all points.
@@ -22,9 +25,7 @@ pub(crate) struct Found {
 
 /// A look for pairs: what was looked up so far, and the pair that was found.
 #[derive(Drop)]
-pub(crate) struct Looking<'a> {
-    making: &'a Making<'a>,
-    layers: &'a [Layer],
+pub(crate) struct Looking {
     /// For each number of open bits the kept terms by the others at the first point.
     tables: Vec<Option<Table>>,
     /// What is left of the work: one for each look-up.
@@ -41,20 +42,14 @@ struct Joint {
     operation: Operation,
 }
 
-impl<'a> Looking<'a> {
+impl Looking {
     /// Nothing was looked up yet.
-    pub(crate) fn new(
-        making: &'a Making<'a>,
-        layers: &'a [Layer],
-        work: u64,
-    ) -> Result<Looking<'a>, Want> {
-        let mut tables = Vec::new(making.alloc);
+    pub(crate) fn new(alloc: Global, work: u64) -> Result<Looking, Want> {
+        let mut tables = Vec::new(alloc);
         for _ in 0..64 {
             tables.push(None)?;
         }
         Ok(Looking {
-            making,
-            layers,
             tables,
             work,
             tried: 0,
@@ -63,10 +58,15 @@ impl<'a> Looking<'a> {
     }
 
     /// The first pair in layers of this size, if there is one.
-    pub(crate) fn look(&mut self, size: u32) -> Result<Option<Found>, Want> {
-        for (number, layer) in self.layers.iter().enumerate() {
+    pub(crate) fn look(
+        &mut self,
+        making: &Making,
+        layers: &[Layer],
+        size: u32,
+    ) -> Result<Option<Found>, Want> {
+        for (number, layer) in layers.iter().enumerate() {
             if layer.size == size {
-                self.look_in(number, layer)?;
+                self.look_in(making, layers, number, layer)?;
                 if self.is_over() {
                     return Ok(self.found);
                 }
@@ -81,11 +81,17 @@ impl<'a> Looking<'a> {
     }
 
     /// Looks for pairs in the layer of this number.
-    fn look_in(&mut self, number: usize, layer: &Layer) -> Result<(), Want> {
-        let shapes = self.making.task.shapes.as_slice();
+    fn look_in(
+        &mut self,
+        making: &Making,
+        layers: &[Layer],
+        number: usize,
+        layer: &Layer,
+    ) -> Result<(), Want> {
+        let shapes = making.task.shapes.as_slice();
         for (shape, rule) in shapes.iter().enumerate() {
             let is_pair = rule.pool == 0 && rule.operands.as_slice() == [0, 0];
-            let operation = self.making.operations.get(shape).copied();
+            let operation = making.operations.get(shape).copied();
             if let Some(Some(operation)) = operation {
                 let joint = Joint {
                     layer: number,
@@ -93,7 +99,7 @@ impl<'a> Looking<'a> {
                     operation,
                 };
                 if is_pair && !self.is_over() {
-                    self.look_for(&joint, &layer.target)?;
+                    self.look_for(making, layers, &joint, &layer.target)?;
                 }
             }
         }
@@ -101,67 +107,83 @@ impl<'a> Looking<'a> {
     }
 
     /// Looks for pairs that the shape joins to what is wanted.
-    fn look_for(&mut self, joint: &Joint, target: &Target) -> Result<(), Want> {
+    fn look_for(
+        &mut self,
+        making: &Making,
+        layers: &[Layer],
+        joint: &Joint,
+        target: &Target,
+    ) -> Result<(), Want> {
         match joint.operation {
             Operation::And | Operation::Or if target.masked || target.carries == 0 => {
-                self.judge(joint, target)
+                self.judge(making, layers, joint, target)
             }
-            Operation::Xor if target.masked => self.look_up_masked(joint, target),
-            Operation::Xor | Operation::Add if !target.masked => self.look_up(joint, target),
-            Operation::Sub if !target.masked && target.open == 0 => self.look_up(joint, target),
+            Operation::Xor if target.masked => self.look_up_masked(making, layers, joint, target),
+            Operation::Xor | Operation::Add if !target.masked => self.look_up(
+                making, layers, joint, target,
+            ),
+            Operation::Sub if !target.masked && target.open == 0 => self.look_up(
+                making, layers, joint, target,
+            ),
             _ => Ok(()),
         }
     }
 
     /// The kept terms by their bits at the first point that aren't open.
-    fn prepare(&mut self, open: u32) -> Result<(), Want> {
+    fn prepare(&mut self, making: &Making, open: u32) -> Result<(), Want> {
         let Some(slot) = self.tables.get_mut(open as usize) else {
             return Ok(());
         };
         if slot.is_none() {
-            let numbers = high_numbers(self.making, open)?;
-            *slot = Some(Table::new(self.making.alloc, numbers.as_slice())?);
+            let numbers = high_numbers(making, open)?;
+            *slot = Some(Table::new(making.alloc, numbers.as_slice())?);
         }
         Ok(())
     }
 
     /// Looks up a second kept term for each first one, by the bits that aren't open.
-    fn look_up(&mut self, joint: &Joint, target: &Target) -> Result<(), Want> {
-        self.prepare(target.open)?;
+    fn look_up(
+        &mut self,
+        making: &Making,
+        layers: &[Layer],
+        joint: &Joint,
+        target: &Target,
+    ) -> Result<(), Want> {
+        self.prepare(making, target.open)?;
         let Some(Some(table)) = self.tables.get(target.open as usize) else {
             return Ok(());
         };
-        let mut met = Vec::new(self.making.alloc);
+        let mut met = Vec::new(making.alloc);
         let variants = variants_of(joint.operation, target);
         for carries in 0..variants {
-            push_met(
-                self.making,
-                table,
-                (joint.operation, carries),
-                target,
-                &mut met,
-            )?;
+            push_met(making, table, (joint.operation, carries), target, &mut met)?;
         }
-        self.charge((self.making.firsts.len() as u64).saturating_mul(variants));
+        self.charge((making.firsts.len() as u64).saturating_mul(variants));
         for (first, second) in met {
-            self.try_pair(joint, target, first, second)?;
+            self.try_pair(making, layers, joint, target, first, second)?;
         }
         Ok(())
     }
 
     /// The same where other bits than the lowest are open.
-    fn look_up_masked(&mut self, joint: &Joint, target: &Target) -> Result<(), Want> {
+    fn look_up_masked(
+        &mut self,
+        making: &Making,
+        layers: &[Layer],
+        joint: &Joint,
+        target: &Target,
+    ) -> Result<(), Want> {
         let Some(wanted) = target.points.get(0) else {
             return Ok(());
         };
-        let count = self.making.values.len();
+        let count = making.values.len();
         self.charge((count as u64).saturating_mul(2));
-        let mut numbers = Vec::with_capacity(self.making.alloc, count)?;
-        for value in &self.making.firsts {
+        let mut numbers = Vec::with_capacity(making.alloc, count)?;
+        for value in &making.firsts {
             numbers.push(*value & wanted.known)?;
         }
-        let table = Table::new(self.making.alloc, numbers.as_slice())?;
-        for (first, value) in self.making.firsts.iter().enumerate() {
+        let table = Table::new(making.alloc, numbers.as_slice())?;
+        for (first, value) in making.firsts.iter().enumerate() {
             let partner = (wanted.value ^ *value) & wanted.known;
             let mut next = table.first(partner);
             for _ in 0..MOST_MET {
@@ -169,7 +191,7 @@ impl<'a> Looking<'a> {
                     break;
                 };
                 if second >= first && numbers.get(second).copied() == Some(partner) {
-                    self.try_pair(joint, target, first, second)?;
+                    self.try_pair(making, layers, joint, target, first, second)?;
                 }
                 next = table.next(second);
             }
@@ -178,16 +200,22 @@ impl<'a> Looking<'a> {
     }
 
     /// Judges pairs of kept terms that have, or keep within, the wanted bits.
-    fn judge(&mut self, joint: &Joint, target: &Target) -> Result<(), Want> {
-        let mut serving = Vec::new(self.making.alloc);
-        self.charge(self.making.values.len() as u64 / 4);
+    fn judge(
+        &mut self,
+        making: &Making,
+        layers: &[Layer],
+        joint: &Joint,
+        target: &Target,
+    ) -> Result<(), Want> {
+        let mut serving = Vec::new(making.alloc);
+        self.charge(making.values.len() as u64 / 4);
         let Some(wanted) = target.points.get(0) else {
             return Ok(());
         };
-        for (place, value) in self.making.firsts.iter().enumerate() {
+        for (place, value) in making.firsts.iter().enumerate() {
             if target.may_have_part(joint.operation, wanted, *value)
                 && serving.len() < MOST_SERVING
-                && self.may_serve(joint.operation, target, place)
+                && making.may_serve(joint.operation, target, place)
             {
                 serving.push((place, *value))?;
             }
@@ -195,37 +223,28 @@ impl<'a> Looking<'a> {
         let count = serving.len() as u64;
         self.charge(count.saturating_mul(count) / 8);
         for (number, (first, x)) in serving.iter().enumerate() {
-            for (second, y) in serving.iter().skip(number) {
-                if target.serves(wanted, joint.operation.value(target.greatest, *x, *y)) {
-                    self.try_pair(joint, target, *first, *second)?;
+            for place in number..serving.len() {
+                let (second, y) = serving.get(place).copied().unwrap_or((0, 0));
+                if target.serves(wanted, joint.operation.value(target.greatest, *x, y)) {
+                    self.try_pair(making, layers, joint, target, *first, second)?;
                 }
             }
         }
         Ok(())
     }
 
-    /// Whether the kept term may be a part of a conjunction or disjunction with the wanted bits.
-    fn may_serve(&self, operation: Operation, target: &Target, place: usize) -> bool {
-        let Some(values) = self.making.values.get(place) else {
-            return false;
-        };
-        for (wanted, value) in target.points.iter().zip(values) {
-            if !target.may_have_part(operation, wanted, *value) {
-                return false;
-            }
-        }
-        true
-    }
-
     /// Takes the pair if it serves at the points that are looked at first, and then gives the body at all points.
     fn try_pair(
         &mut self,
+        making: &Making,
+        layers: &[Layer],
         joint: &Joint,
         target: &Target,
         first: usize,
         second: usize,
     ) -> Result<(), Want> {
-        if self.is_over() || !self.making.serves(joint.operation, target, first, second) {
+        self.charge(1);
+        if self.is_over() || !making.serves(joint.operation, target, first, second) {
             return Ok(());
         }
         self.tried = self.tried.saturating_add(1);
@@ -235,7 +254,7 @@ impl<'a> Looking<'a> {
             first,
             second,
         };
-        if self.making.is_whole(self.layers, joint.operation, &found) {
+        if making.is_whole(layers, joint.operation, &found) {
             self.found = Some(found);
         }
         Ok(())
@@ -297,11 +316,27 @@ fn push_met(
             }
             next = table.next(second);
         }
+        if met.len() > MOST_PAIRS {
+            return Ok(());
+        }
     }
     Ok(())
 }
 
 impl<'a> Making<'a> {
+    /// Whether the kept term may be a part of a conjunction or disjunction with the wanted bits.
+    fn may_serve(&self, operation: Operation, target: &Target, place: usize) -> bool {
+        let Some(values) = self.values.get(place) else {
+            return false;
+        };
+        for (wanted, value) in target.points.iter().zip(values) {
+            if !target.may_have_part(operation, wanted, *value) {
+                return false;
+            }
+        }
+        true
+    }
+
     /// The kept term's value at the first point, without the open bits.
     fn high(&self, place: usize, open: u32) -> Option<u64> {
         self.firsts.get(place)?.checked_shr(open)

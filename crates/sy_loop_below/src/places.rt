@@ -35,9 +35,10 @@ pub(crate) fn telling_points(alloc: Global, task: &Task) -> Result<Vec<usize>, W
 /// How many different values the kept terms have at the point, of some of them.
 fn different(alloc: Global, columns: &[Column], point: usize) -> Result<usize, Want> {
     let mut seen: HashSet<u64> = HashSet::new(alloc);
-    for column in columns.iter().step_by(STEP) {
-        if let Some(value) = column.values.get(point) {
-            seen.insert(*value)?;
+    for number in 0..columns.len() / STEP {
+        if let Some(column) = columns.get(number.saturating_mul(STEP)) {
+            let value = column.values.get(point).copied().unwrap_or(0);
+            seen.insert(value)?;
         }
     }
     Ok(seen.len())

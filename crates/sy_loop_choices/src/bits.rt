@@ -1,9 +1,9 @@
 // Bits of kept terms as conditions, where there are a conjunction, shifts to the right and a kept term that is 1.
 use crate::columns::Rules;
 use crate::gathered::{Condition, Gathered, Made};
-use crate::operations::Operation;
 use crate::rows::bit_points;
 use crate::search::Search;
+use crate::trials::Operation;
 use sy_seq::Want;
 
 /// Of how many kept terms bits are taken.

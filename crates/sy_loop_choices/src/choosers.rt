@@ -267,7 +267,7 @@ pub(crate) fn choosers<R: Rules>(
         let count = shape.operands.len();
         let may_choose = shape.pool == 0 && count >= 3 && count <= 5;
         if may_choose && found.len() < MOST_CHOOSERS {
-            if let Some(chooser) = chooser(alloc, rules, task, number)? {
+            if let Some(chooser) = found_chooser(alloc, rules, task, number)? {
                 found.push(chooser)?;
             }
         }
@@ -276,7 +276,7 @@ pub(crate) fn choosers<R: Rules>(
 }
 
 /// The rule as one that chooses, if it does.
-fn chooser<R: Rules>(
+fn found_chooser<R: Rules>(
     alloc: Global,
     rules: &R,
     task: &Task,

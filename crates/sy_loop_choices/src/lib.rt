@@ -3,23 +3,23 @@
 #![tactic(auto)]
 
 mod bits;
-mod choose;
 mod choosers;
 mod columns;
 mod further;
 mod gathered;
-mod operations;
 mod pairs;
 mod plan;
 mod rows;
 mod search;
+mod stages;
 mod tables;
 mod tree;
+mod trials;
 mod writer;
 
-pub use choose::choose;
 pub use columns::{Column, Pool, Rules, Shape, Task};
-pub use operations::{Operation, operations};
 pub use plan::{Node, Plan, is_plan};
 pub use rows::MOST_POINTS;
+pub use stages::choose;
 pub use tables::Table;
+pub use trials::{Operation, operations};

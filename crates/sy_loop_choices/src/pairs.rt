@@ -1,10 +1,10 @@
 // Leaves of two kept terms that have the wanted values at two points, which are drawn.
 use crate::columns::Rules;
 use crate::gathered::{Gathered, Leaf, Made};
-use crate::operations::Operation;
 use crate::rows::listed;
 use crate::search::Search;
 use crate::tables::Table;
+use crate::trials::Operation;
 use std::alloc::Global;
 use sy_seq::Want;
 
@@ -14,6 +14,8 @@ const DRAWS: usize = 6;
 const MOST_TAKEN: usize = 8;
 
 const MOST_MET: usize = 64;
+/// How many pairs of one operation are taken at most for one draw.
+const MOST_FOUND: usize = 20_000;
 /// How many pairs of one operation are judged at most for one draw.
 const MOST_JUDGED: usize = 3_000_000;
 
@@ -188,11 +190,14 @@ fn judge<R: Rules>(
         } else {
             0
         };
-        for second in parts.1.iter().skip(skipped) {
+        for place in skipped..parts.1.len() {
+            let Some(second) = parts.1.get(place) else {
+                return Ok(());
+            };
             if left == 0 {
                 return Ok(());
             }
-            left -= 1;
+            left = left.saturating_sub(1);
             if joint.has(first, second, wanted) {
                 gather(search, joint, first.place, second.place, gathered)?;
             }
@@ -237,6 +242,7 @@ fn look_up<R: Rules>(
         numbers.push(joined(part.values))?;
     }
     let table = Table::new(search.alloc, numbers.as_slice())?;
+    let mut left = MOST_FOUND;
     for first in parts.0 {
         let one = joint.partner(first.values.0, wanted.0);
         let two = joint.partner(first.values.1, wanted.1);
@@ -249,8 +255,9 @@ fn look_up<R: Rules>(
             let Some(second) = parts.1.get(place) else {
                 break;
             };
-            if second.values == (one, two) && taken < MOST_TAKEN {
+            if second.values == (one, two) && taken < MOST_TAKEN && left > 0 {
                 taken += 1;
+                left = left.saturating_sub(1);
                 gather(search, joint, first.place, second.place, gathered)?;
             }
             next = table.next(place);

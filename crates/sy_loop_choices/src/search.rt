@@ -2,8 +2,8 @@
 use crate::choosers::{Chooser, Sides, choosers};
 use crate::columns::{Rules, Task};
 use crate::gathered::{Condition, Gathered, Leaf, Made};
-use crate::operations::{Operation, operations};
 use crate::rows::agreement;
+use crate::trials::{Operation, operations};
 use std::alloc::Global;
 use sy_seq::Want;
 
@@ -164,14 +164,19 @@ impl<'a, R: Rules> Search<'a, R> {
         pools: (u32, u32),
         gathered: &mut Gathered,
     ) -> Result<(), Want> {
-        for (first, one) in self.task.columns(pools.0).iter().enumerate().take(OF_TWO) {
-            for (second, two) in self.task.columns(pools.1).iter().enumerate().take(OF_TWO) {
-                let others = [one.values.as_slice(), two.values.as_slice()];
+        let added = self.task.added(chooser.shape);
+        for first in 0..self.count(pools.0, OF_TWO) {
+            for second in 0..self.count(pools.1, OF_TWO) {
+                let others = [
+                    self.task.values(pools.0, first),
+                    self.task.values(pools.1, second),
+                ];
                 let row = chooser.asked(self.alloc, self.rules, &self.sides, &others)?;
-                let size = self.task.added(chooser.shape).saturating_add(one.size);
                 gathered.offer_condition(Condition {
                     row: row.unwrap_or(0),
-                    size: size.saturating_add(two.size),
+                    size: added
+                        .saturating_add(self.task.size(pools.0, first))
+                        .saturating_add(self.task.size(pools.1, second)),
                     chooser: number,
                     made: Made::Two(first, second),
                 })?;
@@ -187,23 +192,47 @@ impl<'a, R: Rules> Search<'a, R> {
         pools: (u32, u32, u32),
         gathered: &mut Gathered,
     ) -> Result<(), Want> {
-        for (first, one) in self.task.columns(pools.0).iter().enumerate().take(OF_THREE) {
-            for (second, two) in self.task.columns(pools.1).iter().enumerate().take(OF_THREE) {
-                for third in 0..self.task.columns(pools.2).len().min(OF_THREE) {
-                    let three = self.task.values(pools.2, third);
-                    let others = [one.values.as_slice(), two.values.as_slice(), three];
-                    let row = chooser.asked(self.alloc, self.rules, &self.sides, &others)?;
-                    let size = self.task.added(chooser.shape).saturating_add(one.size);
-                    let size = size.saturating_add(two.size);
-                    gathered.offer_condition(Condition {
-                        row: row.unwrap_or(0),
-                        size: size.saturating_add(self.task.size(pools.2, third)),
-                        chooser: number,
-                        made: Made::Three(first, second, third),
-                    })?;
+        for first in 0..self.count(pools.0, OF_THREE) {
+            for second in 0..self.count(pools.1, OF_THREE) {
+                for third in 0..self.count(pools.2, OF_THREE) {
+                    let places = (first, second, third);
+                    let condition = self.of_three(number, chooser, pools, places)?;
+                    gathered.offer_condition(condition)?;
                 }
             }
         }
         Ok(())
+    }
+
+    /// The condition of these three kept terms.
+    fn of_three(
+        &self,
+        number: usize,
+        chooser: &Chooser,
+        pools: (u32, u32, u32),
+        places: (usize, usize, usize),
+    ) -> Result<Condition, Want> {
+        let others = [
+            self.task.values(pools.0, places.0),
+            self.task.values(pools.1, places.1),
+            self.task.values(pools.2, places.2),
+        ];
+        let row = chooser.asked(self.alloc, self.rules, &self.sides, &others)?;
+        let size = self
+            .task
+            .size(pools.0, places.0)
+            .saturating_add(self.task.size(pools.1, places.1))
+            .saturating_add(self.task.size(pools.2, places.2));
+        Ok(Condition {
+            row: row.unwrap_or(0),
+            size: size.saturating_add(self.task.added(chooser.shape)),
+            chooser: number,
+            made: Made::Three(places.0, places.1, places.2),
+        })
+    }
+
+    /// How many kept terms the pool has, at most so many.
+    fn count(&self, pool: u32, most: usize) -> usize {
+        self.task.columns(pool).len().min(most)
     }
 }

@@ -23,7 +23,9 @@ impl Table {
             marks: Vec::from_elem(alloc, 0, (slots / 4).max(1))?,
         };
         for place in (0..numbers.len()).rev() {
-            table.insert(place, mixed(numbers[place]));
+            if let Some(number) = numbers.get(place) {
+                table.insert(place, mixed(*number));
+            }
         }
         Ok(table)
     }
@@ -39,7 +41,7 @@ impl Table {
         }
         let block = slot_of(mixed >> 6, self.marks.len());
         if let Some(marks) = self.marks.get_mut(block) {
-            *marks |= 1 << (mixed & 63);
+            *marks |= 1 << (mixed % 64);
         }
     }
 
@@ -47,7 +49,7 @@ impl Table {
     pub fn first(&self, number: u64) -> Option<usize> {
         let mixed = mixed(number);
         let marks = self.marks.get(slot_of(mixed >> 6, self.marks.len()))?;
-        if *marks >> (mixed & 63) & 1 == 0 {
+        if *marks >> (mixed % 64) & 1 == 0 {
             return None;
         }
         self.heads

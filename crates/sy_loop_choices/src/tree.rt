@@ -103,19 +103,11 @@ fn sharpest(conditions: &[Condition], points: u128, good: u128) -> Option<usize>
     number
 }
 
-/// The smallest leaf that is good at all points.
-pub(crate) fn whole_leaf(gathered: &Gathered) -> Option<usize> {
-    let number = widest(gathered.leaves.as_slice(), gathered.all)?;
-    let leaf = gathered.leaves.get(number)?;
-    if leaf.row == gathered.all {
-        Some(number)
-    } else {
-        None
-    }
-}
-
 /// A tree that serves all points, if one is found.
 pub(crate) fn tree_of(alloc: Global, gathered: &Gathered) -> Result<Option<Tree>, Want> {
+    if gathered.unserved() != 0 {
+        return Ok(None);
+    }
     let mut tree = Tree {
         branches: Vec::new(alloc),
         choices: 0,

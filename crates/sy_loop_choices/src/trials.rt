@@ -158,16 +158,14 @@ fn singles(alloc: Global, greatest: u64) -> Result<Vec<Operation>, Want> {
 
 /// Operations of two operands.
 fn pairs(alloc: Global) -> Result<Vec<Operation>, Want> {
-    Vec::from_array(
-        alloc,
-        [
-            Operation::And,
-            Operation::Or,
-            Operation::Xor,
-            Operation::Add,
-            Operation::Sub,
-        ],
-    )
+    let all = [
+        Operation::And,
+        Operation::Or,
+        Operation::Xor,
+        Operation::Add,
+        Operation::Sub,
+    ];
+    Ok(Vec::from_array(alloc, all)?)
 }
 
 /// Those of the operations that have these values.

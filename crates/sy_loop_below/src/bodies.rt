@@ -40,9 +40,9 @@ pub fn below<R: Rules>(alloc: Global, rules: &R, task: &Task) -> Result<Option<P
 
 /// The first pair that serves, in the smallest layers first.
 fn found_in(making: &Making, layers: &[Layer]) -> Result<Option<Found>, Want> {
-    let mut looking = Looking::new(making, layers, WORK)?;
+    let mut looking = Looking::new(making.alloc, WORK)?;
     for size in 0..=MOST_SIZE {
-        if let Some(found) = looking.look(size)? {
+        if let Some(found) = looking.look(making, layers, size)? {
             return Ok(Some(found));
         }
     }
