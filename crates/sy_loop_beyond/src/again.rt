@@ -68,15 +68,42 @@ fn solve_wished<T: Theory, D: Decide<T>>(
             return Ok(None);
         };
         let known = wrong.len();
-        let found = solve_over(task, decide, &bank, &mut wrong, assignments, aside)?;
-        if found.is_some() {
-            return Ok(found);
+        if let Some(found) = solve_over(task, decide, &bank, &mut wrong, assignments, aside)? {
+            return Ok(Some(found));
         }
-        if wrong.len() == known || round + 1 == MOST_ROUNDS {
-            return solve_scanned(task, decide, &bank, assignments, aside);
+        if wrong.len() > known && round + 1 < MOST_ROUNDS {
+            continue;
+        }
+        if let Some(found) = solve_last(task, decide, &bank, &mut wrong, assignments, aside)? {
+            return Ok(Some(found));
+        }
+        if wrong.len() == known {
+            return Ok(None);
         }
     }
     Ok(None)
+}
+
+/// The first combination of kept terms that is found to solve the problem, or else a larger body that chooses or stands below
+/// known operations.
+fn solve_last<T: Theory, D: Decide<T>>(
+    task: &Task<T>,
+    decide: &mut D,
+    bank: &Bank<T>,
+    wrong: &mut Vec<Values<T>>,
+    assignments: &mut Vec<Values<T>>,
+    aside: &mut Aside<T>,
+) -> Result<Option<(Bodies<T>, D::Proof)>, Want>
+    requires problem { ProblemFits T.Theory task.now.problem.now }
+    requires one { length task.now.problem.now.wanted ≡ 1 }
+    requires assigned { AreAssignedFor T.Theory task.now.problem.now assignments.old.items }
+    ensures assigned { OnOk result (AreAssignedFor T.Theory task.now.problem.now assignments.new.items) }
+    ensures found { IfOk result (IsFoundFor T.Theory D.Decide task.now.problem.now task.now.bound) }
+{
+    if let Some(found) = solve_scanned(task, decide, bank, assignments, aside)? {
+        return Ok(Some(found));
+    }
+    solve_chosen(task, decide, bank, true, wrong, assignments, aside)
 }
 
 /// A bank of the one function at these tuples and at those that constraints want at the assignments; `None` where there is
@@ -154,5 +181,5 @@ fn solve_over<T: Theory, D: Decide<T>>(
             return Ok(Some(found));
         }
     }
-    solve_chosen(task, decide, bank, wrong, assignments, aside)
+    solve_chosen(task, decide, bank, false, wrong, assignments, aside)
 }

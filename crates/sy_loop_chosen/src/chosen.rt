@@ -24,13 +24,15 @@ const FEW_CHOICES: u32 = 8;
 /// How many tuples at which a body is wrong are answered at most.
 const MOST_WRONG: usize = 16;
 
-/// A body that has the wanted values at the bank's points, found as one that chooses between kept terms, if it solves the problem.
-/// `None` where none was found to. Where it has other values than constraints want, some tuples at which it has are added to
-/// `wrong`: a bank over these as well may have better ones.
+/// A body that has the wanted values at the bank's points, found as one that chooses between kept terms, if it solves the
+/// problem: one that chooses little, or where it `is_last`, one that chooses often, or one below known operations where there
+/// are no variables and more than one bank is built. `None` where none was found to. Where it has other values than constraints
+/// want, some tuples at which it has are added to `wrong`: a bank over these as well may have better ones.
 pub fn solve_chosen<T: Theory, D: Decide<T>>(
     task: &Task<T>,
     decide: &mut D,
     bank: &Bank<T>,
+    is_last: bool,
     wrong: &mut Vec<Values<T>>,
     assignments: &mut Vec<Values<T>>,
     aside: &mut Aside<T>,
@@ -43,7 +45,7 @@ pub fn solve_chosen<T: Theory, D: Decide<T>>(
 {
     let wishes = wishes_of(task, assignments.as_slice(), MOST_WISHES)?;
     let wanted = wanted_of(task.alloc, wishes)?;
-    let Some(term) = chosen_term(task, bank, &wanted)? else {
+    let Some(term) = chosen_term(task, bank, &wanted, is_last)? else {
         return Ok(None);
     };
     let known = wrong.len();
@@ -59,6 +61,7 @@ fn chosen_term<T: Theory>(
     task: &Task<T>,
     bank: &Bank<T>,
     wanted: &Wanted<T>,
+    is_last: bool,
 ) -> Result<Option<Term<T>>, Want> {
     let alloc = task.alloc;
     let Some(function) = task.problem.wanted.get(0) else {
@@ -75,8 +78,8 @@ fn chosen_term<T: Theory>(
         wanted: words,
         complete: bank.upto().saturating_sub(1),
     };
-    let is_closed = task.problem.vars.len() == 0;
-    let Some(plan) = plan_of(alloc, &rules, &seen, is_closed)? else {
+    let is_deep = is_last && task.problem.vars.len() == 0 && task.effort.banks > 1;
+    let Some(plan) = plan_of(alloc, &rules, &seen, is_deep, is_last)? else {
         return Ok(None);
     };
     if plan.size > task.bound {
@@ -85,21 +88,25 @@ fn chosen_term<T: Theory>(
     planned_term(alloc, grammar, bank, seen.shapes.as_slice(), &plan)
 }
 
-/// A plan of a body with the wanted values. Where that chooses often, or there is none, a body below known operations comes
-/// first, if all that is wanted is known.
+/// A plan of a body with the wanted values: where it `is_deep` of one below known operations; else of one that chooses, at
+/// first little.
 fn plan_of<T: Theory>(
     alloc: Global,
     rules: &RuleValues<'_, T>,
     seen: &sy_loop_choices::Task,
-    is_closed: bool,
+    is_deep: bool,
+    is_last: bool,
 ) -> Result<Option<Plan>, Want> {
-    let chosen = choose(alloc, rules, seen)?;
-    if !is_closed || chooses_little(&chosen) {
-        return Ok(chosen);
+    if is_deep {
+        if let Some(plan) = below(alloc, rules, seen)? {
+            return Ok(Some(plan));
+        }
     }
-    match below(alloc, rules, seen)? {
-        Some(plan) => Ok(Some(plan)),
-        None => Ok(chosen),
+    let chosen = choose(alloc, rules, seen)?;
+    if is_last || chooses_little(&chosen) {
+        Ok(chosen)
+    } else {
+        Ok(None)
     }
 }
 

@@ -4,7 +4,7 @@ use std::alloc::Global;
 use sy_bank_rows::filled_part;
 use sy_grammar_base::{Grammar, Part, Rule};
 use sy_loop_choices::{Rules, Shape};
-use sy_terms::{Defs, Seq, Sort, Term, Theory, Values, Want, copied_values};
+use sy_terms::{Defs, Op, Seq, Sort, Term, Theory, Values, Want, copied_values};
 
 /// The most parts of a rule that is tried.
 const MOST_PARTS: usize = 5;
@@ -24,7 +24,7 @@ pub(crate) struct RuleValues<'a, T: Theory> {
     rules: Vec<Ruled<T>>,
 }
 
-/// The rules of all nonterminals that have one to five parts, and their values at the points.
+/// The rules of all nonterminals that have one to five parts, of those with two the quick ones, and their values at the points.
 pub(crate) fn rules_of<'a, T: Theory>(
     alloc: Global,
     grammar: &Grammar<T>,
@@ -55,7 +55,8 @@ pub(crate) fn rules_of<'a, T: Theory>(
     Ok((shapes, values))
 }
 
-/// The rule of this number of a nonterminal, as choices see it and as a term; `None` where it has no part, or too many.
+/// The rule of this number of a nonterminal, as choices see it and as a term; `None` where it has no part, too many,
+/// or two and isn't quick.
 fn ruled<T: Theory>(
     alloc: Global,
     grammar: &Grammar<T>,
@@ -77,7 +78,7 @@ fn ruled<T: Theory>(
         sorts.push(non.sort)?;
         operands.push(nonterminal)?;
     }
-    if operands.is_empty() {
+    if operands.is_empty() || operands.len() == 2 && !is_cheap(part) {
         return Ok(None);
     }
     let term = filled_part(alloc, part, places.as_slice())?;
@@ -90,6 +91,18 @@ fn ruled<T: Theory>(
         operands,
     };
     Ok(Some((shape, Ruled { term, sorts })))
+}
+
+/// Whether the part is an operator whose values over many pairs of columns are quickly had: it is tried over thousands. Other
+/// rules of two parts would take seconds.
+fn is_cheap<T: Theory>(part: &Part<T>) -> bool {
+    match part {
+        Part::App(operator, _) => matches!(
+            operator,
+            Op::Add | Op::Sub | Op::BvAdd | Op::BvSub | Op::BvAnd | Op::BvOr | Op::BvXor
+        ),
+        _ => false,
+    }
 }
 
 impl<'a, T: Theory> Rules for RuleValues<'a, T> {
