@@ -3,23 +3,17 @@ ghost use Rattle.std.specs.Prelude.{◌≡◌, length, IfOk, OnOk};
 ghost use Rattle.sy_grammar_base.specs.Fits.{ProblemFits};
 ghost use Rattle.sy_loop_bodies.specs.Clauses.{AreAssignedFor, IsFoundFor};
 
-use crate::plans::planned_term;
-use crate::rules::{RuleValues, rules_of};
-use crate::tables::{Wanted, pools_of, wanted_at, wanted_of};
+use crate::plans::{Search, planned_term};
+use crate::tables::{Wanted, wanted_at, wanted_of};
 use crate::values::words_at;
 use std::alloc::Global;
 use sy_bank_level::Bank;
-use sy_loop_below::below;
 use sy_loop_bodies::{Aside, Task, point_of, try_term, wishes_of};
-use sy_loop_choices::{Plan, choose};
 use sy_query_base::Decide;
 use sy_terms::{Bodies, Term, Theory, Values, Want, copied_values};
 
 /// At how many tuples of one assignment a body is judged at most.
 pub(crate) const MOST_WISHES: usize = 1_000_000;
-
-/// How many choices are few.
-const FEW_CHOICES: u32 = 8;
 
 /// How many tuples at which a body is wrong are answered at most.
 const MOST_WRONG: usize = 16;
@@ -70,52 +64,28 @@ fn chosen_term<T: Theory>(
     let Some(words) = wanted_at(alloc, wanted, bank.points())? else {
         return Ok(None);
     };
-    let grammar = &function.grammar;
-    let (shapes, rules) = rules_of(alloc, grammar, &task.problem.defs, bank.points())?;
-    let seen = sy_loop_choices::Task {
-        pools: pools_of(alloc, grammar, bank)?,
-        shapes,
-        wanted: words,
-        complete: bank.upto().saturating_sub(1),
-    };
-    let is_deep = is_last && task.problem.vars.len() == 0 && task.effort.banks > 1;
-    let Some(plan) = plan_of(alloc, &rules, &seen, is_deep, is_last)? else {
-        return Ok(None);
-    };
-    if plan.size > task.bound {
-        return Ok(None);
-    }
-    planned_term(alloc, grammar, bank, seen.shapes.as_slice(), &plan)
+    let search = search_of(task, is_last);
+    let defs = &task.problem.defs;
+    planned_term(
+        alloc,
+        &function.grammar,
+        defs,
+        bank,
+        words,
+        search,
+        task.bound,
+    )
 }
 
-/// A plan of a body with the wanted values: where it `is_deep` of one below known operations; else of one that chooses, at
-/// first little.
-fn plan_of<T: Theory>(
-    alloc: Global,
-    rules: &RuleValues<'_, T>,
-    seen: &sy_loop_choices::Task,
-    is_deep: bool,
-    is_last: bool,
-) -> Result<Option<Plan>, Want> {
-    if is_deep {
-        if let Some(plan) = below(alloc, rules, seen)? {
-            return Ok(Some(plan));
-        }
+/// Which bodies are looked for.
+fn search_of<T: Theory>(task: &Task<T>, is_last: bool) -> Search {
+    if !is_last {
+        return Search::Few;
     }
-    let chosen = choose(alloc, rules, seen)?;
-    if is_last || chooses_little(&chosen) {
-        Ok(chosen)
-    } else {
-        Ok(None)
+    if task.problem.vars.len() == 0 && task.effort.banks > 1 {
+        return Search::Deep;
     }
-}
-
-/// Whether there is a plan that doesn't choose often.
-fn chooses_little(plan: &Option<Plan>) -> bool {
-    match plan {
-        Some(plan) => plan.choices <= FEW_CHOICES,
-        None => false,
-    }
+    Search::Many
 }
 
 /// Adds tuples at which the term has another value than is wanted there, evenly spaced.
@@ -166,8 +136,8 @@ fn add_other<T: Theory>(
 /// The places at which the two lists differ.
 fn differing(alloc: Global, found: &[u64], wanted: &[u64]) -> Result<Vec<usize>, Want> {
     let mut places = Vec::new(alloc);
-    for (place, (first, second)) in found.iter().zip(wanted).enumerate() {
-        if first != second {
+    for place in 0..found.len().min(wanted.len()) {
+        if found[place] != wanted[place] {
             places.push(place)?;
         }
     }

@@ -14,23 +14,29 @@ pub fn are_at_odds<T: Theory>(task: &Task<T>, assignments: &[Values<T>]) -> Resu
     requires assigned { AreAssignedFor T.Theory task.now.problem.now assignments.now }
 {
     let wishes = wishes_of(task, assignments, MOST_WISHES)?;
-    let mut places = HashMap::new(task.alloc);
-    for (place, wish) in wishes.iter().enumerate() {
+    let mut places: HashMap<u64, usize> = HashMap::new(task.alloc);
+    for place in 0..wishes.len() {
+        let wish = &wishes[place];
         let hash = row_hash::<T>(0, wish.tuple.as_slice());
-        match places.get(&hash) {
-            Some(before) => {
-                if let Some(other) = wishes.get(*before) {
-                    if is_at_odds(wish, other) {
-                        return Ok(true);
-                    }
-                }
-            }
-            None => {
-                places.insert(hash, place)?;
-            }
+        if !places.contains_key(&hash) {
+            places.insert(hash, place)?;
+        }
+        if is_at_odds_with(wish, wishes.as_slice(), places.get(&hash)) {
+            return Ok(true);
         }
     }
     Ok(false)
+}
+
+/// Whether the wish of this place, if there is one, is of the tuple too, with another value.
+fn is_at_odds_with<T: Theory>(wish: &Wish<T>, wishes: &[Wish<T>], place: Option<&usize>) -> bool {
+    let Some(place) = place else {
+        return false;
+    };
+    match wishes.get(*place) {
+        Some(other) => is_at_odds(wish, other),
+        None => false,
+    }
 }
 
 /// Whether both are of one tuple, with two values.

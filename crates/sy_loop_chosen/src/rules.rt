@@ -67,18 +67,17 @@ fn ruled<T: Theory>(
     let mut operands = Vec::new(alloc);
     let mut sorts = Vec::from_slice(alloc, grammar.args().as_slice())?;
     let mut places = Vec::new(alloc);
-    while let Ok(nonterminal) = part.occurrence(operands.len()) {
-        let Some(non) = grammar.nons().get(nonterminal as usize) else {
-            return Ok(None);
-        };
-        if operands.len() >= MOST_PARTS {
-            return Ok(None);
+    for place in 0..MOST_PARTS + 1 {
+        if let Ok(nonterminal) = part.occurrence(place) {
+            let Some(non) = grammar.nons().get(nonterminal as usize) else {
+                return Ok(None);
+            };
+            places.push(Term::Var(sorts.len() as u32))?;
+            sorts.push(non.sort)?;
+            operands.push(nonterminal)?;
         }
-        places.push(Term::Var(sorts.len() as u32))?;
-        sorts.push(non.sort)?;
-        operands.push(nonterminal)?;
     }
-    if operands.is_empty() || operands.len() == 2 && !is_cheap(part) {
+    if !is_tried(part, operands.len()) {
         return Ok(None);
     }
     let term = filled_part(alloc, part, places.as_slice())?;
@@ -93,14 +92,23 @@ fn ruled<T: Theory>(
     Ok(Some((shape, Ruled { term, sorts })))
 }
 
-/// Whether the part is an operator whose values over many pairs of columns are quickly had: it is tried over thousands. Other
-/// rules of two parts would take seconds.
-fn is_cheap<T: Theory>(part: &Part<T>) -> bool {
+/// Whether the rule of this part, with so many nonterminals, is tried. Those of two are tried over thousands of pairs of
+/// columns, so among them the ones alone whose values are quickly had.
+fn is_tried<T: Theory>(part: &Part<T>, count: usize) -> bool {
+    match count {
+        0 => false,
+        2 => is_quick(part),
+        _ => count <= MOST_PARTS,
+    }
+}
+
+/// Whether the part is an operator whose values over two columns are quickly had.
+fn is_quick<T: Theory>(part: &Part<T>) -> bool {
     match part {
-        Part::App(operator, _) => matches!(
-            operator,
-            Op::Add | Op::Sub | Op::BvAdd | Op::BvSub | Op::BvAnd | Op::BvOr | Op::BvXor
-        ),
+        Part::App(operator, _) => match operator {
+            Op::Add | Op::Sub | Op::BvAdd | Op::BvSub | Op::BvAnd | Op::BvOr | Op::BvXor => true,
+            _ => false,
+        },
         _ => false,
     }
 }

@@ -17,15 +17,13 @@ pub(crate) struct Wanted<T: Theory> {
 
 /// The wishes, with their values as numbers.
 pub(crate) fn wanted_of<T: Theory>(alloc: Global, wishes: Vec<Wish<T>>) -> Result<Wanted<T>, Want> {
-    let mut wanted = Wanted {
-        tuples: Vec::with_capacity(alloc, wishes.len())?,
-        words: Vec::with_capacity(alloc, wishes.len())?,
-    };
+    let mut tuples = Vec::with_capacity(alloc, wishes.len())?;
+    let mut words = Vec::with_capacity(alloc, wishes.len())?;
     for wish in wishes {
-        wanted.words.push(word_of::<T>(&wish.value))?;
-        wanted.tuples.push(wish.tuple)?;
+        words.push(word_of::<T>(&wish.value))?;
+        tuples.push(wish.tuple)?;
     }
-    Ok(wanted)
+    Ok(Wanted { tuples, words })
 }
 
 /// What is wanted at each of the points; `None` where nothing is at one.

@@ -1,5 +1,5 @@
 // Values as numbers of 64 bits, and those of a term at many tuples.
-ghost use Rattle.std.specs.Prelude.{◌≡◌, true, IfOk, IsTrue};
+ghost use Rattle.std.specs.Prelude.{◌≡◌, true, Some, IfOk, IsTrue};
 ghost use Rattle.std.specs.Option.{is_some};
 ghost use Rattle.sy_terms.specs.Denoted.{expr_of};
 ghost use Rattle.sy_terms.specs.Definitions.{DefinitionsFit, scope_of};
@@ -81,6 +81,16 @@ fn are_same(first: &[Sort], second: &[Sort]) -> bool
     first == second
 }
 
+/// Whether the sort is there, and this one.
+fn is_sort(found: Option<Sort>, sort: Sort) -> bool
+    ensures { IsTrue result → found ≡ Some sort }
+{
+    match found {
+        Some(found) => found == sort,
+        None => false,
+    }
+}
+
 /// Whether each definition fits under those before it, as those of a problem do.
 fn are_defined<T: Theory>(alloc: Global, defs: &Defs<T>) -> Result<bool, Want>
     ensures { IfOk result (λ yes. IsTrue yes → DefinitionsFit T.owned T.denotes defs.now) }
@@ -89,7 +99,7 @@ fn are_defined<T: Theory>(alloc: Global, defs: &Defs<T>) -> Result<bool, Want>
     for number in 0..defs.len() {
         let def = &defs[number];
         let sort = term_sort(alloc, &defs[..number], &[], def.args.as_slice(), &def.body)?;
-        if sort != Some(def.sort) {
+        if !is_sort(sort, def.sort) {
             return Ok(false);
         }
     }
