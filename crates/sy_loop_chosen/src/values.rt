@@ -95,10 +95,10 @@ fn is_sort(found: Option<Sort>, sort: Sort) -> bool
 fn are_defined<T: Theory>(alloc: Global, defs: &Defs<T>) -> Result<bool, Want>
     ensures { IfOk result (λ yes. IsTrue yes → DefinitionsFit T.owned T.denotes defs.now) }
 {
-    let defs = defs.as_slice();
-    for number in 0..defs.len() {
-        let def = &defs[number];
-        let sort = term_sort(alloc, &defs[..number], &[], def.args.as_slice(), &def.body)?;
+    let all = defs.as_slice();
+    for number in 0..all.len() {
+        let def = &all[number];
+        let sort = term_sort(alloc, &all[..number], &[], def.args.as_slice(), &def.body)?;
         if !is_sort(sort, def.sort) {
             return Ok(false);
         }
