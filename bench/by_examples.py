@@ -1,7 +1,8 @@
 #!/usr/bin/env python3
 """Runs `sygus`, and cvc5 where it is named, on closed examples of known programs, and prints a table.
 
-    bench/by_examples.py [--sygus PROGRAM] [--cvc5 PROGRAM] [--limit SECONDS] [--seed SEED] [--set SET] [--keep FOLDER]
+    bench/by_examples.py [--sygus PROGRAM] [--cvc5 PROGRAM] [--limit SECONDS] [--seed SEED] [--count COUNT]
+                         [--set SET] [--keep FOLDER] [--files]
 
 The sets:
 
@@ -25,7 +26,7 @@ import tempfile
 from runs import run, sygus
 from sygus_client import outcome_of, read_items
 
-# Of each choice the definitions or none, the rule, its size as a term, and the rules that its other places may want.
+# Of each way to write a choice its definitions, its rule, and a nonterminal more where the rule has one.
 CHOICES = {
     "im": ("(define-fun im ((x B) (y B) (z B)) B (ite (= x ONE) y z))", "(im S S S)", ""),
     "ite": ("", "(ite (= S ONE) S S)", ""),
@@ -241,6 +242,27 @@ def asked(words, text, path, limit):
     return wrong == 0, ended.seconds, wrong, cell
 
 
+def table(given, ways, folder):
+    """Prints the table and its last lines, and answers whether an answer was wrong."""
+    if ways:
+        print(f"| File | {' | '.join(name for name, _ in ways)} |\n|---{'|---' * len(ways)}|")
+    found = []
+    for name in given.set or SETS:
+        for file, text in SETS[name](given.seed, given.count):
+            path = os.path.join(folder, f"{file}.sl")
+            with open(path, "w") as out:
+                out.write(text)
+            cells = [asked(words, text, path, given.limit) for _, words in ways]
+            if cells:
+                found.append(cells)
+                print(f"| `{file}` | {' | '.join(cell for _, _, _, cell in cells)} |", flush=True)
+    both = [it for it in found if all(cell[0] for cell in it)]
+    for place, (name, _) in enumerate(ways):
+        answered = sum(it[place][0] for it in found)
+        print(f"{name}: {answered} of {len(found)} answered, {sum(it[place][1] for it in both):.2f} s on the {len(both)} that all answer")
+    return any(cell[2] for it in found for cell in it)
+
+
 def main():
     parser = argparse.ArgumentParser(description=__doc__, formatter_class=argparse.RawDescriptionHelpFormatter)
     parser.add_argument("--sygus", metavar="PROGRAM")
@@ -252,28 +274,14 @@ def main():
     parser.add_argument("--keep", metavar="FOLDER")
     parser.add_argument("--files", action="store_true", help="write the files into the folder of --keep, and run nothing")
     given = parser.parse_args()
-    folder = given.keep or tempfile.mkdtemp()
-    os.makedirs(folder, exist_ok=True)
-    ways = []
-    if not given.files:
-        ways.append(("sygus", [sygus(given.sygus)]))
-        if given.cvc5:
-            ways.append(("cvc5", [given.cvc5, "--lang=sygus2"]))
-        print(f"| File | {' | '.join(name for name, _ in ways)} |\n|---{'|---' * len(ways)}|")
-    found = []
-    for name in given.set or SETS:
-        for file, text in SETS[name](given.seed, given.count):
-            path = os.path.join(folder, f"{file}.sl")
-            with open(path, "w") as out:
-                out.write(text)
-            if ways:
-                cells = [asked(words, text, path, given.limit) for _, words in ways]
-                found.append(cells)
-                print(f"| `{file}` | {' | '.join(cell for _, _, _, cell in cells)} |", flush=True)
-    for place, (name, _) in enumerate(ways):
-        both = [it for it in found if all(cell[0] for cell in it)]
-        print(f"{name}: {sum(it[place][0] for it in found)} of {len(found)} answered, {sum(it[place][1] for it in both):.2f} s on the {len(both)} that all answer")
-    return any(cell[2] for it in found for cell in it)
+    ways = [] if given.files else [("sygus", [sygus(given.sygus)])]
+    if ways and given.cvc5:
+        ways.append(("cvc5", [given.cvc5, "--lang=sygus2"]))
+    if given.keep:
+        os.makedirs(given.keep, exist_ok=True)
+        return table(given, ways, given.keep)
+    with tempfile.TemporaryDirectory() as folder:
+        return table(given, ways, folder)
 
 
 if __name__ == "__main__":
