@@ -63,12 +63,20 @@ note_load() {
     echo "load $(age) $(cut -d ' ' -f 1 /proc/loadavg 2>/dev/null || echo 0)" >>"$room/told"
 }
 
-# How many minutes are left, by what was told so far.
-minutes_left() {
+# How many minutes are left by what was told so far, and what part of the work is done, in percent.
+estimate() {
     {
         echo "$weights"
         cat "$room/told"
     } | awk -v processors="$processors" -v seconds="$(age)" -f "$top/tools/estimate.awk"
+}
+
+# What is said of the rest: the minutes that it takes once a third of the work has shown the pace.
+rest() {
+    estimate | {
+        read -r minutes percent
+        if [ "$percent" -lt 33 ]; then echo "$percent % of the work"; else echo "some $minutes minutes left"; fi
+    }
 }
 
 # Says which crates are proved, as the log tells it, and what the rest takes, until the room has a file `ended`.
@@ -85,7 +93,7 @@ tell() {
         while read -r crate how; do
             told=$((told + 1))
             echo "$crate $how $(age)" >>"$room/told"
-            say "[$told of $total] $crate; some $(minutes_left) minutes left"
+            say "[$told of $total] $crate; $(rest)"
         done <"$room/found"
     done
 }
@@ -103,8 +111,10 @@ end_all() {
 build_in_room() {
     furnish >"$log" 2>&1 || return 1
     weights=$(weigh) begun=$(date +%s)
+    : >"$room/told"
+    say "proving and building $total crates: some $(estimate | cut -d ' ' -f 1) minutes on an idle machine, less where rt has kept some"
+    say "how long it takes on this one is said when a third of the work is done"
     note_load
-    say "proving and building $total crates: some $(minutes_left) minutes, less where rt has kept some"
     [ "$name" != sygus ] || say "an unproved answer in some three minutes, beside this: ./sygus --preview FILE"
     (cd "$room" && exec env ${SYGUS_JOBS:+RT_JOBS="$SYGUS_JOBS"} rt ci) >"$log" 2>&1 </dev/null &
     child=$!

@@ -1,10 +1,12 @@
-# How many minutes the rest of a build takes, by what is done and the pace so far:
+# How many minutes the rest of a build takes, by what is done and the pace so far, and what part of the work is done, in percent:
 #     awk -v processors=N -v seconds=N -f estimate.awk
+# The minutes say little before a third of the work is done: with nothing done they are those of an idle machine, and no pace
+# at the beginning foresees what begins beside it.
 # `seconds` is the time since the build began. It reads a line `NAME: BYTES LIBRARY ..` of each crate, the lowest first, with
 # the size of its source and the libraries that it depends on; then a line `NAME proved SECOND` or `NAME kept SECOND` of each
 # that is done, and now and then a line `load SECOND LOAD` with the load of the machine. The last crate is the program.
 # A crate takes some 12 units of work and one for each 210 bytes of its source, the program some 350 more. A crate that rt
-# has kept takes none, and tells nothing of the pace.
+# has kept takes none, is no part of the work, and tells nothing of the pace.
 $1 ~ /:$/ {
     name = substr($1, 1, length($1) - 1)
     names[++count] = name
@@ -21,7 +23,11 @@ $1 == "load" {
     next
 }
 $1 in work {
-    if ($2 == "proved") done += (work[$1] + ($1 == names[count] ? 350 : 0)) * exp(($3 - seconds) / 900)
+    units = work[$1] + ($1 == names[count] ? 350 : 0)
+    if ($2 == "proved") {
+        proved += units
+        done += units * exp(($3 - seconds) / 900)
+    }
     is_done[$1] = 1
 }
 END {
@@ -36,6 +42,7 @@ END {
         parts = split(libraries[names[i]], below)
         for (k = 3; k <= parts; k++) if (chain > behind[below[k]]) behind[below[k]] = chain
     }
+    part = proved + rest > 0 ? proved / (proved + rest) : 1
     # while the program is built no other crate is left: one processor works alone
     if (!(names[count] in is_done)) rest += (processors - 1) * work[names[count]]
     if (processors * longest > rest) rest = processors * longest
@@ -45,5 +52,5 @@ END {
     # beside what was done count five minutes in which a processor does 1.1 units a second
     had += 300
     pace = share * (done + under_way + 330 * processors) / had
-    printf "%d\n", rest / pace / 60 + 0.5
+    printf "%d %d\n", rest / pace / 60 + 0.5, 100 * part
 }

@@ -5,8 +5,8 @@
 
 Within an area of crates.txt each crate is put after those that it depends on. The index has a row for each layer, area and
 crate, in that order: the crate's name, the first sentence of its root file, and the files of its specs/. Crates of tests share
-one row in each area. With --check nothing is written. The status is 1 where a crate depends on one of a layer above, or, with
---check, where the order or the index isn't that of the crates as they are.
+one row in each area. With --check nothing is written. The status is 1 where a crate depends on one of a layer above, where a
+checker of proofs stands on a solver, or, with --check, where the order or the index isn't that of the crates as they are.
 """
 import argparse
 import pathlib
@@ -15,6 +15,7 @@ import sys
 
 TOP = pathlib.Path(__file__).resolve().parent.parent
 PAGE, CRATES = TOP / "docs" / "ARCHITECTURE.md", TOP / "crates.txt"
+CHECKERS, SOLVERS = ("sy_verify_logs", "sy_verify_trees"), re.compile("sy_cdcl|sy_simplex|sy_intsolve")
 BEGIN, END = "<!-- index of crates, by tools/index.py -->", "<!-- end of the index -->"
 
 
@@ -64,6 +65,17 @@ def upside_down(text):
     place = {name: number for number, (_, areas) in enumerate(layers(text)) for _, names in areas for name in names}
     for line in filter(name_of, text.splitlines()):
         yield from ((name_of(line), below) for below in line.split(":")[1].split() if place.get(below, 0) > place[name_of(line)])
+
+
+def solvers_below(text):
+    """The crates of solvers that the checkers of proofs depend on, directly or not."""
+    libraries = {name_of(line): line.split(":")[1].split() for line in filter(name_of, text.splitlines())}
+    found, rest = set(), list(CHECKERS)
+    while rest:
+        more = set(libraries.get(rest.pop(), [])) - found
+        found |= more
+        rest += more
+    return sorted(filter(SOLVERS.match, found))
 
 
 def opening(name):
@@ -123,6 +135,9 @@ def main():
     wrong = list(upside_down(crates))
     for name, below in wrong:
         print(f"crates.txt: {name} depends on {below}, of a layer above")
+    for name in solvers_below(crates):
+        print(f"crates.txt: a checker of proofs stands on {name}, of a solver")
+        wrong.append(name)
     for path, made in [(CRATES, crates), (PAGE, indexed(PAGE.read_text(), crates))]:
         if made != path.read_text():
             if options.check:

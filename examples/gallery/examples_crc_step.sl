@@ -1,12 +1,13 @@
-; The step of a checksum by which a bit comes in, as registers were captured before and after it: a shift, and where the
-; top bit falls out, an exclusive or with a number to be found. Shows: a choice behind a definition, examples alone.
+; The step of a checksum by which a bit comes in, by 24 registers as they were captured before and after it: a shift, and where the
+; top bit falls out, an exclusive or with one of the usual polynomials. Shows: which constant it is, is found too.
 (set-logic BV)
 (define-sort Byte () (_ BitVec 8))
-(define-fun if_top ((x Byte) (y Byte) (z Byte)) Byte (ite (= ((_ extract 7 7) x) #b1) y z))
 (define-fun twice ((x Byte)) Byte (bvshl x #x01))
 (synth-fun step ((c Byte)) Byte
-  ((S Byte))
-  ((S Byte (c #x00 #x01 (twice S) (bvnot S) (bvadd S S) (bvxor S S) (if_top S S S)))))
+  ((S Byte) (C Bool) (K Byte))
+  ((S Byte (c K (twice S) (bvxor S S) (ite C S S)))
+   (C Bool ((bvult S #x80) (= S K)))
+   (K Byte (#x00 #x01 #x07 #x1d #x31 #x9b))))
 (constraint (= (step #x09) #x12))
 (constraint (= (step #x0c) #x18))
 (constraint (= (step #x0e) #x1c))

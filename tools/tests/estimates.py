@@ -51,46 +51,54 @@ def build(below, sizes, machine, kept, seed):
     return {name: second for name, second in done.items() if name not in kept}
 
 
-def minutes_left(crates, told, processors, seconds):
-    """What tools/estimate.awk says of lines of crates and of what was told so far."""
+def estimate(crates, told, processors, seconds):
+    """What tools/estimate.awk says of lines of crates and of what was told so far: the minutes that are left, and the percent
+    that are done."""
     words = ["-v", f"processors={processors}", "-v", f"seconds={seconds}"]
     command = ["awk", *words, "-f", TOP / "tools" / "estimate.awk"]
     ended = subprocess.run(command, input="\n".join([*crates, *told]) + "\n", capture_output=True, text=True)
-    return int(ended.stdout)
+    minutes, percent = ended.stdout.split()
+    return int(minutes), int(percent)
+
+
+def minutes_left(*words):
+    return estimate(*words)[0]
 
 
 def lines_of(below, sizes):
     return [f"{name}: {sizes[name]} {' '.join(below[name])}" for name in below]
 
 
-def worst(crates, told, processors, first):
-    """How far the end is from where it is said to be at each tenth of the time from this one on, at worst, as a part of the
-    whole; it is said each time that a crate is done."""
-    end, found = max(second for second, line in told if "proved" in line), []
-    for tenth in range(first, 10):
-        now = max(second for second, line in told if second <= tenth * end / 10 and "load" not in line)
-        left = minutes_left(crates, [line for second, line in sorted(told) if second <= now], processors, int(now))
-        found.append(abs(now + 60 * left - end) / end)
-    return max(found)
+def worst(crates, told, processors):
+    """How far the end is from where it is said to be, at worst, as a part of the whole; and how much of the whole is over when
+    it is said first. It is said each time that a crate is done, once a third of the work is; here at each fortieth of the time."""
+    end = max(second for second, line in told if "proved" in line)
+    off, first = 0, 1
+    for part in range(1, 40):
+        now = max((second for second, line in told if second <= part * end / 40 and "load" not in line), default=0)
+        left, percent = estimate(crates, [line for second, line in sorted(told) if second <= now], processors, int(now))
+        if percent >= 33:
+            off, first = max(off, abs(now + 60 * left - end) / end), min(first, now / end)
+    return off, first
 
 
 def made_up(below, sizes, machine, kept):
-    """How far the estimates of three builds that are made up are off."""
+    """How far the estimates of three builds that are made up are off, and when they begin."""
     processors, load, _ = machine
     for seed in range(3):
         done = build(below, sizes, machine, kept, seed)
         told = [(second, f"{name} proved {second:.0f}") for name, second in done.items()]
         told += [(0, f"{name} kept 0") for name in kept]
         told += [(at, f"load {at} {load + processors}") for at in range(0, int(max(done.values())), 15)]
-        yield worst(lines_of(below, sizes), told, processors, 2 if kept else 1)
+        yield worst(lines_of(below, sizes), told, processors)
 
 
 def real(path):
-    """How far the estimates of a build that is kept are off: its crates, a blank line, and what was told in each second. While
-    the first tenth of it was done the machine was idle, and then others took up to seven eighths of it."""
+    """How far the estimates of a build that is kept are off, and when they begin: its crates, a blank line, and what was told
+    in each second. While the first tenth of it was done the machine was idle, and then others took up to seven eighths of it."""
     crates, _, told = path.read_text().partition("\n\n")
     told = [(int(line.split()[-1 if "load" not in line else 1]), line) for line in told.splitlines()]
-    return worst(crates.splitlines(), told, 4, 2)
+    return worst(crates.splitlines(), told, 4)
 
 
 def tests():
@@ -99,20 +107,22 @@ def tests():
     names = list(below)
     for machine in MACHINES:
         for kept in ([], names[:len(names) // 2]):
-            off = max(made_up(below, sizes, machine, kept))
-            yield f"estimate: within a third, on {machine}, {len(kept)} kept (off by {off:.2f})", off <= 1 / 3
+            off, first = (max(it) for it in zip(*made_up(below, sizes, machine, kept)))
+            said = f"on {machine}, {len(kept)} kept (off by {off:.2f}, from {first:.2f} on)"
+            yield f"estimate: within a third, {said}", off <= 1 / 3 and first <= 1 / 2
     for path in (TOP / "tools" / "tests" / "builds").glob("*.txt"):
-        off = real(path)
-        yield f"estimate: within a third of {path.name} (off by {off:.2f})", off <= 1 / 3
+        off, first = real(path)
+        yield f"estimate: within a third of {path.name} (off by {off:.2f}, from {first:.2f} on)", off <= 1 / 3 and first <= 1 / 2
     lines = lines_of(below, sizes)
-    first = minutes_left(lines, ["load 0 0.5"], 4, 0)
+    first = minutes_left(lines, [], 4, 0)
     yield "estimate: less than an hour and a half from nothing", 20 < first < 90
     busy = minutes_left(lines, ["load 0 8.0"], 4, 0)
     yield "estimate: twice as long on a machine of which half is free", 1.9 * first < busy < 2.1 * first
     every = [f"{name} proved {20 * place}" for place, name in enumerate(names)]
-    yield "estimate: nothing is left at the end", minutes_left(lines, every, 4, 3000) == 0
+    yield "estimate: nothing is left at the end", estimate(lines, every, 4, 3000) == (0, 100)
     kept = [f"{name} kept 5" for name in names[:-3]]
-    yield "estimate: what is kept isn't proved again", minutes_left(lines, kept, 4, 5) < first / 2
+    left, percent = estimate(lines, kept, 4, 5)
+    yield "estimate: what is kept isn't proved again", left < first / 2 and percent == 0
     slow = [f"{names[0]} proved 100"]
     both = minutes_left(lines, [*slow, *kept[1:]], 4, 100), minutes_left(lines, kept, 4, 5)
     yield "estimate: what is kept tells nothing of the pace", both[0] >= both[1]

@@ -1,6 +1,7 @@
 """Proofs behind answers: what `--proofs` writes is accepted by mode `recheck`, and what isn't that is rejected."""
 import os
 import pathlib
+import resource
 import subprocess
 import sys
 import tempfile
@@ -83,6 +84,22 @@ def kept(run, program):
             yield f"{path.name} is accepted by others", well
 
 
+def deep(program):
+    """A tree of as many inner nodes as one may have, each below the other, is checked on half of the usual stack."""
+    problem = "(set-logic LIA)(synth-fun f ((x Int)) Int)(declare-var x Int)(constraint (>= (f x) x))(check-synth)\n"
+    body = "(\n(define-fun f ((x Int)) Int x)\n)\n"
+    nodes = {"split": "(split (atleast 0 (0 1)))", "branch": "(branch 0 5)"}
+    for name, node in nodes.items():
+        left = f"(tree {node * 8000}{'(shown)' * 8001})\n"
+        right = f"(tree {f'{node}(shown)' * 8000}(shown))\n"
+        for side, tree in [("left", left), ("right", right)]:
+            begin = lambda: resource.setrlimit(resource.RLIMIT_STACK, (2**22, 2**22))
+            words = [program, "--mode", "recheck", "-"]
+            ended = subprocess.run(words, input=problem + body + tree, capture_output=True, text=True, preexec_fn=begin)
+            yield f"8,000 nodes, each a {name} on the {side}", (ended.returncode, ended.stdout) == (0, "check-synth 1 accepted\n")
+
+
 def tests(run, program):
+    yield from deep(program)
     for part in (accepted, spoilt, clauses, kept):
         yield from part(run, program)

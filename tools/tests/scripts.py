@@ -281,6 +281,8 @@ def crates_in_order():
     yield "index: order of crates", (index.sorted_crates(text), index.sorted_crates(wanted)) == (wanted, wanted)
     yield "index: layers", not [*index.upside_down(text)]
     yield "index: a layer above", [*index.upside_down(text.replace("std", "sy_b"))] == [("sy_a_in", "sy_b")]
+    checkers = (TOP / "crates.txt").read_text().replace("sy_gates:", "sy_gates: sy_cdcl")
+    yield "index: a solver below a checker", "sy_cdcl" in index.solvers_below(checkers)
 
 
 def judged():

@@ -97,8 +97,9 @@ def builds(room):
     yield "./sygus: ends as the program", (status, out) == (7, "- a word\n")
     yield "./sygus: counts the crates", "[3 of 3] sygus; some 0 minutes left\n" in err
     lines = err.splitlines()
-    yield "./sygus: says how long it takes", re.fullmatch(r"sygus: proving and building 3 crates: some \d+ minutes, .*", lines[0]) is not None
-    yield "./sygus: tells of the preview", lines[1].endswith(": ./sygus --preview FILE")
+    yield "./sygus: says how long it takes", re.fullmatch(r"sygus: proving and building 3 crates: some \d+ minutes on an idle machine, .*", lines[0]) is not None
+    yield "./sygus: tells of the preview", lines[2].endswith(": ./sygus --preview FILE")
+    yield "./sygus: says what is done before it says what is left", "[1 of 3] sy_low; 3 % of the work\n" in err
     yield "./sygus: builds once", room.run() == (7, "- a word\n", "", [])
     room.change("sy_high")
     yield "./sygus: builds where a source changed", room.run()[3] == list(CRATES)

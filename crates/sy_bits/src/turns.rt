@@ -27,14 +27,14 @@ const TURNS: [Turn; 3] = [
             start: Start::LastVariable,
             aging: 6,
         },
-        clauses: 8_000,
+        clauses: 12_000,
     },
     Turn {
         plan: Plan {
             start: Start::LastVariable,
             aging: 2,
         },
-        clauses: 8_000,
+        clauses: 12_000,
     },
 ];
 

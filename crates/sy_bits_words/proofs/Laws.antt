@@ -15,7 +15,7 @@ use Rattle.sy_bits_operators.specs.declared.signal.Signal.{Signal}
 use Rattle.sy_bits_operators.specs.declared.signal.Signal.TheVariants as signals
 use Rattle.sy_bits_operators.specs.Signals.{signal_value, signal_values, signal_sort, signal_bound, sort_width}
 use Rattle.sy_bits_words.specs.declared.known.Known.{Known}
-use Rattle.sy_bits_words.specs.Standing.{AreNumbers, StandsFor, AllStand, IsSumOf}
+use Rattle.sy_bits_words.specs.Standing.{AreNumbers, StandsFor, AllStand, IsSumOf, Serves}
 use Rattle.std.proofs.Math.Nat.{mod-eq_of_lt}
 use Rattle.std.proofs.lemmas.Option.{slice_get-get_or}
 use Rattle.sy_bits_sums.proofs.Agreeing.{agree-same, agree-trans, agree-reduced}
@@ -98,11 +98,6 @@ module _ (circuit : Plan) (list : List Known) (s : List Bit) (a z r : Sum) (stan
       ∙ ap (Bits (length s)) (moved-is (length s) (word_number v s) by (value_of values z) (value_of values a) (value_of values r) factor (nat_le (length s) by) factor-is (zero values) (stands.value v values f n) (is values)))
 
 -- a word that stands for the sum is the operator's signal
-
-pub record Serves (circuit : Plan) (op : Op) (args : List Signal) (signal : Signal) : Type 0 where
-  pub inside : signal_bound signal ≤ variables circuit
-  pub sort : (v : ℕ → Bool) → signal_sort signal ≡ sort_of_value (op_value op (signal_values v args))
-  pub value : (v : ℕ → Bool) → FollowsPlan v circuit → signal_value v signal ≡ op_value op (signal_values v args)
 
 pub serves : (circuit : Plan) (list : List Known) (op : Op) (args : List Signal) (sum : Sum) (word : List Bit) → IsSumOf circuit list op args sum → StandsFor circuit list word sum → Serves circuit op args (signals.Vector word)
 serves circuit list op args sum word is stands = record {

@@ -4,5 +4,6 @@ pub mod Tables
 pub mod Laws
 pub mod Equalities
 pub mod Joining
+pub mod Dividing
 pub mod Finding
 pub mod Contents

@@ -1,6 +1,8 @@
 // Words of a circuit whose sums are known, so that words with equal sums are one word.
 #![tactic(auto)]
 
+mod differences;
+mod division;
 mod equality;
 mod known;
 mod meets;

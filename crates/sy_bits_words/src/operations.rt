@@ -101,7 +101,7 @@ fn single_sum(words: &mut Words, alloc: Global, op: &Op, s: &[Bit]) -> Result<Op
 }
 
 /// The sum of an operator on two words of one width; `None` where it makes none.
-fn pair_sum(
+pub(crate) fn pair_sum(
     words: &mut Words,
     alloc: Global,
     op: &Op,

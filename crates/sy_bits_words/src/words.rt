@@ -57,6 +57,13 @@ impl Words {
         }
     }
 
+    /// How many places the table has.
+    pub(crate) fn len(&self) -> usize
+        ensures { result ≡ length self.now }
+    {
+        self.known.len()
+    }
+
     /// What is known at a place of the table.
     pub(crate) fn at(&self, place: usize) -> &Known
         requires { place < length self.now }

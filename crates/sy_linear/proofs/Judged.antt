@@ -1,6 +1,6 @@
 -- A tree's judgement by what comes of its root.
-use Rattle.std.specs.Prelude.{◌≡◌, ℕ, ◌+◌, ◌<◌, Bool, List, [], ◌∷◌, ◌++◌, ℤ, Option, Some, None, Result, Ok, Err}
-use Rattle.std.proofs.Common.{sym, ◌∙◌, ap, ap₂, subst, arith}
+use Rattle.std.specs.Prelude.{◌≡◌, ℕ, ◌+◌, ◌<◌, Bool, true, false, List, [], ◌∷◌, ◌++◌, ℤ, Result, Ok, Err}
+use Rattle.std.proofs.Common.{refl, sym, ◌∙◌, ap, ap₂, subst, arith}
 use Rattle.std.specs.declared.boxed.Box.{Box}
 use Rattle.std.specs.declared.alloc.Global.{Global}
 use Rattle.sy_frac.specs.Fraction.{Fraction}
@@ -14,7 +14,7 @@ use Rattle.sy_linear_known.specs.declared.tree.Tree as trees
 use Rattle.sy_linear_known.specs.Seen.{LinearQuery, query_known}
 use Rattle.sy_linear_known.specs.Stored.{tree_shape_of}
 use Rattle.sy_linear_known.specs.Trees.{TreeShape, Split, Branch, Cut, Farkas, Shown, Unfinished}
-use Rattle.sy_linear.specs.Judging.{Judgement, Broken, Unfit, TellsJudgement, NodeOutcome, Adds, Fails, AnswersAt, judged_in_turn, after_node, size, split_outcome, branch_outcome, cut_outcome, contradiction_judged, shown_judged, judged}
+use Rattle.sy_linear.specs.Judging.{Judgement, Broken, Unfit, TellsJudgement, NodeOutcome, Adds, Fails, Leaves, EntersAt, entered_side, judged_in_turn, after_node, size, one_of, path_with, split_outcome, branch_outcome, cut_outcome, contradiction_judged, shown_judged, judged, side_judged, both_judged}
 
 -- ---- shapes
 pub split_shape : (tree : Tree) (test : Test) (points : List Fraction) (left right : Box Tree Global) → tree ≡ trees.Split test points left right → tree_shape_of tree ≡ Split test (tree_shape_of left.value) (tree_shape_of right.value)
@@ -73,27 +73,53 @@ unfolding size
 unfinished_size tree is = ap size (unfinished_shape tree is)
 
 -- ---- judgements
--- of two trees, each under the path with its fact
-abbrev both_judged : LinearQuery → List Fact → ℕ → TreeShape → TreeShape → Fact × Fact → Judgement
-both_judged q path n left right facts = judged_in_turn (judged q (path ++ facts.0 ∷ []) n left) (judged q (path ++ facts.1 ∷ []) (n + size left) right)
+-- both sides of a node, and the one of a cut
+in_turn : (n : ℕ) (path : List Fact) (outcome : NodeOutcome (Fact × Fact)) (left right : List Fact → Judgement) →
+    after_node n outcome (λ facts. judged_in_turn (left (path ++ facts.0 ∷ [])) (right (path ++ facts.1 ∷ []))) ≡
+    judged_in_turn (after_node n (path_with path (one_of true outcome)) left)
+    (after_node n (path_with path (one_of false outcome)) right)
+in_turn n path (Adds facts) left right = refl
+in_turn n path Fails left right = refl
+in_turn n path Leaves left right = refl
 
-pub split_judged : (q : LinearQuery) (vars : List Sort) (path : List Fact) (n : ℕ) (tree : Tree) (test : Test) (points : List Fraction) (left right : Box Tree Global) (outcome : NodeOutcome (Fact × Fact)) → tree ≡ trees.Split test points left right → vars ≡ q.vars → split_outcome vars test ≡ outcome → judged q path n (tree_shape_of tree) ≡ after_node n outcome (both_judged q path (n + 1) (tree_shape_of left.value) (tree_shape_of right.value))
-unfolding judged
-split_judged q vars path n tree test points left right outcome is same e =
-    ap (judged q path n) (split_shape tree test points left right is)
-    ∙ ap (λ o. after_node n o (both_judged q path (n + 1) (tree_shape_of left.value) (tree_shape_of right.value))) (ap (λ vs. split_outcome vs test) (sym same) ∙ e)
+alone : (n : ℕ) (path : List Fact) (outcome : NodeOutcome Fact) (inner : List Fact → Judgement) →
+    after_node n outcome (λ fact. inner (path ++ fact ∷ [])) ≡ after_node n (path_with path outcome) inner
+alone n path (Adds fact) inner = refl
+alone n path Fails inner = refl
+alone n path Leaves inner = refl
 
-pub branch_judged : (q : LinearQuery) (vars : List Sort) (path : List Fact) (n : ℕ) (tree : Tree) (variable : ℕ) (bound k : ℤ) (points : List Fraction) (left right : Box Tree Global) (outcome : NodeOutcome (Fact × Fact)) → tree ≡ trees.Branch variable bound points left right → vars ≡ q.vars → k ≡ bound → branch_outcome vars variable k ≡ outcome → judged q path n (tree_shape_of tree) ≡ after_node n outcome (both_judged q path (n + 1) (tree_shape_of left.value) (tree_shape_of right.value))
-unfolding judged
-branch_judged q vars path n tree variable bound k points left right outcome is same like e =
-    ap (judged q path n) (branch_shape tree variable bound points left right is)
-    ∙ ap (λ o. after_node n o (both_judged q path (n + 1) (tree_shape_of left.value) (tree_shape_of right.value))) (ap₂ (λ vs b. branch_outcome vs variable b) (sym same) (sym like) ∙ e)
+pub split_judged : (q : LinearQuery) (path : List Fact) (n : ℕ) (tree : Tree) (test : Test) (points : List Fraction) (left right : Box Tree Global) (l r : Tree) →
+    tree ≡ trees.Split test points left right → l ≡ left.value → r ≡ right.value →
+    judged q path n (tree_shape_of tree) ≡ both_judged q path n (tree_shape_of tree) (n + 1) (tree_shape_of l) (tree_shape_of r)
+unfolding judged side_judged
+split_judged q path n tree test points left right l r is e f =
+    let shape = split_shape tree test points left right is in
+    ap (judged q path n) shape
+    ∙ in_turn n path (split_outcome q.vars test) (λ facts. judged q facts (n + 1) (tree_shape_of left.value)) (λ facts. judged q facts (n + 1 + size (tree_shape_of left.value)) (tree_shape_of right.value))
+    ∙ ap (λ t. both_judged q path n t (n + 1) (tree_shape_of left.value) (tree_shape_of right.value)) (sym shape)
+    ∙ ap₂ (λ s t. both_judged q path n (tree_shape_of tree) (n + 1) (tree_shape_of s) (tree_shape_of t)) (sym e) (sym f)
 
-pub cut_judged : (q : LinearQuery) (path facts : List Fact) (n : ℕ) (tree : Tree) (multipliers ms : List Fraction) (divisor d : ℤ) (points : List Fraction) (inner : Box Tree Global) (outcome : NodeOutcome Fact) → tree ≡ trees.Cut multipliers divisor points inner → facts ≡ path → ms ≡ multipliers → d ≡ divisor → cut_outcome facts ms d ≡ outcome → judged q path n (tree_shape_of tree) ≡ after_node n outcome (λ fact. judged q (path ++ fact ∷ []) (n + 1) (tree_shape_of inner.value))
-unfolding judged
-cut_judged q path facts n tree multipliers ms divisor d points inner outcome is same like by e =
-    ap (judged q path n) (cut_shape tree multipliers divisor points inner is)
-    ∙ ap (λ o. after_node n o (λ fact. judged q (path ++ fact ∷ []) (n + 1) (tree_shape_of inner.value))) (ap (cut_outcome path multipliers) (sym by) ∙ ap₂ (λ p m. cut_outcome p m d) (sym same) (sym like) ∙ e)
+pub branch_judged : (q : LinearQuery) (path : List Fact) (n : ℕ) (tree : Tree) (variable : ℕ) (bound : ℤ) (points : List Fraction) (left right : Box Tree Global) (l r : Tree) →
+    tree ≡ trees.Branch variable bound points left right → l ≡ left.value → r ≡ right.value →
+    judged q path n (tree_shape_of tree) ≡ both_judged q path n (tree_shape_of tree) (n + 1) (tree_shape_of l) (tree_shape_of r)
+unfolding judged side_judged
+branch_judged q path n tree variable bound points left right l r is e f =
+    let shape = branch_shape tree variable bound points left right is in
+    ap (judged q path n) shape
+    ∙ in_turn n path (branch_outcome q.vars variable bound) (λ facts. judged q facts (n + 1) (tree_shape_of left.value)) (λ facts. judged q facts (n + 1 + size (tree_shape_of left.value)) (tree_shape_of right.value))
+    ∙ ap (λ t. both_judged q path n t (n + 1) (tree_shape_of left.value) (tree_shape_of right.value)) (sym shape)
+    ∙ ap₂ (λ s t. both_judged q path n (tree_shape_of tree) (n + 1) (tree_shape_of s) (tree_shape_of t)) (sym e) (sym f)
+
+pub cut_judged : (q : LinearQuery) (path : List Fact) (n : ℕ) (tree : Tree) (multipliers : List Fraction) (divisor : ℤ) (points : List Fraction) (inner : Box Tree Global) (i : Tree) →
+    tree ≡ trees.Cut multipliers divisor points inner → i ≡ inner.value →
+    judged q path n (tree_shape_of tree) ≡ side_judged q path n true (tree_shape_of tree) (n + 1) (tree_shape_of i)
+unfolding judged side_judged
+cut_judged q path n tree multipliers divisor points inner i is e =
+    let shape = cut_shape tree multipliers divisor points inner is in
+    ap (judged q path n) shape
+    ∙ alone n path (cut_outcome path multipliers divisor) (λ facts. judged q facts (n + 1) (tree_shape_of inner.value))
+    ∙ ap (λ t. side_judged q path n true t (n + 1) (tree_shape_of inner.value)) (sym shape)
+    ∙ ap (λ t. side_judged q path n true (tree_shape_of tree) (n + 1) (tree_shape_of t)) (sym e)
 
 pub farkas_judged : (q : LinearQuery) (path facts : List Fact) (n : ℕ) (tree : Tree) (multipliers ms : List Fraction) → tree ≡ trees.Farkas multipliers → facts ≡ path → ms ≡ multipliers → judged q path n (tree_shape_of tree) ≡ contradiction_judged facts n ms
 unfolding judged
@@ -114,25 +140,38 @@ pub tells : (r : Result Bool CheckEnd) (j k : Judgement) → TellsJudgement r j 
 tells r j k h e = subst (λ i. TellsJudgement r i) (sym e) h
 
 -- what a node adds, and that it fails
-pub adds : {A : Type 0} (n : ℕ) (o : Option A) (a : A) (outcome : NodeOutcome A) → o ≡ Some a → AnswersAt n (Ok o) outcome → outcome ≡ Adds a
-adds n o a outcome is h = subst (λ x. AnswersAt n (Ok x) outcome) is h
+pub enters : (n : ℕ) (answer : Bool) (facts : List Fact) (outcome : NodeOutcome (List Fact)) → answer ≡ true →
+    EntersAt n (Ok answer) facts outcome → outcome ≡ Adds facts
+enters n answer facts outcome is h = subst (λ b. EntersAt n (Ok b) facts outcome) is h
 
-pub fails : {A : Type 0} (n : ℕ) (o : Option A) (outcome : NodeOutcome A) → o ≡ None → AnswersAt n (Ok o) outcome → outcome ≡ Fails
-fails n o outcome is h = subst (λ x. AnswersAt n (Ok x) outcome) is h
+pub fails : (n : ℕ) (answer : Bool) (facts : List Fact) (outcome : NodeOutcome (List Fact)) → answer ≡ false →
+    EntersAt n (Ok answer) facts outcome → outcome ≡ Fails
+fails n answer facts outcome is h = subst (λ b. EntersAt n (Ok b) facts outcome) is h
 
--- of a node with two facts and two trees
-pub tells-both : (q : LinearQuery) (path : List Fact) (n : ℕ) (left right l r : Tree) (facts : Fact × Fact) (answer : Result Bool CheckEnd) (j : Judgement) → l ≡ left → r ≡ right → j ≡ after_node n (Adds facts) (both_judged q path (n + 1) (tree_shape_of left) (tree_shape_of right)) → TellsJudgement answer (both_judged q path (n + 1) (tree_shape_of l) (tree_shape_of r) facts) → TellsJudgement answer j
-tells-both q path n left right l r facts answer j e f is h =
-    tells answer (both_judged q path (n + 1) (tree_shape_of l) (tree_shape_of r) facts) j h
-    (is ∙ ap₂ (λ s t. both_judged q path (n + 1) (tree_shape_of s) (tree_shape_of t) facts) (sym e) (sym f))
+-- of a side that is entered
+pub tells-entered : (q : LinearQuery) (vars : List Sort) (path facts : List Fact) (n m : ℕ) (on_left : Bool)
+    (above tree : TreeShape) (r : Result Bool CheckEnd) → vars ≡ q.vars →
+    entered_side vars path on_left above ≡ Adds facts → TellsJudgement r (judged q facts m tree) →
+    TellsJudgement r (side_judged q path n on_left above m tree)
+unfolding side_judged
+tells-entered q vars path facts n m on_left above tree r same e h =
+    tells r (judged q facts m tree) (side_judged q path n on_left above m tree) h
+    (ap (λ o. after_node n o (λ p. judged q p m tree)) (ap (λ vs. entered_side vs path on_left above) (sym same) ∙ e))
 
--- of a node with one
-pub tells-under : (q : LinearQuery) (path : List Fact) (n : ℕ) (inner i : Tree) (fact : Fact) (answer : Result Bool CheckEnd) (j : Judgement) → i ≡ inner → j ≡ after_node n (Adds fact) (λ f. judged q (path ++ f ∷ []) (n + 1) (tree_shape_of inner)) → TellsJudgement answer (judged q (path ++ fact ∷ []) (n + 1) (tree_shape_of i)) → TellsJudgement answer j
-tells-under q path n inner i fact answer j e is h =
-    tells answer (judged q (path ++ fact ∷ []) (n + 1) (tree_shape_of i)) j h
-    (is ∙ ap (λ t. judged q (path ++ fact ∷ []) (n + 1) (tree_shape_of t)) (sym e))
+-- of one that isn't
+pub tells-broken : (q : LinearQuery) (vars : List Sort) (path : List Fact) (n m : ℕ) (on_left : Bool)
+    (above tree : TreeShape) → vars ≡ q.vars → entered_side vars path on_left above ≡ Fails →
+    side_judged q path n on_left above m tree ≡ Broken
+unfolding side_judged
+tells-broken q vars path n m on_left above tree same e =
+    ap (λ o. after_node n o (λ p. judged q p m tree)) (ap (λ vs. entered_side vs path on_left above) (sym same) ∙ e)
 
--- where a number leaves 128 bits
-pub tells-end : {A : Type 0} (n : ℕ) (end : CheckEnd) (outcome : NodeOutcome A) (rest : A → Judgement) (j : Judgement) → j ≡ after_node n outcome rest → AnswersAt n (Err end) outcome → TellsJudgement (Err end) j
-tells-end n (Range m) outcome rest j e h = e ∙ ap (λ o. after_node n o rest) h.1 ∙ ap Unfit (sym h.0)
-tells-end n Want outcome rest j e h = tt
+pub tells-end : (q : LinearQuery) (vars : List Sort) (path facts : List Fact) (n m : ℕ) (on_left : Bool)
+    (above tree : TreeShape) (end : CheckEnd) → vars ≡ q.vars →
+    EntersAt n (Err end) facts (entered_side vars path on_left above) →
+    TellsJudgement (Err end) (side_judged q path n on_left above m tree)
+unfolding side_judged
+tells-end q vars path facts n m on_left above tree (Range k) same h =
+    ap (λ o. after_node n o (λ p. judged q p m tree))
+    (ap (λ vs. entered_side vs path on_left above) (sym same) ∙ h.1) ∙ ap Unfit (sym h.0)
+tells-end q vars path facts n m on_left above tree Want same h = tt

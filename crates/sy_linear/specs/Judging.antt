@@ -128,6 +128,41 @@ shown_judged n known.True = Broken
 shown_judged n (known.Undecided t) = Broken
 shown_judged n (known.OutOfRange m) = Unfit n
 
+-- ---- what a node adds on one of its sides
+-- the fact on the left, or that on the right
+abbrev pub side_of : Bool → Fact × Fact → Fact
+side_of on_left facts = cond on_left facts.0 facts.1
+
+abbrev pub one_of : Bool → NodeOutcome (Fact × Fact) → NodeOutcome Fact
+one_of on_left (Adds facts) = Adds (side_of on_left facts)
+one_of on_left Fails = Fails
+one_of on_left Leaves = Leaves
+
+-- the root of the tree does
+abbrev pub side_outcome : List Sort → List Fact → Bool → TreeShape → NodeOutcome Fact
+side_outcome vars path on_left (Split t left right) = one_of on_left (split_outcome vars t)
+side_outcome vars path on_left (Branch i bound left right) = one_of on_left (branch_outcome vars i bound)
+side_outcome vars path on_left (Cut ms d inner) = cut_outcome path ms d
+side_outcome vars path on_left (Farkas ms) = Fails
+side_outcome vars path on_left Shown = Fails
+side_outcome vars path on_left Unfinished = Fails
+
+-- the path with it
+abbrev pub path_with : List Fact → NodeOutcome Fact → NodeOutcome (List Fact)
+path_with path (Adds fact) = Adds (path ++ fact ∷ [])
+path_with path Fails = Fails
+path_with path Leaves = Leaves
+
+abbrev pub entered_side : List Sort → List Fact → Bool → TreeShape → NodeOutcome (List Fact)
+entered_side vars path on_left above = path_with path (side_outcome vars path on_left above)
+
+-- the answer at the node of this number says so, of this path
+abbrev pub EntersAt : ℕ → Result Bool CheckEnd → List Fact → NodeOutcome (List Fact) → Type 0
+EntersAt n (Ok true) path outcome = outcome ≡ Adds path
+EntersAt n (Ok false) path outcome = outcome ≡ Fails
+EntersAt n (Err (Range m)) path outcome = (m ≡ n) × (outcome ≡ Leaves)
+EntersAt n (Err Want) path outcome = Unit {0}
+
 -- ---- trees
 -- the rest of the tree with what the node of this number adds
 abbrev pub after_node : {A : Type 0} → ℕ → NodeOutcome A → (A → Judgement) → Judgement
@@ -143,3 +178,14 @@ judged q path n (Cut ms d inner) = after_node n (cut_outcome path ms d) (λ fact
 judged q path n (Farkas ms) = contradiction_judged path n ms
 judged q path n Shown = shown_judged n (query_known q path)
 judged q path n Unfinished = Broken
+
+-- ---- sides of trees
+-- the tree on this side of the one above, whose root has the number n; its own has the number m
+unfoldable pub side_judged : LinearQuery → List Fact → ℕ → Bool → TreeShape → ℕ → TreeShape → Judgement
+side_judged q path n on_left above m tree =
+    after_node n (entered_side q.vars path on_left above) (λ facts. judged q facts m tree)
+
+-- both trees below it
+abbrev pub both_judged : LinearQuery → List Fact → ℕ → TreeShape → ℕ → TreeShape → TreeShape → Judgement
+both_judged q path n above m left right =
+    judged_in_turn (side_judged q path n true above m left) (side_judged q path n false above (m + size left) right)

@@ -1,27 +1,46 @@
 // The checker of refutation trees.
-ghost use Rattle.std.specs.Prelude.{◌≡◌, ◌+◌, ◌<◌, ◌^◌, ◌++◌, ◌∷◌, [], Ok, true, false, length, IfOk, OnOk};
+ghost use Rattle.std.specs.Prelude.{◌≡◌, ◌+◌, ◌<◌, ◌^◌, [], Ok, true, false, length, take, IfOk, OnOk};
 ghost use Rattle.sy_terms.specs.Expr.{nodes};
 ghost use Rattle.sy_linear_known.specs.Stored.{linear_query_of, tree_shape_of};
 ghost use Rattle.sy_linear_known.specs.Trees.{TreeRefutes};
-ghost use Rattle.sy_linear.specs.Judging.{TellsJudgement, judged_in_turn, judged, size};
+ghost use Rattle.sy_linear.specs.Judging.{EntersAt, TellsJudgement, both_judged, entered_side, judged, side_judged, size};
 ghost use Rattle.sy_linear.specs.Unsatisfied.{NoneSatisfies};
 
-use crate::nodes::{branch, contradicts, cut, shows, split};
+use crate::nodes::{added, contradicts, shows};
 use crate::size::count_nodes;
 use std::alloc::Global;
 use sy_linear_known::{CheckEnd, Fact, Tree, is_numbered};
 use sy_meaning_integers::IntTheory;
 use sy_query_base::Query;
+use sy_terms::Sort;
 
-/// The number that is referred to.
-fn referred(number: &i128) -> i128
-    ensures { result ≡ number.now }
+/// Puts what the root of this tree adds on one side onto the facts; whether the root is as a refutation tree's is.
+#[inline(never)]
+fn enter(
+    alloc: Global,
+    vars: &[Sort],
+    facts: &mut Vec<Fact>,
+    above: &Tree,
+    on_left: bool,
+    node: u32,
+) -> Result<bool, CheckEnd>
+    ensures entered { EntersAt node result facts.new.items
+        (entered_side vars.now facts.old.items on_left (tree_shape_of above.now)) }
+    ensures kept { OnOk result (take (length facts.old.items) facts.new.items ≡ facts.old.items) }
+    ensures same { result ≡ Ok false → facts.new.items ≡ facts.old.items }
 {
-    *number
+    match added(alloc, vars, facts.as_slice(), above, on_left, node) {
+        Ok(Some(fact)) => {
+            facts.push(fact)?;
+            Ok(true)
+        }
+        Ok(None) => Ok(false),
+        Err(end) => Err(end),
+    }
 }
 
 /// Whether the tree refutes the query under the facts; `next` is the number of its root, and then of the node after
-/// it.
+/// it. As trees are deep, what calls itself holds nothing large: what a node adds is made anew for its second side.
 #[cycle(judge)]
 fn judge(
     alloc: Global,
@@ -33,42 +52,21 @@ fn judge(
     requires nodes { nodes (linear_query_of query.now).body < 2 ^ 31 }
     requires vars { length query.now.vars < 2 ^ 31 }
     requires room { next.old + size (tree_shape_of tree.now) < 2 ^ 32 }
-    ensures judged { TellsJudgement result (judged (linear_query_of query.now) facts.old.items next.old (tree_shape_of tree.now)) }
+    ensures judged { TellsJudgement result
+        (judged (linear_query_of query.now) facts.old.items next.old (tree_shape_of tree.now)) }
     ensures facts { OnOk result (facts.new.items ≡ facts.old.items) }
     ensures next { result ≡ Ok true → next.new ≡ next.old + size (tree_shape_of tree.now) }
 {
     let node = *next;
     *next += 1;
     match tree {
-        Tree::Split(test, _, left, right) => {
-            match split(alloc, query.vars.as_slice(), test, node) {
-                Ok(Some(added)) => judge_both(alloc, query, facts, added, left, right, next),
-                Ok(None) => Ok(false),
-                Err(end) => Err(end),
-            }
+        Tree::Split(_, _, left, right) => {
+            judge_both(alloc, query, facts, tree, left, right, node, next)
         }
-        Tree::Branch(variable, bound, _, left, right) => {
-            let bound = referred(bound);
-            match branch(alloc, query.vars.as_slice(), *variable, bound, node) {
-                Ok(Some(added)) => judge_both(alloc, query, facts, added, left, right, next),
-                Ok(None) => Ok(false),
-                Err(end) => Err(end),
-            }
+        Tree::Branch(_, _, _, left, right) => {
+            judge_both(alloc, query, facts, tree, left, right, node, next)
         }
-        Tree::Cut(multipliers, divisor, _, inner) => {
-            let divisor = referred(divisor);
-            match cut(
-                alloc,
-                facts.as_slice(),
-                multipliers.as_slice(),
-                divisor,
-                node,
-            ) {
-                Ok(Some(added)) => judge_under(alloc, query, facts, added, inner, next),
-                Ok(None) => Ok(false),
-                Err(end) => Err(end),
-            }
-        }
+        Tree::Cut(_, _, _, inner) => judge_side(alloc, query, facts, tree, true, inner, node, next),
         Tree::Farkas(multipliers) => {
             contradicts(alloc, facts.as_slice(), multipliers.as_slice(), node)
         }
@@ -77,25 +75,33 @@ fn judge(
     }
 }
 
-/// Whether the tree refutes the query under the facts with one more.
+/// Whether the tree refutes the query under the facts with what the root of the one above it, of number `node`, adds on
+/// this side.
 #[cycle(judge)]
-fn judge_under(
+fn judge_side(
     alloc: Global,
     query: &Query<IntTheory>,
     facts: &mut Vec<Fact>,
-    added: Fact,
+    above: &Tree,
+    on_left: bool,
     tree: &Tree,
+    node: u32,
     next: &mut u32,
 ) -> Result<bool, CheckEnd>
     requires nodes { nodes (linear_query_of query.now).body < 2 ^ 31 }
     requires vars { length query.now.vars < 2 ^ 31 }
     requires room { next.old + size (tree_shape_of tree.now) < 2 ^ 32 }
-    ensures judged { TellsJudgement result (judged (linear_query_of query.now) (facts.old.items ++ added ∷ []) next.old (tree_shape_of tree.now)) }
+    ensures judged { TellsJudgement result (side_judged (linear_query_of query.now) facts.old.items node on_left
+        (tree_shape_of above.now) next.old (tree_shape_of tree.now)) }
     ensures facts { OnOk result (facts.new.items ≡ facts.old.items) }
     ensures next { result ≡ Ok true → next.new ≡ next.old + size (tree_shape_of tree.now) }
 {
     let outer = facts.len();
-    facts.push(added)?;
+    match enter(alloc, query.vars.as_slice(), facts, above, on_left, node) {
+        Ok(true) => {}
+        Ok(false) => return Ok(false),
+        Err(end) => return Err(end),
+    }
     let accepted = match judge(alloc, query, facts, tree, next) {
         Ok(accepted) => accepted,
         Err(end) => return Err(end),
@@ -104,27 +110,29 @@ fn judge_under(
     Ok(accepted)
 }
 
-/// Whether both trees refute the query, each under the facts with one more.
+/// Whether both trees refute the query, each on its side of the one above.
 #[cycle(judge)]
 fn judge_both(
     alloc: Global,
     query: &Query<IntTheory>,
     facts: &mut Vec<Fact>,
-    added: (Fact, Fact),
+    above: &Tree,
     left: &Tree,
     right: &Tree,
+    node: u32,
     next: &mut u32,
 ) -> Result<bool, CheckEnd>
     requires nodes { nodes (linear_query_of query.now).body < 2 ^ 31 }
     requires vars { length query.now.vars < 2 ^ 31 }
     requires room { next.old + (size (tree_shape_of left.now) + size (tree_shape_of right.now)) < 2 ^ 32 }
-    ensures judged { TellsJudgement result (judged_in_turn (judged (linear_query_of query.now) (facts.old.items ++ added.0 ∷ []) next.old (tree_shape_of left.now)) (judged (linear_query_of query.now) (facts.old.items ++ added.1 ∷ []) (next.old + size (tree_shape_of left.now)) (tree_shape_of right.now))) }
+    ensures judged { TellsJudgement result (both_judged (linear_query_of query.now) facts.old.items node
+        (tree_shape_of above.now) next.old (tree_shape_of left.now) (tree_shape_of right.now)) }
     ensures facts { OnOk result (facts.new.items ≡ facts.old.items) }
-    ensures next { result ≡ Ok true → next.new ≡ next.old + (size (tree_shape_of left.now) + size (tree_shape_of right.now)) }
+    ensures next { result ≡ Ok true →
+        next.new ≡ next.old + (size (tree_shape_of left.now) + size (tree_shape_of right.now)) }
 {
-    let (below, above) = added;
-    match judge_under(alloc, query, facts, below, left, next) {
-        Ok(true) => judge_under(alloc, query, facts, above, right, next),
+    match judge_side(alloc, query, facts, above, true, left, node, next) {
+        Ok(true) => judge_side(alloc, query, facts, above, false, right, node, next),
         Ok(false) => Ok(false),
         Err(end) => Err(end),
     }

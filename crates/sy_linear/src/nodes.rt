@@ -1,10 +1,11 @@
 // What the nodes of a refutation tree add to the path.
 ghost use Rattle.std.specs.Prelude.{◌≡◌, ◌≤ℤ◌, ◌<◌, ◌^◌, ◌∷◌, [], true, pos, length, slice_get, IfOk, IsErrOf};
 ghost use Rattle.std.specs.List.{list_all};
+ghost use Rattle.std.specs.Option.{option_map};
 ghost use Rattle.sy_terms.specs.Expr.{nodes};
 ghost use Rattle.sy_linear_forms.specs.Forms.{form_is_in_range};
 ghost use Rattle.sy_linear_known.specs.Seen.{query_known};
-ghost use Rattle.sy_linear_known.specs.Stored.{linear_query_of};
+ghost use Rattle.sy_linear_known.specs.Stored.{linear_query_of, tree_shape_of};
 ghost use Rattle.sy_linear_known.specs.Trees.{forms};
 ghost use Rattle.sy_linear.specs.Judging as spec;
 ghost use Rattle.sy_linear.specs.Combining.{checked_combination};
@@ -16,7 +17,7 @@ use crate::combination::{
 use std::alloc::Global;
 use sy_frac::Frac;
 use sy_linear_forms::{Form, FormEnd};
-use sy_linear_known::{CheckEnd, Fact, Known, Test, known_under};
+use sy_linear_known::{CheckEnd, Fact, Known, Test, Tree, known_under};
 use sy_meaning_integers::IntTheory;
 use sy_query_base::Query;
 use sy_seq::{Seq, Want};
@@ -175,6 +176,55 @@ pub fn cut(
         Ok(Some(form)) => Ok(Some(Fact::AtLeast(form))),
         Ok(None) => Ok(None),
         Err(end) => Err(end_at(end, node)),
+    }
+}
+
+/// The number that is referred to.
+fn referred(number: &i128) -> i128
+    ensures { result ≡ number.now }
+{
+    *number
+}
+
+/// Of what a node adds, the fact on one side.
+fn on_side(both: Option<(Fact, Fact)>, on_left: bool) -> Option<Fact>
+    ensures { result ≡ option_map (spec.side_of on_left) both }
+{
+    let (left, right) = both?;
+    if on_left { Some(left) } else { Some(right) }
+}
+
+/// The fact that the root of this tree adds on one side. `None` where the root isn't as a refutation tree's is, or adds
+/// none; `Range` with its number exactly where a number leaves 128 bits.
+pub(crate) fn added(
+    alloc: Global,
+    vars: &[Sort],
+    facts: &[Fact],
+    above: &Tree,
+    on_left: bool,
+    node: u32,
+) -> Result<Option<Fact>, CheckEnd>
+    ensures { AnswersAt node result (spec.side_outcome vars.now facts.now on_left (tree_shape_of above.now)) }
+{
+    match above {
+        Tree::Split(test, _, _, _) => {
+            let both = split(alloc, vars, test, node)?;
+            Ok(on_side(both, on_left))
+        }
+        Tree::Branch(variable, bound, _, _, _) => {
+            let both = branch(alloc, vars, *variable, referred(bound), node)?;
+            Ok(on_side(both, on_left))
+        }
+        Tree::Cut(multipliers, divisor, _, _) => {
+            cut(
+                alloc,
+                facts,
+                multipliers.as_slice(),
+                referred(divisor),
+                node,
+            )
+        }
+        Tree::Farkas(_) | Tree::Shown | Tree::Unfinished => Ok(None),
     }
 }
 

@@ -3,3 +3,4 @@ pub mod Completing
 pub mod Following
 pub mod Honest
 pub mod Rounding
+pub mod Solvable

@@ -4,6 +4,7 @@ ghost use Rattle.sy_grammar_base.specs.Fits.{ProblemFits};
 ghost use Rattle.sy_loop_outcome.specs.Right.{IsRightFor};
 ghost use Rattle.sy_loop_bounds.specs.declared.reach.Reach.TheVariants.{Sizes, Joins, Beyond};
 ghost use Rattle.sy_loop_claims.specs.Clauses.{FindsLeastFor};
+ghost use Rattle.sy_loop.specs.Solvable.{IsCompleteFor};
 
 use crate::round::{Round, run_round};
 use std::alloc::{AllocError, Global};
@@ -32,6 +33,7 @@ pub fn synthesise<T: Theory, D: Decide<T>>(
     requires problem { ProblemFits T.Theory problem.now }
     ensures right { IfOk result (IsRightFor T.Theory D.Decide Joins problem.now limits.now) }
     ensures least { IfOk result (FindsLeastFor T.Theory Joins problem.now) }
+    ensures complete { IfOk result (IsCompleteFor T.Theory Joins problem.now limits.now) }
 {
     let outcome = search(alloc, problem, limits, Reach::Joins, decide)?;
     Ok(outcome)
@@ -48,6 +50,7 @@ pub fn synthesise_least<T: Theory, D: Decide<T>>(
     requires problem { ProblemFits T.Theory problem.now }
     ensures right { IfOk result (IsRightFor T.Theory D.Decide Sizes problem.now limits.now) }
     ensures least { IfOk result (FindsLeastFor T.Theory Sizes problem.now) }
+    ensures complete { IfOk result (IsCompleteFor T.Theory Sizes problem.now limits.now) }
 {
     let outcome = search(alloc, problem, limits, Reach::Sizes, decide)?;
     Ok(outcome)

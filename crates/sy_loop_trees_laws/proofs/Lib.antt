@@ -1,5 +1,6 @@
 pub mod Kept
 pub mod Merged
+mod Sizes
 pub mod Violated
 pub mod Uncovered
 pub mod Served

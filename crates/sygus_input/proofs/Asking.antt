@@ -14,6 +14,10 @@ use Rattle.sygus_input.specs.declared.input.Input.TheVariants as inputs
 use Rattle.sygus_input.specs.declared.input.InputFault.{InputFault}
 use Rattle.sygus_input.specs.declared.input.InputFault.TheVariants as faults
 
+-- their readings have one mode
+same_mode : (words : List (List ℕ)) (s t : Settings) → IsReading words s → IsReading words t → s.mode ≡ t.mode
+same_mode words s t first second = ap (λ (r : Settings). r.mode) (one_reading words s t first second)
+
 -- they ask for one drill at most
 pub record IsThatDrill (n number : ℕ) (within limits : Limits) : Type 0 where
   pub same_number : n ≡ number
@@ -23,8 +27,8 @@ pub one_drill_asked : (words : List (List ℕ)) (n number : ℕ) (within limits 
 one_drill_asked words n number within limits first second =
     let one = one_reading words first.settings second.settings first.accepted second.accepted in
     record {
-      same_number = let both = sym first.mode ∙ one.0 ∙ second.mode in cc;
-      same_limits = sym first.within ∙ one.1 ∙ second.within;
+      same_number = let both = sym first.mode ∙ ap (λ (r : Settings). r.mode) one ∙ second.mode in cc;
+      same_limits = sym first.within ∙ ap (λ (r : Settings). r.limits) one ∙ second.within;
     }
 
 -- for one of this number, or for none
@@ -38,8 +42,7 @@ asks_for words settings number accepted mode = record {
 
 pub asks_none : (words : List (List ℕ)) (settings : Settings) → IsReading words settings → ((n : ℕ) → settings.mode ≡ Drill n → ⊥) → AskNoDrill words
 asks_none words settings accepted other number limits asked =
-    let one = one_reading words settings asked.settings accepted asked.accepted in
-    other number (one.0 ∙ asked.mode)
+    other number (same_mode words settings asked.settings accepted asked.accepted ∙ asked.mode)
 
 -- for replies to be judged, or for none
 pub asks_judging : (words : List (List ℕ)) (settings : Settings) → IsReading words settings → judges settings.mode ≡ true → AskJudging words
@@ -51,15 +54,15 @@ asks_judging words settings accepted mode = record {
 
 pub asks_no_judging : (words : List (List ℕ)) (settings : Settings) → IsReading words settings → judges settings.mode ≡ false → AskNoJudging words
 asks_no_judging words settings accepted other asked =
-    let one = one_reading words settings asked.settings accepted asked.accepted in
-    let both : false ≡ true = sym other ∙ ap judges one.0 ∙ asked.mode in
+    let one = same_mode words settings asked.settings accepted asked.accepted in
+    let both : false ≡ true = sym other ∙ ap judges one ∙ asked.mode in
     cc
 
 -- not for both
 pub asks_one : (words : List (List ℕ)) (number : ℕ) (limits : Limits) → AskDrill words number limits → AskJudging words → ⊥
 asks_one words number limits drill judging =
-    let one = one_reading words drill.settings judging.settings drill.accepted judging.accepted in
-    let both : false ≡ true = ap judges (sym drill.mode ∙ one.0) ∙ judging.mode in
+    let one = same_mode words drill.settings judging.settings drill.accepted judging.accepted in
+    let both : false ≡ true = ap judges (sym drill.mode ∙ one) ∙ judging.mode in
     cc
 
 -- for the replies in the file under their name

@@ -67,9 +67,15 @@ one_choice value l m first second = λ i. record {
   pivots = one_limit 10000 100000 (value (codes "pivots")) l.pivots m.pivots (omega arith) first.pivots second.pivots i;
 }
 
--- settings of the same words have the same mode and limits
-pub one_reading : (words : List Text) (s t : Settings) → IsReading words s → IsReading words t → (s.mode ≡ t.mode) × (s.limits ≡ t.limits)
-one_reading words s t first second = (
-  one_mode (word_value words (codes "mode")) (word_value words (codes "FILE")) s.mode t.mode first.given.mode second.given.mode,
-  one_choice (word_value words) s.limits t.limits first.given.limits second.given.limits,
-)
+-- words have one name of a file
+one_file : (value : Option Text) (first second : Text) → value ≡ Some first → value ≡ Some second → first ≡ second
+one_file value first second is is' = let both : Some first ≡ Some second = sym is ∙ is' in cc
+
+-- settings of the same words are the same
+pub one_reading : (words : List Text) (s t : Settings) → IsReading words s → IsReading words t → s ≡ t
+one_reading words s t first second = λ i. record {
+  mode = one_mode (word_value words (codes "mode")) (word_value words (codes "FILE")) s.mode t.mode first.given.mode second.given.mode i;
+  limits = one_choice (word_value words) s.limits t.limits first.given.limits second.given.limits i;
+  proofs = (first.given.proofs.0 ∙ sym second.given.proofs.0) i;
+  file = one_file (word_value words (codes "FILE")) s.file t.file first.given.file second.given.file i;
+}

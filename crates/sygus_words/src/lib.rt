@@ -1,9 +1,11 @@
 // The words of the command line, and what they ask for.
 #![tactic(auto)]
 
+mod law;
 mod options;
 mod settings;
 mod words;
 
+pub use law::words_have_one_reading;
 pub use settings::{FileName, Mode, Settings, WordFault};
 pub use words::read_words;

@@ -4,8 +4,32 @@ use Rattle.sy_bits_words.proofs.Tables.{all-grown}
 use Rattle.sy_bits_words.proofs.Laws.{serves, made-stands}
 use Rattle.sy_bits_words.proofs.sharing.summed.Goals as goal
 
-pub returns-in_default-clause-stand : goal.returns-in_default-clause-stand
-returns-in_default-clause-stand c = all-grown c.args.circuit.now c.applied.new.circuit c.sum_of.new.words c.in_ok-signal.ensures.grown (c.in_ok-sum.ensures.stand c.args.circuit.now c.requires.inside c.requires.stand)
+pub unsummed-requires-clause-stand : goal.unsummed-requires-clause-stand
+unsummed-requires-clause-stand c = c.in_ok-sum.ensures.stand c.args.circuit.now c.requires.inside c.requires.stand
+
+pub made_of_sum-requires-clause-stand : goal.made_of_sum-requires-clause-stand
+made_of_sum-requires-clause-stand c = c.in_ok-sum.ensures.stand c.args.circuit.now c.requires.inside c.requires.stand
+
+pub made_of_sum-requires-clause-is : goal.made_of_sum-requires-clause-is
+made_of_sum-requires-clause-is c = (rw c.in-Some.is at c.in_ok-sum.ensures.sum) c.args.circuit.now (c.in_ok-sum.ensures.stand c.args.circuit.now c.requires.inside c.requires.stand)
+
+pub returns-in_default-clause-inside : goal.returns-in_default-clause-inside
+returns-in_default-clause-inside c = c.in_ok-signal.ensures.serves.inside
+
+pub returns-in_default-clause-sort : goal.returns-in_default-clause-sort
+returns-in_default-clause-sort c = c.in_ok-signal.ensures.serves.sort
+
+pub returns-in_default-clause-value : goal.returns-in_default-clause-value
+returns-in_default-clause-value c = c.in_ok-signal.ensures.serves.value
+
+pub returns-clause-inside : goal.returns-clause-inside
+returns-clause-inside c = c.in_ok-signal-2.ensures.serves.inside
+
+pub returns-clause-sort : goal.returns-clause-sort
+returns-clause-sort c = c.in_ok-signal-2.ensures.serves.sort
+
+pub returns-clause-value : goal.returns-clause-value
+returns-clause-value c = c.in_ok-signal-2.ensures.serves.value
 
 pub returns-in-Some-2-clause-sort : goal.returns-in-Some-2-clause-sort
 returns-in-Some-2-clause-sort c =
@@ -25,9 +49,9 @@ pub returns-clause-stand : goal.returns-clause-stand
 returns-clause-stand c =
     let all : AllStand c.args.circuit.now c.sum_of.new.words = c.in_ok-sum.ensures.stand c.args.circuit.now c.requires.inside c.requires.stand in
     let is : IsSumOf c.args.circuit.now c.sum_of.new.words c.args.op.now c.args.args.now c.in-Some.sum = (rw c.in-Some.is at c.in_ok-sum.ensures.sum) c.args.circuit.now all in
-    c.in_ok-note.ensures c.applied-2.new.circuit
-    (made-stands c.args.circuit.now c.applied-2.new.circuit c.sum_of.new.words c.args.op.now c.args.args.now c.in-Some.sum c.in_ok-signal-2.signal is c.in_ok-signal-2.ensures.grown c.in_ok-signal-2.ensures.inside c.in_ok-signal-2.ensures.sort c.in_ok-signal-2.ensures.value)
-    (all-grown c.args.circuit.now c.applied-2.new.circuit c.sum_of.new.words c.in_ok-signal-2.ensures.grown all)
+    c.in_ok-note.ensures c.made_of_sum.new.circuit
+    (made-stands c.args.circuit.now c.made_of_sum.new.circuit c.sum_of.new.words c.args.op.now c.args.args.now c.in-Some.sum c.in_ok-signal-2.signal is c.in_ok-signal-2.ensures.grown c.in_ok-signal-2.ensures.serves.inside c.in_ok-signal-2.ensures.serves.sort c.in_ok-signal-2.ensures.serves.value)
+    (all-grown c.args.circuit.now c.made_of_sum.new.circuit c.sum_of.new.words c.in_ok-signal-2.ensures.grown all)
 
 pub returns-in_err-sum-clause-stand : goal.returns-in_err-sum-clause-stand
 returns-in_err-sum-clause-stand c = IfOk-from_err c.from_residual.result _ c.from_residual.ensures.0

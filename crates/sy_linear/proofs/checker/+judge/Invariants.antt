@@ -6,8 +6,8 @@ use Rattle.sy_linear.proofs.checker.+judge.Given as goal
 abbrev pub decreases-judge : goal.decreases-judge
 decreases-judge l = 3 * size (tree_shape_of l.tree.now)
 
-abbrev pub decreases-judge_under : goal.decreases-judge_under
-decreases-judge_under l = 3 * size (tree_shape_of l.tree.now) + 1
+abbrev pub decreases-judge_side : goal.decreases-judge_side
+decreases-judge_side l = 3 * size (tree_shape_of l.tree.now) + 1
 
 abbrev pub decreases-judge_both : goal.decreases-judge_both
 decreases-judge_both l = 3 * (size (tree_shape_of l.left.now) + size (tree_shape_of l.right.now)) + 2

@@ -3,7 +3,7 @@ use Rattle.sy_grammar_base.specs.Questions.{question_of}
 use Rattle.sy_bank_level.specs.Bank.{merged_of}
 use Rattle.sy_loop_bodies.proofs.Small.{kept_small}
 use Rattle.sy_loop_beyond.proofs.again.solve_over.Goals as goal
-use Rattle.sy_loop_beyond.proofs.again.solve_over.Goals.{else-loop-size-test, then-loop-size-test+in_ok-found+in_default+else-size-size-end}
+use Rattle.sy_loop_beyond.proofs.again.solve_over.Goals.{else-loop-size-test, then-loop-size-test+in_ok-found+in_default+else-size-upto}
 
 pub solve_kept-requires-clause-kept : goal.solve_kept-requires-clause-kept
 solve_kept-requires-clause-kept g c =
@@ -12,7 +12,7 @@ solve_kept-requires-clause-kept g c =
 pub solve_chosen-requires-clause-assigned : goal.solve_chosen-requires-clause-assigned
 solve_chosen-requires-clause-assigned g c = elim c.loop-size-test.branch [
   | else-loop-size-test w ↦ rw w.assignments-is c.loop-size.invariant
-  | then-loop-size-test+in_ok-found+in_default+else-size-size-end w ↦ rw w.assignments-is (rw w.in_ok-found.was at w.solve_kept.ensures.assigned)
+  | then-loop-size-test+in_ok-found+in_default+else-size-upto w ↦ rw w.assignments-is (rw w.in_ok-found.was at w.solve_kept.ensures.assigned)
 ]
 
 pub returns-clause-assigned : goal.returns-clause-assigned
