@@ -16,16 +16,16 @@ const MOST_CHOOSERS: usize = 8;
 pub(crate) struct Chooser {
     pub(crate) shape: usize,
     /// The places of the two parts.
-    pub(crate) yes: usize,
-    pub(crate) no: usize,
+    yes: usize,
+    no: usize,
     /// The pools of the other parts, from left to right.
     pub(crate) others: Vec<u32>,
-    pub(crate) test: Test,
+    test: Test,
 }
 
-/// Where a chooser with one other part has the value of the first of its two parts.
+/// Where a chooser with one other part has the value of its part `yes`.
 #[derive(Clone, Copy)]
-pub(crate) enum Test {
+enum Test {
     /// Where the other part has this value.
     Is(u64),
     /// Where it has another one.
@@ -33,6 +33,9 @@ pub(crate) enum Test {
     /// That is asked each time.
     Unknown,
 }
+
+/// The tests that are tried.
+const TESTS: [Test; 4] = [Test::Is(1), Test::Is(0), Test::Differs(1), Test::Differs(0)];
 
 /// Columns that differ at every point, for the two parts.
 #[derive(Drop)]
@@ -61,8 +64,8 @@ impl Sides {
 }
 
 impl Test {
-    /// The points at which the rule has the first part's value; `None` where it has to be asked.
-    pub(crate) fn row(self, all: u128, column: &[u64]) -> Option<u128> {
+    /// The points at which it is met; `None` where it has to be asked.
+    fn row(self, all: u128, column: &[u64]) -> Option<u128> {
         match self {
             Test::Is(value) => Some(points_of(column, value)),
             Test::Differs(value) => Some(all ^ points_of(column, value)),
@@ -72,82 +75,54 @@ impl Test {
 }
 
 impl Chooser {
-    /// The points at which the rule has the first part's value, with these other parts; `None` where it has neither.
-    pub(crate) fn asked<R: Rules>(
+    /// The points at which the rule has the value of its part `yes`, with these other parts; `None` where it has neither's.
+    pub(crate) fn row<R: Rules>(
         &self,
         alloc: Global,
         rules: &R,
         sides: &Sides,
         others: &[&[u64]],
     ) -> Result<Option<u128>, Want> {
-        let parts = self.parts(alloc, sides, others)?;
+        let all = all_points(sides.yes.len());
+        if let [only] = others {
+            if let Some(row) = self.test.row(all, *only) {
+                return Ok(Some(row));
+            }
+        }
+        let parts = self.placed(alloc, sides.yes.as_slice(), sides.no.as_slice(), others)?;
         let Some(values) = rules.values(alloc, self.shape, parts.as_slice())? else {
             return Ok(None);
         };
         let row = agreement(values.as_slice(), sides.yes.as_slice());
         let other = agreement(values.as_slice(), sides.no.as_slice());
-        let whole = (row | other) == all_points(sides.yes.len());
+        let whole = (row | other) == all;
         Ok(if whole { Some(row) } else { None })
     }
 
     /// All parts, from left to right.
-    fn parts<'a>(
+    pub(crate) fn placed<X: Copy>(
         &self,
         alloc: Global,
-        sides: &'a Sides,
-        others: &[&'a [u64]],
-    ) -> Result<Vec<&'a [u64]>, Want> {
+        yes: X,
+        no: X,
+        others: &[X],
+    ) -> Result<Vec<X>, Want> {
         let mut parts = Vec::new(alloc);
-        for other in others {
-            self.push_sides(sides, &mut parts)?;
-            parts.push(*other)?;
-        }
-        self.push_sides(sides, &mut parts)?;
-        Ok(parts)
-    }
-
-    /// Appends the two parts whose places come next.
-    fn push_sides<'a>(&self, sides: &'a Sides, parts: &mut Vec<&'a [u64]>) -> Result<(), Want> {
-        for _ in 0..2 {
-            if parts.len() == self.yes {
-                parts.push(sides.yes.as_slice())?;
-            } else if parts.len() == self.no {
-                parts.push(sides.no.as_slice())?;
-            }
-        }
-        Ok(())
-    }
-
-    /// The numbers of all parts, from left to right.
-    pub(crate) fn placed(
-        &self,
-        alloc: Global,
-        yes: usize,
-        no: usize,
-        others: &[usize],
-    ) -> Result<Vec<usize>, Want> {
-        let mut parts = Vec::new(alloc);
-        for other in others {
-            self.push_placed(yes, no, &mut parts)?;
-            parts.push(*other)?;
-        }
-        self.push_placed(yes, no, &mut parts)?;
-        Ok(parts)
-    }
-
-    /// Appends the numbers of the two parts whose places come next.
-    fn push_placed(&self, yes: usize, no: usize, parts: &mut Vec<usize>) -> Result<(), Want> {
-        for _ in 0..2 {
-            if parts.len() == self.yes {
+        let mut next = 0usize;
+        for place in 0..others.len().saturating_add(2) {
+            if place == self.yes {
                 parts.push(yes)?;
-            } else if parts.len() == self.no {
+            } else if place == self.no {
                 parts.push(no)?;
+            } else if let Some(other) = others.get(next) {
+                parts.push(*other)?;
+                next = next.saturating_add(1);
             }
         }
-        Ok(())
+        Ok(parts)
     }
 
-    /// The points at which the rule has the first part's value, with kept terms as other parts: the sample of this number.
+    /// The row with kept terms as other parts: the sample of this number.
     fn sampled<R: Rules>(
         &self,
         alloc: Global,
@@ -159,11 +134,11 @@ impl Chooser {
         let mut others = Vec::new(alloc);
         let mut factor = 1usize;
         for pool in &self.others {
-            let place = sample_place(task, *pool, sample.saturating_mul(factor));
+            let place = task.place(*pool, sample.saturating_mul(factor));
             others.push(task.values(*pool, place))?;
             factor = factor.saturating_add(6);
         }
-        self.asked(alloc, rules, sides, others.as_slice())
+        self.row(alloc, rules, sides, others.as_slice())
     }
 
     /// Whether the rule has the value of the same part both times, for all samples, and now the one's, now the other's.
@@ -190,70 +165,28 @@ impl Chooser {
         Ok(false)
     }
 
-    /// Where the rule has the first part's value, as far as the samples tell.
-    fn test<R: Rules>(&self, alloc: Global, rules: &R, task: &Task) -> Result<Test, Want> {
+    /// Whether the samples' rows are those of the test.
+    fn has_test<R: Rules>(
+        &self,
+        alloc: Global,
+        rules: &R,
+        task: &Task,
+        test: Test,
+    ) -> Result<bool, Want> {
         let [pool] = self.others.as_slice() else {
-            return Ok(Test::Unknown);
+            return Ok(false);
         };
         let sides = Sides::new(alloc, task, 0, 1)?;
-        let mut values = Vec::new(alloc);
-        let mut chosen = Vec::new(alloc);
+        let all = all_points(sides.yes.len());
         for sample in 0..SAMPLES {
+            let column = task.values(*pool, task.place(*pool, sample));
             let row = self.sampled(alloc, rules, task, &sides, sample)?;
-            let column = task.values(*pool, sample_place(task, *pool, sample));
-            push_observed(row.unwrap_or(0), column, &mut values, &mut chosen)?;
+            if row.is_none() || row != test.row(all, column) {
+                return Ok(false);
+            }
         }
-        Ok(test_of(values.as_slice(), chosen.as_slice()))
+        Ok(true)
     }
-}
-
-/// The place of a kept term of the pool, the first ones first.
-fn sample_place(task: &Task, pool: u32, sample: usize) -> usize {
-    sample.checked_rem(task.columns(pool).len()).unwrap_or(0)
-}
-
-/// Appends the column's values, and whether each stands at a point of the row.
-fn push_observed(
-    row: u128,
-    column: &[u64],
-    values: &mut Vec<u64>,
-    chosen: &mut Vec<bool>,
-) -> Result<(), Want> {
-    let mut left = row;
-    for value in column {
-        values.push(*value)?;
-        chosen.push(left & 1 == 1)?;
-        left >>= 1;
-    }
-    Ok(())
-}
-
-/// The test that is met by exactly those of the values that are chosen.
-fn test_of(values: &[u64], chosen: &[bool]) -> Test {
-    if let Some(value) = only_value(values, chosen, true) {
-        return Test::Is(value);
-    }
-    match only_value(values, chosen, false) {
-        Some(value) => Test::Differs(value),
-        None => Test::Unknown,
-    }
-}
-
-/// The one value on that side, if there is one and it isn't on the other.
-fn only_value(values: &[u64], chosen: &[bool], side: bool) -> Option<u64> {
-    let mut only = None;
-    for (value, is_chosen) in values.iter().zip(chosen) {
-        if *is_chosen == side {
-            only = Some(*value);
-        }
-    }
-    let only = only?;
-    for (value, is_chosen) in values.iter().zip(chosen) {
-        if (*value == only) != (*is_chosen == side) {
-            return None;
-        }
-    }
-    Some(only)
 }
 
 /// The rules of the start symbol that choose between two parts of it, by one to three others.
@@ -282,39 +215,33 @@ fn found_chooser<R: Rules>(
     task: &Task,
     shape: usize,
 ) -> Result<Option<Chooser>, Want> {
-    let operands = task.operands(shape);
-    for no in 0..operands.len() {
+    for no in 0..task.operands(shape).len() {
         for yes in 0..no {
-            if operands.get(yes) == Some(&0) && operands.get(no) == Some(&0) {
-                let mut chooser = of_parts(alloc, operands, shape, (yes, no))?;
-                if chooser.chooses(alloc, rules, task)? {
-                    chooser.test = chooser.test(alloc, rules, task)?;
-                    return Ok(Some(chooser));
+            let mut chooser = Chooser {
+                shape,
+                yes,
+                no,
+                others: Vec::new(alloc),
+                test: Test::Unknown,
+            };
+            let mut own = 0u32;
+            for (place, pool) in task.operands(shape).iter().enumerate() {
+                if place != yes && place != no {
+                    chooser.others.push(*pool)?;
+                } else if *pool == 0 {
+                    own = own.saturating_add(1);
                 }
+            }
+            if own == 2 && chooser.chooses(alloc, rules, task)? {
+                for test in TESTS {
+                    if chooser.has_test(alloc, rules, task, test)? {
+                        chooser.test = test;
+                        return Ok(Some(chooser));
+                    }
+                }
+                return Ok(Some(chooser));
             }
         }
     }
     Ok(None)
-}
-
-/// The rule as one that chooses between the parts of these places.
-fn of_parts(
-    alloc: Global,
-    operands: &[u32],
-    shape: usize,
-    sides: (usize, usize),
-) -> Result<Chooser, Want> {
-    let mut others = Vec::new(alloc);
-    for (place, pool) in operands.iter().enumerate() {
-        if place != sides.0 && place != sides.1 {
-            others.push(*pool)?;
-        }
-    }
-    Ok(Chooser {
-        shape,
-        yes: sides.0,
-        no: sides.1,
-        others,
-        test: Test::Unknown,
-    })
 }

@@ -52,7 +52,7 @@ pub trait Rules {
 
 impl Task {
     /// The kept terms of the pool; none where there is no such pool.
-    pub fn columns(&self, pool: u32) -> &[Column] {
+    pub(crate) fn columns(&self, pool: u32) -> &[Column] {
         match self.pools.get(pool as usize) {
             Some(pool) => pool.columns.as_slice(),
             None => &[],
@@ -60,7 +60,7 @@ impl Task {
     }
 
     /// The values of the kept term; none where there is no such term.
-    pub fn values(&self, pool: u32, place: usize) -> &[u64] {
+    pub(crate) fn values(&self, pool: u32, place: usize) -> &[u64] {
         match self.columns(pool).get(place) {
             Some(column) => column.values.as_slice(),
             None => &[],
@@ -68,15 +68,20 @@ impl Task {
     }
 
     /// The size of the kept term; 0 where there is no such term.
-    pub fn size(&self, pool: u32, place: usize) -> u32 {
+    pub(crate) fn size(&self, pool: u32, place: usize) -> u32 {
         match self.columns(pool).get(place) {
             Some(column) => column.size,
             None => 0,
         }
     }
 
+    /// The place of this number in the pool, from the first one again behind the last.
+    pub(crate) fn place(&self, pool: u32, number: usize) -> usize {
+        number.checked_rem(self.columns(pool).len()).unwrap_or(0)
+    }
+
     /// The greatest value of the pool.
-    pub fn greatest(&self, pool: u32) -> u64 {
+    pub(crate) fn greatest(&self, pool: u32) -> u64 {
         match self.pools.get(pool as usize) {
             Some(pool) if pool.bits < 64 => u64::MAX ^ (u64::MAX << pool.bits),
             _ => u64::MAX,
@@ -84,7 +89,7 @@ impl Task {
     }
 
     /// The pools of the shape's parts; none where there is no such shape.
-    pub fn operands(&self, shape: usize) -> &[u32] {
+    pub(crate) fn operands(&self, shape: usize) -> &[u32] {
         match self.shapes.get(shape) {
             Some(shape) => shape.operands.as_slice(),
             None => &[],
@@ -92,7 +97,7 @@ impl Task {
     }
 
     /// What the shape adds to the sizes of its parts.
-    pub fn added(&self, shape: usize) -> u32 {
+    pub(crate) fn added(&self, shape: usize) -> u32 {
         match self.shapes.get(shape) {
             Some(shape) => shape.size,
             None => 0,

@@ -3,18 +3,14 @@ use std::alloc::Global;
 use std::collections::HashMap;
 use sy_seq::Want;
 
-/// How many leaves, and how many conditions, are gathered at most.
-const MOST_LEAVES: usize = 60_000;
-
-const MOST_CONDITIONS: usize = 400_000;
+/// How many leaves, or conditions, are gathered at most.
+const MOST_PARTS: usize = 400_000;
 
 /// What a leaf or a condition is made of.
 #[derive(Clone, Copy)]
 pub(crate) enum Made {
-    /// Kept terms of these places.
+    /// The kept terms of this number: of a leaf the one of this place.
     Kept(usize),
-    Two(usize, usize),
-    Three(usize, usize, usize),
     /// The shape's rule over kept terms of these places, of which a rule of one part takes the first.
     Rule {
         shape: usize,
@@ -28,22 +24,30 @@ pub(crate) enum Made {
     },
 }
 
-/// A body that has the wanted value at these points.
+/// What a part of a tree does.
 #[derive(Clone, Copy)]
-pub(crate) struct Leaf {
+pub(crate) enum Role {
+    /// It gives the body.
+    Leaf,
+    /// It is what the other parts of the chooser of this number are.
+    Condition(usize),
+}
+
+/// A leaf with the points at which it has the wanted value, or a condition with those at which its chooser has the value of
+/// the first of two parts; and its size, that of a condition with the chooser.
+#[derive(Clone, Copy)]
+pub(crate) struct Part {
+    pub(crate) role: Role,
     pub(crate) row: u128,
     pub(crate) size: u32,
     pub(crate) made: Made,
 }
 
-/// What a chooser's other parts are; at these points it has the value of the first of its two parts.
-#[derive(Clone, Copy)]
-pub(crate) struct Condition {
-    pub(crate) row: u128,
-    /// The size of the chooser with its other parts.
-    pub(crate) size: u32,
-    pub(crate) chooser: usize,
-    pub(crate) made: Made,
+/// Parts, and the place of each by its row.
+#[derive(Drop)]
+pub(crate) struct Parts {
+    pub(crate) list: Vec<Part>,
+    places: HashMap<u128, usize>,
 }
 
 /// What a tree can be made of.
@@ -51,10 +55,30 @@ pub(crate) struct Condition {
 pub(crate) struct Gathered {
     /// All points.
     pub(crate) all: u128,
-    pub(crate) leaves: Vec<Leaf>,
-    pub(crate) conditions: Vec<Condition>,
-    leaf_places: HashMap<u128, usize>,
-    condition_places: HashMap<u128, usize>,
+    pub(crate) leaves: Parts,
+    pub(crate) conditions: Parts,
+}
+
+impl Parts {
+    /// Takes the part, unless a smaller one stands for the same points, or for none.
+    fn offer(&mut self, row: u128, part: Part) -> Result<(), Want> {
+        match self.places.get(&row) {
+            Some(place) => {
+                if let Some(other) = self.list.get_mut(*place) {
+                    if part.size < other.size {
+                        *other = part;
+                    }
+                }
+            }
+            None => {
+                if row != 0 && self.list.len() < MOST_PARTS {
+                    self.places.insert(row, self.list.len())?;
+                    self.list.push(part)?;
+                }
+            }
+        }
+        Ok(())
+    }
 }
 
 impl Gathered {
@@ -62,68 +86,32 @@ impl Gathered {
     pub(crate) fn new(alloc: Global, all: u128) -> Gathered {
         Gathered {
             all,
-            leaves: Vec::new(alloc),
-            conditions: Vec::new(alloc),
-            leaf_places: HashMap::new(alloc),
-            condition_places: HashMap::new(alloc),
+            leaves: Parts {
+                list: Vec::new(alloc),
+                places: HashMap::new(alloc),
+            },
+            conditions: Parts {
+                list: Vec::new(alloc),
+                places: HashMap::new(alloc),
+            },
         }
     }
 
-    /// Takes the leaf if it is good at a point, and no smaller one is good at the same points.
-    pub(crate) fn offer_leaf(&mut self, leaf: Leaf) -> Result<(), Want> {
-        if leaf.row == 0 {
-            return Ok(());
-        }
-        match self.leaf_places.get(&leaf.row) {
-            Some(place) => {
-                if let Some(other) = self.leaves.get_mut(*place) {
-                    if leaf.size < other.size {
-                        *other = leaf;
-                    }
-                }
-            }
-            None => {
-                if self.leaves.len() < MOST_LEAVES {
-                    self.leaf_places.insert(leaf.row, self.leaves.len())?;
-                    self.leaves.push(leaf)?;
-                }
+    /// Takes the part, unless a smaller one does as well, or it is good for nothing. A condition does as well as its opposite.
+    pub(crate) fn offer(&mut self, part: Part) -> Result<(), Want> {
+        match part.role {
+            Role::Leaf => self.leaves.offer(part.row, part),
+            Role::Condition(_) => {
+                let turned = if part.row & 1 == 1 { self.all } else { 0 };
+                self.conditions.offer(part.row ^ turned, part)
             }
         }
-        Ok(())
-    }
-
-    /// Takes the condition if it splits the points, and no smaller one splits them so.
-    pub(crate) fn offer_condition(&mut self, condition: Condition) -> Result<(), Want> {
-        let row = if condition.row & 1 == 1 {
-            condition.row ^ self.all
-        } else {
-            condition.row
-        };
-        if row == 0 {
-            return Ok(());
-        }
-        match self.condition_places.get(&row) {
-            Some(place) => {
-                if let Some(other) = self.conditions.get_mut(*place) {
-                    if condition.size < other.size {
-                        *other = condition;
-                    }
-                }
-            }
-            None => {
-                if self.conditions.len() < MOST_CONDITIONS {
-                    self.condition_places.insert(row, self.conditions.len())?;
-                    self.conditions.push(condition)?;
-                }
-            }
-        }
-        Ok(())
     }
 
     /// The points at which no leaf is good.
     pub(crate) fn unserved(&self) -> u128 {
         let mut left = self.all;
-        for leaf in &self.leaves {
+        for leaf in &self.leaves.list {
             left &= self.all ^ leaf.row;
         }
         left

@@ -22,7 +22,7 @@ pub struct Plan {
 }
 
 /// Whether the steps are of these pools and shapes, each over earlier ones, and there is one.
-pub fn is_plan(pools: &[Pool], shapes: &[Shape], plan: &Plan) -> bool
+pub(crate) fn is_plan(pools: &[Pool], shapes: &[Shape], plan: &Plan) -> bool
     ensures { IsTrue result → IsPlan pools.now shapes.now plan.now }
 {
     let nodes = plan.nodes.as_slice();

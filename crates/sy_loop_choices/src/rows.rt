@@ -1,7 +1,4 @@
 // Sets of points, as numbers: the first point is the lowest bit.
-use std::alloc::Global;
-use sy_seq::Want;
-
 /// How many points are looked at. What stands behind them is left out.
 pub const MOST_POINTS: usize = 128;
 
@@ -51,15 +48,4 @@ pub(crate) fn bit_points(column: &[u64], bit: u32) -> u128 {
         point <<= 1;
     }
     row
-}
-
-/// The points of the set, one after the other.
-pub(crate) fn listed(alloc: Global, row: u128) -> Result<Vec<usize>, Want> {
-    let mut points = Vec::new(alloc);
-    for point in 0..MOST_POINTS {
-        if row >> point & 1 == 1 {
-            points.push(point)?;
-        }
-    }
-    Ok(points)
 }

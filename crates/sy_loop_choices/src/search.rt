@@ -1,16 +1,16 @@
-// What is known before anything is gathered.
+// What is known before anything is gathered, and kept terms as parts of trees.
 use crate::choosers::{Chooser, Sides, choosers};
 use crate::columns::{Rules, Task};
-use crate::gathered::{Condition, Gathered, Leaf, Made};
+use crate::gathered::{Gathered, Made, Part, Role};
 use crate::rows::agreement;
-use crate::trials::{Operation, operations};
+use crate::trials::{Operation, operation_of};
 use std::alloc::Global;
 use sy_seq::Want;
 
 /// How many kept terms are taken for each of two other parts of a chooser, and for each of three.
-const OF_TWO: usize = 300;
+const EACH_OF_TWO: usize = 300;
 
-const OF_THREE: usize = 45;
+const EACH_OF_THREE: usize = 45;
 
 /// A task with what trials tell of its rules.
 #[derive(Drop)]
@@ -18,6 +18,7 @@ pub(crate) struct Search<'a, R: Rules> {
     pub(crate) alloc: Global,
     pub(crate) rules: &'a R,
     pub(crate) task: &'a Task,
+    /// What each shape computes, where that is known.
     pub(crate) operations: Vec<Option<Operation>>,
     pub(crate) choosers: Vec<Chooser>,
     sides: Sides,
@@ -26,7 +27,10 @@ pub(crate) struct Search<'a, R: Rules> {
 impl<'a, R: Rules> Search<'a, R> {
     pub(crate) fn new(alloc: Global, rules: &'a R, task: &'a Task) -> Result<Search<'a, R>, Want> {
         let choosers = choosers(alloc, rules, task)?;
-        let operations = operations(alloc, rules, task)?;
+        let mut operations = Vec::with_capacity(alloc, task.shapes.len())?;
+        for shape in 0..task.shapes.len() {
+            operations.push(operation_of(alloc, rules, task, shape)?)?;
+        }
         let sides = Sides::new(alloc, task, 0, 1)?;
         Ok(Search {
             alloc,
@@ -43,11 +47,6 @@ impl<'a, R: Rules> Search<'a, R> {
         *self.operations.get(shape)?
     }
 
-    /// Whether the shape chooses.
-    pub(crate) fn is_chooser(&self, shape: usize) -> bool {
-        self.choosers.iter().any(|chooser| chooser.shape == shape)
-    }
-
     /// The values of the shape's rule over kept terms of these places.
     pub(crate) fn rule_values(
         &self,
@@ -55,31 +54,21 @@ impl<'a, R: Rules> Search<'a, R> {
         first: usize,
         second: usize,
     ) -> Result<Option<Vec<u64>>, Want> {
-        match self.task.operands(shape) {
-            [pool] => {
-                let column = self.task.values(*pool, first);
-                match self.operation(shape) {
-                    Some(operation) => {
-                        let most = self.task.greatest(*pool);
-                        Ok(Some(operation.values(self.alloc, most, column, column)?))
-                    }
-                    None => self.rules.values(self.alloc, shape, &[column]),
-                }
-            }
-            [pool, other] => {
-                let (one, two) = (
-                    self.task.values(*pool, first),
-                    self.task.values(*other, second),
-                );
-                match self.operation(shape) {
-                    Some(operation) => {
-                        let most = self.task.greatest(*pool);
-                        Ok(Some(operation.values(self.alloc, most, one, two)?))
-                    }
-                    None => self.rules.values(self.alloc, shape, &[one, two]),
-                }
-            }
-            _ => Ok(None),
+        let (pool, other) = match self.task.operands(shape) {
+            [pool] => (*pool, *pool),
+            [pool, other] => (*pool, *other),
+            _ => return Ok(None),
+        };
+        let one = self.task.values(pool, first);
+        let two = self.task.values(other, second);
+        if let Some(operation) = self.operation(shape) {
+            let values = operation.values(self.alloc, self.task.greatest(pool), one, two)?;
+            return Ok(Some(values));
+        }
+        if self.task.operands(shape).len() == 1 {
+            self.rules.values(self.alloc, shape, &[one])
+        } else {
+            self.rules.values(self.alloc, shape, &[one, two])
         }
     }
 
@@ -95,144 +84,125 @@ impl<'a, R: Rules> Search<'a, R> {
         }
     }
 
-    /// The points at which a chooser with one other part of these values has the value of the first of its two parts.
-    pub(crate) fn condition_row(
-        &self,
-        chooser: &Chooser,
-        all: u128,
-        column: &[u64],
-    ) -> Result<Option<u128>, Want> {
-        match chooser.test.row(all, column) {
-            Some(row) => Ok(Some(row)),
-            None => chooser.asked(self.alloc, self.rules, &self.sides, &[column]),
+    /// The pools of what plays the role: of a leaf the start symbol's, of a condition those of its chooser's other parts.
+    pub(crate) fn pools(&self, role: Role) -> &[u32] {
+        match role {
+            Role::Leaf => &[0],
+            Role::Condition(number) => match self.choosers.get(number) {
+                Some(chooser) => chooser.others.as_slice(),
+                None => &[],
+            },
         }
     }
 
-    /// Gathers the kept terms of the start symbol as leaves.
-    pub(crate) fn gather_leaves(&self, gathered: &mut Gathered) -> Result<(), Want> {
-        for (place, column) in self.task.columns(0).iter().enumerate() {
-            let row = agreement(column.values.as_slice(), self.task.wanted.as_slice());
-            gathered.offer_leaf(Leaf {
+    /// The part of this role, of these values; its size is this one, with the chooser's. `None` where that chooses nothing.
+    pub(crate) fn part(
+        &self,
+        role: Role,
+        columns: &[&[u64]],
+        size: u32,
+        made: Made,
+    ) -> Result<Option<Part>, Want> {
+        let (row, size) = match (role, columns) {
+            (Role::Leaf, [column]) => {
+                let row = agreement(*column, self.task.wanted.as_slice());
+                (Some(row), size)
+            }
+            (Role::Condition(number), _) => match self.choosers.get(number) {
+                Some(chooser) => (
+                    chooser.row(self.alloc, self.rules, &self.sides, columns)?,
+                    size.saturating_add(self.task.added(chooser.shape)),
+                ),
+                None => (None, size),
+            },
+            _ => (None, size),
+        };
+        match row {
+            Some(row) => Ok(Some(Part {
+                role,
                 row,
-                size: column.size,
-                made: Made::Kept(place),
-            })?;
+                size,
+                made,
+            })),
+            None => Ok(None),
         }
-        Ok(())
     }
 
-    /// Gathers conditions whose parts are kept terms.
-    pub(crate) fn gather_conditions(&self, gathered: &mut Gathered) -> Result<(), Want> {
-        for (number, chooser) in self.choosers.iter().enumerate() {
-            match chooser.others.as_slice() {
-                [pool] => self.gather_ones(number, chooser, *pool, gathered)?,
-                [one, two] => self.gather_twos(number, chooser, (*one, *two), gathered)?,
-                [one, two, three] => {
-                    self.gather_threes(number, chooser, (*one, *two, *three), gathered)?
-                }
-                _ => {}
-            }
+    /// The operation by which the shape joins two terms of the start symbol to one of it, if it does.
+    pub(crate) fn joint(&self, shape: usize) -> Option<Operation> {
+        let rule = self.task.shapes.get(shape)?;
+        match rule.operands.as_slice() {
+            [0, 0] if rule.pool == 0 => self.operation(shape),
+            _ => None,
         }
-        Ok(())
     }
 
-    fn gather_ones(
+    /// Gathers the shape's rule over kept terms of these places in this role.
+    pub(crate) fn gather_rule(
         &self,
-        number: usize,
-        chooser: &Chooser,
-        pool: u32,
+        role: Role,
+        shape: usize,
+        places: (usize, usize),
         gathered: &mut Gathered,
     ) -> Result<(), Want> {
-        for (place, column) in self.task.columns(pool).iter().enumerate() {
-            let values = column.values.as_slice();
-            if let Some(row) = self.condition_row(chooser, gathered.all, values)? {
-                gathered.offer_condition(Condition {
-                    row,
-                    size: self.task.added(chooser.shape).saturating_add(column.size),
-                    chooser: number,
-                    made: Made::Kept(place),
-                })?;
+        let (first, second) = places;
+        let Some(values) = self.rule_values(shape, first, second)? else {
+            return Ok(());
+        };
+        let size = self.rule_size(shape, first, second);
+        let made = Made::Rule {
+            shape,
+            first,
+            second,
+        };
+        match self.part(role, &[values.as_slice()], size, made)? {
+            Some(part) => gathered.offer(part),
+            None => Ok(()),
+        }
+    }
+
+    /// The places of the kept terms of this number, one in each pool.
+    pub(crate) fn places(&self, pools: &[u32], number: usize) -> Result<Vec<usize>, Want> {
+        let mut places = Vec::new(self.alloc);
+        let mut left = number;
+        for pool in pools {
+            let count = self.count(*pool, pools.len());
+            places.push(left.checked_rem(count).unwrap_or(0))?;
+            left = left.checked_div(count).unwrap_or(0);
+        }
+        Ok(places)
+    }
+
+    /// How many kept terms of the pool are taken where there are so many parts.
+    fn count(&self, pool: u32, parts: usize) -> usize {
+        let count = self.task.columns(pool).len();
+        match parts {
+            1 => count,
+            2 => count.min(EACH_OF_TWO),
+            _ => count.min(EACH_OF_THREE),
+        }
+    }
+
+    /// Gathers kept terms that play the role.
+    pub(crate) fn gather_kept(&self, role: Role, gathered: &mut Gathered) -> Result<(), Want> {
+        let pools = self.pools(role);
+        let mut numbers = 1usize;
+        for pool in pools {
+            numbers = numbers.saturating_mul(self.count(*pool, pools.len()));
+        }
+        for number in 0..numbers {
+            let places = self.places(pools, number)?;
+            let mut columns = Vec::new(self.alloc);
+            let mut size = 0u32;
+            for (pool, place) in pools.iter().zip(places.as_slice()) {
+                columns.push(self.task.values(*pool, *place))?;
+                size = size.saturating_add(self.task.size(*pool, *place));
+            }
+            let made = Made::Kept(number);
+            if let Some(part) = self.part(role, columns.as_slice(), size, made)? {
+                gathered.offer(part)?;
             }
         }
         Ok(())
-    }
-
-    fn gather_twos(
-        &self,
-        number: usize,
-        chooser: &Chooser,
-        pools: (u32, u32),
-        gathered: &mut Gathered,
-    ) -> Result<(), Want> {
-        let added = self.task.added(chooser.shape);
-        for first in 0..self.count(pools.0, OF_TWO) {
-            for second in 0..self.count(pools.1, OF_TWO) {
-                let others = [
-                    self.task.values(pools.0, first),
-                    self.task.values(pools.1, second),
-                ];
-                let row = chooser.asked(self.alloc, self.rules, &self.sides, &others)?;
-                gathered.offer_condition(Condition {
-                    row: row.unwrap_or(0),
-                    size: added
-                        .saturating_add(self.task.size(pools.0, first))
-                        .saturating_add(self.task.size(pools.1, second)),
-                    chooser: number,
-                    made: Made::Two(first, second),
-                })?;
-            }
-        }
-        Ok(())
-    }
-
-    fn gather_threes(
-        &self,
-        number: usize,
-        chooser: &Chooser,
-        pools: (u32, u32, u32),
-        gathered: &mut Gathered,
-    ) -> Result<(), Want> {
-        for first in 0..self.count(pools.0, OF_THREE) {
-            for second in 0..self.count(pools.1, OF_THREE) {
-                for third in 0..self.count(pools.2, OF_THREE) {
-                    let places = (first, second, third);
-                    let condition = self.of_three(number, chooser, pools, places)?;
-                    gathered.offer_condition(condition)?;
-                }
-            }
-        }
-        Ok(())
-    }
-
-    /// The condition of these three kept terms.
-    fn of_three(
-        &self,
-        number: usize,
-        chooser: &Chooser,
-        pools: (u32, u32, u32),
-        places: (usize, usize, usize),
-    ) -> Result<Condition, Want> {
-        let others = [
-            self.task.values(pools.0, places.0),
-            self.task.values(pools.1, places.1),
-            self.task.values(pools.2, places.2),
-        ];
-        let row = chooser.asked(self.alloc, self.rules, &self.sides, &others)?;
-        let size = self
-            .task
-            .size(pools.0, places.0)
-            .saturating_add(self.task.size(pools.1, places.1))
-            .saturating_add(self.task.size(pools.2, places.2));
-        Ok(Condition {
-            row: row.unwrap_or(0),
-            size: size.saturating_add(self.task.added(chooser.shape)),
-            chooser: number,
-            made: Made::Three(places.0, places.1, places.2),
-        })
-    }
-
-    /// How many kept terms the pool has, at most so many.
-    fn count(&self, pool: u32, most: usize) -> usize {
-        self.task.columns(pool).len().min(most)
     }
 }

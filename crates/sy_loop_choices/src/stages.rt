@@ -4,9 +4,9 @@ ghost use Rattle.sy_loop_choices.specs.Plans.{IsPlan};
 
 use crate::bits::gather_bits;
 use crate::columns::{Rules, Task};
-use crate::further::{gather_further_conditions, gather_further_leaves};
-use crate::gathered::Gathered;
-use crate::pairs::{Draws, gather_pairs};
+use crate::draws::{Draws, gather_pairs};
+use crate::further::gather_further;
+use crate::gathered::{Gathered, Role};
 use crate::plan::{Plan, is_plan};
 use crate::rows::all_points;
 use crate::search::Search;
@@ -15,6 +15,8 @@ use crate::writer::written;
 use std::alloc::Global;
 use sy_seq::Want;
 
+/// How many combinations of kept terms by rules are gone through at most.
+const MOST_COMBINATIONS: usize = 1_000_000;
 /// A tree of so few choices is taken at once.
 const FEW_CHOICES: u32 = 8;
 
@@ -89,14 +91,31 @@ fn gather<R: Rules>(
     draws: &mut Draws,
     gathered: &mut Gathered,
 ) -> Result<(), Want> {
+    let choosers = search.choosers.len();
+    let most = MOST_COMBINATIONS.checked_div(choosers).unwrap_or(0);
     match stage {
-        Stage::KeptLeaves => search.gather_leaves(gathered),
-        Stage::KeptConditions => search.gather_conditions(gathered),
-        Stage::FurtherConditions => gather_further_conditions(search, gathered),
-        Stage::Bits => gather_bits(search, gathered),
-        Stage::FurtherLeaves => gather_further_leaves(search, gathered),
-        Stage::Pairs => gather_pairs(search, draws, gathered),
+        Stage::KeptLeaves => search.gather_kept(Role::Leaf, gathered)?,
+        Stage::KeptConditions => {
+            for number in 0..choosers {
+                search.gather_kept(Role::Condition(number), gathered)?;
+            }
+        }
+        Stage::FurtherConditions => {
+            for number in 0..choosers {
+                gather_further(search, Role::Condition(number), most, gathered)?;
+            }
+        }
+        Stage::Bits => {
+            for number in 0..choosers {
+                gather_bits(search, number, gathered)?;
+            }
+        }
+        Stage::FurtherLeaves => {
+            gather_further(search, Role::Leaf, MOST_COMBINATIONS, gathered)?;
+        }
+        Stage::Pairs => gather_pairs(search, draws, gathered)?,
     }
+    Ok(())
 }
 
 /// The smaller one of the trees, the new one if there was none.

@@ -2,9 +2,12 @@
 use std::alloc::Global;
 use sy_seq::Want;
 
+/// How often the number of slots is doubled at most.
+const MOST_DOUBLED: u32 = 40;
+
 /// Where numbers stand in a list.
 #[derive(Drop)]
-pub struct Table {
+pub(crate) struct Table {
     /// For each slot one more than the first place; 0 where there is none.
     heads: Vec<usize>,
     /// For each place one more than the next one in its slot.
@@ -15,8 +18,13 @@ pub struct Table {
 
 impl Table {
     /// The places of these numbers.
-    pub fn new(alloc: Global, numbers: &[u64]) -> Result<Table, Want> {
-        let slots = slots(numbers.len());
+    pub(crate) fn new(alloc: Global, numbers: &[u64]) -> Result<Table, Want> {
+        let mut slots = 1usize;
+        for _ in 0..MOST_DOUBLED {
+            if slots / 2 < numbers.len() {
+                slots = slots.saturating_mul(2);
+            }
+        }
         let mut table = Table {
             heads: Vec::from_elem(alloc, 0, slots)?,
             next: Vec::from_elem(alloc, 0, numbers.len())?,
@@ -46,7 +54,7 @@ impl Table {
     }
 
     /// A place at which the number may stand; each at which it does is this one or one of those that come after it.
-    pub fn first(&self, number: u64) -> Option<usize> {
+    pub(crate) fn first(&self, number: u64) -> Option<usize> {
         let mixed = mixed(number);
         let marks = self.marks.get(slot_of(mixed >> 6, self.marks.len()))?;
         if *marks >> (mixed % 64) & 1 == 0 {
@@ -58,7 +66,7 @@ impl Table {
     }
 
     /// The place that comes after this one.
-    pub fn next(&self, place: usize) -> Option<usize> {
+    pub(crate) fn next(&self, place: usize) -> Option<usize> {
         self.next.get(place)?.checked_sub(1)
     }
 }
@@ -72,15 +80,4 @@ fn mixed(number: u64) -> u64 {
 /// One of so many slots, which are a power of two.
 fn slot_of(mixed: u64, slots: usize) -> usize {
     (mixed & (slots as u64).wrapping_sub(1)) as usize
-}
-
-/// How many slots serve for so many places: a power of two.
-fn slots(count: usize) -> usize {
-    let mut slots = 1usize;
-    for _ in 0..40 {
-        if slots / 2 < count {
-            slots = slots.saturating_mul(2);
-        }
-    }
-    slots
 }

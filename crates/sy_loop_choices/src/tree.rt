@@ -1,5 +1,5 @@
 // Trees of conditions over leaves.
-use crate::gathered::{Condition, Gathered, Leaf};
+use crate::gathered::{Gathered, Part};
 use std::alloc::Global;
 use sy_seq::Want;
 
@@ -7,7 +7,7 @@ use sy_seq::Want;
 const MOST_BRANCHES: usize = 256;
 
 /// A leaf's number; or a condition's, with the places of the branches where it holds and where it doesn't.
-#[derive(Clone, Copy)]
+#[derive(Drop)]
 pub(crate) enum Branch {
     Leaf(usize),
     Test {
@@ -26,7 +26,7 @@ pub(crate) struct Tree {
 }
 
 /// How well a condition parts points: what is left mixed on its sides is `mixed / sizes`.
-#[derive(Clone, Copy)]
+#[derive(Drop)]
 struct Split {
     mixed: u64,
     sizes: u64,
@@ -35,7 +35,7 @@ struct Split {
 
 impl Split {
     /// The condition's split of these points, some of which are good; `None` where all go to one side.
-    fn of(condition: &Condition, points: u128, good: u128) -> Option<Split> {
+    fn of(condition: &Part, points: u128, good: u128) -> Option<Split> {
         let there = condition.row & points;
         let here = points ^ there;
         if there == 0 || here == 0 {
@@ -69,7 +69,7 @@ fn mixed(points: u128, good: u128) -> (u64, u64) {
 }
 
 /// The number of the leaf that is good at the most of the points, the smallest of such; `None` where none is good at any.
-fn widest(leaves: &[Leaf], points: u128) -> Option<usize> {
+fn widest(leaves: &[Part], points: u128) -> Option<usize> {
     let mut best = None;
     let mut most = 0u32;
     let mut least = 0u32;
@@ -85,13 +85,13 @@ fn widest(leaves: &[Leaf], points: u128) -> Option<usize> {
 }
 
 /// The number of the condition that best parts the points from the good ones among them; `None` where none parts them.
-fn sharpest(conditions: &[Condition], points: u128, good: u128) -> Option<usize> {
+fn sharpest(conditions: &[Part], points: u128, good: u128) -> Option<usize> {
     let mut best: Option<Split> = None;
     let mut number = None;
     for (place, condition) in conditions.iter().enumerate() {
         if let Some(split) = Split::of(condition, points, good) {
-            let better = match best {
-                Some(least) => split.is_better(&least),
+            let better = match &best {
+                Some(least) => split.is_better(least),
                 None => true,
             };
             if better {
@@ -120,7 +120,7 @@ pub(crate) fn tree_of(alloc: Global, gathered: &Gathered) -> Result<Option<Tree>
             return Ok(Some(tree));
         };
         let points = *points;
-        let Some(leaf) = widest(gathered.leaves.as_slice(), points) else {
+        let Some(leaf) = widest(gathered.leaves.list.as_slice(), points) else {
             return Ok(None);
         };
         if !tree.grow(gathered, points, leaf, &mut sets)? {
@@ -139,7 +139,7 @@ impl Tree {
         leaf: usize,
         sets: &mut Vec<u128>,
     ) -> Result<bool, Want> {
-        let Some(found) = gathered.leaves.get(leaf) else {
+        let Some(found) = gathered.leaves.list.get(leaf) else {
             return Ok(false);
         };
         if found.row & points == points {
@@ -147,10 +147,11 @@ impl Tree {
             self.branches.push(Branch::Leaf(leaf))?;
             return Ok(true);
         }
-        let Some(condition) = sharpest(gathered.conditions.as_slice(), points, found.row) else {
+        let Some(condition) = sharpest(gathered.conditions.list.as_slice(), points, found.row)
+        else {
             return Ok(false);
         };
-        let Some(test) = gathered.conditions.get(condition) else {
+        let Some(test) = gathered.conditions.list.get(condition) else {
             return Ok(false);
         };
         self.size = self.size.saturating_add(test.size);

@@ -1,8 +1,7 @@
 // Trees as plans.
-use crate::bits::{Bits, bits_of};
-use crate::choosers::Chooser;
+use crate::bits::bits_of;
 use crate::columns::Rules;
-use crate::gathered::{Gathered, Made};
+use crate::gathered::{Gathered, Made, Part, Role};
 use crate::plan::{Node, Plan};
 use crate::search::Search;
 use crate::tree::{Branch, Tree};
@@ -23,7 +22,7 @@ pub(crate) fn written<R: Rules>(
     let mut numbers = Vec::from_elem(search.alloc, 0, count)?;
     for place in (0..count).rev() {
         if let Some(branch) = tree.branches.get(place) {
-            let number = push_branch(search, gathered, branch, &numbers, &mut plan)?;
+            let number = push_branch(search, gathered, branch, numbers.as_slice(), &mut plan)?;
             if let Some(slot) = numbers.get_mut(place) {
                 *slot = number;
             }
@@ -37,107 +36,87 @@ fn push_branch<R: Rules>(
     search: &Search<R>,
     gathered: &Gathered,
     branch: &Branch,
-    numbers: &Vec<usize>,
+    numbers: &[usize],
     plan: &mut Plan,
 ) -> Result<usize, Want> {
-    match branch {
-        Branch::Leaf(leaf) => match gathered.leaves.get(*leaf) {
-            Some(leaf) => push_made(search, &leaf.made, 0, plan),
-            None => Ok(0),
-        },
+    let (part, yes, no) = match branch {
+        Branch::Leaf(leaf) => (gathered.leaves.list.get(*leaf), 0, 0),
         Branch::Test { condition, yes, no } => {
-            let Some(condition) = gathered.conditions.get(*condition) else {
-                return Ok(0);
-            };
-            let Some(chooser) = search.choosers.get(condition.chooser) else {
-                return Ok(0);
-            };
-            let yes = numbers.get(*yes).copied().unwrap_or(0);
-            let no = numbers.get(*no).copied().unwrap_or(0);
-            let others = push_others(search, chooser, &condition.made, plan)?;
-            let parts = chooser.placed(search.alloc, yes, no, others.as_slice())?;
-            plan.push_rule(chooser.shape, parts)
+            (gathered.conditions.list.get(*condition), *yes, *no)
         }
-    }
+    };
+    let Some(part) = part else {
+        return Ok(0);
+    };
+    let others = push_part(search, gathered.all, part, plan)?;
+    let Role::Condition(chooser) = part.role else {
+        return Ok(others.get(0).copied().unwrap_or(0));
+    };
+    let Some(chooser) = search.choosers.get(chooser) else {
+        return Ok(0);
+    };
+    let yes = numbers.get(yes).copied().unwrap_or(0);
+    let no = numbers.get(no).copied().unwrap_or(0);
+    let parts = chooser.placed(search.alloc, yes, no, others.as_slice())?;
+    plan.push_rule(chooser.shape, parts)
 }
 
-/// Appends the other parts of a chooser. Their steps' numbers.
-fn push_others<R: Rules>(
+/// Appends what the part is made of. The numbers of its last steps.
+fn push_part<R: Rules>(
     search: &Search<R>,
-    chooser: &Chooser,
-    made: &Made,
+    all: u128,
+    part: &Part,
     plan: &mut Plan,
 ) -> Result<Vec<usize>, Want> {
     let mut numbers = Vec::new(search.alloc);
-    match (made, chooser.others.as_slice()) {
-        (Made::Two(first, second), [one, two]) => {
-            numbers.push(plan.push_kept(*one, *first)?)?;
-            numbers.push(plan.push_kept(*two, *second)?)?;
+    let pools = search.pools(part.role);
+    match part.made {
+        Made::Kept(number) => {
+            let places = search.places(pools, number)?;
+            for (pool, place) in pools.iter().zip(places.as_slice()) {
+                numbers.push(plan.push_kept(*pool, *place)?)?;
+            }
         }
-        (Made::Three(first, second, third), [one, two, three]) => {
-            numbers.push(plan.push_kept(*one, *first)?)?;
-            numbers.push(plan.push_kept(*two, *second)?)?;
-            numbers.push(plan.push_kept(*three, *third)?)?;
-        }
-        (_, [pool]) => numbers.push(push_made(search, made, *pool, plan)?)?,
-        _ => {}
-    }
-    Ok(numbers)
-}
-
-/// Appends what is made of kept terms of this pool. The last step's number.
-fn push_made<R: Rules>(
-    search: &Search<R>,
-    made: &Made,
-    pool: u32,
-    plan: &mut Plan,
-) -> Result<usize, Want> {
-    match made {
         Made::Rule {
             shape,
             first,
             second,
         } => {
             let mut parts = Vec::new(search.alloc);
-            if let [one] = search.task.operands(*shape) {
-                parts.push(plan.push_kept(*one, *first)?)?;
-            } else if let [one, two] = search.task.operands(*shape) {
-                parts.push(plan.push_kept(*one, *first)?)?;
-                parts.push(plan.push_kept(*two, *second)?)?;
+            let places = [first, second];
+            for (pool, place) in search.task.operands(shape).iter().zip(places.as_slice()) {
+                parts.push(plan.push_kept(*pool, *place)?)?;
             }
-            plan.push_rule(*shape, parts)
+            numbers.push(plan.push_rule(shape, parts)?)?;
         }
-        Made::Bit { place, bit } => match bits_of(search, pool)? {
-            Some(bits) => push_bit(search, &bits, pool, (*place, *bit), plan),
-            None => Ok(0),
-        },
-        Made::Kept(place) | Made::Two(place, _) | Made::Three(place, _, _) => {
-            plan.push_kept(pool, *place)
+        Made::Bit { place, bit } => {
+            let pool = pools.get(0).copied().unwrap_or(0);
+            numbers.push(push_bit(search, all, pool, (place, bit), plan)?)?;
         }
     }
+    Ok(numbers)
 }
 
 /// Appends the bit of the kept term. The last step's number.
 fn push_bit<R: Rules>(
     search: &Search<R>,
-    bits: &Bits,
+    all: u128,
     pool: u32,
     told: (usize, u32),
     plan: &mut Plan,
 ) -> Result<usize, Want> {
+    let Some(bits) = bits_of(search, pool, all)? else {
+        return Ok(0);
+    };
     let mut number = plan.push_kept(pool, told.0)?;
     let mut left = told.1;
     for _ in 0..told.1 {
-        let Some(way) = bits.way(left) else {
-            break;
-        };
-        if left == 0 {
-            break;
+        if let (true, Some(way)) = (left > 0, bits.way(left)) {
+            let mut parts = Vec::new(search.alloc);
+            parts.push(number)?;
+            number = plan.push_rule(way.shape, parts)?;
+            left = left.saturating_sub(way.by);
         }
-        let mut parts = Vec::new(search.alloc);
-        parts.push(number)?;
-        number = plan.push_rule(way.shape, parts)?;
-        left = left.saturating_sub(way.by);
     }
     let mut parts = Vec::new(search.alloc);
     parts.push(plan.push_kept(pool, bits.one)?)?;
@@ -147,14 +126,14 @@ fn push_bit<R: Rules>(
 
 impl Plan {
     /// Appends a kept term. Its step's number.
-    fn push_kept(&mut self, pool: u32, place: usize) -> Result<usize, Want> {
+    pub(crate) fn push_kept(&mut self, pool: u32, place: usize) -> Result<usize, Want> {
         let number = self.nodes.len();
         self.nodes.push(Node::Kept { pool, place })?;
         Ok(number)
     }
 
     /// Appends a rule over steps of these numbers. Its step's number.
-    fn push_rule(&mut self, shape: usize, parts: Vec<usize>) -> Result<usize, Want> {
+    pub(crate) fn push_rule(&mut self, shape: usize, parts: Vec<usize>) -> Result<usize, Want> {
         let number = self.nodes.len();
         self.nodes.push(Node::Rule { shape, parts })?;
         Ok(number)

@@ -1,6 +1,6 @@
 // What is wanted below operations.
+use crate::trials::Operation;
 use std::alloc::Global;
-use sy_loop_choices::Operation;
 use sy_seq::Want;
 
 /// How many bits of a value have to be known.
@@ -133,17 +133,12 @@ impl Target {
     }
 
     /// The bits that are known of a value.
-    pub(crate) fn known(&self, wanted: &Wanted) -> u64 {
+    fn known(&self, wanted: &Wanted) -> u64 {
         if self.masked {
             wanted.known
         } else {
-            self.high_bits()
+            self.high(self.greatest).checked_shl(self.open).unwrap_or(0)
         }
-    }
-
-    /// All bits but the lowest, open ones.
-    fn high_bits(&self) -> u64 {
-        self.high(self.greatest).checked_shl(self.open).unwrap_or(0)
     }
 
     /// These values, with what the operation leaves open besides; `None` where it can't be turned round here.
@@ -184,14 +179,25 @@ impl Target {
         }
     }
 
-    /// Whether these values serve, one at each point.
-    pub(crate) fn is_met_by(&self, values: &[u64]) -> bool {
-        for (wanted, value) in self.points.iter().zip(values) {
-            if !self.serves(wanted, *value) {
+    /// Whether these values of two kept terms, joined, serve at each point.
+    pub(crate) fn is_met_by(&self, operation: Operation, first: &[u64], second: &[u64]) -> bool {
+        for ((wanted, x), y) in self.points.iter().zip(first).zip(second) {
+            if !self.serves(wanted, operation.value(self.greatest, *x, *y)) {
                 return false;
             }
         }
         true
+    }
+
+    /// What a kept term of this value at the first point is looked up by: the bits that aren't open.
+    pub(crate) fn key(&self, value: u64) -> u64 {
+        if !self.masked {
+            return self.high(value);
+        }
+        match self.points.get(0) {
+            Some(wanted) => value & wanted.known,
+            None => value,
+        }
     }
 
     /// Whether a conjunction or disjunction of the value and another one may be what is wanted.
@@ -204,7 +210,7 @@ impl Target {
     }
 
     /// The value without the open bits.
-    pub(crate) fn high(&self, value: u64) -> u64 {
+    fn high(&self, value: u64) -> u64 {
         value.checked_shr(self.open).unwrap_or(0)
     }
 
