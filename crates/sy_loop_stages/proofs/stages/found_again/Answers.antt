@@ -1,7 +1,7 @@
 use Rattle.std.proofs.Common.{inr}
 use Rattle.sy_loop_stages.proofs.stages.found_again.Goals as goal
 
-pub returns-in-Some : goal.returns-in-Some
-returns-in-Some g c =
-    let found = rw (c.in-Some.is, c.max.ensures) at c.in_ok-found.ensures in
+pub returns-in-Some-found : goal.returns-in-Some-found
+returns-in-Some-found g c =
+    let found = rw (c.in-Some-found.is, c.max.ensures) at c.in_ok-found.ensures in
     (found.0, inr (record { stopped = c.requires.stopped; within = found.1 }))
