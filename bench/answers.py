@@ -3,18 +3,18 @@
 
     bench/answers.py [--sygus PROGRAM] [--limit SECONDS] [--cvc5 TIMES] [--judge] [FILE ..]
 
-Without files it takes those of examples/, with its folders advice and gallery, and of bench/problems/. Without
---sygus it builds the program by ./sygus. Each run has a limit of processor seconds, 20 without --limit, and 6 GB. A
-comment line `; words: WORDS` of a file holds words for `sygus`, as `--size 15`. Each answer of `sygus` is checked: it
-is definitions of the functions of the file, in order, with their arguments and sorts; and where z3 is installed, z3
-finds no values at which they violate the problem. A line `; answer: fail CAUSE` says that no definitions are wanted,
-and why; so does `; answer: infeasible`. A line `; leaves: N` has the least number of leaves that is known of the
-conditional trees of an answer, beside which that of `sygus` is shown. At the end stand the counts and times of each
-class of problems, and the problems that cvc5 alone answers, with what `sygus` says. With --cvc5 the times of cvc5
-stand in that file of JSON: those that are there aren't taken again, and the others are added. With --judge mode
-`check` judges the answers of both, beside z3: at the end stand how many hold, are refuted, aren't in the grammar, or
-aren't decided, and whether z3 says the same; a body outside a default grammar is judged again as a rule of its own.
-The status is 1 where an answer is wrong, and with --judge where z3 says otherwise.
+Without files it takes those of examples/, with its folders advice and gallery, and of bench/problems/. Without --sygus
+it builds the program by ./sygus. Each run has a limit of processor seconds, 20 without --limit, and 6 GB. A comment
+line `; words: WORDS` of a file holds words for `sygus`, as `--size 15`. Each answer of `sygus` is checked: it is
+definitions of the functions of the file, in order, with their arguments and sorts; and where z3 is installed, z3 finds
+no values at which they violate the problem; what z3 doesn't decide in a minute is told. A line `; answer: fail CAUSE`
+says that no definitions are wanted, and why; so does `; answer: infeasible`. A line `; leaves: N` has the least number
+of leaves that is known of the conditional trees of an answer, beside which that of `sygus` is shown. At the end stand
+the counts and times of each class of problems, and the problems that cvc5 alone answers, with what `sygus` says. With
+--cvc5 the times of cvc5 stand in that file of JSON: those that are there aren't taken again, and the others are added.
+With --judge mode `check` judges the answers of both, beside z3: at the end stand how many hold, are refuted, aren't in
+the grammar, or aren't decided, and whether z3 says the same; a body outside a default grammar is judged again as a rule
+of its own. The status is 1 where an answer is wrong, and with --judge where z3 says otherwise.
 """
 import argparse
 import collections
@@ -55,6 +55,10 @@ CLASSES = [
     ("bench/problems/", "identities"),
     ("", "others"),
 ]
+
+# How long z3 may take for an answer, and what it says where it doesn't decide it, as of a quotient and a product.
+Z3_SECONDS = 60
+UNDECIDED = ("timeout", "unknown")
 
 
 class Problem:
@@ -117,6 +121,9 @@ class Problem:
         if not shutil.which("z3"):
             return None
         found = self.violated(reply)
+        if found in UNDECIDED:
+            print(f"z3 doesn't decide whether these hold: {write_item(reply)[:200]}", file=sys.stderr)
+            return None
         return None if found == "unsat" else f"z3: {found}"
 
     def violated(self, reply):
@@ -126,7 +133,7 @@ class Problem:
         lines += [f"(assert {write_item(term)})" for term in self.assumed]
         wanted = ["and", "true", *self.wanted]
         lines += [f"(assert (not {write_item(called(wanted, self.arguments))}))", "(check-sat)"]
-        found = subprocess.run(["z3", "-in", "-T:300"], input="\n".join(lines), capture_output=True, text=True).stdout
+        found = subprocess.run(["z3", "-in", f"-T:{Z3_SECONDS}"], input="\n".join(lines), capture_output=True, text=True).stdout
         return found.strip()[:60]
 
 

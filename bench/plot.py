@@ -11,7 +11,8 @@ prints into the table's file:
     bench/plot.py --anew -- --limit 5 --cvc5 times.json
 
 A file is of the kind `invariants` where it has an inv-constraint, `examples` where it declares no variable, else of its
-logic. A time that the table rounds to 0 is drawn as 0.01. It takes gnuplot (apt-get install gnuplot-nox).
+logic; those whose comment says that no definitions are wanted aren't drawn. A time that the table rounds to 0 is drawn
+as 0.01. It takes gnuplot (apt-get install gnuplot-nox).
 """
 import pathlib
 import re
@@ -19,7 +20,7 @@ import shutil
 import subprocess
 import sys
 
-from runs import TOP, name_of, problems, text_of
+from runs import TOP, line_of, name_of, problems, text_of
 
 sys.path.insert(0, f"{TOP}/tools")
 from sygus_client import Missing, Parser, as_command, say
@@ -173,7 +174,8 @@ def main():
     if not given.table.is_file():
         say(f"plot.py: {given.table}: there is no table; --anew measures one")
         return 2
-    rows = rows_of(given.table.read_text(), {name_of(file): text_of(file) for file in reversed(problems([]))})
+    texts = {name_of(file): text_of(file) for file in reversed(problems([]))}
+    rows = rows_of(given.table.read_text(), {name: text for name, text in texts.items() if not line_of(text, "answer")})
     if not rows:
         say(f"plot.py: {given.table}: there is no row of a problem that was answered")
         return 2
