@@ -1,15 +1,15 @@
 #!/usr/bin/env python3
-"""Runs `sygus` on problems whose banks fill before their solutions are found, and prints how many are answered.
+"""Runs `sygus` on problems of kinds whose banks are apt to fill before a solution is found, and prints how many are answered.
 
     bench/stages.py [--sygus PROGRAM] [--limit SECONDS] [--cvc5] [--write FOLDER] [FAMILY ..]
 
 The families, over vectors of 16 and 32 bits and over integers, each by the default grammar and by a small one:
 
-    ring       invariants of a buffer of K places, which is filled and emptied by turns
+    ring       invariants of a buffer of ten places, which is filled and emptied by turns
     counters   invariants of two numbers that a loop moves at once
     search     invariants of the two bounds of a binary search
     tricks     functions of masks and shifts, over 16 and 32 bits, by a grammar of ten operators
-    tables     functions given by 30 to 50 rows
+    tables     functions given by 40 rows, by the default grammar alone
 
 Each file runs once with so many processor seconds, 20 without --limit; --cvc5 runs cvc5 beside it. --write puts the
 files into a folder and runs nothing. The problems are always the same. The status is 1 where fewer than a third are
