@@ -16,9 +16,3 @@ solve_beyond-requires-clause-bank g c =
     one_bank (question_of number problem) limits.size limits.rounds limits.bank (history_of number c.in-Bank.field-0)
     c.in-Bank.field-1 (merged_of number c.in-Bank.bank) c.in-Bank.field-3 (entry_of number c.in-Bank.field-4)
     (omega (arith, c.requires.one, length-map problem.wanted (goal_of number))) holds
-
-pub returns-in-Some : goal.returns-in-Some
-returns-in-Some g c = rw c.in-Some.is at c.in_ok-own.ensures.found
-
-pub returns-in-Some-2 : goal.returns-in-Some-2
-returns-in-Some-2 g c = rw c.in-Some-2.is at c.in_ok-found.ensures.found
