@@ -4,7 +4,7 @@ ghost use Rattle.sy_grammar_base.specs.Fits.{ProblemFits};
 
 use crate::ways::{WORDS, Way, Word, pair};
 use sy_bank_level::Bank;
-use sy_loop_atoms::{Atoms, Statements};
+use sy_loop_atoms::{Atoms, Setting, Statements};
 use sy_loop_bodies::{Task, is_small};
 use sy_loop_learn::{Class, Learner, Traits};
 use sy_terms::{Term, Theory, Values, Want};
@@ -48,8 +48,8 @@ impl<T: Theory> Learning<T> {
         requires problem { ProblemFits T.Theory task.now.problem.now }
         requires one { length task.now.problem.now.wanted ≡ 1 }
     {
-        let statements = Statements::new(task)?;
-        let atoms = Atoms::new(task, &statements)?;
+        let statements = Statements::new(task.alloc, task.problem)?;
+        let atoms = Atoms::new(&setting_of(task), &statements)?;
         let disjunction = disjunction_of(task, &atoms)?;
         let learner = Learner::new(task.alloc, disjunction.is_some());
         let mut learning = Learning {
@@ -119,7 +119,7 @@ impl<T: Theory> Learning<T> {
     {
         let mut columns = Vec::with_capacity(task.alloc, self.tuples.len())?;
         for tuple in &self.tuples {
-            let truths = self.atoms.truths(task, tuple.as_slice(), from)?;
+            let truths = self.atoms.truths::<T>(task.alloc, tuple.as_slice(), from)?;
             columns.push(truths)?;
         }
         Ok(columns)
@@ -150,7 +150,7 @@ impl<T: Theory> Learning<T> {
             MOST_EQUALITIES
         };
         self.atoms
-            .add_hull(task, self.tuples.as_slice(), insides.as_slice(), most)?;
+            .add_hull(&setting_of(task), self.tuples.as_slice(), insides.as_slice(), most)?;
         self.take_literals(task)
     }
 
@@ -202,7 +202,7 @@ impl<T: Theory> Learning<T> {
     {
         for (point, tuple) in self.tuples.iter().enumerate() {
             if let Some(label) = self.learner.label(point) {
-                let truths = self.atoms.truths(task, tuple.as_slice(), 0)?;
+                let truths = self.atoms.truths::<T>(task.alloc, tuple.as_slice(), 0)?;
                 if holds(truths.as_slice(), formula) != label {
                     return Ok(true);
                 }
@@ -233,15 +233,15 @@ impl<T: Theory> Learning<T> {
     {
         match self.learner.class() {
             Class::Pairs => {
-                self.atoms.add_forms(task)?;
+                self.atoms.add_forms(&setting_of(task))?;
                 if let Some(bank) = bank {
-                    self.atoms.add_kept(task, bank)?;
+                    self.atoms.add_kept(&setting_of(task), bank)?;
                 }
             }
             Class::Bounds => {
                 let insides = self.insides(task)?;
                 self.atoms
-                    .add_bounds(task, self.tuples.as_slice(), insides.as_slice())?;
+                    .add_bounds(&setting_of(task), self.tuples.as_slice(), insides.as_slice())?;
             }
             Class::Narrow | Class::Singles | Class::Triples => return Ok(()),
         }
@@ -294,7 +294,7 @@ fn disjunction_of<T: Theory>(task: &Task<T>, atoms: &Atoms) -> Result<Option<Wor
     requires one { length task.now.problem.now.wanted ≡ 1 }
 {
     for word in WORDS {
-        let (Some(first), Some(second)) = (atoms.term(task, 0)?, atoms.term(task, 1)?) else {
+        let (Some(first), Some(second)) = (atoms.term::<T>(task.alloc, 0)?, atoms.term::<T>(task.alloc, 1)?) else {
             return Ok(None);
         };
         let either = pair(task.alloc, word, false, first, second)?;
@@ -304,4 +304,13 @@ fn disjunction_of<T: Theory>(task: &Task<T>, atoms: &Atoms) -> Result<Option<Wor
         }
     }
     Ok(None)
+}
+
+/// The problem and bound.
+pub(crate) fn setting_of<'a, T: Theory>(task: &'a Task<T>) -> Setting<'a, T> {
+    Setting {
+        alloc: task.alloc,
+        problem: task.problem,
+        bound: task.bound,
+    }
 }

@@ -45,7 +45,7 @@ impl<T: Theory> Learning<T> {
         self.work = self.work.saturating_sub(self.statements.nodes());
         let conditions = self
             .statements
-            .conditions_at(task, values, &mut self.tuples)?;
+            .conditions_at::<T>(values, &mut self.tuples)?;
         self.take_points(task)?;
         for condition in &conditions {
             self.take_condition(task, condition.as_slice(), asked)?;
@@ -59,7 +59,7 @@ impl<T: Theory> Learning<T> {
     {
         let known = self.learner.points();
         for tuple in self.tuples.iter().skip(known) {
-            let truths = self.atoms.truths(task, tuple.as_slice(), 0)?;
+            let truths = self.atoms.truths::<T>(task.alloc, tuple.as_slice(), 0)?;
             self.learner.add_point(truths.as_slice());
         }
         Ok(())

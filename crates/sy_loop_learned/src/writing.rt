@@ -3,6 +3,7 @@ ghost use Rattle.sy_grammar_base.specs.Fits.{ProblemFits};
 
 use crate::grouping::{Group, grouped, ranked};
 use crate::ways::{Way, joined};
+use crate::learning::setting_of;
 use sy_loop_atoms::Atoms;
 use sy_loop_bodies::Task;
 use sy_terms::{Term, Theory, Value, Want};
@@ -51,7 +52,7 @@ fn group_term<T: Theory>(
     let Some(shared) = group.shared else {
         return Ok(Some(rest));
     };
-    let Some(term) = atoms.term(task, shared)? else {
+    let Some(term) = atoms.term::<T>(task.alloc, shared)? else {
         return Ok(None);
     };
     let mut sides = Vec::with_capacity(task.alloc, 2)?;
@@ -70,7 +71,7 @@ fn clause_term<T: Theory>(
 ) -> Result<Option<Term<T>>, Want> {
     let mut terms = Vec::with_capacity(task.alloc, clause.len())?;
     for literal in clause {
-        match atoms.term(task, *literal)? {
+        match atoms.term::<T>(task.alloc, *literal)? {
             Some(term) => terms.push(term)?,
             None => return Ok(None),
         }
@@ -126,7 +127,7 @@ fn equality_of<T: Theory>(
     requires { ProblemFits T.Theory task.now.problem.now }
 {
     match clause {
-        [other] => atoms.joined(task, *other, literal),
+        [other] => atoms.joined(&setting_of(task), *other, literal),
         _ => Ok(None),
     }
 }
