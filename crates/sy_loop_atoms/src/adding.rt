@@ -54,7 +54,8 @@ impl Atoms {
         write_sum(setting, &mut self.sides, pool, kind, sum)
     }
 
-    /// The comparison and its negation, added where they are new and the grammar has them, each as the contrary of the other.
+    /// The comparison and its negation, added where they are new and the grammar has them, each as the contrary of the
+    /// other.
     pub(crate) fn add_both<T: Theory>(
         &mut self,
         setting: &Setting<T>,
@@ -134,8 +135,8 @@ impl Atoms {
     }
 }
 
-/// Writes the comparison of the sum with 0 in the smallest way that the grammar has, and answers its size; `None` where it has
-/// none.
+/// Writes the comparison of the sum with 0 in the smallest way that the grammar has, and answers its size; `None` where
+/// it has none.
 fn write_sum<T: Theory>(
     setting: &Setting<T>,
     sides: &mut Sides,
@@ -154,7 +155,8 @@ fn write_sum<T: Theory>(
     write_best(setting, sides, Relation::Less, Order::Integers)
 }
 
-/// Writes the relation of the sides in the smallest way that the grammar has, and answers its size; `None` where it has none.
+/// Writes the relation of the sides in the smallest way that the grammar has, and answers its size; `None` where it has
+/// none.
 pub(crate) fn write_best<T: Theory>(
     setting: &Setting<T>,
     sides: &mut Sides,

@@ -95,7 +95,8 @@ impl Atoms {
         term_of::<T>(alloc, self.table.said(literal))
     }
 
-    /// The literal of the equality that two bounds from both sides say together, maybe a new one; `None` where they aren't such.
+    /// The literal of the equality that two bounds from both sides say together, maybe a new one; `None` where they
+    /// aren't such.
     pub fn joined<T: Theory>(
         &mut self,
         setting: &Setting<T>,

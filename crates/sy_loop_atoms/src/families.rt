@@ -9,6 +9,9 @@ use sy_terms::{Sort, Theory, Want};
 /// How many pairs of vectors are compared.
 const MOST_PAIRS: u32 = 60;
 
+/// How many arguments there are at most where sums of three are compared.
+const MOST_SUMMED: usize = 6;
+
 /// Numbers that nobody writes: a factor and a constant.
 const STRANGE_FACTOR: i128 = 7_919;
 
@@ -31,8 +34,8 @@ impl Atoms {
         Ok(())
     }
 
-    /// Sees whether the grammar seems to have all comparisons of sums and their negations: it has those of one sum of all
-    /// integer arguments with numbers that nobody writes.
+    /// Sees whether the grammar seems to have all comparisons of sums and their negations: it has those of one sum of
+    /// all integer arguments with numbers that nobody writes.
     pub(crate) fn see_grammar<T: Theory>(&mut self, setting: &Setting<T>) -> Result<(), Want>
         requires { ProblemFits T.Theory setting.now.problem.now }
     {
@@ -134,13 +137,13 @@ impl Atoms {
         Ok(())
     }
 
-    /// Adds comparisons of sums of three and four arguments, and of two with other factors, where there are few arguments
-    /// and the grammar has all comparisons.
+    /// Adds comparisons of sums of three arguments, and of two with other factors, where there are few arguments and
+    /// the grammar has all comparisons.
     pub fn add_forms<T: Theory>(&mut self, setting: &Setting<T>) -> Result<(), Want>
         requires { ProblemFits T.Theory setting.now.problem.now }
     {
         let count = self.shape.sorts.len();
-        if !self.free || count > 8 {
+        if !self.free || count > MOST_SUMMED {
             return Ok(());
         }
         for x in 0..count {
@@ -148,14 +151,15 @@ impl Atoms {
                 self.add_doubles(setting, x, y)?;
                 self.add_doubles(setting, y, x)?;
                 for z in 0..y {
-                    self.add_threes(setting, [z, y, x], count <= 6)?;
+                    self.add_threes(setting, [z, y, x])?;
                 }
             }
         }
         Ok(())
     }
 
-    /// Adds comparisons of the sum of one argument and a multiple of another: by 2, and by up to eight integers of the pool.
+    /// Adds comparisons of the sum of one argument and a multiple of another: by 2, and by up to eight integers of the
+    /// pool.
     fn add_doubles<T: Theory>(
         &mut self,
         setting: &Setting<T>,
@@ -175,24 +179,17 @@ impl Atoms {
         Ok(())
     }
 
-    /// Adds comparisons of sums and differences of the three arguments, and of these and one before them.
+    /// Adds comparisons of sums and differences of the three arguments.
     fn add_threes<T: Theory>(
         &mut self,
         setting: &Setting<T>,
         places: [usize; 3],
-        plain: bool,
     ) -> Result<(), Want>
         requires { ProblemFits T.Theory setting.now.problem.now }
     {
         let [z, y, x] = places;
         for (a, b) in [(-1, -1), (1, -1), (-1, 1), (1, 1)] {
-            if plain {
-                self.add_plain(setting, &[(z, 1), (y, a), (x, b)], &[0, 1, -1])?;
-            }
-            for w in 0..z {
-                self.add_plain(setting, &[(w, 1), (z, 1), (y, a), (x, b)], &[0])?;
-                self.add_plain(setting, &[(w, 1), (z, -1), (y, a), (x, b)], &[0])?;
-            }
+            self.add_plain(setting, &[(z, 1), (y, a), (x, b)], &[0, 1, -1])?;
         }
         Ok(())
     }

@@ -8,8 +8,8 @@ use sy_loop_statements::{Opening, Statements};
 use sy_terms::{Op, Sort, Theory, Want};
 
 impl Atoms {
-    /// What says that the term over the arguments is true, and what says that it is false. The clauses of two to four literals
-    /// that are in it are kept.
+    /// What says that the term over the arguments is true, and what says that it is false. The clauses of two to four
+    /// literals that are in it are kept.
     pub(crate) fn formulas<T: Theory>(
         &mut self,
         setting: &Setting<T>,
@@ -84,8 +84,8 @@ impl Atoms {
         Ok(Both::of(plain, negation))
     }
 
-    /// Keeps the formulas to begin with: what a call has to imply, of all statements with one call and of each; and what has
-    /// to imply it.
+    /// Keeps the formulas to begin with: what a call has to imply, of all statements with one call and of each; and
+    /// what has to imply it.
     pub(crate) fn add_goals<T: Theory>(
         &mut self,
         setting: &Setting<T>,

@@ -1,4 +1,4 @@
-// Equalities and bounds that hold at all points inside.
+// Equalities that hold at all points inside.
 ghost use Rattle.sy_grammar_base.specs.Fits.{ProblemFits};
 
 use crate::adding::write_best;
@@ -6,7 +6,9 @@ use crate::atoms::Atoms;
 use crate::setting::Setting;
 use std::alloc::Global;
 use sy_grammar_sizes::number_of;
-use sy_loop_literals::{Kind, Order, Relation, Sum, Traits, VectorSum, equalities_at, range_of, vector_sum_at};
+use sy_loop_literals::{
+    Kind, Order, Relation, Sum, Traits, VectorSum, equalities_at, vector_sum_at,
+};
 use sy_terms::{Sort, Theory, Values, Want};
 
 /// The greatest magnitude of an integer of a point that is looked at.
@@ -19,8 +21,8 @@ const LEAST_COEFFICIENT: i128 = 12;
 const VECTOR_SUMS: u32 = 6_561;
 
 impl Atoms {
-    /// Adds equalities of sums of arguments that hold at all tuples inside, the shortest first and at most so many; of integers
-    /// their bounds too.
+    /// Adds equalities of sums of arguments that hold at all tuples inside, the shortest first and at most so many; of
+    /// integers their bounds too.
     pub fn add_hull<T: Theory>(
         &mut self,
         setting: &Setting<T>,
@@ -62,30 +64,6 @@ impl Atoms {
         }
         self.add_both(setting, Kind::AtMost, sum, false)?;
         self.add_both(setting, Kind::AtMost, &sum.opposite(), false)?;
-        Ok(())
-    }
-
-    /// Adds the least and the greatest values at the tuples inside of sums of one and two arguments, as bounds.
-    pub fn add_bounds<T: Theory>(
-        &mut self,
-        setting: &Setting<T>,
-        tuples: &[Values<T>],
-        inside: &[bool],
-    ) -> Result<(), Want>
-        requires { ProblemFits T.Theory setting.now.problem.now }
-    {
-        self.left = self.left.max(400);
-        let sorts = self.shape.sorts.as_slice();
-        let rows = rows_of::<T>(setting.alloc, tuples, inside, sorts)?;
-        for place in 0..self.shape.sums.len() {
-            let sum = self.shape.sums[place];
-            if let Some((least, greatest)) = range_of(&sum, rows.as_slice()) {
-                let above = sum.plus(greatest.saturating_neg());
-                self.add_both(setting, Kind::AtMost, &above, false)?;
-                let below = sum.opposite().plus(least);
-                self.add_both(setting, Kind::AtMost, &below, false)?;
-            }
-        }
         Ok(())
     }
 

@@ -12,8 +12,8 @@ use sy_terms::{Op, Term, Theory, Want};
 const MOST_TERMS: usize = 2_500;
 
 impl Atoms {
-    /// Adds the kept terms of the start symbol that aren't made of others by `and`, `or` and the like, the smallest first, and
-    /// their negations.
+    /// Adds the kept terms of the start symbol that aren't made of others by `and`, `or` and the like, the smallest
+    /// first, and their negations.
     pub fn add_kept<T: Theory>(&mut self, setting: &Setting<T>, bank: &Bank<T>) -> Result<(), Want>
         requires { ProblemFits T.Theory setting.now.problem.now }
     {

@@ -67,22 +67,32 @@ fn push_applied<T: Theory>(
     for part in parts {
         terms.push(part)?;
     }
-    stack.push(Term::App(operator, terms))
+    stack.push(Term::App(operator, terms))?;
+    Ok(())
 }
 
-/// The size of the derivation of the tokens' term that is found; `None` where the start symbol doesn't derive it, or that one
-/// isn't within the bound.
-pub(crate) fn size_in<T: Theory>(setting: &Setting<T>, tokens: &[Token]) -> Result<Option<u32>, Want>
+/// The size of the tokens' term; `None` where the start symbol doesn't derive it within the bound.
+pub(crate) fn size_in<T: Theory>(
+    setting: &Setting<T>,
+    tokens: &[Token],
+) -> Result<Option<u32>, Want>
+    requires { ProblemFits T.Theory setting.now.problem.now }
+{
+    match term_of::<T>(setting.alloc, tokens)? {
+        Some(term) => term_size(setting, &term),
+        None => Ok(None),
+    }
+}
+
+/// The size of the derivation of the term that is found; `None` where the start symbol doesn't derive it, or that one isn't
+/// within the bound.
+fn term_size<T: Theory>(setting: &Setting<T>, term: &Term<T>) -> Result<Option<u32>, Want>
     requires { ProblemFits T.Theory setting.now.problem.now }
 {
     let Some(wanted) = setting.problem.wanted.get(0) else {
         return Ok(None);
     };
-    let Some(term) = term_of::<T>(setting.alloc, tokens)? else {
-        return Ok(None);
-    };
-    let found = derive(setting.alloc, &wanted.grammar, 0, &term)?;
-    let Some(derivation) = found else {
+    let Some(derivation) = derive(setting.alloc, &wanted.grammar, 0, term)? else {
         return Ok(None);
     };
     let most = setting.bound.saturating_add(1);

@@ -17,8 +17,8 @@ struct Row {
     lead: usize,
 }
 
-/// At most so many sums of integer arguments that are 0 at all rows, the shortest first, with coefficients of at most this
-/// magnitude.
+/// At most so many sums of integer arguments that are 0 at all rows, the shortest first, with coefficients of at most
+/// this magnitude.
 pub fn equalities_at(
     alloc: Global,
     rows: &[Sum],
@@ -59,18 +59,8 @@ fn take_shortest(sums: &mut Vec<Sum>, greatest: u128) -> Option<Sum> {
     Some(found)
 }
 
-/// The least and the greatest value of the sum at the rows.
-pub fn range_of(sum: &Sum, rows: &[Sum]) -> Option<(i128, i128)> {
-    let first = sum.value(&rows.first()?.numbers[..WIDTH])?;
-    let mut range = (first, first);
-    for row in rows {
-        let value = sum.value(&row.numbers[..WIDTH])?;
-        range = (value.min(range.0), value.max(range.1));
-    }
-    Some(range)
-}
-
-/// Makes rows of the system of those, so that each has a column in which it alone has a number. What grows too large is left out.
+/// Makes rows of the system of those, so that each has a column in which it alone has a number. What grows too large is
+/// left out.
 fn reduce(rows: &[Sum], system: &mut Vec<Row>) -> Result<(), Want> {
     for row in rows {
         let mut rest = Some(*row);
@@ -123,7 +113,8 @@ fn without(sum: &Sum, other: &Sum, column: usize) -> Option<Sum> {
     Some(left.reduced())
 }
 
-/// Sums that are 0 at all rows of the system: one for each integer argument, and the constant, that no row has for its own.
+/// Sums that are 0 at all rows of the system: one for each integer argument, and the constant, that no row has for its
+/// own.
 fn solutions(system: &[Row], sorts: &[Sort], found: &mut Vec<Sum>) -> Result<(), Want> {
     for column in 0..17usize {
         let is_open = column == WIDTH || sorts.get(column) == Some(&Sort::Int);
@@ -186,8 +177,8 @@ fn combined(sums: &[Sum], first: usize, second: usize, factor: i128) -> Sum {
     sum.reduced()
 }
 
-/// How long the equality of the sum with 0 is: by how many numbers it has, and then by their magnitudes. The greatest of all
-/// where it has no coefficient, or one that is larger than this.
+/// How long the equality of the sum with 0 is: by how many numbers it has, and then by their magnitudes. The greatest
+/// of all where it has no coefficient, or one that is larger than this.
 fn length_of(sum: &Sum, greatest: u128) -> u128 {
     let mut length = if sum.numbers[WIDTH] == 0 {
         0u128

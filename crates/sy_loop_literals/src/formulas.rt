@@ -5,7 +5,8 @@ use sy_terms::{Op, Want};
 /// How many clauses a formula has at most.
 const MOST_CLAUSES: usize = 12;
 
-/// Clauses, all of which hold: each has the bits of its literals. Nothing where there are too many, or a part is no literal.
+/// Clauses, all of which hold: each has the bits of its literals. Nothing where there are too many, or a part is no
+/// literal.
 #[derive(Clone, Copy)]
 pub struct Formula {
     clauses: [u128; 12],

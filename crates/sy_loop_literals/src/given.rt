@@ -46,8 +46,8 @@ impl Given {
         Ok(())
     }
 
-    /// Keeps the formula as one to begin with where it says something and there are few: without the literals of clauses that
-    /// another clause makes needless, which has the contrary, and nothing else that isn't in the clause.
+    /// Keeps the formula as one to begin with where it says something and there are few: without the literals of
+    /// clauses that another clause makes needless, which has the contrary, and nothing else that isn't in the clause.
     pub fn keep_goal(&mut self, literals: &[Literal], formula: &Formula) -> Result<(), Want> {
         let says = !formula.slice().is_empty() && !formula.slice().contains(&0);
         if !formula.fits || !says || self.goals.len() >= MOST_GOALS {

@@ -111,7 +111,12 @@ impl Sides {
     pub fn take_vectors(&mut self, found: &VectorSum) -> Result<(), Want> {
         write_vectors(&found.sum, found.width, found.constant > 1, &mut self.first)?;
         let opposite = found.sum.opposite();
-        write_vectors(&opposite, found.width, found.constant == 1, &mut self.second)
+        write_vectors(
+            &opposite,
+            found.width,
+            found.constant == 1,
+            &mut self.second,
+        )
     }
 
     /// Writes the comparison of the sides in this way.
@@ -144,8 +149,8 @@ impl Sides {
         Ok(())
     }
 
-    /// Writes the comparison of the sum with 0 in a grammar that has all comparisons, and answers its size: a bound as the
-    /// negation of the one beyond it, where that is smaller.
+    /// Writes the comparison of the sum with 0 in a grammar that has all comparisons, and answers its size: a bound as
+    /// the negation of the one beyond it, where that is smaller.
     pub fn write_freely(&mut self, kind: Kind, sum: &Sum, pool: &[i128]) -> Result<u32, Want> {
         self.write_plainly(kind.relation(), sum, pool)?;
         let size = plain_size(self.written.as_slice(), pool);

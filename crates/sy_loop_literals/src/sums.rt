@@ -172,8 +172,8 @@ impl Sum {
         sum
     }
 
-    /// The sum with the least numbers whose comparison says the same over integers; an equality begins with a coefficient
-    /// above 0. `None` where the comparison always holds or never, or numbers are too large.
+    /// The sum with the least numbers whose comparison says the same over integers; an equality begins with a
+    /// coefficient above 0. `None` where the comparison always holds or never, or numbers are too large.
     pub fn least(&self, kind: Kind) -> Option<Sum> {
         let divisor = self.divisor(WIDTH);
         let constant = self.numbers[WIDTH];
@@ -303,11 +303,7 @@ pub fn common(a: u128, b: u128) -> u128 {
 }
 
 /// The term as a sum of integer arguments; `None` where it isn't one.
-pub(crate) fn sum_of(
-    alloc: Global,
-    tokens: &[Token],
-    sorts: &[Sort],
-) -> Result<Option<Sum>, Want> {
+pub(crate) fn sum_of(alloc: Global, tokens: &[Token], sorts: &[Sort]) -> Result<Option<Sum>, Want> {
     let mut stack = Vec::new(alloc);
     for token in tokens {
         let found = match token {

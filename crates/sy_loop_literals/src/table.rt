@@ -160,8 +160,8 @@ impl Table {
         }
     }
 
-    /// The literal of what is said, added where it is new; `None` where there is no room. Where it is a comparison of a sum, and
-    /// another way to write that was larger, it takes its place.
+    /// The literal of what is said, added where it is new; `None` where there is no room. Where it is a comparison of a
+    /// sum, and another way to write that was larger, it takes its place.
     pub fn add(
         &mut self,
         said: &[Token],

@@ -1,9 +1,9 @@
 // What statements say of labels of points, at values of the variables.
 use crate::opening::Opening;
-use sy_loop_literals::{Span, part};
 use crate::statements::Statements;
 use crate::values::value_of;
 use std::alloc::Global;
+use sy_loop_literals::{Span, part};
 use sy_terms::{Seq, Theory, Value, Values, Want, copied_values, same_values};
 
 /// How many points one statement may ask.
@@ -18,8 +18,8 @@ struct Clause {
 
 impl Statements {
     /// What the statements say of the function at these values of the variables: of each list one label holds in every
-    /// solution, that of a place in `tuples`, and whether it is inside. New tuples are put behind, each once. Where a list
-    /// is empty there is no solution. What asks too many points, or isn't computable, says nothing.
+    /// solution, that of a place in `tuples`, and whether it is inside. New tuples are put behind, each once. Where a
+    /// list is empty there is no solution. What asks too many points, or isn't computable, says nothing.
     pub fn conditions_at<T: Theory>(
         &self,
         values: &[Value<T::Num>],

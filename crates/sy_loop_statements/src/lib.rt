@@ -1,5 +1,5 @@
-// What constraints state of the one function to be found, as tokens; and what that says of its values at assignments. All is a
-// guide to a search: what is found by it is tested and proved afterwards.
+// What constraints state of the one function to be found, as tokens; and what that says of its values at assignments.
+// All is a guide to a search: what is found by it is tested and proved afterwards.
 #![tactic(auto)]
 
 mod conditions;

@@ -1,8 +1,8 @@
 // Terms as tokens, with their definitions and bindings written out.
-use sy_loop_literals::{NAMELESS, Span, Token, part};
 use std::alloc::Global;
 use sy_grammar_base::Problem;
 use sy_grammar_sizes::number_of;
+use sy_loop_literals::{NAMELESS, Span, Token, part};
 use sy_terms::{Fun, Sort, Term, Terms, Theory, Value, Want};
 
 /// How deep terms are opened, how many tokens are written at most, and how many calls there are.
@@ -86,7 +86,14 @@ fn open<T: Theory>(
             opening.tokens.push(Token::Apply(*operator, count))?;
             Ok(all)
         }
-        Term::Call(function, terms) => open_call(problem, spans, *function, terms, depth - 1, opening),
+        Term::Call(function, terms) => open_call(
+            problem,
+            spans,
+            *function,
+            terms,
+            depth - 1,
+            opening,
+        ),
         Term::Let(bound, inner) => {
             let mut longer = spans.to_vec(opening.alloc)?;
             if !bind(problem, spans, bound, depth - 1, opening, &mut longer)? {
@@ -169,8 +176,8 @@ impl Opening {
         self.calls.as_slice()
     }
 
-    /// The term with its variables named as the arguments of the call that they are; its one call is the truth, where there is
-    /// one.
+    /// The term with its variables named as the arguments of the call that they are; its one call is the truth, where
+    /// there is one.
     pub fn named_by(&self, call: &[Span], truth: Option<bool>) -> Result<Vec<Token>, Want> {
         let mut named = Vec::with_capacity(self.alloc, self.tokens.len())?;
         for token in &self.tokens {

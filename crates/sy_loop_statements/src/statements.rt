@@ -8,8 +8,9 @@ use sy_terms::{Op, Term, Terms, Theory, Want};
 /// How many tokens all statements have at most.
 const MOST_TOKENS: u64 = 200_000;
 
-/// What a problem's constraints state of the one function to be found, with definitions and bindings written out: each conjunct
-/// for itself, under the assumptions. What is too large or calls the function in arguments of itself is left out.
+/// What a problem's constraints state of the one function to be found, with definitions and bindings written out: each
+/// conjunct for itself, under the assumptions. What is too large or calls the function in arguments of itself is left
+/// out.
 #[derive(Drop)]
 pub struct Statements {
     pub(crate) items: Vec<Opening>,
@@ -44,7 +45,11 @@ impl Statements {
 
 /// Adds what the term states: each conjunct for itself.
 #[cycle(add)]
-fn add<T: Theory>(problem: &Problem<T>, term: &Term<T>, statements: &mut Statements) -> Result<(), Want> {
+fn add<T: Theory>(
+    problem: &Problem<T>,
+    term: &Term<T>,
+    statements: &mut Statements,
+) -> Result<(), Want> {
     match term {
         Term::App(operator, parts) => match operator {
             Op::And => add_all(problem, parts, statements),
@@ -81,7 +86,12 @@ fn add_one<T: Theory>(
         terms.push(assumption)?;
     }
     terms.push(term)?;
-    let found = opened(statements.alloc, problem, problem.vars.len(), terms.as_slice())?;
+    let found = opened(
+        statements.alloc,
+        problem,
+        problem.vars.len(),
+        terms.as_slice(),
+    )?;
     let Some(mut opening) = found else {
         return Ok(());
     };
