@@ -1,20 +1,18 @@
-// What a function of sort Bool may be made of: comparisons of its arguments as literals, with their truths at points; and what
-// constraints say of points. All are guides to a search: what is found by them is tested and proved afterwards.
+// What a function of sort Bool may be made of: comparisons of its arguments as literals, with their truths at points.
+// All are guides to a search: what is made of them is tested and proved afterwards.
 #![tactic(auto)]
 
+mod adding;
 mod atoms;
-mod clauses;
-mod conditions;
 mod families;
+mod goals;
 mod hull;
 mod kept;
-mod opening;
 mod program;
-mod saying;
-mod statements;
-mod sums;
-mod tokens;
-mod values;
+mod setting;
+mod terms;
 
-pub use atoms::{Atoms, Traits};
-pub use statements::Statements;
+pub use atoms::Atoms;
+pub use setting::Setting;
+pub use sy_loop_literals::Traits;
+pub use sy_loop_statements::Statements;

@@ -1,28 +1,43 @@
 // Sums of integer arguments.
+use crate::comparisons::Relation;
 use crate::tokens::{Token, mixed};
+use std::alloc::Global;
 use sy_terms::{Op, Sort, Want};
 
 /// How many arguments sums have; those behind aren't summed.
-pub(crate) const WIDTH: usize = 16;
+pub const WIDTH: usize = 16;
 
 /// The greatest magnitude of a number of a sum.
 const MOST: u128 = 1 << 62;
 
 /// How a sum compares with 0.
 #[derive(Clone, Copy, PartialEq, Eq)]
-pub(crate) enum Kind {
+pub enum Kind {
+    /// It is at most 0.
     AtMost,
+    /// It is 0.
     Equal,
+    /// It isn't 0.
     Unequal,
 }
 
 /// A sum: the arguments' coefficients, and the constant behind them.
 #[derive(Clone, Copy)]
-pub(crate) struct Sum {
+pub struct Sum {
+    /// The coefficients, and the constant.
     pub numbers: [i128; 17],
 }
 
 impl Kind {
+    /// The same of two terms.
+    pub fn relation(self) -> Relation {
+        match self {
+            Kind::AtMost => Relation::AtMost,
+            Kind::Equal => Relation::Equal,
+            Kind::Unequal => Relation::Unequal,
+        }
+    }
+
     /// Whether a sum of this value compares so.
     pub fn holds(self, value: i128) -> bool {
         match self {
@@ -52,6 +67,16 @@ impl Sum {
         sum
     }
 
+    /// The sum of these multiples of arguments; `None` where one isn't an integer, or isn't summed.
+    pub fn of_integers(parts: &[(usize, i128)], sorts: &[Sort]) -> Option<Sum> {
+        for (place, _) in parts {
+            if *place >= WIDTH || sorts.get(*place) != Some(&Sort::Int) {
+                return None;
+            }
+        }
+        Some(Sum::of(parts))
+    }
+
     /// The sum and a multiple of another.
     pub fn with(self, other: &Sum, factor: i128) -> Sum {
         let mut sum = self;
@@ -75,6 +100,15 @@ impl Sum {
     /// The bound that the negation of this bound says.
     pub fn beyond(&self) -> Sum {
         self.opposite().plus(1)
+    }
+
+    /// The comparison with 0 that says the contrary.
+    pub fn negation(&self, kind: Kind) -> (Kind, Sum) {
+        match kind {
+            Kind::AtMost => (Kind::AtMost, self.beyond()),
+            Kind::Equal => (Kind::Unequal, *self),
+            Kind::Unequal => (Kind::Equal, *self),
+        }
     }
 
     /// The sum's value where the arguments are these numbers; `None` where it leaves the 128 bits.
@@ -112,8 +146,13 @@ impl Sum {
         key
     }
 
+    /// The sum divided by what divides all of its numbers.
+    pub fn reduced(&self) -> Sum {
+        self.divided(self.divisor(17).max(1))
+    }
+
     /// The greatest common divisor of the numbers up to this place; 0 where all are 0, or one is too large.
-    pub fn divisor(&self, count: usize) -> i128 {
+    fn divisor(&self, count: usize) -> i128 {
         let mut divisor = 0u128;
         for number in self.numbers.iter().take(count) {
             if number.unsigned_abs() >= MOST {
@@ -125,7 +164,7 @@ impl Sum {
     }
 
     /// The numbers divided, which they can be.
-    pub fn divided(&self, divisor: i128) -> Sum {
+    fn divided(&self, divisor: i128) -> Sum {
         let mut sum = *self;
         for place in 0..17usize {
             sum.numbers[place] = sum.numbers[place].checked_div(divisor).unwrap_or(0);
@@ -133,8 +172,8 @@ impl Sum {
         sum
     }
 
-    /// The sum with the least numbers whose comparison says the same over integers; an equality begins with a coefficient
-    /// above 0. `None` where the comparison always holds or never, or numbers are too large.
+    /// The sum with the least numbers whose comparison says the same over integers; an equality begins with a
+    /// coefficient above 0. `None` where the comparison always holds or never, or numbers are too large.
     pub fn least(&self, kind: Kind) -> Option<Sum> {
         let divisor = self.divisor(WIDTH);
         let constant = self.numbers[WIDTH];
@@ -234,7 +273,8 @@ fn write_multiple(
 ) -> Result<(), Want> {
     let argument = Token::Variable(position);
     if factor == 1 {
-        return side.push(argument);
+        side.push(argument)?;
+        return Ok(());
     }
     if factor <= 4 && !pool.contains(&factor) {
         side.push(argument)?;
@@ -246,11 +286,12 @@ fn write_multiple(
     }
     side.push(Token::Constant(Sort::Int, factor))?;
     side.push(argument)?;
-    side.push(Token::Apply(Op::Mul, 2))
+    side.push(Token::Apply(Op::Mul, 2))?;
+    Ok(())
 }
 
 /// The greatest common divisor.
-pub(crate) fn common(a: u128, b: u128) -> u128 {
+pub fn common(a: u128, b: u128) -> u128 {
     let mut x = a;
     let mut y = b;
     while y != 0 {
@@ -262,17 +303,13 @@ pub(crate) fn common(a: u128, b: u128) -> u128 {
 }
 
 /// The term as a sum of integer arguments; `None` where it isn't one.
-pub(crate) fn sum_of(
-    tokens: &[Token],
-    sorts: &[Sort],
-    stack: &mut Vec<Sum>,
-) -> Result<Option<Sum>, Want> {
-    stack.clear();
+pub(crate) fn sum_of(alloc: Global, tokens: &[Token], sorts: &[Sort]) -> Result<Option<Sum>, Want> {
+    let mut stack = Vec::new(alloc);
     for token in tokens {
         let found = match token {
             Token::Constant(Sort::Int, number) => Some(Sum::constant(*number)),
-            Token::Variable(position) => argument(*position as usize, sorts),
-            Token::Apply(operator, count) => applied(operator, *count, stack),
+            Token::Variable(position) => Sum::of_integers(&[(*position as usize, 1)], sorts),
+            Token::Apply(operator, count) => applied(operator, *count, &mut stack),
             Token::Constant(_, _) => None,
         };
         match found {
@@ -281,15 +318,6 @@ pub(crate) fn sum_of(
         }
     }
     Ok(stack.pop())
-}
-
-/// The argument as a sum, where it is an integer.
-fn argument(place: usize, sorts: &[Sort]) -> Option<Sum> {
-    if place < WIDTH && sorts.get(place) == Some(&Sort::Int) {
-        Some(Sum::of(&[(place, 1)]))
-    } else {
-        None
-    }
 }
 
 /// The operator at the last sums.

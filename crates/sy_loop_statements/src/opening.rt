@@ -1,9 +1,9 @@
 // Terms as tokens, with their definitions and bindings written out.
-use crate::tokens::{Span, Token, part};
 use std::alloc::Global;
+use sy_grammar_base::Problem;
 use sy_grammar_sizes::number_of;
-use sy_loop_bodies::Task;
-use sy_terms::{Fun, Term, Terms, Theory, Want};
+use sy_loop_literals::{NAMELESS, Span, Token, part};
+use sy_terms::{Fun, Sort, Term, Terms, Theory, Value, Want};
 
 /// How deep terms are opened, how many tokens are written at most, and how many calls there are.
 const MOST_DEPTH: u32 = 400;
@@ -12,28 +12,32 @@ const MOST_TOKENS: usize = 10_000;
 
 const MOST_CALLS: usize = 16;
 
-/// What was opened so far: the tokens of the term, those of the values of variables, and the spans among these of the arguments
-/// of each call of the function to be found, for which a variable stands from the position `first` on.
+/// A term, opened, and the calls of the function to be found in it, for which variables stand.
 #[derive(Drop)]
-pub(crate) struct Opening {
-    pub tokens: Vec<Token>,
-    pub values: Vec<Token>,
-    pub calls: Vec<Vec<Span>>,
-    pub first: u32,
+pub struct Opening {
+    pub(crate) tokens: Vec<Token>,
+    /// The tokens of the values of variables.
+    pub(crate) values: Vec<Token>,
+    /// Of each call the spans of its arguments among the values.
+    pub(crate) calls: Vec<Vec<Span>>,
+    /// The variable that stands for the first call.
+    first: u32,
+    alloc: Global,
 }
 
 /// The term over so many variables, opened; `None` where it is too large, or calls the function in arguments of itself.
-pub(crate) fn opened<T: Theory>(
-    task: &Task<T>,
+pub fn opened<T: Theory>(
+    alloc: Global,
+    problem: &Problem<T>,
     variables: usize,
     terms: &[&Term<T>],
 ) -> Result<Option<Opening>, Want> {
-    let alloc = task.alloc;
     let mut opening = Opening {
         tokens: Vec::new(alloc),
         values: Vec::new(alloc),
         calls: Vec::new(alloc),
         first: u32::try_from(variables).unwrap_or(u32::MAX),
+        alloc,
     };
     let mut spans = Vec::with_capacity(alloc, variables)?;
     for place in 0..variables {
@@ -45,7 +49,7 @@ pub(crate) fn opened<T: Theory>(
         })?;
     }
     for term in terms {
-        if !open(task, spans.as_slice(), term, MOST_DEPTH, &mut opening)? {
+        if !open(problem, spans.as_slice(), term, MOST_DEPTH, &mut opening)? {
             return Ok(None);
         }
     }
@@ -55,7 +59,7 @@ pub(crate) fn opened<T: Theory>(
 /// Writes the term where its variables have the values of these spans, and answers whether it could be written.
 #[cycle(open)]
 fn open<T: Theory>(
-    task: &Task<T>,
+    problem: &Problem<T>,
     spans: &[Span],
     term: &Term<T>,
     depth: u32,
@@ -67,8 +71,8 @@ fn open<T: Theory>(
     match term {
         Term::Const(value) => {
             let number = match value {
-                sy_terms::Value::Truth(truth) => i128::from(*truth),
-                sy_terms::Value::Num(_) => number_of::<T>(value),
+                Value::Truth(truth) => i128::from(*truth),
+                Value::Num(_) => number_of::<T>(value),
             };
             opening
                 .tokens
@@ -77,18 +81,25 @@ fn open<T: Theory>(
         }
         Term::Var(position) => opening.put(spans.get(*position as usize)),
         Term::App(operator, terms) => {
-            let all = open_all(task, spans, terms, depth - 1, opening)?;
+            let all = open_all(problem, spans, terms, depth - 1, opening)?;
             let count = u32::try_from(terms.len()).unwrap_or(u32::MAX);
             opening.tokens.push(Token::Apply(*operator, count))?;
             Ok(all)
         }
-        Term::Call(function, terms) => open_call(task, spans, *function, terms, depth - 1, opening),
+        Term::Call(function, terms) => open_call(
+            problem,
+            spans,
+            *function,
+            terms,
+            depth - 1,
+            opening,
+        ),
         Term::Let(bound, inner) => {
-            let mut longer = spans.to_vec(task.alloc)?;
-            if !bind(task, spans, bound, depth - 1, opening, &mut longer)? {
+            let mut longer = spans.to_vec(opening.alloc)?;
+            if !bind(problem, spans, bound, depth - 1, opening, &mut longer)? {
                 return Ok(false);
             }
-            open(task, longer.as_slice(), inner, depth - 1, opening)
+            open(problem, longer.as_slice(), inner, depth - 1, opening)
         }
     }
 }
@@ -96,14 +107,14 @@ fn open<T: Theory>(
 /// Writes the terms one behind the other.
 #[cycle(open)]
 fn open_all<T: Theory>(
-    task: &Task<T>,
+    problem: &Problem<T>,
     spans: &[Span],
     terms: &Terms<T>,
     depth: u32,
     opening: &mut Opening,
 ) -> Result<bool, Want> {
     for term in terms.as_slice() {
-        if !open(task, spans, term, depth, opening)? {
+        if !open(problem, spans, term, depth, opening)? {
             return Ok(false);
         }
     }
@@ -113,7 +124,7 @@ fn open_all<T: Theory>(
 /// Writes the values of the terms, and puts their spans behind.
 #[cycle(open)]
 fn bind<T: Theory>(
-    task: &Task<T>,
+    problem: &Problem<T>,
     spans: &[Span],
     terms: &Terms<T>,
     depth: u32,
@@ -122,7 +133,7 @@ fn bind<T: Theory>(
 ) -> Result<bool, Want> {
     for term in terms.as_slice() {
         let place = opening.tokens.len();
-        if !open(task, spans, term, depth, opening)? {
+        if !open(problem, spans, term, depth, opening)? {
             return Ok(false);
         }
         let span = opening.keep(place)?;
@@ -134,20 +145,20 @@ fn bind<T: Theory>(
 /// Writes the called definition, or the variable that stands for the call of the function to be found.
 #[cycle(open)]
 fn open_call<T: Theory>(
-    task: &Task<T>,
+    problem: &Problem<T>,
     spans: &[Span],
     function: Fun,
     terms: &Terms<T>,
     depth: u32,
     opening: &mut Opening,
 ) -> Result<bool, Want> {
-    let mut arguments = Vec::with_capacity(task.alloc, terms.len())?;
-    if depth == 0 || !bind(task, spans, terms, depth - 1, opening, &mut arguments)? {
+    let mut arguments = Vec::with_capacity(opening.alloc, terms.len())?;
+    if depth == 0 || !bind(problem, spans, terms, depth - 1, opening, &mut arguments)? {
         return Ok(false);
     }
     match function {
-        Fun::Defined(number) => match task.problem.defs.get(number as usize) {
-            Some(def) => open(task, arguments.as_slice(), &def.body, depth - 1, opening),
+        Fun::Defined(number) => match problem.defs.get(number as usize) {
+            Some(def) => open(problem, arguments.as_slice(), &def.body, depth - 1, opening),
             None => Ok(false),
         },
         Fun::Wanted(_) => opening.put_call(arguments),
@@ -155,6 +166,47 @@ fn open_call<T: Theory>(
 }
 
 impl Opening {
+    /// The tokens of the term.
+    pub fn tokens(&self) -> &[Token] {
+        self.tokens.as_slice()
+    }
+
+    /// The calls of the function to be found.
+    pub fn calls(&self) -> &[Vec<Span>] {
+        self.calls.as_slice()
+    }
+
+    /// The term with its variables named as the arguments of the call that they are; its one call is the truth, where
+    /// there is one.
+    pub fn named_by(&self, call: &[Span], truth: Option<bool>) -> Result<Vec<Token>, Want> {
+        let mut named = Vec::with_capacity(self.alloc, self.tokens.len())?;
+        for token in &self.tokens {
+            let put = match (token, truth) {
+                (Token::Variable(position), Some(truth)) if *position == self.first => {
+                    Token::Constant(Sort::Bool, i128::from(truth))
+                }
+                (Token::Variable(position), _) => Token::Variable(self.name_of(call, *position)),
+                _ => *token,
+            };
+            named.push(put)?;
+        }
+        Ok(named)
+    }
+
+    /// Which argument of the call the variable is.
+    fn name_of(&self, call: &[Span], position: u32) -> u32 {
+        let mut name = 0u32;
+        for span in call {
+            if let [Token::Variable(other)] = part(self.values.as_slice(), *span) {
+                if *other == position {
+                    return name;
+                }
+            }
+            name = name.saturating_add(1);
+        }
+        NAMELESS
+    }
+
     /// Writes the value of the span, and answers whether there is one and room for it.
     fn put(&mut self, span: Option<&Span>) -> Result<bool, Want> {
         let Some(span) = span else {

@@ -1,31 +1,40 @@
 // What constraints state of the one function to be found.
 use crate::opening::{Opening, opened};
-use crate::tokens::Token;
-use sy_loop_bodies::Task;
+use std::alloc::Global;
+use sy_grammar_base::Problem;
+use sy_loop_literals::Token;
 use sy_terms::{Op, Term, Terms, Theory, Want};
 
 /// How many tokens all statements have at most.
 const MOST_TOKENS: u64 = 200_000;
 
-/// What a problem's constraints state of the one function to be found, with definitions and bindings written out: each conjunct
-/// for itself, under the assumptions. What is too large or calls the function in arguments of itself is left out.
+/// What a problem's constraints state of the one function to be found, with definitions and bindings written out: each
+/// conjunct for itself, under the assumptions. What is too large or calls the function in arguments of itself is left
+/// out.
 #[derive(Drop)]
 pub struct Statements {
     pub(crate) items: Vec<Opening>,
     nodes: u64,
+    pub(crate) alloc: Global,
 }
 
 impl Statements {
     /// What the problem's constraints state.
-    pub fn new<T: Theory>(task: &Task<T>) -> Result<Statements, Want> {
+    pub fn new<T: Theory>(alloc: Global, problem: &Problem<T>) -> Result<Statements, Want> {
         let mut statements = Statements {
-            items: Vec::new(task.alloc),
+            items: Vec::new(alloc),
             nodes: 0,
+            alloc,
         };
-        for constraint in task.problem.constraints.as_slice() {
-            add(task, constraint, &mut statements)?;
+        for constraint in problem.constraints.as_slice() {
+            add(problem, constraint, &mut statements)?;
         }
         Ok(statements)
+    }
+
+    /// What each states.
+    pub fn items(&self) -> &[Opening] {
+        self.items.as_slice()
     }
 
     /// How many nodes they have.
@@ -36,44 +45,53 @@ impl Statements {
 
 /// Adds what the term states: each conjunct for itself.
 #[cycle(add)]
-fn add<T: Theory>(task: &Task<T>, term: &Term<T>, statements: &mut Statements) -> Result<(), Want> {
+fn add<T: Theory>(
+    problem: &Problem<T>,
+    term: &Term<T>,
+    statements: &mut Statements,
+) -> Result<(), Want> {
     match term {
         Term::App(operator, parts) => match operator {
-            Op::And => add_all(task, parts, statements),
-            _ => add_one(task, term, statements),
+            Op::And => add_all(problem, parts, statements),
+            _ => add_one(problem, term, statements),
         },
-        _ => add_one(task, term, statements),
+        _ => add_one(problem, term, statements),
     }
 }
 
 /// The same for terms.
 #[cycle(add)]
 fn add_all<T: Theory>(
-    task: &Task<T>,
+    problem: &Problem<T>,
     terms: &Terms<T>,
     statements: &mut Statements,
 ) -> Result<(), Want> {
     for term in terms.as_slice() {
-        add(task, term, statements)?;
+        add(problem, term, statements)?;
     }
     Ok(())
 }
 
 /// Adds what the term states where the assumptions hold, if it calls the function.
 fn add_one<T: Theory>(
-    task: &Task<T>,
+    problem: &Problem<T>,
     term: &Term<T>,
     statements: &mut Statements,
 ) -> Result<(), Want> {
     if statements.nodes > MOST_TOKENS {
         return Ok(());
     }
-    let mut terms = Vec::new(task.alloc);
-    for assumption in task.problem.assumptions.as_slice() {
+    let mut terms = Vec::new(statements.alloc);
+    for assumption in problem.assumptions.as_slice() {
         terms.push(assumption)?;
     }
     terms.push(term)?;
-    let found = opened(task, task.problem.vars.len(), terms.as_slice())?;
+    let found = opened(
+        statements.alloc,
+        problem,
+        problem.vars.len(),
+        terms.as_slice(),
+    )?;
     let Some(mut opening) = found else {
         return Ok(());
     };

@@ -1,11 +1,11 @@
 // Terms as tokens: an operator stands behind the terms to which it is applied.
-use crate::saying::comparison_of;
+use crate::comparisons::relation_of;
 use sy_grammar_sizes::digits;
 use sy_terms::{Op, Sort};
 
 /// A part of a term.
 #[derive(Clone, Copy, PartialEq, Eq)]
-pub(crate) enum Token {
+pub enum Token {
     /// The constant of this sort; a truth value is 0 or 1.
     Constant(Sort, i128),
     /// A variable, or an argument.
@@ -14,15 +14,17 @@ pub(crate) enum Token {
     Apply(Op, u32),
 }
 
-/// From which token on, and up to which.
+/// The tokens of a term among others.
 #[derive(Clone, Copy)]
-pub(crate) struct Span {
+pub struct Span {
+    /// The first token's place.
     pub from: usize,
+    /// The place behind the last token.
     pub to: usize,
 }
 
 /// The tokens of the span.
-pub(crate) fn part(tokens: &[Token], span: Span) -> &[Token] {
+pub fn part(tokens: &[Token], span: Span) -> &[Token] {
     if span.from <= span.to && span.to <= tokens.len() {
         &tokens[span.from..span.to]
     } else {
@@ -31,7 +33,7 @@ pub(crate) fn part(tokens: &[Token], span: Span) -> &[Token] {
 }
 
 /// The span of the term whose last token stands in front of this place.
-pub(crate) fn span_before(tokens: &[Token], place: usize) -> Span {
+pub fn span_before(tokens: &[Token], place: usize) -> Span {
     let mut from = place;
     let mut open = 1u64;
     for _ in 0..place {
@@ -48,7 +50,7 @@ pub(crate) fn span_before(tokens: &[Token], place: usize) -> Span {
 }
 
 /// The spans of the two terms to which the operator at the place is applied.
-pub(crate) fn operands(tokens: &[Token], place: usize) -> (Span, Span) {
+pub fn operands(tokens: &[Token], place: usize) -> (Span, Span) {
     let second = span_before(tokens, place);
     let first = span_before(tokens, second.from);
     (first, second)
@@ -63,7 +65,7 @@ fn constant_size(number: i128, pool: &[i128]) -> u32 {
 }
 
 /// The size of the term in a grammar that has all of its operators and all constants.
-pub(crate) fn plain_size(tokens: &[Token], pool: &[i128]) -> u32 {
+pub fn plain_size(tokens: &[Token], pool: &[i128]) -> u32 {
     let mut size = 0u32;
     for token in tokens {
         let own = match token {
@@ -76,7 +78,7 @@ pub(crate) fn plain_size(tokens: &[Token], pool: &[i128]) -> u32 {
 }
 
 /// A number by which the term is found.
-pub(crate) fn term_key(tokens: &[Token]) -> u64 {
+pub fn term_key(tokens: &[Token]) -> u64 {
     let mut key = 7u64;
     for token in tokens {
         key = match token {
@@ -89,7 +91,7 @@ pub(crate) fn term_key(tokens: &[Token]) -> u64 {
 }
 
 /// A number for both numbers.
-pub(crate) fn mixed(seed: u64, number: i128) -> u64 {
+pub fn mixed(seed: u64, number: i128) -> u64 {
     let low = (number.unsigned_abs() % (1 << 64)) as u64;
     let turned = if number < 0 { low.wrapping_add(7) } else { low };
     seed.wrapping_mul(11_400_714_819_323_198_485)
@@ -99,14 +101,17 @@ pub(crate) fn mixed(seed: u64, number: i128) -> u64 {
 
 /// What a term's values are.
 #[derive(Clone, Copy, PartialEq, Eq)]
-pub(crate) enum Class {
+pub enum Class {
+    /// Truth values.
     Truth,
+    /// Integers.
     Integer,
+    /// Bit vectors.
     Vector,
 }
 
 /// What the values of the term are, where its variables have these sorts.
-pub(crate) fn class_of(tokens: &[Token], sorts: &[Sort]) -> Class {
+pub fn class_of(tokens: &[Token], sorts: &[Sort]) -> Class {
     let mut last = tokens.last();
     for token in tokens.iter().rev() {
         last = Some(token);
@@ -125,7 +130,7 @@ pub(crate) fn class_of(tokens: &[Token], sorts: &[Sort]) -> Class {
         Some(Token::Apply(operator, _)) => match operator {
             Op::Neg | Op::Sub | Op::Add | Op::Mul | Op::Div | Op::Mod | Op::Abs => Class::Integer,
             Op::Not | Op::And | Op::Or | Op::Xor | Op::Implies => Class::Truth,
-            _ if comparison_of(operator).is_some() => Class::Truth,
+            _ if relation_of(operator).is_some() => Class::Truth,
             _ => Class::Vector,
         },
         _ => Class::Truth,

@@ -1,11 +1,10 @@
 // What statements say of labels of points, at values of the variables.
 use crate::opening::Opening;
 use crate::statements::Statements;
-use crate::tokens::{Span, part};
 use crate::values::value_of;
 use std::alloc::Global;
-use sy_loop_bodies::{Task, point_of};
-use sy_terms::{Seq, Theory, Value, Values, Want, copied_values};
+use sy_loop_literals::{Span, part};
+use sy_terms::{Seq, Theory, Value, Values, Want, copied_values, same_values};
 
 /// How many points one statement may ask.
 const MOST_POINTS: usize = 4;
@@ -19,17 +18,16 @@ struct Clause {
 
 impl Statements {
     /// What the statements say of the function at these values of the variables: of each list one label holds in every
-    /// solution, that of a place in `tuples`, and whether it is inside. New tuples are put behind, each once. Where a list
-    /// is empty there is no solution. What asks too many points, or isn't computable, says nothing.
+    /// solution, that of a place in `tuples`, and whether it is inside. New tuples are put behind, each once. Where a
+    /// list is empty there is no solution. What asks too many points, or isn't computable, says nothing.
     pub fn conditions_at<T: Theory>(
         &self,
-        task: &Task<T>,
         values: &[Value<T::Num>],
         tuples: &mut Vec<Values<T>>,
     ) -> Result<Vec<Vec<(usize, bool)>>, Want> {
-        let mut conditions: Vec<Vec<(usize, bool)>> = Vec::new(task.alloc);
+        let mut conditions: Vec<Vec<(usize, bool)>> = Vec::new(self.alloc);
         for statement in &self.items {
-            add_conditions::<T>(task.alloc, statement, values, tuples, &mut conditions)?;
+            add_conditions::<T>(self.alloc, statement, values, tuples, &mut conditions)?;
         }
         Ok(conditions)
     }
@@ -90,11 +88,13 @@ fn place_at<T: Theory>(
 
 /// Where the tuple stands; it is put behind where it doesn't.
 fn place_of<T: Theory>(tuple: Values<T>, tuples: &mut Vec<Values<T>>) -> Result<usize, Want> {
-    let known = point_of::<T>(tuples.as_slice(), tuple.as_slice());
-    let place = known.unwrap_or(tuples.len());
-    if known.is_none() {
-        tuples.push(tuple)?;
+    for place in 0..tuples.len() {
+        if same_values::<T>(tuples[place].as_slice(), tuple.as_slice()) {
+            return Ok(place);
+        }
     }
+    let place = tuples.len();
+    tuples.push(tuple)?;
     Ok(place)
 }
 
