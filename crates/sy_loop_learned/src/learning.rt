@@ -227,23 +227,17 @@ impl<T: Theory> Learning<T> {
         Ok(Some(formula))
     }
 
-    /// Adds the literals of a wider class.
+    /// Adds the literals of the class of clauses of two.
     fn add_wider(&mut self, task: &Task<T>, bank: Option<&Bank<T>>) -> Result<(), Want>
         requires { ProblemFits T.Theory task.now.problem.now }
     {
-        match self.learner.class() {
-            Class::Pairs => {
-                self.atoms.add_forms(&setting_of(task))?;
-                if let Some(bank) = bank {
-                    self.atoms.add_kept(&setting_of(task), bank)?;
-                }
-            }
-            Class::Bounds => {
-                let insides = self.insides(task)?;
-                self.atoms
-                    .add_bounds(&setting_of(task), self.tuples.as_slice(), insides.as_slice())?;
-            }
-            Class::Narrow | Class::Singles | Class::Triples => return Ok(()),
+        if self.learner.class() != Class::Pairs {
+            return Ok(());
+        }
+        let setting = setting_of(task);
+        self.atoms.add_forms(&setting)?;
+        if let Some(bank) = bank {
+            self.atoms.add_kept(&setting, bank)?;
         }
         self.take_literals(task)
     }
@@ -306,8 +300,10 @@ fn disjunction_of<T: Theory>(task: &Task<T>, atoms: &Atoms) -> Result<Option<Wor
     Ok(None)
 }
 
-/// The problem and bound.
-pub(crate) fn setting_of<'a, T: Theory>(task: &'a Task<T>) -> Setting<'a, T> {
+/// The problem in which literals are, and up to which size.
+pub(crate) fn setting_of<'a, T: Theory>(task: &'a Task<T>) -> Setting<'a, T>
+    ensures { result.problem ≡ task.now.problem }
+{
     Setting {
         alloc: task.alloc,
         problem: task.problem,

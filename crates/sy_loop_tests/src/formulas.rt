@@ -132,13 +132,13 @@ formula|joins|3|3-110 4+110||new=0 new=1 new=!2 :1
 formula|joins|4|3+1110||new=0 new=!0.1 new=!1.2 new=!3 in=0 in=1 in=2 out=3 open=4 old=!0.1 old=0.!0 :0
 formula|joins|4|3+1101 3+1010||new=0 new=!1.2 new=!3 :1
 formula|joins|4|3+1100 3-0110||new=0 new=2 new=!3 none wide :0.1
-formula||4|3+1100 3-0110||new=0 new=2 new=!3 none wide none wide none last
+formula||4|3+1100 3-0110||new=0 new=2 new=!3 none wide none last
 formula|joins|4|3-1100 3-0110|1.0|new=0 new=2 new=!3 :0.1
-formula|joins|4|3+1000 3-0100 3-0010||new=0 new=1 new=2 new=!3 none wide none wide none wide :0.1.2
-formula|joins|3|3+110||new=0 new=!0.1 new=!1 none wide none wide none wide none last
+formula|joins|4|3+1000 3-0100 3-0010||new=0 new=1 new=2 new=!3 none wide none wide :0.1.2
+formula|joins|3|3+110||new=0 new=!0.1 new=!1 none wide none wide none last
 formula|joins|2|3+11||new=0 :
 formula|joins|3|3-100 3-110||new=0 new=!2 none wide :0 lost=1 :1 anew :0 short :0
-formula|joins|2|1+10 5+10||new=0 new=!1 :0 more none wide none wide none wide none last";
+formula|joins|2|1+10 5+10||new=0 new=!1 :0 more none wide none wide none last";
 
 /// Whether the row is right.
 pub(crate) fn is_right(rt: &impl Abort, alloc: Global, row: &str) -> bool {
