@@ -12,9 +12,6 @@ use sy_terms::{Term, Theory, Values, Want};
 /// How many nodes of statements are evaluated in telling of assignments at most.
 const MOST_WORK: u64 = 20_000_000;
 
-/// How many equalities are taken of the points inside; half of it, where there are no more points than that.
-const MOST_EQUALITIES: usize = 8;
-
 /// How many formulas may fail without a counterexample, apart from those that aren't decided.
 const MOST_FAILED: u32 = 16;
 
@@ -83,7 +80,7 @@ impl<T: Theory> Learning<T> {
     }
 
     /// Has the learner know all literals, and what has become of those that it knows.
-    fn take_literals(&mut self, task: &Task<T>) -> Result<(), Want>
+    pub(crate) fn take_literals(&mut self, task: &Task<T>) -> Result<(), Want>
         requires { ProblemFits T.Theory task.now.problem.now }
     {
         let known = self.learner.literals();
@@ -114,7 +111,7 @@ impl<T: Theory> Learning<T> {
     }
 
     /// For each point the truths there of the literals from this number on.
-    fn columns(&self, task: &Task<T>, from: usize) -> Result<Vec<Vec<bool>>, Want>
+    pub(crate) fn columns(&self, task: &Task<T>, from: usize) -> Result<Vec<Vec<bool>>, Want>
         requires { ProblemFits T.Theory task.now.problem.now }
     {
         let mut columns = Vec::with_capacity(task.alloc, self.tuples.len())?;
@@ -123,35 +120,6 @@ impl<T: Theory> Learning<T> {
             columns.push(truths)?;
         }
         Ok(columns)
-    }
-
-    /// For each point whether it is inside in every solution.
-    fn insides(&self, task: &Task<T>) -> Result<Vec<bool>, Want> {
-        let mut insides = Vec::with_capacity(task.alloc, self.tuples.len())?;
-        for point in 0..self.tuples.len() {
-            insides.push(self.learner.label(point) == Some(true))?;
-        }
-        Ok(insides)
-    }
-
-    /// Looks for equalities of the points inside where there are more than before.
-    fn refresh_hull(&mut self, task: &Task<T>) -> Result<(), Want>
-        requires { ProblemFits T.Theory task.now.problem.now }
-    {
-        let insides = self.insides(task)?;
-        let count = insides.iter().filter(|inside| **inside).count();
-        if count <= self.inside {
-            return Ok(());
-        }
-        self.inside = count;
-        let most = if count < MOST_EQUALITIES {
-            MOST_EQUALITIES / 2
-        } else {
-            MOST_EQUALITIES
-        };
-        self.atoms
-            .add_hull(&setting_of(task), self.tuples.as_slice(), insides.as_slice(), most)?;
-        self.take_literals(task)
     }
 
     /// The next formula; `None` where no class has one.

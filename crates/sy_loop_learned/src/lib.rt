@@ -2,6 +2,7 @@
 #![tactic(auto)]
 
 mod asking;
+mod equalities;
 mod grouping;
 mod learned;
 mod learning;
