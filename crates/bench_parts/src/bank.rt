@@ -11,8 +11,8 @@ ghost use Rattle.sy_bank.specs.Rows.{ArePointsOf};
 use crate::words::{WANT, next, number};
 use std::alloc::Global;
 use sy_bank::{Bank, BankEnd, build};
+use sy_grammar::well_formed;
 use sy_grammar_base::{Grammar, Non, Part, Parts, Rule};
-use sy_grammar_checks::well_formed;
 use sy_meaning_words::BvTheory;
 use sy_terms::{Op, Seq, Sort, Theory, Value, Values, Want};
 

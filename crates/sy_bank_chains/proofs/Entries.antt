@@ -11,8 +11,8 @@ use Rattle.sy_grammar_base.specs.Formed.{pattern_sort}
 use Rattle.sy_grammar_base.specs.Trees.{Nonterminal, Production, Template, rule_at, rule_of}
 use Rattle.sy_grammar_base.specs.Grown.{nonterminal_of, production_of}
 use Rattle.sy_grammar_base.specs.declared.grammar.Non.{Non}
-use Rattle.sy_grammar_laws.proofs.Members.{formed_fits}
-use Rattle.sy_grammar_laws.proofs.Numbering.{numbered}
+use Rattle.sy_grammar_base.proofs.Members.{formed_fits}
+use Rattle.sy_grammar_base.proofs.Numbering.{numbered}
 use Rattle.std.proofs.lemmas.List.{length-map}
 use Rattle.sy_bank_rows.specs.Banks.{Entry, kept_at, IsKept}
 use Rattle.sy_bank_rows.specs.Covering.{terms}

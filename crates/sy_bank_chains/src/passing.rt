@@ -12,7 +12,7 @@ ghost use Rattle.sy_bank_chains.specs.Passing.{IsChainRule, IsPassed, ArePassed}
 use crate::chained::{Chain, chained};
 use sy_bank_level::{Filling, Stop, Task, row_hash};
 use sy_grammar_base::Rule;
-use sy_grammar_chains::chain_of;
+use sy_grammar_sizes::chain_of;
 use sy_terms::Theory;
 
 /// Keeps the kept terms of the task's size also for each nonterminal that has a chain rule for theirs, unless a kept

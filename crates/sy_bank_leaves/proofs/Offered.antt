@@ -12,7 +12,7 @@ use Rattle.sy_terms.specs.declared.sort.Sort.{Sort}
 use Rattle.sy_terms.specs.declared.sort.Value.{Value}
 use Rattle.sy_terms_laws.proofs.Equations.{if_Some}
 use Rattle.sy_grammar_base.specs.Formed.{is_known}
-use Rattle.sy_grammar_laws.proofs.Members.{formed_fits}
+use Rattle.sy_grammar_base.proofs.Members.{formed_fits}
 use Rattle.sy_bank_level.specs.Tasks.{IsSet}
 use Rattle.sy_grammar_base.specs.Trees.{Nonterminal, rule_of, value_magnitude, Tree, Derives, tree_size, ConstantLeaf, VariableLeaf, EachConstant, EachVariable, yield_from, constant_yield, variable_yield, constant_size, is_sort, is_written, literal}
 use Rattle.sy_bank_rows.specs.Banks.{Entry, IsKept}

@@ -17,7 +17,7 @@ use sy_forms_names::{at_count, same_sorts};
 use sy_forms_phrases::{Phrases, Typed, invocation, operation};
 use sy_scope_causes::Cause;
 use sy_terms::{Op, Seq, Sort, Sorted, Theory, Want};
-use sy_terms_operators::operator_sort;
+use sy_terms_laws::operator_sort;
 use sy_text_items::Place;
 
 /// Phrases with their sorts.

@@ -11,8 +11,8 @@ use Rattle.sy_grammar_base.specs.Patterns as pattern
 use Rattle.sy_grammar_base.specs.Patterns.{Pattern, Patterns}
 use Rattle.sy_grammar_base.specs.Trees.{Production, Template, EachConstant, EachVariable, Nonterminal, Syntax, is_sort}
 use Rattle.sy_grammar_base.specs.Fits.{with_functions}
-use Rattle.sy_grammar_laws.specs.Extending.{Extends}
-use Rattle.sy_grammar_laws.proofs.Widening.{called_wider}
+use Rattle.sy_grammar_base.specs.Extending.{Extends}
+use Rattle.sy_grammar_base.proofs.Widening.{called_wider}
 use Rattle.sy_forms_laws.proofs.Exprs.{where_true, applied_as}
 
 and_true : (a b : Bool) → a ≡ true → b ≡ true → (a && b) ≡ true

@@ -5,7 +5,7 @@ use Rattle.sy_terms.specs.declared.op.Op.{Op}
 use Rattle.sy_terms.specs.declared.sort.Sort.{Sort}
 use Rattle.sy_grammar_base.specs.Formed.{is_known, all_give_constants}
 use Rattle.sy_grammar_base.specs.Trees.{Syntax, Nonterminal}
-pub use Rattle.sy_grammar_laws.specs.Extending.{Extends}
+pub use Rattle.sy_grammar_base.specs.Extending.{Extends}
 use Rattle.sy_terms.specs.Logics.{IsTheoryOf}
 use Rattle.sy_forms_names.specs.Environments as env
 use Rattle.sy_forms_names.specs.Environments.{Environment, Sense, sense_of}

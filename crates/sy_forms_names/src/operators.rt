@@ -4,7 +4,7 @@ ghost use Rattle.sy_forms_names.specs.Operators as spec;
 
 use sy_forms_items::{Indices, is};
 use sy_terms::{Logic, Op};
-use sy_terms_operators::spell;
+use sy_terms_laws::spell;
 
 const CORE: [Op; 8] = [
     Op::Not,

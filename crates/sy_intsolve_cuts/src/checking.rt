@@ -2,7 +2,7 @@
 ghost use Rattle.std.specs.Prelude.{◌≡◌, ◌<◌, ◌^◌, true, pos, length, IfOk, IfSome};
 ghost use Rattle.std.specs.List.{list_all};
 ghost use Rattle.sy_frac.specs.Rational.{is_negative_rational};
-ghost use Rattle.sy_frac_kinds.specs.Kinds as kinds;
+ghost use Rattle.sy_frac.specs.Kinds as kinds;
 ghost use Rattle.sy_linear_known.specs.declared.path.Fact.TheVariants.{AtLeast};
 ghost use Rattle.sy_linear_known.specs.Points.{form_value_at};
 ghost use Rattle.sy_simplex.specs.Problems.{numbers};
@@ -10,8 +10,7 @@ ghost use Rattle.sy_intsolve_paths_laws.specs.Paths.{Suit};
 ghost use Rattle.sy_intsolve_cuts.specs.Cuts.{IsRoundingForm};
 
 use std::alloc::{AllocError, Global};
-use sy_frac::Frac;
-use sy_frac_kinds::{is_below_one, is_below_zero};
+use sy_frac::{Frac, is_below_one, is_below_zero};
 use sy_intsolve_points::number_at;
 use sy_linear::{cut, suits};
 use sy_linear_known::{CheckEnd, Fact, Form, Test};

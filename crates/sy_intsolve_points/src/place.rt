@@ -5,8 +5,7 @@ ghost use Rattle.sy_intsolve_points.specs.Points.{IsPointOf, ValuesAreWhole, Tel
 
 use crate::solving::corner;
 use std::alloc::Global;
-use sy_frac::Frac;
-use sy_frac_kinds::is_whole;
+use sy_frac::{Frac, is_whole};
 use sy_linear_known::Fact;
 use sy_seq::{Seq, Want};
 use sy_simplex::{Ended, Feasible};

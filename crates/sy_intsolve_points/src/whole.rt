@@ -2,8 +2,7 @@
 ghost use Rattle.std.specs.Prelude.{◌<◌, ◌^◌, length};
 ghost use Rattle.sy_intsolve_points.specs.Points.{FirstBroken};
 
-use sy_frac::Frac;
-use sy_frac_kinds::broken;
+use sy_frac::{Frac, broken};
 
 /// The first variable whose value isn't a whole number, and the greatest whole number below that value; `None` exactly
 /// where all values are whole.

@@ -4,7 +4,7 @@ use Rattle.std.specs.List.{list_all}
 use Rattle.std.specs.Option.{option_and_then}
 use Rattle.std.specs.Ordering.{int_eq}
 use Rattle.sy_frac.specs.Fraction.{Fraction}
-use Rattle.sy_frac_kinds.specs.Kinds.{is_multiplier}
+use Rattle.sy_frac.specs.Kinds.{is_multiplier}
 use Rattle.sy_linear_forms.specs.declared.form.Form.{Form}
 use Rattle.sy_linear_forms.specs.Forms.{Coefficient, before}
 use Rattle.sy_linear.specs.declared.combination.Share.{Share}

@@ -5,7 +5,7 @@ ghost use Rattle.sy_loop_history.specs.Sizes.{AreAtMost};
 
 use std::alloc::Global;
 use sy_grammar_base::Problem;
-use sy_grammar_chains::largest;
+use sy_grammar_sizes::largest;
 use sy_terms::{Theory, Want};
 
 /// Whether the largest sizes of the grammars' derivations sum to at most `size`.

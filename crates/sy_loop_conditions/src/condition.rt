@@ -5,8 +5,8 @@ ghost use Rattle.sy_grammar_base.specs.Trees.{IsNumbered, Production, start_rule
 ghost use Rattle.sy_grammar_base.specs.Written.{pattern_of};
 ghost use Rattle.sy_loop_conditions.specs.Conditions.{HasNoTrees, IsConditionOf, first_nonterminal, pattern_nonterminal, tested_by};
 
+use sy_grammar::tree_rule;
 use sy_grammar_base::{Grammar, Part, Rule};
-use sy_grammar_checks::tree_rule;
 use sy_terms::Theory;
 
 /// The nonterminal of the conditions of the grammar's conditional trees: C, where the start symbol's first choice between

@@ -17,7 +17,7 @@ use Rattle.sy_grammar_base.specs.Fits.{QuestionFits}
 use Rattle.sy_grammar_base.specs.Questions.{Goal, Question, question_of, signatures}
 use Rattle.sy_grammar_base.specs.Solving.{AreMembers, AreWithin}
 use Rattle.sy_grammar_base.specs.declared.problem.Problem.{Problem}
-use Rattle.sy_grammar_laws.proofs.Candidates.{bodies_fit}
+use Rattle.sy_grammar_base.proofs.Candidates.{bodies_fit}
 use Rattle.sy_query_limits.specs.declared.Limits.{Limits}
 use Rattle.sy_unify.specs.Unify.{ServesPoints, leaf_count}
 use Rattle.sy_unify.specs.declared.choice.Choice.{Choice}

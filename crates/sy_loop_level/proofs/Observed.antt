@@ -22,9 +22,9 @@ use Rattle.sy_grammar_base.specs.Questions.{question_of, goal_of, signatures, wa
 use Rattle.sy_grammar_base.specs.Solving.{AreMembers, AreWithin}
 use Rattle.sy_grammar_base.specs.declared.problem.Problem.{Problem}
 use Rattle.sy_grammar_base.specs.declared.problem.Wanted.{Wanted}
-use Rattle.sy_grammar_laws.proofs.Candidates.{bodies_fit}
-use Rattle.sy_grammar_laws.proofs.Members.{member_fits}
-use Rattle.sy_grammar_laws.proofs.Problems.{problem_grammars}
+use Rattle.sy_grammar_base.proofs.Candidates.{bodies_fit}
+use Rattle.sy_grammar_base.proofs.Members.{member_fits}
+use Rattle.sy_grammar_base.proofs.Problems.{problem_grammars}
 use Rattle.sy_query_limits.specs.declared.Limits.{Limits}
 use Rattle.sy_points.specs.Asked.{Asked}
 use Rattle.sy_bank_rows.specs.Stored.{entry_of, chosen_of}

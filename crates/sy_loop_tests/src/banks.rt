@@ -8,8 +8,8 @@ use std::alloc::Global;
 use std::process::Abort;
 use sy_bank::{Bank, BankEnd, build, grow};
 use sy_bank_rows::{Kept, filled_part};
+use sy_grammar::well_formed;
 use sy_grammar_base::{Grammar, Non};
-use sy_grammar_checks::well_formed;
 use sy_terms::{Seq, Sort, Theory, Values};
 
 /// The bank of these nonterminals up to one size, grown to another if that is greater and nothing was dropped before.

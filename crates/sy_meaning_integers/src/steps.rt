@@ -6,7 +6,7 @@ ghost use Rattle.sy_terms.specs.Theories.{partials_fit, from_left_fits};
 ghost use Rattle.sy_terms.specs.Denoted.{val_of, vals_of};
 ghost use Rattle.sy_meaning_integers.specs.Found.{Found};
 
-use sy_meaning_numbers::whole_sum;
+use sy_meaning_core::whole_sum;
 use sy_terms::Value;
 
 /// An operation on two whole numbers.

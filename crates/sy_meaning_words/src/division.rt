@@ -13,7 +13,7 @@ pub(crate) fn quotient(s: Word, t: Word) -> Word
     let width = s.width();
     Word::made(
         width,
-        sy_meaning_numbers::quotient(width, s.bits(), t.bits()),
+        sy_meaning_core::quotient(width, s.bits(), t.bits()),
     )
 }
 
@@ -25,7 +25,7 @@ pub(crate) fn remainder(s: Word, t: Word) -> Word
     let width = s.width();
     Word::made(
         width,
-        sy_meaning_numbers::remainder(width, s.bits(), t.bits()),
+        sy_meaning_core::remainder(width, s.bits(), t.bits()),
     )
 }
 
@@ -37,7 +37,7 @@ pub(crate) fn signed_quotient(s: Word, t: Word) -> Word
     let width = s.width();
     Word::made(
         width,
-        sy_meaning_numbers::signed_quotient(width, s.bits(), t.bits()),
+        sy_meaning_core::signed_quotient(width, s.bits(), t.bits()),
     )
 }
 
@@ -49,7 +49,7 @@ pub(crate) fn signed_remainder(s: Word, t: Word) -> Word
     let width = s.width();
     Word::made(
         width,
-        sy_meaning_numbers::signed_remainder(width, s.bits(), t.bits()),
+        sy_meaning_core::signed_remainder(width, s.bits(), t.bits()),
     )
 }
 
@@ -61,6 +61,6 @@ pub(crate) fn signed_modulus(s: Word, t: Word) -> Word
     let width = s.width();
     Word::made(
         width,
-        sy_meaning_numbers::signed_modulus(width, s.bits(), t.bits()),
+        sy_meaning_core::signed_modulus(width, s.bits(), t.bits()),
     )
 }

@@ -18,7 +18,7 @@ use Rattle.sy_grammar_base.specs.Fits.{QuestionFits, IsTruth}
 use Rattle.sy_grammar_base.specs.Formed.{is_known}
 use Rattle.sy_grammar_base.specs.Questions.{question_of, signatures}
 use Rattle.sy_grammar_base.specs.declared.problem.Problem.{Problem}
-use Rattle.sy_grammar_laws.proofs.Problems.{problem_definitions, problem_variables, problem_assumptions, problem_constraints}
+use Rattle.sy_grammar_base.proofs.Problems.{problem_definitions, problem_variables, problem_assumptions, problem_constraints}
 use Rattle.sy_query_base.specs.Queries.{violating, without_calls}
 use Rattle.sy_query_base.specs.Weights.{weight, weights, query_scope}
 use Rattle.sy_query_base.specs.Asked.{Query, QueryFits, query_weight}

@@ -14,8 +14,8 @@ use sy_io::Bytes;
 use sy_scope_causes::{Title, Titles};
 use sy_seq::Want;
 use sy_terms::{Bodies, Sort, Term, Theory};
+use sy_text::write_symbol;
 use sy_text_items::Name;
-use sy_text_writer::write_symbol;
 
 /// The reply that gives these bodies: a line `(`, a line `(define-fun NAME (ARGS) SORT BODY)` for each function to be
 /// found, in order of declaration, and a line `)`. Each line ends with byte 10. Of the titles and the names of

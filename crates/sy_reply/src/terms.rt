@@ -8,8 +8,8 @@ use crate::symbols::{write_operator, write_value};
 use sy_io::Bytes;
 use sy_seq::Want;
 use sy_terms::{Fun, Term, Terms, Theory};
+use sy_text::write_symbol;
 use sy_text_items::Name;
-use sy_text_writer::write_symbol;
 
 /// Appends the name at a place.
 fn write_name(out: &mut Bytes, names: &[Name], place: u32) -> Result<(), Want>

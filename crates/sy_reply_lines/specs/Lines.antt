@@ -1,7 +1,7 @@
 -- The lines that the program writes beside its replies. Numbers are decimal, and each line ends with byte 10.
 use Rattle.std.specs.Prelude.{ℕ, ◌+◌, List, [], ◌∷◌, ◌++◌, take, count_by, nat_eq, not, codes}
 use Rattle.std.specs.List.{suffix_len}
-use Rattle.sy_text_reader.specs.Spelling.{numeral_text}
+use Rattle.sy_text.specs.Spelling.{numeral_text}
 use Rattle.sy_scope_causes.specs.Causes.{number_of_cause, cause_name}
 use Rattle.sy_scope_causes.specs.declared.cause.Refused.{Refused}
 use Rattle.sy_query_limits.specs.declared.FailName.{FailName}

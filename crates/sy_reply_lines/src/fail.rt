@@ -7,7 +7,7 @@ use std::alloc::Global;
 use sy_io::Bytes;
 use sy_query_limits::FailName;
 use sy_seq::Want;
-use sy_text_writer::write_numeral;
+use sy_text::write_numeral;
 
 /// The name of what ended a search, as it is written.
 #[tactic(auto, unfolding(crate::specs::Lines::fail_name))]

@@ -8,9 +8,8 @@ use std::alloc::Global;
 use sy_io::Bytes;
 use sy_scope_causes::{Cause, Refused, cause_number};
 use sy_seq::Want;
+use sy_text::{line_column, write_numeral};
 use sy_text_items::TextFault;
-use sy_text_reader::line_column;
-use sy_text_writer::write_numeral;
 
 /// The name of a fault of the text.
 #[tactic(auto, unfolding(sy_scope_causes::specs::Causes::fault_name))]

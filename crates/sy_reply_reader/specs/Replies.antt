@@ -3,7 +3,7 @@ use Rattle.std.specs.Prelude.{ℕ, ◌+◌, List, [], ◌∷◌, Bool, true, fal
 use Rattle.sy_text_items.specs.Items.{Item, leaf, group, Items, none, more}
 use Rattle.sy_text_items.specs.declared.atom.Place.{Place}
 use Rattle.sy_text_items.specs.declared.fault.TextFault.{TextFault}
-use Rattle.sy_text_reader.specs.Reading.{command_at, offset_of}
+use Rattle.sy_text.specs.Reading.{command_at, offset_of}
 use Rattle.sy_terms.specs.Expr.{Expr}
 use Rattle.sy_terms.specs.declared.sort.Logic.{Logic}
 use Rattle.sy_terms.specs.declared.sort.Logic.TheVariants.{Lia, Bv}

@@ -1,6 +1,6 @@
 -- The line of a refused reply. Numbers are decimal, and the line ends with byte 10.
 use Rattle.std.specs.Prelude.{ℕ, List, [], ◌∷◌, ◌++◌, codes}
-use Rattle.sy_text_reader.specs.Spelling.{numeral_text}
+use Rattle.sy_text.specs.Spelling.{numeral_text}
 use Rattle.sy_scope_causes.specs.Causes.{cause_name, fault_name}
 use Rattle.sy_reply_lines.specs.Lines.{line_of, column_of}
 use Rattle.sy_reply_statements.specs.declared.refused.ReplyCause.{ReplyCause}

@@ -7,7 +7,7 @@ use std::alloc::Global;
 use sy_io::Bytes;
 use sy_reply_lines::{fault_name, position, put, put_cause};
 use sy_seq::Want;
-use sy_text_writer::write_numeral;
+use sy_text::write_numeral;
 
 /// Appends the name of a cause.
 #[tactic(auto, unfolding(crate::specs::Lines::reply_cause_name))]

@@ -1,6 +1,6 @@
 // Files.
 ghost use Rattle.std.specs.Prelude.{◌≡◌, ◌≤◌, ◌<◌, length, IfOk, IfSome, OnOk};
-ghost use Rattle.sy_text_reader.specs.Reading as reading;
+ghost use Rattle.sy_text.specs.Reading as reading;
 ghost use Rattle.sy_text_items.specs.Views.{command_of};
 ghost use Rattle.sy_terms.specs.Logics.{IsTheoryOf, Serves};
 ghost use Rattle.sy_scope_commands.specs.Asked.{request_in};
@@ -28,8 +28,8 @@ use sy_scope_context::step;
 use sy_scope_declared::{Asked, Context, check_feature, read_request};
 use sy_scope_ends::{ScopeEnd, ended, numbered};
 use sy_terms::{Logic, Seq, Theory};
+use sy_text::{TextEnd, next_command};
 use sy_text_items::{Place, Sexp, TextFault};
-use sy_text_reader::{TextEnd, next_command};
 
 /// The commands up to the one that sets the logic are done: the logic, and the offset and the number of the next one.
 #[derive(Clone, Copy)]

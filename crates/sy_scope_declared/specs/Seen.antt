@@ -12,7 +12,7 @@ use Rattle.sy_forms_phrases.specs.Measured.{measures_of}
 use Rattle.sy_scope_names.specs.Lists.{sorts_of_names}
 use Rattle.sy_scope_names.specs.Groups.{group_of}
 use Rattle.sy_scope_names.specs.declared.convert.Group.{Group}
-use Rattle.sy_grammar_defaults.specs.Defaults.{default_syntax}
+use Rattle.sy_grammar.specs.Defaults.{default_syntax}
 use Rattle.sy_scope_pool.specs.Kept.{pool_of}
 use Rattle.sy_scope_names.specs.Contexts as spec
 use Rattle.sy_scope_declared.specs.declared.context.Definition.{Definition}

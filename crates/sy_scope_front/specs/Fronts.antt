@@ -2,7 +2,7 @@
 use Rattle.std.specs.Prelude.{ℕ, zero, suc, ◌+◌, Bool, true, not, is_some, List, length, take, drop, Option, Some, None, Result, Ok, Err, if◌then◌else◌}
 use Rattle.sy_text_items.specs.Items.{Item, leaf, group, none, more}
 use Rattle.sy_text_items.specs.declared.fault.TextFault.{TextFault}
-use Rattle.sy_text_reader.specs.Reading.{command_at}
+use Rattle.sy_text.specs.Reading.{command_at}
 use Rattle.sy_forms_items.specs.Parts.{place_of, symbol}
 
 -- an item that begins a reply part: an atom, the empty list, or a list whose first part is no symbol

@@ -9,8 +9,8 @@ ghost use Rattle.sy_scope_front.specs.Fronts as spec;
 use std::alloc::Global;
 use sy_forms_items::{Rest, place_of, symbol};
 use sy_seq::Want;
+use sy_text::{TextEnd, next_command};
 use sy_text_items::Sexp;
-use sy_text_reader::{TextEnd, next_command};
 
 /// Whether a reply part begins with the item: an atom, the empty list, or a list whose first part is no symbol. No
 /// command has this form.

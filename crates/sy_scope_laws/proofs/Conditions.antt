@@ -13,7 +13,7 @@ use Rattle.sy_terms.specs.declared.sort.Sort.TheVariants as sorts
 use Rattle.sy_terms.specs.declared.sorts.Sorted.TheVariants.{Is}
 use Rattle.sy_terms.specs.declared.term.Fun.{Fun}
 use Rattle.sy_terms.specs.declared.term.Fun.TheVariants.{Defined, Wanted}
-use Rattle.sy_grammar_checks.proofs.Sorting.{same_sort_self}
+use Rattle.sy_grammar.proofs.Sorting.{same_sort_self}
 use Rattle.sy_forms_laws.proofs.Exprs.{front_at, back_at}
 use Rattle.sy_scope_names.specs.Changes.{Parts}
 use Rattle.sy_inv.specs.Conditions.{variables_at, call, binary, starts, keeps, ends}

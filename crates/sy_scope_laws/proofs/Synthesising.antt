@@ -15,8 +15,8 @@ use Rattle.sy_terms.specs.declared.term.Fun.TheVariants.{Defined, Wanted}
 use Rattle.sy_grammar_base.specs.Formed.{is_known}
 use Rattle.sy_grammar_base.specs.Trees.{Nonterminal}
 use Rattle.sy_terms.specs.Logics.{IsTheoryOf, number_sorts, operators_of}
-use Rattle.sy_grammar_defaults.specs.Defaults.{nonterminals}
-use Rattle.sy_grammar_defaults.proofs.Fitting.{default_formed}
+use Rattle.sy_grammar.specs.Defaults.{nonterminals}
+use Rattle.sy_grammar.proofs.Fitting.{default_formed}
 use Rattle.sy_forms_names.specs.declared.names.Entity.{Entity}
 use Rattle.sy_forms_names.specs.declared.names.Entity.TheVariants as entity
 use Rattle.sy_forms_names.specs.declared.names.Named.{Named}

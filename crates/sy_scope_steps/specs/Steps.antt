@@ -17,7 +17,7 @@ use Rattle.sy_forms_names.specs.Sorts.{read_sort}
 use Rattle.sy_forms.specs.Terms.{read_whole}
 use Rattle.sy_scope_names.specs.Lists.{sorts_of_names, read_named}
 use Rattle.sy_scope_steps.specs.Grammars.{Written, read_rulebook}
-use Rattle.sy_grammar_defaults.specs.Defaults.{default_syntax}
+use Rattle.sy_grammar.specs.Defaults.{default_syntax}
 use Rattle.sy_scope_pool.specs.Pools.{pooled}
 use Rattle.sy_scope_names.specs.Contexts.{Context, new_name, new_sought}
 use Rattle.sy_scope_names.specs.Contexts as contexts

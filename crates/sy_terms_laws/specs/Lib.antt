@@ -1,5 +1,5 @@
-pub mod Evaluation
-pub mod Tracing
 pub mod Agreement
 pub mod Asking
+pub mod Evaluation
 pub mod Plain
+pub mod Tracing

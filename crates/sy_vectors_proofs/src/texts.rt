@@ -2,8 +2,8 @@
 use std::alloc::Global;
 use std::process::Abort;
 use sy_proof::{read_log, read_tree, write_log, write_tree};
+use sy_text::next_command;
 use sy_text_items::Sexp;
-use sy_text_reader::next_command;
 
 /// Logs, each with byte 10 behind it.
 pub const LOGS: &str = "\

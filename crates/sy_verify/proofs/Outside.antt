@@ -18,8 +18,8 @@ use Rattle.sy_grammar_base.specs.Solving.{AreMembers}
 use Rattle.sy_grammar_base.specs.Trees.{IsMember, IsNumbered}
 use Rattle.sy_grammar_base.specs.declared.problem.Problem.{Problem}
 use Rattle.sy_grammar_base.specs.declared.problem.Wanted.{Wanted}
-use Rattle.sy_grammar_laws.proofs.Numbering.{numbered}
-use Rattle.sy_grammar_laws.proofs.Problems.{problem_grammars}
+use Rattle.sy_grammar_base.proofs.Numbering.{numbered}
+use Rattle.sy_grammar_base.proofs.Problems.{problem_grammars}
 use Rattle.sy_verify.specs.Posing.{IsFirstOutside}
 
 module _ {T N : Type 0} (number : N → Val) where

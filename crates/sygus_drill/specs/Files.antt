@@ -1,7 +1,7 @@
 -- The file of a number.
 use Rattle.std.specs.Prelude.{ℕ, ◌%◌, List, [], ◌∷◌, ◌++◌, codes}
 use Rattle.std.specs.List.{flat_map}
-use Rattle.sy_text_reader.specs.Spelling.{vector_text}
+use Rattle.sy_text.specs.Spelling.{vector_text}
 use Rattle.sygus_drill.specs.Examples.{examples}
 use Rattle.sygus_drill.specs.declared.generator.Example.{Example}
 

@@ -7,7 +7,7 @@ use crate::generator::{Example, examples};
 use std::alloc::Global;
 use sy_io::Bytes;
 use sy_seq::Want;
-use sy_text_writer::write_vector;
+use sy_text::write_vector;
 
 /// Appends the rule that tests whether the argument is below the number.
 #[tactic(auto, unfolding(crate::specs::Files::condition))]

@@ -7,7 +7,7 @@ use sy_io::Bytes;
 use sy_query_limits::FailName;
 use sy_reply_lines::name_text;
 use sy_seq::Want;
-use sy_text_writer::write_numeral;
+use sy_text::write_numeral;
 
 /// How the problem of a number ended.
 #[derive(Clone, Copy)]

@@ -2,9 +2,9 @@
 use Rattle.std.proofs.Common.{◌≡◌, ℕ, ◌%◌, ◌<◌, true, false, List, [], ◌∷◌, ◌++◌, refl, arith, append_assoc, ap}
 use Rattle.std.specs.Prelude.{codes}
 use Rattle.sy_text_items.specs.declared.atom.Atom.TheVariants.{Symbol, Numeral, Bits}
-use Rattle.sy_text_reader.specs.Grammar.{is_layout}
+use Rattle.sy_text.specs.Grammar.{is_layout}
 use Rattle.sy_text_items.specs.Lexicon.{space, digit, letter, mark, symbol_byte, quotable, bar_content}
-use Rattle.sy_text_reader.specs.Spelling.{all_bytes, atom_text, symbol_text, bare, vector_text, digits_of, decimal_len, digit_of, parted}
+use Rattle.sy_text.specs.Spelling.{all_bytes, atom_text, symbol_text, bare, vector_text, digits_of, decimal_len, digit_of, parted}
 use Rattle.sygus_drill.specs.Files.{condition, function, heading, constraint, line}
 use Rattle.sygus_drill.specs.declared.generator.Example.{Example}
 use Rattle.sygus_drill_laws.proofs.Laid.{Laid, word, list, Inside, close, next, text_in, texts_in, Stands, AllStand}

@@ -5,9 +5,9 @@ use Rattle.std.proofs.lemmas.List.{append-nil}
 use Rattle.std.specs.List.{flat_map, range_with_len}
 use Rattle.sy_text_items.specs.Items.{Item}
 use Rattle.sy_text_items.specs.Lexicon.{space}
-use Rattle.sy_text_reader.specs.Reading.{command_at, after_layout}
-use Rattle.sy_text_reader.specs.Spelling.{parted}
-use Rattle.sy_text_reader.proofs.Nested.{command_none}
+use Rattle.sy_text.specs.Reading.{command_at, after_layout}
+use Rattle.sy_text.specs.Spelling.{parted}
+use Rattle.sy_text.proofs.Nested.{command_none}
 use Rattle.sy_terms.specs.Values.{Val, Bits}
 use Rattle.sy_terms.specs.declared.sort.Logic.TheVariants.{Bv}
 use Rattle.sy_scope_causes.specs.declared.cause.Refused.{Refused}

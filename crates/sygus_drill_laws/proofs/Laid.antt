@@ -4,11 +4,11 @@ use Rattle.sy_text_items.specs.declared.atom.Atom.{Atom}
 use Rattle.sy_text_items.specs.declared.atom.Atom.TheVariants.{Symbol}
 use Rattle.sy_text_items.specs.declared.atom.Place.{Place}
 use Rattle.sy_text_items.specs.Items.{Item, leaf, group, Items, none, more}
-use Rattle.sy_text_reader.specs.Grammar.{is_layout, IsItem, AreItems, Alike, AllAlike}
-use Rattle.sy_text_reader.specs.Reading.{command_at}
-use Rattle.sy_text_reader.specs.Spelling.{atom_text, AtomFits, parted}
-use Rattle.sy_text_writer.proofs.Digits.{atom_spelled}
-use Rattle.sy_text_reader.proofs.Nests.{command_again}
+use Rattle.sy_text.specs.Grammar.{is_layout, IsItem, AreItems, Alike, AllAlike}
+use Rattle.sy_text.specs.Reading.{command_at}
+use Rattle.sy_text.specs.Spelling.{atom_text, AtomFits, parted}
+use Rattle.sy_text.proofs.Digits.{atom_spelled}
+use Rattle.sy_text.proofs.Nests.{command_again}
 use Rattle.sy_forms_items.specs.Parts.{place_of}
 
 -- an atom, or a list: gaps and items, and a last gap before the bracket

@@ -3,7 +3,7 @@ use Rattle.std.proofs.Common.{◌≡◌, ℕ, ◌*◌, ◌≤◌, List, [], ◌�
 use Rattle.std.specs.Prelude.{codes}
 use Rattle.std.specs.List.{flat_map}
 use Rattle.std.proofs.lemmas.List.FromFn.{length-map-range_with_len}
-use Rattle.sy_text_reader.specs.Spelling.{vector_text, digits_of}
+use Rattle.sy_text.specs.Spelling.{vector_text, digits_of}
 use Rattle.sygus_drill.specs.Examples.{examples, example_of, state_at}
 use Rattle.sygus_drill.specs.Files.{function, condition, line, constraint}
 use Rattle.sygus_drill.specs.declared.generator.Example.{Example}

@@ -2,9 +2,9 @@
 use Rattle.std.proofs.Common.{◌≡◌, ℕ, suc, ◌+◌, ◌-◌, ◌≤◌, true, false, List, ◌++◌, length, drop, Option, Some, Result, Ok, ap, ◌∙◌, arith, length-append}
 use Rattle.std.proofs.Math.Seq.{drop-append_seam}
 use Rattle.sy_text_items.specs.Items.{Item}
-use Rattle.sy_text_reader.specs.Grammar.{is_layout}
-use Rattle.sy_text_reader.specs.Reading.{command_at}
-use Rattle.sy_text_reader.specs.Spelling.{parted}
+use Rattle.sy_text.specs.Grammar.{is_layout}
+use Rattle.sy_text.specs.Reading.{command_at}
+use Rattle.sy_text.specs.Spelling.{parted}
 use Rattle.sy_scope_causes.specs.declared.cause.Refused.{Refused}
 use Rattle.sy_forms_items.specs.Readings.{Reading}
 use Rattle.sy_scope_names.specs.Contexts.{Context}

@@ -16,8 +16,8 @@ use Rattle.sy_grammar_base.specs.Fits.{with_functions, wanted_of, GoalFits, Ques
 use Rattle.sy_grammar_base.specs.Questions.{Goal, Question}
 use Rattle.sy_grammar_base.specs.Solving.{AreMembers}
 use Rattle.sy_grammar_base.specs.Trees.{Syntax, Nonterminal, Tree, Node, ConstantLeaf, VariableLeaf, Derives, rule_of, node_yield, constant_yield, variable_yield, yield_from, yields_from}
-use Rattle.sy_grammar_laws.proofs.Filling.{sort_at}
-use Rattle.sy_grammar_laws.proofs.Members.{member_fits, derived_fits}
+use Rattle.sy_grammar_base.proofs.Filling.{sort_at}
+use Rattle.sy_grammar_base.proofs.Members.{member_fits, derived_fits}
 use Rattle.sy_loop_bounds.specs.declared.reach.Reach.{Reach}
 use Rattle.sy_query_limits.specs.declared.Limits.{Limits}
 use Rattle.sy_loop_history.specs.Budgets.{CheckedLeaves, MemberLeaves}

@@ -1,7 +1,7 @@
 use Rattle.sy_grammar_base.specs.Grown.{syntax_from}
 use Rattle.sy_grammar_base.specs.Questions.{goal_of}
 use Rattle.sy_terms.specs.Definitions.{scope_of}
-use Rattle.sy_grammar_laws.proofs.Numbering.{numbered}
+use Rattle.sy_grammar_base.proofs.Numbering.{numbered}
 use Rattle.sy_loop_join.proofs.Planning.{first_goal, formed_first, none_chooses}
 use Rattle.sy_loop_join.proofs.plan.plan_of.Goals as goal
 

@@ -4,7 +4,7 @@ use Rattle.sy_terms.specs.Denoted.{expr_of, vals_of}
 use Rattle.sy_grammar_base.specs.Questions.{question_of}
 use Rattle.sy_grammar_base.specs.Solving.{IsTrueUnder}
 use Rattle.sy_grammar_base.specs.Fits.{IsTruth}
-use Rattle.sy_grammar_laws.proofs.Problems.{problem_assumptions}
+use Rattle.sy_grammar_base.proofs.Problems.{problem_assumptions}
 use Rattle.sy_loop_truth.proofs.Items.{item_of, all_more, all_done, has_at}
 use Rattle.sy_loop_refutation.specs.Bodies.{bodies_of}
 use Rattle.sy_loop_refutation.proofs.tell.are_assumed.Goals as goal

@@ -3,7 +3,7 @@ use Rattle.std.proofs.lemmas.List.Elements.{AllWithin-none, AllWithin-upto}
 use Rattle.sy_terms.specs.Denoted.{expr_of, vals_of}
 use Rattle.sy_grammar_base.specs.Questions.{question_of}
 use Rattle.sy_grammar_base.specs.Fits.{IsTruth}
-use Rattle.sy_grammar_laws.proofs.Problems.{problem_constraints}
+use Rattle.sy_grammar_base.proofs.Problems.{problem_constraints}
 use Rattle.sy_loop_truth.proofs.Items.{item_of, has_at}
 use Rattle.sy_loop_refutation.specs.Bodies.{bodies_of}
 use Rattle.sy_loop_refutation.specs.Refuting.{IsUnrefuted}

@@ -1,7 +1,7 @@
 use Rattle.std.proofs.Common.{sym, ◌∙◌}
 use mathlib.Core.Bool.{true≢false}
 use Rattle.sy_terms.specs.Denoted.{val_of, vals_of}
-use Rattle.sy_grammar_laws.proofs.Problems.{problem_definitions}
+use Rattle.sy_grammar_base.proofs.Problems.{problem_definitions}
 use Rattle.sy_loop_refutation.proofs.Telling.{few, tells_true, tells_false, tells_nothing}
 use Rattle.sy_loop_refutation.proofs.tell.tell.Goals as goal
 

@@ -1,6 +1,6 @@
 use Rattle.std.proofs.Common.{◌++◌, ◌∷◌, [], ◌%◌, List, ℕ, sym, ap, append_assoc}
 use Rattle.std.specs.Prelude.{codes}
-use Rattle.sy_text_reader.specs.Spelling.{vector_text}
+use Rattle.sy_text.specs.Spelling.{vector_text}
 use Rattle.sygus_drill.specs.Files.{condition}
 use Rattle.sygus_drill.proofs.Texts.{three}
 use Rattle.sygus_drill.proofs.file.put_condition.Goals as goal
