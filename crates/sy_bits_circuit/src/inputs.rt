@@ -3,7 +3,7 @@ ghost use Rattle.std.specs.Prelude.{◌≡◌, ◌≤◌, ◌<◌, ◌+◌, ◌^
 ghost use Rattle.sy_gates.specs.Circuits.{word_number, word_bound};
 ghost use Rattle.sy_gates.specs.Models.{values_of};
 ghost use Rattle.sy_bits_operators.specs.Signals.{signal_value, signal_values, signal_sort, signal_sorts, signal_bound, signals_bound, sort_width, total_width, has_signals, AllHaveSignals};
-ghost use Rattle.sy_bits_terms.specs.Assignments.{number_of_bits, value_of_bits, assignment};
+ghost use Rattle.sy_bits_circuit.specs.Assignments.{number_of_bits, value_of_bits, assignment};
 
 use crate::width::width_of;
 use std::alloc::Global;

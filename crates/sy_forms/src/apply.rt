@@ -1,20 +1,18 @@
 // Heads at arguments.
 ghost use Rattle.std.specs.Prelude.{◌≡◌, OnOk};
 ghost use Rattle.sy_terms.specs.Fitting as fitting;
-ghost use Rattle.sy_forms_phrases.specs.Meant.{typed_of};
+ghost use Rattle.sy_forms_items.specs.Meant.{typed_of};
 ghost use Rattle.sy_forms.specs.Gathered.{several_of};
-ghost use Rattle.sy_forms_names.specs.Operators as operators;
-ghost use Rattle.sy_forms_phrases.specs.Phrases as phrases;
+ghost use Rattle.sy_forms_items.specs.Operators as operators;
+ghost use Rattle.sy_forms_items.specs.Phrases as phrases;
 ghost use Rattle.sy_forms_items.specs.Readings.{ReadingGives};
 ghost use Rattle.sy_forms.specs.Heads.{head_in};
 ghost use Rattle.sy_forms.specs.Terms as spec;
 
 use crate::head::Head;
 use std::alloc::Global;
-use sy_forms_items::ReadEnd;
+use sy_forms_items::{Phrases, ReadEnd, Typed, at_count, invocation, operation, same_sorts};
 use sy_forms_linear::is_linear;
-use sy_forms_names::{at_count, same_sorts};
-use sy_forms_phrases::{Phrases, Typed, invocation, operation};
 use sy_scope_causes::Cause;
 use sy_terms::{Op, Seq, Sort, Sorted, Theory, Want};
 use sy_terms_laws::operator_sort;

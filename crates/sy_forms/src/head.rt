@@ -2,22 +2,18 @@
 ghost use Rattle.std.specs.Prelude.{◌≡◌};
 ghost use Rattle.std.specs.Option.{option_map};
 ghost use Rattle.sy_text_items.specs.Views.{item_of};
-ghost use Rattle.sy_forms_phrases.specs.Meant.{typed_of};
+ghost use Rattle.sy_forms_items.specs.Meant.{typed_of};
 ghost use Rattle.sy_forms_items.specs.Readings.{ReadingGives};
-ghost use Rattle.sy_forms_names.specs.Seen.{environment_of, sense_in};
+ghost use Rattle.sy_forms_items.specs.Seen.{environment_of, sense_in};
 ghost use Rattle.sy_forms.specs.Heads.{head_in};
 ghost use Rattle.sy_terms.specs.Logics.{Serves};
 ghost use Rattle.sy_forms.specs.Terms as spec;
-ghost use Rattle.sy_forms_names.specs.Operators as operators;
+ghost use Rattle.sy_forms_items.specs.Operators as operators;
 ghost use Rattle.sy_forms_items.specs.Views.{indexed_of, items_in};
 
 use crate::literal::{numeral_term, vector_term};
 use std::alloc::Global;
-use sy_forms_items::{Indices, ReadEnd, Rest, indexed_name, is, is_symbol, symbol_in};
-use sy_forms_names::{
-    Environment, Locals, Sense, are_small, indexed_operator, is_indexed, operator_named, sense_of,
-};
-use sy_forms_phrases::{Phrases, Typed, invocation, literal, local, nonterminal, position};
+use sy_forms_items::{Environment, Indices, Locals, Phrases, ReadEnd, Rest, Sense, Typed, are_small, indexed_name, indexed_operator, invocation, is, is_indexed, is_symbol, literal, local, nonterminal, operator_named, position, sense_of, symbol_in};
 use sy_scope_causes::Cause;
 use sy_terms::{Fun, Logic, Op, Sort, Theory, Value};
 use sy_text_items::{Atom, Name, Place, Sexp};

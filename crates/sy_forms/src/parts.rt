@@ -7,8 +7,7 @@ ghost use Rattle.sy_forms_items.specs.Views.{items_in};
 ghost use Rattle.sy_forms.specs.Parts as parts;
 ghost use Rattle.sy_forms.specs.Terms as spec;
 
-use sy_forms_items::{ReadEnd, Rest, place_of, symbol};
-use sy_forms_names::{Locals, is_reserved};
+use sy_forms_items::{Locals, ReadEnd, Rest, is_reserved, place_of, symbol};
 use sy_scope_causes::Cause;
 use sy_terms::Logic;
 use sy_text_items::{Name, Place, Sexp};

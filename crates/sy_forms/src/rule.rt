@@ -1,21 +1,19 @@
 // Whole terms, and rules of grammars.
 ghost use Rattle.std.specs.Prelude.{[]};
 ghost use Rattle.sy_text_items.specs.Views.{item_of};
-ghost use Rattle.sy_forms_phrases.specs.Measured.{measures_of};
-ghost use Rattle.sy_forms_phrases.specs.Rulings.{ruling_of};
-ghost use Rattle.sy_forms_phrases.specs.Meant.{phrase_of, typed_of};
+ghost use Rattle.sy_forms_items.specs.Measured.{measures_of};
+ghost use Rattle.sy_forms_items.specs.Rulings.{ruling_of};
+ghost use Rattle.sy_forms_items.specs.Meant.{phrase_of, typed_of};
 ghost use Rattle.sy_forms_items.specs.Readings.{ReadingGives};
 ghost use Rattle.sy_forms.specs.Rules as spec;
-ghost use Rattle.sy_forms_names.specs.Seen.{environment_of};
+ghost use Rattle.sy_forms_items.specs.Seen.{environment_of};
 ghost use Rattle.sy_terms.specs.Logics.{Serves};
 ghost use Rattle.sy_forms.specs.Terms as terms;
 
 use crate::term::read_term;
 use std::alloc::Global;
-use sy_forms_items::{ReadEnd, Rest, place_of};
+use sy_forms_items::{Environment, Locals, Measures, Phrase, ReadEnd, Rest, Ruling, Typed, is_small, place_of, read_sort};
 use sy_forms_linear::item_behind;
-use sy_forms_names::{Environment, Locals, read_sort};
-use sy_forms_phrases::{Measures, Phrase, Ruling, Typed, is_small};
 use sy_scope_causes::Cause;
 use sy_terms::{Sort, Theory, same_sort};
 use sy_text_items::{Place, Sexp};

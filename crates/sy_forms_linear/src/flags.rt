@@ -3,12 +3,11 @@ ghost use Rattle.std.specs.Prelude.{◌≡◌, IfOk};
 ghost use Rattle.std.specs.Option.{option_map};
 ghost use Rattle.sy_text_items.specs.Views.{item_of};
 ghost use Rattle.sy_forms_items.specs.Views.{items_in};
-ghost use Rattle.sy_forms_names.specs.Seen.{environment_of};
+ghost use Rattle.sy_forms_items.specs.Seen.{environment_of};
 ghost use Rattle.sy_forms_linear.specs.Flags as spec;
 
 use std::alloc::Global;
-use sy_forms_items::{Rest, is_symbol, numeral};
-use sy_forms_names::{Environment, Named, read_sort};
+use sy_forms_items::{Environment, Named, Rest, is_symbol, numeral, read_sort};
 use sy_terms::{Seq, Sort, Want, same_sort};
 use sy_text_items::{Sexp, Sexps};
 

@@ -9,9 +9,9 @@ ghost use Rattle.sy_simplex.specs.Problems.{numbers};
 ghost use Rattle.sy_intsolve_paths_laws.specs.Paths.{Suit};
 ghost use Rattle.sy_intsolve_cuts.specs.Cuts.{IsRoundingForm};
 
+use crate::keeping::number_at;
 use std::alloc::{AllocError, Global};
 use sy_frac::{Frac, is_below_one, is_below_zero};
-use sy_intsolve_points::number_at;
 use sy_linear::{cut, suits};
 use sy_linear_known::{CheckEnd, Fact, Form, Test};
 use sy_seq::Want;

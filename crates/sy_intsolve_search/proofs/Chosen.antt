@@ -15,8 +15,8 @@ use Rattle.sy_linear.specs.Judging.{Judgement, Accepted, TellsJudgement, contrad
 use Rattle.sy_linear.proofs.Refuting.{accepted}
 use Rattle.sy_simplex.specs.Problems.{numbers}
 use Rattle.sy_frac.specs.Rational.{is_negative_rational}
-use Rattle.sy_intsolve_points.specs.Points.{IsPointOf, IsMetBy}
-use Rattle.sy_intsolve_points.proofs.Wholes.{at-more}
+use Rattle.sy_intsolve_cuts.specs.Points.{IsPointOf, IsMetBy}
+use Rattle.sy_intsolve_cuts.proofs.Wholes.{at-more}
 
 -- what all have, the one at a place has
 pub all_at : (P : Fact → Type 0) (facts : List Fact) (i : ℕ) (fact : Fact) → All P facts → slice_get facts i ≡ Some fact → P fact

@@ -24,12 +24,12 @@ use Rattle.sy_linear.proofs.Accepting.{negative_times}
 use Rattle.sy_simplex.specs.Problems.{numbers}
 use Rattle.sy_simplex.specs.Runs.{RunIsSpent, IsOutOfRange}
 use Rattle.sy_simplex.specs.declared.answer.Run.{Run}
-use Rattle.sy_simplex_tableau.specs.Operations.{fraction_of_whole}
-use Rattle.sy_simplex_tableau.specs.Rows.{at}
+use Rattle.sy_simplex.specs.Operations.{fraction_of_whole}
+use Rattle.sy_simplex.specs.Rows.{at}
 use Rattle.sy_intsolve_paths_laws.specs.Paths.{IsPath, TestIsOpen}
 use Rattle.sy_intsolve_paths_laws.proofs.Paths.{asked}
 use Rattle.sy_intsolve_order.proofs.Openings.{suits_is}
-use Rattle.sy_intsolve_points.specs.Points.{IsPointOf, IsFirstBroken}
+use Rattle.sy_intsolve_cuts.specs.Points.{IsPointOf, IsFirstBroken}
 use Rattle.sy_intsolve_trees.specs.declared.fork.Fork.TheVariants as forks
 use Rattle.sy_intsolve_trees.specs.declared.step.Order.{Order}
 use Rattle.sy_intsolve_trees.specs.declared.step.Order.TheVariants.{First, Free}

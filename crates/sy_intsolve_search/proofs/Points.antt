@@ -13,7 +13,7 @@ use Rattle.sy_linear_known.specs.Trees.{added_fact, opposite_fact, at_or_below, 
 use Rattle.sy_linear.specs.Judging.{suits, opposite_fits, is_int, Adds, split_outcome, branch_outcome}
 use Rattle.sy_simplex.specs.declared.answer.Feasible.{Feasible}
 use Rattle.sy_simplex.specs.declared.answer.Feasible.TheVariants.{Point, Conflict, Pivots, Range}
-use Rattle.sy_intsolve_points.specs.Points.{IsPointOf, TellsPlace}
+use Rattle.sy_intsolve_cuts.specs.Points.{IsPointOf, TellsPlace}
 use Rattle.sy_intsolve_trees.specs.declared.fork.Fork.{Fork}
 use Rattle.sy_intsolve_trees.specs.declared.fork.Fork.TheVariants as forks
 use Rattle.sy_intsolve_trees.specs.declared.step.Order.{Order}

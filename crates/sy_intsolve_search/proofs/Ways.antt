@@ -9,7 +9,7 @@ use Rattle.sy_linear_known.specs.declared.path.Fact.TheVariants.{AtLeast}
 use Rattle.sy_linear_known.specs.declared.answer.Known.TheVariants as known
 use Rattle.sy_intsolve_paths_laws.specs.Paths.{Suit, IsPath}
 use Rattle.sy_intsolve_paths_laws.proofs.Paths.{path-none, path-form}
-use Rattle.sy_intsolve_points.specs.Points.{IsCornerOf}
+use Rattle.sy_intsolve_cuts.specs.Points.{IsCornerOf}
 use Rattle.sy_intsolve_cuts.specs.declared.choosing.Rounding.{Rounding}
 use Rattle.sy_intsolve_cuts.specs.Cuts.{IsCutBy}
 use Rattle.sy_intsolve_trees.specs.declared.fork.Fork.{Fork}

@@ -12,7 +12,7 @@ use Rattle.sy_linear_known.specs.Right.{Assigns}
 use Rattle.sy_linear_known.specs.Seen.{LinearQuery}
 use Rattle.sy_linear_known.specs.Stored.{tree_shape_of}
 use Rattle.sy_linear_known.specs.Trees.{TreeRefutes}
-use Rattle.sy_intsolve_points.specs.Points.{IsPointOf}
+use Rattle.sy_intsolve_cuts.specs.Points.{IsPointOf}
 use Rattle.sy_intsolve_trees.specs.declared.step.Order.{Order}
 use Rattle.sy_intsolve_trees.specs.declared.step.Order.TheVariants as orders
 use Rattle.sy_intsolve_trees.specs.declared.spent.IntSpent.{IntSpent}

@@ -3,7 +3,7 @@ use Rattle.std.specs.Prelude.{List}
 use Rattle.sy_terms.specs.declared.sort.Sort.{Sort}
 use Rattle.sy_linear_known.specs.declared.path.Fact.{Fact}
 use Rattle.sy_linear_known.specs.Trees.{forms, IsContradiction}
-use Rattle.sy_intsolve_points.specs.Points.{IsPointOf}
+use Rattle.sy_intsolve_cuts.specs.Points.{IsPointOf}
 use Rattle.sy_intsolve_search.specs.declared.rounds.Near.{Near}
 use Rattle.sy_intsolve_search.specs.declared.rounds.Near.TheVariants.{Point, Conflict, Unknown}
 use Rattle.sy_intsolve_search.specs.declared.rounds.Round.{Round}

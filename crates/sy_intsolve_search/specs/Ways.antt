@@ -15,7 +15,7 @@ use Rattle.sy_simplex.specs.declared.answer.Feasible.{Feasible}
 use Rattle.sy_simplex.specs.declared.answer.Feasible.TheVariants.{Point, Conflict, Pivots, Range}
 use Rattle.sy_simplex.specs.Runs.{RunIsSpent, IsOutOfRange}
 use Rattle.sy_intsolve_paths_laws.specs.Paths.{IsPath, TestIsOpen}
-use Rattle.sy_intsolve_points.specs.Points.{IsPointOf, IsFirstBroken, ValuesAreWhole}
+use Rattle.sy_intsolve_cuts.specs.Points.{IsPointOf, IsFirstBroken, ValuesAreWhole}
 use Rattle.sy_intsolve_trees.specs.declared.fork.Fork.{Fork}
 use Rattle.sy_intsolve_trees.specs.declared.fork.Fork.TheVariants as forks
 use Rattle.sy_intsolve_trees.specs.declared.step.Order.{Order}

@@ -7,7 +7,7 @@ use sy_frac::Frac;
 use sy_linear::contradicts;
 use sy_linear_known::{CheckEnd, Fact};
 use sy_seq::{Seq, Want};
-use sy_simplex_tableau::zero;
+use sy_simplex::zero;
 
 /// The multiplier of the fact at this place, by those of the chosen places; 0 where it isn't one of these.
 fn multiplier(place: usize, places: &[usize], multipliers: &[Frac]) -> Frac {

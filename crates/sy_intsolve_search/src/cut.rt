@@ -3,7 +3,7 @@ ghost use Rattle.std.specs.Prelude.{◌≡◌, IfOk};
 ghost use Rattle.sy_linear_known.specs.declared.answer.Known.TheVariants as known;
 ghost use Rattle.sy_linear_known.specs.Seen.{query_known};
 ghost use Rattle.sy_linear_known.specs.Stored.{linear_query_of};
-ghost use Rattle.sy_intsolve_points.specs.Points.{IsCornerOf};
+ghost use Rattle.sy_intsolve_cuts.specs.Points.{IsCornerOf};
 ghost use Rattle.sy_intsolve_cuts.specs.Cuts.{AllFound, IsCutBy};
 ghost use Rattle.sy_intsolve_search.specs.Ways.{IsNumberedQuery, IsLeaf};
 ghost use Rattle.sy_intsolve_search.specs.States.{IsTurn, room_open};
@@ -20,7 +20,7 @@ use sy_linear_known::Fact;
 use sy_meaning_integers::IntTheory;
 use sy_query_base::Query;
 use sy_seq::{Seq, Want};
-use sy_simplex_tableau::Tableau;
+use sy_simplex::Tableau;
 
 /// How many cuts may stand in a row.
 const MOST_IN_A_ROW: usize = 4;

@@ -4,7 +4,7 @@ ghost use Rattle.sy_linear_known.specs.declared.answer.Known.TheVariants as know
 ghost use Rattle.sy_linear_known.specs.Right.{KnownIsRight};
 ghost use Rattle.sy_linear_known.specs.Seen.{query_known};
 ghost use Rattle.sy_linear_known.specs.Stored.{linear_query_of};
-ghost use Rattle.sy_intsolve_points.specs.Points.{IsPointOf, IsCornerOf, IsPlaceOf};
+ghost use Rattle.sy_intsolve_cuts.specs.Points.{IsPointOf, IsCornerOf, IsPlaceOf};
 ghost use Rattle.sy_intsolve_trees.specs.declared.fork.Fork.TheVariants.{Branch};
 ghost use Rattle.sy_intsolve_trees.specs.Growing.{IsFork};
 ghost use Rattle.sy_intsolve_search.specs.Ways.{IsNumberedQuery, IsLeaf, IsSplit, CanTurn};
@@ -27,8 +27,7 @@ use sy_linear_known::{Known, Test, Tree};
 use sy_meaning_integers::IntTheory;
 use sy_query_base::Query;
 use sy_seq::{Seq, Want};
-use sy_simplex::{Ended, Feasible};
-use sy_simplex_tableau::Tableau;
+use sy_simplex::{Ended, Feasible, Tableau};
 
 /// The fork at the end of the way, where the tree may have an inner node more; else what shows that it may not.
 fn grow(

@@ -4,7 +4,7 @@ ghost use Rattle.sy_linear_known.specs.Right.{KnownIsRight, IsMisfit};
 ghost use Rattle.sy_linear_known.specs.Seen.{query_known};
 ghost use Rattle.sy_linear_known.specs.Stored.{linear_query_of};
 ghost use Rattle.sy_intsolve_paths_laws.specs.Paths.{IsPath};
-ghost use Rattle.sy_intsolve_points.specs.Points.{IsPointOf, TellsPlace};
+ghost use Rattle.sy_intsolve_cuts.specs.Points.{IsPointOf, TellsPlace};
 ghost use Rattle.sy_intsolve_search.specs.Telling.{IsNear};
 ghost use Rattle.sy_intsolve_search.specs.Ways.{IsNumberedQuery, IsBrokenIn, TellsPoint};
 
@@ -12,7 +12,7 @@ use crate::rounds::{Near, by_few_facts};
 use crate::way::Way;
 use std::alloc::Global;
 use sy_frac::Frac;
-use sy_intsolve_points::{first_broken, whole_or_corner};
+use sy_intsolve_cuts::{first_broken, whole_or_corner};
 use sy_linear_known::{Known, known_under};
 use sy_meaning_integers::IntTheory;
 use sy_query_base::Query;

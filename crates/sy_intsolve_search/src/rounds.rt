@@ -2,7 +2,7 @@
 ghost use Rattle.std.specs.Prelude.{◌<◌, ◌^◌, [], List, length, IfOk};
 ghost use Rattle.sy_terms.specs.declared.sort.Sort.{Sort};
 ghost use Rattle.sy_intsolve_paths_laws.specs.Paths.{IsPath};
-ghost use Rattle.sy_intsolve_points.specs.Points.{IsPointOf};
+ghost use Rattle.sy_intsolve_cuts.specs.Points.{IsPointOf};
 ghost use Rattle.sy_intsolve_search.specs.Telling.{IsNear, IsToldBy};
 
 use crate::conflict::contradiction;
@@ -10,7 +10,7 @@ use crate::measures::worst;
 use crate::subset::{are_met, with_fact};
 use std::alloc::Global;
 use sy_frac::Frac;
-use sy_intsolve_points::corner;
+use sy_intsolve_cuts::corner;
 use sy_linear_known::Fact;
 use sy_seq::{Seq, Want};
 use sy_simplex::{Ended, Feasible};

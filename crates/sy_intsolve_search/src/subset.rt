@@ -3,11 +3,11 @@ ghost use Rattle.std.specs.Prelude.{◌≡◌, List, [], All, true, IfOk, IfSome
 ghost use Rattle.sy_terms.specs.declared.sort.Sort.{Sort};
 ghost use Rattle.sy_linear_known.specs.declared.path.Fact.TheVariants.{AtLeast};
 ghost use Rattle.sy_intsolve_paths_laws.specs.Paths.{Suit, IsPath};
-ghost use Rattle.sy_intsolve_points.specs.Points.{IsPointOf};
+ghost use Rattle.sy_intsolve_cuts.specs.Points.{IsPointOf};
 
 use std::alloc::Global;
 use sy_frac::Frac;
-use sy_intsolve_points::meets;
+use sy_intsolve_cuts::meets;
 use sy_linear_forms::Form;
 use sy_linear_known::Fact;
 use sy_seq::Want;

@@ -14,7 +14,7 @@ use Rattle.sy_linear_known.specs.Trees.{added_fact, opposite_fact, at_or_below, 
 use Rattle.sy_linear_known.specs.Trees as shape
 use Rattle.sy_linear_known.specs.Points.{form_value_at}
 use Rattle.sy_simplex.specs.Problems.{numbers}
-use Rattle.sy_intsolve_points.specs.Points.{IsPointOf, IsCornerOf, IsFirstBroken}
+use Rattle.sy_intsolve_cuts.specs.Points.{IsPointOf, IsCornerOf, IsFirstBroken}
 use Rattle.sy_intsolve_trees.specs.declared.fork.Fork.{Fork}
 use Rattle.sy_intsolve_trees.specs.declared.fork.Fork.TheVariants as forks
 use Rattle.sy_intsolve_trees.specs.declared.step.Order.{Order}

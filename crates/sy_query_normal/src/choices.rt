@@ -8,7 +8,7 @@ ghost use Rattle.sy_terms.specs.Operators.{op_value};
 ghost use Rattle.sy_terms.specs.declared.op.Op.TheVariants as ops;
 ghost use Rattle.sy_terms.specs.declared.sort.Sort.{Sort};
 ghost use Rattle.sy_meaning_words.specs.Vectors.{vector};
-ghost use Rattle.sy_query_sums.specs.Sums.{IsSameOver};
+ghost use Rattle.sy_rewrite_orders.specs.Sums.{IsSameOver};
 
 use std::alloc::Global;
 use sy_meaning_words::{BvTheory, Word};

@@ -3,7 +3,7 @@ ghost use Rattle.std.specs.Prelude.{IfOk, IfSome};
 ghost use Rattle.sy_terms.specs.Denoted.{expr_of, exprs_of};
 ghost use Rattle.sy_terms.specs.Expr.{Apply};
 ghost use Rattle.sy_meaning_words.specs.Vectors.{vector};
-ghost use Rattle.sy_query_sums.specs.Sums.{IsSameOver, AreSameOver};
+ghost use Rattle.sy_rewrite_orders.specs.Sums.{IsSameOver, AreSameOver};
 
 use crate::choices::chosen;
 use crate::itself::by_itself;

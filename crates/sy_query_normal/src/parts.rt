@@ -11,7 +11,7 @@ ghost use Rattle.sy_terms.specs.declared.sort.Sort.{Sort};
 ghost use Rattle.sy_meaning_words.specs.Vectors.{vector};
 ghost use Rattle.sy_query_normal.specs.Unordered as spec;
 ghost use Rattle.sy_query_normal.specs.Unordered.{GiveTheSame, IsUnordered};
-ghost use Rattle.sy_query_sums.specs.Sums.{BeginWithSorts};
+ghost use Rattle.sy_rewrite_orders.specs.Sums.{BeginWithSorts};
 
 use crate::order::is_before_among;
 use crate::sorts::has_sort;

@@ -6,7 +6,7 @@ ghost use Rattle.sy_terms.specs.Expr.{Apply, more, none};
 ghost use Rattle.sy_terms.specs.Operators.{op_value};
 ghost use Rattle.sy_terms.specs.Theories.{sort_of_value};
 ghost use Rattle.sy_meaning_words.specs.Vectors.{vector};
-ghost use Rattle.sy_query_sums.specs.Sums.{IsSameOver};
+ghost use Rattle.sy_rewrite_orders.specs.Sums.{IsSameOver};
 
 use crate::order::is_before;
 use crate::sorts::have_one_sort;

@@ -8,7 +8,7 @@ ghost use Rattle.sy_terms.specs.Theories.{sort_of_value};
 ghost use Rattle.sy_terms.specs.declared.sort.Sort.TheVariants as kinds;
 ghost use Rattle.sy_meaning_words.specs.Vectors.{vector};
 ghost use Rattle.sy_query_normal.specs.Truths as spec;
-ghost use Rattle.sy_query_sums.specs.Sums.{BeginWithSorts};
+ghost use Rattle.sy_rewrite_orders.specs.Sums.{BeginWithSorts};
 
 use std::alloc::Global;
 use sy_meaning_words::{BvTheory, Word};

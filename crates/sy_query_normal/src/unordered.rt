@@ -6,7 +6,7 @@ ghost use Rattle.sy_terms.specs.Expr.{Apply};
 ghost use Rattle.sy_terms.specs.Meaning.{meaning, meanings};
 ghost use Rattle.sy_terms.specs.declared.sort.Sort.TheVariants as kinds;
 ghost use Rattle.sy_meaning_words.specs.Vectors.{vector};
-ghost use Rattle.sy_query_sums.specs.Sums.{IsSameOver};
+ghost use Rattle.sy_rewrite_orders.specs.Sums.{IsSameOver};
 ghost use Rattle.sy_query_normal.specs.Unordered.{GiveTheSame, IsUnordered};
 
 use crate::parts::{are_in_order, count, flattened, in_order};

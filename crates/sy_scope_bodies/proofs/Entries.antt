@@ -4,7 +4,7 @@ use Rattle.std.proofs.lemmas.List.{drop_more, drop_all}
 use Rattle.sy_terms.specs.Definitions.{signature}
 use Rattle.sy_terms.specs.declared.term.Def.{Def}
 use Rattle.sy_scope_causes.specs.declared.titles.Title.{Title}
-use Rattle.sy_forms_names.specs.declared.names.Entity.{Entity}
+use Rattle.sy_forms_items.specs.declared.names.Entity.{Entity}
 use Rattle.sy_scope_bodies.specs.Around.{definition_at, sought_at, defined_from, wanted_from, with_entry, with_entries}
 
 -- what is left from an item on

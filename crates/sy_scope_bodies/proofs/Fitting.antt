@@ -15,24 +15,24 @@ use Rattle.sy_terms.specs.declared.sort.Sort.TheVariants as sorts
 use Rattle.sy_grammar_base.specs.Fits.{with_functions}
 use Rattle.sy_scope_causes.specs.declared.titles.Title.{Title}
 use Rattle.sy_scope_causes.specs.declared.titles.Titles.{Titles}
-use Rattle.sy_forms_names.specs.declared.names.Entity.{Entity}
-use Rattle.sy_forms_names.specs.declared.names.Named.{Named}
-use Rattle.sy_forms_names.specs.declared.names.Role.TheVariants as role
-use Rattle.sy_forms_names.specs.Environments.{entry_under, place_among, declared_in}
-use Rattle.sy_forms_phrases.specs.Phrases.{Phrase, expr_at}
+use Rattle.sy_forms_items.specs.declared.names.Entity.{Entity}
+use Rattle.sy_forms_items.specs.declared.names.Named.{Named}
+use Rattle.sy_forms_items.specs.declared.names.Role.TheVariants as role
+use Rattle.sy_forms_items.specs.Environments.{entry_under, place_among, declared_in}
+use Rattle.sy_forms_items.specs.Phrases.{Phrase, expr_at}
 use Rattle.sy_forms_items.specs.Readings.{Reading, ReadingFails}
 use Rattle.sy_forms_items.specs.declared.fault.ReadEnd.{ReadEnd}
 use Rattle.sy_forms_items.specs.declared.fault.ReadEnd.TheVariants as read_ends
 use Rattle.sy_forms_items.proofs.Readings.{bound}
-use Rattle.sy_forms_laws.specs.Declared.{setting_with, IsDeclared}
-use Rattle.sy_forms_laws.specs.Fitting.{phrase_sort}
-use Rattle.sy_forms_laws.specs.Right.{EnvironmentIsRight}
-use Rattle.sy_forms_laws.proofs.Bodies.{in_body, argument_or}
-use Rattle.sy_forms_laws.proofs.Names.{place_among_at}
-use Rattle.sy_forms_laws.proofs.Readings.{at_read}
-use Rattle.sy_forms_laws.proofs.Sorts.{entry_has}
-use Rattle.sy_forms_laws.proofs.Terms.{whole_fits}
-use Rattle.sy_forms_laws.proofs.Whole.{term_fits}
+use Rattle.sy_forms.specs.Declared.{setting_with, IsDeclared}
+use Rattle.sy_forms.specs.Fitting.{phrase_sort}
+use Rattle.sy_forms.specs.Right.{EnvironmentIsRight}
+use Rattle.sy_forms.proofs.Bodies.{in_body, argument_or}
+use Rattle.sy_forms.proofs.Names.{place_among_at}
+use Rattle.sy_forms.proofs.Readings.{at_read}
+use Rattle.sy_forms.proofs.Sorts.{entry_has}
+use Rattle.sy_forms.proofs.Terms.{whole_fits}
+use Rattle.sy_forms.proofs.Whole.{term_fits}
 use Rattle.sy_scope_names.specs.Contexts.{Context}
 use Rattle.sy_scope_names.specs.Lists.{sorts_of_names}
 use Rattle.sy_scope_names.proofs.Earlier.{bind_ok}

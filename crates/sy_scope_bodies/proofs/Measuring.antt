@@ -7,9 +7,9 @@ use Rattle.sy_terms.specs.Definitions.{body, bodies}
 use Rattle.sy_terms.specs.Denoted.{expr_of, exprs_of}
 use Rattle.sy_terms.specs.declared.term.Def.{Def}
 use Rattle.sy_terms.specs.declared.term.Term.{Term}
-use Rattle.sy_forms_phrases.specs.Measures.{Measures, of_body, unfolded_size, unfolded_sizes, unfolded_depth, unfolded_depths}
-use Rattle.sy_forms_phrases.specs.Phrases as phrase
-use Rattle.sy_forms_phrases.specs.Phrases.{Phrase, Phrases, expr_at, exprs_at}
+use Rattle.sy_forms_items.specs.Measures.{Measures, of_body, unfolded_size, unfolded_sizes, unfolded_depth, unfolded_depths}
+use Rattle.sy_forms_items.specs.Phrases as phrase
+use Rattle.sy_forms_items.specs.Phrases.{Phrase, Phrases, expr_at, exprs_at}
 use Rattle.sy_scope_bodies.specs.Sizes.{expr_size, expr_sizes, expr_depth, expr_depths, measured_with, measured_behind}
 
 -- a list with one term more

@@ -6,9 +6,9 @@ use Rattle.sy_terms.specs.declared.sort.Sort.TheVariants as sorts
 use Rattle.sy_terms.specs.declared.term.Fun.TheVariants.{Defined, Wanted}
 use Rattle.sy_scope_causes.specs.declared.titles.Title.{Title}
 use Rattle.sy_scope_causes.specs.declared.titles.Titles.{Titles}
-use Rattle.sy_forms_names.specs.declared.names.Entity.{Entity}
-use Rattle.sy_forms_names.specs.declared.names.Entity.TheVariants as entity
-use Rattle.sy_forms_names.specs.Environments.{entry_under}
+use Rattle.sy_forms_items.specs.declared.names.Entity.{Entity}
+use Rattle.sy_forms_items.specs.declared.names.Entity.TheVariants as entity
+use Rattle.sy_forms_items.specs.Environments.{entry_under}
 use Rattle.sy_scope_names.specs.Contexts.{Context, beginning}
 use Rattle.sy_scope_bodies.specs.Sizes.{measures_in}
 

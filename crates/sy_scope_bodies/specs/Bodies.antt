@@ -8,9 +8,9 @@ use Rattle.sy_terms.specs.declared.sort.Logic.{Logic}
 use Rattle.sy_terms.specs.declared.sort.Sort.{Sort}
 use Rattle.sy_grammar_base.specs.Fits.{with_functions}
 use Rattle.sy_scope_causes.specs.declared.titles.Titles.{Titles}
-use Rattle.sy_forms_names.specs.declared.names.Named.{Named}
-use Rattle.sy_forms_names.specs.declared.names.Role.TheVariants as role
-use Rattle.sy_forms_phrases.specs.Phrases.{expr_at}
+use Rattle.sy_forms_items.specs.declared.names.Named.{Named}
+use Rattle.sy_forms_items.specs.declared.names.Role.TheVariants as role
+use Rattle.sy_forms_items.specs.Phrases.{expr_at}
 use Rattle.sy_forms_items.specs.Readings.{Reading, refuse, ◌>>=◌}
 use Rattle.sy_scope_ends.specs.declared.ScopeEnd.{ScopeEnd}
 use Rattle.sy_scope_ends.specs.declared.ScopeEnd.TheVariants as ends

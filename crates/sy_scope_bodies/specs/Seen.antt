@@ -1,5 +1,5 @@
 -- What is declared around bodies, apart from memory.
-use Rattle.sy_forms_phrases.specs.Measured.{measures_of}
+use Rattle.sy_forms_items.specs.Measured.{measures_of}
 use Rattle.sy_scope_names.specs.Contexts.{Context, beginning}
 use Rattle.sy_scope_bodies.specs.declared.surroundings.Surroundings.{Surroundings}
 

@@ -1,8 +1,8 @@
 -- Unfolded sizes and depths of terms.
 use Rattle.std.specs.Prelude.{ℕ, ◌+◌, min, max, List, [], ◌∷◌, ◌++◌, ◌≡◌}
 use Rattle.sy_terms.specs.Expr.{Expr, Exprs, Constant, Variable, Apply, Invoke, Bind, none, more}
-use Rattle.sy_forms_phrases.specs.Measures.{Measures, of_body, unfolded_size, unfolded_depth}
-use Rattle.sy_forms_phrases.specs.Phrases.{Phrase, expr_at}
+use Rattle.sy_forms_items.specs.Measures.{Measures, of_body, unfolded_size, unfolded_depth}
+use Rattle.sy_forms_items.specs.Phrases.{Phrase, expr_at}
 
 -- the nodes, with those of the bodies that are called, where the bodies of the definitions have these sizes
 unfoldable mutual

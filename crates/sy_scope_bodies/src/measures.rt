@@ -2,12 +2,12 @@
 ghost use Rattle.std.specs.Prelude.{◌≡◌, min, IfOk, OnOk};
 ghost use Rattle.sy_terms.specs.Denoted.{expr_of, exprs_of};
 ghost use Rattle.sy_terms.specs.Definitions.{bodies};
-ghost use Rattle.sy_forms_phrases.specs.Measures.{of_body};
-ghost use Rattle.sy_forms_phrases.specs.Measured.{measures_of};
+ghost use Rattle.sy_forms_items.specs.Measures.{of_body};
+ghost use Rattle.sy_forms_items.specs.Measured.{measures_of};
 ghost use Rattle.sy_scope_bodies.specs.Sizes as spec;
 
 use std::alloc::Global;
-use sy_forms_phrases::Measures;
+use sy_forms_items::Measures;
 use sy_terms::{Def, Fun, Seq, Term, Theory, Want};
 
 /// Sizes and depths above these count as these: one more than a body may have.

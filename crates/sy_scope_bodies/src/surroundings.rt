@@ -6,8 +6,7 @@ ghost use Rattle.sy_scope_bodies.specs.Seen.{context_around};
 
 use crate::measures::measures_in;
 use std::alloc::Global;
-use sy_forms_names::{Entity, Names};
-use sy_forms_phrases::Measures;
+use sy_forms_items::{Entity, Measures, Names};
 use sy_scope_causes::{Title, Titles};
 use sy_terms::{Def, Defs, Fun, Seq, Sort, Theory, Want};
 use sy_text_items::Name;

@@ -1,17 +1,15 @@
 // Variables, abbreviations of sorts, and terms in a context.
 ghost use Rattle.std.specs.Prelude.{◌≡◌, None, OnOk};
 ghost use Rattle.sy_text_items.specs.Views.{item_of};
-ghost use Rattle.sy_forms_names.specs.Environments.{entry_under};
+ghost use Rattle.sy_forms_items.specs.Environments.{entry_under};
 ghost use Rattle.sy_forms_items.specs.Readings.{ReadingGives};
-ghost use Rattle.sy_scope_commands.specs.Asked.{spelled_of};
+ghost use Rattle.sy_scope_names.specs.Asked.{spelled_of};
 ghost use Rattle.sy_scope_declared.specs.Seen.{context_of};
 ghost use Rattle.sy_scope_names.specs.Changes as spec;
 
 use crate::context::Context;
-use sy_forms_items::ReadEnd;
-use sy_forms_names::{Entity, read_sort};
-use sy_scope_commands::Spelled;
-use sy_scope_names::{new_name, new_sort_name};
+use sy_forms_items::{Entity, ReadEnd, read_sort};
+use sy_scope_names::{Spelled, new_name, new_sort_name};
 use sy_terms::{Sort, Theory, Want};
 use sy_text_items::Sexp;
 

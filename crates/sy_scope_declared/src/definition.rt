@@ -1,23 +1,21 @@
 // What a definition adds.
 ghost use Rattle.std.specs.Prelude.{◌≡◌, ◌++◌, ◌∷◌, [], None, true, OnOk};
 ghost use Rattle.sy_terms.specs.declared.term.Fun.TheVariants as funs;
-ghost use Rattle.sy_forms_names.specs.declared.names.Entity.TheVariants as entity;
-ghost use Rattle.sy_forms_names.specs.Environments.{entry_under};
-ghost use Rattle.sy_forms_phrases.specs.Meant.{phrase_of};
-ghost use Rattle.sy_forms_phrases.specs.Measured.{measures_of};
-ghost use Rattle.sy_forms_phrases.specs.Measures.{is_within_limits, literals_in};
+ghost use Rattle.sy_forms_items.specs.declared.names.Entity.TheVariants as entity;
+ghost use Rattle.sy_forms_items.specs.Environments.{entry_under};
+ghost use Rattle.sy_forms_items.specs.Meant.{phrase_of};
+ghost use Rattle.sy_forms_items.specs.Measured.{measures_of};
+ghost use Rattle.sy_forms_items.specs.Measures.{is_within_limits, literals_in};
 ghost use Rattle.sy_scope_names.specs.Lists.{sorts_of_names};
-ghost use Rattle.sy_scope_pool.specs.Kept.{pool_of};
-ghost use Rattle.sy_scope_pool.specs.Pools.{pooled};
+ghost use Rattle.sy_scope_names.specs.Kept.{pool_of};
+ghost use Rattle.sy_scope_names.specs.Pools.{pooled};
 ghost use Rattle.sy_scope_declared.specs.Seen.{context_of, definition_of};
 ghost use Rattle.sy_scope_names.specs.Changes as spec;
 
 use crate::context::{Context, Definition};
 use std::alloc::Global;
-use sy_forms_names::{Entity, Names};
-use sy_forms_phrases::{Measures, Phrase};
-use sy_scope_names::sorts_of;
-use sy_scope_pool::Pool;
+use sy_forms_items::{Entity, Measures, Names, Phrase};
+use sy_scope_names::{Pool, sorts_of};
 use sy_terms::{Fun, Seq, Theory, Want};
 
 /// Adds the values that are written in a phrase.

@@ -2,7 +2,7 @@
 ghost use Rattle.std.specs.Prelude.{◌≡◌, ◌++◌, ◌*◌, length, true, OnOk, IfOk};
 ghost use Rattle.std.specs.Option.{option_map};
 ghost use Rattle.sy_forms_items.specs.Readings.{ReadingGives};
-ghost use Rattle.sy_scope_commands.specs.Asked.{spelled_of};
+ghost use Rattle.sy_scope_names.specs.Asked.{spelled_of};
 ghost use Rattle.sy_scope_declared.specs.Calls.{called_of, parts_of};
 ghost use Rattle.sy_scope_names.specs.Contexts as contexts;
 ghost use Rattle.sy_scope_declared.specs.Seen.{context_of};
@@ -11,12 +11,10 @@ ghost use Rattle.sy_scope_names.specs.Changes as spec;
 
 use crate::context::{Condition, Context};
 use std::alloc::Global;
-use sy_forms_items::ReadEnd;
-use sy_forms_names::{Entity, Names, same_sorts};
+use sy_forms_items::{Entity, Names, ReadEnd, same_sorts};
 use sy_inv::expand;
 use sy_scope_causes::Cause;
-use sy_scope_commands::Spelled;
-use sy_scope_names::has_room;
+use sy_scope_names::{Spelled, has_room};
 use sy_terms::{Fun, Seq, Sort, Theory, Want, same_sort};
 use sy_text_items::Place;
 

@@ -3,13 +3,12 @@ ghost use Rattle.std.specs.Prelude.{◌≡◌, map, IfOk};
 ghost use Rattle.sy_scope_names.specs.Jobs as spec;
 ghost use Rattle.sy_scope_declared.specs.Seen.{context_of, definition_of, sought_of};
 ghost use Rattle.sy_terms.specs.declared.sort.Logic.{Logic};
-ghost use Rattle.sy_forms_names.specs.declared.names.Named.{Named};
+ghost use Rattle.sy_forms_items.specs.declared.names.Named.{Named};
 ghost use Rattle.sy_scope_names.specs.Contexts as contexts;
 
 use crate::context::{Context, Definition, Sought};
 use std::alloc::Global;
-use sy_forms_items::copied;
-use sy_forms_names::Named;
+use sy_forms_items::{Named, copied};
 use sy_scope_causes::{Title, Titles};
 use sy_terms::{Seq, Theory, Want};
 use sy_text_items::Name;

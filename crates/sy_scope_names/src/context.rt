@@ -1,12 +1,11 @@
 // Room for names, and new names.
 ghost use Rattle.std.specs.Prelude.{◌≡◌, None, IfOk};
-ghost use Rattle.sy_forms_names.specs.Environments.{entry_under};
+ghost use Rattle.sy_forms_items.specs.Environments.{entry_under};
 ghost use Rattle.sy_forms_items.specs.Readings.{ReadingGives};
 ghost use Rattle.sy_scope_names.specs.Contexts as spec;
 ghost use Rattle.sy_scope_names.specs.Known.{declared};
 
-use sy_forms_items::{ReadEnd, is};
-use sy_forms_names::{Names, is_reserved};
+use sy_forms_items::{Names, ReadEnd, is, is_reserved};
 use sy_scope_causes::Cause;
 use sy_terms::Logic;
 use sy_text_items::Place;

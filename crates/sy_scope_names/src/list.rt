@@ -1,16 +1,15 @@
 // Lists of names with sorts.
 ghost use Rattle.std.specs.Prelude.{◌≡◌, List, [], IfOk};
 ghost use Rattle.std.specs.Option.{option_map};
-ghost use Rattle.sy_scope_commands.specs.Requests.{symbol_spelled};
+ghost use Rattle.sy_scope_names.specs.Requests.{symbol_spelled};
 ghost use Rattle.sy_text_items.specs.Views.{item_of};
 ghost use Rattle.sy_forms_items.specs.Readings.{ReadingGives};
 ghost use Rattle.sy_forms_items.specs.Views.{items_in};
-ghost use Rattle.sy_forms_names.specs.declared.names.Named.{Named};
+ghost use Rattle.sy_forms_items.specs.declared.names.Named.{Named};
 ghost use Rattle.sy_scope_names.specs.Lists as spec;
 
 use std::alloc::Global;
-use sy_forms_items::{ReadEnd, Rest, copied, place_of, symbol};
-use sy_forms_names::{Named, Names, is_reserved, place_among, read_sort};
+use sy_forms_items::{Named, Names, ReadEnd, Rest, copied, is_reserved, place_among, place_of, read_sort, symbol};
 use sy_scope_causes::Cause;
 use sy_seq::{Seq, Want};
 use sy_terms::{Logic, Sort};

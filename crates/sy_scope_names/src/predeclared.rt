@@ -8,8 +8,7 @@ ghost use Rattle.sy_scope_names.specs.Lists as spec;
 
 use crate::list::{Naming, read_named};
 use std::alloc::Global;
-use sy_forms_items::{ReadEnd, Rest, place_of};
-use sy_forms_names::Named;
+use sy_forms_items::{Named, ReadEnd, Rest, place_of};
 use sy_scope_causes::Cause;
 use sy_seq::Seq;
 use sy_terms::{Sort, same_sort};

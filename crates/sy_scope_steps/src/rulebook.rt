@@ -1,18 +1,17 @@
 // Written grammars.
 ghost use Rattle.std.specs.Prelude.{◌≡◌};
 ghost use Rattle.sy_forms_items.specs.Readings.{ReadingGives};
-ghost use Rattle.sy_forms_names.specs.Seen.{environment_of};
+ghost use Rattle.sy_forms_items.specs.Seen.{environment_of};
 ghost use Rattle.sy_terms.specs.Logics.{Serves};
 ghost use Rattle.sy_scope_steps.specs.Grammars as spec;
 ghost use Rattle.sy_scope_steps.specs.Seen.{written_of};
-ghost use Rattle.sy_scope_commands.specs.Asked.{rulebook_of};
+ghost use Rattle.sy_scope_names.specs.Asked.{rulebook_of};
 
 use crate::groups::read_groups;
 use std::alloc::Global;
 use sy_forms::{Environment, Named, ReadEnd, Rest, Role, constant_groups, divisor_groups};
 use sy_scope_causes::Cause;
-use sy_scope_commands::Rulebook;
-use sy_scope_names::{Group, Naming, read_predeclared};
+use sy_scope_names::{Group, Naming, Rulebook, read_predeclared};
 use sy_seq::Seq;
 use sy_terms::{Sort, Theory, Values};
 use sy_text_items::{Place, Sexps};

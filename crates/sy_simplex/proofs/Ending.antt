@@ -2,7 +2,7 @@
 use Rattle.std.specs.Prelude.{◌≡◌, ℕ, ◌<◌, ◌≤◌, ◌+◌, ◌^◌, Bool, true, List, length}
 use Rattle.std.proofs.Common.{sym, ◌∙◌, subst, arith}
 use Rattle.sy_linear_forms.specs.declared.form.Form.{Form}
-use Rattle.sy_simplex_tableau.specs.States.{TableauState, basic}
+use Rattle.sy_simplex.specs.States.{TableauState, basic}
 use Rattle.sy_simplex.specs.Runs.{Ran, RunIsSpent}
 use Rattle.sy_simplex.proofs.Bridge.{basic_variable}
 use Rattle.sy_simplex.proofs.Sound.{IsSteady, of_tableau}

@@ -9,8 +9,8 @@ use Rattle.sy_frac.specs.Rational.{ℚ, 0ℚ, 1ℚ, ◌+ℚ◌, ◌*ℚ◌, neg_
 use Rattle.sy_linear_forms.specs.declared.form.Form.{Form}
 use Rattle.sy_linear_forms.specs.Total.{total, total-same, total_zero, total_split, zero_at, without_same, without_other}
 use Rattle.sy_linear_forms.specs.Systems.{form_at_point, IsRefutation}
-use Rattle.sy_simplex_tableau.specs.Rows.{at, Raises}
-use Rattle.sy_simplex_tableau.specs.States.{TableauState, variable_of_column, basic, row, coef, row_value, bound, IsStuck}
+use Rattle.sy_simplex.specs.Rows.{at, Raises}
+use Rattle.sy_simplex.specs.States.{TableauState, variable_of_column, basic, row, coef, row_value, bound, IsStuck}
 use Rattle.sy_simplex.specs.Problems.{system_of, numbers}
 use Rattle.sy_simplex.specs.Runs.{IsMultiplier, AreRowMultipliers}
 use Rattle.sy_simplex.proofs.Values.{zero_is, one_is, value_opposite, less_negative, opposite_not_negative, zero_numerator}

@@ -1,7 +1,7 @@
 -- The line of a number. Numbers are decimal.
 use Rattle.std.specs.Prelude.{ℕ, List, [], ◌∷◌, ◌++◌, codes}
 use Rattle.sy_text.specs.Spelling.{numeral_text}
-use Rattle.sy_reply_lines.specs.Lines.{fail_name}
+use Rattle.sy_reply.specs.Lines.{fail_name}
 use Rattle.sygus_drill.specs.declared.line.DrillEnd.{DrillEnd}
 use Rattle.sygus_drill.specs.declared.line.DrillEnd.TheVariants.{Met, Infeasible, Failed}
 

@@ -5,7 +5,7 @@ ghost use Rattle.sygus_drill.specs.Lines as lines;
 use std::alloc::Global;
 use sy_io::Bytes;
 use sy_query_limits::FailName;
-use sy_reply_lines::name_text;
+use sy_reply::name_text;
 use sy_seq::Want;
 use sy_text::write_numeral;
 

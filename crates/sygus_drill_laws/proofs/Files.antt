@@ -11,8 +11,8 @@ use Rattle.sy_text.proofs.Nested.{command_none}
 use Rattle.sy_terms.specs.Values.{Val, Bits}
 use Rattle.sy_terms.specs.declared.sort.Logic.TheVariants.{Bv}
 use Rattle.sy_scope_causes.specs.declared.cause.Refused.{Refused}
-use Rattle.sy_forms_phrases.specs.Phrases.{expr_at, exprs_at}
-use Rattle.sy_scope_pool.specs.Pools.{pooled}
+use Rattle.sy_forms_items.specs.Phrases.{expr_at, exprs_at}
+use Rattle.sy_scope_names.specs.Pools.{pooled}
 use Rattle.sy_scope_names.specs.Contexts.{Context, Condition, Written, beginning, with_logic, condition_at, question_at}
 use Rattle.sy_scope_steps.specs.Files.{file_from, file_read, command_read, read_as, after_command}
 use Rattle.sy_scope_names.specs.Jobs.{wish_of, wished}

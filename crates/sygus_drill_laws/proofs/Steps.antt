@@ -9,14 +9,14 @@ use Rattle.sy_terms.specs.Spelling.{spelling}
 use Rattle.sy_terms.specs.declared.op.Op.TheVariants as ops
 use Rattle.sy_terms.specs.declared.sort.Logic.TheVariants.{Bv}
 use Rattle.sy_terms.specs.declared.term.Fun.TheVariants.{Wanted}
-use Rattle.sy_forms_names.specs.declared.names.Entity.TheVariants as entity
-use Rattle.sy_forms_names.specs.Sorts.{read_sort}
-use Rattle.sy_forms_phrases.specs.Phrases.{Phrase, Literal, Operation, Invocation, none, more, pattern_at, patterns_at}
-use Rattle.sy_forms_phrases.specs.Measures.{unfolded_size, unfolded_sizes, unfolded_depth, unfolded_depths, literals_in, all_literals}
+use Rattle.sy_forms_items.specs.declared.names.Entity.TheVariants as entity
+use Rattle.sy_forms_items.specs.Sorts.{read_sort}
+use Rattle.sy_forms_items.specs.Phrases.{Phrase, Literal, Operation, Invocation, none, more, pattern_at, patterns_at}
+use Rattle.sy_forms_items.specs.Measures.{unfolded_size, unfolded_sizes, unfolded_depth, unfolded_depths, literals_in, all_literals}
 use Rattle.sy_forms.specs.Terms.{atom_term, read_head, head_applied, read_term, read_list, read_terms}
 use Rattle.sy_forms.specs.Rules.{read_rule}
-use Rattle.sy_scope_pool.specs.Pools.{pooled}
-use Rattle.sy_scope_commands.specs.Requests.{request_of}
+use Rattle.sy_scope_names.specs.Pools.{pooled}
+use Rattle.sy_scope_names.specs.Requests.{request_of}
 use Rattle.sy_scope_names.specs.Lists.{named_item, read_named}
 use Rattle.sy_scope_steps.specs.Grammars.{read_rules, read_group, read_groups, read_productions}
 use Rattle.sy_scope_names.specs.Contexts.{Context, Condition, Written, beginning, with_logic}

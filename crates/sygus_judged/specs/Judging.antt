@@ -16,8 +16,8 @@ use Rattle.sy_intsolve.specs.Proofs as int_proofs
 use Rattle.sy_bits.specs.Proofs as bits
 use Rattle.sy_scope_causes.specs.declared.titles.Titles.{Titles}
 use Rattle.sy_scope_names.specs.Jobs.{Wish}
-use Rattle.sy_reply_statements.specs.Ends.{ReplyReading}
-use Rattle.sy_reply_statements.specs.Statements.{Statement}
+use Rattle.sy_reply.specs.Ends.{ReplyReading}
+use Rattle.sy_reply.specs.Statements.{Statement}
 use Rattle.sy_reply_reader.specs.Replies.{statements_from}
 use Rattle.sy_text_items.specs.Items.{Item}
 use Rattle.sy_verify.specs.Checking.{IsChecked}
@@ -25,8 +25,8 @@ use Rattle.sy_verify.specs.Spelling.{IsSpelled}
 use Rattle.sy_verify.specs.declared.checked.Checked.{Checked}
 use Rattle.sy_verify.specs.declared.rechecked.Rechecked.{Rechecked}
 use Rattle.sy_verify.specs.declared.spelled.Spelled.{Spelled}
-use Rattle.sy_verify_logs.specs.Logs as logs
-use Rattle.sy_verify_trees.specs.Trees as trees
+use Rattle.sy_verify_proofs.specs.Logs as logs
+use Rattle.sy_verify_proofs.specs.Trees as trees
 use Rattle.sygus_answers.specs.Answers.{AreOfLogic}
 use Rattle.sygus_answers.specs.declared.answers.Answers.{Answers}
 use Rattle.sygus_answers.specs.declared.answers.Answers.TheVariants.{Idle, Ints, Bits, IntChecks, BitChecks, IntRechecks, BitRechecks, IntSpellings, BitSpellings}

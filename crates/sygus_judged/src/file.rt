@@ -11,7 +11,7 @@ ghost use Rattle.sygus_judged.specs.Judging.{WritesVerdicts, WritesLines, Writes
 use crate::job::{Replies, judge_job};
 use std::alloc::Global;
 use sy_io::Sink;
-use sy_reply_lines::refusal_text;
+use sy_reply::refusal_text;
 use sy_scope::{ScopeEnd, read_front};
 use sygus_answers::{Answers, Ended, unanswered};
 use sygus_words::Settings;

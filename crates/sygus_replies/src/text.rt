@@ -11,8 +11,7 @@ use sy_grammar_base::Problem;
 use sy_io::Bytes;
 use sy_loop_outcome::{Outcome, fail_name};
 use sy_query_base::Decide;
-use sy_reply::reply_text;
-use sy_reply_lines::fail_line;
+use sy_reply::{fail_line, reply_text};
 use sy_scope_causes::Titles;
 use sy_terms::{Theory, Want};
 

@@ -11,9 +11,9 @@ use Rattle.sygus_words.specs.declared.settings.Mode.{Mode}
 use Rattle.sygus_words.specs.declared.settings.Mode.TheVariants.{Solve, Least, Check, Recheck, Clauses, Drill}
 use Rattle.sygus_words.specs.declared.settings.Settings.{Settings}
 use Rattle.sy_scope_causes.specs.declared.cause.Refused.{Refused}
-use Rattle.sy_reply_lines.specs.Lines.{refusal_line}
-use Rattle.sy_reply_statements.specs.Statements.{Statement}
-use Rattle.sy_reply_statements.specs.declared.refused.ReplyRefused.{ReplyRefused}
+use Rattle.sy_reply.specs.Lines.{refusal_line}
+use Rattle.sy_reply.specs.Statements.{Statement}
+use Rattle.sy_reply.specs.declared.refused.ReplyRefused.{ReplyRefused}
 use Rattle.sy_scope_front.specs.Fronts.{front, front_length}
 use Rattle.sy_scope_steps.specs.Files.{file_read}
 use Rattle.sy_scope_names.specs.Jobs.{Wish, wished}

@@ -3,7 +3,7 @@ use Rattle.std.specs.Prelude.{ℕ, Bool, ◌≡◌, ◌⊎◌, List, length, Opt
 use Rattle.std.specs.Io.KnownBytes.{Appends}
 use Rattle.sygus_words.specs.declared.settings.Settings.{Settings}
 use Rattle.sy_scope_causes.specs.declared.cause.Refused.{Refused}
-use Rattle.sy_reply_lines.specs.Lines.{refusal_line}
+use Rattle.sy_reply.specs.Lines.{refusal_line}
 use Rattle.sy_scope_steps.specs.Files.{file_read}
 use Rattle.sy_scope_names.specs.Jobs.{Wish, wished}
 use Rattle.sygus_replies.specs.Texts.{texts, answer_lines}

@@ -12,7 +12,7 @@ ghost use Rattle.sygus_solve.specs.Files.{AnswersFile, RefusesFile, WritesAll, W
 use crate::job::answer;
 use std::alloc::Global;
 use sy_io::Sink;
-use sy_reply_lines::refusal_text;
+use sy_reply::refusal_text;
 use sy_scope::{ScopeEnd, read_file};
 use sygus_answers::{Answers, Ended, unanswered};
 use sygus_words::Settings;

@@ -7,7 +7,7 @@ ghost use Rattle.sygus_verdicts.specs.Verdicts.{IsPrintable};
 use crate::judge::Judge;
 use std::alloc::Global;
 use sy_io::Bytes;
-use sy_reply_lines::put;
+use sy_reply::put;
 use sy_scope_causes::Titles;
 use sy_terms::{Theory, Want};
 use sy_text::write_numeral;

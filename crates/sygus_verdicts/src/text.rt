@@ -7,7 +7,7 @@ ghost use Rattle.sygus_verdicts.specs.Verdicts as spec;
 
 use sy_io::Bytes;
 use sy_query_limits::FailName;
-use sy_reply_lines::{name_text, put};
+use sy_reply::{name_text, put};
 use sy_scope_causes::Titles;
 use sy_seq::Want;
 use sy_terms::{Sort, Theory, Value};

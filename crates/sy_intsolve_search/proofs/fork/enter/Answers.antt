@@ -1,7 +1,7 @@
 use Rattle.std.specs.Prelude.{IfSome}
 use Rattle.std.proofs.Common.{sym, subst}
 use Rattle.sy_linear_known.specs.Stored.{linear_query_of}
-use Rattle.sy_intsolve_points.specs.Points.{IsPointOf}
+use Rattle.sy_intsolve_cuts.specs.Points.{IsPointOf}
 use Rattle.sy_intsolve_trees.specs.Stored.{side_of}
 use Rattle.sy_intsolve_search.proofs.Points.{fork-at, has_sides}
 use Rattle.sy_intsolve_search.proofs.Ways.{entered, entered-room}

@@ -1,6 +1,6 @@
 use Rattle.std.proofs.Common.{sym, subst}
-use Rattle.sy_intsolve_points.specs.Points.{IsPointOf, IsFirstBroken}
-use Rattle.sy_intsolve_points.proofs.Places.{broken-corner}
+use Rattle.sy_intsolve_cuts.specs.Points.{IsPointOf, IsFirstBroken}
+use Rattle.sy_intsolve_cuts.proofs.Places.{broken-corner}
 use Rattle.sy_intsolve_search.proofs.leaf.at_place.Goals as goal
 
 pub broken-requires : goal.broken-requires

@@ -1,6 +1,6 @@
 use Rattle.std.proofs.Common.{subst, arith, refl}
 use Rattle.sy_linear_known.specs.Stored.{linear_query_of}
-use Rattle.sy_intsolve_points.specs.Points.{TellsPlace}
+use Rattle.sy_intsolve_cuts.specs.Points.{TellsPlace}
 use Rattle.sy_intsolve_trees.specs.Growing.{Farkas}
 use Rattle.sy_intsolve_search.proofs.Ways.{leaf-closed, inner-farkas}
 use Rattle.sy_intsolve_search.proofs.leaf.settled.Goals as goal

@@ -2,7 +2,7 @@ use Rattle.std.proofs.Common.{rules, sym, subst}
 use mir.Syntax.{w128}
 use mir.Val.{SFits}
 use Rattle.std.proofs.lemmas.Int.{to_z-of_z}
-use Rattle.sy_intsolve_points.specs.Points.{IsFirstBroken}
+use Rattle.sy_intsolve_cuts.specs.Points.{IsFirstBroken}
 use Rattle.sy_intsolve_search.proofs.Ends.{broken-int, lowest-at}
 use Rattle.sy_intsolve_search.proofs.open.broken.Goals as goal
 

@@ -1,7 +1,7 @@
 use Rattle.std.specs.Prelude.{IfSome}
 use Rattle.std.proofs.Common.{◌<◌, ◌^◌, length, sym, subst}
 use Rattle.sy_intsolve_paths_laws.specs.Paths.{IsPath}
-use Rattle.sy_intsolve_points.specs.Points.{IsPointOf}
+use Rattle.sy_intsolve_cuts.specs.Points.{IsPointOf}
 use Rattle.sy_intsolve_search.proofs.Points.{place-moved}
 use Rattle.sy_intsolve_search.proofs.open.place_at.Goals as goal
 

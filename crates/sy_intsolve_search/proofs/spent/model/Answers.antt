@@ -5,7 +5,7 @@ use Rattle.sy_terms.specs.Denoted.{vals_of}
 use Rattle.sy_linear_known.specs.Paths.{MeetsPath}
 use Rattle.sy_linear_known.specs.Right.{Assigns, is_linear_sort}
 use Rattle.sy_intsolve_paths_laws.specs.Paths.{IsPath}
-use Rattle.sy_intsolve_points.specs.Points.{IsPointOf}
+use Rattle.sy_intsolve_cuts.specs.Points.{IsPointOf}
 use Rattle.sy_intsolve_search.proofs.spent.model.Goals as goal
 
 pub values_of-requires : goal.values_of-requires

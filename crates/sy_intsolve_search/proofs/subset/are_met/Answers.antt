@@ -1,5 +1,5 @@
 use Rattle.std.proofs.Common.{subst}
-use Rattle.sy_intsolve_points.specs.Points.{IsMetBy}
+use Rattle.sy_intsolve_cuts.specs.Points.{IsMetBy}
 use Rattle.sy_intsolve_search.proofs.Chosen.{at_next}
 use Rattle.sy_intsolve_search.proofs.subset.are_met.Goals as goal
 

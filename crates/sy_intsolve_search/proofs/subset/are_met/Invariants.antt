@@ -1,6 +1,6 @@
 use Rattle.std.proofs.Common.{List, [], take}
 use Rattle.sy_terms.specs.declared.sort.Sort.{Sort}
-use Rattle.sy_intsolve_points.specs.Points.{IsPointOf}
+use Rattle.sy_intsolve_cuts.specs.Points.{IsPointOf}
 use Rattle.sy_intsolve_search.proofs.subset.are_met.Given as goal
 
 abbrev pub invariant-loop-fact : goal.invariant-loop-fact

@@ -2,9 +2,9 @@ use Rattle.std.proofs.Common.{length, refl}
 use Rattle.std.proofs.lemmas.Result.{err_from_is_err_and}
 use Rattle.sy_text_items.specs.Views.{item_of}
 use Rattle.sy_terms.specs.Denoted.{expr_of}
-use Rattle.sy_forms_names.specs.declared.names.Role.TheVariants as role
-use Rattle.sy_forms_phrases.specs.Meant.{phrase_of}
-use Rattle.sy_forms_phrases.specs.Phrases.{expr_at}
+use Rattle.sy_forms_items.specs.declared.names.Role.TheVariants as role
+use Rattle.sy_forms_items.specs.Meant.{phrase_of}
+use Rattle.sy_forms_items.specs.Phrases.{expr_at}
 use Rattle.sy_forms_items.proofs.Readings.{fails_bind}
 use Rattle.sy_scope_steps.specs.Steps.{read_in}
 use Rattle.sy_scope_bodies.specs.Bodies.{body_in}

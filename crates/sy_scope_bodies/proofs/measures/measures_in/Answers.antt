@@ -1,5 +1,5 @@
 use Rattle.sy_terms.specs.Definitions.{bodies}
-use Rattle.sy_forms_phrases.specs.Measured.{measures_of}
+use Rattle.sy_forms_items.specs.Measured.{measures_of}
 use Rattle.sy_scope_bodies.specs.Sizes.{measures_in}
 use Rattle.sy_scope_bodies.proofs.Measuring.{measured_more, measured_all}
 use Rattle.sy_scope_bodies.proofs.measures.measures_in.Goals as goal

@@ -1,6 +1,6 @@
 use Rattle.std.proofs.Common.{◌≡◌, drop}
 use Rattle.sy_terms.specs.Definitions.{bodies}
-use Rattle.sy_forms_phrases.specs.Measured.{measures_of}
+use Rattle.sy_forms_items.specs.Measured.{measures_of}
 use Rattle.sy_scope_bodies.specs.Sizes.{measured_behind, measures_in}
 use Rattle.sy_scope_bodies.proofs.measures.measures_in.Given as goal
 
