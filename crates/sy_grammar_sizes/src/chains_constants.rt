@@ -6,7 +6,7 @@ ghost use Rattle.sy_terms.specs.Denoted.{val_of};
 ghost use Rattle.sy_grammar_sizes.specs.Constants as spec;
 ghost use Rattle.sy_grammar_sizes.specs.Constants.{IsGreatest, IsConstantSize, IsTop};
 
-use crate::chains_constants::{digits, number_of};
+use crate::constants::{digits, number_of};
 use std::alloc::{AllocError, Global};
 use std::collections::HashSet;
 use sy_terms::{Sort, Theory, Value, same_sort};
