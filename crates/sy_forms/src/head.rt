@@ -13,7 +13,11 @@ ghost use Rattle.sy_forms_items.specs.Views.{indexed_of, items_in};
 
 use crate::literal::{numeral_term, vector_term};
 use std::alloc::Global;
-use sy_forms_items::{Environment, Indices, Locals, Phrases, ReadEnd, Rest, Sense, Typed, are_small, indexed_name, indexed_operator, invocation, is, is_indexed, is_symbol, literal, local, nonterminal, operator_named, position, sense_of, symbol_in};
+use sy_forms_items::{
+    Environment, Indices, Locals, Phrases, ReadEnd, Rest, Sense, Typed, are_small, indexed_name,
+    indexed_operator, invocation, is, is_indexed, is_symbol, literal, local, nonterminal,
+    operator_named, position, sense_of, symbol_in,
+};
 use sy_scope_causes::Cause;
 use sy_terms::{Fun, Logic, Op, Sort, Theory, Value};
 use sy_text_items::{Atom, Name, Place, Sexp};

@@ -12,7 +12,10 @@ ghost use Rattle.sy_forms.specs.Terms as terms;
 
 use crate::term::read_term;
 use std::alloc::Global;
-use sy_forms_items::{Environment, Locals, Measures, Phrase, ReadEnd, Rest, Ruling, Typed, is_small, place_of, read_sort};
+use sy_forms_items::{
+    Environment, Locals, Measures, Phrase, ReadEnd, Rest, Ruling, Typed, is_small, place_of,
+    read_sort,
+};
 use sy_forms_linear::item_behind;
 use sy_scope_causes::Cause;
 use sy_terms::{Sort, Theory, same_sort};

@@ -15,7 +15,10 @@ use crate::head::{atom_term, read_head};
 use crate::literal::indexed_term;
 use crate::parts::{binding_parts, let_parts};
 use std::alloc::Global;
-use sy_forms_items::{Environment, Locals, Named, Phrase, Phrases, ReadEnd, Rest, Role, Typed, binding, copied, indexed_name, is_symbol};
+use sy_forms_items::{
+    Environment, Locals, Named, Phrase, Phrases, ReadEnd, Rest, Role, Typed, binding, copied,
+    indexed_name, is_symbol,
+};
 use sy_scope_causes::Cause;
 use sy_terms::{Theory, Want};
 use sy_text_items::{Name, Place, Sexp};

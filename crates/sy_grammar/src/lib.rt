@@ -25,5 +25,7 @@ pub use choice::tree_rule;
 pub use derivations::derive;
 pub use formed::well_formed;
 pub use grammar::default_grammar;
-pub use sy_grammar_base::{Derivation, Derivations, Grammar, Non, Part, Parts, Problem, Rule, Wanted, candidates_fit};
+pub use sy_grammar_base::{
+    Derivation, Derivations, Grammar, Non, Part, Parts, Problem, Rule, Wanted, candidates_fit,
+};
 pub use sy_grammar_sizes::{chain_closure, derivation_size, largest};

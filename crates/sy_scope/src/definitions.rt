@@ -15,7 +15,9 @@ ghost use Rattle.sy_scope_steps.specs.Steps as spec;
 
 use std::alloc::Global;
 use sy_forms::read_whole;
-use sy_forms_items::{Environment, Measures, Named, Names, Phrase, ReadEnd, Role, copied, read_sort};
+use sy_forms_items::{
+    Environment, Measures, Named, Names, Phrase, ReadEnd, Role, copied, read_sort,
+};
 use sy_scope_declared::{Context, Definition};
 use sy_scope_names::{Naming, Spelled, new_name, read_named};
 use sy_terms::{Logic, Sort, Theory};

@@ -9,7 +9,9 @@ ghost use Rattle.sy_forms_items.specs.declared.names.Named.{Named};
 ghost use Rattle.sy_scope_names.specs.Lists as spec;
 
 use std::alloc::Global;
-use sy_forms_items::{Named, Names, ReadEnd, Rest, copied, is_reserved, place_among, place_of, read_sort, symbol};
+use sy_forms_items::{
+    Named, Names, ReadEnd, Rest, copied, is_reserved, place_among, place_of, read_sort, symbol,
+};
 use sy_scope_causes::Cause;
 use sy_seq::{Seq, Want};
 use sy_terms::{Logic, Sort};

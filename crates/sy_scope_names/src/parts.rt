@@ -7,7 +7,9 @@ ghost use Rattle.sy_scope_names.specs.Asked.{two_of, three_of, four_of, five_of,
 ghost use Rattle.sy_scope_names.specs.Requests as spec;
 
 use crate::commands::Command;
-use crate::request::{Request, Rulebook, is_no_parameters, keyword, list_in, rulebook_in, spelling, switch};
+use crate::request::{
+    Request, Rulebook, is_no_parameters, keyword, list_in, rulebook_in, spelling, switch,
+};
 use sy_forms_items::Rest;
 use sy_text_items::Sexp;
 

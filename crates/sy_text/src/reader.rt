@@ -6,7 +6,10 @@ ghost use Rattle.sy_text.specs.Reading as reading;
 ghost use Rattle.sy_text.specs.Reading.{TextGives};
 
 use crate::fault::TextEnd;
-use crate::lexicon::{digit_value, is_bar_content, is_binary_digit, is_digit, is_hexadecimal_digit, is_quotable, is_separator, is_symbol_byte};
+use crate::lexicon::{
+    digit_value, is_bar_content, is_binary_digit, is_digit, is_hexadecimal_digit, is_quotable,
+    is_separator, is_symbol_byte,
+};
 use std::alloc::Global;
 use sy_seq::{Seq, Want};
 use sy_text_items::{Atom, Name, TextFault};

@@ -5,7 +5,10 @@ use crate::rows::{are_numbers, field, number};
 use crate::terms::{one, term, value};
 use std::alloc::Global;
 use std::process::Abort;
-use sy_grammar::{Derivation, Derivations, Grammar, Non, Part, Parts, Rule, chain_closure, derivation_size, derive, largest, well_formed};
+use sy_grammar::{
+    Derivation, Derivations, Grammar, Non, Part, Parts, Rule, chain_closure, derivation_size,
+    derive, largest, well_formed,
+};
 use sy_meaning_integers::IntTheory;
 use sy_meaning_words::BvTheory;
 use sy_terms::{Seq, Sort, Theory};
