@@ -2,10 +2,15 @@
 #![tactic(auto)]
 
 mod checker;
+mod marking;
 mod marks;
+mod numbering;
+mod trimming;
 
 pub use checker::{advance, check, clause_at};
 pub use marks::Marks;
+pub use trimming::trimmed;
+
 use sy_seq::Seq;
 
 /// A literal: the variable itself, or its negation.

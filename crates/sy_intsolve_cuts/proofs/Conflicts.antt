@@ -3,10 +3,10 @@ use Rattle.std.specs.Prelude.{◌≡◌, ℕ, zero, suc, ◌<◌, ◌≤◌, ◌
 use Rattle.std.proofs.Common.{refl, sym, ◌∙◌, ap, ap₂, arith, ltb-true, ltb-false}
 use Rattle.sy_frac.specs.Fraction.{Fraction, IsLowest}
 use Rattle.sy_frac.specs.Rational.{ℚ, 0ℚ, 1ℚ, ◌+ℚ◌, ◌*ℚ◌, value, is_negative_rational, +ℚ_cancel, +ℚ_comm, +ℚ_assoc, +ℚ_left_comm, +ℚ_zero, zero-+ℚ, *ℚ_zero, zero-*ℚ, *ℚ_one}
-use Rattle.sy_linear_forms.specs.declared.form.Form.{Form}
-use Rattle.sy_linear_forms.specs.Forms.{Coefficient}
-use Rattle.sy_linear_forms.specs.Systems.{form_at_point, IsRefutation}
-use Rattle.sy_linear_forms.specs.Total.{total, total-same, replaced, replaced_same, replaced_other}
+use Rattle.sy_linear_known.specs.declared.form.Form.{Form}
+use Rattle.sy_linear_known.specs.Forms.{Coefficient}
+use Rattle.sy_linear_known.specs.Systems.{form_at_point, IsRefutation}
+use Rattle.sy_linear_known.specs.Total.{total, total-same, replaced, replaced_same, replaced_other}
 use Rattle.sy_linear_known.specs.Points.{form_value_at}
 use Rattle.sy_linear_known.specs.Trees.{whole_ℚ, Weight, plus_multiple, Combination, plus_form, combined_with, combination, rationals, AreMultipliers, AllZero, IsContradiction}
 use Rattle.sy_linear_known.proofs.Refutation.{weights_at, combination_at, combination-plus_form}

@@ -6,10 +6,10 @@ use Rattle.sy_frac.specs.Fraction.{Fraction}
 use Rattle.sy_frac.specs.Rational.{ℚ, 0ℚ, 1ℚ, ◌+ℚ◌, ◌*ℚ◌, over, value, is_negative_rational, +ℚ_cancel, +ℚ_comm, zero-+ℚ, *ℚ_zero, *ℚ_one, over_negative, zero_not_negative}
 use Rattle.sy_terms.specs.declared.sort.Sort.{Sort}
 use Rattle.sy_terms.specs.declared.sort.Sort.TheVariants as sorts
-use Rattle.sy_linear_forms.specs.declared.form.Form.{Form}
-use Rattle.sy_linear_forms.specs.Forms.{Coefficient, constant_form}
-use Rattle.sy_linear_forms.specs.Systems.{form_at_point, MeetsSystem, IsCorner}
-use Rattle.sy_linear_forms.specs.Total.{replaced, replaced_same, replaced_other}
+use Rattle.sy_linear_known.specs.declared.form.Form.{Form}
+use Rattle.sy_linear_known.specs.Forms.{Coefficient, constant_form}
+use Rattle.sy_linear_known.specs.Systems.{form_at_point, MeetsSystem, IsCorner}
+use Rattle.sy_linear_known.specs.Total.{replaced, replaced_same, replaced_other}
 use Rattle.sy_linear_known.specs.declared.path.Fact.{Fact}
 use Rattle.sy_linear_known.specs.declared.path.Fact.TheVariants.{AtLeast, Is}
 use Rattle.sy_linear_known.specs.Points.{combined_at, form_value_at}

@@ -6,10 +6,10 @@ use Rattle.std.proofs.lemmas.Bool.Decides.{eqb_tells}
 use Rattle.std.proofs.lemmas.List.Elements.{All-nil, All-cons, All-head, All-tail, All-get_or, All-from_get_or}
 use Rattle.sy_frac.specs.Rational.{ℚ, 0ℚ, ◌+ℚ◌, ◌*ℚ◌, over, is_negative_rational, zero-*ℚ, zero-+ℚ}
 use Rattle.sy_terms.specs.declared.sort.Sort.{Sort}
-use Rattle.sy_linear_forms.specs.declared.form.Form.{Form}
-use Rattle.sy_linear_forms.specs.Forms.{Coefficient, constant_form}
-use Rattle.sy_linear_forms.specs.Systems.{form_at_point, MeetsSystem}
-use Rattle.sy_linear_forms.specs.Total.{total, total_zero, total-same, total_split, zero_at, rest_same, combined_total}
+use Rattle.sy_linear_known.specs.declared.form.Form.{Form}
+use Rattle.sy_linear_known.specs.Forms.{Coefficient, constant_form}
+use Rattle.sy_linear_known.specs.Systems.{form_at_point, MeetsSystem}
+use Rattle.sy_linear_known.specs.Total.{total, total_zero, total-same, total_split, zero_at, rest_same, combined_total}
 use Rattle.sy_linear_known.specs.declared.path.Fact.{Fact}
 use Rattle.sy_linear_known.specs.declared.path.Fact.TheVariants.{AtLeast, Is}
 use Rattle.sy_linear_known.specs.Points.{combined_at, form_value_at}

@@ -2,7 +2,7 @@
 use Rattle.std.specs.Prelude.{◌≡◌, List, length, Result, Ok, Err, IfOk}
 use Rattle.std.proofs.Common.{sym, subst}
 use Rattle.sy_terms.specs.declared.sort.Sort.{Sort}
-use Rattle.sy_linear_forms.specs.declared.form.Form.{Form}
+use Rattle.sy_linear_known.specs.declared.form.Form.{Form}
 use Rattle.sy_linear_known.specs.declared.path.Fact.{Fact}
 use Rattle.sy_linear_known.specs.Trees.{forms}
 use Rattle.sy_simplex.specs.declared.answer.Ended.{Ended}

@@ -3,8 +3,7 @@ ghost use Rattle.std.specs.Prelude.{◌≡◌, IfOk};
 ghost use Rattle.sy_linear_known.specs.Trees.{forms};
 
 use std::alloc::Global;
-use sy_linear_forms::Form;
-use sy_linear_known::Fact;
+use sy_linear_known::{Fact, Form};
 use sy_seq::{Seq, Want};
 
 /// Copies of the forms among the facts, in order. `Want` comes where memory runs out, and nowhere else.

@@ -11,8 +11,7 @@ ghost use Rattle.sy_intsolve_cuts.specs.Points.{IsPointOf, IsMetBy};
 
 use std::alloc::Global;
 use sy_frac::Frac;
-use sy_linear_forms::Form;
-use sy_linear_known::Fact;
+use sy_linear_known::{Fact, Form};
 use sy_seq::{Seq, Want};
 use sy_simplex::whole;
 

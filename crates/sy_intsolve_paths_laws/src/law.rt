@@ -2,8 +2,8 @@
 ghost use Rattle.std.specs.Prelude.{◌≡◌, ◌∷◌, ◌++◌, [], ℕ, ℤ, List};
 ghost use Rattle.sy_terms.specs.declared.sort.Sort.{Sort};
 ghost use Rattle.sy_terms.specs.declared.sort.Sort.TheVariants as sorts;
-ghost use Rattle.sy_linear_forms.specs.declared.form.Form.{Form};
-ghost use Rattle.sy_linear_forms.specs.Forms.{form_negation};
+ghost use Rattle.sy_linear_known.specs.declared.form.Form.{Form};
+ghost use Rattle.sy_linear_known.specs.Forms.{form_negation};
 ghost use Rattle.sy_linear_known.specs.declared.path.Fact.TheVariants.{AtLeast};
 ghost use Rattle.sy_linear_known.specs.Trees.{IsOf, at_or_below};
 ghost use Rattle.sy_linear_known.specs.declared.path.Fact.{Fact};

@@ -15,9 +15,9 @@ use Rattle.sy_frac.specs.Rational.{ℚ, 0ℚ, ◌+ℚ◌, ◌*ℚ◌, over, valu
 use Rattle.sy_frac.proofs.Quotients.{product_nonzero, abs-product}
 use Rattle.sy_frac.specs.Kinds.{is_multiplier}
 use Rattle.sy_terms.specs.declared.sort.Sort.{Sort}
-use Rattle.sy_linear_forms.specs.declared.form.Form.{Form}
-use Rattle.sy_linear_forms.specs.Forms.{Coefficient, before, form_negation}
-use Rattle.sy_linear_forms.specs.Laws.{distributes_left, either}
+use Rattle.sy_linear_known.specs.declared.form.Form.{Form}
+use Rattle.sy_linear_known.specs.Forms.{Coefficient, before, form_negation}
+use Rattle.sy_linear_known.specs.Laws.{distributes_left, either}
 use Rattle.sy_linear_known.specs.declared.path.Fact.{Fact}
 use Rattle.sy_linear_known.specs.declared.path.Fact.TheVariants.{AtLeast}
 use Rattle.sy_linear_known.specs.declared.path.Test.{Test}

@@ -2,15 +2,14 @@
 ghost use Rattle.std.specs.Prelude.{◌≡◌, ◌≤ℤ◌, ◌+◌, ◌<◌, ◌^◌, ◌++◌, length, List, pos, [], true, false, IfOk, OnOk, IsErrOf, Option, Some, None};
 ghost use Rattle.std.specs.List.{list_all};
 ghost use Rattle.sy_frac.specs.Kinds as kinds;
-ghost use Rattle.sy_linear_forms.specs.Forms.{before};
+ghost use Rattle.sy_linear_known.specs.Forms.{before};
 ghost use Rattle.sy_linear_known.specs.Trees.{forms};
 ghost use Rattle.sy_linear.specs.Combining as spec;
 
 use crate::exact::{floor, is_whole, multiple, over_whole, plus_multiple};
 use std::alloc::Global;
 use sy_frac::{Frac, is_multiplier};
-use sy_linear_forms::{Form, FormEnd};
-use sy_linear_known::Fact;
+use sy_linear_known::{Fact, Form, FormEnd};
 use sy_seq::{Seq, Want};
 
 /// A variable's part of a combination.

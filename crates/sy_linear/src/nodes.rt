@@ -3,7 +3,7 @@ ghost use Rattle.std.specs.Prelude.{◌≡◌, ◌≤ℤ◌, ◌<◌, ◌^◌, �
 ghost use Rattle.std.specs.List.{list_all};
 ghost use Rattle.std.specs.Option.{option_map};
 ghost use Rattle.sy_terms.specs.Expr.{nodes};
-ghost use Rattle.sy_linear_forms.specs.Forms.{form_is_in_range};
+ghost use Rattle.sy_linear_known.specs.Forms.{form_is_in_range};
 ghost use Rattle.sy_linear_known.specs.Seen.{query_known};
 ghost use Rattle.sy_linear_known.specs.Stored.{linear_query_of, tree_shape_of};
 ghost use Rattle.sy_linear_known.specs.Trees.{forms};
@@ -11,13 +11,10 @@ ghost use Rattle.sy_linear.specs.Judging as spec;
 ghost use Rattle.sy_linear.specs.Combining.{checked_combination};
 ghost use Rattle.sy_linear.specs.Judging.{TellsJudgement, AnswersAt};
 
-use crate::combination::{
-    are_multipliers, combined, constant_of, divided, is_negative_constant, number_of, rounded,
-};
+use crate::combination::{are_multipliers, combined, constant_of, divided, is_negative_constant, number_of, rounded};
 use std::alloc::Global;
 use sy_frac::Frac;
-use sy_linear_forms::{Form, FormEnd};
-use sy_linear_known::{CheckEnd, Fact, Known, Test, Tree, known_under};
+use sy_linear_known::{CheckEnd, Fact, Form, FormEnd, Known, Test, Tree, known_under};
 use sy_meaning_integers::IntTheory;
 use sy_query_base::Query;
 use sy_seq::{Seq, Want};

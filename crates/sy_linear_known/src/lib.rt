@@ -4,9 +4,12 @@
 mod answer;
 mod application;
 mod arithmetic;
+mod coefficients;
 mod comparisons;
 mod facts;
+mod form;
 mod key;
+mod number;
 mod path;
 mod queries;
 mod sight;
@@ -15,7 +18,7 @@ mod truths;
 mod walk;
 
 pub use answer::Known;
+pub use form::{Form, FormEnd};
 pub use path::{Fact, Path, Test, given};
 pub use queries::{is_numbered, known, known_under};
-pub use sy_linear_forms::{Form, FormEnd};
 pub use tree::{CheckEnd, Tree};

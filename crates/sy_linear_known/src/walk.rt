@@ -9,10 +9,10 @@ ghost use Rattle.sy_linear_known.specs.Fitting.{sight_fits, all_fit};
 
 use crate::application::applied;
 use crate::facts::Facts;
+use crate::form::Form;
 use crate::path::Test;
 use crate::sight::{Found, Seen, Sight};
 use std::alloc::Global;
-use sy_linear_forms::Form;
 use sy_meaning_integers::IntTheory;
 use sy_seq::Want;
 use sy_terms::{Op, Sort, Term, Terms, Value};

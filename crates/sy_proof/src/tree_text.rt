@@ -17,8 +17,7 @@ use crate::numbers::put_number;
 use std::alloc::Global;
 use sy_frac::Frac;
 use sy_io::Bytes;
-use sy_linear_forms::Form;
-use sy_linear_known::{Test, Tree};
+use sy_linear_known::{Form, Test, Tree};
 use sy_seq::Want;
 use sy_text::write_numeral;
 

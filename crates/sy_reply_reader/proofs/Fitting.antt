@@ -28,8 +28,8 @@ use Rattle.sy_forms_items.specs.Sorts.{read_sort}
 use Rattle.sy_grammar_base.specs.Questions.{Goal, Question, question_of, goal_of, wanted_signature, signatures}
 use Rattle.sy_grammar_base.specs.declared.problem.Problem.{Problem}
 use Rattle.sy_grammar_base.specs.declared.problem.Wanted.{Wanted}
-use Rattle.sy_scope_bodies.specs.Bodies.{body_read}
-use Rattle.sy_scope_bodies.proofs.Fitting.{body_fits}
+use Rattle.sy_scope_steps.specs.Bodies.{body_read}
+use Rattle.sy_scope_steps.proofs.Fitting.{body_fits}
 use Rattle.sy_scope_causes.specs.declared.titles.Titles.{Titles}
 use Rattle.sy_scope_names.specs.Lists.{sorts_of_names, read_named}
 use Rattle.sy_scope_names.specs.Requests.{Listed, list_in}

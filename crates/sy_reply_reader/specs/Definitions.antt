@@ -8,7 +8,7 @@ use Rattle.sy_terms.specs.declared.sort.Logic.{Logic}
 use Rattle.sy_forms_items.specs.Parts.{is_symbol, place_of}
 use Rattle.sy_forms_items.specs.Readings.{Reading}
 use Rattle.sy_grammar_base.specs.Questions.{Question}
-use Rattle.sy_scope_bodies.specs.Bodies.{body_read}
+use Rattle.sy_scope_steps.specs.Bodies.{body_read}
 use Rattle.sy_scope_causes.specs.declared.titles.Titles.{Titles}
 use Rattle.sy_scope_names.specs.Requests.{list_in, Listed}
 use Rattle.sy_reply.specs.Ends.{ReplyReading, refuse_reply, ◌>>=◌}

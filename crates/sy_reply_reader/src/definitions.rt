@@ -20,9 +20,9 @@ use std::alloc::Global;
 use sy_forms_items::{ReadEnd, Rest, is_symbol, place_of};
 use sy_grammar_base::Problem;
 use sy_reply::{ReplyCause, ReplyEnd, ReplyRefused};
-use sy_scope_bodies::{Surroundings, read_body_in};
 use sy_scope_causes::Titles;
 use sy_scope_names::{Listed, list_in};
+use sy_scope_steps::{Surroundings, read_body_in};
 use sy_terms::{Bodies, Logic, Term, Theory};
 use sy_text_items::{Place, Sexp, Sexps};
 

@@ -9,6 +9,7 @@ pub mod FilesNamed
 pub mod Fits
 pub mod Flags
 pub mod Formed
+pub mod FrontLeading
 pub mod Leading
 pub mod Own
 pub mod Placing

@@ -1,5 +1,6 @@
 pub mod Entered
 pub mod Fit
+pub mod Fronts
 pub mod Grammars
 pub mod Knowing
 pub mod Laws

@@ -5,7 +5,7 @@ use Rattle.std.proofs.Common.{Result, Ok, Err, refl, sym, ◌∙◌, ap, subst, 
 use Rattle.std.proofs.Math.Dec.{eqb}
 use Rattle.std.proofs.lemmas.Bool.Decides.{eqb_tells}
 use Rattle.sy_frac.specs.Fraction.{Fraction, IsInRange}
-use Rattle.sy_linear_forms.specs.declared.form.Form.{Form}
+use Rattle.sy_linear_known.specs.declared.form.Form.{Form}
 use Rattle.sy_simplex.specs.Operations.{fraction_of_whole, fraction_opposite}
 use Rattle.sy_simplex.specs.Rows.{at}
 use Rattle.sy_simplex.specs.States.{TableauState}

@@ -1,7 +1,7 @@
 -- What each answer says of the forms, and of the run.
 use Rattle.std.specs.Prelude.{◌≡◌, ℕ, List, length}
-use Rattle.sy_linear_forms.specs.declared.form.Form.{Form}
-use Rattle.sy_linear_forms.specs.Systems.{MeetsSystem, IsCorner, IsRefutation}
+use Rattle.sy_linear_known.specs.declared.form.Form.{Form}
+use Rattle.sy_linear_known.specs.Systems.{MeetsSystem, IsCorner, IsRefutation}
 use Rattle.sy_simplex.specs.Rows.{AreLowest}
 use Rattle.sy_simplex.specs.declared.answer.Feasible.{Feasible}
 use Rattle.sy_simplex.specs.declared.answer.Feasible.TheVariants.{Point, Conflict, Pivots, Range}

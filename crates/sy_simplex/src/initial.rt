@@ -13,7 +13,7 @@ use crate::row::Row;
 use crate::tableau::Tableau;
 use std::alloc::Global;
 use sy_frac::Frac;
-use sy_linear_forms::Form;
+use sy_linear_known::Form;
 
 /// The fraction of a whole number; `None` exactly where the number is `-2^127`.
 fn fraction(number: &i128) -> Option<Frac>

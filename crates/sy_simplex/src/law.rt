@@ -1,6 +1,6 @@
 // The laws of the answers, and of bases.
 ghost use Rattle.std.specs.Prelude.{ℕ, List, length, ◌<◌, ◌≤◌, ◌+◌, ◌^◌};
-ghost use Rattle.sy_linear_forms.specs.declared.form.Form.{Form};
+ghost use Rattle.sy_linear_known.specs.declared.form.Form.{Form};
 ghost use Rattle.sy_simplex.specs.States.{TableauState};
 ghost use Rattle.sy_simplex.specs.declared.answer.Feasible.{Feasible};
 ghost use Rattle.sy_simplex.specs.Answers.{TellsFeasible, IsSameAnswer};

@@ -12,7 +12,7 @@ use crate::fault::Fault;
 use crate::initial::initial;
 use crate::tableau::Tableau;
 use std::alloc::{AllocError, Global};
-use sy_linear_forms::Form;
+use sy_linear_known::Form;
 use sy_seq::{Seq, Want};
 
 /// Whether there are fewer than 2^31 variables, and as few forms.

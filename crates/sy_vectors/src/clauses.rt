@@ -7,8 +7,7 @@ use crate::rows::{field, number};
 use std::alloc::Global;
 use std::process::Abort;
 use sy_cdcl::{Solved, solve};
-use sy_clauses::{Cnf, Line, Lit, Log, Step, check};
-use sy_clauses_trim::trimmed;
+use sy_clauses::{Cnf, Line, Lit, Log, Step, check, trimmed};
 use sy_terms::Seq;
 
 /// The clause of these literals.

@@ -8,7 +8,7 @@ use Rattle.sy_query_limits.specs.declared.FailName.{FailName}
 use Rattle.sy_query_limits.specs.declared.FailName.TheVariants as names
 use Rattle.sy_linear_known.specs.Stored.{tree_shape_of}
 use Rattle.sy_linear_known.specs.declared.tree.Tree.{Tree}
-use Rattle.sy_intsolve_trees.specs.Budgets as int_budgets
+use Rattle.sy_intsolve_cuts.specs.Budgets as int_budgets
 use Rattle.sy_bits.specs.Proofs as bits
 use Rattle.sy_bits.specs.declared.answers.BvProof.{BvProof}
 use Rattle.sy_text.specs.Spelling.{item_text}

@@ -22,7 +22,7 @@ use Rattle.sy_reply.specs.Ends.{ReplyReading, RepliesEndAs, ◌>>=◌}
 use Rattle.sy_reply.specs.Statements.{Statement}
 use Rattle.sy_reply.specs.declared.end.ReplyEnd.{ReplyEnd}
 use Rattle.sy_reply.specs.declared.end.ReplyEnd.TheVariants as reply_ends
-use Rattle.sy_scope_front.specs.Fronts.{front, front_length}
+use Rattle.sy_scope.specs.Fronts.{front, front_length}
 use Rattle.sy_scope_names.specs.Jobs.{Wish, wished}
 use Rattle.sy_scope_steps.specs.Files.{file_read}
 use Rattle.sygus_answers.specs.declared.answers.Answers.{Answers}

@@ -6,7 +6,7 @@ use Rattle.std.proofs.lemmas.Bool.{true≢false}
 use Rattle.sy_io.specs.Causes.{Rose}
 use Rattle.sy_io.specs.Source.{Holding, bytes_under}
 use Rattle.sy_query_limits.specs.declared.Limits.{Limits}
-use Rattle.sy_scope_front.specs.Fronts.{front, front_length}
+use Rattle.sy_scope.specs.Fronts.{front, front_length}
 use Rattle.sy_scope_steps.specs.Files.{file_read}
 use Rattle.sy_scope_names.specs.Jobs.{Wish, wished}
 use Rattle.sygus_words.proofs.Readings.{one_reading}

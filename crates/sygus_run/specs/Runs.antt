@@ -14,7 +14,7 @@ use Rattle.sy_scope_causes.specs.declared.cause.Refused.{Refused}
 use Rattle.sy_reply.specs.Lines.{refusal_line}
 use Rattle.sy_reply.specs.Statements.{Statement}
 use Rattle.sy_reply.specs.declared.refused.ReplyRefused.{ReplyRefused}
-use Rattle.sy_scope_front.specs.Fronts.{front, front_length}
+use Rattle.sy_scope.specs.Fronts.{front, front_length}
 use Rattle.sy_scope_steps.specs.Files.{file_read}
 use Rattle.sy_scope_names.specs.Jobs.{Wish, wished}
 use Rattle.sygus_replies.specs.Texts.{texts, answer_lines, words_line, read_line, too_long_line, memory_line}

@@ -8,9 +8,9 @@ use Rattle.sy_grammar_base.specs.Questions.{Question}
 use Rattle.sy_query_limits.specs.declared.FailName.{FailName}
 use Rattle.sy_query_limits.specs.declared.Limits.{Limits}
 use Rattle.sy_query_base.specs.Asked.{Query}
-use Rattle.sy_intsolve_trees.specs.Budgets as int_budgets
-use Rattle.sy_intsolve_trees.specs.declared.spent.IntSpent.{IntSpent}
-use Rattle.sy_intsolve_trees.specs.declared.spent.IntSpent.TheVariants as spent
+use Rattle.sy_intsolve_cuts.specs.Budgets as int_budgets
+use Rattle.sy_intsolve_cuts.specs.declared.spent.IntSpent.{IntSpent}
+use Rattle.sy_intsolve_cuts.specs.declared.spent.IntSpent.TheVariants as spent
 use Rattle.sy_intsolve.specs.Proofs as int_proofs
 use Rattle.sy_bits.specs.Proofs as bits
 use Rattle.sy_bits.specs.declared.answers.BvSpent.{BvSpent}

@@ -10,10 +10,10 @@ use Rattle.sy_grammar_base.specs.Questions.{Question}
 use Rattle.sy_meaning_words.specs.declared.word.Word.{Word}
 use Rattle.sy_meaning_words.specs.Vectors as vectors
 use Rattle.sy_query_limits.specs.declared.Limits.{Limits}
-use Rattle.sy_intsolve_trees.specs.Budgets as int_budgets
-use Rattle.sy_intsolve_trees.specs.declared.spent.IntSpent.{IntSpent}
-use Rattle.sy_intsolve_trees.specs.declared.spent.IntSpent.TheVariants.{Nodes, Pivots}
-use Rattle.sy_intsolve_trees.specs.declared.spent.IntSpent.TheVariants as spent
+use Rattle.sy_intsolve_cuts.specs.Budgets as int_budgets
+use Rattle.sy_intsolve_cuts.specs.declared.spent.IntSpent.{IntSpent}
+use Rattle.sy_intsolve_cuts.specs.declared.spent.IntSpent.TheVariants.{Nodes, Pivots}
+use Rattle.sy_intsolve_cuts.specs.declared.spent.IntSpent.TheVariants as spent
 use Rattle.sy_bits.specs.Proofs as bits
 use Rattle.sy_bits.specs.declared.answers.BvProof.{BvProof}
 use Rattle.sy_bits.specs.declared.answers.BvSpent.{BvSpent}

@@ -11,7 +11,7 @@ use Rattle.sy_query_limits.specs.declared.FailName.{FailName}
 use Rattle.sy_query_limits.specs.declared.Limits.{Limits}
 use Rattle.sy_query_base.specs.Asked.{Query}
 use Rattle.sy_query_base.specs.declared.decide.Decide.{Ghosts as DecideOf}
-use Rattle.sy_intsolve_trees.specs.Budgets as int_budgets
+use Rattle.sy_intsolve_cuts.specs.Budgets as int_budgets
 use Rattle.sy_intsolve.specs.Proofs as int_proofs
 use Rattle.sy_bits.specs.Proofs as bits
 use Rattle.sy_loop_bounds.specs.declared.reach.Reach.TheVariants.{Sizes}

@@ -2,7 +2,7 @@ use Rattle.std.proofs.Common.{◌<◌, ◌∷◌, length, get_or, refl, subst, a
 use Rattle.std.specs.Prelude.{All, pos}
 use Rattle.std.proofs.lemmas.List.{take_all}
 use Rattle.std.proofs.lemmas.List.Elements.{All-more}
-use Rattle.sy_linear_forms.specs.Forms.{Coefficient}
+use Rattle.sy_linear_known.specs.Forms.{Coefficient}
 use Rattle.sy_proof.specs.Lists.{each_item, spaced}
 use Rattle.sy_text.specs.Spelling.{item_text}
 use Rattle.sy_proof.specs.Nodes.{pair_item, PairFits}
