@@ -6,15 +6,17 @@ ghost use Rattle.sy_grammar_base.specs.Written.{pattern_of};
 ghost use Rattle.sy_bank_level.specs.Filling.{IsSteady, LevelGrows};
 ghost use Rattle.sy_bank_level.specs.Task.{world, IsStop, level_state_of};
 ghost use Rattle.sy_bank_level.specs.Tasks.{IsTask, IsRule};
-ghost use Rattle.sy_bank_laws.specs.Tried.{IsTried, AllAreTried, IsFilled};
+ghost use Rattle.sy_bank_level.specs.Tried.{IsTried, AllAreTried, IsFilled};
 
+use crate::choosing::choose;
+use crate::copy::copied_part;
+use crate::numbers::constants;
+use crate::passing::pass_chains;
+use crate::positions::variables;
+use crate::rule::LeafRule;
+use crate::template::Template;
 use std::rc::Rc;
-use sy_bank_chains::pass_chains;
-use sy_bank_leaves::{LeafRule, constants, variables};
 use sy_bank_level::{Filling, Stop, Task};
-use sy_bank_offer::Template;
-use sy_bank_parts::copied_part;
-use sy_bank_rules::choose;
 use sy_grammar_base::{Part, Rule};
 use sy_terms::Theory;
 

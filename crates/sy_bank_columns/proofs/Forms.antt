@@ -26,15 +26,15 @@ use Rattle.sy_grammar_base.specs.Written.{pattern_of, patterns_of, pattern_of-Co
 use Rattle.sy_grammar_base.specs.declared.part.Part.{Part, Const, Var, Non, App, Call}
 use Rattle.sy_grammar_base.specs.declared.part.Parts.{Parts}
 use denote.Ref.{Bor}
-use Rattle.sy_bank_rows.specs.Rows.{IsLostAt}
-use Rattle.sy_bank_rows.specs.Covering as covering
-use Rattle.sy_bank_rows.specs.Stored.{entry_of, chosen_of}
-use Rattle.sy_bank_rows.specs.declared.kept.Kept.{Kept}
-use Rattle.sy_bank_rows.specs.Columns.{column, constants, FitsAt, FitAt, HasRow, HaveRows}
-use Rattle.sy_bank_rows.specs.Chosen.{ArePoints, AreRows}
+use Rattle.sy_bank_level.specs.Rows.{IsLostAt}
+use Rattle.sy_bank_level.specs.Covering as covering
+use Rattle.sy_bank_level.specs.Stored.{entry_of, chosen_of}
+use Rattle.sy_bank_level.specs.declared.kept.Kept.{Kept}
+use Rattle.sy_bank_level.specs.Columns.{column, constants, FitsAt, FitAt, HasRow, HaveRows}
+use Rattle.sy_bank_level.specs.Chosen.{ArePoints, AreRows}
 use Rattle.sy_bank_columns.specs.declared.ends.RowEnd.{RowEnd}
 use Rattle.sy_bank_columns.specs.declared.ends.RowEnd.TheVariants.{Lost, Want}
-use Rattle.sy_bank_rows.proofs.Fillings.{filled-Constant, filled-Variable, filled-Occurrence, filled-Apply, filled-Invoke}
+use Rattle.sy_bank_level.proofs.Fillings.{filled-Constant, filled-Variable, filled-Occurrence, filled-Apply, filled-Invoke}
 use Rattle.sy_bank_columns.proofs.Fillings.{first-chosen}
 use Rattle.sy_bank_columns.specs.Found.{IsColumnOf, IsOneLostAt, WhereLost, IsLoss}
 

@@ -3,7 +3,7 @@ ghost use Rattle.std.specs.Prelude.{◌≡◌, ℕ, ◌<◌, true, false, IfOk, 
 ghost use Rattle.sy_terms.specs.Denoted.{IsSorted, vals_of};
 ghost use Rattle.sy_terms.specs.Pairs.{ArePairsSorted, ArePairsApplied, IsFirstUnfit};
 ghost use Rattle.sy_terms.specs.Theories.{fits};
-ghost use Rattle.sy_bank_rows.specs.Columns.{column, AreSized};
+ghost use Rattle.sy_bank_level.specs.Columns.{column, AreSized};
 ghost use Rattle.sy_bank_columns.specs.Lent.{row_values};
 ghost use Rattle.sy_bank_columns.specs.Found.{IsColumnOf, WhereLost};
 

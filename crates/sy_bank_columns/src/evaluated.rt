@@ -3,9 +3,9 @@ ghost use Rattle.std.specs.Prelude.{◌≡◌, IfOk, IfErr, map};
 ghost use Rattle.sy_terms.specs.Denoted.{vals_of, expr_of};
 ghost use Rattle.sy_terms.specs.Meaning.{functions};
 ghost use Rattle.sy_terms.specs.Definitions.{DefinitionsFit, scope_of, bodies};
-ghost use Rattle.sy_bank_rows.specs.Rows.{IsLostAt};
-ghost use Rattle.sy_bank_rows.specs.Columns.{FitsAt, HasRow};
-ghost use Rattle.sy_bank_rows.specs.Chosen.{ArePoints};
+ghost use Rattle.sy_bank_level.specs.Rows.{IsLostAt};
+ghost use Rattle.sy_bank_level.specs.Columns.{FitsAt, HasRow};
+ghost use Rattle.sy_bank_level.specs.Chosen.{ArePoints};
 ghost use Rattle.sy_bank_columns.specs.Found.{WhereLost};
 
 use crate::ends::{RowEnd, lost_at};

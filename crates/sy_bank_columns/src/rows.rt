@@ -9,11 +9,11 @@ ghost use Rattle.sy_terms.specs.declared.sort.Value.{Value};
 ghost use Rattle.sy_terms.specs.Definitions.{DefinitionsFit, scope_of, bodies};
 ghost use Rattle.sy_grammar_base.specs.Patterns.{occurring, all_occurring, filled, all_filled};
 ghost use Rattle.sy_grammar_base.specs.Written.{pattern_of, patterns_of};
-ghost use Rattle.sy_bank_rows.specs.Rows.{IsLostAt};
-ghost use Rattle.sy_bank_rows.specs.Covering.{terms};
-ghost use Rattle.sy_bank_rows.specs.Columns.{FitsAt, FitAt, HasRow, HaveRows};
-ghost use Rattle.sy_bank_rows.specs.Stored.{chosen_of};
-ghost use Rattle.sy_bank_rows.specs.Chosen.{AreRows, ArePoints};
+ghost use Rattle.sy_bank_level.specs.Rows.{IsLostAt};
+ghost use Rattle.sy_bank_level.specs.Covering.{terms};
+ghost use Rattle.sy_bank_level.specs.Columns.{FitsAt, FitAt, HasRow, HaveRows};
+ghost use Rattle.sy_bank_level.specs.Stored.{chosen_of};
+ghost use Rattle.sy_bank_level.specs.Chosen.{AreRows, ArePoints};
 ghost use Rattle.sy_bank_columns.specs.Lent.{row_values};
 ghost use Rattle.sy_bank_columns.specs.Found.{WhereLost, IsOneLostAt};
 
@@ -22,7 +22,7 @@ use crate::call::called_row;
 use crate::ends::RowEnd;
 use crate::lent::Row;
 use std::alloc::{AllocError, Global};
-use sy_bank_rows::{Kept, places};
+use sy_bank_level::{Kept, places};
 use sy_grammar_base::{Part, Parts};
 use sy_terms::{Defs, Op, Theory, Value, Values};
 

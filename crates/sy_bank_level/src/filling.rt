@@ -2,19 +2,19 @@
 ghost use Rattle.std.specs.Prelude.{◌≡◌, ◌≢◌, ◌<◌, None, IfErr, OnOk, MatchBool, IsTrue, ◌↔◌, length, [], ◌∷◌, ◌++◌, slice_get};
 ghost use Rattle.std.specs.Option.{option_map};
 ghost use Rattle.sy_terms.specs.Denoted.{vals_of};
-ghost use Rattle.sy_bank_rows.specs.Banks.{Entry, IsKept, IsDropped, kept_at};
-ghost use Rattle.sy_bank_rows.specs.Stored.{entry_of, lost_of};
+ghost use Rattle.sy_bank_level.specs.Banks.{Entry, IsKept, IsDropped, kept_at};
+ghost use Rattle.sy_bank_level.specs.Stored.{entry_of, lost_of};
 ghost use Rattle.sy_bank_level.specs.Hashing.{hash_from};
 ghost use Rattle.sy_bank_level.specs.Places.{places_of};
 ghost use Rattle.sy_bank_level.specs.Filling.{IsSteady, EntryIsRight, IsNewRow, LevelGrows, TermIsDone, RowIsThere, AreOther};
 ghost use Rattle.sy_bank_level.specs.Task.{world, IsStop, level_of, levels_of, level_state_of};
 
+use crate::kept::{Dropped, Kept};
 use crate::level::Level;
 use crate::rows::same_rows;
 use crate::table::{Place, Table};
 use crate::task::Task;
 use std::alloc::AllocFailed;
-use sy_bank_rows::{Dropped, Kept};
 use sy_terms::{Theory, Value, Want};
 
 /// Why no more terms are looked for.

@@ -1,11 +1,11 @@
 // The kept terms of one size.
 ghost use Rattle.std.specs.Prelude.{◌≡◌, ◌<◌, [], ◌++◌, ◌∷◌, length, IfOk, OnOk, OnErr, replicate, slice_get, slice_index_or, slice_set};
 ghost use Rattle.std.specs.Option.{option_map};
-ghost use Rattle.sy_bank_rows.specs.Stored.{entry_of, entries_of};
+ghost use Rattle.sy_bank_level.specs.Stored.{entry_of, entries_of};
 ghost use Rattle.sy_bank_level.specs.Task.{level_of};
 
+use crate::kept::Kept;
 use std::alloc::Global;
-use sy_bank_rows::Kept;
 use sy_terms::{Seq, Theory, Want};
 
 /// The kept terms of one size, by nonterminal.

@@ -9,9 +9,8 @@ mod trimming;
 
 pub use checker::{advance, check, clause_at};
 pub use marks::Marks;
-pub use trimming::trimmed;
-
 use sy_seq::Seq;
+pub use trimming::trimmed;
 
 /// A literal: the variable itself, or its negation.
 #[derive(Clone, Copy, Drop)]

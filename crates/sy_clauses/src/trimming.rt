@@ -5,9 +5,9 @@ ghost use Rattle.sy_clauses.specs.Names.{EachIsNamed};
 ghost use Rattle.sy_clauses.specs.Needed.{needs};
 ghost use Rattle.sy_clauses.specs.Numbers.{line_renumbered, lines_left, number_in};
 
-use crate::{Cnf, Line, Log};
 use crate::marking::{is_needed, needed_lines};
 use crate::numbering::Numbering;
+use crate::{Cnf, Line, Log};
 use std::alloc::{AllocError, Global};
 use sy_seq::{Seq, Want};
 

@@ -11,7 +11,9 @@ ghost use Rattle.sy_linear.specs.Judging as spec;
 ghost use Rattle.sy_linear.specs.Combining.{checked_combination};
 ghost use Rattle.sy_linear.specs.Judging.{TellsJudgement, AnswersAt};
 
-use crate::combination::{are_multipliers, combined, constant_of, divided, is_negative_constant, number_of, rounded};
+use crate::combination::{
+    are_multipliers, combined, constant_of, divided, is_negative_constant, number_of, rounded,
+};
 use std::alloc::Global;
 use sy_frac::Frac;
 use sy_linear_known::{CheckEnd, Fact, Form, FormEnd, Known, Test, Tree, known_under};

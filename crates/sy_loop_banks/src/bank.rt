@@ -6,7 +6,7 @@ ghost use Rattle.sy_terms.specs.Definitions.{DefinitionsFit, scope_of, bodies};
 ghost use Rattle.sy_terms.specs.Meaning.{functions};
 ghost use Rattle.sy_grammar_base.specs.Formed.{is_formed};
 ghost use Rattle.sy_grammar_base.specs.Grown.{syntax_from};
-ghost use Rattle.sy_bank_rows.specs.Rows.{ArePointsOf};
+ghost use Rattle.sy_bank_level.specs.Rows.{ArePointsOf};
 ghost use Rattle.sy_bank.specs.Answers.{OnBank, IfFull, BankIsBuilt};
 ghost use Rattle.sy_bank_level.specs.Bank.{merged_of};
 ghost use Rattle.sy_bank.specs.Promised.{IsBank, BankIsWhole, BankIsFull};

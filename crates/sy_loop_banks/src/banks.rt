@@ -5,7 +5,7 @@ ghost use Rattle.sy_terms.specs.Definitions.{DefinitionsFit, scope_of, bodies};
 ghost use Rattle.sy_terms.specs.Meaning.{functions};
 ghost use Rattle.sy_grammar_base.specs.Formed.{is_formed};
 ghost use Rattle.sy_grammar_base.specs.Grown.{syntax_from};
-ghost use Rattle.sy_bank_rows.specs.Rows.{ArePointsOf};
+ghost use Rattle.sy_bank_level.specs.Rows.{ArePointsOf};
 ghost use Rattle.sy_bank.specs.Answers.{OnBank, IfFull, BankIsBuilt};
 ghost use Rattle.sy_bank_level.specs.Bank.{merged_of};
 ghost use Rattle.sy_bank.specs.Promised.{IsBank, BankIsWhole, BankIsFull};
@@ -17,10 +17,10 @@ ghost use Rattle.sy_loop_banks.specs.BankClauses.{AreBuiltFor, AreCarriedFor, Is
 use crate::bank::new_bank;
 use std::alloc::{AllocError, Global};
 use sy_bank::{Bank, BankEnd, grow};
-use sy_bank_rows::Kept;
+use sy_bank_level::Kept;
 use sy_grammar_base::{Problem, Wanted};
-use sy_loop_bounds::Reach;
 use sy_loop_candidate::Known;
+use sy_loop_spec::Reach;
 use sy_query_limits::Limits;
 use sy_terms::{Seq, Theory, Values, Want, same_values};
 

@@ -2,19 +2,18 @@
 ghost use Rattle.std.specs.Prelude.{◌≡◌, ◌<◌, length, map, IfOk, MatchOption, None};
 ghost use Rattle.sy_grammar_base.specs.Questions.{question_of};
 ghost use Rattle.sy_bank_level.specs.Bank.{merged_of};
-ghost use Rattle.sy_loop_history.specs.Histories.{IsOpenNumber};
-ghost use Rattle.sy_loop_history.specs.Stored.{history_of};
+ghost use Rattle.sy_loop_spec.specs.Histories.{IsOpenNumber};
+ghost use Rattle.sy_loop_spec.specs.Stored.{history_of};
 ghost use Rattle.sy_loop_candidate.specs.Clauses.{IsKnownFor};
-ghost use Rattle.sy_loop_outcome.specs.Right.{LeavesFor};
+ghost use Rattle.sy_loop_spec.specs.Right.{LeavesFor};
 ghost use Rattle.sy_loop_banks.specs.BankClauses.{AreBanksFor};
 ghost use Rattle.sy_loop_banks.specs.Dropping.{DroppedNothing, IsPlaced, IsDroppedBy};
 
 use std::alloc::Global;
 use sy_bank_level::Bank;
 use sy_grammar_base::Problem;
-use sy_loop_bounds::Reach;
 use sy_loop_candidate::Known;
-use sy_loop_outcome::LoopRange;
+use sy_loop_spec::{LoopRange, Reach};
 use sy_query_limits::Limits;
 use sy_terms::{Theory, Want, copied_values};
 

@@ -7,7 +7,7 @@ ghost use Rattle.sy_grammar_base.specs.Fits.{ProblemFits};
 ghost use Rattle.sy_grammar_base.specs.Formed.{is_formed};
 ghost use Rattle.sy_grammar_base.specs.Grown.{syntax_from};
 ghost use Rattle.sy_grammar_base.specs.Questions.{question_of};
-ghost use Rattle.sy_bank_rows.specs.Rows.{ArePointsOf};
+ghost use Rattle.sy_bank_level.specs.Rows.{ArePointsOf};
 ghost use Rattle.sy_bank_level.specs.Bank.{merged_of};
 ghost use Rattle.sy_bank.specs.Promised.{IsBank};
 ghost use Rattle.sy_loop_bodies.specs.Banked.{IsOneBank};

@@ -17,7 +17,7 @@ use Rattle.sy_grammar_base.specs.Questions.{Goal, Question, question_of, signatu
 use Rattle.sy_grammar_base.specs.Solving.{AreWithin}
 use Rattle.sy_grammar_base.specs.declared.problem.Problem.{Problem}
 use Rattle.sy_grammar_base.proofs.Candidates.{bodies_fit}
-use Rattle.sy_bank_rows.specs.Banks.{Entry, Merged, kept_at}
+use Rattle.sy_bank_level.specs.Banks.{Entry, Merged, kept_at}
 use Rattle.sy_loop_candidate.proofs.Ending.{members}
 use Rattle.sy_loop_bodies.specs.Banked.{IsOneBank}
 

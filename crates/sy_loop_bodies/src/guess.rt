@@ -5,8 +5,7 @@ ghost use Rattle.sy_grammar_base.specs.Fits.{ProblemFits};
 ghost use Rattle.sy_loop_bodies.specs.Clauses.{IsSmallFor};
 
 use crate::body::Task;
-use sy_bank_level::Bank;
-use sy_bank_rows::{Kept, filled_part};
+use sy_bank_level::{Bank, Kept, filled_part};
 use sy_grammar::derive;
 use sy_grammar_sizes::derivation_size;
 use sy_terms::{Term, Theory, Want};

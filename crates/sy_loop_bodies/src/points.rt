@@ -1,7 +1,7 @@
 // Tuples of arguments as points of a bank.
 ghost use Rattle.std.specs.Prelude.{◌≡◌, true, IfOk, IfSome, map};
 ghost use Rattle.sy_terms.specs.Denoted.{vals_of};
-ghost use Rattle.sy_bank_rows.specs.Rows.{ArePointsOf};
+ghost use Rattle.sy_bank_level.specs.Rows.{ArePointsOf};
 
 use std::alloc::Global;
 use sy_meaning::value_sorts;

@@ -21,11 +21,11 @@ use Rattle.sy_grammar_base.specs.Questions.{Goal, Question, question_of, signatu
 use Rattle.sy_grammar_base.specs.Solving.{AreValues}
 use Rattle.sy_grammar_base.specs.declared.problem.Problem.{Problem}
 use Rattle.sy_points.specs.Asked.{Asked}
-use Rattle.sy_loop_bounds.specs.declared.reach.Reach.{Reach}
-use Rattle.sy_loop_history.specs.Histories.{Counterexample, IsCandidate, all_asked_by, trace}
-use Rattle.sy_loop_history.proofs.Staying.{tried_in_bound}
-use Rattle.sy_loop_history.specs.Truths.{asked_by, OneLeaves}
-use Rattle.sy_loop_history.specs.Adding.{IsAsked, GainsTuples, room}
+use Rattle.sy_loop_spec.specs.declared.reach.Reach.{Reach}
+use Rattle.sy_loop_spec.specs.Histories.{Counterexample, IsCandidate, all_asked_by, trace}
+use Rattle.sy_loop_spec.proofs.Staying.{tried_in_bound}
+use Rattle.sy_loop_spec.specs.Truths.{asked_by, OneLeaves}
+use Rattle.sy_loop_spec.specs.Adding.{IsAsked, GainsTuples, room}
 use Rattle.sy_loop_truth.specs.Answers.{AddsCalls}
 use Rattle.sy_loop_truth.specs.Known.{IsHeld, IsKnown}
 use Rattle.sy_loop_truth.specs.Traces.{AreCalls, TuplesGrow, Widens, IsAskedBy, MeetAll, AsksAt, IsTraced, AreTraced, IsTracedAt, LeavesRangeAt}

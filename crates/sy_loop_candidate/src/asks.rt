@@ -3,7 +3,7 @@ ghost use Rattle.std.specs.Prelude.{◌<◌, length, map, IfOk, OnOk};
 ghost use Rattle.sy_terms.specs.Denoted.{expr_of, vals_of};
 ghost use Rattle.sy_grammar_base.specs.Questions.{question_of};
 ghost use Rattle.sy_grammar_base.specs.Solving.{AreValues};
-ghost use Rattle.sy_loop_history.specs.Stored.{history_of};
+ghost use Rattle.sy_loop_spec.specs.Stored.{history_of};
 ghost use Rattle.sy_loop_truth.specs.Traces.{Calls, AsksAt};
 ghost use Rattle.sy_loop_candidate.specs.Answers.{Tries};
 ghost use Rattle.sy_grammar_base.specs.Fits.{ProblemFits};

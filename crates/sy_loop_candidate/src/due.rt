@@ -13,7 +13,7 @@ use crate::copies::{assignment_at, copied_bodies};
 use crate::step::{End, Known, Step};
 use std::alloc::Global;
 use sy_grammar_base::Problem;
-use sy_loop_bounds::Reach;
+use sy_loop_spec::Reach;
 use sy_loop_truth::Adding;
 use sy_query::{Built, build};
 use sy_query_base::{Decide, Limits, Query, Verdict};

@@ -11,7 +11,7 @@ use crate::due::decide_due;
 use crate::trial::{Trial, try_bodies};
 use std::alloc::Global;
 use sy_grammar_base::Problem;
-use sy_loop_bounds::Reach;
+use sy_loop_spec::Reach;
 use sy_points::{Points, Stored};
 use sy_query_base::{Decide, Limits};
 use sy_terms::{Bodies, Theory, Values, Want};

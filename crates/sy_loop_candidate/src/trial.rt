@@ -2,7 +2,7 @@
 ghost use Rattle.std.specs.Prelude.{◌≡◌, map, IfOk, OnOk};
 ghost use Rattle.sy_terms.specs.Denoted.{expr_of};
 ghost use Rattle.sy_grammar_base.specs.Questions.{question_of};
-ghost use Rattle.sy_loop_history.specs.Stored.{history_of};
+ghost use Rattle.sy_loop_spec.specs.Stored.{history_of};
 ghost use Rattle.sy_loop_candidate.specs.Answers.{Tries, trial_of};
 ghost use Rattle.sy_grammar_base.specs.Fits.{ProblemFits};
 ghost use Rattle.sy_loop_truth.specs.Clauses.{FitAsBodies, IsHeldFor, WidensFor};

@@ -2,9 +2,9 @@
 ghost use Rattle.std.specs.Prelude.{◌≤◌, List};
 ghost use Rattle.sy_grammar_base.specs.Questions.{Question};
 ghost use Rattle.sy_points.specs.Asked.{Asked};
-ghost use Rattle.sy_loop_bounds.specs.declared.reach.Reach.{Reach as Reaches};
-ghost use Rattle.sy_loop_history.specs.Histories.{Counterexample};
-ghost use Rattle.sy_loop_laws.specs.Refuting.{AreDoneBelow};
+ghost use Rattle.sy_loop_spec.specs.declared.reach.Reach.{Reach as Reaches};
+ghost use Rattle.sy_loop_spec.specs.Histories.{Counterexample};
+ghost use Rattle.sy_loop_spec.specs.Refuting.{AreDoneBelow};
 
 use sy_query_limits::Limits;
 

@@ -1,7 +1,7 @@
 // The largest sizes of the grammars of a problem.
 ghost use Rattle.std.specs.Prelude.{◌↔◌, IsTrue, IfOk};
 ghost use Rattle.sy_grammar_base.specs.Questions.{question_of};
-ghost use Rattle.sy_loop_history.specs.Sizes.{AreAtMost};
+ghost use Rattle.sy_loop_spec.specs.Sizes.{AreAtMost};
 
 use std::alloc::Global;
 use sy_grammar_base::Problem;

@@ -1,10 +1,10 @@
 // At which points kept terms are good.
 ghost use Rattle.std.specs.Prelude.{◌≡◌, ◌<◌, length, filter, IfOk, IfSome, OnOk, None};
-ghost use Rattle.sy_bank_rows.specs.Stored.{chosen_of};
+ghost use Rattle.sy_bank_level.specs.Stored.{chosen_of};
 ghost use Rattle.sy_grammar_base.specs.Fits.{ProblemFits};
 ghost use Rattle.sy_grammar_base.specs.Questions.{question_of};
 ghost use Rattle.sy_points.specs.Asked.{AreDistinct, of_function};
-ghost use Rattle.sy_loop_bounds.specs.Pointwise.{IsPointwise};
+ghost use Rattle.sy_loop_spec.specs.Pointwise.{IsPointwise};
 ghost use Rattle.sy_loop_truth.specs.Clauses.{AreAssignedFor, AreRestsFor};
 ghost use Rattle.sy_loop_goods.specs.Clauses.{AreLeavesFor, AreGoodsFor, IsColumnFor, IsLeavingFor, IsMemoFor};
 ghost use Rattle.sy_loop_goods.specs.Columns.{is_on};
@@ -16,7 +16,7 @@ use crate::leaf::judge_leaf;
 use crate::rows::transposed;
 use std::alloc::Global;
 use std::collections::HashMap;
-use sy_bank_rows::Kept;
+use sy_bank_level::Kept;
 use sy_grammar_base::Problem;
 use sy_loop_truth::Rest;
 use sy_points::{Points, Stored};

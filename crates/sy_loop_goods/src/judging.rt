@@ -1,11 +1,11 @@
 // Whether constraints are true under a leaf.
 ghost use Rattle.std.specs.Prelude.{◌≡◌, [], ◌∷◌, All, IfOk, OnOk, map};
 ghost use Rattle.sy_terms.specs.Denoted.{expr_of, vals_of};
-ghost use Rattle.sy_bank_rows.specs.Stored.{entry_of};
+ghost use Rattle.sy_bank_level.specs.Stored.{entry_of};
 ghost use Rattle.sy_grammar_base.specs.Fits.{IsTruth, ProblemFits};
 ghost use Rattle.sy_grammar_base.specs.Questions.{question_of};
 ghost use Rattle.sy_grammar_base.specs.Solving.{AreValues};
-ghost use Rattle.sy_loop_bounds.specs.Pointwise.{IsPointwise};
+ghost use Rattle.sy_loop_spec.specs.Pointwise.{IsPointwise};
 ghost use Rattle.sy_loop_truth.specs.Clauses.{FitAsBodies};
 ghost use Rattle.sy_loop_truth.specs.Clauses.{AreAssignedFor, IsRestFor};
 ghost use Rattle.sy_loop_goods.specs.Clauses.{IsMemoFor, IsRowFor, JudgesFor};
@@ -14,7 +14,7 @@ ghost use Rattle.sy_loop_goods.specs.Telling.{TellsTruth};
 use crate::Memo;
 use crate::recall::{judged_by, value_at};
 use std::alloc::{AllocError, Global};
-use sy_bank_rows::Kept;
+use sy_bank_level::Kept;
 use sy_grammar_base::Problem;
 use sy_loop_truth::{Rest, is_true};
 use sy_meaning::{Eval, Trace, evaluate_with};

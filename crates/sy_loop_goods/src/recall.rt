@@ -1,14 +1,14 @@
 // What a memo says of constraints under a kept term.
 ghost use Rattle.std.specs.Prelude.{◌≡◌, [], ◌∷◌, All, IfSome, Some, slice_get};
 ghost use Rattle.sy_terms.specs.Denoted.{val_of};
-ghost use Rattle.sy_bank_rows.specs.Stored.{entry_of};
+ghost use Rattle.sy_bank_level.specs.Stored.{entry_of};
 ghost use Rattle.sy_loop_goods.specs.Clauses.{IsMemoFor, IsRowFor, JudgesFor};
 ghost use Rattle.sy_loop_truth.specs.Clauses.{IsRestFor};
 ghost use Rattle.sy_loop_goods.specs.Judged as spec;
 
 use crate::Memo;
 use crate::judging::Judged;
-use sy_bank_rows::Kept;
+use sy_bank_level::Kept;
 use sy_grammar_base::Problem;
 use sy_loop_truth::Rest;
 use sy_points::{Points, Stored};

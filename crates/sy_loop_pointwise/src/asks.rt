@@ -3,13 +3,13 @@ ghost use Rattle.std.specs.Prelude.{ℕ, List, ◌≡◌, ◌++◌, ◌↔◌, I
 ghost use Rattle.sy_terms.specs.Expr.{Exprs, Invoke};
 ghost use Rattle.sy_terms.specs.declared.term.Fun.{Fun};
 ghost use Rattle.sy_terms.specs.declared.term.Fun.TheVariants.{Wanted};
-ghost use Rattle.sy_loop_bounds.specs.Applications.{applications, all_applications};
-ghost use Rattle.sy_loop_subterms.specs.Denoted.{shape_of, shapes_of};
-ghost use Rattle.sy_loop_subterms.specs.Shapes.{AreBelow, AreSubterms, numbers_of, shaped, subterms, term_of, terms_of};
+ghost use Rattle.sy_loop_spec.specs.Applications.{applications, all_applications};
+ghost use Rattle.sy_loop_pointwise.specs.Denoted.{shape_of, shapes_of};
+ghost use Rattle.sy_loop_pointwise.specs.Shapes.{AreBelow, AreSubterms, numbers_of, shaped, subterms, term_of, terms_of};
 ghost use Rattle.sy_loop_pointwise.specs.Asked.{AreApplications, AreKnown, AreArguments};
 
+use crate::shape::{Shape, same_numbers};
 use std::alloc::Global;
-use sy_loop_subterms::{Shape, same_numbers};
 use sy_terms::{Fun, Seq, Theory, Want};
 
 /// Which applications of functions to be found stand within subterms.

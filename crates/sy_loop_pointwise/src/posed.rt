@@ -3,14 +3,15 @@ ghost use Rattle.std.specs.Prelude.{◌≡◌, ◌↔◌, IsTrue, IfOk, MatchOpt
 ghost use Rattle.sy_terms.specs.Denoted.{expr_of};
 ghost use Rattle.sy_terms.specs.Expr.{Exprs};
 ghost use Rattle.sy_grammar_base.specs.Questions.{question_of};
-ghost use Rattle.sy_loop_bounds.specs.Pointwise.{IsPosed, IsPointwise};
-ghost use Rattle.sy_loop_bounds.specs.WrittenOut.{written_out};
+ghost use Rattle.sy_loop_spec.specs.Pointwise.{IsPosed, IsPointwise};
+ghost use Rattle.sy_loop_spec.specs.WrittenOut.{written_out};
 ghost use Rattle.sy_loop_pointwise.specs.Posed.{PosesConstraint, ArePosed};
 
 use crate::asks::{Asks, all_asks};
+use crate::table::Table;
+use crate::writing::written;
 use std::alloc::Global;
 use sy_grammar_base::Problem;
-use sy_loop_subterms::{Table, written};
 use sy_terms::{Term, Theory, Want};
 
 /// A constraint of a pointwise problem.

@@ -5,7 +5,7 @@ ghost use Rattle.sy_terms.specs.Expr.{Expr};
 ghost use Rattle.sy_grammar_base.specs.Fits.{ProblemFits};
 ghost use Rattle.sy_grammar_base.specs.Questions.{question_of};
 ghost use Rattle.sy_grammar_base.specs.Solving.{AreValues};
-ghost use Rattle.sy_loop_bounds.specs.Pointwise.{IsPointwise};
+ghost use Rattle.sy_loop_spec.specs.Pointwise.{IsPointwise};
 ghost use Rattle.sy_loop_pointwise.specs.Posed.{PosesConstraint};
 ghost use Rattle.sy_loop_pointwise.specs.Rests.{Rests};
 

@@ -6,12 +6,12 @@ ghost use Rattle.sy_terms.specs.Definitions.{DefinitionsFit, scope_of, bodies};
 ghost use Rattle.sy_terms.specs.Expr.{Expr, Variable};
 ghost use Rattle.sy_terms.specs.Fitting.{Scope};
 ghost use Rattle.sy_terms.specs.Meaning.{Function, functions};
-ghost use Rattle.sy_loop_subterms.specs.Denoted.{shape_of, shapes_of};
-ghost use Rattle.sy_loop_subterms.specs.Shapes.{AreBelow, AreSubterms, numbers_of, shaped, subterms, term_of, terms_of};
+ghost use Rattle.sy_loop_pointwise.specs.Denoted.{shape_of, shapes_of};
+ghost use Rattle.sy_loop_pointwise.specs.Shapes.{AreBelow, AreSubterms, numbers_of, shaped, subterms, term_of, terms_of};
 ghost use Rattle.sy_loop_pointwise.specs.Valued.{IsValued, AreValued, EachIsValued, AreConstants};
 
+use crate::shape::Shape;
 use std::alloc::Global;
-use sy_loop_subterms::Shape;
 use sy_meaning::{Eval, evaluate, term_sort};
 use sy_terms::{Defs, Seq, Term, Terms, Theory, Value, Values, Want};
 

@@ -1,8 +1,8 @@
 // The stages of a search, one after the other.
 ghost use Rattle.std.specs.Prelude.{◌≡◌, length, IfOk, IfSome};
 ghost use Rattle.sy_grammar_base.specs.Fits.{ProblemFits};
-ghost use Rattle.sy_loop_bounds.specs.declared.reach.Reach.TheVariants.{Joins};
-ghost use Rattle.sy_loop_outcome.specs.Right.{IsRightFor};
+ghost use Rattle.sy_loop_spec.specs.declared.reach.Reach.TheVariants.{Joins};
+ghost use Rattle.sy_loop_spec.specs.Right.{IsRightFor};
 ghost use Rattle.sy_loop_stages.specs.Finding.{FindsBeyondFor};
 ghost use Rattle.sy_loop_stages.specs.Searched.{HasStoppedFor, IsAnswerFor};
 
@@ -15,7 +15,7 @@ use std::alloc::Global;
 use sy_grammar_base::Problem;
 use sy_loop::synthesise;
 use sy_loop_bodies::{Aside, Task, solve_aside};
-use sy_loop_outcome::{FailCause, Outcome};
+use sy_loop_spec::{FailCause, Outcome};
 use sy_query_base::Decide;
 use sy_query_limits::Limits;
 use sy_terms::{Theory, Want};

@@ -7,7 +7,7 @@ use crate::rows::{field, number, one};
 use std::alloc::Global;
 use std::process::Abort;
 use sy_bank::{Bank, BankEnd, build, grow};
-use sy_bank_rows::{Kept, filled_part};
+use sy_bank_level::{Kept, filled_part};
 use sy_grammar::well_formed;
 use sy_grammar_base::{Grammar, Non};
 use sy_terms::{Seq, Sort, Theory, Values};

@@ -1,12 +1,12 @@
 // The terms that conditional trees over kept terms are.
 ghost use Rattle.std.specs.Prelude.{◌≡◌, IfOk};
 ghost use Rattle.sy_terms.specs.Denoted.{expr_of};
-ghost use Rattle.sy_bank_rows.specs.Stored.{chosen_of};
-ghost use Rattle.sy_loop_bounds.specs.Conditional.{yield};
-ghost use Rattle.sy_loop_history.specs.Trees.{conditional_of, entry_at};
+ghost use Rattle.sy_bank_level.specs.Stored.{chosen_of};
+ghost use Rattle.sy_loop_spec.specs.Conditional.{yield};
+ghost use Rattle.sy_loop_spec.specs.Trees.{conditional_of, entry_at};
 
 use std::alloc::Global;
-use sy_bank_rows::Kept;
+use sy_bank_level::Kept;
 use sy_terms::{Op, Term, Terms, Theory, Value, Want};
 use sy_unify::Choice;
 

@@ -21,10 +21,10 @@ use Rattle.sy_grammar_base.specs.Questions.{Goal, Question, goal_of, question_of
 use Rattle.sy_grammar_base.specs.Solving.{AreValues, IsTrueUnder, Meets}
 use Rattle.sy_grammar_base.specs.declared.problem.Problem.{Problem}
 use Rattle.sy_grammar_base.specs.declared.problem.Wanted.{Wanted}
-use Rattle.sy_loop_history.specs.Budgets as budgets
+use Rattle.sy_loop_spec.specs.Budgets as budgets
 use Rattle.sy_loop_truth.specs.declared.truth.Truth as answer
 use Rattle.sy_loop_truth.specs.declared.truth.Truth.TheVariants.{True, False, Leaves}
-use Rattle.sy_loop_history.specs.Truths.{asked_by, IsFalseByCalls, IsOneFalse, OneLeaves}
+use Rattle.sy_loop_spec.specs.Truths.{asked_by, IsFalseByCalls, IsOneFalse, OneLeaves}
 use Rattle.sy_loop_truth.specs.Answers.{AnswersValue, Says, SaysOfAll, JudgesBodies}
 use Rattle.sy_loop_truth.proofs.Traced.{gained_all, gained_only}
 use Rattle.sy_grammar_base.specs.Fits.{IsTruth, wanted_of}

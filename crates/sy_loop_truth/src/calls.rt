@@ -1,6 +1,6 @@
 // The tuples that candidates ask for.
 ghost use Rattle.std.specs.Prelude.{ℕ, ◌<◌, length, Contains, IfOk, OnOk};
-ghost use Rattle.sy_loop_history.specs.Adding.{GainsTuples};
+ghost use Rattle.sy_loop_spec.specs.Adding.{GainsTuples};
 ghost use Rattle.sy_loop_truth.specs.Answers.{AddsCalls};
 
 use std::alloc::Global;

@@ -19,5 +19,7 @@ pub use functions::Ruled;
 pub use job::Job;
 pub use laws::{files_fit, files_titled, steps_keep_sound};
 pub use sy_scope_causes::{Cause, Refused, Title, Titles, cause_number};
-pub use sy_scope_declared::{Asked, Condition, Context, Definition, Sought, check_feature, read_request};
+pub use sy_scope_declared::{
+    Asked, Condition, Context, Definition, Sought, check_feature, read_request,
+};
 pub use sy_scope_ends::ScopeEnd;

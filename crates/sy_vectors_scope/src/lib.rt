@@ -2,15 +2,19 @@
 // made from numbers.
 #![tactic(auto)]
 
-#[cfg(test)]
 mod bytes;
-#[cfg(test)]
+mod clauses;
 mod drills;
-#[cfg(test)]
 mod lexicon;
-#[cfg(test)]
 mod pool;
-#[cfg(test)]
+mod proofs_tables;
 mod second;
-#[cfg(test)]
 mod tables;
+mod texts;
+
+#[cfg(test)]
+#[cfg(test)]
+#[cfg(test)]
+#[cfg(test)]
+#[cfg(test)]
+#[cfg(test)]

@@ -2,5 +2,7 @@
 #![tactic(auto)]
 
 mod answers;
+mod search;
 
 pub use answers::{Answers, Ended, unanswered};
+pub use search::{Solved, sought, status_of};

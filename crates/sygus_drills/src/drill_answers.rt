@@ -4,25 +4,25 @@ ghost use Rattle.std.specs.Io.KnownBytes.{Appends};
 ghost use Rattle.sy_io.specs.Causes.{Rose};
 ghost use Rattle.sy_grammar_base.specs.Fits.{ProblemFits};
 ghost use Rattle.sy_grammar_base.specs.Questions.{question_of};
-ghost use Rattle.sygus_drill.specs.Examples as made;
-ghost use Rattle.sygus_drill.specs.Lines as lines;
+ghost use Rattle.sygus_drills.specs.Examples as made;
+ghost use Rattle.sygus_drills.specs.Lines as lines;
 ghost use Rattle.sygus_drills.specs.Counts.{AlwaysFit};
-ghost use Rattle.sygus_drill_laws.specs.Asked.{AsksFor};
+ghost use Rattle.sygus_drills.specs.Asked.{AsksFor};
 ghost use Rattle.sygus_replies.specs.Replies.{IsSettled, IsFail, reply_for, replies_for};
 ghost use Rattle.sygus_words.specs.declared.settings.Mode.TheVariants as modes;
-ghost use Rattle.sygus_search.specs.RightAnswers.{RightOutcomeFor};
+ghost use Rattle.sygus_answers.specs.RightAnswers.{RightOutcomeFor};
 ghost use Rattle.sygus_drills.specs.DrillAnswers.{AnswersDrill, HasSolution, drill_end};
 
 use crate::count::count_met;
+use crate::line::{DrillEnd, drill_line};
 use std::alloc::Global;
 use sy_grammar_base::Problem;
 use sy_io::{Bytes, Sink, write_whole};
-use sy_loop_outcome::{Outcome, fail_name};
+use sy_loop_spec::{Outcome, fail_name};
 use sy_query_base::Decide;
 use sy_query_limits::Limits;
 use sy_terms::{Seq, Theory, Want};
-use sygus_drill::{DrillEnd, drill_line};
-use sygus_search::{Solved, sought, status_of};
+use sygus_answers::{Solved, sought, status_of};
 use sygus_words::Mode;
 
 /// Answers the problem of a number's file by the search of mode `solve`, and writes the line that tells how the drill

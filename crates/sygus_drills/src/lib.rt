@@ -4,5 +4,13 @@
 mod count;
 mod drill_answers;
 mod drills;
+mod file;
+mod generator;
+mod laws;
+mod line;
 
 pub use drills::drill;
+pub use file::drill_file;
+pub use generator::{Example, examples};
+pub use laws::files_ask;
+pub use line::{DrillEnd, drill_line};

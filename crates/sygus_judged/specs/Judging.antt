@@ -33,8 +33,8 @@ use Rattle.sygus_answers.specs.declared.answers.Answers.TheVariants.{Idle, Ints,
 use Rattle.sygus_verdicts.specs.Judged.{AreJudged}
 use Rattle.sygus_verdicts.specs.Lines.{verdict_lines, WritesMostLines}
 use Rattle.sygus_verdicts.specs.Verdicts.{Verdict, verdict_on, verdicts_status}
-use Rattle.sygus_judges.specs.Found.{verdict_found}
-use Rattle.sygus_judges.specs.Proofs.{IsRecheckedWith, verdict_rechecked, verdict_spelled}
+use Rattle.sygus_verdicts.specs.Found.{verdict_found}
+use Rattle.sygus_verdicts.specs.Proofs.{IsRecheckedWith, verdict_rechecked, verdict_spelled}
 use Rattle.sygus_words.specs.declared.settings.Mode.{Mode}
 use Rattle.sygus_words.specs.declared.settings.Mode.TheVariants.{Solve, Least, Check, Recheck, Clauses, Drill}
 use Rattle.sygus_words.specs.declared.settings.Settings.{Settings}

@@ -33,8 +33,7 @@ use sy_scope_causes::Titles;
 use sy_terms::{Logic, Seq, Theory};
 use sy_verify_proofs::{LogChecker, LogClauses, NoClauses, TreeChecker};
 use sygus_answers::{Answers, Ended, unanswered};
-use sygus_judges::{Rechecking, Spelling, Verifying};
-use sygus_verdicts::{Claims, judge_all};
+use sygus_verdicts::{Claims, Rechecking, Spelling, Verifying, judge_all};
 use sygus_words::{Mode, Settings};
 
 /// Replies to be judged: the settings of the run, the bytes of the file, and the offset from which they stand.

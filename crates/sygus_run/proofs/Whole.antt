@@ -20,8 +20,8 @@ use Rattle.sygus_input.specs.declared.input.InputFault.{InputFault}
 use Rattle.sygus_input.specs.declared.input.InputFault.TheVariants as faults
 use Rattle.sygus_answers.specs.Answers.{replies_of}
 use Rattle.sygus_answers.specs.declared.answers.Answers.{Answers}
-use Rattle.sygus_search.specs.Complete.{AreComplete}
-use Rattle.sygus_search.proofs.Complete.{answers_complete}
+use Rattle.sygus_answers.specs.Complete.{AreComplete}
+use Rattle.sygus_answers.proofs.Complete.{answers_complete}
 use Rattle.sygus_solve.specs.Files.{AnswersFile, RefusesFile, WritesAll}
 use Rattle.sygus_judged.specs.Ends.{JudgesFile, RefusesFront, RefusesReplies}
 use Rattle.sygus_judged.specs.Judging.{replies_read, wants_proofs}

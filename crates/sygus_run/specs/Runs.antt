@@ -22,8 +22,8 @@ use Rattle.sygus_replies.specs.Answered.{WritesMost}
 use Rattle.sygus_answers.specs.declared.answers.Answers.{Answers}
 use Rattle.sygus_answers.specs.declared.answers.Answers.TheVariants.{Idle}
 use Rattle.sygus_answers.specs.Answers.{replies_of, shown_in, AreOfLogic}
-use Rattle.sygus_search.specs.Complete.{AreComplete}
-use Rattle.sygus_search.specs.RightAnswers.{AreRightAnswers}
+use Rattle.sygus_answers.specs.Complete.{AreComplete}
+use Rattle.sygus_answers.specs.RightAnswers.{AreRightAnswers}
 use Rattle.sygus_judged.specs.Judging.{replies_read, wants_proofs}
 
 -- the file of these words is in the profile, and this is what it asks for

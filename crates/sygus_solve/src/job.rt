@@ -9,7 +9,7 @@ ghost use Rattle.sygus_replies.specs.Answered.{WritesMost, WritesMostFails};
 ghost use Rattle.sygus_replies.specs.Replies.{IsSettled, IsFail};
 ghost use Rattle.sygus_replies.specs.Texts.{texts, answer_lines, memory_line};
 ghost use Rattle.sygus_answers.specs.Answers.{replies_of, shown_in, AreOfLogic, AreNamedFor};
-ghost use Rattle.sygus_search.specs.RightAnswers.{AreRightAnswers};
+ghost use Rattle.sygus_answers.specs.RightAnswers.{AreRightAnswers};
 
 use crate::printers::{Logs, Trees};
 use crate::problems::solve;

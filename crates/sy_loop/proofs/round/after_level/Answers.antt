@@ -3,9 +3,9 @@ use Rattle.std.proofs.lemmas.List.{length-map}
 use Rattle.std.proofs.lemmas.Result.{IfOk-from_err}
 use Rattle.sy_grammar_base.specs.Questions.{question_of, goal_of}
 use Rattle.sy_bank_level.specs.Bank.{merged_of}
-use Rattle.sy_loop_history.specs.Stored.{history_of}
-use Rattle.sy_loop_laws.specs.Refuting.{AreDoneBelow}
-use Rattle.sy_loop_laws.proofs.Refuted.{assumes_nothing}
+use Rattle.sy_loop_spec.specs.Stored.{history_of}
+use Rattle.sy_loop_spec.specs.Refuting.{AreDoneBelow}
+use Rattle.sy_loop_spec.proofs.Refuted.{assumes_nothing}
 use Rattle.sy_loop_banks.specs.Dropping.{DroppedNothing}
 use Rattle.sy_loop_banks.proofs.Carrying.{carried_on}
 use Rattle.sy_loop.proofs.Completing.{level_open, next_done, nothing_within, trees_done}
