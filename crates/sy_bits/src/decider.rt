@@ -16,8 +16,8 @@ use sy_bits_circuit::{Circuit, query_circuit};
 use sy_cdcl::Solved;
 use sy_clauses::{Log, trimmed};
 use sy_meaning_words::BvTheory;
+use sy_query::corner_model;
 use sy_query_base::{Decide, Query, Verdict};
-use sy_query_corners::corner_model;
 use sy_query_limits::{FailName, Limits};
 use sy_terms::Want;
 

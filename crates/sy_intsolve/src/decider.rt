@@ -8,8 +8,8 @@ use std::alloc::Global;
 use sy_intsolve_cuts::IntSpent;
 use sy_linear_known::Tree;
 use sy_meaning_integers::IntTheory;
+use sy_query::corner_model;
 use sy_query_base::{Decide, Query, Verdict};
-use sy_query_corners::corner_model;
 use sy_query_limits::{FailName, Limits};
 use sy_terms::Want;
 

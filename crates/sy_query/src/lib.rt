@@ -2,13 +2,19 @@
 #![tactic(auto)]
 
 mod built;
+mod choices;
+mod constants;
 mod leaf;
+mod numbers;
 mod place;
+mod places;
 mod queries;
 mod room;
+mod trial;
 mod weight;
 
 pub use built::Built;
 pub use queries::{build, weigh};
 pub use sy_query_base::{Decide, Query, Verdict};
 pub use sy_query_limits::{FailName, Limits};
+pub use trial::corner_model;

@@ -1,6 +1,6 @@
 use Rattle.std.proofs.lemmas.List.{map-append}
-use Rattle.sy_query_corners.proofs.Trying.{one_more}
-use Rattle.sy_query_corners.proofs.trial.corner.Goals as goal
+use Rattle.sy_query.proofs.Trying.{one_more}
+use Rattle.sy_query.proofs.trial.corner.Goals as goal
 
 pub loop-sort-preserved : goal.loop-sort-preserved
 loop-sort-preserved g c =
