@@ -1,4 +1,4 @@
-// The kept terms of one size while they are found: rows by their numbers, and at most so many terms.
+// Kept terms with their rows of values, those of one size while they are found, and definitions and laws of banks.
 #![tactic(auto)]
 
 mod bank;

@@ -1,4 +1,4 @@
-// Clauses, resolution logs and their checker.
+// Clauses, resolution logs, their checker, and logs without the lines that the last one does not need.
 #![tactic(auto)]
 
 mod checker;

@@ -1,4 +1,4 @@
-// Items one after the other: symbols, numerals and indices, and why an item isn't read.
+// What items of text say where a term is read: symbols, numerals and indices, names in scope, and terms as they are written.
 #![tactic(auto)]
 
 mod convert;

@@ -1,4 +1,5 @@
-// Grammars, what they derive and how large it is, and problems.
+// Grammars: which are well formed, what they derive and how large it is, those of functions declared without one; and
+// problems.
 #![tactic(auto)]
 
 mod build;

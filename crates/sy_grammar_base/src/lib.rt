@@ -1,4 +1,4 @@
-// Grammars, derivations and problems.
+// Grammars, derivations and problems, and their laws.
 #![tactic(auto)]
 
 mod derivation;

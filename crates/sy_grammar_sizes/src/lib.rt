@@ -1,4 +1,4 @@
-// Sizes of derivations.
+// Sizes of derivations, the largest of them, and chain rules of grammars.
 #![tactic(auto)]
 
 mod chains;

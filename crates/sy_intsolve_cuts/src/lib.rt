@@ -1,5 +1,4 @@
-// Cuts of a path at a corner: multipliers are read off the last tableau of the simplex method, and what they give is
-// checked.
+// Broken points and cuts of a path at a corner, and the trees that a search grows.
 #![tactic(auto)]
 
 mod checking;

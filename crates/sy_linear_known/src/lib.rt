@@ -1,4 +1,4 @@
-// What facts on linear forms and truth values tell of a query, and trees that refute one.
+// Linear forms, what facts on them and truth values tell of a query, and trees that refute one.
 #![tactic(auto)]
 
 mod answer;

@@ -1,4 +1,4 @@
-// Which bodies count as in bound: definitions of pointwise problems and of conditional trees.
+// Which candidates are within the bound, honest histories of counterexamples, and right outcomes: definitions and laws.
 #![tactic(auto)]
 
 mod law;

@@ -1,4 +1,5 @@
-// The operators of SMT-LIB's theory Core on the values of any theory.
+// The operators of SMT-LIB's theory Core on the values of any theory, and the numbers that bit vectors and whole
+// numbers are made of.
 #![tactic(auto)]
 
 mod division;

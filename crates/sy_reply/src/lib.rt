@@ -1,4 +1,4 @@
-// The text of a reply.
+// The text of replies, of their lines, and of what replies state.
 #![tactic(auto)]
 
 mod end;

@@ -1,4 +1,5 @@
-// Queries that are satisfied by the same values as others, and are easier to search.
+// Queries that are satisfied by the same values as others and are easier to search: comparisons pushed into `ite`, and
+// comparisons of polynomials decided.
 #![tactic(auto)]
 
 mod apart;

@@ -1,4 +1,4 @@
-// What the commands so far declare and ask for; new names, and lists of names with sorts.
+// Commands by their names and parts, what the commands so far declare and ask for, and the values that a file writes.
 #![tactic(auto)]
 
 mod commands;

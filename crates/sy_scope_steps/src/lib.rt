@@ -1,4 +1,4 @@
-// The reader of written grammars, and what the commands of a file do.
+// The reader of written grammars, what the commands of a file do, and how bodies are read.
 #![tactic(auto)]
 
 mod agreeing;

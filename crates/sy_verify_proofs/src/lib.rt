@@ -1,4 +1,4 @@
-// Resolution logs in text checked against the clauses of queries over bit vectors, and those clauses as text.
+// Proofs in text checked without a solver: resolution logs, with a query's clauses as text, and refutation trees.
 #![tactic(auto)]
 
 mod checker;

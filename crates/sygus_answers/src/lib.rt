@@ -1,4 +1,4 @@
-// The answers of a run, and how it ended.
+// The search of each mode, the answers of a run, and how it ended.
 #![tactic(auto)]
 
 mod answers;

@@ -1,4 +1,4 @@
-// Mode `drill`: answering the problem of a number's file.
+// Mode `drill`: files that are made from numbers, and the answering of the problem of one.
 #![tactic(auto)]
 
 mod count;

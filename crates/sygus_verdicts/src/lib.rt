@@ -1,4 +1,4 @@
-// Verdicts on the replies of others: what is found of each, and the line that says it.
+// Verdicts on the replies of others: what judges find of each, and the line that says it.
 #![tactic(auto)]
 
 mod judge;
