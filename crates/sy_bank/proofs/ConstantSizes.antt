@@ -11,7 +11,7 @@ use Rattle.sy_terms.specs.declared.op.Op.TheVariants as ops
 use Rattle.sy_terms.specs.Theories.{sort_of_value, value_at, whole_number, valid}
 use Rattle.sy_terms.specs.declared.sort.Sort.{Sort}
 use Rattle.sy_terms.specs.declared.sort.Sort.TheVariants as sorts
-use Rattle.sy_terms_laws.proofs.Equations.{if_Some, both_true, same_sort_is}
+use Rattle.sy_terms_operators.proofs.Equations.{if_Some, both_true, same_sort_is}
 use Rattle.sy_grammar_base.specs.Trees.{constant_size, digits, is_written, is_small, is_negative, literal, value_magnitude}
 use Rattle.sy_grammar_sizes.proofs.PoolMembers.{same_is}
 use Rattle.sy_grammar_base.specs.Formed.{is_known}

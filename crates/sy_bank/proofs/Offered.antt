@@ -10,7 +10,7 @@ use Rattle.sy_terms.specs.Theories.{sort_of_value, value_at, whole_number}
 use Rattle.sy_terms.specs.Sorts.{same_sort}
 use Rattle.sy_terms.specs.declared.sort.Sort.{Sort}
 use Rattle.sy_terms.specs.declared.sort.Value.{Value}
-use Rattle.sy_terms_laws.proofs.Equations.{if_Some}
+use Rattle.sy_terms_operators.proofs.Equations.{if_Some}
 use Rattle.sy_grammar_base.specs.Formed.{is_known}
 use Rattle.sy_grammar_base.proofs.Members.{formed_fits}
 use Rattle.sy_bank_level.specs.Tasks.{IsSet}

@@ -8,7 +8,7 @@ use Rattle.sy_terms.specs.Expr.{Expr}
 use Rattle.sy_terms.specs.Fitting.{Scope, sort_in, sorts_in}
 use Rattle.sy_terms.specs.Meaning.{Function, computable, all_computable}
 use Rattle.sy_terms.specs.declared.sort.Sort.{Sort}
-use Rattle.sy_terms_laws.proofs.Equations.{with_sort_Some}
+use Rattle.sy_terms_operators.proofs.Equations.{with_sort_Some}
 use Rattle.sy_grammar_base.specs.Patterns.{occurring, all_occurring, filled, all_filled, first_of}
 use Rattle.sy_grammar_base.specs.Written.{pattern_of, patterns_of}
 use Rattle.sy_grammar_base.specs.declared.part.Part.{Part}

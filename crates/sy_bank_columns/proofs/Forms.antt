@@ -17,10 +17,10 @@ use Rattle.sy_terms.specs.declared.sort.Value.{Value}
 use Rattle.sy_terms.specs.declared.term.Def.{Def}
 use Rattle.sy_terms.specs.declared.term.Fun.{Fun}
 use Rattle.sy_terms.specs.declared.term.Fun.TheVariants.{Defined}
-use Rattle.sy_terms_laws.specs.Evaluation.{TermFits, HasValue, HaveValues, FitsWith, GivesValue, can_compute}
-use Rattle.sy_terms_laws.proofs.Cases as cases
-use Rattle.sy_terms_laws.proofs.Equations.{value_at_position_is}
-use Rattle.sy_terms_laws.proofs.OperatorSorts.{op_value-sort}
+use Rattle.sy_terms_operators.specs.Evaluation.{TermFits, HasValue, HaveValues, FitsWith, GivesValue, can_compute}
+use Rattle.sy_terms_operators.proofs.Cases as cases
+use Rattle.sy_terms_operators.proofs.Equations.{value_at_position_is}
+use Rattle.sy_terms_operators.proofs.OperatorSorts.{op_value-sort}
 use Rattle.sy_grammar_base.specs.Patterns.{filled, all_filled, first_of}
 use Rattle.sy_grammar_base.specs.Written.{pattern_of, patterns_of, pattern_of-Const, pattern_of-Var, pattern_of-Non, pattern_of-App, pattern_of-Call}
 use Rattle.sy_grammar_base.specs.declared.part.Part.{Part, Const, Var, Non, App, Call}

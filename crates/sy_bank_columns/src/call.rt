@@ -5,7 +5,7 @@ ghost use Rattle.sy_terms.specs.Definitions.{DefinitionsFit};
 ghost use Rattle.sy_terms.specs.Expr.{Invoke};
 ghost use Rattle.sy_terms.specs.Meaning.{value_at_position};
 ghost use Rattle.sy_terms.specs.declared.term.Fun.TheVariants.{Defined};
-ghost use Rattle.sy_terms_laws.specs.Evaluation.{FitsWith, GivesValue, can_compute};
+ghost use Rattle.sy_terms_operators.specs.Evaluation.{FitsWith, GivesValue, can_compute};
 ghost use Rattle.sy_bank_level.specs.Columns.{column, constants, AreSized};
 ghost use Rattle.sy_bank_columns.specs.Lent.{row_values};
 ghost use Rattle.sy_bank_columns.specs.Found.{WhereLost};

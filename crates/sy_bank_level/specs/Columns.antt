@@ -4,7 +4,7 @@ use Rattle.sy_terms.specs.Values.{Val}
 use Rattle.sy_terms.specs.Expr.{Expr, Exprs, Constant, none, more}
 use Rattle.sy_terms.specs.Meaning.{Function, value_at_position}
 use Rattle.sy_terms.specs.Fitting.{Scope}
-use Rattle.sy_terms_laws.specs.Evaluation.{TermFits, TermsFit, HasValue, HaveValues}
+use Rattle.sy_terms_operators.specs.Evaluation.{TermFits, TermsFit, HasValue, HaveValues}
 
 -- what the rows have at the place of this number
 abbrev pub column : List (List Val) → ℕ → List Val

@@ -16,7 +16,7 @@ use Rattle.sy_terms.specs.declared.sort.Value.TheVariants as values
 use Rattle.sy_terms.specs.declared.term.Def.{Def}
 use Rattle.sy_terms.specs.declared.term.Term.{Term}
 use Rattle.sy_terms.specs.declared.term.Term.TheVariants.{Const}
-use Rattle.sy_terms_laws.specs.Evaluation.{GivesValue}
+use Rattle.sy_terms_operators.specs.Evaluation.{GivesValue}
 use Rattle.sy_grammar_base.specs.Formed.{is_known}
 use Rattle.sy_grammar_base.specs.Solving.{AreValues}
 use Rattle.sy_query_base.specs.Weights.{weight, query_scope}

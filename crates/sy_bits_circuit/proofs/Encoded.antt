@@ -17,7 +17,7 @@ use Rattle.sy_terms.specs.declared.term.Term.{Term, Const, Var, App, Call, Let}
 use Rattle.sy_terms.specs.declared.term.Terms.{Terms}
 use Rattle.std.specs.declared.boxed.Box.{Box}
 use Rattle.std.specs.declared.alloc.Global.{Global}
-use Rattle.sy_terms_laws.proofs.Steps.{app-is, call-is, let-is}
+use Rattle.sy_terms_operators.proofs.Steps.{app-is, call-is, let-is}
 use Rattle.sy_meaning_words.specs.Vectors.{owned, TakesSorts}
 use Rattle.sy_gates.specs.Circuits.{Plan, variables, FollowsPlan, GrownCircuit}
 use Rattle.sy_gates.proofs.Gates.{grown-refl, grown-trans}

@@ -16,7 +16,7 @@ use Rattle.sy_terms.specs.declared.term.Fun.TheVariants.{Defined, Wanted}
 use Rattle.sy_meaning_words.specs.Vectors.{owned, TakesSorts, has_a_sort}
 use Rattle.sy_query_base.specs.Placed.{count}
 use Rattle.sy_query_base.specs.Weights.{weight, weights, operator_weight, sort_weight, with_sorts}
-use Rattle.sy_terms_laws.proofs.Equations.{if_Some, applied_sort_Some, after_Some, with_sort_Some, called_sort_Some}
+use Rattle.sy_terms_operators.proofs.Equations.{if_Some, applied_sort_Some, after_Some, with_sort_Some, called_sort_Some}
 use Rattle.sy_bits_operators.specs.Signals.{has_signals, AllHaveSignals, sort_width, total_width}
 use Rattle.sy_bits_operators.specs.Costs.{gates}
 use Rattle.sy_bits_circuit.specs.Fitting.{scope, TermHasSort, HaveSorts, most_gates, all_most_gates}

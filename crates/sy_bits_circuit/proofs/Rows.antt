@@ -10,7 +10,7 @@ use Rattle.sy_terms.specs.Meaning.{meaning, meanings}
 use Rattle.sy_terms.specs.declared.sort.Sort.{Sort}
 use Rattle.sy_terms.specs.declared.term.Term.{Term}
 use Rattle.sy_query_base.specs.Weights.{weight, weights}
-use Rattle.sy_terms_laws.proofs.Equations.{with_sort_Some}
+use Rattle.sy_terms_operators.proofs.Equations.{with_sort_Some}
 use Rattle.sy_bits_circuit.specs.Fitting.{scope, TermHasSort, HaveSorts, most_gates, all_most_gates}
 
 -- one term at the end

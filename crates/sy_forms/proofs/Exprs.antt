@@ -6,7 +6,7 @@ use Rattle.sy_terms.specs.Theories.{valid, sort_of_value}
 use Rattle.sy_terms.specs.Fitting.{Scope, Signature, applied_sort, called_sort, with_sort, after, signature_of, sort_in, sorts_in}
 use Rattle.sy_terms.specs.declared.op.Op.{Op}
 use Rattle.sy_terms.specs.declared.sort.Sort.{Sort}
-use Rattle.sy_terms_laws.proofs.Equations.{if_Some, both_true, with_sort_Some, after_Some}
+use Rattle.sy_terms_operators.proofs.Equations.{if_Some, both_true, with_sort_Some, after_Some}
 use Rattle.sy_grammar_base.specs.Formed.{is_plain}
 use Rattle.sy_grammar_base.specs.Trees.{is_negative}
 use Rattle.sy_forms_items.specs.Phrases as phrase

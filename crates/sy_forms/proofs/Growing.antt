@@ -5,7 +5,7 @@ use Rattle.std.proofs.Common.{ap}
 use Rattle.sy_terms.specs.Fitting.{Signature}
 use Rattle.sy_terms.specs.declared.op.Op.{Op}
 use Rattle.sy_terms.specs.declared.sort.Sort.{Sort}
-use Rattle.sy_terms_laws.proofs.Equations.{both_true, with_sort_Some}
+use Rattle.sy_terms_operators.proofs.Equations.{both_true, with_sort_Some}
 use Rattle.sy_grammar_base.specs.Formed.{is_linear, is_known, is_formed, nonterminal_fits, pattern_sort, pattern_sorts, rule_sort}
 use Rattle.sy_grammar_base.specs.Patterns as pattern
 use Rattle.sy_grammar_base.specs.Patterns.{Pattern, Patterns}

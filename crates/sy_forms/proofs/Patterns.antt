@@ -8,7 +8,7 @@ use Rattle.sy_terms.specs.declared.op.Op.{Op}
 use Rattle.sy_terms.specs.declared.op.Op.TheVariants as ops
 use Rattle.sy_terms.specs.declared.sort.Sort.{Sort}
 use Rattle.sy_terms.specs.declared.term.Fun.TheVariants.{Defined, Wanted}
-use Rattle.sy_terms_laws.proofs.Equations.{both_true, with_sort_Some}
+use Rattle.sy_terms_operators.proofs.Equations.{both_true, with_sort_Some}
 use Rattle.sy_grammar_base.specs.Formed as formed
 use Rattle.sy_grammar_base.specs.Formed.{is_fixed, is_signed, is_one_constant, all_give_constants, pattern_sort, pattern_sorts}
 use Rattle.sy_grammar_base.specs.Patterns as pattern

@@ -16,7 +16,7 @@ use Rattle.sy_terms.specs.declared.sort.Logic.{Logic}
 use Rattle.sy_terms.specs.declared.sort.Logic.TheVariants.{Lia, Bv}
 use Rattle.sy_terms.specs.declared.sort.Sort.{Sort}
 use Rattle.sy_terms.specs.declared.sort.Sort.TheVariants as sorts
-use Rattle.sy_terms_laws.proofs.Equations.{both_true, same_sort_is}
+use Rattle.sy_terms_operators.proofs.Equations.{both_true, same_sort_is}
 use Rattle.sy_grammar_base.specs.Formed.{rule_sort, gives_constants, is_signed}
 use Rattle.sy_grammar_base.specs.Trees.{Syntax}
 use Rattle.sy_forms_items.specs.Environments.{Environment, Sense, sense_of}

@@ -19,7 +19,7 @@ use Rattle.sy_terms.specs.declared.sort.Sort.TheVariants as sorts
 use Rattle.sy_terms.specs.declared.sorts.Sorted.{Sorted}
 use Rattle.sy_terms.specs.declared.sorts.Sorted.TheVariants.{Is, Mismatch, BadWidth}
 use Rattle.sy_terms.specs.declared.term.Fun.{Fun}
-use Rattle.sy_terms_laws.proofs.Equations.{with_sort_Some, same_sort_is, both_true}
+use Rattle.sy_terms_operators.proofs.Equations.{with_sort_Some, same_sort_is, both_true}
 use Rattle.sy_grammar_base.specs.Formed.{is_plain}
 use Rattle.sy_terms.specs.Logics.{operators_of}
 use Rattle.sy_forms_items.specs.declared.names.Named.{Named}

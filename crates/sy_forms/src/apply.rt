@@ -15,7 +15,7 @@ use sy_forms_items::{Phrases, ReadEnd, Typed, at_count, invocation, operation, s
 use sy_forms_linear::is_linear;
 use sy_scope_causes::Cause;
 use sy_terms::{Op, Seq, Sort, Sorted, Theory, Want};
-use sy_terms_laws::operator_sort;
+use sy_terms_operators::operator_sort;
 use sy_text_items::Place;
 
 /// Phrases with their sorts.

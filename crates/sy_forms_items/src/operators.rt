@@ -4,7 +4,7 @@ ghost use Rattle.sy_forms_items.specs.Operators as spec;
 
 use crate::parts::{Indices, is};
 use sy_terms::{Logic, Op};
-use sy_terms_laws::spell;
+use sy_terms_operators::spell;
 
 const CORE: [Op; 8] = [
     Op::Not,

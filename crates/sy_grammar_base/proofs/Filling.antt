@@ -8,7 +8,7 @@ use Rattle.sy_terms.specs.Expr.{Expr}
 use Rattle.sy_terms.specs.Fitting.{Scope, Signature, sort_in, sorts_in, applied_sort, called_sort}
 use Rattle.sy_terms.specs.declared.op.Op.{Op}
 use Rattle.sy_terms.specs.declared.sort.Sort.{Sort}
-use Rattle.sy_terms_laws.proofs.Equations.{if_Some, both_true, with_sort_Some}
+use Rattle.sy_terms_operators.proofs.Equations.{if_Some, both_true, with_sort_Some}
 use Rattle.sy_grammar_base.specs.Patterns as patterns
 use Rattle.sy_grammar_base.specs.Patterns.{Pattern, Patterns, Constant, Variable, Occurrence, Apply, Invoke, occurring, all_occurring, filled, all_filled}
 use Rattle.sy_grammar_base.specs.Trees.{Nonterminal, Syntax, is_negative}

@@ -12,7 +12,7 @@ use Rattle.sy_terms.specs.Fitting.{Scope, sort_in, sorts_in}
 use Rattle.sy_terms.specs.declared.op.Op.TheVariants as ops
 use Rattle.sy_terms.specs.declared.sort.Sort.{Sort}
 use Rattle.sy_terms.specs.declared.sort.Sort.TheVariants as sorts
-use Rattle.sy_terms_laws.proofs.Equations.{if_Some, both_true, same_sort_is}
+use Rattle.sy_terms_operators.proofs.Equations.{if_Some, both_true, same_sort_is}
 use Rattle.sy_grammar_base.specs.Patterns.{Pattern, occurring, filled}
 use Rattle.sy_grammar_base.specs.Trees as trees
 use Rattle.sy_grammar_base.specs.Trees.{Production, Template, EachConstant, EachVariable, Nonterminal, Syntax, Tree, Trees, Node, ConstantLeaf, VariableLeaf, IsMember, rule_at, rule_of, is_written, literal, is_sort, node_yield, constant_yield, variable_yield, terms_joined, yield_from, yields_from}

@@ -5,7 +5,7 @@ use Rattle.std.specs.List.{list_all}
 use Rattle.std.proofs.lemmas.Bool.{ltb-true}
 use Rattle.sy_terms.specs.Fitting.{Scope}
 use Rattle.sy_terms.specs.declared.sort.Sort.{Sort}
-use Rattle.sy_terms_laws.proofs.Equations.{both_true}
+use Rattle.sy_terms_operators.proofs.Equations.{both_true}
 use Rattle.sy_grammar_base.specs.Trees.{Syntax, IsNumbered, is_sort}
 use Rattle.sy_grammar_base.specs.Formed.{is_known, is_formed, nonterminal_fits, rule_sort}
 

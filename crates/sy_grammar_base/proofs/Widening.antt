@@ -8,7 +8,7 @@ use Rattle.sy_terms.specs.declared.op.Op.{Op}
 use Rattle.sy_terms.specs.declared.sort.Sort.{Sort}
 use Rattle.sy_terms.specs.declared.term.Fun.{Fun}
 use Rattle.sy_terms.specs.declared.term.Fun.TheVariants.{Defined, Wanted}
-use Rattle.sy_terms_laws.proofs.Equations.{with_sort_Some, after_Some}
+use Rattle.sy_terms_operators.proofs.Equations.{with_sort_Some, after_Some}
 use Rattle.sy_grammar_base.specs.Fits.{with_functions}
 use Rattle.sy_grammar_base.specs.Extending.{Extends}
 

@@ -12,7 +12,7 @@ use sy_meaning_core::core_value;
 use sy_meaning_integers::IntTheory;
 use sy_seq::{Seq, Want};
 use sy_terms::{Op, Sort, Sorted, Theory, Value};
-use sy_terms_laws::operator_sort;
+use sy_terms_operators::operator_sort;
 
 /// All truth values, where all are known.
 pub(crate) fn all_truths(alloc: Global, sights: &[Sight]) -> Result<Option<Seq<Value<i128>>>, Want>

@@ -8,7 +8,7 @@ use Rattle.std.proofs.lemmas.List.Elements.{All-weaker, All-contains_itself}
 use Rattle.sy_terms.specs.Values.{Val}
 use Rattle.sy_terms.specs.Expr.{Expr}
 use Rattle.sy_terms.specs.Meaning.{functions}
-use Rattle.sy_terms_laws.proofs.Equations.{both_true}
+use Rattle.sy_terms_operators.proofs.Equations.{both_true}
 use Rattle.sy_grammar_base.specs.Questions.{Question}
 use Rattle.sy_grammar_base.specs.Solving.{IsTrueUnder, Meets}
 use Rattle.sy_query_limits.specs.declared.Limits.{Limits}

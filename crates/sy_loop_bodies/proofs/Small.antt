@@ -10,7 +10,7 @@ use Rattle.sy_terms.specs.declared.op.Op.TheVariants as ops
 use Rattle.sy_terms.specs.declared.sort.Sort.{Sort}
 use Rattle.sy_terms.specs.declared.sort.Sort.TheVariants as sorts
 use Rattle.sy_terms.specs.declared.term.Term.{Term}
-use Rattle.sy_terms_laws.specs.Evaluation.{BodiesFit}
+use Rattle.sy_terms_operators.specs.Evaluation.{BodiesFit}
 use Rattle.sy_grammar_base.specs.Fits.{QuestionFits}
 use Rattle.sy_grammar_base.specs.Trees.{Tree, Derives, tree_size}
 use Rattle.sy_grammar_base.specs.Questions.{Goal, Question, question_of, signatures}

@@ -11,11 +11,11 @@ use Rattle.sy_terms.specs.Meaning.{Function, functions, function_from, asked}
 use Rattle.sy_terms.specs.declared.op.Op.{Op}
 use Rattle.sy_terms.specs.declared.term.Term.{Term}
 use Rattle.sy_query_limits.specs.declared.Limits.{Limits}
-use Rattle.sy_terms_laws.specs.Evaluation.{BodiesFit, can_compute}
-use Rattle.sy_terms_laws.specs.Asking.{asks}
-use Rattle.sy_terms_laws.specs.Tracing.{traced_all}
-use Rattle.sy_terms_laws.specs.Tracing as tracing
-use Rattle.sy_terms_laws.proofs.Asked.{traced_all-append}
+use Rattle.sy_terms_operators.specs.Evaluation.{BodiesFit, can_compute}
+use Rattle.sy_terms_operators.specs.Asking.{asks}
+use Rattle.sy_terms_operators.specs.Tracing.{traced_all}
+use Rattle.sy_terms_operators.specs.Tracing as tracing
+use Rattle.sy_terms_operators.proofs.Asked.{traced_all-append}
 use Rattle.sy_meaning.specs.Calls.{IsCallOf, AsksRightly}
 use Rattle.sy_grammar_base.specs.Questions.{Goal, Question, question_of, signatures}
 use Rattle.sy_grammar_base.specs.Solving.{AreValues}

@@ -36,7 +36,7 @@ use Rattle.sy_loop_truth.specs.Known.{IsKnown}
 use Rattle.sy_loop_truth.specs.Traces.{AreTraced, AsksMore, LeavesRangeAt, IsTraced, IsTracedAt}
 use Rattle.sy_loop_spec.specs.Truths.{OneLeaves}
 use Rattle.sy_loop_candidate.specs.Steps.{Decides, Steps, StepFollows, IsFollowed, IsTracedOrLeaves}
-use Rattle.sy_terms_laws.specs.Evaluation.{BodiesFit}
+use Rattle.sy_terms_operators.specs.Evaluation.{BodiesFit}
 use Rattle.sy_grammar_base.specs.declared.problem.Problem.{Problem}
 use Rattle.sy_loop_candidate.specs.declared.step.Step.{Step}
 use Rattle.sy_loop_candidate.specs.declared.step.Step.TheVariants.{Next, Again}

@@ -17,10 +17,10 @@ use Rattle.sy_terms.specs.declared.term.Fun.TheVariants.{Defined, Wanted}
 use Rattle.sy_terms.specs.declared.term.Term.{Term, Call}
 use Rattle.sy_terms.specs.declared.term.Terms.{Terms}
 use Rattle.sy_terms.specs.declared.term.Def.{Def}
-use Rattle.sy_terms_laws.specs.Evaluation.{TermFits, HasValue, HaveValues, scope_with}
-use Rattle.sy_terms_laws.proofs.Cases as cases
-use Rattle.sy_terms_laws.proofs.Steps as step
-use Rattle.sy_terms_laws.proofs.Reached.{calls, calls-fits, function-at}
+use Rattle.sy_terms_operators.specs.Evaluation.{TermFits, HasValue, HaveValues, scope_with}
+use Rattle.sy_terms_operators.proofs.Cases as cases
+use Rattle.sy_terms_operators.proofs.Steps as step
+use Rattle.sy_terms_operators.proofs.Reached.{calls, calls-fits, function-at}
 use Rattle.sy_loop_candidate.specs.Bodies.{AreBodies, functions_by, GivesUnder, can_compute_under}
 
 -- the body that is called

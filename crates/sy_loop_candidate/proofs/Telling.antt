@@ -15,7 +15,7 @@ use Rattle.sy_terms.specs.declared.sort.Sort.TheVariants as sorts
 use Rattle.sy_terms.specs.declared.sort.Value.{Value}
 use Rattle.sy_terms.specs.declared.term.Def.{Def}
 use Rattle.sy_terms.specs.declared.term.Term.{Term}
-use Rattle.sy_terms_laws.specs.Evaluation.{TermFits, scope_with}
+use Rattle.sy_terms_operators.specs.Evaluation.{TermFits, scope_with}
 use Rattle.sy_meaning.specs.Calls.{IsCallOf}
 use Rattle.sy_grammar_base.specs.Questions.{Question, goal_of, question_of, signatures, wanted_signature}
 use Rattle.sy_grammar_base.specs.Solving.{AreValues, IsTrueUnder}

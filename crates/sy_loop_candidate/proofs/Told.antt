@@ -22,11 +22,11 @@ use Rattle.sy_terms.specs.declared.term.Fun.{Fun}
 use Rattle.sy_terms.specs.declared.term.Fun.TheVariants.{Defined, Wanted}
 use Rattle.sy_terms.specs.declared.term.Term.{Term, Const, Var, App, Call, Let}
 use Rattle.sy_terms.specs.declared.term.Terms.{Terms}
-use Rattle.sy_terms_laws.specs.Evaluation.{TermsFit, HasValue, HaveValues, scope_with}
-use Rattle.sy_terms_laws.proofs.Steps as step
-use Rattle.sy_terms_laws.proofs.Reached as reached
-use Rattle.sy_terms_laws.proofs.Asks as by_form
-use Rattle.sy_terms_laws.proofs.Lists.{HaveValues-none}
+use Rattle.sy_terms_operators.specs.Evaluation.{TermsFit, HasValue, HaveValues, scope_with}
+use Rattle.sy_terms_operators.proofs.Steps as step
+use Rattle.sy_terms_operators.proofs.Reached as reached
+use Rattle.sy_terms_operators.proofs.Asks as by_form
+use Rattle.sy_terms_operators.proofs.Lists.{HaveValues-none}
 use Rattle.sy_points.specs.Asked.{Asked, of_function}
 use Rattle.sy_bank_level.specs.Columns.{HasRow}
 use Rattle.sy_bank_level.specs.Stored.{entry_of}

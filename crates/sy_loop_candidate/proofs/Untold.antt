@@ -16,10 +16,10 @@ use Rattle.sy_terms.specs.declared.term.Fun.{Fun}
 use Rattle.sy_terms.specs.declared.term.Fun.TheVariants.{Defined, Wanted}
 use Rattle.sy_terms.specs.declared.term.Term.{Term, App, Call, Let}
 use Rattle.sy_terms.specs.declared.term.Terms.{Terms}
-use Rattle.sy_terms_laws.specs.Evaluation.{scope_with}
-use Rattle.sy_terms_laws.proofs.Steps as step
-use Rattle.sy_terms_laws.proofs.Reached as reached
-use Rattle.sy_terms_laws.proofs.Asks as by_form
+use Rattle.sy_terms_operators.specs.Evaluation.{scope_with}
+use Rattle.sy_terms_operators.proofs.Steps as step
+use Rattle.sy_terms_operators.proofs.Reached as reached
+use Rattle.sy_terms_operators.proofs.Asks as by_form
 use Rattle.sy_points.specs.Asked.{Asked}
 use Rattle.sy_loop_spec.specs.Adding.{IsAsked}
 use Rattle.sy_loop_candidate.specs.Bodies.{functions_by, FitsUnder, can_compute_under, asks_under, all_asks_under}

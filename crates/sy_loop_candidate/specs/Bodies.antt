@@ -8,7 +8,7 @@ use Rattle.sy_terms.specs.Fitting.{Signature, sort_in}
 use Rattle.sy_terms.specs.Meaning.{Function, functions, function_from, computable, all_computable, asked, all_asked}
 use Rattle.sy_terms.specs.declared.op.Op.{Op}
 use Rattle.sy_terms.specs.declared.term.Def.{Def}
-use Rattle.sy_terms_laws.specs.Evaluation.{TermFits, TermsFit, HasValue, HaveValues, scope_with}
+use Rattle.sy_terms_operators.specs.Evaluation.{TermFits, TermsFit, HasValue, HaveValues, scope_with}
 use Rattle.sy_bank_level.specs.Covering.{terms}
 use Rattle.sy_bank_level.specs.Stored.{entry_of}
 use Rattle.sy_bank_level.specs.declared.kept.Kept.{Kept}

@@ -16,7 +16,7 @@ use Rattle.sy_terms.specs.declared.op.Op.{Op}
 use Rattle.sy_terms.specs.declared.sort.Value.{Value}
 use Rattle.sy_terms.specs.declared.term.Def.{Def}
 use Rattle.sy_terms.specs.declared.term.Term.{Term}
-use Rattle.sy_terms_laws.specs.Evaluation.{BodiesFit, GivesValue, wanted_functions}
+use Rattle.sy_terms_operators.specs.Evaluation.{BodiesFit, GivesValue, wanted_functions}
 use Rattle.sy_grammar_base.specs.Fits.{IsTruth}
 use Rattle.sy_grammar_base.specs.Questions.{Question, question_of, signatures}
 use Rattle.sy_grammar_base.specs.Solving.{AreValues, IsTrueUnder}

@@ -14,7 +14,7 @@ use Rattle.sy_terms.specs.declared.sort.Sort.TheVariants as sorts
 use Rattle.sy_terms.specs.declared.sort.Value.{Value}
 use Rattle.sy_terms.specs.declared.term.Fun.{Fun}
 use Rattle.sy_terms.specs.declared.term.Fun.TheVariants.{Defined, Wanted}
-use Rattle.sy_terms_laws.specs.Evaluation.{TermsFit, HaveValues}
+use Rattle.sy_terms_operators.specs.Evaluation.{TermsFit, HaveValues}
 use Rattle.sy_grammar_base.specs.Fits.{QuestionFits, wanted_of, with_functions}
 use Rattle.sy_grammar_base.specs.Questions.{Goal, Question}
 use Rattle.sy_grammar_base.specs.Solving.{AreValues}

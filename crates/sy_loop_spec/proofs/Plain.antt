@@ -10,9 +10,9 @@ use Rattle.sy_terms.specs.Meaning.{Function, called, can_call, meaning, meanings
 use Rattle.sy_terms.specs.Fitting.{Scope, Signature, signature_of, sort_in, sorts_in}
 use Rattle.sy_terms.specs.declared.sort.Sort.{Sort}
 use Rattle.sy_terms.specs.declared.term.Fun.TheVariants.{Defined, Wanted}
-use Rattle.sy_terms_laws.specs.Agreement.{SameUnder, AllSameUnder, Agree}
-use Rattle.sy_terms_laws.proofs.Agreement.{same_under, all_same_under}
-use Rattle.sy_terms_laws.proofs.Equations.{both_true, applied_sort_Some, called_sort_Some, with_sort_Some}
+use Rattle.sy_terms_operators.specs.Agreement.{SameUnder, AllSameUnder, Agree}
+use Rattle.sy_terms_operators.proofs.Agreement.{same_under, all_same_under}
+use Rattle.sy_terms_operators.proofs.Equations.{both_true, applied_sort_Some, called_sort_Some, with_sort_Some}
 use Rattle.sy_loop_spec.specs.Applications.{applications, all_applications}
 use Rattle.sy_loop_spec.specs.WrittenOut.{term_at, written, all_written}
 use Rattle.sy_loop_spec.proofs.Applied.{in_nothing}

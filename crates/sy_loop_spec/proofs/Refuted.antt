@@ -9,7 +9,7 @@ use Rattle.sy_terms.specs.Fitting.{Scope}
 use Rattle.sy_terms.specs.Meaning.{functions, function_from}
 use Rattle.sy_terms.specs.declared.op.Op.{Op}
 use Rattle.sy_terms.specs.declared.sort.Sort.TheVariants as sorts
-use Rattle.sy_terms_laws.proofs.Asked.{asks_nothing}
+use Rattle.sy_terms_operators.proofs.Asked.{asks_nothing}
 use Rattle.sy_grammar_base.specs.Trees.{tree_size}
 use Rattle.sy_grammar_base.specs.Questions.{Goal, Question}
 use Rattle.sy_grammar_base.specs.Solving.{IsTrueUnder, AreValues, AreMembers, AreWithin}

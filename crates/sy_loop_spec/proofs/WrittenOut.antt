@@ -9,7 +9,7 @@ use Rattle.sy_terms.specs.Theories.{fits}
 use Rattle.sy_terms.specs.Meaning.{Function, called, can_call, function_of, value_at_position, meaning, meanings, computable, all_computable}
 use Rattle.sy_terms.specs.Fitting.{Scope, sort_in, sorts_in, applied_sort, called_sort, signature_of}
 use Rattle.sy_terms.specs.declared.sort.Sort.{Sort}
-use Rattle.sy_terms_laws.proofs.Equations.{both_true, applied_sort_Some, called_sort_Some, after_Some, with_sort_Some}
+use Rattle.sy_terms_operators.proofs.Equations.{both_true, applied_sort_Some, called_sort_Some, after_Some, with_sort_Some}
 use Rattle.sy_loop_spec.specs.WrittenOut.{term_at, written, all_written}
 
 -- the meanings of two lists of terms in a row

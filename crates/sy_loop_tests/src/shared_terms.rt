@@ -8,7 +8,7 @@ use sy_bank_level::{Grown, Growns, Kept, filled_part};
 use sy_grammar_base::{Derivation, Part};
 use sy_meaning_integers::IntTheory;
 use sy_terms::{Fun, Seq, Sort, Term, Value};
-use sy_terms_laws::spell;
+use sy_terms_operators::spell;
 
 /// What the part becomes of the first and second term.
 fn filled(

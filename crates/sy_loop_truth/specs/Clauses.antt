@@ -3,7 +3,7 @@ use Rattle.std.specs.Prelude.{List}
 use Rattle.sy_terms.specs.Expr.{Expr}
 use Rattle.sy_terms.specs.declared.term.Term.{Term}
 use Rattle.sy_terms.specs.declared.theory.Theory.{Ghosts as TheoryOf}
-use Rattle.sy_terms_laws.specs.Evaluation.{BodiesFit}
+use Rattle.sy_terms_operators.specs.Evaluation.{BodiesFit}
 use Rattle.sy_grammar_base.specs.Questions.{question_of, signatures}
 use Rattle.sy_grammar_base.specs.declared.problem.Problem.{Problem}
 use Rattle.sy_query_limits.specs.declared.Limits.{Limits}

@@ -1,7 +1,7 @@
 // The calls of functions to be found that evaluation asks for.
 ghost use Rattle.std.specs.Prelude.{◌≡◌, ◌≤◌, [], length, OnOk, OnErr, MatchOption, slice_get, Some, ◌&&◌, nat_eq};
 ghost use Rattle.sy_terms.specs.Denoted.{vals_of};
-ghost use Rattle.sy_terms_laws.specs.Tracing.{has_call, same_values, traced};
+ghost use Rattle.sy_terms_operators.specs.Tracing.{has_call, same_values, traced};
 
 use std::alloc::Global;
 use std::marker::Model;
@@ -17,7 +17,7 @@ pub struct Trace<T: Theory> {
 impl<T: Theory> Model for Trace<T> {
     ghost use Rattle.std.specs.Prelude.{List, ℕ};
     ghost use Rattle.sy_terms.specs.Values.{Val};
-    ghost use Rattle.sy_terms_laws.specs.Tracing.{calls_of};
+    ghost use Rattle.sy_terms_operators.specs.Tracing.{calls_of};
 
     ghost Value = { List (ℕ × List Val) };
 

@@ -8,7 +8,7 @@ use crate::steps::{Minus, Plus, Quotient, Times, from_left};
 use crate::unary::{absolute, modulus, negated};
 use sy_meaning_core::{core_value, in_core};
 use sy_terms::{Applied, Op, Sort, Sorted, Theory, Value};
-use sy_terms_laws::operator_sort;
+use sy_terms_operators::operator_sort;
 
 /// The theory of the logic LIA: the operators of SMT-LIB's theories Core and Ints, with `div`, `mod` and `abs`.
 /// A number is an `i128`, which stands for itself. `div` leaves no negative remainder, `x div 0` is 0 and `x mod 0` is x.

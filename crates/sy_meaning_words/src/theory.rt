@@ -9,7 +9,7 @@ use crate::pairs::apply_pairs;
 use crate::word::Word;
 use sy_meaning_core::Number;
 use sy_terms::{Applied, Op, Sort, Sorted, Theory, Value};
-use sy_terms_laws::operator_sort;
+use sy_terms_operators::operator_sort;
 
 /// A word stands for its vector.
 impl Number for Word {

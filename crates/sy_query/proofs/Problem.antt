@@ -12,8 +12,8 @@ use Rattle.sy_terms.specs.declared.op.Op.TheVariants as ops
 use Rattle.sy_terms.specs.declared.sort.Sort.{Sort}
 use Rattle.sy_terms.specs.declared.sort.Sort.TheVariants as sorts
 use Rattle.sy_terms.specs.declared.term.Term.{Term}
-use Rattle.sy_terms_laws.specs.Evaluation.{BodiesFit, scope_with}
-use Rattle.sy_terms_laws.proofs.Equations.{both_true}
+use Rattle.sy_terms_operators.specs.Evaluation.{BodiesFit, scope_with}
+use Rattle.sy_terms_operators.proofs.Equations.{both_true}
 use Rattle.sy_grammar_base.specs.Fits.{QuestionFits, IsTruth}
 use Rattle.sy_grammar_base.specs.Formed.{is_known}
 use Rattle.sy_grammar_base.specs.Questions.{question_of, signatures}

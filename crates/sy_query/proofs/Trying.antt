@@ -10,7 +10,7 @@ use Rattle.sy_terms.specs.declared.op.Op.{Op}
 use Rattle.sy_terms.specs.declared.sort.Sort.{Sort}
 use Rattle.sy_terms.specs.declared.sort.Sort.TheVariants as sorts
 use Rattle.sy_terms.specs.declared.term.Def.{Def}
-use Rattle.sy_terms_laws.specs.Evaluation.{TermFits, GivesValue}
+use Rattle.sy_terms_operators.specs.Evaluation.{TermFits, GivesValue}
 use Rattle.sy_grammar_base.specs.Solving.{AreValues}
 use Rattle.sy_query_base.specs.Weights.{query_scope}
 use Rattle.sy_query_base.specs.Asked.{Query, QueryFits, Satisfies}

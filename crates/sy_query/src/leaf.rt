@@ -11,7 +11,7 @@ use crate::built::Built;
 use crate::room::Room;
 use crate::weight::{operator_weight, sort_weight};
 use sy_terms::{Op, Sort, Sorted, Term, Terms, Theory, Value};
-use sy_terms_laws::operator_sort;
+use sy_terms_operators::operator_sort;
 
 /// A term of a query, with its sort.
 #[derive(Drop)]

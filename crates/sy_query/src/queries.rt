@@ -1,7 +1,7 @@
 // The query of a problem and bodies, and what a query weighs.
 ghost use Rattle.std.specs.Prelude.{◌≡◌, ◌≤◌, ◌<◌, ◌^◌, length, map, IfOk, IsErrOf};
 ghost use Rattle.sy_terms.specs.Denoted.{expr_of};
-ghost use Rattle.sy_terms_laws.specs.Evaluation.{BodiesFit};
+ghost use Rattle.sy_terms_operators.specs.Evaluation.{BodiesFit};
 ghost use Rattle.sy_grammar_base.specs.Fits.{ProblemFits};
 ghost use Rattle.sy_grammar_base.specs.Questions.{question_of, signatures};
 ghost use Rattle.sy_query_base.specs.Asked.{query_of, query_weight, QueryFits};

@@ -2,7 +2,7 @@
 use std::cmp::Ordering;
 use sy_meaning_words::{BvTheory, Word};
 use sy_terms::{Op, Term, Value};
-use sy_terms_laws::spell;
+use sy_terms_operators::spell;
 
 /// Whether the first term stands before the second one: variables before applications, these by their operators and then by
 /// their arguments, and constants last, as people write sums and comparisons. A complement stands right behind the term whose

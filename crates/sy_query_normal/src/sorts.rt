@@ -13,7 +13,7 @@ ghost use Rattle.sy_rewrite_orders.specs.Sums.{BeginWithSorts};
 use std::alloc::Global;
 use sy_meaning_words::{BvTheory, Word};
 use sy_terms::{Op, Sort, Sorted, Term, Value, Want, same_sort};
-use sy_terms_laws::operator_sort;
+use sy_terms_operators::operator_sort;
 
 /// The sort of a term over variables of these sorts; `None` where that isn't known.
 #[cycle(sorts)]

@@ -8,7 +8,7 @@ ghost use Rattle.sy_reply.specs.Writable.{is_plain_value};
 use sy_io::Bytes;
 use sy_seq::Want;
 use sy_terms::{Op, Sort, Theory, Value};
-use sy_terms_laws::spell;
+use sy_terms_operators::spell;
 use sy_text::{write_numeral, write_vector};
 
 /// Appends a sort.

@@ -19,8 +19,8 @@ use Rattle.sy_terms.specs.declared.sort.Sort.{Sort}
 use Rattle.sy_terms.specs.declared.term.Def.{Def}
 use Rattle.sy_terms.specs.declared.term.Term.{Term}
 use Rattle.sy_terms.specs.declared.theory.Theory.{Ghosts as TheoryOf}
-use Rattle.sy_terms_laws.specs.Evaluation.{BodiesFit}
-use Rattle.sy_terms_laws.proofs.Equations.{same_sorts_is}
+use Rattle.sy_terms_operators.specs.Evaluation.{BodiesFit}
+use Rattle.sy_terms_operators.proofs.Equations.{same_sorts_is}
 use Rattle.sy_forms_items.specs.Parts.{place_of}
 use Rattle.sy_forms_items.specs.Readings.{Reading}
 use Rattle.sy_forms_items.specs.declared.names.Named.{Named}

@@ -13,12 +13,12 @@ use Rattle.sy_terms.specs.declared.op.Op.{Op}
 use Rattle.sy_terms.specs.declared.sort.Sort.{Sort}
 use Rattle.sy_terms.specs.declared.term.Fun.{Fun}
 use Rattle.sy_terms.specs.declared.term.Term.{Term, Var}
-use Rattle.sy_terms_laws.proofs.Equations.{both_true, value_at_position_is}
-use Rattle.sy_terms_laws.proofs.Plain.{all_stay, all_further, plain_append}
+use Rattle.sy_terms_operators.proofs.Equations.{both_true, value_at_position_is}
+use Rattle.sy_terms_operators.proofs.Plain.{all_stay, all_further, plain_append}
 use Rattle.sy_grammar_base.specs.Solving.{AreValues}
 use Rattle.sy_query_base.specs.Asked.{Query, Satisfies}
 use Rattle.sy_rewrite_orders.specs.Alike.{IsAlike, SaysTheSame}
-use Rattle.sy_terms_laws.specs.Plain.{is_plain, are_plain}
+use Rattle.sy_terms_operators.specs.Plain.{is_plain, are_plain}
 use Rattle.sy_rewrite_orders.specs.Replaced.{IsReplaced, AreReplaced, AreNext, SaysTheSameAt}
 use Rattle.sy_rewrite_orders.proofs.Alike.{meanings_last}
 

@@ -3,7 +3,7 @@ ghost use Rattle.std.specs.Prelude.{◌≡◌, ◌+◌, ◌<◌, ◌^◌, List, 
 ghost use Rattle.sy_terms.specs.Values.{Val};
 ghost use Rattle.sy_terms.specs.Denoted.{expr_of, exprs_of};
 ghost use Rattle.sy_terms.specs.Meaning.{Function, meaning, meanings, value_at_position};
-ghost use Rattle.sy_terms_laws.specs.Plain as spec;
+ghost use Rattle.sy_terms_operators.specs.Plain as spec;
 ghost use Rattle.sy_rewrite_orders.specs.Replaced.{AreNext};
 
 use std::alloc::{AllocError, Global};

@@ -2,7 +2,7 @@
 ghost use Rattle.std.specs.Prelude.{◌≡◌, ◌+◌, ◌<◌, ◌^◌, true, length, take, IsTrue, IfOk, OnOk};
 ghost use Rattle.sy_terms.specs.Denoted.{expr_of, exprs_of};
 ghost use Rattle.sy_rewrite_orders.specs.Replaced as spec;
-ghost use Rattle.sy_terms_laws.specs.Plain as plain;
+ghost use Rattle.sy_terms_operators.specs.Plain as plain;
 ghost use Rattle.sy_rewrite_orders.specs.Replaced.{IsReplaced, AreReplaced, AreNamed};
 
 use crate::names::{counted, may_stand, named, variables};

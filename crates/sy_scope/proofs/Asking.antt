@@ -16,7 +16,7 @@ use Rattle.sy_terms.specs.declared.sort.Sort.{Sort}
 use Rattle.sy_terms.specs.declared.sort.Sort.TheVariants as sorts
 use Rattle.sy_terms.specs.declared.term.Fun.{Fun}
 use Rattle.sy_terms.specs.declared.term.Fun.TheVariants.{Defined, Wanted}
-use Rattle.sy_terms_laws.proofs.Equations.{both_true, same_sort_is, same_sorts_is}
+use Rattle.sy_terms_operators.proofs.Equations.{both_true, same_sort_is, same_sorts_is}
 use Rattle.sy_grammar_base.specs.Formed.{is_known, is_formed}
 use Rattle.sy_terms.specs.Logics.{number_sorts, operators_of}
 use Rattle.sy_inv.specs.Conditions.{starts, keeps, ends}

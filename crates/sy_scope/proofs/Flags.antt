@@ -5,7 +5,7 @@ use Rattle.std.specs.List.{list_all}
 use Rattle.sy_text_items.specs.Items.{Item, leaf, group, Items, none, more}
 use Rattle.sy_terms.specs.declared.sort.Logic.TheVariants.{Lia}
 use Rattle.sy_terms.specs.declared.sort.Sort.{Sort}
-use Rattle.sy_terms_laws.proofs.Equations.{both_true, if_Some}
+use Rattle.sy_terms_operators.proofs.Equations.{both_true, if_Some}
 use Rattle.sy_grammar_base.specs.Formed.{gives_constants, all_give_constants}
 use Rattle.sy_grammar_base.specs.Trees.{Production, Nonterminal}
 use Rattle.sy_forms_items.specs.declared.names.Named.{Named}

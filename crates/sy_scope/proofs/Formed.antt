@@ -15,7 +15,7 @@ use Rattle.sy_terms.specs.declared.sort.Logic.{Logic}
 use Rattle.sy_terms.specs.declared.sort.Logic.TheVariants.{Lia, Bv}
 use Rattle.sy_terms.specs.declared.sort.Sort.{Sort}
 use Rattle.sy_scope_causes.specs.declared.cause.Cause.TheVariants as cause
-use Rattle.sy_terms_laws.proofs.Equations.{same_sort_is}
+use Rattle.sy_terms_operators.proofs.Equations.{same_sort_is}
 use Rattle.sy_grammar.proofs.Sorting.{same_sort_self}
 use Rattle.sy_grammar_base.specs.Formed.{is_known, nonterminal_fits, is_formed, rule_sort}
 use Rattle.sy_grammar_base.specs.Trees.{Production, Nonterminal, Syntax, is_sort}

@@ -6,7 +6,7 @@ use sy_grammar::{Grammar, Part, Parts, Rule, default_grammar, tree_rule};
 use sy_meaning_integers::IntTheory;
 use sy_meaning_words::BvTheory;
 use sy_terms::{Logic, Sort, Theory};
-use sy_terms_laws::spell;
+use sy_terms_operators::spell;
 
 /// Whether the text tells the sort.
 fn is_sort(sort: Sort, text: &str) -> bool {

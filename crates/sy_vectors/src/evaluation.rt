@@ -3,7 +3,7 @@ ghost use Rattle.std.specs.Prelude.{◌≡◌, ◌∷◌, [], IsTrue, Some};
 ghost use Rattle.sy_terms.specs.Denoted.{expr_of, vals_of, AreValid};
 ghost use Rattle.sy_terms.specs.Definitions.{DefinitionsFit};
 ghost use Rattle.sy_terms.specs.Fitting.{sort_in};
-ghost use Rattle.sy_terms_laws.specs.Evaluation.{TermFits, FitsWith, scope_with};
+ghost use Rattle.sy_terms_operators.specs.Evaluation.{TermFits, FitsWith, scope_with};
 ghost use Rattle.sy_meaning.specs.Signatures.{scope_and_wanted};
 
 use crate::rows::field;

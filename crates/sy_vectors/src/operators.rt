@@ -1,6 +1,6 @@
 // The operators by their words.
 use sy_terms::Op;
-use sy_terms_laws::spell;
+use sy_terms_operators::spell;
 
 /// The operators with their words; those with indices at some.
 const WORDS: [(Op, &str); 54] = [

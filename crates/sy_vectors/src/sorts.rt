@@ -1,7 +1,7 @@
 // What only calls show of operators, sorts and numbers.
 use sy_meaning_words::{BvTheory, Word};
 use sy_terms::{Fun, Op, Sort, Sorted, Theory, Value};
-use sy_terms_laws::operator_sort;
+use sy_terms_operators::operator_sort;
 
 /// Whether operators and functions are told apart by their indices, and by nothing else.
 pub fn are_told_apart() -> bool {

@@ -10,7 +10,7 @@ use Rattle.sy_terms.specs.declared.op.Op.{Op}
 use Rattle.sy_terms.specs.declared.sort.Sort.{Sort}
 use Rattle.sy_terms.specs.declared.term.Def.{Def}
 use Rattle.sy_terms.specs.declared.term.Term.{Term}
-use Rattle.sy_terms_laws.specs.Evaluation.{BodiesFit}
+use Rattle.sy_terms_operators.specs.Evaluation.{BodiesFit}
 use Rattle.sy_grammar_base.specs.Fits.{with_functions, GrammarFits, ProblemFits, QuestionFits}
 use Rattle.sy_grammar_base.specs.Grown.{syntax_from}
 use Rattle.sy_grammar_base.specs.Questions.{goal_of, question_of, wanted_signature}

@@ -1,7 +1,7 @@
 // Proofs of others checked again.
 ghost use Rattle.std.specs.Prelude.{IfOk};
 ghost use Rattle.sy_text_items.specs.Views.{item_of};
-ghost use Rattle.sy_terms_laws.specs.Evaluation.{BodiesFit};
+ghost use Rattle.sy_terms_operators.specs.Evaluation.{BodiesFit};
 ghost use Rattle.sy_grammar_base.specs.Fits.{ProblemFits};
 ghost use Rattle.sy_grammar_base.specs.Questions.{signatures};
 ghost use Rattle.sy_query_base.specs.Asked.{QueryFits, query_of};

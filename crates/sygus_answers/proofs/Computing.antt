@@ -9,7 +9,7 @@ use Rattle.sy_terms.specs.Fitting.{Scope, Signature, signature_of, sort_in, sort
 use Rattle.sy_terms.specs.declared.op.Op.{Op}
 use Rattle.sy_terms.specs.declared.sort.Sort.{Sort}
 use Rattle.sy_terms.specs.declared.term.Fun.TheVariants.{Defined, Wanted}
-use Rattle.sy_terms_laws.proofs.Equations.{applied_sort_Some, called_sort_Some, after_Some, with_sort_Some}
+use Rattle.sy_terms_operators.proofs.Equations.{applied_sort_Some, called_sort_Some, after_Some, with_sort_Some}
 use Rattle.sy_grammar_base.specs.Fits.{with_functions, FitInTurn}
 
 -- a function can be called at any values

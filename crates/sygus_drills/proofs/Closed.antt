@@ -10,7 +10,7 @@ use Rattle.sy_terms.specs.declared.sort.Sort.{Sort}
 use Rattle.sy_terms.specs.declared.sort.Sort.TheVariants as sorts
 use Rattle.sy_terms.specs.declared.term.Def.{Def}
 use Rattle.sy_terms.specs.declared.term.Term.{Term}
-use Rattle.sy_terms_laws.specs.Evaluation.{BodiesFit, TermFits, FitsWith, GivesValue, scope_with, wanted_functions, can_compute}
+use Rattle.sy_terms_operators.specs.Evaluation.{BodiesFit, TermFits, FitsWith, GivesValue, scope_with, wanted_functions, can_compute}
 use Rattle.sy_grammar_base.specs.Fits.{FitInTurn, IsTruth}
 use Rattle.sy_grammar_base.specs.Questions.{question_of, signatures}
 use Rattle.sy_grammar_base.specs.declared.problem.Problem.{Problem}

@@ -2,7 +2,7 @@
 use Rattle.std.proofs.Common.{arith, ℕ, ◌∙◌, refl}
 use Rattle.sy_terms.specs.Denoted.{expr_of, exprs_of}
 use Rattle.sy_meaning_words.specs.Vectors.{vector}
-use Rattle.sy_terms_laws.proofs.Steps.{app-falls, let-falls, all-falls}
+use Rattle.sy_terms_operators.proofs.Steps.{app-falls, let-falls, all-falls}
 use Rattle.sy_gates.proofs.Gates.{grown-trans}
 use Rattle.sy_bits_circuit.proofs.Encoded as law
 use Rattle.sy_bits_circuit.proofs.Encoded.{Encoded, AllEncoded, Applies}

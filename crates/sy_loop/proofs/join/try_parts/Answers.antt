@@ -3,7 +3,7 @@ use Rattle.std.proofs.Common.{[], ◌∷◌, ◌≡◌, ◌∙◌, sym, subst, t
 use Rattle.std.proofs.lemmas.Result.{IfOk-from_err}
 use Rattle.sy_terms.specs.Denoted.{expr_of}
 use Rattle.sy_grammar_base.specs.Questions.{question_of}
-use Rattle.sy_terms_laws.proofs.Equations.{both_true}
+use Rattle.sy_terms_operators.proofs.Equations.{both_true}
 use Rattle.sy_bank_level.specs.Bank.{merged_of}
 use Rattle.sy_bank_level.specs.Stored.{chosen_of}
 use Rattle.sy_loop_spec.specs.Stored.{history_of}

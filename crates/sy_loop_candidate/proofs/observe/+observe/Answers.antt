@@ -4,9 +4,9 @@ use Rattle.std.proofs.lemmas.Option.{none-some}
 use Rattle.std.proofs.lemmas.List.{length-map}
 use Rattle.sy_terms.specs.Expr.{nodes}
 use Rattle.sy_terms.specs.Denoted.{val_of, vals_of, expr_of}
-use Rattle.sy_terms_laws.proofs.Lists.{weight}
-use Rattle.sy_terms_laws.proofs.Steps as step
-use Rattle.sy_terms_laws.proofs.Reached as reached
+use Rattle.sy_terms_operators.proofs.Lists.{weight}
+use Rattle.sy_terms_operators.proofs.Steps as step
+use Rattle.sy_terms_operators.proofs.Reached as reached
 use Rattle.sy_loop_candidate.specs.Bodies.{bodies_of}
 use Rattle.sy_loop_candidate.proofs.Told as told
 use Rattle.sy_loop_candidate.proofs.Untold as untold

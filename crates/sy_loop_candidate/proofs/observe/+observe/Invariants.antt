@@ -1,7 +1,7 @@
 use Rattle.std.proofs.Common.{◌+◌, ◌*◌}
 use Rattle.sy_terms.specs.Expr.{nodes, nodes_of}
 use Rattle.sy_terms.specs.Denoted.{vals_of, expr_of, exprs_of}
-use Rattle.sy_terms_laws.proofs.Lists.{weight}
+use Rattle.sy_terms_operators.proofs.Lists.{weight}
 use Rattle.sy_loop_candidate.specs.Bodies.{bodies_of}
 use Rattle.sy_loop_candidate.proofs.Told.{AreToldTo}
 use Rattle.sy_loop_candidate.proofs.observe.+observe.Given as goal

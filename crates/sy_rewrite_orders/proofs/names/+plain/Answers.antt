@@ -1,7 +1,7 @@
 use Rattle.std.proofs.Common.{ap, sym, refl, ◌∙◌, take}
 use Rattle.std.proofs.lemmas.List.{take_more}
 use Rattle.sy_terms.specs.Denoted.{expr_of, expr_of-Const, expr_of-Var, expr_of-App, expr_of-Call, expr_of-Let}
-use Rattle.sy_terms_laws.specs.Plain.{is_plain, are_plain}
+use Rattle.sy_terms_operators.specs.Plain.{is_plain, are_plain}
 use Rattle.sy_rewrite_orders.proofs.Replaced.{plain_more, not_plain}
 use Rattle.sy_rewrite_orders.proofs.names.+plain.Goals as goal
 

@@ -1,6 +1,6 @@
 use Rattle.std.proofs.Common.{◌≡◌, refl, arith}
 use Rattle.std.proofs.lemmas.Result.{IfOk-from_err}
-use Rattle.sy_terms_laws.specs.Plain.{are_plain}
+use Rattle.sy_terms_operators.specs.Plain.{are_plain}
 use Rattle.sy_rewrite_orders.proofs.Replaced.{none_first, more_first, more_within, all_next}
 use Rattle.sy_rewrite_orders.proofs.names.variables.Goals as goal
 

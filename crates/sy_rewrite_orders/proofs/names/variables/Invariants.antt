@@ -1,6 +1,6 @@
 use Rattle.std.proofs.Common.{◌≡◌, ◌+◌, true}
 use Rattle.sy_terms.specs.Denoted.{exprs_of}
-use Rattle.sy_terms_laws.specs.Plain.{are_plain}
+use Rattle.sy_terms_operators.specs.Plain.{are_plain}
 use Rattle.sy_rewrite_orders.proofs.Replaced.{MeanFirst}
 use Rattle.sy_rewrite_orders.proofs.names.variables.Given as goal
 

@@ -3,8 +3,8 @@ use Rattle.std.proofs.Common.{arith, ◌∙◌, refl, sym, ap, take}
 use Rattle.std.proofs.lemmas.List.{take_more}
 use Rattle.std.proofs.lemmas.Result.{IfOk-from_err}
 use Rattle.sy_terms.specs.Denoted.{expr_of-Const, expr_of-Var, expr_of-App, expr_of-Call, expr_of-Let, exprs_of}
-use Rattle.sy_terms_laws.proofs.Steps.{app-falls, call-falls, let-falls, all-falls}
-use Rattle.sy_terms_laws.specs.Plain.{are_plain}
+use Rattle.sy_terms_operators.proofs.Steps.{app-falls, call-falls, let-falls, all-falls}
+use Rattle.sy_terms_operators.specs.Plain.{are_plain}
 use Rattle.sy_rewrite_orders.proofs.Replaced as law
 use Rattle.sy_rewrite_orders.proofs.written.+written.Goals as goal
 

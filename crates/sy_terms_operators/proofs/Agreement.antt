@@ -7,7 +7,7 @@ use Rattle.sy_terms.specs.Operators.{op_value}
 use Rattle.sy_terms.specs.Theories.{fits}
 use Rattle.sy_terms.specs.Meaning.{Function, called, can_call, meaning, meanings, computable, all_computable, asked, all_asked}
 use Rattle.sy_terms.specs.declared.term.Fun.TheVariants.{Defined, Wanted}
-use Rattle.sy_terms_laws.specs.Agreement.{Agree, SameUnder, AllSameUnder}
+use Rattle.sy_terms_operators.specs.Agreement.{Agree, SameUnder, AllSameUnder}
 
 pub agree_both : (wanted others : List Function) (first second : List (ℕ × List Val)) → Agree wanted others (first ++ second) → Agree wanted others first × Agree wanted others second
 agree_both wanted others [] second h = (tt, h)

@@ -13,8 +13,8 @@ use Rattle.sy_terms.specs.Definitions.{body}
 use Rattle.sy_terms.specs.declared.sort.Sort.{Sort}
 use Rattle.sy_terms.specs.declared.term.Term.{Term}
 use Rattle.sy_terms.specs.declared.term.Def.{Def}
-use Rattle.sy_terms_laws.specs.Evaluation.{TermFits, TermsFit, HasValue, HaveValues}
-use Rattle.sy_terms_laws.proofs.Equations.{with_sort_Some, both_true}
+use Rattle.sy_terms_operators.specs.Evaluation.{TermFits, TermsFit, HasValue, HaveValues}
+use Rattle.sy_terms_operators.proofs.Equations.{with_sort_Some, both_true}
 
 pub HaveValues-none : (T : Type 0) {N : Type 0} (number : N → Val) (scope : Scope) (defined wanted : List Function) (values : List Val) → let terms : List (Term T N) = [] in HaveValues scope defined wanted values (exprs_of number terms) []
 unfolding sorts_in all_computable meanings

@@ -6,8 +6,8 @@ use Rattle.sy_terms.specs.Meaning.{Function, functions, asked, all_asked}
 use Rattle.sy_terms.specs.Definitions.{bodies}
 use Rattle.sy_terms.specs.declared.term.Term.{Term}
 use Rattle.sy_terms.specs.declared.term.Def.{Def}
-use Rattle.sy_terms_laws.specs.Evaluation.{wanted_functions}
-use Rattle.sy_terms_laws.specs.Agreement.{Agree, SameUnder}
+use Rattle.sy_terms_operators.specs.Evaluation.{wanted_functions}
+use Rattle.sy_terms_operators.specs.Agreement.{Agree, SameUnder}
 
 -- the calls that the term asks for, in order
 abbrev pub asks : {T N : Type 0} → (N → Val) → List (Def T N) → List (Term T N) → List Val → Expr → List (ℕ × List Val)

@@ -18,10 +18,10 @@ use Rattle.sy_terms.specs.declared.term.Term.{Term, Const, Var, App, Call, Let}
 use Rattle.sy_terms.specs.declared.term.Terms.{Terms}
 use Rattle.std.specs.declared.boxed.Box.{Box}
 use Rattle.std.specs.declared.alloc.Global.{Global}
-use Rattle.sy_terms_laws.specs.Evaluation.{TermFits, TermsFit, HasValue, HaveValues}
-use Rattle.sy_terms_laws.proofs.Cases as cases
-use Rattle.sy_terms_laws.proofs.Lists.{HaveValues-last, TermsFit-at, all_computable-not, nodes_of-at}
-use Rattle.sy_terms_laws.proofs.OperatorSorts.{op_value-sort}
+use Rattle.sy_terms_operators.specs.Evaluation.{TermFits, TermsFit, HasValue, HaveValues}
+use Rattle.sy_terms_operators.proofs.Cases as cases
+use Rattle.sy_terms_operators.proofs.Lists.{HaveValues-last, TermsFit-at, all_computable-not, nodes_of-at}
+use Rattle.sy_terms_operators.proofs.OperatorSorts.{op_value-sort}
 
 -- a constant
 

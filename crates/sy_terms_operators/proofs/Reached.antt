@@ -17,12 +17,12 @@ use Rattle.sy_terms.specs.declared.term.Fun.TheVariants.{Defined, Wanted}
 use Rattle.sy_terms.specs.declared.term.Term.{Term, Call}
 use Rattle.sy_terms.specs.declared.term.Terms.{Terms}
 use Rattle.sy_terms.specs.declared.term.Def.{Def}
-use Rattle.sy_terms_laws.specs.Evaluation.{TermFits, HasValue, HaveValues, BodiesFit, scope_with, wanted_functions, GivesValue, can_compute}
-use Rattle.sy_terms_laws.proofs.Cases as cases
-use Rattle.sy_terms_laws.proofs.Steps as step
-use Rattle.sy_terms_laws.proofs.Asked.{asks_nothing}
-use Rattle.sy_terms_laws.proofs.Called.{functions_after-at, FitAfter-at}
-use Rattle.sy_terms_laws.proofs.Lists.{weight, weight-at}
+use Rattle.sy_terms_operators.specs.Evaluation.{TermFits, HasValue, HaveValues, BodiesFit, scope_with, wanted_functions, GivesValue, can_compute}
+use Rattle.sy_terms_operators.proofs.Cases as cases
+use Rattle.sy_terms_operators.proofs.Steps as step
+use Rattle.sy_terms_operators.proofs.Asked.{asks_nothing}
+use Rattle.sy_terms_operators.proofs.Called.{functions_after-at, FitAfter-at}
+use Rattle.sy_terms_operators.proofs.Lists.{weight, weight-at}
 
 -- the definition that is called: its place, its signature, that its body fits
 pub record Calls {T N : Type 0} (owned : Op → Bool) (number : N → Val) (defs : List (Def T N)) (n : ℕ) (found : List Val) (gives : Sort) : Type 0 where

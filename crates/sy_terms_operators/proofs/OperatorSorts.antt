@@ -15,7 +15,7 @@ use Rattle.sy_terms.specs.declared.sort.Sort.{Sort}
 use Rattle.sy_terms.specs.declared.sort.Sort.TheVariants as sorts
 use Rattle.sy_terms.specs.declared.sorts.Sorted.{Sorted}
 use Rattle.sy_terms.specs.declared.sorts.Sorted.TheVariants.{Is, Mismatch, BadWidth}
-use Rattle.sy_terms_laws.proofs.Equations.{both_true, same_sort_is, if_Some}
+use Rattle.sy_terms_operators.proofs.Equations.{both_true, same_sort_is, if_Some}
 
 if_Is : (b : Bool) (x y : Sort) (other : Sorted) → other ≡ Mismatch → (if b then Is x else other) ≡ Is y → (b ≡ true) × (x ≡ y)
 if_Is true x y other o e = (refl, cc)

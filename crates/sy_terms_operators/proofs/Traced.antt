@@ -11,11 +11,11 @@ use Rattle.sy_terms.specs.Values.{Val, Truth, Whole, Bits, same}
 use Rattle.sy_terms.specs.Denoted.{vals_of}
 use Rattle.sy_terms.specs.declared.sort.Value.{Value}
 use Rattle.sy_terms.specs.Meaning.{Function}
-use Rattle.sy_terms_laws.specs.Tracing.{same_values, has_call, traced, traced_all, TracedSome, call_of, calls_of}
-use Rattle.sy_terms_laws.specs.Agreement.{AgreeAt, Agree}
-use Rattle.sy_terms_laws.proofs.Equations.{both_true}
-use Rattle.sy_terms_laws.proofs.Asked.{traced_all-append}
-use Rattle.sy_terms_laws.proofs.Agreement.{agree_both}
+use Rattle.sy_terms_operators.specs.Tracing.{same_values, has_call, traced, traced_all, TracedSome, call_of, calls_of}
+use Rattle.sy_terms_operators.specs.Agreement.{AgreeAt, Agree}
+use Rattle.sy_terms_operators.proofs.Equations.{both_true}
+use Rattle.sy_terms_operators.proofs.Asked.{traced_all-append}
+use Rattle.sy_terms_operators.proofs.Agreement.{agree_both}
 
 both_false : (a b : Bool) → (a || b) ≡ false → (a ≡ false) × (b ≡ false)
 both_false true b e = cc

@@ -17,8 +17,8 @@ use Rattle.sy_terms.specs.declared.op.Op.{Op}
 use Rattle.sy_terms.specs.declared.sort.Sort.{Sort}
 use Rattle.sy_terms.specs.declared.sorts.Sorted.TheVariants.{Is}
 use Rattle.sy_terms.specs.declared.term.Fun.{Fun}
-use Rattle.sy_terms_laws.specs.Evaluation.{TermFits, TermsFit, HasValue, HaveValues}
-use Rattle.sy_terms_laws.proofs.Equations.{if_Some, applied_sort_Some, called_sort_Some, after_Some, value_at_position_is}
+use Rattle.sy_terms_operators.specs.Evaluation.{TermFits, TermsFit, HasValue, HaveValues}
+use Rattle.sy_terms_operators.proofs.Equations.{if_Some, applied_sort_Some, called_sort_Some, after_Some, value_at_position_is}
 
 -- a constant
 

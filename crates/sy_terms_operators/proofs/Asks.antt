@@ -15,11 +15,11 @@ use Rattle.sy_terms.specs.declared.term.Fun.{Fun}
 use Rattle.sy_terms.specs.declared.term.Fun.TheVariants.{Defined, Wanted}
 use Rattle.sy_terms.specs.declared.term.Term.{Term, Const, Var, App, Call, Let}
 use Rattle.sy_terms.specs.declared.term.Terms.{Terms}
-use Rattle.sy_terms_laws.specs.Evaluation.{TermFits}
-use Rattle.sy_terms_laws.specs.Tracing.{traced, traced_all, GainsCalls, TracedSome}
-use Rattle.sy_terms_laws.proofs.Steps.{app-is, call-is, let-is, map-both}
-use Rattle.sy_terms_laws.proofs.Asked.{asks_nothing, traced_all-append}
-use Rattle.sy_terms_laws.proofs.Traced.{some-none, some-all, some-first, some-second}
+use Rattle.sy_terms_operators.specs.Evaluation.{TermFits}
+use Rattle.sy_terms_operators.specs.Tracing.{traced, traced_all, GainsCalls, TracedSome}
+use Rattle.sy_terms_operators.proofs.Steps.{app-is, call-is, let-is, map-both}
+use Rattle.sy_terms_operators.proofs.Asked.{asks_nothing, traced_all-append}
+use Rattle.sy_terms_operators.proofs.Traced.{some-none, some-all, some-first, some-second}
 
 module _ {T N : Type 0} (number : N → Val) (defined wanted : List Function) (values : List Val) (before : List (ℕ × List Val)) (term : Term T N) where
   pub const-asks : (value : Value N) → term ≡ Const value → asked defined wanted values (expr_of number term) ≡ []

@@ -7,8 +7,8 @@ use Rattle.sy_terms.specs.Meaning.{Function, meanings, asked, all_asked}
 use Rattle.sy_terms.specs.Fitting.{Scope, Signature, sort_in, sorts_in, signature_of}
 use Rattle.sy_terms.specs.declared.sort.Sort.{Sort}
 use Rattle.sy_terms.specs.declared.term.Fun.TheVariants.{Defined, Wanted}
-use Rattle.sy_terms_laws.specs.Tracing.{traced_all, traced}
-use Rattle.sy_terms_laws.proofs.Equations.{applied_sort_Some, called_sort_Some, after_Some, with_sort_Some}
+use Rattle.sy_terms_operators.specs.Tracing.{traced_all, traced}
+use Rattle.sy_terms_operators.proofs.Equations.{applied_sort_Some, called_sort_Some, after_Some, with_sort_Some}
 
 no_signature : (signatures : List Signature) (f : ℕ) (s : Signature) → signatures ≡ [] → slice_get signatures f ≡ Some s → ⊥
 no_signature [] f s e h = none-some s h
