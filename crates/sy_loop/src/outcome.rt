@@ -1,6 +1,5 @@
 // The outcome of a search that a candidate ends.
 ghost use Rattle.std.specs.Prelude.{◌≡◌, IfOk};
-ghost use Rattle.sy_loop_spec.specs.declared.reach.Reach.TheVariants.{Beyond};
 ghost use Rattle.sy_loop_candidate.specs.Clauses.{IsEndFor, IsKnownFor};
 ghost use Rattle.sy_loop_candidate.specs.declared.step.End.TheVariants as ends;
 ghost use Rattle.sy_loop_spec.specs.Right.{IsRightFor};
@@ -25,7 +24,6 @@ pub fn ended<T: Theory, D: Decide<T>>(
     end: End<T, D::Proof, D::Spent>,
     known: Known<T>,
 ) -> Result<Outcome<T, D::Proof, D::Spent>, Want>
-    requires strict { _reach ≡ Beyond → ⊥ }
     requires known { IsKnownFor T.Theory _reach _problem.now _limits.now known }
     requires end { IsEndFor T.Theory D.Decide _reach _problem.now _limits.now known end }
     ensures right { IfOk result (IsRightFor T.Theory D.Decide _reach _problem.now _limits.now) }

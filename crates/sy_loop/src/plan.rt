@@ -62,6 +62,5 @@ fn tries_trees(reach: Reach) -> bool
     match reach {
         Reach::Sizes => false,
         Reach::Joins => true,
-        Reach::Beyond => true,
     }
 }

@@ -3,7 +3,6 @@ ghost use Rattle.std.specs.Prelude.{◌≡◌, ◌≤◌, ◌<◌, [], length, m
 ghost use Rattle.sy_bank_level.specs.Bank.{merged_of};
 ghost use Rattle.sy_grammar_base.specs.Fits.{ProblemFits};
 ghost use Rattle.sy_loop_candidate.specs.Clauses.{IsKnownFor};
-ghost use Rattle.sy_loop_spec.specs.declared.reach.Reach.TheVariants.{Beyond};
 ghost use Rattle.sy_loop.specs.Clauses.{IsPlannedFor};
 ghost use Rattle.sy_loop_banks.specs.BankClauses.{AreBanksFor, AreCarriedFor};
 ghost use Rattle.sy_loop.specs.LevelClauses.{AllAreRefutedFor};
@@ -47,7 +46,6 @@ pub(crate) fn run_round<T: Theory, D: Decide<T>>(
     level: u32,
 ) -> Result<Round<T, D::Proof, D::Spent>, Want>
     requires problem { ProblemFits T.Theory problem.now }
-    requires strict { reach ≡ Beyond → ⊥ }
     requires plan { IsPlannedFor T.Theory reach problem.now plan.old }
     requires functions { functions ≡ length problem.now.wanted }
     requires known { IsKnownFor T.Theory reach problem.now limits.now known }
@@ -103,7 +101,6 @@ fn after_level<T: Theory, D: Decide<T>>(
     level: u32,
 ) -> Result<Round<T, D::Proof, D::Spent>, Want>
     requires problem { ProblemFits T.Theory problem.now }
-    requires strict { reach ≡ Beyond → ⊥ }
     requires functions { functions ≡ length problem.now.wanted }
     requires known { IsKnownFor T.Theory reach problem.now limits.now known }
     requires room { length known.stored.items < limits.now.rounds }

@@ -1,8 +1,8 @@
 // The search.
-ghost use Rattle.std.specs.Prelude.{◌≡◌, IfOk};
+ghost use Rattle.std.specs.Prelude.{IfOk};
 ghost use Rattle.sy_grammar_base.specs.Fits.{ProblemFits};
 ghost use Rattle.sy_loop_spec.specs.Right.{IsRightFor};
-ghost use Rattle.sy_loop_spec.specs.declared.reach.Reach.TheVariants.{Sizes, Joins, Beyond};
+ghost use Rattle.sy_loop_spec.specs.declared.reach.Reach.TheVariants.{Sizes, Joins};
 ghost use Rattle.sy_loop_claims.specs.Clauses.{FindsLeastFor};
 ghost use Rattle.sy_loop.specs.Solvable.{IsCompleteFor};
 
@@ -64,7 +64,6 @@ fn search<T: Theory, D: Decide<T>>(
     decide: &mut D,
 ) -> Result<Outcome<T, D::Proof, D::Spent>, Want>
     requires problem { ProblemFits T.Theory problem.now }
-    requires strict { reach ≡ Beyond → ⊥ }
     ensures right { IfOk result (IsRightFor T.Theory D.Decide reach problem.now limits.now) }
     ensures least { IfOk result (FindsLeastFor T.Theory reach problem.now) }
 {

@@ -10,7 +10,7 @@ ghost use Rattle.sy_points.specs.Asked.{AreDistinct, Asked};
 ghost use Rattle.sy_bank_level.specs.Banks.{Entry, Merged};
 ghost use Rattle.sy_bank_level.specs.Covering.{sizes, terms};
 ghost use Rattle.sy_loop_spec.specs.declared.reach.Reach.{Reach};
-ghost use Rattle.sy_loop_spec.specs.declared.reach.Reach.TheVariants.{Sizes, Beyond};
+ghost use Rattle.sy_loop_spec.specs.declared.reach.Reach.TheVariants.{Sizes};
 ghost use Rattle.sy_loop_spec.specs.Histories.{AllViolate, Counterexample, IsCandidate, IsHonestHistory, HistoryIsKept, IsMet, IsOpenNumber};
 ghost use Rattle.sy_loop_spec.specs.Sizes.{AreAtMost};
 ghost use Rattle.sy_loop_spec.specs.Unsolved.{NoSolution, NoSolutionWithin};
@@ -66,8 +66,7 @@ pub fn nothing_refuted_solves()
 
 /// What a search that ascends by sizes does: nothing is to be done below 0 (`begins`); a size is done where all members
 /// of such sizes are refuted, and all conditional trees in that bound (`next`); what is done stays so (`stays`); the next
-/// size is open (`opens`); and nothing within what is done solves the problem, unless the search passed over terms
-/// (`ends`).
+/// size is open (`opens`); and nothing within what is done solves the problem (`ends`).
 pub fn sizes_are_done()
     ensures begins { (reach : Reach) (question : Question) (history : List Counterexample) (asked : Asked) → AreDoneBelow reach question history asked 0 }
     ensures next { (question : Question) (history : List Counterexample) (asked : Asked) (n : ℕ) (reach : Reach) → AllRefuted question history asked n → AllTreesViolate reach question history n →
@@ -76,7 +75,7 @@ pub fn sizes_are_done()
         AreDoneBelow reach question history asked n → AreDoneBelow reach question history' asked' n }
     ensures opens { (reach : Reach) (question : Question) (size n : ℕ) (history : List Counterexample) (asked : Asked) → n ≤ size → AreDoneBelow reach question history asked n →
         IsOpenNumber reach question size history n }
-    ensures ends { (reach : Reach) (question : Question) (size rounds n : ℕ) (history : List Counterexample) (asked : Asked) → (reach ≡ Beyond → ⊥) → IsHonestHistory reach question size rounds history →
+    ensures ends { (reach : Reach) (question : Question) (size rounds n : ℕ) (history : List Counterexample) (asked : Asked) → IsHonestHistory reach question size rounds history →
         AreDoneBelow reach question history asked (n + 1) → NoSolutionWithin reach question n }
 {}
 
