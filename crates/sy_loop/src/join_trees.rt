@@ -19,9 +19,9 @@ use sy_query_limits::Limits;
 use sy_terms::{Theory, Want};
 
 /// Adds each tuple on which a constraint rests at a stored assignment to the points. Where all were there, tries a
-/// conditional tree over the bank's kept terms of sizes of at most `level` that is good at each point. Where nothing new is
-/// learned, all conditional trees over parts of such sizes are refuted, if the bank covers these and all members of such
-/// sizes are refuted.
+/// conditional tree over the bank's kept terms of sizes of at most `level` that is good at each point. Where nothing
+/// new is learned, all conditional trees over parts of such sizes are refuted, if the bank covers these and all members
+/// of such sizes are refuted.
 pub fn try_trees<T: Theory, D: Decide<T>>(
     alloc: Global,
     problem: &Problem<T>,

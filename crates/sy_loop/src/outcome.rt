@@ -15,7 +15,8 @@ use sy_query_base::Decide;
 use sy_query_limits::Limits;
 use sy_terms::{Bodies, Seq, Theory, Values, Want, copied_values};
 
-/// The outcome of a search that ends by a candidate. `Want` comes where memory doesn't suffice for a copy of a function's tuples.
+/// The outcome of a search that ends by a candidate. `Want` comes where memory doesn't suffice for a copy of a
+/// function's tuples.
 pub fn ended<T: Theory, D: Decide<T>>(
     alloc: Global,
     _problem: &Problem<T>,
@@ -71,7 +72,8 @@ fn points_met<T: Theory, D: Decide<T>>(
     bodies: Bodies<T>,
     assignment: Values<T>,
 ) -> Result<Outcome<T, D::Proof, D::Spent>, Want>
-    requires { IsEndFor T.Theory D.Decide _reach _problem.now _limits.now known (ends.Points function bodies assignment) }
+    requires { IsEndFor T.Theory D.Decide _reach _problem.now _limits.now known
+        (ends.Points function bodies assignment) }
     ensures right { IfOk result (IsRightFor T.Theory D.Decide _reach _problem.now _limits.now) }
     ensures least { IfOk result (FindsLeastFor T.Theory _reach _problem.now) }
 {

@@ -31,7 +31,8 @@ pub fn plan_of<T: Theory>(
     reach: Reach,
 ) -> Result<Option<Plan<T>>, Want>
     requires { ProblemFits T.Theory problem.now }
-    ensures { IfOk result (λ found. MatchOption found (HasNoTreesFor T.Theory reach problem.now) (IsPlanFor T.Theory reach problem.now)) }
+    ensures { IfOk result (λ found.
+        MatchOption found (HasNoTreesFor T.Theory reach problem.now) (IsPlanFor T.Theory reach problem.now)) }
 {
     if !tries_trees(reach) {
         return Ok(None);

@@ -31,8 +31,9 @@ pub enum Round<T: Theory, P: Drop, S: Drop> {
     Ends(Outcome<T, P, S>),
 }
 
-/// Tries the bodies whose sizes sum to `level`, and conditional trees over kept terms of sizes up to it. Banks of an earlier
-/// round are carried on. `Want` comes where memory doesn't suffice for the banks, or for judging and deciding a candidate.
+/// Tries the bodies whose sizes sum to `level`, and conditional trees over kept terms of sizes up to it. Banks of an
+/// earlier round are carried on. `Want` comes where memory doesn't suffice for the banks, or for judging and deciding a
+/// candidate.
 pub(crate) fn run_round<T: Theory, D: Decide<T>>(
     alloc: Global,
     problem: &Problem<T>,
@@ -88,8 +89,8 @@ pub(crate) fn run_round<T: Theory, D: Decide<T>>(
     Ok(round)
 }
 
-/// What follows where all bodies whose sizes sum to `level` are refuted, and conditional trees with them: the end, where a
-/// bank dropped a term or this was the greatest size; else the next size.
+/// What follows where all bodies whose sizes sum to `level` are refuted, and conditional trees with them: the end,
+/// where a bank dropped a term or this was the greatest size; else the next size.
 fn after_level<T: Theory, D: Decide<T>>(
     alloc: Global,
     problem: &Problem<T>,

@@ -41,7 +41,8 @@ pub(crate) fn judge_leaf<T: Theory>(
     requires leaves { AreLeavesFor T.Theory problem.now points.now (chosen_of T.denotes leaves.now) }
     requires leaf { leaf < length leaves.now }
     requires memo { IsMemoFor T.Theory problem.now memo.old }
-    ensures judged { IfOk result (JudgesLeafFor T.Theory problem.now stored.now (chosen_of T.denotes leaves.now) leaf point here.now goods.now) }
+    ensures judged { IfOk result
+        (JudgesLeafFor T.Theory problem.now stored.now (chosen_of T.denotes leaves.now) leaf point here.now goods.now) }
     ensures memo { OnOk result (IsMemoFor T.Theory problem.now memo.new) }
 {
     if let Some(good) = copied::<T>(leaves, leaf, point, goods, firsts) {

@@ -98,7 +98,8 @@ fn rest_at<T: Theory>(
     requires held { IsHeldFor T.Theory problem.now limits.now stored.now points.old }
     ensures held { OnOk result (IsHeldFor T.Theory problem.now limits.now stored.now points.new) }
     ensures widens { OnOk result (WidensByRestsFor T.Theory problem.now stored.now points.old points.new) }
-    ensures answer { IfOk result (PlacesFor T.Theory problem.now stored.now place place 0 (place + 1) 0 points.old rests.old.items points.new rests.new.items) }
+    ensures answer { IfOk result (PlacesFor T.Theory problem.now stored.now place place 0
+        (place + 1) 0 points.old rests.old.items points.new rests.new.items) }
 {
     let mut new = false;
     for number in 0..posed.len() {
@@ -138,7 +139,8 @@ fn rest_one<T: Theory>(
     requires held { IsHeldFor T.Theory problem.now limits.now stored.now points.old }
     ensures held { OnOk result (IsHeldFor T.Theory problem.now limits.now stored.now points.new) }
     ensures widens { OnOk result (WidensByRestsFor T.Theory problem.now stored.now points.old points.new) }
-    ensures answer { IfOk result (PlacesFor T.Theory problem.now stored.now place place number place (number + 1) points.old rests.old.items points.new rests.new.items) }
+    ensures answer { IfOk result (PlacesFor T.Theory problem.now stored.now place place number place
+        (number + 1) points.old rests.old.items points.new rests.new.items) }
 {
     let Some((assignment, _)) = stored.get(place) else {
         unreachable!();
