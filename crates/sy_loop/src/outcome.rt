@@ -1,4 +1,6 @@
 // The outcome of a search that a candidate ends.
+// Functions here have more than seven parameters where clauses name the problem, the limits and the reach apart, as
+// those of the crates below do: a record of them would be taken apart at each call.
 ghost use Rattle.std.specs.Prelude.{◌≡◌, IfOk};
 ghost use Rattle.sy_loop_candidate.specs.Clauses.{IsEndFor, IsKnownFor};
 ghost use Rattle.sy_loop_candidate.specs.declared.step.End.TheVariants as ends;

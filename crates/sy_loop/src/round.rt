@@ -1,4 +1,6 @@
 // One round of a search: the bodies of one size together, up to what ends the round.
+// Functions here have more than seven parameters where clauses name the problem, the limits and the reach apart, as
+// those of the crates below do: a record of them would be taken apart at each call.
 ghost use Rattle.std.specs.Prelude.{◌≡◌, ◌≤◌, ◌<◌, [], length, map, IfOk, OnOk};
 ghost use Rattle.sy_bank_level.specs.Bank.{merged_of};
 ghost use Rattle.sy_grammar_base.specs.Fits.{ProblemFits};

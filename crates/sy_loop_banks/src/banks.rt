@@ -1,4 +1,6 @@
 // The banks of all functions to be found.
+// Functions here have more than seven parameters where clauses name the problem, the limits and the reach apart, as
+// those of the crates below do: a record of them would be taken apart at each call.
 ghost use Rattle.std.specs.Prelude.{◌≡◌, ◌↔◌, IsTrue, true, Some, length, map, IfOk, IfSome};
 ghost use Rattle.sy_terms.specs.Denoted.{vals_of};
 ghost use Rattle.sy_terms.specs.Definitions.{DefinitionsFit, scope_of, bodies};

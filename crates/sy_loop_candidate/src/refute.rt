@@ -85,6 +85,7 @@ fn are_refuted_again<T: Theory>(
 
 /// Whether the violation is shown at a stored assignment from the place `from` on and before `to`. The constraint that
 /// shows it is a suspect from now on.
+/// Eight parameters: the places are handed on beside what a whole search for a violation has.
 fn are_refuted_between<T: Theory>(
     alloc: Global,
     problem: &Problem<T>,

@@ -1,4 +1,6 @@
 // Whether constraints are true under a leaf.
+// Functions here have more than seven parameters where clauses name the problem, what is stored, the points and the
+// constraints apart, as those of the crates below do: a record of them would be taken apart at each call.
 ghost use Rattle.std.specs.Prelude.{◌≡◌, [], ◌∷◌, All, IfOk, OnOk, map};
 ghost use Rattle.sy_terms.specs.Denoted.{expr_of, vals_of};
 ghost use Rattle.sy_bank_level.specs.Stored.{entry_of};

@@ -1,4 +1,6 @@
 // Where constraints rest at stored assignments.
+// Functions here have more than seven parameters where clauses name the problem, what is stored, the points and the
+// constraints apart, as those of the crates below do: a record of them would be taken apart at each call.
 ghost use Rattle.std.specs.Prelude.{◌+◌, ◌≡◌, ◌<◌, length, Contains, IfOk, OnOk, Some, slice_get};
 ghost use Rattle.sy_terms.specs.Denoted.{vals_of};
 ghost use Rattle.sy_grammar_base.specs.Fits.{ProblemFits};

@@ -13,6 +13,7 @@ use sy_grammar_base::{Grammar, Non};
 use sy_terms::{Seq, Sort, Theory, Values};
 
 /// The bank of these nonterminals up to one size, grown to another if that is greater and nothing was dropped before.
+/// Eight parameters: a test names each part of its bank.
 fn bank_of<T: Theory>(
     rt: &impl Abort,
     alloc: Global,
