@@ -65,7 +65,8 @@ pub fn evaluate<T: Theory>(
 }
 
 /// The value of a term, with bodies for the functions to be found. The trace gains what the term asks of these; each such
-/// call is at values of the sorts that its function takes.
+/// call is at values of the sorts that its function takes. Under other bodies with the same values at what it asks, the
+/// term has the same value and asks the same.
 pub fn evaluate_with<T: Theory>(
     alloc: Global,
     defs: &Defs<T>,
@@ -81,7 +82,7 @@ pub fn evaluate_with<T: Theory>(
     ensures range { IsErrOf result Eval.Range → can_compute T.denotes defs.now bodies.now (vals_of T.denotes values.now) (expr_of T.denotes term.now) ≡ false }
     ensures traced { OnOk result (GainsCalls trace.old (asks T.denotes defs.now bodies.now (vals_of T.denotes values.now) (expr_of T.denotes term.now)) trace.new) }
     ensures begun { OnErr result (TracedSome trace.old (asks T.denotes defs.now bodies.now (vals_of T.denotes values.now) (expr_of T.denotes term.now)) trace.new) }
-    ensures agreement { OnOk result (StandsWith T.denotes defs.now bodies.now (vals_of T.denotes values.now) (expr_of T.denotes term.now) trace.new) }
+    ensures agreement { StandsWith T.denotes defs.now bodies.now (vals_of T.denotes values.now) (expr_of T.denotes term.now) }
     ensures calls { OnOk result (AsksRightly T.owned T.denotes defs.now bodies.now (vals_of T.denotes values.now) (expr_of T.denotes term.now)) }
 {
     evaluate_under(
