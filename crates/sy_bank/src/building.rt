@@ -32,6 +32,7 @@ fn copied_points<T: Theory>(alloc: Global, points: &[Values<T>]) -> Result<Seq<V
 /// A bank of the terms of derivations up to this size, over these points, of at most `cap` kept terms. Where none was
 /// dropped, each yield of such a derivation is computable at all points, and its row is that of a kept term of its
 /// nonterminal, at most as large. `Full` comes exactly where `cap` terms are kept, none was dropped and one more is new.
+/// `Want` comes also where 32 bits don't count the points, or the grammar's arguments.
 pub fn build<T: Theory>(
     alloc: Global,
     grammar: &Grammar<T>,

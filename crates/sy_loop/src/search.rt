@@ -22,7 +22,8 @@ use sy_terms::{Theory, Want};
 /// the greatest. At each the bodies of kept terms whose sizes sum to it are tried; then, where one function is to be found,
 /// the problem is pointwise and its grammar has a rule for conditional trees, a tree over kept terms of sizes up to it.
 /// Where something new is learned, the size begins anew. The search ends after a size at which a bank dropped a term.
-/// `Want` comes also where there are more functions to be found than numbers of 32 bits.
+/// `Want` comes also where there are more functions to be found than numbers of 32 bits, where a tree would be joined
+/// of 2^31 kept terms, and where `pointwise`, `build` and the solver say so.
 pub fn synthesise<T: Theory, D: Decide<T>>(
     alloc: Global,
     problem: &Problem<T>,

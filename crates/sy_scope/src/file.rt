@@ -213,7 +213,9 @@ fn read_in<T: Theory>(
 
 /// Reads a file of at most 4,194,304 bytes. `Ok` comes exactly where it is in the profile, with a problem for each
 /// `check-synth`, in order, and the names of its functions; `Idle` where no logic was set. Else the first faulty command is
-/// told, counted from 1, with its first condition that doesn't hold. All terms and grammars of the problems fit.
+/// told, counted from 1, with its first condition that doesn't hold. All terms and grammars of the problems fit. Out of
+/// memory is also answered where 32 bits don't count names, arguments or variables in force, or an invariant's variables
+/// come behind 2^31 others; a file of this length has fewer, which no clause says.
 pub fn read_file(alloc: Global, bytes: &[u8]) -> Result<Job, ScopeEnd>
     requires { length bytes.now ≤ 4194304 }
     ensures read { ReadsFile wish_in result (wished (spec.file_read bytes.now)) }
