@@ -149,11 +149,11 @@ pub fn is_countable(t: &Tree) -> bool
 }
 
 /// Whether the tree refutes the query. A node comes before those below it, the left before the right, and the first one
-/// that fails decides: with false where it isn't as a refutation tree's is, as an `Unfinished` one always does, and with
-/// `Range` and its number where a number of it leaves 128 bits. At one node first the variables, the number and signs of the
-/// multipliers and the divisor are judged, then whether the numbers fit, and then the rest. So a tree that is accepted is
-/// a refutation tree of the query, and one that is rejected isn't. A query of which a tree is accepted is satisfied by no
-/// assignment of whole numbers and truth values.
+/// that fails decides: with false where it isn't as a refutation tree's is, as an `Unfinished` one always does, and
+/// with `Range` and its number where a number of it leaves 128 bits. At one node first the variables, the number and
+/// signs of the multipliers and the divisor are judged, then whether the numbers fit, and then the rest. So a tree that
+/// is accepted is a refutation tree of the query, and one that is rejected isn't. A query of which a tree is accepted
+/// is satisfied by no assignment of whole numbers and truth values.
 pub fn check_tree(alloc: Global, q: &Query<IntTheory>, t: &Tree) -> Result<bool, CheckEnd>
     requires nodes { nodes (linear_query_of q.now).body < 2 ^ 31 }
     requires vars { length q.now.vars < 2 ^ 31 }

@@ -101,7 +101,8 @@ pub fn known_under(alloc: Global, q: &Query<IntTheory>, facts: &[Fact]) -> Resul
     requires vars { length q.now.vars < 2 ^ 31 }
     ensures known { IfOk result (λ k. k ≡ spec.query_known (linear_query_of q.now) facts.now) }
     ensures right { IfOk result (λ k. KnownIsRight (linear_query_of q.now) facts.now k) }
-    ensures range { IsLinearQuery (linear_query_of q.now) → IfOk result (λ k. IsMisfit (linear_query_of q.now) facts.now k) }
+    ensures range { IsLinearQuery (linear_query_of q.now) →
+        IfOk result (λ k. IsMisfit (linear_query_of q.now) facts.now k) }
 {
     let vars = q.vars.as_slice();
     let mut names = variable_sights(alloc, facts, vars)?;
@@ -120,7 +121,8 @@ pub fn known(alloc: Global, q: &Query<IntTheory>, path: &Path) -> Result<Known, 
     requires vars { length q.now.vars < 2 ^ 31 }
     ensures known { IfOk result (λ k. k ≡ spec.query_known (linear_query_of q.now) path.now.facts) }
     ensures right { IfOk result (λ k. KnownIsRight (linear_query_of q.now) path.now.facts k) }
-    ensures range { IsLinearQuery (linear_query_of q.now) → IfOk result (λ k. IsMisfit (linear_query_of q.now) path.now.facts k) }
+    ensures range { IsLinearQuery (linear_query_of q.now) →
+        IfOk result (λ k. IsMisfit (linear_query_of q.now) path.now.facts k) }
 {
     let answer = known_under(alloc, q, path.facts.as_slice())?;
     Ok(answer)
