@@ -48,8 +48,8 @@ impl Target {
         })
     }
 
-    /// What is wanted of an operand of the operation where the other one has these values, or there is no other one. `None`
-    /// where nothing serves, or too little is known.
+    /// What is wanted of an operand of the operation where the other one has these values, or there is no other one.
+    /// `None` where nothing serves, or too little is known.
     pub(crate) fn below(
         &self,
         alloc: Global,
