@@ -193,7 +193,8 @@ impl Kept {
         Ok(())
     }
 
-    /// Appends the pairs of kept terms that have, or keep within, the wanted bits, and serve at the first point.
+    /// Appends the pairs of kept terms that have, or keep within, the wanted bits at each point, and serve at the first
+    /// one.
     fn judge(
         &mut self,
         operation: Operation,
@@ -204,8 +205,9 @@ impl Kept {
             return Ok(());
         };
         let mut serving = Vec::new(self.alloc);
-        for (place, value) in self.firsts.iter().enumerate() {
-            if target.may_have_part(operation, wanted, *value) && serving.len() < self.most_judged {
+        for (place, (values, value)) in self.values.iter().zip(&self.firsts).enumerate() {
+            let has_room = serving.len() < self.most_judged;
+            if has_room && target.may_have_parts(operation, values.as_slice()) {
                 serving.push((place, *value))?;
             }
         }
