@@ -25,6 +25,7 @@ pub(crate) struct Search<'a, R: Rules> {
 }
 
 impl<'a, R: Rules> Search<'a, R> {
+    /// The task, with what its rules compute and which of them choose.
     pub(crate) fn new(alloc: Global, rules: &'a R, task: &'a Task) -> Result<Search<'a, R>, Want> {
         let choosers = choosers(alloc, rules, task)?;
         let mut operations = Vec::with_capacity(alloc, task.shapes.len())?;

@@ -70,7 +70,7 @@ pub fn choose<'a, R: Rules>(
 /// The first tree that chooses few times, or the smallest one of all stages.
 fn found_tree<R: Rules>(search: &Search<R>, gathered: &mut Gathered) -> Result<Option<Tree>, Want> {
     let few = few_choices(search.task.wanted.len());
-    let mut draws = Draws(88172645463325252);
+    let mut draws = Draws::new();
     let mut smallest = None;
     for stage in STAGES {
         gather(search, stage, &mut draws, gathered)?;
