@@ -9,6 +9,9 @@ use sy_terms::{Sort, Theory, Want};
 /// How many pairs of vectors are compared.
 const MOST_PAIRS: u32 = 60;
 
+/// How many integers of the pool are factors.
+const MOST_FACTORS: usize = 8;
+
 /// How many arguments there are at most where sums of three are compared.
 const MOST_SUMMED: usize = 6;
 
@@ -23,7 +26,7 @@ impl Atoms {
         requires { ProblemFits T.Theory setting.now.problem.now }
     {
         for place in 0..self.shape.sorts.len() {
-            if self.shape.sorts[place] == Sort::Bool {
+            if self.shape.sorts.get(place) == Some(&Sort::Bool) {
                 self.sides.write_term(&[argument(place)])?;
                 let plain = self.add_written(setting, true)?;
                 self.sides.negate()?;
@@ -127,11 +130,11 @@ impl Atoms {
     {
         for place in 0..self.shape.sums.len() {
             for number in 0..self.shape.constants.len() {
-                let constant = self.shape.constants[number];
-                let sum = self.shape.sums[place].plus(constant.saturating_neg());
-                self.add_both(setting, Kind::AtMost, &sum, false)?;
-                self.add_both(setting, Kind::AtMost, &sum.opposite(), false)?;
-                self.add_both(setting, Kind::Equal, &sum, false)?;
+                if let Some(sum) = self.shape.difference(place, number) {
+                    self.add_both(setting, Kind::AtMost, &sum, false)?;
+                    self.add_both(setting, Kind::AtMost, &sum.opposite(), false)?;
+                    self.add_both(setting, Kind::Equal, &sum, false)?;
+                }
             }
         }
         Ok(())
@@ -170,8 +173,8 @@ impl Atoms {
     {
         self.add_plain(setting, &[(x, 1), (y, 2)], &[0, 1, -1])?;
         self.add_plain(setting, &[(x, 1), (y, -2)], &[0, 1, -1])?;
-        for number in 0..self.shape.pool.len().min(8) {
-            let factor = self.shape.pool[number];
+        for number in 0..MOST_FACTORS {
+            let factor = self.shape.factor(number);
             if factor > 2 {
                 self.add_plain(setting, &[(x, 1), (y, factor.saturating_neg())], &[0])?;
             }

@@ -57,6 +57,21 @@ impl Shape {
         }
     }
 
+    /// The sum less the constant.
+    pub fn difference(&self, sum: usize, constant: usize) -> Option<Sum> {
+        let number = *self.constants.get(constant)?;
+        let found = self.sums.get(sum)?;
+        Some(found.plus(number.saturating_neg()))
+    }
+
+    /// The integer of the pool; 0 where there is none.
+    pub fn factor(&self, number: usize) -> i128 {
+        match self.pool.get(number) {
+            Some(factor) => *factor,
+            None => 0,
+        }
+    }
+
     /// Adds a sum of integer arguments with these factors, where they are integers.
     pub fn add_sum(&mut self, parts: &[(usize, i128)]) -> Result<(), Want> {
         if let Some(sum) = Sum::of_integers(parts, self.sorts.as_slice()) {

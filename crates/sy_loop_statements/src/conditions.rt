@@ -143,20 +143,28 @@ fn resolve(clauses: &mut Vec<Clause>) -> Result<(), Want> {
         let count = clauses.len();
         for place in 0..count {
             for other in 0..place {
-                let (first, second) = (clauses[place], clauses[other]);
-                let differ = first.inside ^ second.inside;
-                let clause = Clause {
-                    points: first.points & !differ,
-                    inside: first.inside & !differ,
-                };
-                let resolves = first.points == second.points && differ.count_ones() == 1;
-                if resolves && !clauses.contains(&clause) {
+                if let Some(clause) = resolvent(clauses.as_slice(), place, other) {
                     clauses.push(clause)?;
                 }
             }
         }
     }
     Ok(())
+}
+
+/// What follows from the two clauses, where they differ in the label of one point alone, and it is new.
+fn resolvent(clauses: &[Clause], first: usize, second: usize) -> Option<Clause> {
+    let (first, second) = (*clauses.get(first)?, *clauses.get(second)?);
+    let differ = first.inside ^ second.inside;
+    let clause = Clause {
+        points: first.points & !differ,
+        inside: first.inside & !differ,
+    };
+    if first.points == second.points && differ.count_ones() == 1 && !clauses.contains(&clause) {
+        Some(clause)
+    } else {
+        None
+    }
 }
 
 /// Whether another of the clauses says more.
