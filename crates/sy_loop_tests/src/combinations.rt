@@ -71,10 +71,10 @@ fn is_next(rt: &impl Abort, scan: &mut Scan, parts: &str) -> bool {
     }
 }
 
-/// An operator, a bound of the size, the work that may be done, and steps: a number is wanted at one point more, and after
-/// `:` stand the parts of the first combination that has the wanted values. In the last four rows a point more rules out what
-/// was wanted before, the bound rules out all, nothing is named where nothing is wanted, and the work of one look-up is
-/// just too little and enough.
+/// An operator, a bound of the size, the work that may be done, and steps: a number is wanted at one point more, and
+/// after `:` stand the parts of the first combination that has the wanted values. In the last four rows a point more
+/// rules out what was wanted before, the bound rules out all, nothing is named where nothing is wanted, and the work of
+/// one look-up is just too little and enough.
 pub(crate) const ROWS: &str = "\
 combination|a|20|1000|22 207 255 :01
 combination|s|20|1000|254 63 85 :10
