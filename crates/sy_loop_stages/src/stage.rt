@@ -35,6 +35,7 @@ pub(crate) const WHOLE: Effort = Effort {
     refuted: 256,
     undecided: 8,
     banks: 2,
+    judged: 20_000_000,
 };
 
 /// How much is tried of learned formulas, and the limits for the query of each.
@@ -70,6 +71,7 @@ pub(crate) fn early_stage(limits: &Limits) -> Stage
             refuted: 64,
             undecided: 4,
             banks: 1,
+            judged: 2_000_000,
         },
         learning: Learning {
             queries: 256,
@@ -118,6 +120,7 @@ pub(crate) fn wide_stage(limits: &Limits, bank: u32) -> Stage
             refuted: 256,
             undecided: 4,
             banks: 1,
+            judged: 2_000_000,
         },
         learning: Learning {
             queries: 0,
