@@ -1,12 +1,12 @@
 -- What holds once a new term is kept, and once one is dropped.
 use Rattle.std.proofs.Common.{◌≡◌, ℕ, ◌+◌, ◌<◌, List, [], length, refl, ap, sym, ◌∙◌, Some, slice_get, arith, subst, inl, inr}
 use Rattle.std.specs.Prelude.{slice_index_or}
-use Rattle.sy_bank_rows.specs.Banks.{Entry, Lost, kept_at, IsKept, IsDropped}
+use Rattle.sy_bank_level.specs.Banks.{Entry, Lost, kept_at, IsKept, IsDropped}
 use Rattle.sy_bank_level.specs.Hashing.{hash_from, PlaceIsAdded}
 use Rattle.sy_bank_level.specs.Filling.{World, LevelState, all_levels, EntryIsRight, IsNewRow, IsSteady, LevelGrows, TermIsDone}
 use Rattle.sy_bank_level.specs.declared.table.Place.{Place}
 use Rattle.sy_bank_level.proofs.Hashes.{has-added, still-has}
-use Rattle.sy_bank_level.proofs.Kept.{pushed, at-last, still-last, new-pushed, wide-pushed, count-last, kept_at-last}
+use Rattle.sy_bank_level.proofs.KeptLaws.{pushed, at-last, still-last, new-pushed, wide-pushed, count-last, kept_at-last}
 
 -- the state with the term kept, and with another table
 abbrev pub after : LevelState → ℕ → Entry → (ℕ → List Place) → LevelState

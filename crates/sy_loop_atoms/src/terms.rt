@@ -3,7 +3,7 @@ ghost use Rattle.sy_grammar_base.specs.Fits.{ProblemFits};
 
 use crate::setting::Setting;
 use std::alloc::Global;
-use sy_grammar_derive::derive;
+use sy_grammar::derive;
 use sy_grammar_sizes::derivation_size;
 use sy_loop_literals::Token;
 use sy_loop_statements::constant_of;

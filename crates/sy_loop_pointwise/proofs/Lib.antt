@@ -1,6 +1,14 @@
 mod Asked
 mod Calls
-mod Kept
 mod Constraints
+mod Kept
+mod Keys
+mod Placing
+mod RestsLaws
+mod Tables
 mod Values
-mod Rests
+pub mod Distinct
+pub mod Lists
+pub mod Numbered
+pub mod RestsAsked
+pub mod Shaped

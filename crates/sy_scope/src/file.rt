@@ -1,9 +1,9 @@
 // Files.
 ghost use Rattle.std.specs.Prelude.{◌≡◌, ◌≤◌, ◌<◌, length, IfOk, IfSome, OnOk};
-ghost use Rattle.sy_text_reader.specs.Reading as reading;
+ghost use Rattle.sy_text.specs.Reading as reading;
 ghost use Rattle.sy_text_items.specs.Views.{command_of};
 ghost use Rattle.sy_terms.specs.Logics.{IsTheoryOf, Serves};
-ghost use Rattle.sy_scope_commands.specs.Asked.{request_in};
+ghost use Rattle.sy_scope_names.specs.Asked.{request_in};
 ghost use Rattle.sy_text_items.specs.Views.{item_of};
 ghost use Rattle.sy_forms_items.specs.Readings.{ReadingGives};
 ghost use Rattle.sy_scope_names.specs.Contexts as contexts;
@@ -15,6 +15,7 @@ ghost use Rattle.sy_scope_declared.specs.Seen.{context_of};
 ghost use Rattle.sy_scope_names.specs.Changes as changes;
 ghost use Rattle.sy_scope_steps.specs.Steps as steps;
 
+use crate::commands::step;
 use crate::job::Job;
 use std::alloc::Global;
 use std::mem::replace;
@@ -23,13 +24,12 @@ use sy_grammar_base::Problem;
 use sy_meaning_integers::IntTheory;
 use sy_meaning_words::BvTheory;
 use sy_scope_causes::{Cause, Refused, Titles};
-use sy_scope_commands::Request;
-use sy_scope_context::step;
 use sy_scope_declared::{Asked, Context, check_feature, read_request};
 use sy_scope_ends::{ScopeEnd, ended, numbered};
+use sy_scope_names::Request;
 use sy_terms::{Logic, Seq, Theory};
+use sy_text::{TextEnd, next_command};
 use sy_text_items::{Place, Sexp, TextFault};
-use sy_text_reader::{TextEnd, next_command};
 
 /// The commands up to the one that sets the logic are done: the logic, and the offset and the number of the next one.
 #[derive(Clone, Copy)]
@@ -92,7 +92,8 @@ fn logic_named(name: &[u8]) -> Option<Logic>
 /// The logic that is set by a command before which none was.
 #[tactic(auto, unfolding(sy_scope_steps::specs::Steps::perform_first))]
 fn first_logic(asked: Asked<'_>) -> Result<Option<Logic>, ReadEnd>
-    ensures { ReadingGives opened_by result (steps.perform_first contexts.beginning asked.entry.at (request_in asked.entry.request)) }
+    ensures { ReadingGives opened_by result
+        (steps.perform_first contexts.beginning asked.entry.at (request_in asked.entry.request)) }
 {
     match asked.request {
         Request::SetLogic(name) => match logic_named(name.name.as_slice()) {
@@ -153,7 +154,8 @@ fn read_commands<T: Theory>(
     requires theory { IsTheoryOf opened.logic T.owned T.numeric }
     requires begun { context_of T.denotes context.old ≡ contexts.with_logic opened.logic contexts.beginning }
     requires logic { context.old.logic ≡ opened.logic }
-    requires opened { LeadsToOutcome bytes.now opened.at opened.command (contexts.with_logic opened.logic contexts.beginning) (spec.file_read bytes.now) }
+    requires opened { LeadsToOutcome bytes.now opened.at opened.command
+        (contexts.with_logic opened.logic contexts.beginning) (spec.file_read bytes.now) }
     ensures read { ReadsFile (λ _. context_of T.denotes context.new) result (spec.file_read bytes.now) }
     ensures logic { OnOk result (context.new.logic ≡ opened.logic) }
 {
@@ -169,8 +171,8 @@ fn read_commands<T: Theory>(
     Ok(())
 }
 
-/// What a file of a theory's logic asks, and the names of its functions, by the context in which only the logic was set. The
-/// context is of no further use.
+/// What a file of a theory's logic asks, and the names of its functions, by the context in which only the logic was
+/// set. The context is of no further use.
 fn read_by<T: Theory>(
     alloc: Global,
     bytes: &[u8],
@@ -182,7 +184,8 @@ fn read_by<T: Theory>(
     requires theory { IsTheoryOf opened.logic T.owned T.numeric }
     requires begun { context_of T.denotes context.old ≡ contexts.with_logic opened.logic contexts.beginning }
     requires logic { context.old.logic ≡ opened.logic }
-    requires opened { LeadsToOutcome bytes.now opened.at opened.command (contexts.with_logic opened.logic contexts.beginning) (spec.file_read bytes.now) }
+    requires opened { LeadsToOutcome bytes.now opened.at opened.command
+        (contexts.with_logic opened.logic contexts.beginning) (spec.file_read bytes.now) }
     ensures read { ReadsFile (wish_over T.denotes opened.logic) result (wished (spec.file_read bytes.now)) }
     ensures fit { IfOk result (λ x. ProblemsFit T.owned T.numeric T.denotes x.0) }
 {
@@ -201,7 +204,8 @@ fn read_in<T: Theory>(
     requires short { length bytes.now ≤ 4194304 }
     requires serves { Serves T.numeric opened.logic }
     requires theory { IsTheoryOf opened.logic T.owned T.numeric }
-    requires opened { LeadsToOutcome bytes.now opened.at opened.command (contexts.with_logic opened.logic contexts.beginning) (spec.file_read bytes.now) }
+    requires opened { LeadsToOutcome bytes.now opened.at opened.command
+        (contexts.with_logic opened.logic contexts.beginning) (spec.file_read bytes.now) }
     ensures read { ReadsFile (wish_over T.denotes opened.logic) result (wished (spec.file_read bytes.now)) }
     ensures fit { IfOk result (λ x. ProblemsFit T.owned T.numeric T.denotes x.0) }
 {
@@ -212,8 +216,10 @@ fn read_in<T: Theory>(
 }
 
 /// Reads a file of at most 4,194,304 bytes. `Ok` comes exactly where it is in the profile, with a problem for each
-/// `check-synth`, in order, and the names of its functions; `Idle` where no logic was set. Else the first faulty command is
-/// told, counted from 1, with its first condition that doesn't hold. All terms and grammars of the problems fit.
+/// `check-synth`, in order, and the names of its functions; `Idle` where no logic was set. Else the first faulty
+/// command is told, counted from 1, with its first condition that doesn't hold. All terms and grammars of the problems
+/// fit. Out of memory is also answered where 32 bits don't count names, arguments or variables in force, or an
+/// invariant's variables come behind 2^31 others; a file of this length has fewer, which no clause says.
 pub fn read_file(alloc: Global, bytes: &[u8]) -> Result<Job, ScopeEnd>
     requires { length bytes.now ≤ 4194304 }
     ensures read { ReadsFile wish_in result (wished (spec.file_read bytes.now)) }

@@ -4,8 +4,8 @@ use Rattle.std.proofs.Common.{refl, sym, ◌∙◌, ap, ap₂, subst, arith, inl
 use Rattle.std.proofs.Math.Dec.{eqb, ltb}
 use Rattle.std.proofs.lemmas.Bool.Decides.{eqb_tells}
 use Rattle.sy_frac.specs.Rational.{ℚ, 0ℚ, 1ℚ, ◌+ℚ◌, ◌*ℚ◌, neg_ℚ, is_negative_rational, not_negative_plus, zero_not_negative, one_not_negative, +ℚ_cancel, +ℚ_comm, +ℚ_zero, zero-+ℚ, +ℚ-neg, *ℚ_zero, zero-*ℚ, one-*ℚ, *ℚ-+ℚ, +ℚ-*ℚ, neg_ℚ-*ℚ}
-use Rattle.sy_linear_forms.specs.Total.{total, total-same, total-plus, total_zero, total_split, zero_at, without_same, without_other, combined_total}
-use Rattle.sy_linear_forms.specs.Systems.{System, form_at_point, MeetsSystem, IsRefutation, IsCorner, total_not_negative}
+use Rattle.sy_linear_known.specs.Total.{total, total-same, total-plus, total_zero, total_split, zero_at, without_same, without_other, combined_total}
+use Rattle.sy_linear_known.specs.Systems.{System, form_at_point, MeetsSystem, IsRefutation, IsCorner, total_not_negative}
 use Rattle.sy_simplex.proofs.Tables.{Table, Holds, initial, basics_agree}
 
 -- ---- points and assignments
@@ -79,7 +79,7 @@ pick_not_negative u i q h = by (i == u)
     by false = zero_not_negative
 
 -- a sum of products by a pick
-total_pick : (n u : ℕ) (q : ℚ) (g : ℕ → ℚ) → u < n → total n (λ i. pick u i q *ℚ g i) ≡ q *ℚ g u
+pub total_pick : (n u : ℕ) (q : ℚ) (g : ℕ → ℚ) → u < n → total n (λ i. pick u i q *ℚ g i) ≡ q *ℚ g u
 total_pick n u q g h =
     total_split n u (λ i. pick u i q *ℚ g i) h
     ∙ ap₂ (λ a b. a +ℚ b) (ap (λ a. a *ℚ g u) (pick_same u q)) (total-same n (zero_at u (λ i. pick u i q *ℚ g i)) (λ i. 0ℚ) (λ i l. by i (eqb_tells i u)) ∙ total_zero n)

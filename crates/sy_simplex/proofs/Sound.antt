@@ -5,14 +5,14 @@ use Rattle.std.proofs.Math.Dec.{ltb}
 use Rattle.std.proofs.Math.ListN.{length-set}
 use Rattle.sy_frac.specs.Fraction.{Fraction, IsInRange, IsLowest}
 use Rattle.sy_frac.specs.Rational.{ℚ, 0ℚ, ◌+ℚ◌, ◌*ℚ◌, neg_ℚ, over, value as number, is_negative_rational, zero_not_negative, +ℚ_comm, +ℚ-neg, *ℚ_zero}
-use Rattle.sy_linear_forms.specs.declared.form.Form.{Form}
-use Rattle.sy_linear_forms.specs.Total.{total-same, total_zero, combined_total}
-use Rattle.sy_linear_forms.specs.Systems.{System, form_at_point, MeetsSystem, IsCorner}
-use Rattle.sy_simplex_tableau.specs.Operations.{fraction_of_whole}
-use Rattle.sy_simplex_tableau.specs.Rows.{at, AreLowest}
-use Rattle.sy_simplex_tableau.specs.States.{TableauState, variable_of_column, basic, row, coef, row_value, bound, rest, IsShaped, IsVariable, IsClear, BoundsAreMet, IsPivot}
-use Rattle.sy_simplex_tableau.proofs.Exact.{whole_lowest, abs_neg}
-use Rattle.sy_simplex_tableau.proofs.Shapes.{step_shaped}
+use Rattle.sy_linear_known.specs.declared.form.Form.{Form}
+use Rattle.sy_linear_known.specs.Total.{total-same, total_zero, combined_total}
+use Rattle.sy_linear_known.specs.Systems.{System, form_at_point, MeetsSystem, IsCorner}
+use Rattle.sy_simplex.specs.Operations.{fraction_of_whole}
+use Rattle.sy_simplex.specs.Rows.{at, AreLowest}
+use Rattle.sy_simplex.specs.States.{TableauState, variable_of_column, basic, row, coef, row_value, bound, rest, IsShaped, IsVariable, IsClear, BoundsAreMet, IsPivot}
+use Rattle.sy_simplex.proofs.Exact.{whole_lowest, abs_neg}
+use Rattle.sy_simplex.proofs.Shapes.{step_shaped}
 use Rattle.sy_simplex.specs.Problems.{coefficient, form, system_of, numbers}
 use Rattle.sy_simplex.specs.Runs.{FormFits, IsInitial, Ran, begun, stepped, IsValue, IsPoint}
 use Rattle.sy_simplex.proofs.Values.{zero_is, value_opposite, not_less_negative}
@@ -159,7 +159,7 @@ module _ (vars : ℕ) (forms : List Form) (t : TableauState) (steady : IsSteady 
   unfolding assignment
   at_row i l = assigned_row (length forms) (λ i. basic t i) (λ i. number (row_value t i)) (λ v. number (rest t v)) steady.placed.rows_differ i l
 
-  at_column : (j : ℕ) → j < vars → assignment (variable_of_column t j) ≡ number (rest t (variable_of_column t j))
+  pub at_column : (j : ℕ) → j < vars → assignment (variable_of_column t j) ≡ number (rest t (variable_of_column t j))
   unfolding assignment
   at_column j k = assigned_other (length forms) (λ i. basic t i) (λ i. number (row_value t i)) (λ v. number (rest t v)) (variable_of_column t j) (λ i l. steady.placed.apart i j l k)
 

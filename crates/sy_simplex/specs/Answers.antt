@@ -1,12 +1,12 @@
 -- What each answer says of the forms, and of the run.
 use Rattle.std.specs.Prelude.{◌≡◌, ℕ, List, length}
-use Rattle.sy_linear_forms.specs.declared.form.Form.{Form}
-use Rattle.sy_linear_forms.specs.Systems.{MeetsSystem, IsCorner, IsRefutation}
-use Rattle.sy_simplex_tableau.specs.Rows.{AreLowest}
+use Rattle.sy_linear_known.specs.declared.form.Form.{Form}
+use Rattle.sy_linear_known.specs.Systems.{MeetsSystem, IsCorner, IsRefutation}
+use Rattle.sy_simplex.specs.Rows.{AreLowest}
 use Rattle.sy_simplex.specs.declared.answer.Feasible.{Feasible}
 use Rattle.sy_simplex.specs.declared.answer.Feasible.TheVariants.{Point, Conflict, Pivots, Range}
 use Rattle.sy_simplex.specs.Problems.{system_of, numbers}
-use Rattle.sy_simplex_tableau.specs.States.{TableauState}
+use Rattle.sy_simplex.specs.States.{TableauState}
 use Rattle.sy_simplex.specs.Runs.{IsPoint, AreRowMultipliers, EndsAt, EndsStuck, RunIsSpent, IsOutOfRange}
 
 -- the point meets every form and is a corner of them; the multipliers, fractions in lowest terms, refute them
@@ -22,6 +22,11 @@ TellsFeasible vars forms pivots (Point p) = EndsAt vars forms pivots p
 TellsFeasible vars forms pivots (Conflict m) = EndsStuck vars forms pivots
 TellsFeasible vars forms pivots (Pivots run) = RunIsSpent vars forms pivots run.steps
 TellsFeasible vars forms pivots (Range run) = IsOutOfRange vars forms pivots run.steps
+
+-- the steps were spent
+abbrev pub IsPivots : Feasible → Type 0
+IsPivots (Pivots run) = Unit {0}
+IsPivots _ = ⊥
 
 -- the same answer: one point, or one list of steps; a conflict may have several multipliers
 abbrev pub IsSameAnswer : Feasible → Feasible → Type 0

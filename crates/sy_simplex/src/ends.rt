@@ -1,16 +1,17 @@
 // What the end of a run gives.
 ghost use Rattle.std.specs.Prelude.{◌≡◌, ◌<◌, ◌^◌, length, IfOk};
-ghost use Rattle.sy_simplex_tableau.specs.States.{IsShaped, IsVariable};
-ghost use Rattle.sy_simplex_tableau.specs.Stated.{tableau_state_of};
+ghost use Rattle.sy_simplex.specs.States.{IsShaped, IsVariable};
+ghost use Rattle.sy_simplex.specs.Stated.{tableau_state_of};
 ghost use Rattle.sy_simplex.specs.Runs.{IsValue, IsPoint, IsMultiplier, AreRowMultipliers};
 
+use crate::fractions::{negated, one, zero};
+use crate::tableau::Tableau;
 use std::alloc::Global;
 use sy_frac::Frac;
 use sy_seq::{Seq, Want};
-use sy_simplex_tableau::{Tableau, negated, one, zero};
 
 /// The value of a variable.
-fn value_of(tableau: &Tableau, variable: u32) -> Frac
+pub fn value_of(tableau: &Tableau, variable: u32) -> Frac
     requires shaped { IsShaped (tableau_state_of tableau.now) }
     requires below { IsVariable (tableau_state_of tableau.now) variable }
     ensures { IsValue (tableau_state_of tableau.now) variable result }
@@ -36,7 +37,7 @@ pub(crate) fn point(alloc: Global, tableau: &Tableau) -> Result<Seq<Frac>, Want>
 }
 
 /// The multiplier of the form with this variable, by the row.
-fn multiplier(tableau: &Tableau, row: usize, variable: u32) -> Frac
+pub fn multiplier(tableau: &Tableau, row: usize, variable: u32) -> Frac
     requires shaped { IsShaped (tableau_state_of tableau.now) }
     requires row_below { row < length (tableau_state_of tableau.now).basics }
     ensures { IsMultiplier (tableau_state_of tableau.now) row variable result }

@@ -4,8 +4,8 @@ use Rattle.std.proofs.lemmas.Option.{get_or_from_slice_get, slice_get_within}
 use Rattle.sy_terms.specs.Definitions.{scope_of}
 use Rattle.sy_grammar_base.specs.Fits.{GrammarFits}
 use Rattle.sy_grammar_base.specs.Grown.{syntax_from}
-use Rattle.sy_grammar_laws.proofs.Numbering.{numbered}
-use Rattle.sy_grammar_laws.proofs.Problems.{problem_grammars}
+use Rattle.sy_grammar_base.proofs.Numbering.{numbered}
+use Rattle.sy_grammar_base.proofs.Problems.{problem_grammars}
 use Rattle.sy_loop_atoms.proofs.terms.term_size.Goals as goal
 
 pub derive-requires : goal.derive-requires
