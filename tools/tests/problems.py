@@ -81,6 +81,10 @@ SEEN = {
         "(set-logic LIA)\n(synth-fun f ((x Int) (y Int)) Int ((S Int)) ((S Int (x (+ S S)))))\n",
         ["f of line 2: its argument y is in no rule, "],
     ),
+    "rows, and whether the assumption holds isn't known": (
+        INTEGERS + "(assume (< x y))\n(constraint (= (f 1) 3))\n(constraint (= (f 1) 4))\n",
+        ["Lines 6 and 7: (f 1) is to be 3 and 4. "],
+    ),
     "a second question": (INTEGERS + "(check-synth)\n(constraint (= (f 1) 3))\n(constraint (= (f 1) 4))\n", []),
 }
 # What is found by questions to the program.
@@ -100,6 +104,27 @@ ASKED = {
     "assumptions": (
         BYTES + "(assume (bvult x #x10))\n(assume (= x x))\n(assume (bvugt x #x20))\n(constraint (= (f x) x))\n",
         ["The assumptions of lines 5 and 7 together can't hold: "],
+    ),
+    "rows under an assumption": (
+        INTEGERS + "(assume (< x y))\n(constraint (= (f 1) 3))\n(constraint (= (f 1) 4))\n",
+        ["Lines 6 and 7: (f 1) is to be 3 and 4. ", UNSOLVABLE],
+    ),
+    "rows under an assumption that can't hold": (
+        INTEGERS + "(assume (< x x))\n(constraint (= (f 1) 3))\n(constraint (= (f 1) 4))\n",
+        ["The assumption of line 5 can't hold: "],
+    ),
+    "a loop under an assumption that can't hold": (
+        LOOP % 7 + "(declare-var y Int)\n(assume (distinct y y))\n",
+        ["The assumption of line 8 can't hold: "],
+    ),
+    "no value, and an argument in no rule": (
+        "(set-logic LIA)\n(synth-fun f ((x Int) (y Int)) Int ((S Int)) ((S Int (x (+ S S)))))\n(declare-var x Int)\n"
+        "(constraint (> (f x x) (f x x)))\n",
+        [
+            "f of line 2: its argument y is in no rule, ",
+            "The constraint of line 4 can't be met at x = ",
+            UNSOLVABLE,
+        ],
     ),
     "a loop": (
         LOOP % 7,
