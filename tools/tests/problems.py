@@ -156,6 +156,8 @@ UNREAD = (
     "(set-logic LIA)\n(synth-inv inv ((i Int)))\n(define-fun pre ((i Int)) Bool (= i 0))\n(define-fun trans ((i Int)"
     " (i' Int)) Bool (= i' i))\n(define-fun post ((i Int)) Bool (= i 0))\n(inv-constraint inv pre trans post)\n(check-synth)\n"
 )
+# A file as for another solver.
+FOREIGN = "(set-logic QF_LIA)\n(synth-fun f ((x Int)) Int)\n(assert (= (f 0) 1))\n(check-synth)\n"
 # Tables, the words, and the lines of the problem or the reason of the refusal.
 TABLES = {
     "names": (
@@ -253,6 +255,10 @@ def asked(program):
     env = {**os.environ, "SYGUS": str(program)}
     said = subprocess.run([EXPLAIN, "-"], input=UNREAD, env=env, capture_output=True, text=True).stdout
     yield "explain: nothing follows from what can't be read", "BadByte" in said and "Further on" not in said
+    said = subprocess.run([EXPLAIN, "-"], input=FOREIGN, env=env, capture_output=True, text=True).stdout
+    places = [line for line in said.splitlines() if line.startswith(("-:", "Further"))]
+    wanted = ["-:1:12: Logic", "Further on:", "-:3:2: CommandNotInProfile"]
+    yield "explain: mistakes behind another solver's logic", places == wanted
 
 
 def further():
