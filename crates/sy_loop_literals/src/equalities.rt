@@ -63,25 +63,32 @@ fn take_shortest(sums: &mut Vec<Sum>, greatest: u128) -> Option<Sum> {
 /// left out.
 fn reduce(rows: &[Sum], system: &mut Vec<Row>) -> Result<(), Want> {
     for row in rows {
-        let mut rest = Some(*row);
-        for other in system.iter() {
-            if let Some(sum) = rest {
-                rest = without(&sum, &other.sum, other.lead);
+        if let Some(sum) = rest_of(row, system.as_slice()) {
+            if let Some(lead) = lead_of(&sum) {
+                clear_column(system, &sum, lead);
+                system.push(Row { sum, lead })?;
             }
-        }
-        let Some(sum) = rest else {
-            continue;
-        };
-        if let Some(lead) = lead_of(&sum) {
-            for other in system.iter_mut() {
-                if let Some(less) = without(&other.sum, &sum, lead) {
-                    other.sum = less;
-                }
-            }
-            system.push(Row { sum, lead })?;
         }
     }
     Ok(())
+}
+
+/// What is left of the row without numbers in the columns of the system's; `None` where numbers grow too large.
+fn rest_of(row: &Sum, system: &[Row]) -> Option<Sum> {
+    let mut rest = *row;
+    for other in system {
+        rest = without(&rest, &other.sum, other.lead)?;
+    }
+    Some(rest)
+}
+
+/// Takes the column out of the system's rows by the sum, where numbers don't grow too large.
+fn clear_column(system: &mut Vec<Row>, sum: &Sum, column: usize) {
+    for row in system.iter_mut() {
+        if let Some(less) = without(&row.sum, sum, column) {
+            row.sum = less;
+        }
+    }
 }
 
 /// The last column with a number but the constants', or that one.
@@ -97,13 +104,12 @@ fn lead_of(sum: &Sum) -> Option<usize> {
 
 /// A multiple of the sum less one of the other, in which the column has 0; `None` where numbers grow too large.
 fn without(sum: &Sum, other: &Sum, column: usize) -> Option<Sum> {
-    let own = *sum.numbers.get(column)?;
-    let factor = *other.numbers.get(column)?;
+    let own = sum.at(column);
     if own == 0 {
         return Some(*sum);
     }
     let left = Sum::constant(0)
-        .with(sum, factor)
+        .with(sum, other.at(column))
         .with(other, own.saturating_neg());
     for number in &left.numbers {
         if number.unsigned_abs() > MOST_ENTRY {
@@ -130,25 +136,31 @@ fn solutions(system: &[Row], sorts: &[Sort], found: &mut Vec<Sum>) -> Result<(),
 
 /// The sum with a number in the open column and in those of the rows that it needs.
 fn solution(system: &[Row], column: usize) -> Option<Sum> {
+    let own = multiple_of(system, column)?;
+    let mut sum = Sum::constant(0);
+    sum.set(column, own);
+    for row in system {
+        let product = row.sum.at(column).checked_mul(own)?;
+        let quotient = product.checked_div(row.sum.at(row.lead))?;
+        sum.set(row.lead, quotient.saturating_neg());
+    }
+    Some(sum.reduced())
+}
+
+/// The least number for the open column with which those of the rows are integers; `None` where it is too large.
+fn multiple_of(system: &[Row], column: usize) -> Option<i128> {
     let mut multiple = 1u128;
     for row in system {
-        let open = row.sum.numbers.get(column)?.unsigned_abs();
-        let lead = row.sum.numbers.get(row.lead)?.unsigned_abs();
+        let open = row.sum.at(column).unsigned_abs();
+        let lead = row.sum.at(row.lead).unsigned_abs();
         let need = lead.checked_div(common(lead, open))?;
-        multiple = multiple.checked_mul(need.checked_div(common(need, multiple))?)?;
+        let factor = need.checked_div(common(need, multiple))?;
+        multiple = multiple.checked_mul(factor)?;
         if multiple > MOST_NUMBER {
             return None;
         }
     }
-    let own = i128::try_from(multiple).ok()?;
-    let mut sum = Sum::constant(0);
-    *sum.numbers.get_mut(column)? = own;
-    for row in system {
-        let open = row.sum.numbers.get(column)?.checked_mul(own)?;
-        let lead = *row.sum.numbers.get(row.lead)?;
-        *sum.numbers.get_mut(row.lead)? = open.checked_div(lead)?.saturating_neg();
-    }
-    Some(sum.reduced())
+    i128::try_from(multiple).ok()
 }
 
 /// Adds the sums and differences of two of the sums.

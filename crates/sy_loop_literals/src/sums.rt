@@ -77,6 +77,21 @@ impl Sum {
         Some(Sum::of(parts))
     }
 
+    /// The number in this column: an argument's coefficient, or the constant; 0 where there is no such column.
+    pub fn at(&self, column: usize) -> i128 {
+        match self.numbers.get(column) {
+            Some(number) => *number,
+            None => 0,
+        }
+    }
+
+    /// Puts the number into the column, where there is such a column.
+    pub fn set(&mut self, column: usize, number: i128) {
+        if let Some(found) = self.numbers.get_mut(column) {
+            *found = number;
+        }
+    }
+
     /// The sum and a multiple of another.
     pub fn with(self, other: &Sum, factor: i128) -> Sum {
         let mut sum = self;

@@ -111,28 +111,43 @@ pub enum Class {
 }
 
 /// What the values of the term are, where its variables have these sorts.
-pub fn class_of(tokens: &[Token], sorts: &[Sort]) -> Class {
-    let mut last = tokens.last();
+pub(crate) fn class_of(tokens: &[Token], sorts: &[Sort]) -> Class {
+    match deciding(tokens) {
+        Some(Token::Constant(sort, _)) => class_of_sort(sort),
+        Some(Token::Variable(position)) => match sorts.get(position as usize) {
+            Some(sort) => class_of_sort(*sort),
+            None => Class::Truth,
+        },
+        Some(Token::Apply(operator, _)) => class_of_operator(&operator),
+        None => Class::Truth,
+    }
+}
+
+/// The last token that isn't `ite`, which has the term's sort.
+fn deciding(tokens: &[Token]) -> Option<Token> {
     for token in tokens.iter().rev() {
-        last = Some(token);
         if !matches!(token, Token::Apply(Op::Ite, _)) {
-            break;
+            return Some(*token);
         }
     }
-    match last {
-        Some(Token::Constant(Sort::Int, _)) => Class::Integer,
-        Some(Token::Constant(Sort::Bits(_), _)) => Class::Vector,
-        Some(Token::Variable(position)) => match sorts.get(*position as usize) {
-            Some(Sort::Int) => Class::Integer,
-            Some(Sort::Bits(_)) => Class::Vector,
-            _ => Class::Truth,
-        },
-        Some(Token::Apply(operator, _)) => match operator {
-            Op::Neg | Op::Sub | Op::Add | Op::Mul | Op::Div | Op::Mod | Op::Abs => Class::Integer,
-            Op::Not | Op::And | Op::Or | Op::Xor | Op::Implies => Class::Truth,
-            _ if relation_of(operator).is_some() => Class::Truth,
-            _ => Class::Vector,
-        },
-        _ => Class::Truth,
+    None
+}
+
+/// What values of the sort are.
+fn class_of_sort(sort: Sort) -> Class {
+    match sort {
+        Sort::Bool => Class::Truth,
+        Sort::Int => Class::Integer,
+        Sort::Bits(_) => Class::Vector,
+    }
+}
+
+/// What the operator's values are.
+fn class_of_operator(operator: &Op) -> Class {
+    match operator {
+        Op::Neg | Op::Sub | Op::Add | Op::Mul | Op::Div | Op::Mod | Op::Abs => Class::Integer,
+        Op::Not | Op::And | Op::Or | Op::Xor | Op::Implies => Class::Truth,
+        _ if relation_of(operator).is_some() => Class::Truth,
+        _ => Class::Vector,
     }
 }
