@@ -191,7 +191,7 @@ impl Kept {
         Ok(())
     }
 
-    /// Appends the pairs of kept terms that have, or keep within, the wanted bits, and serve at the first point.
+    /// Appends the pairs of kept terms that have, or keep within, the wanted bits at each point, and serve at the first one.
     fn judge(
         &mut self,
         operation: Operation,
@@ -202,8 +202,9 @@ impl Kept {
             return Ok(());
         };
         let mut serving = Vec::new(self.alloc);
-        for (place, value) in self.firsts.iter().enumerate() {
-            if target.may_have_part(operation, wanted, *value) && serving.len() < self.most_judged {
+        for (values, (place, value)) in self.values.iter().zip(self.firsts.iter().enumerate()) {
+            let is_room = serving.len() < self.most_judged;
+            if is_room && target.may_have_parts(operation, values.as_slice()) {
                 serving.push((place, *value))?;
             }
         }

@@ -200,8 +200,18 @@ impl Target {
         }
     }
 
+    /// Whether a conjunction or disjunction of a kept term of these values and another one may be what is wanted at each point.
+    pub(crate) fn may_have_parts(&self, operation: Operation, values: &[u64]) -> bool {
+        for (wanted, value) in self.points.iter().zip(values) {
+            if !self.may_have_part(operation, wanted, *value) {
+                return false;
+            }
+        }
+        true
+    }
+
     /// Whether a conjunction or disjunction of the value and another one may be what is wanted.
-    pub(crate) fn may_have_part(&self, operation: Operation, wanted: &Wanted, value: u64) -> bool {
+    fn may_have_part(&self, operation: Operation, wanted: &Wanted, value: u64) -> bool {
         let wrong = match operation {
             Operation::And => wanted.value & (value ^ self.greatest),
             _ => value & (wanted.value ^ self.greatest),

@@ -8,9 +8,10 @@ use crate::tables::{Wanted, wanted_at, wanted_of};
 use crate::values::words_at;
 use std::alloc::Global;
 use sy_bank_level::Bank;
+use sy_grammar_base::Grammar;
 use sy_loop_bodies::{Aside, Task, point_of, try_term, wishes_of};
 use sy_query_base::Decide;
-use sy_terms::{Bodies, Term, Theory, Values, Want, copied_values};
+use sy_terms::{Bodies, Sort, Term, Theory, Values, Want, copied_values};
 
 /// At how many tuples of one assignment a body is judged at most.
 pub(crate) const MOST_WISHES: usize = 1_000_000;
@@ -19,8 +20,8 @@ pub(crate) const MOST_WISHES: usize = 1_000_000;
 const MOST_WRONG: usize = 16;
 
 /// A body that has the wanted values at the bank's points, found as one that chooses between kept terms, if it solves the
-/// problem: one that chooses little, or where it `is_last`, one that chooses often, or one below known operations where there
-/// are no variables and more than one bank is built. `None` where none was found to. Where it has other values than constraints
+/// problem: one that chooses little, or where it `is_last`, one that chooses often, or one below known operations over vectors
+/// where there are no variables and more than one bank is built. `None` where none was found to. Where it has other values than constraints
 /// want, some tuples at which it has are added to `wrong`: a bank over these as well may have better ones.
 pub fn solve_chosen<T: Theory, D: Decide<T>>(
     task: &Task<T>,
@@ -64,7 +65,7 @@ fn chosen_term<T: Theory>(
     let Some(words) = wanted_at(alloc, wanted, bank.points())? else {
         return Ok(None);
     };
-    let search = search_of(task, is_last);
+    let search = search_of(task, &function.grammar, is_last);
     let defs = &task.problem.defs;
     planned_term(
         alloc,
@@ -78,14 +79,25 @@ fn chosen_term<T: Theory>(
 }
 
 /// Which bodies are looked for.
-fn search_of<T: Theory>(task: &Task<T>, is_last: bool) -> Search {
+fn search_of<T: Theory>(task: &Task<T>, grammar: &Grammar<T>, is_last: bool) -> Search {
     if !is_last {
         return Search::Few;
     }
-    if task.problem.vars.len() == 0 && task.effort.banks > 1 {
+    if task.problem.vars.len() == 0 && task.effort.banks > 1 && gives_vectors(grammar) {
         return Search::Deep;
     }
     Search::Many
+}
+
+/// Whether the start symbol's terms are vectors.
+fn gives_vectors<T: Theory>(grammar: &Grammar<T>) -> bool {
+    match grammar.nons().get(0) {
+        Some(start) => match start.sort {
+            Sort::Bits(_) => true,
+            Sort::Bool | Sort::Int => false,
+        },
+        None => false,
+    }
 }
 
 /// Adds tuples at which the term has another value than is wanted there, evenly spaced.

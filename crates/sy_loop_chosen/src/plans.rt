@@ -1,6 +1,6 @@
 // Plans of bodies that choose, and the terms that they give.
 use crate::rules::{RuleValues, rules_of};
-use crate::tables::pools_of;
+use crate::tables::{complete_size, pools_of};
 use std::alloc::Global;
 use sy_bank_level::Bank;
 use sy_bank_rows::filled_part;
@@ -32,11 +32,12 @@ pub(crate) fn planned_term<T: Theory>(
 ) -> Result<Option<Term<T>>, Want> {
     let (shapes, rules) = rules_of(alloc, grammar, defs, bank.points())?;
     let pools = pools_of(alloc, grammar, bank)?;
+    let complete = complete_size(pools.as_slice());
     let task = Task {
         pools,
         shapes,
         wanted: words,
-        complete: bank.upto().saturating_sub(1),
+        complete,
     };
     let Some(plan) = plan_of(alloc, &rules, &task, search)? else {
         return Ok(None);

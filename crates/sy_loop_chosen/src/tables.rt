@@ -64,6 +64,17 @@ pub(crate) fn pools_of<T: Theory>(
     Ok(pools)
 }
 
+/// The size below that of the largest kept term: up to it all terms are kept, as far as their values differ.
+pub(crate) fn complete_size(pools: &[Pool]) -> u32 {
+    let mut largest = 0u32;
+    for pool in pools {
+        if let Some(column) = pool.columns.last() {
+            largest = largest.max(column.size);
+        }
+    }
+    largest.saturating_sub(1)
+}
+
 /// How many bits a value of the sort has, of whole numbers the lowest 64.
 fn bits_of(sort: Sort) -> u32 {
     match sort {
