@@ -9,6 +9,9 @@ use sy_terms::{Defs, Op, Seq, Sort, Term, Theory, Values, Want, copied_values};
 /// The most parts of a rule that is tried.
 const MOST_PARTS: usize = 5;
 
+/// Up to how many nodes of a rule are counted.
+const MOST_NODES: u64 = 1_000_000;
+
 /// A rule over the function's arguments and its own parts behind them: as a term, with the sorts of both.
 #[derive(Drop)]
 struct Ruled<T: Theory> {
@@ -55,8 +58,7 @@ pub(crate) fn rules_of<'a, T: Theory>(
     Ok((shapes, values))
 }
 
-/// The rule of this number of a nonterminal, as choices see it and as a term; `None` where it has no part, too many,
-/// or two and isn't quick.
+/// The rule of this number of a nonterminal, as choices see it and as a term; `None` where it isn't tried.
 fn ruled<T: Theory>(
     alloc: Global,
     grammar: &Grammar<T>,
@@ -64,32 +66,64 @@ fn ruled<T: Theory>(
     rule: u32,
     part: &Part<T>,
 ) -> Result<Option<(Shape, Ruled<T>)>, Want> {
-    let mut operands = Vec::new(alloc);
-    let mut sorts = Vec::from_slice(alloc, grammar.args().as_slice())?;
-    let mut places = Vec::new(alloc);
-    for place in 0..MOST_PARTS + 1 {
-        if let Ok(nonterminal) = part.occurrence(place) {
-            let Some(non) = grammar.nons().get(nonterminal as usize) else {
-                return Ok(None);
-            };
-            places.push(Term::Var(sorts.len() as u32))?;
-            sorts.push(non.sort)?;
-            operands.push(nonterminal)?;
-        }
-    }
+    let operands = operands_of(alloc, part)?;
     if !is_tried(part, operands.len()) {
         return Ok(None);
     }
-    let term = filled_part(alloc, part, places.as_slice())?;
-    let own = term.size(u64::from(u32::MAX)) as u32;
-    let size = own.saturating_sub(operands.len() as u32);
+    let Some(sorts) = sorts_with(alloc, grammar, operands.as_slice())? else {
+        return Ok(None);
+    };
+    let term = ruled_term(alloc, part, grammar.args().len(), operands.len())?;
+    let own = term.size(MOST_NODES).saturating_sub(operands.len() as u64);
     let shape = Shape {
         pool,
         rule,
-        size,
+        size: u32::try_from(own).unwrap_or(u32::MAX),
         operands,
     };
     Ok(Some((shape, Ruled { term, sorts })))
+}
+
+/// The nonterminals of the rule's parts, from left to right, at most one more than are tried.
+fn operands_of<T: Theory>(alloc: Global, part: &Part<T>) -> Result<Vec<u32>, Want> {
+    let mut operands = Vec::new(alloc);
+    for place in 0..=MOST_PARTS {
+        if let Ok(nonterminal) = part.occurrence(place) {
+            operands.push(nonterminal)?;
+        }
+    }
+    Ok(operands)
+}
+
+/// The sorts of the function's arguments, and behind them those of the nonterminals; `None` where one isn't the grammar's.
+fn sorts_with<T: Theory>(
+    alloc: Global,
+    grammar: &Grammar<T>,
+    operands: &[u32],
+) -> Result<Option<Vec<Sort>>, Want> {
+    let mut sorts = Vec::from_slice(alloc, grammar.args().as_slice())?;
+    for nonterminal in operands {
+        match grammar.nons().get(*nonterminal as usize) {
+            Some(non) => sorts.push(non.sort)?,
+            None => return Ok(None),
+        }
+    }
+    Ok(Some(sorts))
+}
+
+/// What the rule gives of variables that stand behind so many arguments.
+fn ruled_term<T: Theory>(
+    alloc: Global,
+    part: &Part<T>,
+    arguments: usize,
+    count: usize,
+) -> Result<Term<T>, Want> {
+    let mut places = Vec::new(alloc);
+    for number in 0..count {
+        let position = u32::try_from(arguments.saturating_add(number)).unwrap_or(u32::MAX);
+        places.push(Term::Var(position))?;
+    }
+    filled_part(alloc, part, places.as_slice())
 }
 
 /// Whether the rule of this part, with so many nonterminals, is tried. Those of two are tried over thousands of pairs of
