@@ -8,7 +8,6 @@ use crate::tables::{Wanted, wanted_at, wanted_of};
 use crate::values::words_at;
 use std::alloc::Global;
 use sy_bank_level::Bank;
-use sy_grammar_base::Grammar;
 use sy_loop_bodies::{Aside, Task, point_of, try_term, wishes_of};
 use sy_query_base::Decide;
 use sy_terms::{Bodies, Sort, Term, Theory, Values, Want, copied_values};
@@ -21,8 +20,8 @@ const MOST_WRONG: usize = 16;
 
 /// A body that has the wanted values at the bank's points, found as one that chooses between kept terms, if it solves the
 /// problem: one that chooses little, or where it `is_last`, one that chooses often, or one below known operations over vectors
-/// where there are no variables and more than one bank is built. `None` where none was found to. Where it has other values than constraints
-/// want, some tuples at which it has are added to `wrong`: a bank over these as well may have better ones.
+/// where there are no variables and more than one bank is built. `None` where none was found to. Where it has other values
+/// than constraints want, some tuples at which it has are added to `wrong`: a bank over these as well may have better ones.
 pub fn solve_chosen<T: Theory, D: Decide<T>>(
     task: &Task<T>,
     decide: &mut D,
@@ -38,9 +37,12 @@ pub fn solve_chosen<T: Theory, D: Decide<T>>(
     ensures assigned { OnOk result (AreAssignedFor T.Theory task.now.problem.now assignments.new.items) }
     ensures found { IfOk result (IsFoundFor T.Theory D.Decide task.now.problem.now task.now.bound) }
 {
+    let Some(search) = search_of(task, is_last) else {
+        return Ok(None);
+    };
     let wishes = wishes_of(task, assignments.as_slice(), MOST_WISHES)?;
     let wanted = wanted_of(task.alloc, wishes)?;
-    let Some(term) = chosen_term(task, bank, &wanted, is_last)? else {
+    let Some(term) = chosen_term(task, bank, &wanted, search)? else {
         return Ok(None);
     };
     let known = wrong.len();
@@ -56,7 +58,7 @@ fn chosen_term<T: Theory>(
     task: &Task<T>,
     bank: &Bank<T>,
     wanted: &Wanted<T>,
-    is_last: bool,
+    search: Search,
 ) -> Result<Option<Term<T>>, Want> {
     let alloc = task.alloc;
     let Some(function) = task.problem.wanted.get(0) else {
@@ -65,7 +67,6 @@ fn chosen_term<T: Theory>(
     let Some(words) = wanted_at(alloc, wanted, bank.points())? else {
         return Ok(None);
     };
-    let search = search_of(task, &function.grammar, is_last);
     let defs = &task.problem.defs;
     planned_term(
         alloc,
@@ -78,26 +79,22 @@ fn chosen_term<T: Theory>(
     )
 }
 
-/// Which bodies are looked for.
-fn search_of<T: Theory>(task: &Task<T>, grammar: &Grammar<T>, is_last: bool) -> Search {
+/// Which bodies are looked for; `None` where bodies are truth values, since formulas seldom choose.
+fn search_of<T: Theory>(task: &Task<T>, is_last: bool) -> Option<Search> {
+    let function = task.problem.wanted.get(0)?;
+    let start = function.grammar.nons().get(0)?;
+    let are_vectors = match start.sort {
+        Sort::Bits(_) => true,
+        Sort::Int => false,
+        Sort::Bool => return None,
+    };
     if !is_last {
-        return Search::Few;
+        return Some(Search::Few);
     }
-    if task.problem.vars.len() == 0 && task.effort.banks > 1 && gives_vectors(grammar) {
-        return Search::Deep;
+    if are_vectors && task.problem.vars.len() == 0 && task.effort.banks > 1 {
+        return Some(Search::Deep);
     }
-    Search::Many
-}
-
-/// Whether the start symbol's terms are vectors.
-fn gives_vectors<T: Theory>(grammar: &Grammar<T>) -> bool {
-    match grammar.nons().get(0) {
-        Some(start) => match start.sort {
-            Sort::Bits(_) => true,
-            Sort::Bool | Sort::Int => false,
-        },
-        None => false,
-    }
+    Some(Search::Many)
 }
 
 /// Adds tuples at which the term has another value than is wanted there, evenly spaced.

@@ -14,7 +14,7 @@ const MOST_NODES: u64 = 1_000_000;
 
 /// A rule over the function's arguments and its own parts behind them: as a term, with the sorts of both.
 #[derive(Drop)]
-struct Ruled<T: Theory> {
+struct RuleTerm<T: Theory> {
     term: Term<T>,
     sorts: Vec<Sort>,
 }
@@ -24,7 +24,7 @@ struct Ruled<T: Theory> {
 pub(crate) struct RuleValues<'a, T: Theory> {
     defs: &'a Defs<T>,
     points: &'a [Values<T>],
-    rules: Vec<Ruled<T>>,
+    rules: Vec<RuleTerm<T>>,
 }
 
 /// The rules of all nonterminals that have one to five parts, of those with two the quick ones, and their values at the points.
@@ -41,9 +41,9 @@ pub(crate) fn rules_of<'a, T: Theory>(
         let mut number = 0u32;
         for rule in non.rules.as_slice() {
             if let Rule::Term(part) = rule {
-                if let Some((shape, ruled)) = ruled(alloc, grammar, pool, number, part)? {
+                if let Some((shape, rule)) = tried_rule(alloc, grammar, pool, number, part)? {
                     shapes.push(shape)?;
-                    rules.push(ruled)?;
+                    rules.push(rule)?;
                 }
             }
             number = number.saturating_add(1);
@@ -59,13 +59,13 @@ pub(crate) fn rules_of<'a, T: Theory>(
 }
 
 /// The rule of this number of a nonterminal, as choices see it and as a term; `None` where it isn't tried.
-fn ruled<T: Theory>(
+fn tried_rule<T: Theory>(
     alloc: Global,
     grammar: &Grammar<T>,
     pool: u32,
     rule: u32,
     part: &Part<T>,
-) -> Result<Option<(Shape, Ruled<T>)>, Want> {
+) -> Result<Option<(Shape, RuleTerm<T>)>, Want> {
     let operands = operands_of(alloc, part)?;
     if !is_tried(part, operands.len()) {
         return Ok(None);
@@ -73,7 +73,7 @@ fn ruled<T: Theory>(
     let Some(sorts) = sorts_with(alloc, grammar, operands.as_slice())? else {
         return Ok(None);
     };
-    let term = ruled_term(alloc, part, grammar.args().len(), operands.len())?;
+    let term = rule_term(alloc, part, grammar.args().len(), operands.len())?;
     let own = term.size(MOST_NODES).saturating_sub(operands.len() as u64);
     let shape = Shape {
         pool,
@@ -81,7 +81,7 @@ fn ruled<T: Theory>(
         size: u32::try_from(own).unwrap_or(u32::MAX),
         operands,
     };
-    Ok(Some((shape, Ruled { term, sorts })))
+    Ok(Some((shape, RuleTerm { term, sorts })))
 }
 
 /// The nonterminals of the rule's parts, from left to right, at most one more than are tried.
@@ -112,7 +112,7 @@ fn sorts_with<T: Theory>(
 }
 
 /// What the rule gives of variables that stand behind so many arguments.
-fn ruled_term<T: Theory>(
+fn rule_term<T: Theory>(
     alloc: Global,
     part: &Part<T>,
     arguments: usize,
@@ -181,7 +181,7 @@ impl<'a, T: Theory> Rules for RuleValues<'a, T> {
 /// The point, and behind it what the rule's parts have there; `None` where one has no such value.
 fn tuple_at<T: Theory>(
     alloc: Global,
-    rule: &Ruled<T>,
+    rule: &RuleTerm<T>,
     arguments: &Values<T>,
     point: usize,
     parts: &[&[u64]],
