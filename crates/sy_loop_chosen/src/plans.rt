@@ -56,12 +56,12 @@ fn plan_of<T: Theory>(
     search: Search,
 ) -> Result<Option<Plan>, Want> {
     if search == Search::Deep {
-        let deep = below(alloc, rules, task)?;
+        let deep = below(alloc, &*rules, &*task)?;
         if deep.is_some() {
             return Ok(deep);
         }
     }
-    let chosen = choose(alloc, rules, task)?;
+    let chosen = choose(alloc, &*rules, &*task)?;
     if search == Search::Few && !chooses_little(&chosen) {
         return Ok(None);
     }
