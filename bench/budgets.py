@@ -10,7 +10,7 @@ search stores is one less than the former, and the most tuples of a function are
 these options are left out. Last stand the sums of both, in how many files each is less or equal by NEW, the files in
 which it is greater, and those that one of them alone answers.
 
-To see what the assignments do that are tried before a search, let `corner_model` of crates/sy_query_corners answer nothing
+To see what the assignments do that are tried before a search, let `corner_model` of crates/sy_query answer nothing
 in a clone, which its contract allows, and take the program of that clone as OLD.
 """
 import argparse

@@ -15,7 +15,7 @@ import sys
 
 TOP = pathlib.Path(__file__).resolve().parent.parent
 PAGE, CRATES = TOP / "docs" / "ARCHITECTURE.md", TOP / "crates.txt"
-CHECKERS, SOLVERS = ("sy_verify_logs", "sy_verify_trees"), re.compile("sy_cdcl|sy_simplex|sy_intsolve")
+CHECKERS, SOLVERS = ("sy_verify_proofs",), re.compile("sy_cdcl|sy_simplex|sy_intsolve")
 BEGIN, END = "<!-- index of crates, by tools/index.py -->", "<!-- end of the index -->"
 
 

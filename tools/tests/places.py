@@ -13,13 +13,13 @@ PLACE = re.compile(r"`(\w+/(?:src|specs|proofs)/[\w/]+\.(?:rt|antt))`(?: `(\w+)`
 # What one may look for, by words that a line of docs/ has to have, and the file that the line leads to.
 LOOKED_FOR = [
     ("query bit-blasted", "sy_bits_circuit/src/circuit.rt"),
-    ("representative merged", "sy_bank_offer/src/offering.rt"),
-    ("branch whole", "sy_intsolve_search/src/open.rt"),
+    ("representative merged", "sy_bank/src/offering.rt"),
+    ("branch whole", "sy_intsolve/src/open.rt"),
     ("CEGIS loop", "sy_loop/src/round.rt"),
     ("counterexamples list", "sy_points/src/stored.rt"),
     ("decision tree built", "sy_unify/src/join_tree.rt"),
     ("clause learned", "sy_cdcl/src/solver.rt"),
-    ("pivot Bland", "sy_simplex_tableau/src/choice.rt"),
+    ("pivot Bland", "sy_simplex/src/choice.rt"),
     ("cut checked", "sy_intsolve_cuts/src/checking.rt"),
     ("verification query", "sy_query/src/queries.rt"),
     ("infeasible decided", "sy_loop_claims/src/outcome.rt"),

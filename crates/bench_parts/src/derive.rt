@@ -9,9 +9,8 @@ use crate::lists::list;
 use crate::terms::{NONE, Node, add_term};
 use crate::words::{WANT, number};
 use std::alloc::Global;
+use sy_grammar::{derive, well_formed};
 use sy_grammar_base::{Grammar, Non, Part, Parts, Rule};
-use sy_grammar_checks::well_formed;
-use sy_grammar_derive::derive;
 use sy_meaning_integers::IntTheory;
 use sy_terms::{Op, Seq, Sort, Terms, Theory, Value, Want};
 

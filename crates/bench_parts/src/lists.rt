@@ -2,7 +2,7 @@
 ghost use Rattle.std.specs.Prelude.{◌≡◌, IfOk};
 
 use std::alloc::Global;
-use sy_linear_forms::Form;
+use sy_linear_known::Form;
 use sy_terms::{Seq, Want};
 
 /// Appends the item, which is let go of here where memory is refused.

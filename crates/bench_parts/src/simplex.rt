@@ -3,7 +3,7 @@
 use crate::lists::form;
 use crate::words::{WANT, number};
 use std::alloc::Global;
-use sy_linear_forms::Form;
+use sy_linear_known::Form;
 use sy_seq::{Seq, Want};
 use sy_simplex::{Feasible, are_forms, feasible};
 

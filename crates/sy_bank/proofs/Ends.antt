@@ -5,7 +5,7 @@ use Rattle.std.specs.Option.{option_map}
 use Rattle.sy_terms.specs.Values.{Val}
 use Rattle.sy_terms.specs.Meaning.{Function}
 use Rattle.sy_grammar_base.specs.Trees.{Syntax}
-use Rattle.sy_bank_rows.specs.Banks.{Entry, Lost, Merged, IsDropped}
+use Rattle.sy_bank_level.specs.Banks.{Entry, Lost, Merged, IsDropped}
 use Rattle.sy_bank.specs.Answers.{OnBank, IfFull}
 use Rattle.sy_bank_level.specs.Bank.{merged_of}
 use Rattle.sy_bank.specs.Promised.{IsBank, BankIsFull, IsNextBank, Stays}

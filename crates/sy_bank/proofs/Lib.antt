@@ -1,4 +1,13 @@
-pub mod Steps
+pub use Rattle.sy_bank_level.proofs.Points
+pub mod Begun
+pub mod ConstantSizes
+pub mod Digits
 pub mod Ends
+pub mod Entries
+pub mod Growing
+pub mod Items
+pub mod Least
+pub mod Offered
+pub mod Passed
 pub mod Places
-pub use Rattle.sy_bank_laws.proofs.Points
+pub mod Steps

@@ -7,7 +7,7 @@ use Rattle.sy_grammar_base.specs.Grown.{nonterminal_of, production_of}
 use Rattle.sy_grammar_base.specs.declared.grammar.Non.{Non}
 use Rattle.sy_grammar_base.specs.declared.grammar.Rule.{Rule}
 use Rattle.sy_bank_level.specs.Filling.{World}
-use Rattle.sy_bank_laws.proofs.TriedLemmas.{at-rule}
+use Rattle.sy_bank_level.proofs.TriedLemmas.{at-rule}
 
 pub place : {X Y : Type 0} (f : X → Y) (xs : List X) (i : ℕ) (x : X) → i < length xs → slice_get (map f xs) i ≡ Some (f (get_or xs i x))
 place f [] i x within = absurd (omega arith)

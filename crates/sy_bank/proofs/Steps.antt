@@ -4,14 +4,14 @@ use Rattle.sy_terms.specs.Values.{Val}
 use Rattle.sy_terms.specs.Meaning.{Function}
 use Rattle.sy_terms.specs.Fitting.{Scope}
 use Rattle.sy_grammar_base.specs.Trees.{Syntax}
-use Rattle.sy_bank_rows.specs.Banks.{Entry, Merged}
+use Rattle.sy_bank_level.specs.Banks.{Entry, Merged}
 use Rattle.sy_bank_level.specs.Filling.{World, LevelState, IsSteady, IsBeyond}
 use Rattle.sy_bank_level.specs.declared.table.Place.{Place}
-use Rattle.sy_bank_laws.specs.Indexed.{IsIndexed}
-use Rattle.sy_bank_laws.specs.Ready.{BankIsReady}
-use Rattle.sy_bank_laws.specs.Tried.{IsFilled}
-use Rattle.sy_bank_laws.proofs.LevelsLemmas.{stays-more}
-use Rattle.sy_bank_laws.proofs.Next.{world_at, extended, indexed-next, honest-next, ready-next, new-next}
+use Rattle.sy_bank_level.specs.Indexed.{IsIndexed}
+use Rattle.sy_bank_level.specs.Ready.{BankIsReady}
+use Rattle.sy_bank_level.specs.Tried.{IsFilled}
+use Rattle.sy_bank_level.proofs.LevelsLemmas.{stays-more}
+use Rattle.sy_bank_level.proofs.Next.{world_at, extended, indexed-next, honest-next, ready-next, new-next}
 use Rattle.sy_bank.specs.Promised.{BankIsFull, IsNextBank}
 
 -- the kept terms of the bank's next size, once they are found, and the bank that has them

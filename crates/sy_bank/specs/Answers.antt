@@ -4,11 +4,11 @@ use Rattle.sy_terms.specs.Values.{Val}
 use Rattle.sy_terms.specs.Meaning.{Function}
 use Rattle.sy_terms.specs.Fitting.{Scope}
 use Rattle.sy_grammar_base.specs.Trees.{Syntax}
-use Rattle.sy_bank_rows.specs.Banks.{Entry, Merged}
-use Rattle.sy_bank_rows.specs.Stored.{entry_of}
+use Rattle.sy_bank_level.specs.Banks.{Entry, Merged}
+use Rattle.sy_bank_level.specs.Stored.{entry_of}
 use Rattle.sy_bank_level.specs.Places.{places_of}
-use Rattle.sy_bank_laws.specs.Indexed.{IsIndexed}
-use Rattle.sy_bank_laws.specs.Ready.{BankIsReady}
+use Rattle.sy_bank_level.specs.Indexed.{IsIndexed}
+use Rattle.sy_bank_level.specs.Ready.{BankIsReady}
 use Rattle.sy_bank_level.specs.Bank.{merged_of}
 use Rattle.sy_bank_level.specs.declared.bank.Bank.{Bank}
 use Rattle.sy_bank.specs.declared.bank.BankEnd.{BankEnd}

@@ -1,6 +1,9 @@
+pub use Rattle.sy_bank_level.specs.Banks
+pub use Rattle.sy_bank_level.specs.Covering
+pub use Rattle.sy_bank_level.specs.Rows
+pub use Rattle.sy_bank_level.specs.Stored
 pub mod Answers
+pub mod Choosing
+pub mod Leaves
+pub mod Passing
 pub mod Promised
-pub use Rattle.sy_bank_rows.specs.Banks
-pub use Rattle.sy_bank_rows.specs.Covering
-pub use Rattle.sy_bank_rows.specs.Rows
-pub use Rattle.sy_bank_rows.specs.Stored

@@ -3,8 +3,8 @@ use Rattle.std.specs.Prelude.{ℕ, ◌+◌, ◌≡◌, ◌≤◌, List, length, 
 use Rattle.sy_terms.specs.Values.{Val}
 use Rattle.sy_terms.specs.Meaning.{Function}
 use Rattle.sy_grammar_base.specs.Trees.{Syntax}
-use Rattle.sy_bank_rows.specs.Banks.{Entry, Merged, kept_at, kept_count, IsHonestBank, IsDropped, IsNewEntry}
-use Rattle.sy_bank_rows.specs.Covering.{Covers}
+use Rattle.sy_bank_level.specs.Banks.{Entry, Merged, kept_at, kept_count, IsHonestBank, IsDropped, IsNewEntry}
+use Rattle.sy_bank_level.specs.Covering.{Covers}
 
 -- an honest bank over these points and up to this size, of at most so many terms; what it dropped was to be dropped
 pub record IsBank (syntax : Syntax) (defined : List Function) (pool : List Val) (points : List (List Val)) (upto cap : ℕ) (bank : Merged) : Type 0 where

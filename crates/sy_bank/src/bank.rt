@@ -2,8 +2,7 @@
 ghost use Rattle.std.specs.Prelude.{◌≡◌};
 
 use std::alloc::AllocFailed;
-use sy_bank_level::Bank;
-use sy_bank_rows::Kept;
+use sy_bank_level::{Bank, Kept};
 use sy_terms::{Theory, Want};
 
 /// Why no bank of all terms up to a size is built.

@@ -16,10 +16,10 @@ use Rattle.sy_terms.specs.Meaning.{Function, meaning, meanings, computable, all_
 use Rattle.sy_terms.specs.declared.op.Op.{Op}
 use Rattle.sy_terms.specs.declared.sort.Sort.{Sort}
 use Rattle.sy_terms.specs.declared.sort.Value.{Value}
-use Rattle.sy_terms_laws.specs.Evaluation.{HasValue, HaveValues}
-use Rattle.sy_terms_laws.proofs.Equations.{with_sort_Some, both_true}
-use Rattle.sy_terms_laws.proofs.Steps.{map-both}
-use Rattle.sy_bank_rows.specs.Columns.{column, constants, AreSized, HasRow, HaveRows}
+use Rattle.sy_terms_operators.specs.Evaluation.{HasValue, HaveValues}
+use Rattle.sy_terms_operators.proofs.Equations.{with_sort_Some, both_true}
+use Rattle.sy_terms_operators.proofs.Steps.{map-both}
+use Rattle.sy_bank_level.specs.Columns.{column, constants, AreSized, HasRow, HaveRows}
 use Rattle.sy_bank_columns.specs.Found.{IsColumnOf}
 
 sorts-last : (scope : Scope) (ss : List Sort) (terms : Exprs) (last : Expr) (found : List Sort) (s : Sort) → sorts_in scope ss terms ≡ Some found → sort_in scope ss last ≡ Some s → sorts_in scope ss (append terms (expr.more last expr.none)) ≡ Some (found ++ s ∷ [])

@@ -8,15 +8,15 @@ use Rattle.sy_terms.specs.Expr.{Expr}
 use Rattle.sy_terms.specs.Fitting.{Scope, sort_in, sorts_in}
 use Rattle.sy_terms.specs.Meaning.{Function, computable, all_computable}
 use Rattle.sy_terms.specs.declared.sort.Sort.{Sort}
-use Rattle.sy_terms_laws.proofs.Equations.{with_sort_Some}
+use Rattle.sy_terms_operators.proofs.Equations.{with_sort_Some}
 use Rattle.sy_grammar_base.specs.Patterns.{occurring, all_occurring, filled, all_filled, first_of}
 use Rattle.sy_grammar_base.specs.Written.{pattern_of, patterns_of}
 use Rattle.sy_grammar_base.specs.declared.part.Part.{Part}
-use Rattle.sy_bank_rows.specs.Covering as covering
-use Rattle.sy_bank_rows.specs.Shared.{term_from}
-use Rattle.sy_bank_rows.specs.declared.kept.Kept.{Kept}
-use Rattle.sy_bank_rows.proofs.Fillings.{filled-take, occurring-next}
-use Rattle.sy_bank_rows.specs.Stored.{chosen_of}
+use Rattle.sy_bank_level.specs.Covering as covering
+use Rattle.sy_bank_level.specs.Shared.{term_from}
+use Rattle.sy_bank_level.specs.declared.kept.Kept.{Kept}
+use Rattle.sy_bank_level.proofs.Fillings.{filled-take, occurring-next}
+use Rattle.sy_bank_level.specs.Stored.{chosen_of}
 
 -- one pattern of a list fits where the list does
 pub fits-at : {T N : Type 0} (number : N → Val) (scope : Scope) (ss : List Sort) (parts : List (Part T N)) (i : ℕ) (part : Part T N) (terms : List Expr) (sorts : List Sort) →

@@ -17,24 +17,24 @@ use Rattle.sy_terms.specs.declared.sort.Value.{Value}
 use Rattle.sy_terms.specs.declared.term.Def.{Def}
 use Rattle.sy_terms.specs.declared.term.Fun.{Fun}
 use Rattle.sy_terms.specs.declared.term.Fun.TheVariants.{Defined}
-use Rattle.sy_terms_laws.specs.Evaluation.{TermFits, HasValue, HaveValues, FitsWith, GivesValue, can_compute}
-use Rattle.sy_terms_laws.proofs.Cases as cases
-use Rattle.sy_terms_laws.proofs.Equations.{value_at_position_is}
-use Rattle.sy_terms_laws.proofs.OperatorSorts.{op_value-sort}
+use Rattle.sy_terms_operators.specs.Evaluation.{TermFits, HasValue, HaveValues, FitsWith, GivesValue, can_compute}
+use Rattle.sy_terms_operators.proofs.Cases as cases
+use Rattle.sy_terms_operators.proofs.Equations.{value_at_position_is}
+use Rattle.sy_terms_operators.proofs.OperatorSorts.{op_value-sort}
 use Rattle.sy_grammar_base.specs.Patterns.{filled, all_filled, first_of}
 use Rattle.sy_grammar_base.specs.Written.{pattern_of, patterns_of, pattern_of-Const, pattern_of-Var, pattern_of-Non, pattern_of-App, pattern_of-Call}
 use Rattle.sy_grammar_base.specs.declared.part.Part.{Part, Const, Var, Non, App, Call}
 use Rattle.sy_grammar_base.specs.declared.part.Parts.{Parts}
 use denote.Ref.{Bor}
-use Rattle.sy_bank_rows.specs.Rows.{IsLostAt}
-use Rattle.sy_bank_rows.specs.Covering as covering
-use Rattle.sy_bank_rows.specs.Stored.{entry_of, chosen_of}
-use Rattle.sy_bank_rows.specs.declared.kept.Kept.{Kept}
-use Rattle.sy_bank_rows.specs.Columns.{column, constants, FitsAt, FitAt, HasRow, HaveRows}
-use Rattle.sy_bank_rows.specs.Chosen.{ArePoints, AreRows}
+use Rattle.sy_bank_level.specs.Rows.{IsLostAt}
+use Rattle.sy_bank_level.specs.Covering as covering
+use Rattle.sy_bank_level.specs.Stored.{entry_of, chosen_of}
+use Rattle.sy_bank_level.specs.declared.kept.Kept.{Kept}
+use Rattle.sy_bank_level.specs.Columns.{column, constants, FitsAt, FitAt, HasRow, HaveRows}
+use Rattle.sy_bank_level.specs.Chosen.{ArePoints, AreRows}
 use Rattle.sy_bank_columns.specs.declared.ends.RowEnd.{RowEnd}
 use Rattle.sy_bank_columns.specs.declared.ends.RowEnd.TheVariants.{Lost, Want}
-use Rattle.sy_bank_rows.proofs.Fillings.{filled-Constant, filled-Variable, filled-Occurrence, filled-Apply, filled-Invoke}
+use Rattle.sy_bank_level.proofs.Fillings.{filled-Constant, filled-Variable, filled-Occurrence, filled-Apply, filled-Invoke}
 use Rattle.sy_bank_columns.proofs.Fillings.{first-chosen}
 use Rattle.sy_bank_columns.specs.Found.{IsColumnOf, IsOneLostAt, WhereLost, IsLoss}
 

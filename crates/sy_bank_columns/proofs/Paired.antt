@@ -14,12 +14,12 @@ use Rattle.sy_terms.specs.declared.sort.Value.{Value}
 use Rattle.sy_grammar_base.specs.Patterns.{occurring, all_occurring, filled, all_filled}
 use Rattle.sy_grammar_base.specs.Written.{pattern_of, patterns_of}
 use Rattle.sy_grammar_base.specs.declared.part.Part.{Part}
-use Rattle.sy_bank_rows.specs.Rows.{IsLostAt}
-use Rattle.sy_bank_rows.specs.Covering.{terms}
-use Rattle.sy_bank_rows.specs.Columns.{FitsAt, HasRow, HaveRows}
-use Rattle.sy_bank_rows.specs.declared.kept.Kept.{Kept}
-use Rattle.sy_bank_rows.proofs.Fillings.{all_filled-none}
-use Rattle.sy_bank_rows.specs.Stored.{chosen_of}
+use Rattle.sy_bank_level.specs.Rows.{IsLostAt}
+use Rattle.sy_bank_level.specs.Covering.{terms}
+use Rattle.sy_bank_level.specs.Columns.{FitsAt, HasRow, HaveRows}
+use Rattle.sy_bank_level.specs.declared.kept.Kept.{Kept}
+use Rattle.sy_bank_level.proofs.Fillings.{all_filled-none}
+use Rattle.sy_bank_level.specs.Stored.{chosen_of}
 use Rattle.sy_bank_columns.proofs.Forms.{apply-sorted, apply-row, apply-lost}
 use Rattle.sy_bank_columns.proofs.Pieces.{rows-none, rows-next}
 

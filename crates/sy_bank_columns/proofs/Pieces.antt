@@ -9,20 +9,20 @@ use Rattle.sy_terms.specs.Theories.{sort_of_value}
 use Rattle.sy_terms.specs.Meaning.{Function, computable}
 use Rattle.sy_terms.specs.Fitting.{Scope}
 use Rattle.sy_terms.specs.declared.op.Op.{Op}
-use Rattle.sy_terms_laws.proofs.Cases as cases
-use Rattle.sy_terms_laws.proofs.Lists.{HaveValues-none}
+use Rattle.sy_terms_operators.proofs.Cases as cases
+use Rattle.sy_terms_operators.proofs.Lists.{HaveValues-none}
 use Rattle.sy_grammar_base.specs.Patterns.{all_occurring, filled, all_filled}
 use Rattle.sy_grammar_base.specs.Written.{pattern_of, patterns_of}
 use Rattle.sy_grammar_base.specs.declared.part.Part.{Part}
-use Rattle.sy_bank_rows.specs.Rows.{IsLostAt}
-use Rattle.sy_bank_rows.specs.Covering.{terms}
-use Rattle.sy_bank_rows.specs.Columns.{FitsAt, FitAt, HasRow, HaveRows}
-use Rattle.sy_bank_rows.specs.declared.kept.Kept.{Kept}
-use Rattle.sy_bank_rows.specs.Stored.{chosen_of}
-use Rattle.sy_bank_rows.specs.Chosen.{AreRows}
+use Rattle.sy_bank_level.specs.Rows.{IsLostAt}
+use Rattle.sy_bank_level.specs.Covering.{terms}
+use Rattle.sy_bank_level.specs.Columns.{FitsAt, FitAt, HasRow, HaveRows}
+use Rattle.sy_bank_level.specs.declared.kept.Kept.{Kept}
+use Rattle.sy_bank_level.specs.Stored.{chosen_of}
+use Rattle.sy_bank_level.specs.Chosen.{AreRows}
 use Rattle.sy_bank_columns.specs.Found.{IsOneLostAt}
 use Rattle.sy_bank_columns.proofs.ByPoint.{rows-last}
-use Rattle.sy_bank_rows.proofs.Fillings.{filled-next}
+use Rattle.sy_bank_level.proofs.Fillings.{filled-next}
 use Rattle.sy_bank_columns.proofs.Fillings.{fits-at, lost-at, chosen-from}
 use Rattle.sy_bank_columns.proofs.Forms.{point-at}
 

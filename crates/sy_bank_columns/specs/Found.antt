@@ -6,7 +6,7 @@ use Rattle.sy_terms.specs.Operators.{op_value}
 use Rattle.sy_terms.specs.Theories.{fits, valid}
 use Rattle.sy_terms.specs.Meaning.{Function, all_computable, value_at_position}
 use Rattle.sy_terms.specs.declared.op.Op.{Op}
-use Rattle.sy_bank_rows.specs.Columns.{column}
+use Rattle.sy_bank_level.specs.Columns.{column}
 use Rattle.sy_bank_columns.specs.declared.ends.RowEnd.{RowEnd}
 use Rattle.sy_bank_columns.specs.declared.ends.RowEnd.TheVariants.{Lost, Want}
 

@@ -1,7 +1,7 @@
 -- Sizes of which nothing is kept.
 use Rattle.std.proofs.Common.{◌≡◌, ℕ, zero, suc, List, [], ◌∷◌, ◌++◌, refl, arith, replicate}
 use Rattle.std.specs.Prelude.{slice_index_or}
-use Rattle.sy_bank_rows.specs.Banks.{kept_at, kept_count, count_of}
+use Rattle.sy_bank_level.specs.Banks.{kept_at, kept_count, count_of}
 
 no-list : {X : Type 0} (m n : ℕ) → slice_index_or {A = List X} (replicate n []) m [] ≡ []
 no-list m zero = refl

@@ -3,7 +3,7 @@ use Rattle.std.proofs.Common.{◌≡◌, ℕ, zero, suc, ◌+◌, List, [], ◌�
 use Rattle.std.specs.Prelude.{drop}
 use Rattle.std.proofs.lemmas.Option.{none-some, same_Some}
 use Rattle.sy_terms.specs.Values.{Val}
-use Rattle.sy_bank_rows.specs.Banks.{Entry}
+use Rattle.sy_bank_level.specs.Banks.{Entry}
 use Rattle.sy_bank_level.specs.Filling.{RowIsThere, AreOther}
 use Rattle.sy_bank_level.specs.declared.table.Place.{Place}
 

@@ -10,11 +10,11 @@ use Rattle.sy_terms.specs.declared.sort.Sort.{Sort}
 use Rattle.sy_terms.specs.declared.sort.Sort.TheVariants as sorts
 use Rattle.sy_grammar_base.specs.Patterns.{Pattern, occurring, filled, own_size}
 use Rattle.sy_grammar_base.specs.Trees.{Node}
-use Rattle.sy_bank_rows.specs.Banks.{Entry, IsKept, IsDropped}
-use Rattle.sy_bank_rows.specs.Rows.{IsRow, IsLostAt}
-use Rattle.sy_bank_rows.specs.Covering.{AreKept, sizes, terms}
-use Rattle.sy_bank_rows.specs.Columns.{FitsAt, HasRow}
-use Rattle.sy_bank_rows.specs.Chosen.{AreRows, children}
+use Rattle.sy_bank_level.specs.Banks.{Entry, IsKept, IsDropped}
+use Rattle.sy_bank_level.specs.Rows.{IsRow, IsLostAt}
+use Rattle.sy_bank_level.specs.Covering.{AreKept, sizes, terms}
+use Rattle.sy_bank_level.specs.Columns.{FitsAt, HasRow}
+use Rattle.sy_bank_level.specs.Chosen.{AreRows, children}
 use Rattle.sy_bank_level.specs.Hashing.{hash_from}
 use Rattle.sy_bank_level.specs.Filling.{World, LevelState, all_levels, EntryIsRight, IsSteady, IsNewRow, TermIsDone, AreOther}
 use Rattle.sy_bank_level.proofs.Kept.{kept_at-before, size-within}

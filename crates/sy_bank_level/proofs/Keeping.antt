@@ -1,7 +1,7 @@
 -- What holds once a new term is kept, and once one is dropped.
 use Rattle.std.proofs.Common.{◌≡◌, ℕ, ◌+◌, ◌<◌, List, [], length, refl, ap, sym, ◌∙◌, Some, slice_get, arith, subst, inl, inr}
 use Rattle.std.specs.Prelude.{slice_index_or}
-use Rattle.sy_bank_rows.specs.Banks.{Entry, Lost, kept_at, IsKept, IsDropped}
+use Rattle.sy_bank_level.specs.Banks.{Entry, Lost, kept_at, IsKept, IsDropped}
 use Rattle.sy_bank_level.specs.Hashing.{hash_from, PlaceIsAdded}
 use Rattle.sy_bank_level.specs.Filling.{World, LevelState, all_levels, EntryIsRight, IsNewRow, IsSteady, LevelGrows, TermIsDone}
 use Rattle.sy_bank_level.specs.declared.table.Place.{Place}

@@ -2,7 +2,7 @@
 use Rattle.std.proofs.Common.{◌≡◌, ℕ, zero, suc, ◌+◌, ◌<◌, List, [], ◌∷◌, ◌++◌, length, refl, ap, Some, slice_get, arith, ◌⊎◌, inl, inr}
 use Rattle.std.specs.Prelude.{slice_index_or, slice_set}
 use Rattle.std.proofs.lemmas.Option.{none-some}
-use Rattle.sy_bank_rows.specs.Banks.{kept_at, kept_count, count_of}
+use Rattle.sy_bank_level.specs.Banks.{kept_at, kept_count, count_of}
 
 -- lists of the nonterminals, with one item more for one of them
 abbrev pub pushed : {X : Type 0} → List (List X) → ℕ → X → List (List X)

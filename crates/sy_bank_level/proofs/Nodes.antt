@@ -11,13 +11,13 @@ use Rattle.sy_terms.specs.declared.sort.Sort.TheVariants as sorts
 use Rattle.sy_grammar_base.specs.Patterns.{Pattern, occurring, filled, own_size}
 use Rattle.sy_grammar_base.specs.Trees.{Syntax, Nonterminal, Template, Tree, Node, Derives, rule_at, yield_from, yields_from, tree_size, tree_sizes}
 use Rattle.sy_grammar_base.specs.Formed.{is_formed}
-use Rattle.sy_grammar_laws.proofs.Members.{derived_fits}
-use Rattle.sy_grammar_laws.proofs.Filling.{sort_at}
-use Rattle.sy_bank_rows.specs.Banks.{Entry, EntryIsSound}
-use Rattle.sy_bank_rows.specs.Covering.{sizes, terms}
-use Rattle.sy_bank_rows.specs.Columns.{FitsAt}
-use Rattle.sy_bank_rows.specs.Chosen.{children}
-use Rattle.sy_bank_rows.specs.Rows.{ArePointsOf}
+use Rattle.sy_grammar_base.proofs.Members.{derived_fits}
+use Rattle.sy_grammar_base.proofs.Filling.{sort_at}
+use Rattle.sy_bank_level.specs.Banks.{Entry, EntryIsSound}
+use Rattle.sy_bank_level.specs.Covering.{sizes, terms}
+use Rattle.sy_bank_level.specs.Columns.{FitsAt}
+use Rattle.sy_bank_level.specs.Chosen.{children}
+use Rattle.sy_bank_level.specs.Rows.{ArePointsOf}
 
 -- each is sound for its nonterminal
 abbrev pub AreSound : Syntax → List Function → List Val → List (List Val) → List ℕ → List Entry → Type 0

@@ -3,8 +3,8 @@ use Rattle.std.specs.Prelude.{map}
 use Rattle.std.specs.Option.{option_map}
 use Rattle.sy_terms.specs.Values.{Val}
 use Rattle.sy_terms.specs.Denoted.{vals_of}
-use Rattle.sy_bank_rows.specs.Banks.{Merged}
-use Rattle.sy_bank_rows.specs.Stored.{lost_of}
+use Rattle.sy_bank_level.specs.Banks.{Merged}
+use Rattle.sy_bank_level.specs.Stored.{lost_of}
 use Rattle.sy_bank_level.specs.Task.{levels_of}
 use Rattle.sy_bank_level.specs.declared.bank.Bank.{Bank}
 

@@ -5,9 +5,9 @@ use Rattle.sy_terms.specs.Expr.{Expr}
 use Rattle.sy_terms.specs.Meaning.{Function}
 use Rattle.sy_terms.specs.Fitting.{Scope}
 use Rattle.sy_grammar_base.specs.Trees.{Syntax}
-use Rattle.sy_bank_rows.specs.Banks.{Entry, Lost, kept_at, kept_count, IsKept, EntryIsSound, IsDropped}
-use Rattle.sy_bank_rows.specs.Covering.{IsCovered}
-use Rattle.sy_bank_rows.specs.Columns.{HasRow}
+use Rattle.sy_bank_level.specs.Banks.{Entry, Lost, kept_at, kept_count, IsKept, EntryIsSound, IsDropped}
+use Rattle.sy_bank_level.specs.Covering.{IsCovered}
+use Rattle.sy_bank_level.specs.Columns.{HasRow}
 use Rattle.sy_bank_level.specs.Hashing.{HasPlace, hash_from}
 use Rattle.sy_bank_level.specs.declared.table.Place.{Place}
 

@@ -1,6 +1,16 @@
 pub mod Bank
+pub mod Banks
+pub mod Chosen
+pub mod Columns
+pub mod Covering
 pub mod Filling
 pub mod Hashing
+pub mod Indexed
 pub mod Places
+pub mod Ready
+pub mod Rows
+pub mod Shared
+pub mod Stored
 pub mod Task
 pub mod Tasks
+pub mod Tried

@@ -7,8 +7,8 @@ use Rattle.sy_terms.specs.Definitions.{scope_of, bodies}
 use Rattle.sy_terms.specs.Meaning.{functions}
 use Rattle.sy_terms.specs.declared.op.Op.{Op}
 use Rattle.sy_grammar_base.specs.Grown.{syntax_from}
-use Rattle.sy_bank_rows.specs.Banks.{Entry}
-use Rattle.sy_bank_rows.specs.Stored.{entry_of, entries_of, lost_of}
+use Rattle.sy_bank_level.specs.Banks.{Entry}
+use Rattle.sy_bank_level.specs.Stored.{entry_of, entries_of, lost_of}
 use Rattle.sy_bank_level.specs.Places.{places_of}
 use Rattle.sy_bank_level.specs.Filling.{World, LevelState, IsSteady, IsBeyond}
 use Rattle.sy_bank_level.specs.declared.task.Task.{Task}

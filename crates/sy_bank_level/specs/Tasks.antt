@@ -7,7 +7,7 @@ use Rattle.sy_terms.specs.declared.sort.Sort.{Sort}
 use Rattle.sy_grammar_base.specs.Patterns.{Pattern}
 use Rattle.sy_grammar_base.specs.Trees.{Syntax, Template, rule_at}
 use Rattle.sy_grammar_base.specs.Formed.{is_formed}
-use Rattle.sy_bank_rows.specs.Rows.{ArePointsOf}
+use Rattle.sy_bank_level.specs.Rows.{ArePointsOf}
 use Rattle.sy_bank_level.specs.Filling.{World}
 use Rattle.sy_bank_level.specs.Task.{world}
 use Rattle.sy_bank_level.specs.declared.task.Task.{Task}

@@ -2,13 +2,13 @@
 ghost use Rattle.std.specs.Prelude.{◌≡◌, map};
 ghost use Rattle.std.specs.Option.{option_map};
 ghost use Rattle.sy_terms.specs.Denoted.{vals_of};
-ghost use Rattle.sy_bank_rows.specs.Banks.{kept_at};
-ghost use Rattle.sy_bank_rows.specs.Stored.{entries_of, lost_of};
+ghost use Rattle.sy_bank_level.specs.Banks.{kept_at};
+ghost use Rattle.sy_bank_level.specs.Stored.{entries_of, lost_of};
 ghost use Rattle.sy_bank_level.specs.Bank.{merged_of};
 
+use crate::kept::{Dropped, Kept};
 use crate::level::Level;
 use crate::table::Table;
-use sy_bank_rows::{Dropped, Kept};
 use sy_terms::{Seq, Theory, Values};
 
 /// The kept terms of a grammar up to a size, by size and nonterminal, at most one for each row of values at the
@@ -44,7 +44,8 @@ impl<T: Theory> Bank<T> {
 
     /// The term that was dropped, which isn't computable at its point; `None` exactly where none was.
     pub fn overflow(&self) -> Option<&Dropped<T>>
-        ensures { option_map (λ dropped. lost_of T.denotes dropped.now) result ≡ (merged_of T.denotes self.now).dropped }
+        ensures { option_map (λ dropped. lost_of T.denotes dropped.now) result ≡
+            (merged_of T.denotes self.now).dropped }
     {
         self.dropped.as_ref()
     }

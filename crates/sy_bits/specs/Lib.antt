@@ -1,3 +1,3 @@
 pub mod Proofs
 pub mod Soundness
-pub use Rattle.sy_bits_terms.specs.Clauses
+pub use Rattle.sy_bits_circuit.specs.Clauses

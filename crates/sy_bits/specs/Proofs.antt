@@ -3,7 +3,7 @@ use Rattle.sy_query_limits.specs.declared.FailName.{FailName}
 use Rattle.sy_query_limits.specs.declared.FailName.TheVariants as names
 use Rattle.sy_query_limits.specs.declared.Limits.{Limits}
 use Rattle.sy_query_base.specs.Asked.{Query}
-use Rattle.sy_bits_terms.specs.Clauses.{Proves, ClausesAreSpent}
+use Rattle.sy_bits_circuit.specs.Clauses.{Proves, ClausesAreSpent}
 use Rattle.sy_bits.specs.declared.answers.BvProof.{BvProof}
 use Rattle.sy_bits.specs.declared.answers.BvSpent.{BvSpent}
 use Rattle.sy_bits.specs.declared.answers.BvSpent.TheVariants.{Clauses}

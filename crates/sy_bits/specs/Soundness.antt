@@ -2,7 +2,7 @@
 use Rattle.sy_query_base.specs.Asked.{Query, QueryFits, IsNever}
 use Rattle.sy_meaning_words.specs.Vectors.{owned, is_bits}
 use Rattle.sy_clauses.proofs.Law.{refuted_has_no_model}
-use Rattle.sy_bits_terms.proofs.Laws.{never}
+use Rattle.sy_bits_circuit.proofs.Laws.{never}
 use Rattle.sy_bits.specs.declared.answers.BvProof.{BvProof}
 use Rattle.sy_bits.specs.Proofs.{Accepted}
 

@@ -7,5 +7,4 @@ mod turns;
 
 pub use answers::{BvProof, BvSpent};
 pub use decider::BvDecide;
-pub use sy_bits_circuit::{Circuit, blast};
-pub use sy_bits_clauses::fits;
+pub use sy_bits_circuit::{Circuit, blast, fits};

@@ -13,8 +13,8 @@ use Rattle.sy_gates.specs.Models.{values_of}
 use Rattle.sy_gates.proofs.Words.{word_number-push, word_bound-push}
 use Rattle.sy_bits_operators.specs.declared.signal.Signal.{Signal}
 use Rattle.sy_bits_operators.specs.Signals.{signal_value, signal_values, signal_sort, signal_sorts, signal_bound, signals_bound, sort_width, total_width, has_signals, AllHaveSignals}
-use Rattle.sy_bits_terms.specs.Assignments.{number_of_bits, value_of_bits, assignment}
-use Rattle.sy_bits_terms.proofs.Reading.{number_of-more}
+use Rattle.sy_bits_circuit.specs.Assignments.{number_of_bits, value_of_bits, assignment}
+use Rattle.sy_bits_circuit.proofs.TermsReading.{number_of-more}
 
 -- the bit of a variable
 abbrev pub of_variable : ℕ → Bit

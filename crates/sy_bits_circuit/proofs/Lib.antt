@@ -1,3 +1,13 @@
+pub mod Alike
+pub mod Arguments
+pub mod Bounded
+pub mod Constants
+pub mod Encoded
 pub mod Entering
+pub mod Laws
+pub mod Parts
 pub mod Reading
+pub mod Rows
 pub mod Saying
+pub mod TermsReading
+pub mod Words

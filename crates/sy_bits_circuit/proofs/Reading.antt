@@ -18,10 +18,10 @@ use Rattle.sy_clauses.specs.Clauses.{IsModel}
 use Rattle.sy_gates.specs.Models.{values_of}
 use Rattle.sy_query_base.specs.Asked.{Query, Satisfies}
 use Rattle.sy_bits_operators.specs.Signals.{has_signals, sort_width}
-use Rattle.sy_bits_terms.specs.Assignments.{number_of_bits, value_of_bits, assignment}
-use Rattle.sy_bits_terms.specs.Clauses.{HasCircuitClauses}
-use Rattle.sy_bits_terms.proofs.Laws.{reads}
-use Rattle.sy_bits_terms.proofs.Reading.{number_of-more, number-fits}
+use Rattle.sy_bits_circuit.specs.Assignments.{number_of_bits, value_of_bits, assignment}
+use Rattle.sy_bits_circuit.specs.Clauses.{HasCircuitClauses}
+use Rattle.sy_bits_circuit.proofs.Laws.{reads}
+use Rattle.sy_bits_circuit.proofs.TermsReading.{number_of-more, number-fits}
 
 -- so many bits make a number of 64
 pub below-64 : (bits : List Bool) (i : ℕ) → i ≤ 64 → number_of_bits (take i bits) < 2 ^ 64

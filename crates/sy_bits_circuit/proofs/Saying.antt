@@ -16,10 +16,10 @@ use Rattle.sy_meaning_words.specs.Vectors.{owned, is_bits}
 use Rattle.sy_bits_operators.specs.declared.signal.Signal.{Signal}
 use Rattle.sy_bits_operators.specs.declared.signal.Signal.TheVariants as signals
 use Rattle.sy_bits_operators.specs.Signals.{signal_value, signal_sort, total_width}
-use Rattle.sy_bits_terms.specs.Assignments.{assignment}
-use Rattle.sy_bits_terms.specs.Clauses.{HasCircuitClauses}
-use Rattle.sy_bits_terms.proofs.Laws.{variables-have}
-use Rattle.sy_bits_terms.proofs.Reading.{read-values}
+use Rattle.sy_bits_circuit.specs.Assignments.{assignment}
+use Rattle.sy_bits_circuit.specs.Clauses.{HasCircuitClauses}
+use Rattle.sy_bits_circuit.proofs.Laws.{variables-have}
+use Rattle.sy_bits_circuit.proofs.TermsReading.{read-values}
 use Rattle.sy_bits_circuit.specs.Bodies.{IsBodyOf}
 
 some-same : {X : Type 0} (x y : X) → Some x ≡ Some y → x ≡ y

@@ -7,8 +7,8 @@ use Rattle.sy_gates.specs.Models.{values_of}
 use Rattle.sy_query_base.specs.Asked.{Query}
 use Rattle.sy_bits_operators.specs.declared.signal.Signal.{Signal}
 use Rattle.sy_bits_operators.specs.Signals.{signal_value, signal_sort, signal_bound, total_width}
-use Rattle.sy_bits_terms.specs.Assignments.{assignment}
-use Rattle.sy_bits_terms.specs.Fitting.{most_gates}
+use Rattle.sy_bits_circuit.specs.Assignments.{assignment}
+use Rattle.sy_bits_circuit.specs.Fitting.{most_gates}
 
 -- The circuit's inputs are the bits of the query's variables. Wherever its gates are followed, the signal is the
 -- truth value that the body has at the assignment of these bits. There are few gates.

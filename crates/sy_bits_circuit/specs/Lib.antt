@@ -1,1 +1,5 @@
+pub mod Alike
+pub mod Assignments
 pub mod Bodies
+pub mod Clauses
+pub mod Fitting

@@ -6,16 +6,16 @@ ghost use Rattle.sy_gates.specs.Models.{values_of};
 ghost use Rattle.sy_meaning_words.specs.Vectors.{vector, owned, is_bits};
 ghost use Rattle.sy_query_base.specs.Asked as asked;
 ghost use Rattle.sy_query_base.specs.Asked.{query_of, QueryFits, Satisfies};
-ghost use Rattle.sy_bits_terms.specs.Assignments.{assignment};
-ghost use Rattle.sy_bits_terms.specs.Clauses.{HasCircuitClauses, query_size};
+ghost use Rattle.sy_bits_circuit.specs.Assignments.{assignment};
+ghost use Rattle.sy_bits_circuit.specs.Clauses.{HasCircuitClauses, query_size};
 ghost use Rattle.sy_bits_circuit.specs.Bodies.{IsBodyOf};
 
 use crate::inputs::{Inputs, input_signals};
+use crate::terms::signal_of;
 use crate::values::read_values;
 use std::alloc::Global;
 use std::marker::Model;
 use sy_bits_operators::Signal;
-use sy_bits_terms::signal_of;
 use sy_bits_words::Words;
 use sy_clauses::Cnf;
 use sy_meaning_words::BvTheory;
@@ -23,8 +23,8 @@ use sy_query_base::Query;
 use sy_seq::{Seq, Want};
 use sy_terms::{Sort, Values};
 
-/// The clauses of a query's circuit. The bits of the query's variables come first among the variables of the clauses: one
-/// variable of the query after the other, each from its least bit on; a truth value is one bit.
+/// The clauses of a query's circuit. The bits of the query's variables come first among the variables of the clauses:
+/// one variable of the query after the other, each from its least bit on; a truth value is one bit.
 #[derive(Drop)]
 pub struct Circuit {
     variables: Seq<Sort>,
@@ -34,7 +34,7 @@ pub struct Circuit {
 impl Model for Circuit {
     ghost use Rattle.std.specs.Prelude.{◌≤◌};
     ghost use Rattle.sy_bits_operators.specs.Signals.{AllHaveSignals, total_width};
-    ghost use Rattle.sy_bits_terms.specs.Clauses.{Blasted};
+    ghost use Rattle.sy_bits_circuit.specs.Clauses.{Blasted};
 
     ghost Value = { Blasted };
 

@@ -2,8 +2,17 @@
 #![tactic(auto)]
 
 mod circuit;
+mod clauses;
+mod closed;
+mod fitting;
 mod inputs;
+mod leaves;
+mod room;
+mod terms;
 mod values;
 mod width;
 
 pub use circuit::{Circuit, blast};
+pub use clauses::query_circuit;
+pub use fitting::fits;
+pub use terms::{signal_of, signals_of};

@@ -3,7 +3,7 @@ ghost use Rattle.std.specs.Prelude.{◌≡◌, ◌≤◌, true, length, IfOk};
 ghost use Rattle.sy_terms.specs.Denoted.{val_of, vals_of};
 ghost use Rattle.sy_meaning_words.specs.Vectors.{vector};
 ghost use Rattle.sy_bits_operators.specs.Signals.{sort_width, total_width, has_signals, AllHaveSignals};
-ghost use Rattle.sy_bits_terms.specs.Assignments.{number_of_bits, value_of_bits, assignment};
+ghost use Rattle.sy_bits_circuit.specs.Assignments.{number_of_bits, value_of_bits, assignment};
 
 use crate::width::width_of;
 use std::alloc::Global;

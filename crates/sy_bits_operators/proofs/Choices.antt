@@ -11,7 +11,7 @@ use Rattle.sy_terms.specs.declared.sort.Sort.{Sort}
 use Rattle.sy_terms.specs.declared.sort.Sort.TheVariants as sorts
 use Rattle.sy_terms.specs.declared.sorts.Sorted.TheVariants.{Is, Mismatch}
 use Rattle.sy_meaning_core.proofs.Three.{ite-three}
-use Rattle.sy_terms_laws.proofs.Equations.{same_sort_is}
+use Rattle.sy_terms_operators.proofs.Equations.{same_sort_is}
 use Rattle.sy_meaning_words.specs.Vectors.{TakesSorts, has_a_sort}
 use Rattle.sy_bits_operators.specs.declared.signal.Signal.{Signal}
 use Rattle.sy_bits_operators.specs.Signals.{signal_value, signal_values, signal_sort, signal_sorts, signal_bound, signals_bound, sort_width}

@@ -15,7 +15,7 @@ use Rattle.sy_terms.specs.declared.op.Op.TheVariants as ops
 use Rattle.sy_terms.specs.declared.sort.Sort.{Sort}
 use Rattle.sy_terms.specs.declared.sort.Sort.TheVariants as sorts
 use Rattle.sy_terms.specs.declared.sorts.Sorted.TheVariants.{Is, Mismatch}
-use Rattle.sy_terms_laws.proofs.OperatorSorts.{op_value-sort}
+use Rattle.sy_terms_operators.proofs.OperatorSorts.{op_value-sort}
 use Rattle.sy_meaning_words.specs.Vectors.{is_folded, is_bits, TakesMany}
 use Rattle.sy_bits_operators.proofs.Taken.{fold_step, fold_end}
 use Rattle.sy_gates.specs.declared.gate.Bit.{Bit}

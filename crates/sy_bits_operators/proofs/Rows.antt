@@ -13,7 +13,7 @@ use Rattle.sy_terms.specs.declared.sort.Sort.{Sort}
 use Rattle.sy_terms.specs.declared.sorts.Sorted.{Sorted}
 use Rattle.sy_terms.specs.declared.sorts.Sorted.TheVariants.{Is}
 use Rattle.sy_meaning_core.proofs.Lists.{odd_from, xor-odd, map-last, implied-last}
-use Rattle.sy_terms_laws.proofs.Equations.{same_sort_is}
+use Rattle.sy_terms_operators.proofs.Equations.{same_sort_is}
 use Rattle.sy_meaning_words.specs.Vectors.{TakesSorts, has_a_sort}
 use Rattle.sy_gates.specs.declared.bitwise.Joint.TheVariants.{And, Or, Xor}
 use Rattle.sy_gates.specs.declared.gate.Bit.{Bit}

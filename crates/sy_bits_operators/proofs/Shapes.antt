@@ -14,7 +14,7 @@ use Rattle.sy_terms.specs.declared.sort.Sort.{Sort}
 use Rattle.sy_terms.specs.declared.sort.Sort.TheVariants as sorts
 use Rattle.sy_terms.specs.declared.sorts.Sorted.TheVariants.{Is, Mismatch}
 use Rattle.sy_meaning_words.specs.Vectors.{in_vectors, is_bits, has_a_sort, TakesSorts, TakesMany}
-use Rattle.sy_terms_laws.proofs.Equations.{same_sort_is}
+use Rattle.sy_terms_operators.proofs.Equations.{same_sort_is}
 use Rattle.sy_bits_operators.proofs.Taken.{many, none_taken, single_bits, pair_bits, no_items}
 use Rattle.sy_gates.specs.declared.gate.Bit.{Bit}
 use Rattle.sy_gates.specs.Circuits.{word_bound}

@@ -1,12 +1,16 @@
-// Clauses, resolution logs and their checker.
+// Clauses, resolution logs, their checker, and logs without the lines that the last one does not need.
 #![tactic(auto)]
 
 mod checker;
+mod marking;
 mod marks;
+mod numbering;
+mod trimming;
 
 pub use checker::{advance, check, clause_at};
 pub use marks::Marks;
 use sy_seq::Seq;
+pub use trimming::trimmed;
 
 /// A literal: the variable itself, or its negation.
 #[derive(Clone, Copy, Drop)]

@@ -5,10 +5,10 @@ use Rattle.sy_text_items.specs.Items.{Item, leaf, group, Items, none, more}
 use Rattle.sy_text_items.specs.declared.atom.Atom.{Atom}
 use Rattle.sy_text_items.specs.declared.atom.Place.{Place}
 use Rattle.sy_scope_causes.specs.declared.cause.Cause.TheVariants as cause
-use Rattle.sy_forms_names.specs.declared.names.Named.{Named}
-use Rattle.sy_forms_names.specs.Environments.{Environment}
+use Rattle.sy_forms_items.specs.declared.names.Named.{Named}
+use Rattle.sy_forms_items.specs.Environments.{Environment}
 use Rattle.sy_forms_items.specs.Parts.{is_symbol, indexed_name}
-use Rattle.sy_forms_phrases.specs.Phrases.{Several, no_terms, behind}
+use Rattle.sy_forms_items.specs.Phrases.{Several, no_terms, behind}
 use Rattle.sy_forms_items.specs.Readings.{Reading, refuse, ◌>>=◌}
 use Rattle.sy_forms.specs.Parts.{let_parts, binding_parts}
 use Rattle.sy_forms.specs.Terms.{Bounds, unbound, bound_behind, bound_to, new_binding_name, let_may_stand, indexed_term, atom_term, read_head, head_applied, read_term, read_list, read_terms, read_let, read_let_in, read_inner, read_binding_list, read_bindings, read_binding, read_pair, read_bound}

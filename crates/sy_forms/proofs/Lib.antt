@@ -1,3 +1,15 @@
+pub mod Bodies
+pub mod Exprs
 pub mod Forms
-pub mod Sizes
+pub mod Growing
+pub mod Names
 pub mod NewNames
+pub mod Operators
+pub mod Patterns
+pub mod Readings
+pub mod Rules
+pub mod Sizes
+pub mod Sorts
+pub mod Terms
+pub mod Whole
+pub mod Widening

@@ -5,9 +5,9 @@ use Rattle.sy_text_items.specs.Items.{Item, leaf, group}
 use Rattle.sy_text_items.specs.declared.atom.Place.{Place}
 use Rattle.sy_terms.specs.declared.sort.Logic.{Logic}
 use Rattle.sy_scope_causes.specs.declared.cause.Cause.TheVariants as cause
-use Rattle.sy_forms_names.specs.declared.names.Named.{Named}
-use Rattle.sy_forms_names.specs.Environments.{place_among}
-use Rattle.sy_forms_names.specs.Operators.{is_reserved}
+use Rattle.sy_forms_items.specs.declared.names.Named.{Named}
+use Rattle.sy_forms_items.specs.Environments.{place_among}
+use Rattle.sy_forms_items.specs.Operators.{is_reserved}
 use Rattle.sy_forms_items.specs.Parts.{place_of, symbol}
 use Rattle.sy_forms_items.specs.Readings.{refuse}
 use Rattle.sy_forms.specs.Terms.{new_symbol, new_binding_name}

@@ -3,7 +3,7 @@ use Rattle.std.proofs.Common.{◌≡◌, ◌≤◌, ◌+◌, ap, arith}
 use Rattle.std.specs.Prelude.{ℕ, List, Ok, Err}
 use Rattle.sy_text_items.specs.declared.atom.Place.{Place}
 use Rattle.sy_terms.specs.declared.sort.Logic.{Logic}
-use Rattle.sy_forms_names.specs.declared.names.Named.{Named}
+use Rattle.sy_forms_items.specs.declared.names.Named.{Named}
 use Rattle.sy_forms_items.specs.Readings.{Reading, ◌>>=◌}
 use Rattle.sy_forms.specs.Parts.{let_parts, binding_parts}
 use Rattle.sy_forms.specs.Terms.{new_binding_name}

@@ -1,8 +1,8 @@
 -- What several phrases and bindings stand for.
 use Rattle.sy_terms.specs.Values.{Val}
-use Rattle.sy_forms_phrases.specs.Phrases as phrases
+use Rattle.sy_forms_items.specs.Phrases as phrases
 use Rattle.sy_forms.specs.Terms as terms
-use Rattle.sy_forms_phrases.specs.Meant.{phrase_of, phrases_of}
+use Rattle.sy_forms_items.specs.Meant.{phrase_of, phrases_of}
 use Rattle.sy_forms.specs.declared.apply.Several.{Several}
 use Rattle.sy_forms.specs.declared.term.Bound.{Bound}
 use Rattle.sy_forms.specs.declared.term.Bounds.{Bounds}

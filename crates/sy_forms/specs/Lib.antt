@@ -1,5 +1,9 @@
+pub mod Declared
+pub mod Fitting
 pub mod Gathered
-pub mod Terms
-pub mod Rules
 pub mod Heads
+pub mod Laws
 pub mod Parts
+pub mod Right
+pub mod Rules
+pub mod Terms

@@ -4,7 +4,7 @@ use Rattle.sy_text_items.specs.Items.{Item, leaf, group, Items, none, more}
 use Rattle.sy_text_items.specs.declared.atom.Place.{Place}
 use Rattle.sy_terms.specs.declared.sort.Logic.{Logic}
 use Rattle.sy_scope_causes.specs.declared.cause.Cause.TheVariants as cause
-use Rattle.sy_forms_names.specs.declared.names.Named.{Named}
+use Rattle.sy_forms_items.specs.declared.names.Named.{Named}
 use Rattle.sy_forms_items.specs.Parts.{has_no_items}
 use Rattle.sy_forms_items.specs.Readings.{Reading, refuse, ◌>>=◌}
 use Rattle.sy_forms.specs.Terms.{new_binding_name}

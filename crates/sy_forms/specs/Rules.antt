@@ -5,11 +5,11 @@ use Rattle.sy_text_items.specs.declared.atom.Place.{Place}
 use Rattle.sy_terms.specs.Sorts.{same_sort}
 use Rattle.sy_terms.specs.declared.sort.Sort.{Sort}
 use Rattle.sy_scope_causes.specs.declared.cause.Cause.TheVariants as cause
-use Rattle.sy_forms_names.specs.Environments.{Environment}
+use Rattle.sy_forms_items.specs.Environments.{Environment}
 use Rattle.sy_forms_items.specs.Parts.{place_of}
 use Rattle.sy_forms_items.specs.Readings.{Reading, refuse, ◌>>=◌}
-use Rattle.sy_forms_names.specs.Sorts.{read_sort}
-use Rattle.sy_forms_phrases.specs.Productions.{Ruling, Template, EachConstant, EachVariable}
+use Rattle.sy_forms_items.specs.Sorts.{read_sort}
+use Rattle.sy_forms_items.specs.Productions.{Ruling, Template, EachConstant, EachVariable}
 use Rattle.sy_forms_linear.specs.Flags.{item_behind}
 use Rattle.sy_forms.specs.Terms.{read_term}
 

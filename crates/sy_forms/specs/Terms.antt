@@ -21,19 +21,19 @@ use Rattle.sy_terms.specs.declared.term.Fun.{Fun}
 use Rattle.sy_scope_causes.specs.declared.cause.Cause.TheVariants as cause
 use Rattle.sy_forms_items.specs.declared.parts.Indices.{Indices}
 use Rattle.sy_forms_items.specs.declared.parts.Indices.TheVariants.{One}
-use Rattle.sy_forms_names.specs.declared.names.Named.{Named}
-use Rattle.sy_forms_names.specs.declared.names.Role.{Role}
-use Rattle.sy_forms_names.specs.declared.names.Role.TheVariants as role
-use Rattle.sy_forms_names.specs.Environments as env
-use Rattle.sy_forms_names.specs.Environments.{Environment, Sense, sense_of, place_among}
-use Rattle.sy_forms_phrases.specs.Measures.{Measures, is_within_limits}
-use Rattle.sy_forms_names.specs.Operators.{operator_named, indexed_operator, are_small, at_count, is_reserved}
+use Rattle.sy_forms_items.specs.declared.names.Named.{Named}
+use Rattle.sy_forms_items.specs.declared.names.Role.{Role}
+use Rattle.sy_forms_items.specs.declared.names.Role.TheVariants as role
+use Rattle.sy_forms_items.specs.Environments as env
+use Rattle.sy_forms_items.specs.Environments.{Environment, Sense, sense_of, place_among}
+use Rattle.sy_forms_items.specs.Measures.{Measures, is_within_limits}
+use Rattle.sy_forms_items.specs.Operators.{operator_named, indexed_operator, are_small, at_count, is_reserved}
 use Rattle.sy_forms_linear.specs.Linear.{is_linear}
 use Rattle.sy_forms_items.specs.Parts.{place_of, symbol_in, is_symbol, has_no_items, indexed_name}
-use Rattle.sy_forms_phrases.specs.Phrases as phrase
-use Rattle.sy_forms_phrases.specs.Phrases.{Phrase, Phrases, Typed, Several, no_terms, behind}
+use Rattle.sy_forms_items.specs.Phrases as phrase
+use Rattle.sy_forms_items.specs.Phrases.{Phrase, Phrases, Typed, Several, no_terms, behind}
 use Rattle.sy_forms_items.specs.Readings.{Reading, refuse, ◌>>=◌}
-use Rattle.sy_forms_names.specs.Sorts.{is_width}
+use Rattle.sy_forms_items.specs.Sorts.{is_width}
 
 abbrev pub typed : Phrase → Sort → Reading Typed
 typed phrase sort = Ok (record { phrase = phrase; sort = sort })

@@ -1,20 +1,18 @@
 // Heads at arguments.
 ghost use Rattle.std.specs.Prelude.{◌≡◌, OnOk};
 ghost use Rattle.sy_terms.specs.Fitting as fitting;
-ghost use Rattle.sy_forms_phrases.specs.Meant.{typed_of};
+ghost use Rattle.sy_forms_items.specs.Meant.{typed_of};
 ghost use Rattle.sy_forms.specs.Gathered.{several_of};
-ghost use Rattle.sy_forms_names.specs.Operators as operators;
-ghost use Rattle.sy_forms_phrases.specs.Phrases as phrases;
+ghost use Rattle.sy_forms_items.specs.Operators as operators;
+ghost use Rattle.sy_forms_items.specs.Phrases as phrases;
 ghost use Rattle.sy_forms_items.specs.Readings.{ReadingGives};
 ghost use Rattle.sy_forms.specs.Heads.{head_in};
 ghost use Rattle.sy_forms.specs.Terms as spec;
 
 use crate::head::Head;
 use std::alloc::Global;
-use sy_forms_items::ReadEnd;
+use sy_forms_items::{Phrases, ReadEnd, Typed, at_count, invocation, operation, same_sorts};
 use sy_forms_linear::is_linear;
-use sy_forms_names::{at_count, same_sorts};
-use sy_forms_phrases::{Phrases, Typed, invocation, operation};
 use sy_scope_causes::Cause;
 use sy_terms::{Op, Seq, Sort, Sorted, Theory, Want};
 use sy_terms_operators::operator_sort;
@@ -40,7 +38,8 @@ impl<T: Theory> Several<T> {
 
     /// Appends the phrase.
     pub(crate) fn push(&mut self, last: Typed<T>) -> Result<(), Want>
-        ensures { OnOk result (several_of T.denotes self.new ≡ phrases.behind (several_of T.denotes self.old) (typed_of T.denotes last)) }
+        ensures { OnOk result (several_of T.denotes self.new ≡
+            phrases.behind (several_of T.denotes self.old) (typed_of T.denotes last)) }
     {
         self.phrases.push(last.phrase)?;
         self.sorts.push(last.sort)?;
@@ -56,7 +55,8 @@ fn operator_term<T: Theory>(
     operator: Op,
     arguments: Several<T>,
 ) -> Result<Typed<T>, ReadEnd>
-    ensures { ReadingGives (typed_of T.denotes) result (spec.operator_read constants.now divisors.now place operator (several_of T.denotes arguments)) }
+    ensures { ReadingGives (typed_of T.denotes) result
+        (spec.operator_read constants.now divisors.now place operator (several_of T.denotes arguments)) }
 {
     match operator_sort(&operator, arguments.sorts.as_slice()) {
         Sorted::Is(sort) => {
@@ -80,7 +80,8 @@ pub(crate) fn applied<T: Theory>(
     head: Head<'_>,
     arguments: Several<T>,
 ) -> Result<Typed<T>, ReadEnd>
-    ensures { ReadingGives (typed_of T.denotes) result (spec.head_applied constants.now divisors.now place (head_in head.entry) (several_of T.denotes arguments)) }
+    ensures { ReadingGives (typed_of T.denotes) result
+        (spec.head_applied constants.now divisors.now place (head_in head.entry) (several_of T.denotes arguments)) }
 {
     match head {
         Head::Operator(operator) => {

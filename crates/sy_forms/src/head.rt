@@ -2,22 +2,22 @@
 ghost use Rattle.std.specs.Prelude.{◌≡◌};
 ghost use Rattle.std.specs.Option.{option_map};
 ghost use Rattle.sy_text_items.specs.Views.{item_of};
-ghost use Rattle.sy_forms_phrases.specs.Meant.{typed_of};
+ghost use Rattle.sy_forms_items.specs.Meant.{typed_of};
 ghost use Rattle.sy_forms_items.specs.Readings.{ReadingGives};
-ghost use Rattle.sy_forms_names.specs.Seen.{environment_of, sense_in};
+ghost use Rattle.sy_forms_items.specs.Seen.{environment_of, sense_in};
 ghost use Rattle.sy_forms.specs.Heads.{head_in};
 ghost use Rattle.sy_terms.specs.Logics.{Serves};
 ghost use Rattle.sy_forms.specs.Terms as spec;
-ghost use Rattle.sy_forms_names.specs.Operators as operators;
+ghost use Rattle.sy_forms_items.specs.Operators as operators;
 ghost use Rattle.sy_forms_items.specs.Views.{indexed_of, items_in};
 
 use crate::literal::{numeral_term, vector_term};
 use std::alloc::Global;
-use sy_forms_items::{Indices, ReadEnd, Rest, indexed_name, is, is_symbol, symbol_in};
-use sy_forms_names::{
-    Environment, Locals, Sense, are_small, indexed_operator, is_indexed, operator_named, sense_of,
+use sy_forms_items::{
+    Environment, Indices, Locals, Phrases, ReadEnd, Rest, Sense, Typed, are_small, indexed_name,
+    indexed_operator, invocation, is, is_indexed, is_symbol, literal, local, nonterminal,
+    operator_named, position, sense_of, symbol_in,
 };
-use sy_forms_phrases::{Phrases, Typed, invocation, literal, local, nonterminal, position};
 use sy_scope_causes::Cause;
 use sy_terms::{Fun, Logic, Op, Sort, Theory, Value};
 use sy_text_items::{Atom, Name, Place, Sexp};
@@ -62,7 +62,8 @@ fn name_term<T: Theory>(
     name: &[u8],
     sense: Option<Sense<'_>>,
 ) -> Result<Typed<T>, ReadEnd>
-    ensures { ReadingGives (typed_of T.denotes) result (spec.name_term logic place name.now (option_map sense_in sense.entry)) }
+    ensures { ReadingGives (typed_of T.denotes) result
+        (spec.name_term logic place name.now (option_map sense_in sense.entry)) }
 {
     match sense {
         Some(Sense::Local(level, sort)) => Ok(local(level, sort)),
@@ -87,7 +88,8 @@ pub(crate) fn atom_term<T: Theory>(
     atom: &Atom,
 ) -> Result<Typed<T>, ReadEnd>
     requires { Serves T.numeric env.now.logic }
-    ensures { ReadingGives (typed_of T.denotes) result (spec.atom_term (environment_of env.now) locals.now place atom.now) }
+    ensures { ReadingGives (typed_of T.denotes) result
+        (spec.atom_term (environment_of env.now) locals.now place atom.now) }
 {
     match atom {
         Atom::Symbol(name) => {
@@ -135,7 +137,8 @@ fn name_head<'a>(
 
 /// An operator with indices of at most 64.
 fn small_head<'a>(place: Place, name: &[u8], indices: Indices) -> Result<Head<'a>, ReadEnd>
-    ensures { ReadingGives head_in result (spec.small_head place indices (operators.indexed_operator name.now indices)) }
+    ensures { ReadingGives head_in result
+        (spec.small_head place indices (operators.indexed_operator name.now indices)) }
 {
     if !is_indexed(name, indices) {
         return Err(ReadEnd::Refused(place, Cause::UnknownName));

@@ -3,17 +3,17 @@
 
 mod apply;
 mod head;
+mod laws;
 mod literal;
 mod parts;
 mod rule;
 mod term;
 
+pub use laws::{constant_rules_give_constants, rules_fit, whole_terms_fit};
 pub use rule::{read_rule, read_whole};
 pub use sy_forms_items::{
-    Fault, Indices, ReadEnd, Rest, copied, is, is_symbol, numeral, place_of, symbol, symbol_in,
+    Entity, Environment, Fault, Indices, Measures, Named, Names, Phrase, Phrases, ReadEnd, Rest,
+    Role, Ruling, Typed, copied, is, is_reserved, is_symbol, numeral, place_among, place_of,
+    read_sort, same_sorts, symbol, symbol_in,
 };
 pub use sy_forms_linear::{constant_groups, divisor_groups, has_sort};
-pub use sy_forms_names::{
-    Entity, Environment, Named, Names, Role, is_reserved, place_among, read_sort, same_sorts,
-};
-pub use sy_forms_phrases::{Measures, Phrase, Phrases, Ruling, Typed};

@@ -3,15 +3,13 @@ ghost use Rattle.std.specs.Prelude.{◌≡◌, ◌^◌, min, true};
 ghost use Rattle.std.specs.Option.{option_map};
 ghost use Rattle.std.specs.List.{list_all};
 ghost use Rattle.sy_text_items.specs.Lexicon.{digit, digit_value, value_in};
-ghost use Rattle.sy_forms_phrases.specs.Meant.{typed_of};
+ghost use Rattle.sy_forms_items.specs.Meant.{typed_of};
 ghost use Rattle.sy_forms_items.specs.Readings.{ReadingGives};
 ghost use Rattle.sy_terms.specs.Logics.{Serves};
 ghost use Rattle.sy_forms.specs.Terms as spec;
 ghost use Rattle.sy_forms_items.specs.Views.{indexed_of};
 
-use sy_forms_items::{Indices, ReadEnd};
-use sy_forms_names::is_width;
-use sy_forms_phrases::{Typed, literal};
+use sy_forms_items::{Indices, ReadEnd, Typed, is_width, literal};
 use sy_scope_causes::Cause;
 use sy_terms::{Logic, Sort, Theory, Value};
 use sy_text_items::{Name, Place};
@@ -157,7 +155,8 @@ pub(crate) fn indexed_term<T: Theory>(
     indexed: Option<(&Name, Indices)>,
 ) -> Result<Typed<T>, ReadEnd>
     requires { Serves T.numeric logic }
-    ensures { ReadingGives (typed_of T.denotes) result (spec.indexed_term logic place (option_map indexed_of indexed.entry)) }
+    ensures { ReadingGives (typed_of T.denotes) result
+        (spec.indexed_term logic place (option_map indexed_of indexed.entry)) }
 {
     let Some((name, indices)) = indexed else {
         return Err(ReadEnd::Refused(place, Cause::Shape));

@@ -1,21 +1,22 @@
 // Whole terms, and rules of grammars.
 ghost use Rattle.std.specs.Prelude.{[]};
 ghost use Rattle.sy_text_items.specs.Views.{item_of};
-ghost use Rattle.sy_forms_phrases.specs.Measured.{measures_of};
-ghost use Rattle.sy_forms_phrases.specs.Rulings.{ruling_of};
-ghost use Rattle.sy_forms_phrases.specs.Meant.{phrase_of, typed_of};
+ghost use Rattle.sy_forms_items.specs.Measured.{measures_of};
+ghost use Rattle.sy_forms_items.specs.Rulings.{ruling_of};
+ghost use Rattle.sy_forms_items.specs.Meant.{phrase_of, typed_of};
 ghost use Rattle.sy_forms_items.specs.Readings.{ReadingGives};
 ghost use Rattle.sy_forms.specs.Rules as spec;
-ghost use Rattle.sy_forms_names.specs.Seen.{environment_of};
+ghost use Rattle.sy_forms_items.specs.Seen.{environment_of};
 ghost use Rattle.sy_terms.specs.Logics.{Serves};
 ghost use Rattle.sy_forms.specs.Terms as terms;
 
 use crate::term::read_term;
 use std::alloc::Global;
-use sy_forms_items::{ReadEnd, Rest, place_of};
+use sy_forms_items::{
+    Environment, Locals, Measures, Phrase, ReadEnd, Rest, Ruling, Typed, is_small, place_of,
+    read_sort,
+};
 use sy_forms_linear::item_behind;
-use sy_forms_names::{Environment, Locals, read_sort};
-use sy_forms_phrases::{Measures, Phrase, Ruling, Typed, is_small};
 use sy_scope_causes::Cause;
 use sy_terms::{Sort, Theory, same_sort};
 use sy_text_items::{Place, Sexp};
@@ -27,7 +28,8 @@ fn read_outermost<T: Theory>(
     item: &Sexp,
 ) -> Result<Typed<T>, ReadEnd>
     requires { Serves T.numeric env.now.logic }
-    ensures { ReadingGives (typed_of T.denotes) result (terms.read_term (environment_of env.now) [] (item_of item.now)) }
+    ensures { ReadingGives (typed_of T.denotes) result
+        (terms.read_term (environment_of env.now) [] (item_of item.now)) }
 {
     let mut locals = Locals::new(alloc);
     let term = read_term(alloc, env, &mut locals, item)?;
@@ -46,7 +48,8 @@ pub fn read_whole<T: Theory>(
     item: &Sexp,
 ) -> Result<Phrase<T>, ReadEnd>
     requires { Serves T.numeric env.now.logic }
-    ensures { ReadingGives (phrase_of T.denotes) result (terms.read_whole (environment_of env.now) (measures_of measures.now) sort (item_of item.now)) }
+    ensures { ReadingGives (phrase_of T.denotes) result
+        (terms.read_whole (environment_of env.now) (measures_of measures.now) sort (item_of item.now)) }
 {
     let term = read_outermost(alloc, env, item)?;
     if !same_sort(&term.sort, &sort) {
@@ -66,7 +69,8 @@ fn rule_term<T: Theory>(
     item: &Sexp,
 ) -> Result<Ruling<T>, ReadEnd>
     requires { Serves T.numeric env.now.logic }
-    ensures { ReadingGives (ruling_of T.denotes) result (spec.rule_term (environment_of env.now) sort (item_of item.now)) }
+    ensures { ReadingGives (ruling_of T.denotes) result
+        (spec.rule_term (environment_of env.now) sort (item_of item.now)) }
 {
     let term = read_outermost(alloc, env, item)?;
     if same_sort(&term.sort, &sort) {
@@ -83,7 +87,8 @@ fn sort_for_all(
     place: Place,
     item: &Sexp,
 ) -> Result<Sort, ReadEnd>
-    ensures { ReadingGives (λ found. found) result (spec.sort_for_all (environment_of env.now) sort place (item_of item.now)) }
+    ensures { ReadingGives (λ found.
+        found) result (spec.sort_for_all (environment_of env.now) sort place (item_of item.now)) }
 {
     let found = read_sort(env.logic, env.names, item)?;
     if same_sort(&found, &sort) {
@@ -103,7 +108,8 @@ pub fn read_rule<T: Theory>(
     item: &Sexp,
 ) -> Result<Ruling<T>, ReadEnd>
     requires { Serves T.numeric env.now.logic }
-    ensures { ReadingGives (ruling_of T.denotes) result (spec.read_rule (environment_of env.now) sort (item_of item.now)) }
+    ensures { ReadingGives (ruling_of T.denotes) result
+        (spec.read_rule (environment_of env.now) sort (item_of item.now)) }
 {
     let Sexp::List(items, place) = item else {
         return rule_term(alloc, env, sort, item);

@@ -2,10 +2,10 @@
 ghost use Rattle.std.specs.Prelude.{◌≡◌, Ok, OnOk, take};
 ghost use Rattle.sy_text_items.specs.Views.{item_of};
 ghost use Rattle.sy_forms.specs.Gathered.{several_of, bounds_of, bound_of};
-ghost use Rattle.sy_forms_phrases.specs.Meant.{phrase_of, phrases_of, typed_of};
-ghost use Rattle.sy_forms_phrases.specs.Phrases as phrases;
+ghost use Rattle.sy_forms_items.specs.Meant.{phrase_of, phrases_of, typed_of};
+ghost use Rattle.sy_forms_items.specs.Phrases as phrases;
 ghost use Rattle.sy_forms_items.specs.Readings.{ReadingGives};
-ghost use Rattle.sy_forms_names.specs.Seen.{environment_of};
+ghost use Rattle.sy_forms_items.specs.Seen.{environment_of};
 ghost use Rattle.sy_terms.specs.Logics.{Serves};
 ghost use Rattle.sy_forms.specs.Terms as spec;
 ghost use Rattle.sy_forms_items.specs.Views.{items_in};
@@ -15,9 +15,10 @@ use crate::head::{atom_term, read_head};
 use crate::literal::indexed_term;
 use crate::parts::{binding_parts, let_parts};
 use std::alloc::Global;
-use sy_forms_items::{ReadEnd, Rest, copied, indexed_name, is_symbol};
-use sy_forms_names::{Environment, Locals, Named, Role};
-use sy_forms_phrases::{Phrase, Phrases, Typed, binding};
+use sy_forms_items::{
+    Environment, Locals, Named, Phrase, Phrases, ReadEnd, Rest, Role, Typed, binding, copied,
+    indexed_name, is_symbol,
+};
 use sy_scope_causes::Cause;
 use sy_terms::{Theory, Want};
 use sy_text_items::{Name, Place, Sexp};
@@ -49,7 +50,8 @@ impl<T: Theory> Bounds<T> {
 
     /// Appends the binding.
     fn push(&mut self, last: Bound<T>) -> Result<(), Want>
-        ensures { OnOk result (bounds_of T.denotes self.new ≡ spec.bound_behind (bounds_of T.denotes self.old) (bound_of T.denotes last)) }
+        ensures { OnOk result (bounds_of T.denotes self.new ≡
+            spec.bound_behind (bounds_of T.denotes self.old) (bound_of T.denotes last)) }
     {
         let kept = self.terms.push(last.phrase);
         self.names.push(last.named)?;
@@ -78,7 +80,8 @@ fn closed<T: Theory>(
     terms: Phrases<T>,
     inner: Typed<T>,
 ) -> Result<Typed<T>, ReadEnd>
-    ensures read { ReadingGives (typed_of T.denotes) result (spec.typed (phrases.Let (phrases_of T.denotes terms.items.items) (phrase_of T.denotes inner.phrase)) inner.sort) }
+    ensures read { ReadingGives (typed_of T.denotes) result (spec.typed
+        (phrases.Let (phrases_of T.denotes terms.items.items) (phrase_of T.denotes inner.phrase)) inner.sort) }
     ensures locals { OnOk result (locals.new ≡ take outside locals.old) }
 {
     locals.truncate(outside)?;
@@ -110,7 +113,8 @@ pub(crate) fn read_term<T: Theory>(
     item: &Sexp,
 ) -> Result<Typed<T>, ReadEnd>
     requires { Serves T.numeric env.now.logic }
-    ensures read { ReadingGives (typed_of T.denotes) result (spec.read_term (environment_of env.now) locals.old (item_of item.now)) }
+    ensures read { ReadingGives (typed_of T.denotes) result
+        (spec.read_term (environment_of env.now) locals.old (item_of item.now)) }
     ensures locals { OnOk result (locals.new ≡ locals.old) }
 {
     match item {
@@ -130,7 +134,8 @@ fn read_list<T: Theory>(
     items: Rest<'_>,
 ) -> Result<Typed<T>, ReadEnd>
     requires { Serves T.numeric env.now.logic }
-    ensures read { ReadingGives (typed_of T.denotes) result (spec.read_list (environment_of env.now) locals.old place (items_in items.entry)) }
+    ensures read { ReadingGives (typed_of T.denotes) result
+        (spec.read_list (environment_of env.now) locals.old place (items_in items.entry)) }
     ensures locals { OnOk result (locals.new ≡ locals.old) }
 {
     let Some((head, rest)) = items.split() else {
@@ -160,7 +165,8 @@ fn read_terms<T: Theory>(
     items: Rest<'_>,
 ) -> Result<Several<T>, ReadEnd>
     requires { Serves T.numeric env.now.logic }
-    ensures read { ReadingGives (several_of T.denotes) result (spec.read_terms (environment_of env.now) locals.old phrases.no_terms (items_in items.entry)) }
+    ensures read { ReadingGives (several_of T.denotes) result
+        (spec.read_terms (environment_of env.now) locals.old phrases.no_terms (items_in items.entry)) }
     ensures locals { OnOk result (locals.new ≡ locals.old) }
 {
     let mut done = Several::new(alloc);
@@ -184,7 +190,8 @@ fn read_let<T: Theory>(
     items: Rest<'_>,
 ) -> Result<Typed<T>, ReadEnd>
     requires { Serves T.numeric env.now.logic }
-    ensures read { ReadingGives (typed_of T.denotes) result (spec.read_let (environment_of env.now) locals.old place (items_in items.entry)) }
+    ensures read { ReadingGives (typed_of T.denotes) result
+        (spec.read_let (environment_of env.now) locals.old place (items_in items.entry)) }
     ensures locals { OnOk result (locals.new ≡ locals.old) }
 {
     let (bindings, inner) = let_parts(place, items)?;
@@ -203,7 +210,8 @@ fn read_inner<T: Theory>(
     inner: &Sexp,
 ) -> Result<Typed<T>, ReadEnd>
     requires { Serves T.numeric env.now.logic }
-    ensures read { ReadingGives (typed_of T.denotes) result (spec.read_inner (environment_of env.now) locals.old (bounds_of T.denotes bound) (item_of inner.now)) }
+    ensures read { ReadingGives (typed_of T.denotes) result
+        (spec.read_inner (environment_of env.now) locals.old (bounds_of T.denotes bound) (item_of inner.now)) }
     ensures locals { OnOk result (locals.new ≡ locals.old) }
 {
     let outside = locals.len();
@@ -223,7 +231,8 @@ fn read_bindings<T: Theory>(
     items: Rest<'_>,
 ) -> Result<Bounds<T>, ReadEnd>
     requires { Serves T.numeric env.now.logic }
-    ensures read { ReadingGives (bounds_of T.denotes) result (spec.read_bindings (environment_of env.now) locals.old spec.unbound (items_in items.entry)) }
+    ensures read { ReadingGives (bounds_of T.denotes) result
+        (spec.read_bindings (environment_of env.now) locals.old spec.unbound (items_in items.entry)) }
     ensures locals { OnOk result (locals.new ≡ locals.old) }
 {
     let mut bound = Bounds::new(alloc);
@@ -247,7 +256,8 @@ fn read_binding<T: Theory>(
     item: &Sexp,
 ) -> Result<Bound<T>, ReadEnd>
     requires { Serves T.numeric env.now.logic }
-    ensures read { ReadingGives (bound_of T.denotes) result (spec.read_binding (environment_of env.now) locals.old taken.now (item_of item.now)) }
+    ensures read { ReadingGives (bound_of T.denotes) result
+        (spec.read_binding (environment_of env.now) locals.old taken.now (item_of item.now)) }
     ensures locals { OnOk result (locals.new ≡ locals.old) }
 {
     let (name, term) = binding_parts(env.logic, taken, item)?;

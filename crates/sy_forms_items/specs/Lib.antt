@@ -1,3 +1,15 @@
+pub mod Environments
+pub mod Locals
+pub mod Meant
+pub mod Measured
+pub mod Measures
+pub mod Operators
 pub mod Parts
-pub mod Views
+pub mod Phrases
+pub mod Productions
 pub mod Readings
+pub mod Rulings
+pub mod Seen
+pub mod Sorts
+pub mod Table
+pub mod Views

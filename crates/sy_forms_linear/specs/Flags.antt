@@ -6,9 +6,9 @@ use Rattle.sy_terms.specs.declared.sort.Sort.{Sort}
 use Rattle.sy_terms.specs.declared.sort.Sort.TheVariants as sorts
 use Rattle.sy_forms_items.specs.Parts.{numeral, is_symbol, has_no_items}
 use Rattle.sy_forms_items.specs.Readings.{Reading}
-use Rattle.sy_forms_names.specs.declared.names.Named.{Named}
-use Rattle.sy_forms_names.specs.Environments.{Environment}
-use Rattle.sy_forms_names.specs.Sorts.{read_sort}
+use Rattle.sy_forms_items.specs.declared.names.Named.{Named}
+use Rattle.sy_forms_items.specs.Environments.{Environment}
+use Rattle.sy_forms_items.specs.Sorts.{read_sort}
 use Rattle.sy_forms_linear.specs.declared.flags.Kind.{Kind}
 use Rattle.sy_forms_linear.specs.declared.flags.Kind.TheVariants as kinds
 

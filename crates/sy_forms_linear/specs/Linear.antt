@@ -4,9 +4,9 @@ use Rattle.sy_terms.specs.Values.{Val}
 use Rattle.sy_terms.specs.Theories.{whole_number}
 use Rattle.sy_terms.specs.declared.op.Op.{Op}
 use Rattle.sy_terms.specs.declared.op.Op.TheVariants as ops
-use Rattle.sy_forms_phrases.specs.Measures.{is_neg}
-use Rattle.sy_forms_phrases.specs.Phrases as phrase
-use Rattle.sy_forms_phrases.specs.Phrases.{Phrase, Phrases}
+use Rattle.sy_forms_items.specs.Measures.{is_neg}
+use Rattle.sy_forms_items.specs.Phrases as phrase
+use Rattle.sy_forms_items.specs.Phrases.{Phrase, Phrases}
 
 -- Products
 

@@ -1,11 +1,11 @@
 // Divisions: whether each is by a constant other than 0.
 ghost use Rattle.std.specs.Prelude.{◌≡◌, int_lt, pos};
 ghost use Rattle.sy_terms.specs.Denoted.{val_of};
-ghost use Rattle.sy_forms_phrases.specs.Meant.{phrase_of, phrases_of};
+ghost use Rattle.sy_forms_items.specs.Meant.{phrase_of, phrases_of};
 ghost use Rattle.sy_forms_linear.specs.Linear as spec;
 
 use crate::factors::{flag_at, is_linear_product};
-use sy_forms_phrases::{Phrase, is_neg};
+use sy_forms_items::{Phrase, is_neg};
 use sy_terms::{Op, Theory, Value};
 
 fn is_division(operator: &Op) -> bool

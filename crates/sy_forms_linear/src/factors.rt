@@ -1,9 +1,9 @@
 // Products: how many factors are no constants.
 ghost use Rattle.std.specs.Prelude.{◌≡◌, ◌≤◌};
-ghost use Rattle.sy_forms_phrases.specs.Meant.{phrase_of, phrases_of};
+ghost use Rattle.sy_forms_items.specs.Meant.{phrase_of, phrases_of};
 ghost use Rattle.sy_forms_linear.specs.Linear as spec;
 
-use sy_forms_phrases::{Phrase, is_neg};
+use sy_forms_items::{Phrase, is_neg};
 use sy_terms::{Op, Theory};
 
 /// Whether this is one literal.

@@ -3,12 +3,11 @@ ghost use Rattle.std.specs.Prelude.{◌≡◌, IfOk};
 ghost use Rattle.std.specs.Option.{option_map};
 ghost use Rattle.sy_text_items.specs.Views.{item_of};
 ghost use Rattle.sy_forms_items.specs.Views.{items_in};
-ghost use Rattle.sy_forms_names.specs.Seen.{environment_of};
+ghost use Rattle.sy_forms_items.specs.Seen.{environment_of};
 ghost use Rattle.sy_forms_linear.specs.Flags as spec;
 
 use std::alloc::Global;
-use sy_forms_items::{Rest, is_symbol, numeral};
-use sy_forms_names::{Environment, Named, read_sort};
+use sy_forms_items::{Environment, Named, Rest, is_symbol, numeral, read_sort};
 use sy_terms::{Seq, Sort, Want, same_sort};
 use sy_text_items::{Sexp, Sexps};
 
@@ -185,7 +184,8 @@ fn groups_of_kind(
     nonterminals: &[Named],
     groups: &Sexps,
 ) -> Result<Seq<bool>, Want>
-    ensures { IfOk result (λ flags. flags ≡ spec.flags_of_kind kind (environment_of env.now) nonterminals.now groups.now) }
+    ensures { IfOk result (λ flags. flags ≡
+        spec.flags_of_kind kind (environment_of env.now) nonterminals.now groups.now) }
 {
     let mut flags = Seq::new(alloc);
     let mut left = Rest::all(groups);
@@ -197,8 +197,8 @@ fn groups_of_kind(
     Ok(flags)
 }
 
-/// Which nonterminals derive numerals alone: each rule is a numeral, `(- n)` with a numeral `n`, or `(Constant Int)`. One
-/// without a group of its own doesn't. `Want` comes where memory runs out.
+/// Which nonterminals derive numerals alone: each rule is a numeral, `(- n)` with a numeral `n`, or `(Constant Int)`.
+/// One without a group of its own doesn't. `Want` comes where memory runs out.
 pub fn constant_groups(
     alloc: Global,
     env: &Environment<'_>,

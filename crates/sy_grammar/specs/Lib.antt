@@ -4,6 +4,13 @@ pub use Rattle.sy_grammar_base.specs.Grown
 pub use Rattle.sy_grammar_base.specs.Questions
 pub use Rattle.sy_grammar_base.specs.Solving
 pub use Rattle.sy_grammar_base.specs.Trees
-pub use Rattle.sy_grammar_chains.specs.Chains
-pub use Rattle.sy_grammar_defaults.specs.Defaults
+pub use Rattle.sy_grammar_sizes.specs.Chains
 pub use Rattle.sy_grammar_sizes.specs.Greatest
+pub mod Defaults
+pub mod Filled
+pub mod Noted
+pub mod Notes
+pub mod Occurrences
+pub mod Rows
+pub mod Seen
+pub mod Steps

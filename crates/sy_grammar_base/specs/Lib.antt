@@ -1,3 +1,4 @@
+pub mod Extending
 pub mod Fits
 pub mod Formed
 pub mod Grown

@@ -1,3 +1,14 @@
+pub mod Best
 pub mod BinaryDigits
+pub mod Derived
+pub mod Held
+pub mod Improved
+pub mod LeafTables
+pub mod Lists
+pub mod Magnitudes
+pub mod Marked
+pub mod Marks
 pub mod NodeSizes
+pub mod PartSizes
 pub mod PoolMembers
+pub mod Tabled

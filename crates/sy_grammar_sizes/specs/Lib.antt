@@ -1,1 +1,5 @@
+pub mod Chains
+pub mod Constants
 pub mod Greatest
+pub mod Marking
+pub mod Tables

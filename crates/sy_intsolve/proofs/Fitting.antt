@@ -22,10 +22,10 @@ use Rattle.sy_linear_known.specs.Stored.{tree_shape_of}
 use Rattle.sy_linear_known.specs.Trees.{TreeRefutes}
 use Rattle.sy_linear.specs.Accepted.{linear_query, Accepted}
 use Rattle.sy_linear.proofs.Sound.{are_linear}
-use Rattle.sy_intsolve_trees.specs.declared.spent.IntSpent.{IntSpent}
-use Rattle.sy_intsolve_trees.specs.Budgets.{budget, Shows}
-use Rattle.sy_intsolve_search.specs.Ways.{IsNumberedQuery}
-use Rattle.sy_intsolve_search.specs.States.{IsModelOfQuery, IsSpentFor}
+use Rattle.sy_intsolve_cuts.specs.declared.spent.IntSpent.{IntSpent}
+use Rattle.sy_intsolve_cuts.specs.Budgets.{budget, Shows}
+use Rattle.sy_intsolve.specs.Ways.{IsNumberedQuery}
+use Rattle.sy_intsolve.specs.States.{IsModelOfQuery, IsSpentFor}
 use Rattle.sy_intsolve.specs.Proofs.{ShowsFor}
 
 pub asked : (query : Query) → QueryFits owned numeric query → nodes query.body < 2 ^ 31 → length query.variables < 2 ^ 31 → IsNumberedQuery (linear_query query)

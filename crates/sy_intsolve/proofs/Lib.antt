@@ -1,1 +1,6 @@
+pub mod Chosen
+pub mod Ends
 pub mod Fitting
+pub mod Lists
+pub mod Points
+pub mod Ways

@@ -1,2 +1,5 @@
 pub mod Proofs
 pub mod Soundness
+pub mod States
+pub mod Telling
+pub mod Ways

@@ -3,8 +3,8 @@ use Rattle.sy_query_limits.specs.declared.FailName.{FailName}
 use Rattle.sy_query_limits.specs.declared.Limits.{Limits}
 use Rattle.sy_query_base.specs.Asked as asked
 pub use Rattle.sy_linear.specs.Accepted.{linear_of, Accepted}
-use Rattle.sy_intsolve_trees.specs.declared.spent.IntSpent.{IntSpent}
-use Rattle.sy_intsolve_trees.specs.Budgets.{Shows}
+use Rattle.sy_intsolve_cuts.specs.declared.spent.IntSpent.{IntSpent}
+use Rattle.sy_intsolve_cuts.specs.Budgets.{Shows}
 
 -- what is left shows that the budget of this name was met, for the query that this one is lowered to
 abbrev pub ShowsFor : asked.Query → Limits → FailName → IntSpent → Type 0

@@ -1,15 +1,15 @@
 // The solver.
-ghost use Rattle.sy_intsolve_trees.specs.Budgets.{budget};
+ghost use Rattle.sy_intsolve_cuts.specs.Budgets.{budget};
 ghost use Rattle.sy_intsolve.specs.Proofs as proofs;
 ghost use Rattle.sy_intsolve.specs.Soundness.{sound};
 
 use crate::lowered::solved;
 use std::alloc::Global;
-use sy_intsolve_trees::IntSpent;
+use sy_intsolve_cuts::IntSpent;
 use sy_linear_known::Tree;
 use sy_meaning_integers::IntTheory;
+use sy_query::corner_model;
 use sy_query_base::{Decide, Query, Verdict};
-use sy_query_corners::corner_model;
 use sy_query_limits::{FailName, Limits};
 use sy_terms::Want;
 

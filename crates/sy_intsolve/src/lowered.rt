@@ -6,12 +6,12 @@ ghost use Rattle.sy_meaning_integers.specs.Lia.{owned, numeric};
 ghost use Rattle.sy_query_base.specs.Asked.{query_of, QueryFits};
 ghost use Rattle.sy_query_base.specs.Answers.{Answers};
 ghost use Rattle.sy_lower_laws.specs.Lowering.{lowering};
-ghost use Rattle.sy_intsolve_trees.specs.Budgets.{budget};
+ghost use Rattle.sy_intsolve_cuts.specs.Budgets.{budget};
 ghost use Rattle.sy_intsolve.specs.Proofs.{Accepted, ShowsFor};
 
+use crate::search::solve_query;
 use std::alloc::{AllocError, Global};
-use sy_intsolve_search::solve_query;
-use sy_intsolve_trees::IntSpent;
+use sy_intsolve_cuts::IntSpent;
 use sy_linear_known::{Tree, is_numbered};
 use sy_lower::{has_divisions, lower};
 use sy_meaning_integers::IntTheory;

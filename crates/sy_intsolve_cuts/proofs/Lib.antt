@@ -1,1 +1,12 @@
 pub mod Adding
+pub mod Conflicts
+pub mod Corners
+pub mod Dense
+pub mod Evaluating
+pub mod Layers
+pub mod Opening
+pub mod Places
+pub mod Refuting
+pub mod Solved
+pub mod Stored
+pub mod Wholes

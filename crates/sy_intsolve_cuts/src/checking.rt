@@ -2,17 +2,16 @@
 ghost use Rattle.std.specs.Prelude.{◌≡◌, ◌<◌, ◌^◌, true, pos, length, IfOk, IfSome};
 ghost use Rattle.std.specs.List.{list_all};
 ghost use Rattle.sy_frac.specs.Rational.{is_negative_rational};
-ghost use Rattle.sy_frac_kinds.specs.Kinds as kinds;
+ghost use Rattle.sy_frac.specs.Kinds as kinds;
 ghost use Rattle.sy_linear_known.specs.declared.path.Fact.TheVariants.{AtLeast};
 ghost use Rattle.sy_linear_known.specs.Points.{form_value_at};
 ghost use Rattle.sy_simplex.specs.Problems.{numbers};
 ghost use Rattle.sy_intsolve_paths_laws.specs.Paths.{Suit};
 ghost use Rattle.sy_intsolve_cuts.specs.Cuts.{IsRoundingForm};
 
+use crate::keeping::number_at;
 use std::alloc::{AllocError, Global};
-use sy_frac::Frac;
-use sy_frac_kinds::{is_below_one, is_below_zero};
-use sy_intsolve_points::number_at;
+use sy_frac::{Frac, is_below_one, is_below_zero};
 use sy_linear::{cut, suits};
 use sy_linear_known::{CheckEnd, Fact, Form, Test};
 use sy_seq::Want;
@@ -67,7 +66,8 @@ pub fn checked(
     point: &[Frac],
 ) -> Result<Option<Form>, Want>
     requires { length vars.now < 2 ^ 31 }
-    ensures { IfOk result (λ found. IfSome found (IsRoundingForm vars.now facts.now multipliers.now (pos 1) point.now)) }
+    ensures { IfOk result (λ found.
+        IfSome found (IsRoundingForm vars.now facts.now multipliers.now (pos 1) point.now)) }
 {
     if !are_below_one(multipliers) {
         return Ok(None);

@@ -11,7 +11,7 @@ use std::alloc::Global;
 use sy_frac::Frac;
 use sy_linear_known::{Fact, Form};
 use sy_seq::{Seq, Want};
-use sy_simplex_tableau::Tableau;
+use sy_simplex::Tableau;
 use sy_terms::Sort;
 
 /// A cut with divisor 1: the multipliers of the path's forms, and the form that it adds.

@@ -2,7 +2,7 @@
 use std::alloc::Global;
 use sy_frac::Frac;
 use sy_seq::{Seq, Want};
-use sy_simplex_tableau::{Tableau, whole, zero};
+use sy_simplex::{Tableau, whole, zero};
 
 /// The greatest scale by which a row is tried.
 const MOST: u32 = 1000;

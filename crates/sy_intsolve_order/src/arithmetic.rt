@@ -1,6 +1,6 @@
 // Forms of sums, differences and products, where 128 bits hold their numbers.
 use std::alloc::Global;
-use sy_linear_forms::Form;
+use sy_linear_known::Form;
 use sy_seq::{Seq, Want};
 
 /// A variable's number and its coefficient.

@@ -1,5 +1,5 @@
 // Numbers by which forms are found.
-use sy_linear_forms::Form;
+use sy_linear_known::Form;
 
 /// A number for both numbers.
 pub(crate) fn mixed(seed: u64, number: u64) -> u64 {

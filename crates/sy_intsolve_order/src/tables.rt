@@ -3,8 +3,7 @@ use crate::arithmetic::{combined, is_downward, negation, scaled};
 use crate::hash::{form_hash, mixed};
 use std::alloc::Global;
 use std::collections::HashMap;
-use sy_linear_forms::Form;
-use sy_linear_known::Test;
+use sy_linear_known::{Form, Test};
 use sy_seq::Want;
 
 /// Forms by number.

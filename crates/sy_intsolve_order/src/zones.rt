@@ -1,7 +1,6 @@
 // Bounds on differences of variables that facts give.
 use std::alloc::Global;
-use sy_linear_forms::Form;
-use sy_linear_known::Fact;
+use sy_linear_known::{Fact, Form};
 use sy_seq::Want;
 
 /// The most variables of which bounds are kept.

@@ -6,15 +6,15 @@ use Rattle.std.specs.Cmp.{signed_Decides, unsigned_Decides}
 use Rattle.std.proofs.Math.IntN.{*ℤ_comm, zero-*ℤ}
 use Rattle.std.proofs.Math.Nat.{mul-le-mul_left}
 use borrow.Author.Differences.{up, down, ints, same_in, sum_is_lem, product_is, neg_is}
-use Rattle.sy_linear_forms.specs.Laws.{times_assoc}
+use Rattle.sy_linear_known.specs.Laws.{times_assoc}
 use Rattle.std.proofs.Common.{refl, sym, ◌∙◌, ap, ap₂, subst, arith}
 use Rattle.std.proofs.lemmas.Bool.{ltb-true, le-ltb}
 use Rattle.sy_frac.specs.Fraction.{Fraction, IsLowest, IsQuotient, sum_over}
 use Rattle.sy_frac.specs.Rational.{ℚ, 0ℚ, ◌+ℚ◌, ◌*ℚ◌, over, value, is_negative_rational, over_same, over_negative, value_sum, value_product, sum_over_is, product_over_is, +ℚ_cancel, zero-+ℚ, *ℚ-+ℚ, not_negative_times, whole_not_negative}
 use Rattle.sy_frac.proofs.Quotients.{product_nonzero, mul-positive}
-use Rattle.sy_frac_kinds.specs.Kinds.{is_multiplier}
-use Rattle.sy_linear_forms.specs.declared.form.Form.{Form}
-use Rattle.sy_linear_forms.specs.Forms.{Coefficient}
+use Rattle.sy_frac.specs.Kinds.{is_multiplier}
+use Rattle.sy_linear_known.specs.declared.form.Form.{Form}
+use Rattle.sy_linear_known.specs.Forms.{Coefficient}
 use Rattle.sy_linear_known.specs.Trees as tree
 use Rattle.sy_linear_known.specs.Trees.{whole_ℚ, Weight, rationals, combined_with, AreMultipliers, AllZero, IsContradiction, AreMultiples, IsCut}
 use Rattle.sy_linear.specs.declared.combination.Share.{Share}

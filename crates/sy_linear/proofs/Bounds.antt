@@ -7,8 +7,8 @@ use mir.Syntax.{w128}
 use mir.Val.{SFits, to_z, of_z}
 use borrow.Author.Differences.{ints, same_in}
 use Rattle.sy_terms.specs.declared.sort.Sort.{Sort}
-use Rattle.sy_linear_forms.specs.declared.form.Form.{Form}
-use Rattle.sy_linear_forms.specs.Forms.{Coefficient, subtracted, scaled, form_negation, in_range, all_in_range}
+use Rattle.sy_linear_known.specs.declared.form.Form.{Form}
+use Rattle.sy_linear_known.specs.Forms.{Coefficient, subtracted, scaled, form_negation, in_range, all_in_range}
 use Rattle.sy_linear_known.specs.declared.path.Fact.{Fact}
 use Rattle.sy_linear_known.specs.declared.path.Fact.TheVariants.{AtLeast}
 use Rattle.sy_linear_known.specs.Trees.{at_or_below}

@@ -5,8 +5,8 @@ use Rattle.std.specs.Option.{option_and_then}
 use Rattle.std.proofs.lemmas.List.{drop_more, drop_all, append_assoc, append-nil}
 use Rattle.std.proofs.lemmas.Bool.{lt-ltb, le-ltb}
 use Rattle.sy_frac.specs.Fraction.{Fraction}
-use Rattle.sy_linear_forms.specs.declared.form.Form.{Form}
-use Rattle.sy_linear_forms.specs.Forms.{Coefficient, before}
+use Rattle.sy_linear_known.specs.declared.form.Form.{Form}
+use Rattle.sy_linear_known.specs.Forms.{Coefficient, before}
 use Rattle.std.specs.Ordering.{int_eq}
 use Rattle.sy_linear_known.specs.declared.path.Fact.{Fact}
 use Rattle.sy_linear_known.specs.declared.path.Fact.TheVariants.{AtLeast, Is}

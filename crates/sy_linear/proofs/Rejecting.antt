@@ -13,11 +13,11 @@ use borrow.Author.Differences.{ints, same_in, at_most_in}
 use Rattle.sy_frac.specs.Fraction.{Fraction, IsLowest}
 use Rattle.sy_frac.specs.Rational.{ℚ, 0ℚ, ◌+ℚ◌, ◌*ℚ◌, over, value, is_negative_rational, over_negative, sum_over_is, product_over_is, zero_not_negative, not_negative_plus, whole_not_negative, +ℚ_assoc, zero-*ℚ, one-*ℚ, *ℚ_assoc, over_same, one_over}
 use Rattle.sy_frac.proofs.Quotients.{product_nonzero, abs-product}
-use Rattle.sy_frac_kinds.specs.Kinds.{is_multiplier}
+use Rattle.sy_frac.specs.Kinds.{is_multiplier}
 use Rattle.sy_terms.specs.declared.sort.Sort.{Sort}
-use Rattle.sy_linear_forms.specs.declared.form.Form.{Form}
-use Rattle.sy_linear_forms.specs.Forms.{Coefficient, before, form_negation}
-use Rattle.sy_linear_forms.specs.Laws.{distributes_left, either}
+use Rattle.sy_linear_known.specs.declared.form.Form.{Form}
+use Rattle.sy_linear_known.specs.Forms.{Coefficient, before, form_negation}
+use Rattle.sy_linear_known.specs.Laws.{distributes_left, either}
 use Rattle.sy_linear_known.specs.declared.path.Fact.{Fact}
 use Rattle.sy_linear_known.specs.declared.path.Fact.TheVariants.{AtLeast}
 use Rattle.sy_linear_known.specs.declared.path.Test.{Test}

@@ -4,10 +4,10 @@ use Rattle.std.specs.List.{list_all}
 use Rattle.sy_frac.specs.Fraction.{Fraction}
 use Rattle.sy_terms.specs.declared.sort.Sort.{Sort}
 use Rattle.sy_terms.specs.declared.sort.Sort.TheVariants as sorts
-use Rattle.sy_linear_forms.specs.declared.form.Form.{Form}
-use Rattle.sy_linear_forms.specs.declared.form.FormEnd.{FormEnd}
-use Rattle.sy_linear_forms.specs.declared.form.FormEnd.TheVariants as forms_end
-use Rattle.sy_linear_forms.specs.Forms.{Coefficient, form_is_in_range, form_negation}
+use Rattle.sy_linear_known.specs.declared.form.Form.{Form}
+use Rattle.sy_linear_known.specs.declared.form.FormEnd.{FormEnd}
+use Rattle.sy_linear_known.specs.declared.form.FormEnd.TheVariants as forms_end
+use Rattle.sy_linear_known.specs.Forms.{Coefficient, form_is_in_range, form_negation}
 use Rattle.sy_linear_known.specs.declared.path.Fact.{Fact}
 use Rattle.sy_linear_known.specs.declared.path.Fact.TheVariants.{AtLeast}
 use Rattle.sy_linear_known.specs.declared.path.Test.{Test}

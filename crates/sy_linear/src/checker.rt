@@ -77,6 +77,7 @@ fn judge(
 
 /// Whether the tree refutes the query under the facts with what the root of the one above it, of number `node`, adds on
 /// this side.
+/// Eight parameters: each call of the recursion has its own trees and number beside what all calls share.
 #[cycle(judge)]
 fn judge_side(
     alloc: Global,
@@ -111,6 +112,7 @@ fn judge_side(
 }
 
 /// Whether both trees refute the query, each on its side of the one above.
+/// Eight parameters, as those of `judge_side`.
 #[cycle(judge)]
 fn judge_both(
     alloc: Global,

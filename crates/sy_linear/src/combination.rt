@@ -1,17 +1,15 @@
 // Combinations of forms by fractions.
 ghost use Rattle.std.specs.Prelude.{◌≡◌, ◌≤ℤ◌, ◌+◌, ◌<◌, ◌^◌, ◌++◌, length, List, pos, [], true, false, IfOk, OnOk, IsErrOf, Option, Some, None};
 ghost use Rattle.std.specs.List.{list_all};
-ghost use Rattle.sy_frac_kinds.specs.Kinds as kinds;
-ghost use Rattle.sy_linear_forms.specs.Forms.{before};
+ghost use Rattle.sy_frac.specs.Kinds as kinds;
+ghost use Rattle.sy_linear_known.specs.Forms.{before};
 ghost use Rattle.sy_linear_known.specs.Trees.{forms};
 ghost use Rattle.sy_linear.specs.Combining as spec;
 
 use crate::exact::{floor, is_whole, multiple, over_whole, plus_multiple};
 use std::alloc::Global;
-use sy_frac::Frac;
-use sy_frac_kinds::is_multiplier;
-use sy_linear_forms::{Form, FormEnd};
-use sy_linear_known::Fact;
+use sy_frac::{Frac, is_multiplier};
+use sy_linear_known::{Fact, Form, FormEnd};
 use sy_seq::{Seq, Want};
 
 /// A variable's part of a combination.
@@ -57,7 +55,8 @@ pub(crate) fn are_multipliers(multipliers: &[Frac], facts: &[Fact]) -> bool
 
 /// Appends a share.
 fn push_share(list: &mut Seq<Share>, variable: u32, weight: Frac) -> Result<(), Want>
-    ensures { OnOk result ((rest : Option (List Share)) → spec.following list.old (spec.share_before variable (Some weight) rest) ≡ spec.following list.new rest) }
+    ensures { OnOk result ((rest : Option (List Share)) →
+        spec.following list.old (spec.share_before variable (Some weight) rest) ≡ spec.following list.new rest) }
 {
     list.push(Share { variable, weight })?;
     Ok(())
@@ -79,7 +78,8 @@ fn put_coefficients(
 ) -> Result<(), FormEnd>
     requires { all.old ≡ [] }
     ensures ok { OnOk result (spec.plus_coefficients factor.now coefficients.now shares.now ≡ Some all.new) }
-    ensures unfit { IsErrOf result FormEnd.OutOfRange → spec.plus_coefficients factor.now coefficients.now shares.now ≡ None }
+    ensures unfit { IsErrOf result FormEnd.OutOfRange →
+        spec.plus_coefficients factor.now coefficients.now shares.now ≡ None }
 {
     let mut cs = coefficients;
     let mut qs = shares;
@@ -124,7 +124,8 @@ fn plus_coefficients(
     shares: &[Share],
 ) -> Result<Seq<Share>, FormEnd>
     ensures ok { IfOk result (λ qs. spec.plus_coefficients factor.now coefficients.now shares.now ≡ Some qs) }
-    ensures unfit { IsErrOf result FormEnd.OutOfRange → spec.plus_coefficients factor.now coefficients.now shares.now ≡ None }
+    ensures unfit { IsErrOf result FormEnd.OutOfRange →
+        spec.plus_coefficients factor.now coefficients.now shares.now ≡ None }
 {
     let mut all = Seq::new(alloc);
     match put_coefficients(&mut all, factor, coefficients, shares) {
@@ -164,7 +165,8 @@ fn plus_form(
     form: &Form,
 ) -> Result<Combination, FormEnd>
     ensures ok { IfOk result (λ c. spec.checked_plus_form combination.now factor.now form.now ≡ Some c) }
-    ensures unfit { IsErrOf result FormEnd.OutOfRange → spec.checked_plus_form combination.now factor.now form.now ≡ None }
+    ensures unfit { IsErrOf result FormEnd.OutOfRange →
+        spec.checked_plus_form combination.now factor.now form.now ≡ None }
 {
     let number = constant_of(form);
     let Some(constant) = plus_multiple(factor, number, &combination.constant) else {
@@ -184,7 +186,8 @@ pub(crate) fn combined(
     facts: &[Fact],
 ) -> Result<Combination, FormEnd>
     ensures ok { IfOk result (λ c. spec.checked_combination multipliers.now (forms facts.now) ≡ Some c) }
-    ensures unfit { IsErrOf result FormEnd.OutOfRange → spec.checked_combination multipliers.now (forms facts.now) ≡ None }
+    ensures unfit { IsErrOf result FormEnd.OutOfRange →
+        spec.checked_combination multipliers.now (forms facts.now) ≡ None }
 {
     let Some(mut sum) = nothing(alloc) else {
         return Err(FormEnd::Want);

@@ -3,7 +3,7 @@ ghost use Rattle.std.specs.Prelude.{◌≡◌, ◌≤ℤ◌, ◌<◌, ◌^◌, �
 ghost use Rattle.std.specs.List.{list_all};
 ghost use Rattle.std.specs.Option.{option_map};
 ghost use Rattle.sy_terms.specs.Expr.{nodes};
-ghost use Rattle.sy_linear_forms.specs.Forms.{form_is_in_range};
+ghost use Rattle.sy_linear_known.specs.Forms.{form_is_in_range};
 ghost use Rattle.sy_linear_known.specs.Seen.{query_known};
 ghost use Rattle.sy_linear_known.specs.Stored.{linear_query_of, tree_shape_of};
 ghost use Rattle.sy_linear_known.specs.Trees.{forms};
@@ -16,8 +16,7 @@ use crate::combination::{
 };
 use std::alloc::Global;
 use sy_frac::Frac;
-use sy_linear_forms::{Form, FormEnd};
-use sy_linear_known::{CheckEnd, Fact, Known, Test, Tree, known_under};
+use sy_linear_known::{CheckEnd, Fact, Form, FormEnd, Known, Test, Tree, known_under};
 use sy_meaning_integers::IntTheory;
 use sy_query_base::Query;
 use sy_seq::{Seq, Want};
@@ -108,7 +107,8 @@ pub fn split(
 
 /// The fact that so many times the variable and the constant are at least 0.
 fn bounded(alloc: Global, coefficient: i128, variable: u32, constant: i128) -> Result<Fact, Want>
-    ensures { IfOk result (λ fact. fact ≡ Fact.AtLeast (record { coefs = (variable, coefficient) ∷ []; constant = constant })) }
+    ensures { IfOk result (λ fact. fact ≡
+        Fact.AtLeast (record { coefs = (variable, coefficient) ∷ []; constant = constant })) }
 {
     let mut coefs = Seq::new(alloc);
     coefs.push((variable, coefficient))?;
@@ -142,8 +142,10 @@ fn cut_form(
     divisor: i128,
 ) -> Result<Option<Form>, FormEnd>
     requires { pos 1 ≤ℤ divisor }
-    ensures ok { IfOk result (λ form. spec.rounded_outcome (spec.divided_combination divisor (checked_combination multipliers.now (forms facts.now))) ≡ spec.added_form form) }
-    ensures unfit { IsErrOf result FormEnd.OutOfRange → spec.rounded_outcome (spec.divided_combination divisor (checked_combination multipliers.now (forms facts.now))) ≡ spec.Leaves }
+    ensures ok { IfOk result (λ form. spec.rounded_outcome (spec.divided_combination divisor
+        (checked_combination multipliers.now (forms facts.now))) ≡ spec.added_form form) }
+    ensures unfit { IsErrOf result FormEnd.OutOfRange → spec.rounded_outcome
+        (spec.divided_combination divisor (checked_combination multipliers.now (forms facts.now))) ≡ spec.Leaves }
 {
     let whole = match combined(alloc, multipliers, facts) {
         Ok(whole) => whole,

@@ -17,9 +17,9 @@ use Rattle.sy_terms.specs.declared.op.Op.{Op}
 use Rattle.sy_terms.specs.declared.op.Op.TheVariants as ops
 use Rattle.sy_terms.specs.declared.sort.Sort.{Sort}
 use Rattle.sy_terms.specs.declared.sort.Sort.TheVariants as sorts
-use Rattle.sy_linear_forms.specs.declared.form.Form.{Form}
-use Rattle.sy_linear_forms.specs.Forms.{form_plus, times, form_minus, above, form_negation, form_is_in_range, is_constant_form, same_form}
-use Rattle.sy_linear_forms.specs.Laws.{value-constant, value-variable, value-plus, value-times, value-minus, value-above, value-negation, value-is_constant, same_value, not_both}
+use Rattle.sy_linear_known.specs.declared.form.Form.{Form}
+use Rattle.sy_linear_known.specs.Forms.{form_plus, times, form_minus, above, form_negation, form_is_in_range, is_constant_form, same_form}
+use Rattle.sy_linear_known.specs.Laws.{value-constant, value-variable, value-plus, value-times, value-minus, value-above, value-negation, value-is_constant, same_value, not_both}
 use Rattle.sy_linear_known.specs.declared.path.Fact.{Fact}
 use Rattle.sy_linear_known.specs.declared.path.Fact.TheVariants.{AtLeast, Is}
 use Rattle.sy_linear_known.specs.declared.path.Test.{Test}

@@ -4,8 +4,8 @@ use Rattle.std.specs.Ordering.{int_eq}
 use Rattle.std.proofs.Common.{refl, arith, ltb-true, ltb-false}
 use Rattle.sy_terms.specs.declared.sort.Sort.{Sort}
 use Rattle.sy_terms.specs.declared.sort.Sort.TheVariants as sorts
-use Rattle.sy_linear_forms.specs.declared.form.Form.{Form}
-use Rattle.sy_linear_forms.specs.Forms.{Coefficient, before, added, scaled, subtracted, variable_form, form_plus, times, form_minus, form_negation}
+use Rattle.sy_linear_known.specs.declared.form.Form.{Form}
+use Rattle.sy_linear_known.specs.Forms.{Coefficient, before, added, scaled, subtracted, variable_form, form_plus, times, form_minus, form_negation}
 use Rattle.sy_linear_known.specs.Trees.{IsOf}
 
 -- coefficients of integer variables, in ascending order from a least one

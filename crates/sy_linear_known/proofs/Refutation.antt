@@ -12,9 +12,9 @@ use Rattle.sy_terms.specs.Values.{Val, Truth, Whole, Bits, truth}
 use Rattle.sy_terms.specs.Meaning.{value_at_position, meaning}
 use Rattle.sy_terms.specs.declared.sort.Sort.{Sort}
 use Rattle.sy_terms.specs.declared.sort.Sort.TheVariants as sorts
-use Rattle.sy_linear_forms.specs.declared.form.Form.{Form}
-use Rattle.sy_linear_forms.specs.Forms.{Coefficient, combined, form_value, before, form_negation}
-use Rattle.sy_linear_forms.specs.Laws.{distributes_left, times_assoc, value-negation, either}
+use Rattle.sy_linear_known.specs.declared.form.Form.{Form}
+use Rattle.sy_linear_known.specs.Forms.{Coefficient, combined, form_value, before, form_negation}
+use Rattle.sy_linear_known.specs.Laws.{distributes_left, times_assoc, value-negation, either}
 use Rattle.sy_linear_known.specs.declared.path.Fact.{Fact}
 use Rattle.sy_linear_known.specs.declared.path.Fact.TheVariants.{AtLeast, Is}
 use Rattle.sy_linear_known.specs.declared.path.Test.TheVariants as test

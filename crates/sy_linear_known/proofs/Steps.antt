@@ -3,9 +3,9 @@ use Rattle.std.specs.Prelude.{◌≡◌, ℕ, ◌+◌, ◌<◌, ◌≤◌, Bool,
 use Rattle.std.proofs.Common.{refl, sym, ◌∙◌, ap, subst, arith}
 use Rattle.std.specs.List.{list_any, list_all}
 use Rattle.std.proofs.lemmas.List.{drop_more, drop_all}
-use Rattle.sy_linear_forms.specs.declared.form.Form.{Form}
-use Rattle.sy_linear_forms.specs.declared.form.FormEnd.{FormEnd}
-use Rattle.sy_linear_forms.specs.Forms.{form_plus, form_negation, form_is_in_range}
+use Rattle.sy_linear_known.specs.declared.form.Form.{Form}
+use Rattle.sy_linear_known.specs.declared.form.FormEnd.{FormEnd}
+use Rattle.sy_linear_known.specs.Forms.{form_plus, form_negation, form_is_in_range}
 use Rattle.sy_linear_known.specs.declared.path.Fact.{Fact}
 use Rattle.sy_linear_known.specs.declared.sight.Sight.{Sight}
 use Rattle.sy_linear_known.specs.declared.sight.Node.{Node}

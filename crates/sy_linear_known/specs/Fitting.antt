@@ -1,8 +1,8 @@
 -- Forms of which each number fits 128 bits.
 use Rattle.std.specs.Prelude.{Bool, true, List, Option, Some, None}
 use Rattle.std.specs.List.{list_all}
-use Rattle.sy_linear_forms.specs.declared.form.Form.{Form}
-use Rattle.sy_linear_forms.specs.Forms.{form_is_in_range}
+use Rattle.sy_linear_known.specs.declared.form.Form.{Form}
+use Rattle.sy_linear_known.specs.Forms.{form_is_in_range}
 use Rattle.sy_linear_known.specs.declared.sight.Sight.{Sight}
 use Rattle.sy_linear_known.specs.declared.sight.Sight.TheVariants.{Linear, Settled, Open}
 

@@ -1,7 +1,7 @@
 -- Numbers by which forms are found.
 use Rattle.std.specs.Prelude.{ℕ, ◌+◌, ◌-◌, ◌*◌, ◌%◌, ◌^◌, cond, List, [], ◌∷◌, ℤ, pos, int_lt, unsigned_abs}
-use Rattle.sy_linear_forms.specs.declared.form.Form.{Form}
-use Rattle.sy_linear_forms.specs.Forms.{Coefficient}
+use Rattle.sy_linear_known.specs.declared.form.Form.{Form}
+use Rattle.sy_linear_known.specs.Forms.{Coefficient}
 
 -- a number for two numbers
 abbrev pub mixed : ℕ → ℕ → ℕ

@@ -1,6 +1,6 @@
 -- The operations and comparisons of forms, by name.
 use Rattle.std.specs.Prelude.{List, Option}
-use Rattle.sy_linear_forms.specs.declared.form.Form.{Form}
+use Rattle.sy_linear_known.specs.declared.form.Form.{Form}
 use Rattle.sy_linear_known.specs.declared.path.Fact.{Fact}
 use Rattle.sy_linear_known.specs.declared.sight.Node.{Node}
 use Rattle.sy_linear_known.specs.declared.arithmetic.Operation.{Operation}

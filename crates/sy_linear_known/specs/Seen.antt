@@ -6,7 +6,7 @@ use Rattle.sy_terms.specs.declared.op.Op.{Op}
 use Rattle.sy_terms.specs.declared.op.Op.TheVariants as ops
 use Rattle.sy_terms.specs.declared.sort.Sort.{Sort}
 use Rattle.sy_terms.specs.declared.sort.Sort.TheVariants as sorts
-use Rattle.sy_linear_forms.specs.Forms.{constant_form, variable_form}
+use Rattle.sy_linear_known.specs.Forms.{constant_form, variable_form}
 use Rattle.sy_linear_known.specs.declared.path.Fact.{Fact}
 use Rattle.sy_linear_known.specs.declared.path.Test.{Test}
 use Rattle.sy_linear_known.specs.declared.path.Test.TheVariants as test

@@ -1,14 +1,14 @@
 // Forms of sums, differences and products.
 ghost use Rattle.std.specs.Prelude.{◌≡◌, ◌∷◌, IfOk, IsErrOf, true, false};
-ghost use Rattle.sy_linear_forms.specs.declared.form.Form.{Form as FormOf};
-ghost use Rattle.sy_linear_forms.specs.Forms.{form_is_in_range, is_constant_form};
+ghost use Rattle.sy_linear_known.specs.declared.form.Form.{Form as FormOf};
+ghost use Rattle.sy_linear_known.specs.Forms.{form_is_in_range, is_constant_form};
 ghost use Rattle.sy_linear_known.specs.Sights as spec;
 ghost use Rattle.sy_linear_known.specs.Fitting.{form_fits, sight_fits, all_fit};
 ghost use Rattle.sy_linear_known.specs.Operations.{operation_result};
 
+use crate::form::{Form, FormEnd};
 use crate::sight::{Node, Sight};
 use std::alloc::{AllocError, Global};
-use sy_linear_forms::{Form, FormEnd};
 use sy_seq::Want;
 
 /// An operation on two whole numbers.
@@ -21,7 +21,8 @@ pub(crate) enum Operation {
 
 /// The form that was made; none where it doesn't fit.
 fn fitting(made: Result<Form, FormEnd>) -> Result<Option<Form>, Want>
-    ensures ok { (f : FormOf) → IfOk made (λ g. g ≡ f) → IfOk made (λ g. form_is_in_range g ≡ true) → (IsErrOf made FormEnd.OutOfRange → form_is_in_range f ≡ false) → IfOk result (λ form. form ≡ spec.built f) }
+    ensures ok { (f : FormOf) → IfOk made (λ g. g ≡ f) → IfOk made (λ g. form_is_in_range g ≡ true) →
+        (IsErrOf made FormEnd.OutOfRange → form_is_in_range f ≡ false) → IfOk result (λ form. form ≡ spec.built f) }
     ensures fits { IfOk made (λ g. form_is_in_range g ≡ true) → IfOk result (λ form. form_fits form ≡ true) }
 {
     match made {

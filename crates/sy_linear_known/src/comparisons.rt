@@ -1,16 +1,16 @@
 // Comparisons of terms under a path.
 ghost use Rattle.std.specs.Prelude.{◌≡◌, IfOk, true};
-ghost use Rattle.sy_linear_forms.specs.Forms.{form_is_in_range};
+ghost use Rattle.sy_linear_known.specs.Forms.{form_is_in_range};
 ghost use Rattle.sy_linear_known.specs.Sights as spec;
 ghost use Rattle.sy_linear_known.specs.Fitting.{form_fits, sight_fits, all_fit};
 ghost use Rattle.sy_linear_known.specs.Operations.{comparison};
 
 use crate::arithmetic::{difference, excess, is_constant};
 use crate::facts::Facts;
+use crate::form::{Form, FormEnd};
 use crate::path::Test;
 use crate::sight::{Node, Sight};
 use std::alloc::{AllocError, Global};
-use sy_linear_forms::{Form, FormEnd};
 use sy_seq::Want;
 
 /// A comparison of two whole numbers.
@@ -162,7 +162,8 @@ impl Comparison {
     ) -> Result<Node, Want>
         requires left { sight_fits first.now ≡ true }
         requires right { sight_fits second.now ≡ true }
-        ensures { IfOk result (λ n. n ≡ spec.both_nodes before (spec.compared (comparison self path.now) first.now second.now)) }
+        ensures { IfOk result (λ n.
+            n ≡ spec.both_nodes before (spec.compared (comparison self path.now) first.now second.now)) }
     {
         match self.compared(alloc, path, first, second) {
             Ok(next) => Ok(before.both(next)),

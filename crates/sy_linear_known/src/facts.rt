@@ -4,12 +4,12 @@ ghost use Rattle.std.specs.HashMap.{get};
 ghost use Rattle.sy_linear_known.specs.Keyed.{IsKeyed, EachIsKeyed};
 ghost use Rattle.sy_linear_known.specs.Paths as spec;
 
+use crate::form::Form;
 use crate::key::form_key;
 use crate::path::{Fact, has_form, is_form};
 use std::alloc::Global;
 use std::collections::HashMap;
 use std::marker::Model;
-use sy_linear_forms::Form;
 use sy_seq::Want;
 
 /// The place for the key.

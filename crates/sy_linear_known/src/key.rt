@@ -2,7 +2,7 @@
 ghost use Rattle.std.specs.Prelude.{◌≡◌};
 ghost use Rattle.sy_linear_known.specs.Keys as spec;
 
-use sy_linear_forms::Form;
+use crate::form::Form;
 
 /// A number for both numbers.
 fn mixed(seed: u64, number: u64) -> u64

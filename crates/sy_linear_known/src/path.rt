@@ -2,7 +2,7 @@
 ghost use Rattle.std.specs.Prelude.{◌≡◌};
 ghost use Rattle.sy_linear_known.specs.Paths.{is_form, has_form, given};
 
-use sy_linear_forms::Form;
+use crate::form::Form;
 use sy_seq::Seq;
 
 /// A question about an assignment.

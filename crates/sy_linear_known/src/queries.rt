@@ -8,11 +8,11 @@ ghost use Rattle.sy_linear_known.specs.Fitting.{sight_fits, all_fit};
 
 use crate::answer::Known;
 use crate::facts::Facts;
+use crate::form::Form;
 use crate::path::{Fact, Path, given};
 use crate::sight::{Seen, Sight};
 use crate::walk::walk;
 use std::alloc::{AllocError, Global};
-use sy_linear_forms::Form;
 use sy_meaning_integers::IntTheory;
 use sy_query_base::Query;
 use sy_seq::Want;

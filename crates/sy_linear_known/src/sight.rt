@@ -4,9 +4,9 @@ ghost use Rattle.std.specs.List.{list_any, list_all};
 ghost use Rattle.sy_linear_known.specs.Seen.{seen_as, nothing_found, with_next, node_noted, after_bound};
 ghost use Rattle.sy_linear_known.specs.Sights.{is_true, is_false, is_open, all_of, any_of, sight_opposite, told, unfit, or_else, both_nodes, turned, of_form};
 
+use crate::form::Form;
 use crate::path::Test;
 use std::alloc::Global;
-use sy_linear_forms::Form;
 use sy_seq::{Seq, Want};
 
 /// What a path tells of a term.

@@ -7,7 +7,7 @@ use Rattle.sy_terms.specs.Values.{Val}
 use Rattle.sy_grammar_base.specs.Questions.{Question}
 use Rattle.sy_query_limits.specs.declared.Limits.{Limits}
 use Rattle.sy_points.specs.Asked.{Asked, AreDistinct}
-use Rattle.sy_loop_bounds.specs.declared.reach.Reach.{Reach}
+use Rattle.sy_loop_spec.specs.declared.reach.Reach.{Reach}
 use Rattle.sy_loop_truth.specs.Known.{IsKnown}
 use Rattle.sy_loop_truth.proofs.Traced.{no_element}
 

@@ -5,22 +5,21 @@ use Rattle.sy_terms.specs.Meaning.{functions}
 use Rattle.sy_grammar_base.specs.Questions.{Goal, Question}
 use Rattle.sy_query_limits.specs.declared.Limits.{Limits}
 use Rattle.sy_points.specs.Asked.{Asked}
-use Rattle.sy_bank_rows.specs.Banks.{Entry, Merged, kept_at}
-use Rattle.sy_bank_rows.specs.Covering.{Covers, sizes, terms}
-use Rattle.sy_loop_bounds.specs.declared.reach.Reach.{Reach}
-use Rattle.sy_loop_bounds.specs.declared.reach.Reach.TheVariants.{Beyond}
-use Rattle.sy_loop_history.specs.Histories.{Counterexample, IsOpenNumber}
-use Rattle.sy_loop_history.specs.Unsolved.{NoSolutionWithin}
+use Rattle.sy_bank_level.specs.Banks.{Entry, Merged, kept_at}
+use Rattle.sy_bank_level.specs.Covering.{Covers, sizes, terms}
+use Rattle.sy_loop_spec.specs.declared.reach.Reach.{Reach}
+use Rattle.sy_loop_spec.specs.Histories.{Counterexample, IsOpenNumber}
+use Rattle.sy_loop_spec.specs.Unsolved.{NoSolutionWithin}
 use Rattle.sy_loop_truth.specs.Known.{IsKnown}
 use Rattle.sy_loop_truth.proofs.Items.{has_place}
-use Rattle.sy_loop_laws.specs.Agreeing.{AssumptionsAskNothing}
-use Rattle.sy_loop_laws.specs.Merging.{AreChosen, AreCovering}
-use Rattle.sy_loop_laws.specs.Refuting.{AllRefuted, AllTreesViolate, AreDoneBelow}
-use Rattle.sy_loop_laws.proofs.Done as done
-use Rattle.sy_loop_laws.proofs.Refuted.{next_refuted}
+use Rattle.sy_loop_spec.specs.Agreeing.{AssumptionsAskNothing}
+use Rattle.sy_loop_spec.specs.Merging.{AreChosen, AreCovering}
+use Rattle.sy_loop_spec.specs.Refuting.{AllRefuted, AllTreesViolate, AreDoneBelow}
+use Rattle.sy_loop_spec.proofs.Done as done
+use Rattle.sy_loop_spec.proofs.Refuted.{next_refuted}
 use Rattle.sy_loop_banks.specs.Banks.{AreBanks}
 use Rattle.sy_loop_banks.specs.Dropping.{DroppedNothing}
-use Rattle.sy_loop_level.specs.Levels.{AreKeptBodies, AllAreRefuted}
+use Rattle.sy_loop.specs.Levels.{AreKeptBodies, AllAreRefuted}
 use Rattle.sy_loop.specs.Trees.{TreesFollow}
 
 -- the same of what is known
@@ -90,9 +89,9 @@ module _ (question : Question) (limits : Limits) (history : List Counterexample)
     next_done = done.next question history asked level reach (level_refuted reach assumes are whole refuted below) trees_done below
 
 -- no bodies in bound solve the problem
-pub nothing_within : (reach : Reach) (question : Question) (limits : Limits) (history : List Counterexample) (asked : Asked) → (reach ≡ Beyond → ⊥) → IsKnown reach question limits history asked → AreDoneBelow reach question history asked (limits.size + 1) →
+pub nothing_within : (reach : Reach) (question : Question) (limits : Limits) (history : List Counterexample) (asked : Asked) → IsKnown reach question limits history asked → AreDoneBelow reach question history asked (limits.size + 1) →
     NoSolutionWithin reach question limits.size
-nothing_within reach question limits history asked strict known below = done.ends reach question limits.size limits.rounds limits.size history asked strict known.honest below
+nothing_within reach question limits history asked known below = done.ends reach question limits.size limits.rounds limits.size history asked known.honest below
 
 -- the size is open
 pub level_open : (reach : Reach) (question : Question) (limits : Limits) (history : List Counterexample) (asked : Asked) (level : ℕ) → level ≤ limits.size → AreDoneBelow reach question history asked level → IsOpenNumber reach question limits.size history level

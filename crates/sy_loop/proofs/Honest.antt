@@ -8,12 +8,12 @@ use Rattle.sy_grammar_base.specs.Questions.{goal_of, question_of}
 use Rattle.sy_grammar_base.specs.declared.problem.Problem.{Problem}
 use Rattle.sy_query_limits.specs.declared.Limits.{Limits}
 use Rattle.sy_points.specs.Asked.{Asked}
-use Rattle.sy_bank_rows.specs.Banks.{Entry, Merged, IsKept}
-use Rattle.sy_bank_rows.specs.Columns.{HasRow}
+use Rattle.sy_bank_level.specs.Banks.{Entry, Merged, IsKept}
+use Rattle.sy_bank_level.specs.Columns.{HasRow}
 use Rattle.sy_bank_level.specs.Bank.{merged_of}
 use Rattle.sy_bank_level.specs.declared.bank.Bank.{Bank}
 use Rattle.sy_loop_banks.specs.Banks.{AreBanks, AreCarried}
-use Rattle.sy_loop_level.specs.Levels.{AreHonest}
+use Rattle.sy_loop.specs.Levels.{AreHonest}
 
 from_map : {A B : Type 0} (f : A → B) (xs : List A) (k : ℕ) (y : B) → slice_get (map f xs) k ≡ Some y → (x : A) × (slice_get xs k ≡ Some x) × (f x ≡ y)
 from_map f [] k y at = absurd (cc)

@@ -8,8 +8,8 @@ use Rattle.sy_query_base.specs.Asked.{Query}
 use Rattle.sy_query_limits.specs.declared.FailName.{FailName}
 use Rattle.sy_query_limits.specs.declared.Limits.{Limits}
 use Rattle.sy_points.specs.Asked.{Asked}
-use Rattle.sy_loop_bounds.specs.declared.reach.Reach.{Reach}
-use Rattle.sy_loop_history.specs.Histories.{Counterexample}
+use Rattle.sy_loop_spec.specs.declared.reach.Reach.{Reach}
+use Rattle.sy_loop_spec.specs.Histories.{Counterexample}
 use Rattle.sy_loop_truth.specs.Known.{left}
 use Rattle.sy_loop.specs.Rounds.{work, Rounds}
 use Rattle.sy_loop.specs.declared.round.Round.{Round}

@@ -9,16 +9,16 @@ use Rattle.sy_grammar_base.specs.Solving.{AreMembers, AreWithin}
 use Rattle.sy_query_base.specs.Asked.{Query}
 use Rattle.sy_query_limits.specs.declared.FailName.{FailName}
 use Rattle.sy_query_limits.specs.declared.Limits.{Limits}
-use Rattle.sy_loop_bounds.specs.Bounds.{InBound, IsJoinedWithin}
-use Rattle.sy_loop_bounds.specs.Conditional.{yield}
-use Rattle.sy_loop_bounds.specs.declared.reach.Reach.{Reach}
-use Rattle.sy_loop_bounds.specs.declared.reach.Reach.TheVariants.{Sizes, Joins, Beyond}
-use Rattle.sy_loop_bounds.proofs.Conditional.{tree_is_member}
+use Rattle.sy_loop_spec.specs.Bounds.{InBound, IsJoinedWithin}
+use Rattle.sy_loop_spec.specs.Conditional.{yield}
+use Rattle.sy_loop_spec.specs.declared.reach.Reach.{Reach}
+use Rattle.sy_loop_spec.specs.declared.reach.Reach.TheVariants.{Sizes, Joins}
+use Rattle.sy_loop_spec.proofs.Conditional.{tree_is_member}
 use Rattle.sy_loop_candidate.proofs.Ending.{members}
-use Rattle.sy_loop_outcome.specs.Right.{IsRight}
-use Rattle.sy_loop_outcome.specs.declared.outcome.FailCause.TheVariants as causes
-use Rattle.sy_loop_outcome.specs.declared.outcome.Outcome.{Outcome}
-use Rattle.sy_loop_outcome.specs.declared.outcome.Outcome.TheVariants.{Found, Infeasible, Fail}
+use Rattle.sy_loop_spec.specs.Right.{IsRight}
+use Rattle.sy_loop_spec.specs.declared.outcome.FailCause.TheVariants as causes
+use Rattle.sy_loop_spec.specs.declared.outcome.Outcome.{Outcome}
+use Rattle.sy_loop_spec.specs.declared.outcome.Outcome.TheVariants.{Found, Infeasible, Fail}
 use Rattle.sy_loop.specs.Solvable.{IsComplete}
 
 -- bodies in bound are members
@@ -37,7 +37,6 @@ either_members question n bodies bound = ⊎_elim
 bound_members : (reach : Reach) (question : Question) (n : ℕ) (bodies : List Expr) → InBound reach question n bodies → AreMembers question.goals bodies
 bound_members Sizes question n bodies bound = members question.pool n question.goals bodies bound
 bound_members Joins question n bodies bound = either_members question n bodies bound
-bound_members Beyond question n bodies bound = either_members question n bodies bound
 
 module _ {T P S N : Type 0} (owned : Op → Bool) (number : N → Val) (accepted : Query → P → Type 0) (budget : S → FailName) (shows : Query → Limits → FailName → S → Type 0)
     (reach : Reach) (question : Question) (limits : Limits) where

@@ -1,4 +1,11 @@
 pub use Rattle.sy_loop_claims.specs.Least
+pub mod Applying
+pub mod Clauses
+pub mod Copies
+pub mod Joining
+pub mod LevelClauses
+pub mod Levels
+pub mod Plans
 pub mod RoundClauses
 pub mod Rounds
 pub mod Solvable

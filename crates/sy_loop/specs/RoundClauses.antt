@@ -7,10 +7,10 @@ use Rattle.sy_query_limits.specs.declared.Limits.{Limits}
 use Rattle.sy_query_base.specs.declared.decide.Decide.{Ghosts as DecideOf}
 use Rattle.sy_bank_level.specs.Bank.{merged_of}
 use Rattle.sy_bank_level.specs.declared.bank.Bank.{Bank}
-use Rattle.sy_loop_bounds.specs.declared.reach.Reach.{Reach}
-use Rattle.sy_loop_history.specs.Stored.{history_of}
+use Rattle.sy_loop_spec.specs.declared.reach.Reach.{Reach}
+use Rattle.sy_loop_spec.specs.Stored.{history_of}
 use Rattle.sy_loop_candidate.specs.declared.step.Known.{Known}
-use Rattle.sy_loop_laws.specs.Refuting.{AreDoneBelow}
+use Rattle.sy_loop_spec.specs.Refuting.{AreDoneBelow}
 use Rattle.sy_loop.specs.Trees.{TreesFollow}
 use Rattle.sy_loop.specs.Rounds.{LesserAreDone, Carries, EndsLeast, LevelFollows, Rounds}
 use Rattle.sy_loop.specs.declared.round.Round.{Round}

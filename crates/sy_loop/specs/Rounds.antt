@@ -8,18 +8,18 @@ use Rattle.sy_query_limits.specs.declared.FailName.{FailName}
 use Rattle.sy_query_limits.specs.declared.Limits.{Limits}
 use Rattle.sy_query_base.specs.Asked.{Query}
 use Rattle.sy_points.specs.Asked.{Asked}
-use Rattle.sy_bank_rows.specs.Banks.{Merged}
+use Rattle.sy_bank_level.specs.Banks.{Merged}
 use Rattle.sy_bank_level.specs.Bank.{merged_of}
-use Rattle.sy_loop_bounds.specs.declared.reach.Reach.{Reach}
-use Rattle.sy_loop_history.specs.Histories.{Counterexample}
-use Rattle.sy_loop_history.specs.Stored.{history_of}
-use Rattle.sy_loop_outcome.specs.Right.{IsRight}
+use Rattle.sy_loop_spec.specs.declared.reach.Reach.{Reach}
+use Rattle.sy_loop_spec.specs.Histories.{Counterexample}
+use Rattle.sy_loop_spec.specs.Stored.{history_of}
+use Rattle.sy_loop_spec.specs.Right.{IsRight}
 use Rattle.sy_loop_truth.specs.Known.{IsKnown, left}
-use Rattle.sy_loop_laws.specs.Refuting.{AllTreesViolate, AreDoneBelow}
+use Rattle.sy_loop_spec.specs.Refuting.{AllTreesViolate, AreDoneBelow}
 use Rattle.sy_loop_banks.specs.Banks.{AreBanks, AreCarried}
 use Rattle.sy_loop_banks.specs.Dropping.{DroppedNothing}
 use Rattle.sy_loop_claims.specs.Least.{FindsLeast}
-use Rattle.sy_loop_level.specs.Levels.{AllAreRefuted}
+use Rattle.sy_loop.specs.Levels.{AllAreRefuted}
 use Rattle.sy_loop.specs.declared.round.Round.{Round}
 use Rattle.sy_loop.specs.declared.round.Round.TheVariants.{Goes, Ends}
 

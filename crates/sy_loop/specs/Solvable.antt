@@ -6,11 +6,11 @@ use Rattle.sy_grammar_base.specs.Questions.{Question, question_of}
 use Rattle.sy_grammar_base.specs.Solving.{Solves}
 use Rattle.sy_grammar_base.specs.declared.problem.Problem.{Problem}
 use Rattle.sy_query_limits.specs.declared.Limits.{Limits}
-use Rattle.sy_loop_bounds.specs.Bounds.{InBound}
-use Rattle.sy_loop_bounds.specs.declared.reach.Reach.{Reach}
-use Rattle.sy_loop_outcome.specs.declared.outcome.FailCause.TheVariants.{Size, Rounds, Points, Bank, Weight, Decide, Range}
-use Rattle.sy_loop_outcome.specs.declared.outcome.Outcome.{Outcome}
-use Rattle.sy_loop_outcome.specs.declared.outcome.Outcome.TheVariants.{Found, Infeasible, Fail}
+use Rattle.sy_loop_spec.specs.Bounds.{InBound}
+use Rattle.sy_loop_spec.specs.declared.reach.Reach.{Reach}
+use Rattle.sy_loop_spec.specs.declared.outcome.FailCause.TheVariants.{Size, Rounds, Points, Bank, Weight, Decide, Range}
+use Rattle.sy_loop_spec.specs.declared.outcome.Outcome.{Outcome}
+use Rattle.sy_loop_spec.specs.declared.outcome.Outcome.TheVariants.{Found, Infeasible, Fail}
 
 -- some bodies in bound n solve the problem
 pub record IsSolvable (reach : Reach) (question : Question) (n : ℕ) : Type 0 where

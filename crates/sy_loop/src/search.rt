@@ -1,19 +1,18 @@
 // The search.
-ghost use Rattle.std.specs.Prelude.{◌≡◌, IfOk};
+ghost use Rattle.std.specs.Prelude.{IfOk};
 ghost use Rattle.sy_grammar_base.specs.Fits.{ProblemFits};
-ghost use Rattle.sy_loop_outcome.specs.Right.{IsRightFor};
-ghost use Rattle.sy_loop_bounds.specs.declared.reach.Reach.TheVariants.{Sizes, Joins, Beyond};
+ghost use Rattle.sy_loop_spec.specs.Right.{IsRightFor};
+ghost use Rattle.sy_loop_spec.specs.declared.reach.Reach.TheVariants.{Sizes, Joins};
 ghost use Rattle.sy_loop_claims.specs.Clauses.{FindsLeastFor};
 ghost use Rattle.sy_loop.specs.Solvable.{IsCompleteFor};
 
+use crate::plan::plan_of;
 use crate::round::{Round, run_round};
 use std::alloc::{AllocError, Global};
 use sy_grammar_base::Problem;
-use sy_loop_bounds::Reach;
 use sy_loop_candidate::Known;
 use sy_loop_claims::{first_size, unbegun};
-use sy_loop_join::plan_of;
-use sy_loop_outcome::Outcome;
+use sy_loop_spec::{Outcome, Reach};
 use sy_points::{Points, Stored};
 use sy_query_base::Decide;
 use sy_query_limits::Limits;
@@ -65,7 +64,6 @@ fn search<T: Theory, D: Decide<T>>(
     decide: &mut D,
 ) -> Result<Outcome<T, D::Proof, D::Spent>, Want>
     requires problem { ProblemFits T.Theory problem.now }
-    requires strict { reach ≡ Beyond → ⊥ }
     ensures right { IfOk result (IsRightFor T.Theory D.Decide reach problem.now limits.now) }
     ensures least { IfOk result (FindsLeastFor T.Theory reach problem.now) }
 {

@@ -1,26 +1,29 @@
 // The bodies of one size, and then conditional trees over kept terms of sizes up to it.
+// Functions here have more than seven parameters where clauses name the problem, the limits and the reach apart, as
+// those of the crates below do: a record of them would be taken apart at each call.
 ghost use Rattle.std.specs.Prelude.{◌<◌, [], length, map, IfOk, OnOk};
 ghost use Rattle.sy_bank_level.specs.Bank.{merged_of};
 ghost use Rattle.sy_grammar_base.specs.Fits.{ProblemFits};
 ghost use Rattle.sy_loop_candidate.specs.Clauses.{GoesFor, IsKnownFor, IsOpenFor};
-ghost use Rattle.sy_loop_join.specs.Clauses.{IsPlannedFor};
+ghost use Rattle.sy_loop.specs.Clauses.{IsPlannedFor};
 ghost use Rattle.sy_loop_candidate.specs.Going.{OnNext};
-ghost use Rattle.sy_loop_level.specs.LevelClauses.{AllAreRefutedFor, AreHonestFor};
+ghost use Rattle.sy_loop.specs.LevelClauses.{AllAreRefutedFor, AreHonestFor};
 ghost use Rattle.sy_loop.specs.RoundClauses.{TreesFollowFor};
 
+use crate::join_trees::try_trees;
+use crate::level::try_level;
+use crate::plan::Plan;
 use std::alloc::Global;
 use sy_bank_level::Bank;
 use sy_grammar_base::Problem;
-use sy_loop_bounds::Reach;
 use sy_loop_candidate::{Known, Step};
-use sy_loop_join::{Plan, try_trees};
-use sy_loop_level::try_level;
+use sy_loop_spec::Reach;
 use sy_query_base::Decide;
 use sy_query_limits::Limits;
 use sy_terms::{Theory, Want};
 
-/// Tries all bodies of kept terms of the banks whose sizes sum to `level`. Where nothing new is learned, conditional trees
-/// over kept terms of sizes up to it are next.
+/// Tries all bodies of kept terms of the banks whose sizes sum to `level`. Where nothing new is learned, conditional
+/// trees over kept terms of sizes up to it are next.
 pub(crate) fn try_size<T: Theory, D: Decide<T>>(
     alloc: Global,
     problem: &Problem<T>,
@@ -41,7 +44,8 @@ pub(crate) fn try_size<T: Theory, D: Decide<T>>(
     ensures plan { OnOk result (IsPlannedFor T.Theory reach problem.now plan.new) }
     ensures known { OnOk result (IsKnownFor T.Theory reach problem.now limits.now known.new) }
     ensures step { IfOk result (GoesFor T.Theory D.Decide reach problem.now limits.now known.old known.new) }
-    ensures refuted { IfOk result (OnNext (AllAreRefutedFor T.Theory problem.now known.old [] (map (merged_of T.denotes) banks.now) level)) }
+    ensures refuted { IfOk result
+        (OnNext (AllAreRefutedFor T.Theory problem.now known.old [] (map (merged_of T.denotes) banks.now) level)) }
     ensures trees { IfOk result (OnNext (TreesFollowFor T.Theory reach problem.now known.old level banks.now)) }
 {
     match try_level(alloc, problem, limits, reach, decide, banks, level, known)? {

@@ -19,28 +19,28 @@ use Rattle.sy_grammar_base.specs.Trees.{Syntax, tree_size}
 use Rattle.sy_grammar_base.specs.Questions.{Goal, Question, goal_of, question_of}
 use Rattle.sy_grammar_base.specs.declared.problem.Problem.{Problem}
 use Rattle.sy_grammar_base.specs.declared.problem.Wanted.{Wanted}
-use Rattle.sy_grammar_laws.proofs.Problems.{problem_grammars}
+use Rattle.sy_grammar_base.proofs.Problems.{problem_grammars}
 use Rattle.sy_query_limits.specs.declared.Limits.{Limits}
 use Rattle.sy_points.specs.Asked.{Asked, of_function}
-use Rattle.sy_bank_rows.specs.Banks.{Entry, Lost, Merged, IsDropped}
-use Rattle.sy_bank_rows.specs.Rows.{ArePointsOf}
+use Rattle.sy_bank_level.specs.Banks.{Entry, Lost, Merged, IsDropped}
+use Rattle.sy_bank_level.specs.Rows.{ArePointsOf}
 use Rattle.sy_bank_level.specs.Bank.{merged_of}
 use Rattle.sy_bank.specs.Promised.{IsBank, BankIsWhole, BankIsFull}
 use Rattle.sy_bank.specs.declared.bank.BankEnd.{BankEnd}
 use Rattle.sy_bank.specs.declared.bank.BankEnd.TheVariants as ends
 use Rattle.sy_bank.specs.Answers.{OnBank, IfFull}
-use Rattle.sy_bank_rows.specs.Stored.{entry_of}
+use Rattle.sy_bank_level.specs.Stored.{entry_of}
 use Rattle.sy_loop_banks.specs.declared.banks.Banks.{Banks}
-use Rattle.sy_loop_history.specs.Histories.{Counterexample, IsMet, IsOpenNumber}
-use Rattle.sy_loop_history.proofs.Staying.{open_down}
-use Rattle.sy_loop_bounds.specs.declared.reach.Reach.{Reach}
-use Rattle.sy_loop_history.specs.Budgets.{BankMet, MemberLeaves}
+use Rattle.sy_loop_spec.specs.Histories.{Counterexample, IsMet, IsOpenNumber}
+use Rattle.sy_loop_spec.proofs.Staying.{open_down}
+use Rattle.sy_loop_spec.specs.declared.reach.Reach.{Reach}
+use Rattle.sy_loop_spec.specs.Budgets.{BankMet, MemberLeaves}
 use Rattle.sy_loop_truth.specs.Known.{IsKnown}
 use Rattle.sy_loop_truth.proofs.Items.{has_place}
 use Rattle.sy_loop_banks.specs.Banks.{IsBankOf, IsWholeOf, IsFullOf, AreBanks, BanksAreBuilt, IsFullBank}
-use Rattle.sy_loop_outcome.specs.Right.{HasLeftRange}
-use Rattle.sy_loop_outcome.specs.declared.outcome.LoopRange.{LoopRange}
-use Rattle.sy_loop_outcome.specs.declared.outcome.LoopRange.TheVariants.{Member, Checked}
+use Rattle.sy_loop_spec.specs.Right.{HasLeftRange}
+use Rattle.sy_loop_spec.specs.declared.outcome.LoopRange.{LoopRange}
+use Rattle.sy_loop_spec.specs.declared.outcome.LoopRange.TheVariants.{Member, Checked}
 use Rattle.sy_loop_banks.specs.Dropping.{IsPlaced, IsDroppedBy}
 use Rattle.sy_bank_level.proofs.Kept.{at-end}
 

@@ -6,14 +6,14 @@ use Rattle.sy_terms.specs.Values.{Val}
 use Rattle.sy_terms.specs.Denoted.{expr_of, vals_of}
 use Rattle.sy_terms.specs.declared.sort.Value.{Value}
 use Rattle.sy_terms.specs.declared.term.Term.{Term}
-use Rattle.sy_bank_rows.specs.Banks.{Lost}
-use Rattle.sy_bank_rows.specs.Stored.{lost_of}
-use Rattle.sy_bank_rows.specs.declared.kept.Dropped.{Dropped}
+use Rattle.sy_bank_level.specs.Banks.{Lost}
+use Rattle.sy_bank_level.specs.Stored.{lost_of}
+use Rattle.sy_bank_level.specs.declared.kept.Dropped.{Dropped}
 use Rattle.sy_bank.proofs.Places.{place}
 use Rattle.sy_bank_level.specs.Bank.{merged_of}
 use Rattle.sy_bank_level.specs.declared.bank.Bank.{Bank}
-use Rattle.sy_loop_outcome.specs.declared.outcome.LoopRange.{LoopRange}
-use Rattle.sy_loop_outcome.specs.declared.outcome.LoopRange.TheVariants.{Member}
+use Rattle.sy_loop_spec.specs.declared.outcome.LoopRange.{LoopRange}
+use Rattle.sy_loop_spec.specs.declared.outcome.LoopRange.TheVariants.{Member}
 use Rattle.sy_loop_banks.specs.Dropping.{IsPlaced, IsDroppedBy}
 
 pub dropped_by : {T N : Type 0} (number : N → Val) (function : ℕ) (bank : Bank T N) (points : List (List (Value N))) (dropped : Dropped T N) (tuple copy : List (Value N)) (term : Term T N) → map (vals_of number) points ≡ (merged_of number bank).points → Some (lost_of number dropped) ≡ (merged_of number bank).dropped →

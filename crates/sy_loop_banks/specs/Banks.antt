@@ -11,8 +11,8 @@ use Rattle.sy_grammar_base.specs.declared.problem.Problem.{Problem}
 use Rattle.sy_grammar_base.specs.declared.problem.Wanted.{Wanted}
 use Rattle.sy_query_limits.specs.declared.Limits.{Limits}
 use Rattle.sy_points.specs.Asked.{Asked, of_function}
-use Rattle.sy_bank_rows.specs.Banks.{Entry, Merged, kept_count}
-use Rattle.sy_bank_rows.specs.Stored.{entry_of}
+use Rattle.sy_bank_level.specs.Banks.{Entry, Merged, kept_count}
+use Rattle.sy_bank_level.specs.Stored.{entry_of}
 use Rattle.sy_bank.specs.Answers.{BankIsBuilt}
 use Rattle.sy_bank_level.specs.Bank.{merged_of}
 use Rattle.sy_bank.specs.Promised.{IsBank, BankIsWhole, BankIsFull}

@@ -2,9 +2,9 @@
 use Rattle.std.specs.Prelude.{ℕ, ◌≡◌, ◌<◌, length, List, slice_get, All, None, Some, IfSome}
 use Rattle.sy_terms.specs.Values.{Val}
 use Rattle.sy_terms.specs.Denoted.{expr_of, vals_of}
-use Rattle.sy_bank_rows.specs.Banks.{Lost, Merged}
-use Rattle.sy_loop_outcome.specs.declared.outcome.LoopRange.{LoopRange}
-use Rattle.sy_loop_outcome.specs.declared.outcome.LoopRange.TheVariants.{Member, Checked}
+use Rattle.sy_bank_level.specs.Banks.{Lost, Merged}
+use Rattle.sy_loop_spec.specs.declared.outcome.LoopRange.{LoopRange}
+use Rattle.sy_loop_spec.specs.declared.outcome.LoopRange.TheVariants.{Member, Checked}
 
 -- a term that was dropped was so at one of the points
 abbrev pub IsPlaced : Merged → Type 0

@@ -8,8 +8,8 @@ use Rattle.sy_terms.specs.Values.{Val}
 use Rattle.sy_terms.specs.declared.sort.Sort.{Sort}
 use Rattle.sy_terms.specs.declared.sort.Value.{Value}
 use Rattle.sy_grammar_base.specs.Solving.{AreValues}
-use Rattle.sy_bank_laws.proofs.Points.{points-more}
-use Rattle.sy_bank_rows.specs.Rows.{ArePointsOf}
+use Rattle.sy_bank_level.proofs.Points.{points-more}
+use Rattle.sy_bank_level.specs.Rows.{ArePointsOf}
 use Rattle.sy_loop_truth.proofs.Items.{item_of}
 
 -- a copy of the tuple that comes next is a point more

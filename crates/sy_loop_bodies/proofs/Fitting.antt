@@ -12,7 +12,7 @@ use Rattle.sy_terms.specs.declared.op.Op.{Op}
 use Rattle.sy_terms.specs.declared.sort.Sort.{Sort}
 use Rattle.sy_terms.specs.declared.term.Def.{Def}
 use Rattle.sy_terms.specs.declared.term.Term.{Term}
-use Rattle.sy_terms_laws.specs.Evaluation.{FitsWith}
+use Rattle.sy_terms_operators.specs.Evaluation.{FitsWith}
 
 -- a term that has a sort under a problem's definitions fits at values of its variables' sorts
 module _ {T N : Type 0} (owned : Op → Bool) (number : N → Val) (defs slice : List (Def T N)) (same : slice ≡ defs) (sorts vars : List Sort) (all : sorts ≡ vars) (values : List Val) (sorted : map sort_of_value values ≡ vars) (term : Expr) where

@@ -10,14 +10,14 @@ use Rattle.sy_terms.specs.declared.op.Op.TheVariants as ops
 use Rattle.sy_terms.specs.declared.sort.Sort.{Sort}
 use Rattle.sy_terms.specs.declared.sort.Sort.TheVariants as sorts
 use Rattle.sy_terms.specs.declared.term.Term.{Term}
-use Rattle.sy_terms_laws.specs.Evaluation.{BodiesFit}
+use Rattle.sy_terms_operators.specs.Evaluation.{BodiesFit}
 use Rattle.sy_grammar_base.specs.Fits.{QuestionFits}
 use Rattle.sy_grammar_base.specs.Trees.{Tree, Derives, tree_size}
 use Rattle.sy_grammar_base.specs.Questions.{Goal, Question, question_of, signatures}
 use Rattle.sy_grammar_base.specs.Solving.{AreWithin}
 use Rattle.sy_grammar_base.specs.declared.problem.Problem.{Problem}
-use Rattle.sy_grammar_laws.proofs.Candidates.{bodies_fit}
-use Rattle.sy_bank_rows.specs.Banks.{Entry, Merged, kept_at}
+use Rattle.sy_grammar_base.proofs.Candidates.{bodies_fit}
+use Rattle.sy_bank_level.specs.Banks.{Entry, Merged, kept_at}
 use Rattle.sy_loop_candidate.proofs.Ending.{members}
 use Rattle.sy_loop_bodies.specs.Banked.{IsOneBank}
 

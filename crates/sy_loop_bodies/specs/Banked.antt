@@ -2,7 +2,7 @@
 use Rattle.std.specs.Prelude.{◌≡◌, [], ◌∷◌}
 use Rattle.sy_terms.specs.Meaning.{functions}
 use Rattle.sy_grammar_base.specs.Questions.{Goal, Question}
-use Rattle.sy_bank_rows.specs.Banks.{Merged, IsHonestBank}
+use Rattle.sy_bank_level.specs.Banks.{Merged, IsHonestBank}
 
 -- one function is to be found, and the bank is honest for its grammar
 pub record IsOneBank (question : Question) (bank : Merged) : Type 0 where

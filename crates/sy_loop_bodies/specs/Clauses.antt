@@ -12,7 +12,7 @@ use Rattle.sy_query_base.specs.declared.decide.Decide.{Ghosts as DecideOf}
 use Rattle.sy_query_base.specs.declared.verdict.Verdict.{Verdict}
 use Rattle.sy_query_base.specs.declared.verdict.Verdict.TheVariants.{Never, Model, Spent}
 use Rattle.sy_points.specs.declared.stored.Stored.{Stored}
-use Rattle.sy_bank_rows.specs.Banks.{Entry}
+use Rattle.sy_bank_level.specs.Banks.{Entry}
 use Rattle.sy_bank_level.specs.Bank.{merged_of}
 use Rattle.sy_bank_level.specs.declared.bank.Bank.{Bank}
 use Rattle.sy_query_base.specs.Solutions.{IsSolution}

@@ -2,8 +2,7 @@
 ghost use Rattle.sy_grammar_base.specs.Fits.{ProblemFits};
 
 use crate::body::Task;
-use sy_bank_level::Bank;
-use sy_bank_rows::Kept;
+use sy_bank_level::{Bank, Kept};
 use sy_grammar_sizes::number_of;
 use sy_meaning::{Eval, evaluate, term_sort, value_sorts};
 use sy_terms::{Term, Theory, Value, Values, Want, same_values};

@@ -1,17 +1,17 @@
 // Kept terms that are tried as the one body.
 ghost use Rattle.std.specs.Prelude.{IfOk, OnOk};
-ghost use Rattle.sy_bank_rows.specs.Stored.{entries_of};
+ghost use Rattle.sy_bank_level.specs.Stored.{entries_of};
 ghost use Rattle.sy_grammar_base.specs.Fits.{ProblemFits};
 ghost use Rattle.sy_loop_bodies.specs.Clauses.{AreAssignedFor, AreSmallFor, IsFoundFor};
 
 use crate::aside::Aside;
 use crate::body::{Task, try_body};
-use sy_bank_rows::Kept;
+use sy_bank_level::Kept;
 use sy_query_base::Decide;
 use sy_terms::{Bodies, Theory, Values, Want};
 
-/// The first of the kept terms that solves the problem as the one body; `None` where none was found to, or no more may be
-/// left undecided.
+/// The first of the kept terms that solves the problem as the one body; `None` where none was found to, or no more may
+/// be left undecided.
 pub fn solve_kept<T: Theory, D: Decide<T>>(
     task: &Task<T>,
     decide: &mut D,

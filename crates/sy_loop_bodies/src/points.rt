@@ -1,7 +1,7 @@
 // Tuples of arguments as points of a bank.
 ghost use Rattle.std.specs.Prelude.{◌≡◌, true, IfOk, IfSome, map};
 ghost use Rattle.sy_terms.specs.Denoted.{vals_of};
-ghost use Rattle.sy_bank_rows.specs.Rows.{ArePointsOf};
+ghost use Rattle.sy_bank_level.specs.Rows.{ArePointsOf};
 
 use std::alloc::Global;
 use sy_meaning::value_sorts;
@@ -13,7 +13,8 @@ pub fn points_of<T: Theory>(
     sorts: &[Sort],
     tuples: &[Values<T>],
 ) -> Result<Option<Seq<Values<T>>>, Want>
-    ensures sorted { IfOk result (λ found. IfSome found (λ points. ArePointsOf sorts.now (map (vals_of T.denotes) points))) }
+    ensures sorted { IfOk result (λ found.
+        IfSome found (λ points. ArePointsOf sorts.now (map (vals_of T.denotes) points))) }
     ensures same { IfOk result (λ found. IfSome found (λ points. points ≡ tuples.now)) }
 {
     let mut points = Seq::new(alloc);

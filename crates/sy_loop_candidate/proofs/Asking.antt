@@ -11,21 +11,21 @@ use Rattle.sy_terms.specs.Meaning.{Function, functions, function_from, asked}
 use Rattle.sy_terms.specs.declared.op.Op.{Op}
 use Rattle.sy_terms.specs.declared.term.Term.{Term}
 use Rattle.sy_query_limits.specs.declared.Limits.{Limits}
-use Rattle.sy_terms_laws.specs.Evaluation.{BodiesFit, can_compute}
-use Rattle.sy_terms_laws.specs.Asking.{asks}
-use Rattle.sy_terms_laws.specs.Tracing.{traced_all}
-use Rattle.sy_terms_laws.specs.Tracing as tracing
-use Rattle.sy_terms_laws.proofs.Asked.{traced_all-append}
+use Rattle.sy_terms_operators.specs.Evaluation.{BodiesFit, can_compute}
+use Rattle.sy_terms_operators.specs.Asking.{asks}
+use Rattle.sy_terms_operators.specs.Tracing.{traced_all}
+use Rattle.sy_terms_operators.specs.Tracing as tracing
+use Rattle.sy_terms_operators.proofs.Asked.{traced_all-append}
 use Rattle.sy_meaning.specs.Calls.{IsCallOf, AsksRightly}
 use Rattle.sy_grammar_base.specs.Questions.{Goal, Question, question_of, signatures}
 use Rattle.sy_grammar_base.specs.Solving.{AreValues}
 use Rattle.sy_grammar_base.specs.declared.problem.Problem.{Problem}
 use Rattle.sy_points.specs.Asked.{Asked}
-use Rattle.sy_loop_bounds.specs.declared.reach.Reach.{Reach}
-use Rattle.sy_loop_history.specs.Histories.{Counterexample, IsCandidate, all_asked_by, trace}
-use Rattle.sy_loop_history.proofs.Staying.{tried_in_bound}
-use Rattle.sy_loop_history.specs.Truths.{asked_by, OneLeaves}
-use Rattle.sy_loop_history.specs.Adding.{IsAsked, GainsTuples, room}
+use Rattle.sy_loop_spec.specs.declared.reach.Reach.{Reach}
+use Rattle.sy_loop_spec.specs.Histories.{Counterexample, IsCandidate, all_asked_by, trace}
+use Rattle.sy_loop_spec.proofs.Staying.{tried_in_bound}
+use Rattle.sy_loop_spec.specs.Truths.{asked_by, OneLeaves}
+use Rattle.sy_loop_spec.specs.Adding.{IsAsked, GainsTuples, room}
 use Rattle.sy_loop_truth.specs.Answers.{AddsCalls}
 use Rattle.sy_loop_truth.specs.Known.{IsHeld, IsKnown}
 use Rattle.sy_loop_truth.specs.Traces.{AreCalls, TuplesGrow, Widens, IsAskedBy, MeetAll, AsksAt, IsTraced, AreTraced, IsTracedAt, LeavesRangeAt}

@@ -13,10 +13,10 @@ use Rattle.sy_query_limits.specs.declared.Limits.{Limits}
 use Rattle.sy_grammar_base.specs.Questions.{Question}
 use Rattle.sy_points.specs.Asked.{Asked}
 use Rattle.sy_points.specs.declared.stored.Stored.{Stored}
-use Rattle.sy_loop_history.specs.Histories.{Counterexample, all_asked_by, trace}
-use Rattle.sy_loop_history.specs.Stored.{history_of}
-use Rattle.sy_loop_history.specs.Truths.{IsViolated, OneLeaves}
-use Rattle.sy_loop_history.specs.Adding.{GainsTuples}
+use Rattle.sy_loop_spec.specs.Histories.{Counterexample, all_asked_by, trace}
+use Rattle.sy_loop_spec.specs.Stored.{history_of}
+use Rattle.sy_loop_spec.specs.Truths.{IsViolated, OneLeaves}
+use Rattle.sy_loop_spec.specs.Adding.{GainsTuples}
 use Rattle.sy_loop_truth.specs.Answers.{AddsCalls}
 use Rattle.sy_loop_truth.specs.Known.{IsHeld}
 use Rattle.sy_loop_truth.specs.Traces.{LeavesRangeAt, Widens}

@@ -21,22 +21,22 @@ use Rattle.sy_query_base.specs.Queries.{violating, Violates, IsViolation}
 use Rattle.sy_query_base.specs.Asked.{Query, Satisfies, IsNever}
 use Rattle.sy_points.specs.Asked.{Asked, of_function, AreDistinct}
 use Rattle.sy_points.specs.declared.stored.Stored.{Stored}
-use Rattle.sy_loop_bounds.specs.Bounds.{IsJoinedWithin}
-use Rattle.sy_loop_bounds.specs.Conditional.{yield}
-use Rattle.sy_loop_bounds.specs.declared.reach.Reach.{Reach}
-use Rattle.sy_loop_bounds.specs.declared.reach.Reach.TheVariants.{Sizes, Joins, Beyond}
-use Rattle.sy_loop_bounds.proofs.Conditional.{tree_is_member}
-use Rattle.sy_loop_history.specs.Histories.{Counterexample, IsCandidate, IsDue, IsFewJoined, IsNextCounterexample, IsHonestHistory, IsMet, MayTry, trace}
-use Rattle.sy_loop_history.proofs.Staying.{candidate_stays, met_stays}
-use Rattle.sy_loop_history.specs.Budgets as budgets
-use Rattle.sy_loop_history.specs.Budgets.{RoundsMet, PointsMet, CheckedLeaves}
-use Rattle.sy_loop_history.specs.Stored.{counterexample_of, history_of}
-use Rattle.sy_loop_history.specs.Adding.{room}
+use Rattle.sy_loop_spec.specs.Bounds.{IsJoinedWithin}
+use Rattle.sy_loop_spec.specs.Conditional.{yield}
+use Rattle.sy_loop_spec.specs.declared.reach.Reach.{Reach}
+use Rattle.sy_loop_spec.specs.declared.reach.Reach.TheVariants.{Sizes, Joins}
+use Rattle.sy_loop_spec.proofs.Conditional.{tree_is_member}
+use Rattle.sy_loop_spec.specs.Histories.{Counterexample, IsCandidate, IsDue, IsFewJoined, IsNextCounterexample, IsHonestHistory, IsMet, MayTry, trace}
+use Rattle.sy_loop_spec.proofs.Staying.{candidate_stays, met_stays}
+use Rattle.sy_loop_spec.specs.Budgets as budgets
+use Rattle.sy_loop_spec.specs.Budgets.{RoundsMet, PointsMet, CheckedLeaves}
+use Rattle.sy_loop_spec.specs.Stored.{counterexample_of, history_of}
+use Rattle.sy_loop_spec.specs.Adding.{room}
 use Rattle.sy_loop_truth.specs.Known.{IsKnown}
 use Rattle.sy_loop_truth.specs.Traces.{AreTraced, AsksMore, LeavesRangeAt, IsTraced, IsTracedAt}
-use Rattle.sy_loop_history.specs.Truths.{OneLeaves}
+use Rattle.sy_loop_spec.specs.Truths.{OneLeaves}
 use Rattle.sy_loop_candidate.specs.Steps.{Decides, Steps, StepFollows, IsFollowed, IsTracedOrLeaves}
-use Rattle.sy_terms_laws.specs.Evaluation.{BodiesFit}
+use Rattle.sy_terms_operators.specs.Evaluation.{BodiesFit}
 use Rattle.sy_grammar_base.specs.declared.problem.Problem.{Problem}
 use Rattle.sy_loop_candidate.specs.declared.step.Step.{Step}
 use Rattle.sy_loop_candidate.specs.declared.step.Step.TheVariants.{Next, Again}
@@ -63,10 +63,6 @@ tried_members Sizes question size history n bodies may = members question.pool n
 tried_members Joins question size history n bodies may = ⊎_elim
     (λ (within : AreWithin question.pool n question.goals bodies). members question.pool n question.goals bodies within)
     (λ (few : IsFewJoined Joins question size history n bodies). joined_members question n bodies few.joined)
-    may
-tried_members Beyond question size history n bodies may = ⊎_elim
-    (λ (within : AreWithin question.pool n question.goals bodies). members question.pool n question.goals bodies within)
-    (λ (few : IsFewJoined Beyond question size history n bodies). joined_members question n bodies few.joined)
     may
 
 pub candidate_members : (reach : Reach) (question : Question) (size : ℕ) (history : List Counterexample) (bodies : List Expr) → IsCandidate reach question size history bodies → AreMembers question.goals bodies

@@ -13,17 +13,17 @@ use Rattle.sy_query_limits.specs.declared.Limits.{Limits}
 use Rattle.sy_query_base.specs.Asked.{Query}
 use Rattle.sy_points.specs.Asked.{Asked}
 use Rattle.sy_points.specs.declared.stored.Stored.{Stored}
-use Rattle.sy_loop_bounds.specs.declared.reach.Reach.{Reach}
-use Rattle.sy_loop_history.specs.Histories.{Counterexample}
-use Rattle.sy_loop_history.specs.Stored.{counterexample_of, history_of}
+use Rattle.sy_loop_spec.specs.declared.reach.Reach.{Reach}
+use Rattle.sy_loop_spec.specs.Histories.{Counterexample}
+use Rattle.sy_loop_spec.specs.Stored.{counterexample_of, history_of}
 use Rattle.sy_loop_truth.specs.Known.{left}
 use Rattle.sy_loop_candidate.specs.Steps.{Decides, IsStored, Steps}
 use Rattle.sy_loop_truth.specs.Traces as traces
 use Rattle.sy_loop_candidate.specs.declared.step.Step.{Step}
 use Rattle.sy_loop_candidate.specs.declared.step.Step.TheVariants.{Next, Again}
 use Rattle.sy_loop_candidate.specs.declared.step.Step.TheVariants as steps
-use Rattle.sy_loop_history.specs.Trials.{IsRefuted}
-use Rattle.sy_loop_history.specs.Adding.{KnownGrows}
+use Rattle.sy_loop_spec.specs.Trials.{IsRefuted}
+use Rattle.sy_loop_spec.specs.Adding.{KnownGrows}
 use Rattle.sy_loop_candidate.specs.Going.{Goes, OnNext}
 
 -- as many stored pairs as the history has

@@ -3,9 +3,9 @@ use Rattle.std.specs.Prelude.{ℕ, ◌≡◌, ◌<◌, List}
 use Rattle.sy_terms.specs.Expr.{Expr}
 use Rattle.sy_grammar_base.specs.Questions.{Question}
 use Rattle.sy_points.specs.Asked.{Asked}
-use Rattle.sy_loop_history.specs.Adding.{room}
-use Rattle.sy_loop_history.specs.Histories.{Counterexample}
-use Rattle.sy_loop_history.specs.Trials.{IsRefuted}
+use Rattle.sy_loop_spec.specs.Adding.{room}
+use Rattle.sy_loop_spec.specs.Histories.{Counterexample}
+use Rattle.sy_loop_spec.specs.Trials.{IsRefuted}
 use Rattle.sy_loop_truth.specs.Traces.{AreTraced, AsksMore, LeavesRangeAt, MeetAll}
 use Rattle.sy_loop_truth.specs.declared.calls.Adding.{Adding}
 use Rattle.sy_loop_truth.specs.declared.calls.Adding.TheVariants as adding

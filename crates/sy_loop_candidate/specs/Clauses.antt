@@ -7,9 +7,9 @@ use Rattle.sy_grammar_base.specs.declared.problem.Problem.{Problem}
 use Rattle.sy_query_limits.specs.declared.Limits.{Limits}
 use Rattle.sy_query_base.specs.declared.decide.Decide.{Ghosts as DecideOf}
 use Rattle.sy_points.specs.Asked.{Asked}
-use Rattle.sy_loop_bounds.specs.declared.reach.Reach.{Reach}
-use Rattle.sy_loop_history.specs.Histories.{IsCandidate, IsDue, IsOpenNumber}
-use Rattle.sy_loop_history.specs.Stored.{history_of}
+use Rattle.sy_loop_spec.specs.declared.reach.Reach.{Reach}
+use Rattle.sy_loop_spec.specs.Histories.{IsCandidate, IsDue, IsOpenNumber}
+use Rattle.sy_loop_spec.specs.Stored.{history_of}
 use Rattle.sy_loop_candidate.specs.Going.{Goes}
 use Rattle.sy_loop_truth.specs.Known.{IsKnown}
 use Rattle.sy_loop_candidate.specs.Steps.{Decides, IsCandidateEnd, Steps, StepFollows}

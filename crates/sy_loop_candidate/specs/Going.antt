@@ -7,14 +7,14 @@ use Rattle.sy_query_limits.specs.declared.FailName.{FailName}
 use Rattle.sy_query_limits.specs.declared.Limits.{Limits}
 use Rattle.sy_query_base.specs.Asked.{Query}
 use Rattle.sy_points.specs.Asked.{Asked}
-use Rattle.sy_loop_bounds.specs.declared.reach.Reach.{Reach}
-use Rattle.sy_loop_history.specs.Histories.{Counterexample}
+use Rattle.sy_loop_spec.specs.declared.reach.Reach.{Reach}
+use Rattle.sy_loop_spec.specs.Histories.{Counterexample}
 use Rattle.sy_loop_truth.specs.Known.{left}
 use Rattle.sy_loop_candidate.specs.Steps.{IsCandidateEnd}
 use Rattle.sy_loop_candidate.specs.declared.step.Step.{Step}
 use Rattle.sy_loop_candidate.specs.declared.step.Step.TheVariants.{Next, Again}
 use Rattle.sy_loop_candidate.specs.declared.step.Step.TheVariants as steps
-use Rattle.sy_loop_history.specs.Adding.{KnownGrows}
+use Rattle.sy_loop_spec.specs.Adding.{KnownGrows}
 
 -- a fact where nothing new is learned
 abbrev pub OnNext : {T P S N : Type 0} → Type 0 → Step T P S N → Type 0

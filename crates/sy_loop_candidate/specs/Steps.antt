@@ -12,16 +12,16 @@ use Rattle.sy_query_limits.specs.declared.Limits.{Limits}
 use Rattle.sy_query_base.specs.Asked.{Query}
 use Rattle.sy_points.specs.Asked.{Asked, of_function}
 use Rattle.sy_points.specs.declared.stored.Stored.{Stored}
-use Rattle.sy_loop_bounds.specs.declared.reach.Reach.{Reach}
-use Rattle.sy_loop_history.specs.Histories.{Counterexample, IsCandidate}
-use Rattle.sy_loop_history.specs.Budgets.{RoundsMet, PointsMet, WeightMet, DecideMet, CheckedLeaves}
+use Rattle.sy_loop_spec.specs.declared.reach.Reach.{Reach}
+use Rattle.sy_loop_spec.specs.Histories.{Counterexample, IsCandidate}
+use Rattle.sy_loop_spec.specs.Budgets.{RoundsMet, PointsMet, WeightMet, DecideMet, CheckedLeaves}
 use Rattle.sy_query_base.specs.Solutions.{IsSolution}
-use Rattle.sy_loop_history.specs.Stored.{history_of}
+use Rattle.sy_loop_spec.specs.Stored.{history_of}
 use Rattle.sy_loop_truth.specs.Known.{left}
-use Rattle.sy_loop_history.specs.Adding.{room}
+use Rattle.sy_loop_spec.specs.Adding.{room}
 use Rattle.sy_loop_truth.specs.Traces.{IsTraced, AreTraced}
-use Rattle.sy_loop_history.specs.Trials.{IsRefuted}
-use Rattle.sy_loop_history.specs.Truths.{OneLeaves}
+use Rattle.sy_loop_spec.specs.Trials.{IsRefuted}
+use Rattle.sy_loop_spec.specs.Truths.{OneLeaves}
 use Rattle.sy_loop_candidate.specs.declared.step.End.{End}
 use Rattle.sy_loop_candidate.specs.declared.step.End.TheVariants.{Found, Rounds, Points, Weight, Decide, Checked}
 use Rattle.sy_loop_candidate.specs.declared.step.Step.{Step}

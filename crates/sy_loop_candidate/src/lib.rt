@@ -4,9 +4,16 @@
 mod asks;
 mod copies;
 mod due;
+mod observe;
+mod place;
+mod refute;
 mod step;
+mod suspects;
+mod tell;
 mod trial;
 
 pub use copies::copied_bodies;
 pub use due::{decide_due, decide_query};
+pub use refute::are_refuted;
 pub use step::{End, Known, Step, try_candidate};
+pub use suspects::Suspects;

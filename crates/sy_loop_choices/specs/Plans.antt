@@ -17,4 +17,5 @@ IsStep pools shapes number (Rule shape parts) =
 -- steps over earlier ones, and one at least
 pub record IsPlan (pools : List Pool) (shapes : List Shape) (plan : Plan) : Type 0 where
   pub some : 0 < length plan.nodes.items
-  pub each : (number : ℕ) (step : Node) → slice_get plan.nodes.items number ≡ Some step → IsStep pools shapes number step
+  pub each : (number : ℕ) (step : Node) → slice_get plan.nodes.items number ≡ Some step
+      → IsStep pools shapes number step

@@ -41,33 +41,42 @@ pub(crate) fn bits_of<R: Rules>(
     pool: u32,
     all: u128,
 ) -> Result<Option<Bits>, Want> {
+    let (Some(and), Some(one)) = (conjunction(search, pool), unit(search, pool, all)) else {
+        return Ok(None);
+    };
     let mut bits = Bits {
-        and: search.task.shapes.len(),
-        one: search.task.columns(pool).len(),
+        and,
+        one,
         ways: Vec::new(search.alloc),
     };
-    for (number, shape) in search.task.shapes.iter().enumerate() {
-        if let [first, second] = shape.operands.as_slice() {
-            let is_own = shape.pool == pool && *first == pool && *second == pool;
-            if is_own && search.operation(number) == Some(Operation::And) {
-                bits.and = number;
-            }
-        }
-    }
-    let columns = search.task.columns(pool);
-    for (place, column) in columns.iter().enumerate() {
-        if bits.one == columns.len() && points_of(column.values.as_slice(), 1) == all {
-            bits.one = place;
-        }
-    }
-    if bits.and == search.task.shapes.len() || bits.one == columns.len() {
-        return Ok(None);
-    }
     for bit in 0..search.task.greatest(pool).count_ones() {
         let way = least_way(search, pool, bit, &bits);
         bits.ways.push(way)?;
     }
     Ok(Some(bits))
+}
+
+/// The shape of a conjunction of terms of the pool, if there is one.
+fn conjunction<R: Rules>(search: &Search<R>, pool: u32) -> Option<usize> {
+    for (number, shape) in search.task.shapes.iter().enumerate() {
+        if let [first, second] = shape.operands.as_slice() {
+            let is_own = shape.pool == pool && *first == pool && *second == pool;
+            if is_own && search.operation(number) == Some(Operation::And) {
+                return Some(number);
+            }
+        }
+    }
+    None
+}
+
+/// The place of the first kept term of the pool that is 1 at all points, if there is one.
+fn unit<R: Rules>(search: &Search<R>, pool: u32, all: u128) -> Option<usize> {
+    for (place, column) in search.task.columns(pool).iter().enumerate() {
+        if points_of(column.values.as_slice(), 1) == all {
+            return Some(place);
+        }
+    }
+    None
 }
 
 /// The least way to the bit by shifts to the right, where those to lower bits are known.

@@ -14,11 +14,13 @@ use sy_seq::Want;
 
 /// How much is looked up at most.
 const WORK: u64 = 200_000_000;
+/// What the trial of a pair at all points counts for: as many look-ups.
+const TRIAL: u64 = 10_000;
 /// How many kept terms are judged in pairs.
 const MOST_JUDGED: usize = 600;
-/// Among how many points, all over them, those are sought at which kept terms differ most; and how many of these are looked at.
+/// Among how many points, all over them, those are sought at which kept terms differ most.
 const SEEN_POINTS: usize = 8;
-
+/// At how many points pairs are looked up.
 const POINTS: usize = 3;
 
 /// Two kept terms that a shape joins, inside of the operations of a layer.
@@ -30,9 +32,9 @@ struct Found {
     second: usize,
 }
 
-/// A plan of a body with the wanted value at each point: up to three operations that can be turned round, over two kept terms
-/// that an operation joins. `None` where none was found within the stated work. `Want` comes where memory runs out, and
-/// nowhere else.
+/// A plan of a body with the wanted value at each point: up to three operations that can be turned round, over two
+/// kept terms that an operation joins. `None` where none was found within the stated work. `Want` comes where memory
+/// runs out, and nowhere else.
 pub fn below<'a, R: Rules>(
     alloc: Global,
     rules: &'a R,
@@ -122,7 +124,7 @@ fn found_in_layer<R: Rules>(
                     first,
                     second,
                 };
-                kept.work = kept.work.saturating_sub(WORK / 20_000);
+                kept.work = kept.work.saturating_sub(TRIAL);
                 if is_whole(search, layers, &found)? {
                     return Ok(Some(found));
                 }

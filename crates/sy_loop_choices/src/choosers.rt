@@ -4,9 +4,9 @@ use crate::rows::{agreement, all_points, points_of};
 use std::alloc::Global;
 use sy_seq::Want;
 
-/// On how many kept terms a rule is tried, and on how many until it has had the values of both parts.
+/// On how many kept terms a rule is tried.
 const SAMPLES: usize = 100;
-
+/// On how many it is tried at most until it has had the values of both parts.
 const MOST_SAMPLES: usize = 2_000;
 /// How many rules that choose are taken at most.
 const MOST_CHOOSERS: usize = 8;
@@ -75,7 +75,8 @@ impl Test {
 }
 
 impl Chooser {
-    /// The points at which the rule has the value of its part `yes`, with these other parts; `None` where it has neither's.
+    /// The points at which the rule has the value of its part `yes`, with these other parts. `None` where it has
+    /// neither's somewhere.
     pub(crate) fn row<R: Rules>(
         &self,
         alloc: Global,

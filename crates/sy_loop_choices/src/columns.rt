@@ -2,8 +2,8 @@
 use std::alloc::Global;
 use sy_seq::Want;
 
-/// A kept term: its size, and its value at each point. A vector is the number of its bits, a truth value 0 or 1, a whole
-/// number its lowest 64 bits.
+/// A kept term: its size, and its value at each point. A vector is the number of its bits, a truth value 0 or 1, a
+/// whole number its lowest 64 bits.
 #[derive(Drop)]
 pub struct Column {
     pub size: u32,
@@ -17,7 +17,8 @@ pub struct Pool {
     pub columns: Vec<Column>,
 }
 
-/// A rule of a nonterminal, what it adds to the sizes of its parts, and the nonterminal of each part from left to right.
+/// A rule of a nonterminal, what it adds to the sizes of its parts, and the nonterminal of each part from left to
+/// right.
 #[derive(Drop)]
 pub struct Shape {
     pub pool: u32,
@@ -40,8 +41,8 @@ pub struct Task {
 
 /// The values of rules over columns.
 pub trait Rules {
-    /// The values of the shape's rule where its parts, from left to right, have these values: one for each point. `None` where
-    /// that isn't known. `Want` comes where memory runs out, and nowhere else.
+    /// The values of the shape's rule where its parts, from left to right, have these values: one for each point.
+    /// `None` where that isn't known. `Want` comes where memory runs out, and nowhere else.
     fn values(
         &self,
         alloc: Global,

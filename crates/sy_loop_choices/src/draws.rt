@@ -16,9 +16,14 @@ const WORK: u64 = 100_000_000;
 
 /// Random numbers, the same each time.
 #[derive(Drop)]
-pub(crate) struct Draws(pub(crate) u64);
+pub(crate) struct Draws(u64);
 
 impl Draws {
+    /// From the first one on.
+    pub(crate) fn new() -> Draws {
+        Draws(88172645463325252)
+    }
+
     /// A point of the set, if there is one.
     fn point(&mut self, set: u128) -> Option<usize> {
         self.0 ^= self.0 << 13;

@@ -27,8 +27,8 @@ pub(crate) fn gather_further<R: Rules>(
     Ok(())
 }
 
-/// The places of kept terms over which the shape, if it is one of the pool's that doesn't choose, gives what isn't kept: of
-/// two parts one is among the first. At most so many.
+/// The places of kept terms over which the shape, if it is one of the pool's that doesn't choose, gives what isn't
+/// kept: of two parts one is among the first. At most so many.
 fn combinations<R: Rules>(
     search: &Search<R>,
     shape: usize,
@@ -68,7 +68,8 @@ fn combinations<R: Rules>(
     Ok(found)
 }
 
-/// Appends the places if there is room and the rule over them is larger than the terms that are all kept. Of operands that may change places the first one stands first.
+/// Appends the places if there is room and the rule over them is larger than the terms that are all kept. Of operands
+/// that may change places the first one stands first.
 fn push_new<R: Rules>(
     search: &Search<R>,
     shape: usize,

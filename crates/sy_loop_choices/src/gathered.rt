@@ -33,8 +33,8 @@ pub(crate) enum Role {
     Condition(usize),
 }
 
-/// A leaf with the points at which it has the wanted value, or a condition with those at which its chooser has the value of
-/// the first of two parts; and its size, that of a condition with the chooser.
+/// A leaf with the points at which it has the wanted value, or a condition with those at which its chooser has the
+/// value of the first of two parts; and its size, that of a condition with the chooser.
 #[derive(Clone, Copy)]
 pub(crate) struct Part {
     pub(crate) role: Role,
@@ -97,7 +97,8 @@ impl Gathered {
         }
     }
 
-    /// Takes the part, unless a smaller one does as well, or it is good for nothing. A condition does as well as its opposite.
+    /// Takes the part, unless a smaller one does as well, or it is good for nothing. A condition does as well as its
+    /// opposite.
     pub(crate) fn offer(&mut self, part: Part) -> Result<(), Want> {
         match part.role {
             Role::Leaf => self.leaves.offer(part.row, part),

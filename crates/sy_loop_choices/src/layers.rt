@@ -90,26 +90,27 @@ fn inner_layers<R: Rules>(
                 for place in 0..kept.values.len().min(OPERANDS) {
                     step.kept = Some(place);
                     step.kept_first = true;
-                    push_layer(search, kept, (number, outer), step, &mut inner)?;
+                    push_layer(search, kept, number, outer, step, &mut inner)?;
                     if !operation.commutes() {
                         step.kept_first = false;
-                        push_layer(search, kept, (number, outer), step, &mut inner)?;
+                        push_layer(search, kept, number, outer, step, &mut inner)?;
                     }
                 }
             }
-            (None, [0]) => push_layer(search, kept, (number, outer), step, &mut inner)?,
+            (None, [0]) => push_layer(search, kept, number, outer, step, &mut inner)?,
             _ => {}
         }
     }
     Ok(inner)
 }
 
-/// Appends the layer of this step in the layer of this number, if it is small enough, something serves inside, and the step
-/// doesn't undo the one before.
+/// Appends the layer of this step in the layer of this number, if it is small enough, something serves inside, and
+/// the step doesn't undo the one before.
 fn push_layer<R: Rules>(
     search: &Search<R>,
     kept: &Kept,
-    outer: (usize, &Layer),
+    number: usize,
+    outer: &Layer,
     step: Step,
     inner: &mut Vec<Layer>,
 ) -> Result<(), Want> {
@@ -118,8 +119,8 @@ fn push_layer<R: Rules>(
         None => 0,
     };
     let added = search.task.added(step.shape).saturating_add(own);
-    let size = outer.1.size.saturating_add(added);
-    let repeats = match outer.1.step {
+    let size = outer.size.saturating_add(added);
+    let repeats = match outer.step {
         Some(other) => other.shape == step.shape && step.operation.undoes_itself(),
         None => false,
     };
@@ -129,7 +130,7 @@ fn push_layer<R: Rules>(
     if size > MOST_SIZE || repeats {
         return Ok(());
     }
-    let target = outer.1.target.below(
+    let target = outer.target.below(
         search.alloc,
         step.operation,
         values.as_slice(),
@@ -137,7 +138,7 @@ fn push_layer<R: Rules>(
     )?;
     if let Some(target) = target {
         inner.push(Layer {
-            outer: outer.0,
+            outer: number,
             step: Some(step),
             target,
             size,

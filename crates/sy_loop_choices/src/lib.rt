@@ -1,5 +1,5 @@
-// Bodies that choose between kept terms, and bodies below known operations, from values at points. Which one is named is a
-// guess: whoever takes it proves of it what is to hold.
+// Bodies that choose between kept terms, and bodies below known operations, from values at points. Which one is named
+// is a guess: whoever takes it proves of it what is to hold.
 #![tactic(auto)]
 
 mod bits;

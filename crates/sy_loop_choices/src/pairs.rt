@@ -79,7 +79,7 @@ impl Kept {
             }
             Operation::Xor if target.masked => {
                 let table = self.table(target)?;
-                self.look_up((operation, 0), target, &table, &mut met)?;
+                self.look_up(operation, 0, target, &table, &mut met)?;
                 self.charge(2);
             }
             Operation::Xor | Operation::Add if !target.masked => {
@@ -148,17 +148,19 @@ impl Kept {
         };
         if let Some(Some(table)) = self.tables.get(place) {
             for carries in 0..variants {
-                self.look_up((operation, carries), target, table, met)?;
+                self.look_up(operation, carries, target, table, met)?;
             }
         }
         self.charge(variants);
         Ok(())
     }
 
-    /// Appends the pairs that have what is wanted at the first point in the bits that aren't open, less by so many carries.
+    /// Appends the pairs that have what is wanted at the first point in the bits that aren't open, less by so many
+    /// carries.
     fn look_up(
         &self,
-        joined: (Operation, u64),
+        operation: Operation,
+        carries: u64,
         target: &Target,
         table: &Table,
         met: &mut Vec<(usize, usize)>,
@@ -167,10 +169,10 @@ impl Kept {
             return Ok(());
         };
         let all = target.key(target.greatest);
-        let less = target.key(wanted.value).wrapping_sub(joined.1) & all;
+        let less = target.key(wanted.value).wrapping_sub(carries) & all;
         for (first, value) in self.firsts.iter().enumerate() {
             let own = target.key(*value);
-            let partner = match joined.0 {
+            let partner = match operation {
                 Operation::Add => less.wrapping_sub(own) & all,
                 Operation::Sub => own.wrapping_sub(less) & all,
                 _ => less ^ own,
@@ -180,7 +182,7 @@ impl Kept {
                 let Some(second) = next else {
                     break;
                 };
-                let ordered = second >= first || !joined.0.commutes();
+                let ordered = second >= first || !operation.commutes();
                 let value = self.firsts.get(second).copied().unwrap_or(0);
                 if ordered && target.key(value) == partner && met.len() < MOST_PAIRS {
                     met.push((first, second))?;
@@ -191,7 +193,8 @@ impl Kept {
         Ok(())
     }
 
-    /// Appends the pairs of kept terms that have, or keep within, the wanted bits at each point, and serve at the first one.
+    /// Appends the pairs of kept terms that have, or keep within, the wanted bits at each point, and serve at the first
+    /// one.
     fn judge(
         &mut self,
         operation: Operation,
@@ -202,9 +205,9 @@ impl Kept {
             return Ok(());
         };
         let mut serving = Vec::new(self.alloc);
-        for (values, (place, value)) in self.values.iter().zip(self.firsts.iter().enumerate()) {
-            let is_room = serving.len() < self.most_judged;
-            if is_room && target.may_have_parts(operation, values.as_slice()) {
+        for (place, (values, value)) in self.values.iter().zip(&self.firsts).enumerate() {
+            let has_room = serving.len() < self.most_judged;
+            if has_room && target.may_have_parts(operation, values.as_slice()) {
                 serving.push((place, *value))?;
             }
         }

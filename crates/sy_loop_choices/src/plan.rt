@@ -56,10 +56,5 @@ fn is_step(pools: &[Pool], shapes: &[Shape], number: usize, node: &Node) -> bool
 fn are_before(parts: &[usize], number: usize) -> bool
     ensures { IsTrue result → All (λ part. part < number) parts.now }
 {
-    for part in parts {
-        if *part >= number {
-            return false;
-        }
-    }
-    true
+    parts.iter().all(|part| *part < number)
 }

@@ -7,9 +7,9 @@ use crate::trials::{Operation, operation_of};
 use std::alloc::Global;
 use sy_seq::Want;
 
-/// How many kept terms are taken for each of two other parts of a chooser, and for each of three.
+/// How many kept terms are taken for each of two other parts of a chooser.
 const EACH_OF_TWO: usize = 300;
-
+/// How many are taken for each of three.
 const EACH_OF_THREE: usize = 45;
 
 /// A task with what trials tell of its rules.
@@ -25,6 +25,7 @@ pub(crate) struct Search<'a, R: Rules> {
 }
 
 impl<'a, R: Rules> Search<'a, R> {
+    /// The task, with what its rules compute and which of them choose.
     pub(crate) fn new(alloc: Global, rules: &'a R, task: &'a Task) -> Result<Search<'a, R>, Want> {
         let choosers = choosers(alloc, rules, task)?;
         let mut operations = Vec::with_capacity(alloc, task.shapes.len())?;
@@ -84,7 +85,8 @@ impl<'a, R: Rules> Search<'a, R> {
         }
     }
 
-    /// The pools of what plays the role: of a leaf the start symbol's, of a condition those of its chooser's other parts.
+    /// The pools of what plays the role: of a leaf the start symbol's, of a condition those of its chooser's other
+    /// parts.
     pub(crate) fn pools(&self, role: Role) -> &[u32] {
         match role {
             Role::Leaf => &[0],
@@ -95,7 +97,8 @@ impl<'a, R: Rules> Search<'a, R> {
         }
     }
 
-    /// The part of this role, of these values; its size is this one, with the chooser's. `None` where that chooses nothing.
+    /// The part of this role, of these values; its size is this one, with the chooser's. `None` where that chooses
+    /// nothing.
     pub(crate) fn part(
         &self,
         role: Role,

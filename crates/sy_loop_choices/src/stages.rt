@@ -44,9 +44,9 @@ const STAGES: [Stage; 9] = [
     Stage::Pairs,
 ];
 
-/// A plan of a body with the wanted value at each point: the first one of at most eight choices, or the smallest of all that
-/// were made. `None` where no rule chooses, or no tree serves all points. `Want` comes where memory runs out, and nowhere
-/// else.
+/// A plan of a body with the wanted value at each point: the first one of few choices, or the smallest of all that were
+/// made. Few are an eighth of the points, at least one and at most eight. `None` where no rule chooses, or no tree
+/// serves all points. `Want` comes where memory runs out, and nowhere else.
 pub fn choose<'a, R: Rules>(
     alloc: Global,
     rules: &'a R,
@@ -70,7 +70,7 @@ pub fn choose<'a, R: Rules>(
 /// The first tree that chooses few times, or the smallest one of all stages.
 fn found_tree<R: Rules>(search: &Search<R>, gathered: &mut Gathered) -> Result<Option<Tree>, Want> {
     let few = few_choices(search.task.wanted.len());
-    let mut draws = Draws(88172645463325252);
+    let mut draws = Draws::new();
     let mut smallest = None;
     for stage in STAGES {
         gather(search, stage, &mut draws, gathered)?;

@@ -68,7 +68,8 @@ fn mixed(points: u128, good: u128) -> (u64, u64) {
     (good.saturating_mul(size.saturating_sub(good)), size)
 }
 
-/// The number of the leaf that is good at the most of the points, the smallest of such; `None` where none is good at any.
+/// The number of the leaf that is good at the most of the points, the smallest of such. `None` where none is good at
+/// any.
 fn widest(leaves: &[Part], points: u128) -> Option<usize> {
     let mut best = None;
     let mut most = 0u32;

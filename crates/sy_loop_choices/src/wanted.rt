@@ -48,8 +48,8 @@ impl Target {
         })
     }
 
-    /// What is wanted of an operand of the operation where the other one has these values, or there is no other one. `None`
-    /// where nothing serves, or too little is known.
+    /// What is wanted of an operand of the operation where the other one has these values, or there is no other one.
+    /// `None` where nothing serves, or too little is known.
     pub(crate) fn below(
         &self,
         alloc: Global,
@@ -200,7 +200,8 @@ impl Target {
         }
     }
 
-    /// Whether a conjunction or disjunction of a kept term of these values and another one may be what is wanted at each point.
+    /// Whether a conjunction or disjunction of a kept term of these values and another one may be what is wanted at
+    /// each point.
     pub(crate) fn may_have_parts(&self, operation: Operation, values: &[u64]) -> bool {
         for (wanted, value) in self.points.iter().zip(values) {
             if !self.may_have_part(operation, wanted, *value) {

@@ -91,7 +91,7 @@ fn push_part<R: Rules>(
         }
         Made::Bit { place, bit } => {
             let pool = pools.get(0).copied().unwrap_or(0);
-            numbers.push(push_bit(search, all, pool, (place, bit), plan)?)?;
+            numbers.push(push_bit(search, all, pool, place, bit, plan)?)?;
         }
     }
     Ok(numbers)
@@ -102,15 +102,16 @@ fn push_bit<R: Rules>(
     search: &Search<R>,
     all: u128,
     pool: u32,
-    told: (usize, u32),
+    place: usize,
+    bit: u32,
     plan: &mut Plan,
 ) -> Result<usize, Want> {
     let Some(bits) = bits_of(search, pool, all)? else {
         return Ok(0);
     };
-    let mut number = plan.push_kept(pool, told.0)?;
-    let mut left = told.1;
-    for _ in 0..told.1 {
+    let mut number = plan.push_kept(pool, place)?;
+    let mut left = bit;
+    for _ in 0..bit {
         if let (true, Some(way)) = (left > 0, bits.way(left)) {
             let mut parts = Vec::new(search.alloc);
             parts.push(number)?;

@@ -2,8 +2,7 @@
 use crate::rules::{RuleValues, rules_of};
 use crate::tables::{complete_size, pools_of};
 use std::alloc::Global;
-use sy_bank_level::Bank;
-use sy_bank_rows::filled_part;
+use sy_bank_level::{Bank, filled_part};
 use sy_grammar_base::Grammar;
 use sy_loop_bodies::kept_at;
 use sy_loop_choices::{Node, Plan, Shape, Task, below, choose};

@@ -1,7 +1,7 @@
 // The grammar's rules as terms, and their values over columns.
 use crate::values::{value_of, words_at};
 use std::alloc::Global;
-use sy_bank_rows::filled_part;
+use sy_bank_level::filled_part;
 use sy_grammar_base::{Grammar, Part, Rule};
 use sy_loop_choices::{Rules, Shape};
 use sy_terms::{Defs, Op, Seq, Sort, Term, Theory, Values, Want, copied_values};

@@ -1,8 +1,7 @@
 // What constraints want, and kept terms as columns.
 use crate::values::word_of;
 use std::alloc::Global;
-use sy_bank_level::Bank;
-use sy_bank_rows::Kept;
+use sy_bank_level::{Bank, Kept};
 use sy_grammar_base::Grammar;
 use sy_loop_bodies::{Wish, point_of};
 use sy_loop_choices::{Column, Pool};

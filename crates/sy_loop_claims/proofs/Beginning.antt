@@ -2,8 +2,8 @@
 use Rattle.std.proofs.Common.{◌≡◌, arith, []}
 use Rattle.sy_grammar_base.specs.Questions.{Question}
 use Rattle.sy_query_limits.specs.declared.Limits.{Limits}
-use Rattle.sy_loop_bounds.specs.declared.reach.Reach.{Reach}
-use Rattle.sy_loop_history.specs.Budgets.{RoundsMet}
+use Rattle.sy_loop_spec.specs.declared.reach.Reach.{Reach}
+use Rattle.sy_loop_spec.specs.Budgets.{RoundsMet}
 
 -- before the first round all rounds are done
 pub rounds_none : (reach : Reach) (question : Question) (limits : Limits) → limits.rounds ≡ 0 → RoundsMet reach question limits.size limits.rounds []

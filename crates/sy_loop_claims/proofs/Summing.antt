@@ -8,7 +8,7 @@ use Rattle.sy_grammar_base.specs.Questions.{Goal, goal_of, question_of}
 use Rattle.sy_grammar_base.specs.declared.problem.Problem.{Problem}
 use Rattle.sy_grammar_base.specs.declared.problem.Wanted.{Wanted}
 use Rattle.sy_grammar_sizes.specs.Greatest.{IsSize, DerivesNothing, IsLargest, IsExceeded}
-use Rattle.sy_loop_history.specs.Sizes.{SumTo, AreAtMost}
+use Rattle.sy_loop_spec.specs.Sizes.{SumTo, AreAtMost}
 
 largest_least : (syntax : Syntax) (pool : List Val) (m n : ℕ) → IsLargest syntax pool m → IsLargest syntax pool n → m ≤ n
 largest_least syntax pool m n first second = ⊎_elim

@@ -4,11 +4,11 @@ use Rattle.sy_terms.specs.Values.{Val}
 use Rattle.sy_terms.specs.Expr.{Expr}
 use Rattle.sy_terms.specs.Denoted.{expr_of}
 use Rattle.sy_grammar_base.specs.Questions.{Question}
-use Rattle.sy_loop_bounds.specs.Bounds.{InBound}
-use Rattle.sy_loop_bounds.specs.declared.reach.Reach.{Reach}
-use Rattle.sy_loop_history.specs.Unsolved.{NoSolutionWithin}
-use Rattle.sy_loop_outcome.specs.declared.outcome.Outcome.{Outcome}
-use Rattle.sy_loop_outcome.specs.declared.outcome.Outcome.TheVariants.{Found, Infeasible, Fail}
+use Rattle.sy_loop_spec.specs.Bounds.{InBound}
+use Rattle.sy_loop_spec.specs.declared.reach.Reach.{Reach}
+use Rattle.sy_loop_spec.specs.Unsolved.{NoSolutionWithin}
+use Rattle.sy_loop_spec.specs.declared.outcome.Outcome.{Outcome}
+use Rattle.sy_loop_spec.specs.declared.outcome.Outcome.TheVariants.{Found, Infeasible, Fail}
 
 -- the bodies are within a bound, and nothing in a lesser one solves the problem
 pub record AreLeast (reach : Reach) (question : Question) (bodies : List Expr) : Type 0 where

@@ -3,16 +3,15 @@ ghost use Rattle.std.specs.Prelude.{◌≡◌, map, IfOk};
 ghost use Rattle.sy_terms.specs.Denoted.{expr_of};
 ghost use Rattle.sy_grammar_base.specs.Questions.{question_of};
 ghost use Rattle.sy_query_base.specs.Solutions.{IsSolution};
-ghost use Rattle.sy_loop_outcome.specs.Right.{IsRightFor, LeavesFor};
-ghost use Rattle.sy_loop_outcome.specs.declared.outcome.LoopRange.TheVariants as ranges;
+ghost use Rattle.sy_loop_spec.specs.Right.{IsRightFor, LeavesFor};
+ghost use Rattle.sy_loop_spec.specs.declared.outcome.LoopRange.TheVariants as ranges;
 ghost use Rattle.sy_loop_claims.specs.Clauses.{FindsLeastFor, IsUnsolvedFor};
 ghost use Rattle.sy_loop_claims.specs.Least.{AreLeast};
 
 use crate::sizes::are_at_most;
 use std::alloc::Global;
 use sy_grammar_base::Problem;
-use sy_loop_bounds::Reach;
-use sy_loop_outcome::{FailCause, LoopRange, Outcome};
+use sy_loop_spec::{FailCause, LoopRange, Outcome, Reach};
 use sy_points::Stored;
 use sy_query_base::Decide;
 use sy_query_limits::Limits;
@@ -40,7 +39,8 @@ pub fn found<T: Theory, D: Decide<T>>(
     bodies: Bodies<T>,
     proof: D::Proof,
 ) -> Outcome<T, D::Proof, D::Spent>
-    requires solution { IsSolution D.accepted (question_of T.denotes _problem.now) (map (expr_of T.denotes) bodies) proof }
+    requires solution { IsSolution D.accepted (question_of T.denotes _problem.now)
+        (map (expr_of T.denotes) bodies) proof }
     requires least { AreLeast _reach (question_of T.denotes _problem.now) (map (expr_of T.denotes) bodies) }
     ensures right { IsRightFor T.Theory D.Decide _reach _problem.now _limits.now result }
     ensures least { FindsLeastFor T.Theory _reach _problem.now result }
@@ -65,8 +65,8 @@ pub fn left_range<T: Theory, D: Decide<T>>(
     Outcome::Fail(FailCause::Range(stored, left))
 }
 
-/// The outcome where nothing up to the greatest size solves the problem. `Want` comes where memory doesn't suffice to find the
-/// grammars' largest sizes.
+/// The outcome where nothing up to the greatest size solves the problem. `Want` comes where memory doesn't suffice to
+/// find the grammars' largest sizes.
 pub fn exhausted<T: Theory, D: Decide<T>>(
     alloc: Global,
     problem: &Problem<T>,

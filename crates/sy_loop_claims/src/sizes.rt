@@ -1,11 +1,11 @@
 // The largest sizes of the grammars of a problem.
 ghost use Rattle.std.specs.Prelude.{◌↔◌, IsTrue, IfOk};
 ghost use Rattle.sy_grammar_base.specs.Questions.{question_of};
-ghost use Rattle.sy_loop_history.specs.Sizes.{AreAtMost};
+ghost use Rattle.sy_loop_spec.specs.Sizes.{AreAtMost};
 
 use std::alloc::Global;
 use sy_grammar_base::Problem;
-use sy_grammar_chains::largest;
+use sy_grammar_sizes::largest;
 use sy_terms::{Theory, Want};
 
 /// Whether the largest sizes of the grammars' derivations sum to at most `size`.

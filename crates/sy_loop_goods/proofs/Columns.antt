@@ -15,18 +15,18 @@ use Rattle.sy_grammar_base.specs.Questions.{Question}
 use Rattle.sy_grammar_base.specs.Solving.{AreValues}
 use Rattle.sy_points.specs.Asked.{Asked, AreDistinct, of_function}
 use Rattle.sy_unify.specs.Rows.{holds_at}
-use Rattle.sy_bank_rows.specs.Banks.{Entry}
-use Rattle.sy_bank_rows.specs.Rows.{IsRow}
-use Rattle.sy_bank_rows.specs.Stored.{chosen_of, entry_of}
-use Rattle.sy_bank_rows.specs.declared.kept.Kept.{Kept}
-use Rattle.sy_loop_bounds.specs.Pointwise.{IsPointwise}
-use Rattle.sy_loop_bounds.specs.Resting.{RestsOn}
-use Rattle.sy_loop_bounds.proofs.Goodness.{bad_alike, good_alike}
+use Rattle.sy_bank_level.specs.Banks.{Entry}
+use Rattle.sy_bank_level.specs.Rows.{IsRow}
+use Rattle.sy_bank_level.specs.Stored.{chosen_of, entry_of}
+use Rattle.sy_bank_level.specs.declared.kept.Kept.{Kept}
+use Rattle.sy_loop_spec.specs.Pointwise.{IsPointwise}
+use Rattle.sy_loop_spec.specs.Resting.{RestsOn}
+use Rattle.sy_loop_spec.proofs.Goodness.{bad_alike, good_alike}
 use Rattle.sy_loop_truth.proofs.Items.{has_place}
 use Rattle.sy_loop_truth.proofs.Traced.{first_or_later, no_element}
-use Rattle.sy_loop_history.specs.Histories.{Counterexample}
-use Rattle.sy_loop_history.specs.Goods.{AreGoods, assignments_of}
-use Rattle.sy_loop_history.specs.Goods.{EntriesHaveRows}
+use Rattle.sy_loop_spec.specs.Histories.{Counterexample}
+use Rattle.sy_loop_spec.specs.Goods.{AreGoods, assignments_of}
+use Rattle.sy_loop_spec.specs.Goods.{EntriesHaveRows}
 use Rattle.sy_loop_truth.proofs.Places.{item_at}
 use Rattle.sy_loop_goods.specs.Columns.{AreColumns, IsColumn, IsSaid, is_on, row_from}
 use Rattle.sy_loop_goods.specs.Judged.{IsCopied, JudgesLeaf, good_of, judged_by, leaving_of}

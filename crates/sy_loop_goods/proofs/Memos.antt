@@ -6,18 +6,18 @@ use Rattle.sy_terms.specs.Expr.{Expr}
 use Rattle.sy_terms.specs.Meaning.{function_from, functions, meaning}
 use Rattle.sy_grammar_base.specs.Questions.{Question}
 use Rattle.sy_grammar_base.specs.Solving.{AreValues}
-use Rattle.sy_bank_rows.specs.Banks.{Entry}
-use Rattle.sy_bank_rows.specs.Rows.{IsRow}
-use Rattle.sy_loop_bounds.specs.Pointwise.{IsPointwise}
-use Rattle.sy_loop_bounds.specs.Resting.{RestsOn}
-use Rattle.sy_loop_bounds.proofs.Goodness.{posed_in}
-use Rattle.sy_loop_bounds.proofs.Resting.{rest_decides, rests_on_one}
-use Rattle.sy_loop_bounds.proofs.Variables.{many_values}
+use Rattle.sy_bank_level.specs.Banks.{Entry}
+use Rattle.sy_bank_level.specs.Rows.{IsRow}
+use Rattle.sy_loop_spec.specs.Pointwise.{IsPointwise}
+use Rattle.sy_loop_spec.specs.Resting.{RestsOn}
+use Rattle.sy_loop_spec.proofs.Goodness.{posed_in}
+use Rattle.sy_loop_spec.proofs.Resting.{rest_decides, rests_on_one}
+use Rattle.sy_loop_spec.proofs.Variables.{many_values}
 use Rattle.sy_loop_truth.proofs.Items.{has_place}
-use Rattle.sy_loop_history.specs.Histories.{Counterexample}
+use Rattle.sy_loop_spec.specs.Histories.{Counterexample}
 use Rattle.sy_loop_goods.specs.Tellings.{HasTelling, Telling}
 use Rattle.sy_loop_goods.specs.declared.memo.Memo.{Memo}
-use Rattle.sy_loop_history.specs.Goods.{assignments_of}
+use Rattle.sy_loop_spec.specs.Goods.{assignments_of}
 use Rattle.sy_loop_goods.proofs.Columns.{row_means, same_item}
 use Rattle.sy_loop_goods.proofs.Told.{judges_one}
 use Rattle.sy_loop_goods.specs.Judged.{judged_by}

@@ -16,21 +16,21 @@ use Rattle.sy_terms.specs.declared.op.Op.{Op}
 use Rattle.sy_terms.specs.declared.sort.Value.{Value}
 use Rattle.sy_terms.specs.declared.term.Def.{Def}
 use Rattle.sy_terms.specs.declared.term.Term.{Term}
-use Rattle.sy_terms_laws.specs.Evaluation.{BodiesFit, GivesValue, wanted_functions}
+use Rattle.sy_terms_operators.specs.Evaluation.{BodiesFit, GivesValue, wanted_functions}
 use Rattle.sy_grammar_base.specs.Fits.{IsTruth}
 use Rattle.sy_grammar_base.specs.Questions.{Question, question_of, signatures}
 use Rattle.sy_grammar_base.specs.Solving.{AreValues, IsTrueUnder}
 use Rattle.sy_grammar_base.specs.declared.problem.Problem.{Problem}
 use Rattle.sy_points.specs.declared.stored.Stored.{Stored}
-use Rattle.sy_loop_history.specs.Budgets.{LeavesRange}
-use Rattle.sy_loop_history.specs.Histories.{Counterexample}
-use Rattle.sy_loop_history.specs.Stored.{counterexample_of, history_of}
+use Rattle.sy_loop_spec.specs.Budgets.{LeavesRange}
+use Rattle.sy_loop_spec.specs.Histories.{Counterexample}
+use Rattle.sy_loop_spec.specs.Stored.{counterexample_of, history_of}
 use Rattle.sy_loop_truth.proofs.Places.{place_of}
 use Rattle.sy_loop_truth.proofs.Items.{has_place}
 use Rattle.sy_loop_truth.proofs.Saying.{fits_with}
 use Rattle.sy_loop_truth.proofs.Traced.{no_element}
 use Rattle.sy_loop_truth.specs.Traces.{LeavesRangeAt}
-use Rattle.sy_loop_history.specs.Goods.{assignments_of}
+use Rattle.sy_loop_spec.specs.Goods.{assignments_of}
 use Rattle.sy_loop_truth.proofs.Places.{assignment_at}
 use Rattle.sy_loop_goods.specs.Judged.{judged_by}
 use Rattle.sy_loop_goods.specs.Judging.{IsOneUntrue, IsTrueAt, JudgesRests}

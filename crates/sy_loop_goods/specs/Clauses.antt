@@ -6,13 +6,13 @@ use Rattle.sy_terms.specs.Meaning.{functions}
 use Rattle.sy_terms.specs.declared.theory.Theory.{Ghosts as TheoryOf}
 use Rattle.sy_grammar_base.specs.Questions.{question_of}
 use Rattle.sy_grammar_base.specs.declared.problem.Problem.{Problem}
-use Rattle.sy_bank_rows.specs.Banks.{Entry}
-use Rattle.sy_bank_rows.specs.Rows.{IsRow}
+use Rattle.sy_bank_level.specs.Banks.{Entry}
+use Rattle.sy_bank_level.specs.Rows.{IsRow}
 use Rattle.sy_points.specs.Asked.{Asked, of_function}
 use Rattle.sy_points.specs.declared.stored.Stored.{Stored}
-use Rattle.sy_loop_history.specs.Stored.{history_of}
+use Rattle.sy_loop_spec.specs.Stored.{history_of}
 use Rattle.sy_loop_goods.specs.declared.memo.Memo.{Memo}
-use Rattle.sy_loop_history.specs.Goods.{assignments_of, AreGoods}
+use Rattle.sy_loop_spec.specs.Goods.{assignments_of, AreGoods}
 use Rattle.sy_loop_goods.specs.Columns.{IsColumn}
 use Rattle.sy_loop_goods.specs.Judged.{JudgesLeaf}
 use Rattle.sy_loop_goods.specs.Judging.{JudgesRests}

@@ -3,8 +3,8 @@ use Rattle.std.specs.Prelude.{ℕ, Bool, true, false, List, [], ◌∷◌, map, 
 use Rattle.sy_terms.specs.Values.{Val}
 use Rattle.sy_terms.specs.Expr.{Expr}
 use Rattle.sy_grammar_base.specs.Questions.{Question}
-use Rattle.sy_bank_rows.specs.Banks.{Entry}
-use Rattle.sy_loop_bounds.specs.Resting.{IsGoodAt, IsBadAt}
+use Rattle.sy_bank_level.specs.Banks.{Entry}
+use Rattle.sy_loop_spec.specs.Resting.{IsGoodAt, IsBadAt}
 use Rattle.sy_loop_truth.specs.declared.rest.Rest.{Rest}
 
 -- whether it rests on the point of this number

@@ -2,8 +2,8 @@
 use Rattle.std.specs.Prelude.{ℕ, Bool, true, false, ◌≡◌, ◌⊎◌, List, [], ◌∷◌, slice_get, Option, Some, None}
 use Rattle.sy_terms.specs.Values.{Val}
 use Rattle.sy_grammar_base.specs.Questions.{Question}
-use Rattle.sy_bank_rows.specs.Banks.{Entry}
-use Rattle.sy_loop_history.specs.Histories.{Counterexample}
+use Rattle.sy_bank_level.specs.Banks.{Entry}
+use Rattle.sy_loop_spec.specs.Histories.{Counterexample}
 use Rattle.sy_loop_goods.specs.Judging.{JudgesRests}
 use Rattle.sy_loop_goods.specs.declared.goods.Leaving.{Leaving}
 use Rattle.sy_loop_goods.specs.declared.judging.Judged.{Judged}

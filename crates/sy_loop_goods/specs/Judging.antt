@@ -5,8 +5,8 @@ use Rattle.sy_terms.specs.Expr.{Expr}
 use Rattle.sy_grammar_base.specs.Questions.{Question}
 use Rattle.sy_grammar_base.specs.Solving.{IsTrueUnder}
 use Rattle.sy_loop_truth.specs.Traces.{LeavesRangeAt}
-use Rattle.sy_loop_history.specs.Histories.{Counterexample}
-use Rattle.sy_loop_history.specs.Goods.{assignments_of}
+use Rattle.sy_loop_spec.specs.Histories.{Counterexample}
+use Rattle.sy_loop_spec.specs.Goods.{assignments_of}
 use Rattle.sy_loop_goods.specs.declared.judging.Judged.{Judged}
 use Rattle.sy_loop_goods.specs.declared.judging.Judged.TheVariants.{Good, Bad, Leaves}
 use Rattle.sy_loop_truth.specs.declared.rest.Rest.{Rest}

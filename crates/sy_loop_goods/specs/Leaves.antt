@@ -4,10 +4,10 @@ use Rattle.sy_terms.specs.Values.{Val}
 use Rattle.sy_terms.specs.Meaning.{functions}
 use Rattle.sy_grammar_base.specs.Questions.{Question}
 use Rattle.sy_grammar_base.specs.Solving.{AreMembers}
-use Rattle.sy_bank_rows.specs.Banks.{Entry}
-use Rattle.sy_loop_history.specs.Histories.{Counterexample}
+use Rattle.sy_bank_level.specs.Banks.{Entry}
+use Rattle.sy_loop_spec.specs.Histories.{Counterexample}
 use Rattle.sy_loop_truth.specs.Traces.{LeavesRangeAt}
-use Rattle.sy_loop_history.specs.Goods.{EntriesHaveRows}
+use Rattle.sy_loop_spec.specs.Goods.{EntriesHaveRows}
 use Rattle.sy_loop_goods.specs.declared.goods.Leaving.{Leaving}
 
 -- each is a member of the grammar of the one function to be found, and has its row at the points

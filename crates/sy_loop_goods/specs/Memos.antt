@@ -4,7 +4,7 @@ use Rattle.sy_terms.specs.Values.{Val}
 use Rattle.sy_terms.specs.Expr.{Expr}
 use Rattle.sy_terms.specs.Meaning.{functions, meaning}
 use Rattle.sy_grammar_base.specs.Questions.{Question}
-use Rattle.sy_loop_bounds.specs.Resting.{RestsOn}
+use Rattle.sy_loop_spec.specs.Resting.{RestsOn}
 use Rattle.sy_loop_goods.specs.Telling.{TellsTruth}
 use Rattle.sy_loop_goods.specs.Tellings.{HasTelling, Telling}
 use Rattle.sy_loop_goods.specs.declared.memo.Memo.{Memo}

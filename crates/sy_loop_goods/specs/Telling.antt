@@ -4,7 +4,7 @@ use Rattle.sy_terms.specs.Values.{Val}
 use Rattle.sy_terms.specs.Expr.{Expr}
 use Rattle.sy_grammar_base.specs.Questions.{Question}
 use Rattle.sy_grammar_base.specs.Solving.{IsTrueUnder}
-use Rattle.sy_loop_history.specs.Budgets.{LeavesRange}
+use Rattle.sy_loop_spec.specs.Budgets.{LeavesRange}
 
 -- it is true, it isn't, or it isn't computable
 abbrev pub TellsTruth : Question → List Expr → List Val → Expr → Option Bool → Type 0

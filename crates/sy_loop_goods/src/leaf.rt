@@ -1,9 +1,11 @@
 // What is known of a leaf at a point.
+// Functions here have more than seven parameters where clauses name the problem, what is stored, the points and the
+// constraints apart, as those of the crates below do: a record of them would be taken apart at each call.
 ghost use Rattle.std.specs.Prelude.{◌<◌, length, All, IfOk, IfSome, OnOk};
-ghost use Rattle.sy_bank_rows.specs.Stored.{chosen_of};
+ghost use Rattle.sy_bank_level.specs.Stored.{chosen_of};
 ghost use Rattle.sy_grammar_base.specs.Fits.{ProblemFits};
 ghost use Rattle.sy_grammar_base.specs.Questions.{question_of};
-ghost use Rattle.sy_loop_bounds.specs.Pointwise.{IsPointwise};
+ghost use Rattle.sy_loop_spec.specs.Pointwise.{IsPointwise};
 ghost use Rattle.sy_loop_truth.specs.Clauses.{AreAssignedFor, IsRestFor};
 ghost use Rattle.sy_loop_goods.specs.Clauses.{AreLeavesFor, IsMemoFor, JudgesLeafFor};
 ghost use Rattle.sy_loop_goods.specs.Judged.{IsCopied};
@@ -13,7 +15,7 @@ use crate::judging::{Judged, body_of, judge};
 use crate::recall::{judged_by, recall, value_at};
 use std::alloc::Global;
 use std::collections::HashMap;
-use sy_bank_rows::Kept;
+use sy_bank_level::Kept;
 use sy_grammar_base::Problem;
 use sy_loop_truth::Rest;
 use sy_points::{Points, Stored};
@@ -41,7 +43,8 @@ pub(crate) fn judge_leaf<T: Theory>(
     requires leaves { AreLeavesFor T.Theory problem.now points.now (chosen_of T.denotes leaves.now) }
     requires leaf { leaf < length leaves.now }
     requires memo { IsMemoFor T.Theory problem.now memo.old }
-    ensures judged { IfOk result (JudgesLeafFor T.Theory problem.now stored.now (chosen_of T.denotes leaves.now) leaf point here.now goods.now) }
+    ensures judged { IfOk result
+        (JudgesLeafFor T.Theory problem.now stored.now (chosen_of T.denotes leaves.now) leaf point here.now goods.now) }
     ensures memo { OnOk result (IsMemoFor T.Theory problem.now memo.new) }
 {
     if let Some(good) = copied::<T>(leaves, leaf, point, goods, firsts) {

@@ -5,9 +5,9 @@ use Rattle.std.proofs.lemmas.List.{append-nil}
 use Rattle.std.proofs.lemmas.List.Elements.{All-nil, All-cons, All-head, All-tail, All-append, All-weaker, All-contains, Contains-append_left, Contains-push}
 use Rattle.sy_terms.specs.Expr.{Expr, Exprs, Invoke, none}
 use Rattle.sy_terms.specs.declared.term.Fun.TheVariants.{Wanted}
-use Rattle.sy_loop_bounds.specs.Applications.{applications, all_applications}
-use Rattle.sy_loop_bounds.proofs.Applied.{in_nothing}
-use Rattle.sy_loop_subterms.specs.Shapes.{term_of}
+use Rattle.sy_loop_spec.specs.Applications.{applications, all_applications}
+use Rattle.sy_loop_spec.proofs.Applied.{in_nothing}
+use Rattle.sy_loop_pointwise.specs.Shapes.{term_of}
 use Rattle.sy_loop_pointwise.specs.Asked.{AreAtOnce, IsTheCall, AreApplications}
 use Rattle.sy_loop_pointwise.specs.declared.asks.Asks.{Asks}
 use Rattle.sy_loop_pointwise.specs.declared.asks.Asks.TheVariants.{Mixed}

@@ -7,12 +7,12 @@ use Rattle.std.proofs.lemmas.List.Elements.{All-weaker}
 use Rattle.sy_terms.specs.Values.{Val, Truth}
 use Rattle.sy_terms.specs.Expr.{Expr, Exprs, Constant, Invoke}
 use Rattle.sy_terms.specs.declared.term.Fun.{Fun}
-use Rattle.sy_loop_subterms.specs.Shapes.{Shape, Called, AreBelow, AreSubterms, subterms, shaped, term_of, terms_of}
-use Rattle.sy_loop_subterms.specs.Denoted.{shape_of, shapes_of}
-use Rattle.sy_loop_subterms.specs.declared.shape.Shape as kept
-use Rattle.sy_loop_subterms.specs.declared.shape.Shape.TheVariants.{Const, Var, App, Call}
-use Rattle.sy_loop_subterms.proofs.Distinct.{same_numbers}
-use Rattle.sy_loop_subterms.proofs.Shaped.{many, shape_is}
+use Rattle.sy_loop_pointwise.specs.Shapes.{Shape, Called, AreBelow, AreSubterms, subterms, shaped, term_of, terms_of}
+use Rattle.sy_loop_pointwise.specs.Denoted.{shape_of, shapes_of}
+use Rattle.sy_loop_pointwise.specs.declared.shape.Shape as kept
+use Rattle.sy_loop_pointwise.specs.declared.shape.Shape.TheVariants.{Const, Var, App, Call}
+use Rattle.sy_loop_pointwise.proofs.Distinct.{same_numbers}
+use Rattle.sy_loop_pointwise.proofs.Shaped.{many, shape_is}
 use Rattle.sy_loop_pointwise.specs.Asked.{AreArguments}
 
 -- beyond the end stands no call

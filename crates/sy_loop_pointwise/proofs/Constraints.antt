@@ -10,10 +10,10 @@ use Rattle.sy_terms.specs.Denoted.{expr_of}
 use Rattle.sy_terms.specs.Expr.{Expr, Exprs, none}
 use Rattle.sy_terms.specs.declared.term.Term.{Term}
 use Rattle.sy_grammar_base.specs.Questions.{Question}
-use Rattle.sy_loop_bounds.specs.Applications.{applications}
-use Rattle.sy_loop_bounds.specs.Pointwise.{IsPosed, IsPointwise}
-use Rattle.sy_loop_bounds.specs.WrittenOut.{written_out}
-use Rattle.sy_loop_subterms.proofs.Lists.{at_more}
+use Rattle.sy_loop_spec.specs.Applications.{applications}
+use Rattle.sy_loop_spec.specs.Pointwise.{IsPosed, IsPointwise}
+use Rattle.sy_loop_spec.specs.WrittenOut.{written_out}
+use Rattle.sy_loop_pointwise.proofs.Lists.{at_more}
 use Rattle.sy_loop_pointwise.specs.Posed.{PosesConstraint, ArePosed}
 use Rattle.sy_loop_pointwise.specs.declared.posed.Posed.{Posed}
 use Rattle.sy_loop_pointwise.specs.declared.posed.Posed.TheVariants.{Free, Applies}

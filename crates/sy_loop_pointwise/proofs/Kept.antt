@@ -7,11 +7,11 @@ use Rattle.sy_terms.specs.Values.{Val}
 use Rattle.sy_terms.specs.Expr.{Expr, Exprs, Constant, Variable, Apply, Invoke, none, more}
 use Rattle.sy_terms.specs.declared.op.Op.{Op}
 use Rattle.sy_terms.specs.declared.term.Fun.TheVariants.{Defined}
-use Rattle.sy_loop_bounds.specs.Applications.{applications, all_applications}
-use Rattle.sy_loop_bounds.proofs.Applied.{applications_append}
-use Rattle.sy_loop_subterms.specs.Shapes.{term_of, terms_of}
-use Rattle.sy_loop_subterms.proofs.Lists.{at_more}
-use Rattle.sy_loop_subterms.proofs.Numbered.{terms_of-append}
+use Rattle.sy_loop_spec.specs.Applications.{applications, all_applications}
+use Rattle.sy_loop_spec.proofs.Applied.{applications_append}
+use Rattle.sy_loop_pointwise.specs.Shapes.{term_of, terms_of}
+use Rattle.sy_loop_pointwise.proofs.Lists.{at_more}
+use Rattle.sy_loop_pointwise.proofs.Numbered.{terms_of-append}
 use Rattle.sy_loop_pointwise.specs.Asked.{AreApplications, AreKnown}
 use Rattle.sy_loop_pointwise.specs.declared.asks.Asks.{Asks}
 

@@ -14,17 +14,17 @@ use Rattle.sy_terms.specs.declared.sort.Sort.TheVariants as sorts
 use Rattle.sy_terms.specs.declared.sort.Value.{Value}
 use Rattle.sy_terms.specs.declared.term.Fun.{Fun}
 use Rattle.sy_terms.specs.declared.term.Fun.TheVariants.{Defined, Wanted}
-use Rattle.sy_terms_laws.specs.Evaluation.{TermsFit, HaveValues}
+use Rattle.sy_terms_operators.specs.Evaluation.{TermsFit, HaveValues}
 use Rattle.sy_grammar_base.specs.Fits.{QuestionFits, wanted_of, with_functions}
 use Rattle.sy_grammar_base.specs.Questions.{Goal, Question}
 use Rattle.sy_grammar_base.specs.Solving.{AreValues}
-use Rattle.sy_loop_bounds.specs.Applications.{applications, all_applications}
-use Rattle.sy_loop_bounds.specs.Pointwise.{IsPosed, IsPointwise}
-use Rattle.sy_loop_bounds.specs.WrittenOut.{written_out}
-use Rattle.sy_loop_bounds.proofs.Plain.{FitsAsCall}
-use Rattle.sy_loop_bounds.proofs.Resting.{application_fits, arguments_leave, is_of_the_one}
-use Rattle.sy_loop_bounds.proofs.Variables.{many_values}
-use Rattle.sy_loop_subterms.specs.Shapes.{Shape, AreBelow, subterms, term_of, terms_of}
+use Rattle.sy_loop_spec.specs.Applications.{applications, all_applications}
+use Rattle.sy_loop_spec.specs.Pointwise.{IsPosed, IsPointwise}
+use Rattle.sy_loop_spec.specs.WrittenOut.{written_out}
+use Rattle.sy_loop_spec.proofs.Plain.{FitsAsCall}
+use Rattle.sy_loop_spec.proofs.Resting.{application_fits, arguments_leave, is_of_the_one}
+use Rattle.sy_loop_spec.proofs.Variables.{many_values}
+use Rattle.sy_loop_pointwise.specs.Shapes.{Shape, AreBelow, subterms, term_of, terms_of}
 use Rattle.sy_loop_pointwise.specs.Asked.{AreArguments, IsTheCall}
 use Rattle.sy_loop_pointwise.specs.Rests.{RestsAt, TermLeavesAt}
 use Rattle.sy_loop_pointwise.specs.Valued.{AreValued, EachIsValued}

@@ -21,11 +21,11 @@ use Rattle.sy_terms.specs.declared.sort.Value.{Value}
 use Rattle.sy_terms.specs.declared.term.Def.{Def}
 use Rattle.sy_terms.specs.declared.term.Fun.{Fun}
 use Rattle.sy_terms.specs.declared.term.Term.{Term, Const}
-use Rattle.sy_terms_laws.specs.Evaluation.{TermFits, TermsFit, HasValue, HaveValues, FitsWith, GivesValue}
-use Rattle.sy_terms_laws.proofs.Equations.{with_sort_Some, applied_sort_Some, called_sort_Some, value_at_position_is}
-use Rattle.sy_terms_laws.proofs.Lists.{HaveValues-none, HaveValues-last}
-use Rattle.sy_loop_subterms.specs.Shapes.{AreBelow, term_of, terms_of}
-use Rattle.sy_loop_subterms.proofs.Lists.{at_more}
+use Rattle.sy_terms_operators.specs.Evaluation.{TermFits, TermsFit, HasValue, HaveValues, FitsWith, GivesValue}
+use Rattle.sy_terms_operators.proofs.Equations.{with_sort_Some, applied_sort_Some, called_sort_Some, value_at_position_is}
+use Rattle.sy_terms_operators.proofs.Lists.{HaveValues-none, HaveValues-last}
+use Rattle.sy_loop_pointwise.specs.Shapes.{AreBelow, term_of, terms_of}
+use Rattle.sy_loop_pointwise.proofs.Lists.{at_more}
 use Rattle.sy_loop_pointwise.specs.Valued.{IsValued, AreValued, EachIsValued, AreConstants}
 
 -- what holds of all items with one more holds of them, and of that one

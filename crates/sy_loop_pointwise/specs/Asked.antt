@@ -3,8 +3,8 @@ use Rattle.std.specs.Prelude.{ℕ, ◌<◌, List, [], ◌≡◌, All, Contains, 
 use Rattle.sy_terms.specs.Expr.{Expr, Exprs, Invoke}
 use Rattle.sy_terms.specs.declared.term.Fun.{Fun}
 use Rattle.sy_terms.specs.declared.term.Fun.TheVariants.{Wanted}
-use Rattle.sy_loop_bounds.specs.Applications.{applications, all_applications}
-use Rattle.sy_loop_subterms.specs.Shapes.{Shape, AreBelow, subterms, term_of, terms_of}
+use Rattle.sy_loop_spec.specs.Applications.{applications, all_applications}
+use Rattle.sy_loop_pointwise.specs.Shapes.{Shape, AreBelow, subterms, term_of, terms_of}
 use Rattle.sy_loop_pointwise.specs.declared.asks.Asks.{Asks}
 use Rattle.sy_loop_pointwise.specs.declared.asks.Asks.TheVariants.{Nothing, Calls, Mixed}
 

@@ -1,4 +1,12 @@
 pub mod Asked
+pub mod Clauses
+pub mod Denoted
+pub mod Keys
+pub mod Places
+pub mod Placing
 pub mod Posed
+pub mod Resting
 pub mod Rests
+pub mod Shapes
+pub mod Tables
 pub mod Valued

@@ -2,9 +2,9 @@
 use Rattle.std.specs.Prelude.{ℕ, List, [], ◌≡◌, length, slice_get, Some}
 use Rattle.sy_terms.specs.Expr.{Expr}
 use Rattle.sy_grammar_base.specs.Questions.{Question}
-use Rattle.sy_loop_bounds.specs.Applications.{applications}
-use Rattle.sy_loop_bounds.specs.WrittenOut.{written_out}
-use Rattle.sy_loop_subterms.specs.Shapes.{subterms}
+use Rattle.sy_loop_spec.specs.Applications.{applications}
+use Rattle.sy_loop_spec.specs.WrittenOut.{written_out}
+use Rattle.sy_loop_pointwise.specs.Shapes.{subterms}
 use Rattle.sy_loop_pointwise.specs.Asked.{IsTheCall}
 use Rattle.sy_loop_pointwise.specs.declared.posed.Posed as kept
 use Rattle.sy_loop_pointwise.specs.declared.posed.Posed.TheVariants.{Free, Applies}

@@ -7,9 +7,9 @@ use Rattle.sy_terms.specs.Meaning.{Function, functions, computable}
 use Rattle.sy_meaning.specs.Calls.{IsCallOf}
 use Rattle.sy_grammar_base.specs.Fits.{wanted_of}
 use Rattle.sy_grammar_base.specs.Questions.{Question}
-use Rattle.sy_loop_bounds.specs.Applications.{applications}
-use Rattle.sy_loop_bounds.specs.Resting.{RestsOn}
-use Rattle.sy_loop_bounds.specs.WrittenOut.{written_out}
+use Rattle.sy_loop_spec.specs.Applications.{applications}
+use Rattle.sy_loop_spec.specs.Resting.{RestsOn}
+use Rattle.sy_loop_spec.specs.WrittenOut.{written_out}
 use Rattle.sy_loop_pointwise.specs.declared.rest.Rested.{Rested}
 use Rattle.sy_loop_pointwise.specs.declared.rest.Rested.TheVariants.{Nowhere, At, Leaves}
 

@@ -7,8 +7,8 @@ use Rattle.sy_terms.specs.Fitting.{Scope}
 use Rattle.sy_terms.specs.Meaning.{Function, computable, all_computable}
 use Rattle.sy_terms.specs.Theories.{valid}
 use Rattle.sy_terms.specs.declared.sort.Value.{Value}
-use Rattle.sy_terms_laws.specs.Evaluation.{TermFits, TermsFit, HasValue, HaveValues}
-use Rattle.sy_loop_subterms.specs.Shapes.{term_of}
+use Rattle.sy_terms_operators.specs.Evaluation.{TermFits, TermsFit, HasValue, HaveValues}
+use Rattle.sy_loop_pointwise.specs.Shapes.{term_of}
 
 -- the term's value; none where it doesn't fit or isn't computable
 abbrev pub IsValued : {N : Type 0} → (N → Val) → Scope → List Function → List Val → Expr → Option (Value N) → Type 0

@@ -3,14 +3,15 @@ ghost use Rattle.std.specs.Prelude.{◌≡◌, ◌↔◌, IsTrue, IfOk, MatchOpt
 ghost use Rattle.sy_terms.specs.Denoted.{expr_of};
 ghost use Rattle.sy_terms.specs.Expr.{Exprs};
 ghost use Rattle.sy_grammar_base.specs.Questions.{question_of};
-ghost use Rattle.sy_loop_bounds.specs.Pointwise.{IsPosed, IsPointwise};
-ghost use Rattle.sy_loop_bounds.specs.WrittenOut.{written_out};
+ghost use Rattle.sy_loop_spec.specs.Pointwise.{IsPosed, IsPointwise};
+ghost use Rattle.sy_loop_spec.specs.WrittenOut.{written_out};
 ghost use Rattle.sy_loop_pointwise.specs.Posed.{PosesConstraint, ArePosed};
 
 use crate::asks::{Asks, all_asks};
+use crate::table::Table;
+use crate::writing::written;
 use std::alloc::Global;
 use sy_grammar_base::Problem;
-use sy_loop_subterms::{Table, written};
 use sy_terms::{Term, Theory, Want};
 
 /// A constraint of a pointwise problem.
@@ -29,7 +30,8 @@ fn pose_one<T: Theory>(
     constraint: &Term<T>,
 ) -> Result<Option<Posed<T>>, Want>
     ensures { IfOk result (λ found. MatchOption found
-        ((arguments : Exprs) → IsPosed (written_out (question_of T.denotes problem.now) (expr_of T.denotes constraint.now)) arguments → ⊥)
+        ((arguments : Exprs) →
+        IsPosed (written_out (question_of T.denotes problem.now) (expr_of T.denotes constraint.now)) arguments → ⊥)
         (PosesConstraint (question_of T.denotes problem.now) (expr_of T.denotes constraint.now))) }
 {
     let (table, number) = written(alloc, problem.vars.len(), constraint)?;
@@ -46,7 +48,8 @@ fn pose_one<T: Theory>(
 pub fn pose<T: Theory>(alloc: Global, problem: &Problem<T>) -> Result<Option<Vec<Posed<T>>>, Want>
     ensures { IfOk result (λ found. MatchOption found
         (IsPointwise (question_of T.denotes problem.now) → ⊥)
-        (λ all. IsPointwise (question_of T.denotes problem.now) × ArePosed (question_of T.denotes problem.now) all.items)) }
+        (λ all. IsPointwise (question_of T.denotes problem.now) ×
+        ArePosed (question_of T.denotes problem.now) all.items)) }
 {
     if problem.wanted.len() != 1 {
         return Ok(None);

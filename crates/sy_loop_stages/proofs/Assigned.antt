@@ -11,15 +11,15 @@ use Rattle.sy_grammar_base.specs.Solving.{AreValues}
 use Rattle.sy_grammar_base.specs.declared.problem.Problem.{Problem}
 use Rattle.sy_query_limits.specs.declared.Limits.{Limits}
 use Rattle.sy_points.specs.declared.stored.Stored.{Stored}
-use Rattle.sy_bank_rows.specs.Banks.{Entry, Merged}
+use Rattle.sy_bank_level.specs.Banks.{Entry, Merged}
 use Rattle.sy_loop_bodies.specs.Banked.{IsOneBank}
-use Rattle.sy_loop_bounds.specs.declared.reach.Reach.TheVariants.{Joins}
-use Rattle.sy_loop_history.specs.Budgets.{BankMet}
-use Rattle.sy_loop_history.specs.Histories.{Counterexample, IsHonestHistory}
-use Rattle.sy_loop_history.specs.Stored.{counterexample_of, history_of}
-use Rattle.sy_loop_outcome.specs.declared.outcome.LoopRange.{LoopRange}
-use Rattle.sy_loop_outcome.specs.declared.outcome.LoopRange.TheVariants.{Member, Checked}
-use Rattle.sy_loop_outcome.specs.Right.{HasLeftRange}
+use Rattle.sy_loop_spec.specs.declared.reach.Reach.TheVariants.{Joins}
+use Rattle.sy_loop_spec.specs.Budgets.{BankMet}
+use Rattle.sy_loop_spec.specs.Histories.{Counterexample, IsHonestHistory}
+use Rattle.sy_loop_spec.specs.Stored.{counterexample_of, history_of}
+use Rattle.sy_loop_spec.specs.declared.outcome.LoopRange.{LoopRange}
+use Rattle.sy_loop_spec.specs.declared.outcome.LoopRange.TheVariants.{Member, Checked}
+use Rattle.sy_loop_spec.specs.Right.{HasLeftRange}
 
 only_goal : (goals : List Goal) (place : ℕ) (goal : Goal) → length goals ≡ 1 → slice_get goals place ≡
     Some goal → goals ≡ goal ∷ []

@@ -14,12 +14,12 @@ use Rattle.sy_query_limits.specs.declared.Limits.{Limits}
 use Rattle.sy_query_base.specs.Asked.{Query}
 use Rattle.sy_query_base.specs.Solutions.{IsSolution}
 use Rattle.sy_query_base.specs.declared.decide.Decide.{Ghosts as DecideOf}
-use Rattle.sy_loop_bounds.specs.declared.reach.Reach.TheVariants.{Joins}
-use Rattle.sy_loop_outcome.specs.Right.{CauseHolds, IsRightFor}
-use Rattle.sy_loop_outcome.specs.declared.outcome.FailCause.{FailCause}
-use Rattle.sy_loop_outcome.specs.declared.outcome.FailCause.TheVariants.{Size}
-use Rattle.sy_loop_outcome.specs.declared.outcome.Outcome.{Outcome}
-use Rattle.sy_loop_outcome.specs.declared.outcome.Outcome.TheVariants.{Found, Infeasible, Fail}
+use Rattle.sy_loop_spec.specs.declared.reach.Reach.TheVariants.{Joins}
+use Rattle.sy_loop_spec.specs.Right.{CauseHolds, IsRightFor}
+use Rattle.sy_loop_spec.specs.declared.outcome.FailCause.{FailCause}
+use Rattle.sy_loop_spec.specs.declared.outcome.FailCause.TheVariants.{Size}
+use Rattle.sy_loop_spec.specs.declared.outcome.Outcome.{Outcome}
+use Rattle.sy_loop_spec.specs.declared.outcome.Outcome.TheVariants.{Found, Infeasible, Fail}
 use Rattle.sy_loop.specs.Least.{AreLeast}
 use Rattle.sy_loop_stages.specs.Finding.{FindsBeyondFor, HasStopped}
 use Rattle.sy_loop_stages.specs.Stages.{most_beyond}

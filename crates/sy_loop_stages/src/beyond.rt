@@ -2,8 +2,8 @@
 ghost use Rattle.std.specs.Prelude.{◌≡◌, length, IfOk, IfSome};
 ghost use Rattle.sy_grammar_base.specs.Fits.{ProblemFits};
 ghost use Rattle.sy_loop_bodies.specs.Clauses.{AreAssignedFor, IsFoundFor};
-ghost use Rattle.sy_loop_bounds.specs.declared.reach.Reach.TheVariants.{Joins};
-ghost use Rattle.sy_loop_outcome.specs.Right.{IsRightFor};
+ghost use Rattle.sy_loop_spec.specs.declared.reach.Reach.TheVariants.{Joins};
+ghost use Rattle.sy_loop_spec.specs.Right.{IsRightFor};
 ghost use Rattle.sy_loop_stages.specs.Searched.{CauseHoldsFor, SolvesInFor};
 
 use crate::own::{try_aside, try_own};
@@ -12,7 +12,7 @@ use std::alloc::Global;
 use sy_grammar_base::Problem;
 use sy_loop_beyond::{solve_anew, solve_beyond};
 use sy_loop_bodies::{Aside, Task, copied_assignments};
-use sy_loop_outcome::{FailCause, Outcome};
+use sy_loop_spec::{FailCause, Outcome};
 use sy_query_base::Decide;
 use sy_query_limits::Limits;
 use sy_terms::{Bodies, Theory, Values, Want};

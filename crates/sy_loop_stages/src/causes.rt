@@ -1,5 +1,5 @@
 // By what a search ended, where that guides what is tried after it.
-use sy_loop_outcome::FailCause;
+use sy_loop_spec::FailCause;
 use sy_query_base::Decide;
 use sy_terms::Theory;
 

@@ -6,7 +6,7 @@ ghost use Rattle.sy_loop_bodies.specs.Clauses.{AreAssignedFor, IsFoundFor};
 use crate::causes::is_undecided;
 use crate::stage::Stage;
 use sy_loop_bodies::{Aside, Task, solve_aside, try_term};
-use sy_loop_outcome::FailCause;
+use sy_loop_spec::FailCause;
 use sy_query_base::Decide;
 use sy_terms::{Bodies, Theory, Values, Want};
 

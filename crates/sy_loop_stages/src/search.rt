@@ -1,9 +1,9 @@
 // One search, and what lies beyond it.
 ghost use Rattle.std.specs.Prelude.{◌≡◌, length, true, IfOk};
 ghost use Rattle.sy_grammar_base.specs.Fits.{ProblemFits};
-ghost use Rattle.sy_loop_bounds.specs.declared.reach.Reach.TheVariants.{Joins};
-ghost use Rattle.sy_loop_outcome.specs.Right.{IsRightFor};
-ghost use Rattle.sy_loop_outcome.specs.declared.outcome.FailCause.TheVariants.{Size};
+ghost use Rattle.sy_loop_spec.specs.declared.reach.Reach.TheVariants.{Joins};
+ghost use Rattle.sy_loop_spec.specs.Right.{IsRightFor};
+ghost use Rattle.sy_loop_spec.specs.declared.outcome.FailCause.TheVariants.{Size};
 ghost use Rattle.sy_loop_stages.specs.Searched.{FindsInFor, Lasts};
 
 use crate::beyond::found_beyond;
@@ -12,7 +12,7 @@ use std::alloc::Global;
 use sy_grammar_base::Problem;
 use sy_loop::synthesise;
 use sy_loop_bodies::Aside;
-use sy_loop_outcome::{FailCause, Outcome};
+use sy_loop_spec::{FailCause, Outcome};
 use sy_query_base::Decide;
 use sy_terms::{Theory, Want};
 

@@ -1,8 +1,8 @@
 // The stages of a search, one after the other.
 ghost use Rattle.std.specs.Prelude.{◌≡◌, length, IfOk, IfSome};
 ghost use Rattle.sy_grammar_base.specs.Fits.{ProblemFits};
-ghost use Rattle.sy_loop_bounds.specs.declared.reach.Reach.TheVariants.{Joins};
-ghost use Rattle.sy_loop_outcome.specs.Right.{IsRightFor};
+ghost use Rattle.sy_loop_spec.specs.declared.reach.Reach.TheVariants.{Joins};
+ghost use Rattle.sy_loop_spec.specs.Right.{IsRightFor};
 ghost use Rattle.sy_loop_stages.specs.Finding.{FindsBeyondFor};
 ghost use Rattle.sy_loop_stages.specs.Searched.{HasStoppedFor, IsAnswerFor};
 
@@ -15,7 +15,7 @@ use std::alloc::Global;
 use sy_grammar_base::Problem;
 use sy_loop::synthesise;
 use sy_loop_bodies::{Aside, Task, solve_aside};
-use sy_loop_outcome::{FailCause, Outcome};
+use sy_loop_spec::{FailCause, Outcome};
 use sy_query_base::Decide;
 use sy_query_limits::Limits;
 use sy_terms::{Theory, Want};
@@ -134,8 +134,8 @@ fn found_after<T: Theory, D: Decide<T>>(
 }
 
 /// The first solution that searches up to larger sizes find, with few kept terms; with all of them only where the
-/// search ended after its greatest size, since else its bank was full before. Where it ended by another limit than these
-/// two, that ends the searches with more terms too, so only the one with the fewest is tried.
+/// search ended after its greatest size, since else its bank was full before. Where it ended by another limit than
+/// these two, that ends the searches with more terms too, so only the one with the fewest is tried.
 fn found_wider<T: Theory, D: Decide<T>>(
     alloc: Global,
     problem: &Problem<T>,

@@ -5,8 +5,8 @@ use Rattle.sy_terms.specs.Values.{Val}
 use Rattle.sy_terms.specs.Fitting.{Scope}
 use Rattle.sy_terms.specs.Meaning.{Function}
 use Rattle.sy_bank.specs.Banks.{Entry}
-use Rattle.sy_bank_rows.specs.Columns.{HasRow}
-use Rattle.sy_bank_rows.specs.Chosen.{AreRows}
+use Rattle.sy_bank_level.specs.Columns.{HasRow}
+use Rattle.sy_bank_level.specs.Chosen.{AreRows}
 
 pub three-rows : (scope : Scope) (defined : List Function) (points : List (List Val)) (a b c : Entry) →
     HasRow scope defined points a.term a.row → HasRow scope defined points b.term b.row → HasRow scope defined points c.term c.row → AreRows scope defined points (a ∷ b ∷ c ∷ [])

@@ -20,13 +20,13 @@ use Rattle.sy_meaning_integers.specs.Lia as lia
 use Rattle.sy_grammar_base.specs.Questions.{Question, question_of, signatures}
 use Rattle.sy_grammar_base.specs.Solving.{AreValues}
 use Rattle.sy_grammar_base.specs.declared.problem.Problem.{Problem}
-use Rattle.sy_loop_history.specs.Histories.{Counterexample}
-use Rattle.sy_loop_history.specs.Stored.{counterexample_of}
+use Rattle.sy_loop_spec.specs.Histories.{Counterexample}
+use Rattle.sy_loop_spec.specs.Stored.{counterexample_of}
 use Rattle.sy_points.specs.Asked.{Asked}
-use Rattle.sy_bank_rows.specs.declared.kept.Kept.{Kept}
-use Rattle.sy_loop_refutation.specs.Bodies.{AreBodies, bodies_of}
-use Rattle.sy_loop_refutation.specs.Observing.{KeptHaveRows}
-use Rattle.sy_loop_refutation.specs.Refuting.{AreAssignments, AreTaken}
+use Rattle.sy_bank_level.specs.declared.kept.Kept.{Kept}
+use Rattle.sy_loop_candidate.specs.Bodies.{AreBodies, bodies_of}
+use Rattle.sy_loop_candidate.specs.Observing.{KeptHaveRows}
+use Rattle.sy_loop_candidate.specs.Refuting.{AreAssignments, AreTaken}
 use Rattle.sy_grammar_base.specs.Fits.{GoalFits, QuestionFits, wanted_of, with_functions}
 
 -- a constant is a truth value's term

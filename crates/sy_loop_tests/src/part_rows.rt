@@ -4,10 +4,10 @@ ghost use Rattle.sy_terms.specs.Denoted.{vals_of, expr_of};
 ghost use Rattle.sy_terms.specs.Definitions.{DefinitionsFit, scope_of, bodies};
 ghost use Rattle.sy_terms.specs.Meaning.{functions};
 ghost use Rattle.sy_terms.specs.declared.sort.Sort.TheVariants as sorts;
-ghost use Rattle.sy_bank_rows.specs.Columns.{HasRow};
+ghost use Rattle.sy_bank_level.specs.Columns.{HasRow};
 ghost use Rattle.sy_bank.specs.Rows.{ArePointsOf};
 ghost use Rattle.sy_bank.specs.Stored.{entry_of, chosen_of};
-ghost use Rattle.sy_bank_rows.specs.Chosen.{AreRows};
+ghost use Rattle.sy_bank_level.specs.Chosen.{AreRows};
 ghost use Rattle.sy_loop_tests.specs.Integers.{IsInteger};
 
 use crate::parts::{cut, part};
@@ -16,9 +16,9 @@ use crate::rows::one;
 use std::alloc::Global;
 use std::process::Abort;
 use std::rc::Rc;
+use sy_bank::{chosen_part, grown};
 use sy_bank_columns::{RowEnd, part_row, term_row};
-use sy_bank_parts::{chosen_part, grown};
-use sy_bank_rows::{Grown, Kept, filled_part};
+use sy_bank_level::{Grown, Kept, filled_part};
 use sy_grammar_base::{Derivation, Part};
 use sy_meaning::term_sort;
 use sy_terms::{Def, Defs, Seq, Sort, Term, Theory, Value, Values};
@@ -63,7 +63,8 @@ fn kept<T: Theory>(
 ) -> Kept<T>
     requires definitions { DefinitionsFit T.owned T.denotes defs.now }
     requires points { ArePointsOf (sorts.Int ∷ []) (map (vals_of T.denotes) points.now) }
-    ensures { HasRow (scope_of T.owned defs.now) (functions (bodies T.denotes defs.now)) (map (vals_of T.denotes) points.now) (entry_of T.denotes result).term (entry_of T.denotes result).row }
+    ensures { HasRow (scope_of T.owned defs.now) (functions (bodies T.denotes defs.now))
+        (map (vals_of T.denotes) points.now) (entry_of T.denotes result).term (entry_of T.denotes result).row }
 {
     assert!(rt; is_integer(rt, alloc, defs, &term));
     let row = term_row(alloc, defs, points, &term).expect(rt, "a row");
@@ -87,7 +88,8 @@ fn has_row<T: Theory>(
 ) -> bool
     requires definitions { DefinitionsFit T.owned T.denotes defs.now }
     requires points { ArePointsOf (sorts.Int ∷ []) (map (vals_of T.denotes) points.now) }
-    requires rows { AreRows (scope_of T.owned defs.now) (functions (bodies T.denotes defs.now)) (map (vals_of T.denotes) points.now) (chosen_of T.denotes chosen.now) }
+    requires rows { AreRows (scope_of T.owned defs.now)
+        (functions (bodies T.denotes defs.now)) (map (vals_of T.denotes) points.now) (chosen_of T.denotes chosen.now) }
 {
     let Err(_) = part.occurrence(chosen.len()) else {
         return false;
@@ -170,7 +172,8 @@ fn is_right<T: Theory>(
 ) -> bool
     requires definitions { DefinitionsFit T.owned T.denotes defs.now }
     requires points { ArePointsOf (sorts.Int ∷ []) (map (vals_of T.denotes) points.now) }
-    requires rows { AreRows (scope_of T.owned defs.now) (functions (bodies T.denotes defs.now)) (map (vals_of T.denotes) points.now) (chosen_of T.denotes chosen.now) }
+    requires rows { AreRows (scope_of T.owned defs.now)
+        (functions (bodies T.denotes defs.now)) (map (vals_of T.denotes) points.now) (chosen_of T.denotes chosen.now) }
 {
     let (text, told) = cut(row);
     let part = part::<T>(rt, alloc, Sort::Int, text);

@@ -8,9 +8,9 @@ ghost use Rattle.sy_grammar_base.specs.Fits.{ProblemFits};
 use crate::rows::{field, one};
 use std::alloc::Global;
 use std::process::Abort;
-use sy_bank_rows::Kept;
+use sy_bank_level::Kept;
 use sy_grammar_base::Problem;
-use sy_loop_refutation::{Suspects, are_refuted};
+use sy_loop_candidate::{Suspects, are_refuted};
 use sy_meaning_integers::IntTheory;
 use sy_points::{Points, Stored};
 use sy_terms::{Seq, Term, Theory, Value};
@@ -80,8 +80,8 @@ fn is_violated(
     is_violated
 }
 
-/// Problems, one after the other: the assumption, the constraint, whether the assignment is stored, and whether a violation
-/// is shown, each as `t` or `n`.
+/// Problems, one after the other: the assumption, the constraint, whether the assignment is stored, and whether a
+/// violation is shown, each as `t` or `n`.
 pub(crate) const ROWS: &str = "\
 refutation|tntt tttn nntn tnnn tntt";
 

@@ -6,10 +6,10 @@ use Rattle.sy_terms.specs.Values.{Val, Truth, truth}
 use Rattle.sy_terms.specs.Expr.{Constant}
 use Rattle.sy_terms.specs.Denoted.{val_of, vals_of}
 use Rattle.sy_terms.specs.declared.sort.Value.{Value}
-use Rattle.sy_bank_rows.specs.Banks.{Entry}
-use Rattle.sy_bank_rows.specs.Stored.{chosen_of, entry_of}
-use Rattle.sy_bank_rows.specs.declared.kept.Kept.{Kept}
-use Rattle.sy_loop_history.specs.Trees.{entry_at, truths}
+use Rattle.sy_bank_level.specs.Banks.{Entry}
+use Rattle.sy_bank_level.specs.Stored.{chosen_of, entry_of}
+use Rattle.sy_bank_level.specs.declared.kept.Kept.{Kept}
+use Rattle.sy_loop_spec.specs.Trees.{entry_at, truths}
 
 -- what values say, one more
 pub row_more : {N : Type 0} (number : N → Val) (said longer : List Bool) (values : List (Value N)) (index : ℕ) (value : Value N) (b : Bool) → said ≡ map truth (vals_of number (take index values)) → index < length values →

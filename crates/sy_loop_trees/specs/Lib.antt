@@ -1,1 +1,1 @@
-pub use Rattle.sy_loop_conditions.specs.Conditions
+pub mod Conditions

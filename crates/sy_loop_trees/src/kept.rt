@@ -2,11 +2,11 @@
 ghost use Rattle.std.specs.Prelude.{◌≡◌, map, IfOk};
 ghost use Rattle.sy_terms.specs.Denoted.{val_of, vals_of};
 ghost use Rattle.sy_terms.specs.Values as values;
-ghost use Rattle.sy_bank_rows.specs.Stored.{chosen_of};
-ghost use Rattle.sy_loop_history.specs.Trees.{truths};
+ghost use Rattle.sy_bank_level.specs.Stored.{chosen_of};
+ghost use Rattle.sy_loop_spec.specs.Trees.{truths};
 
 use std::alloc::Global;
-use sy_bank_rows::Kept;
+use sy_bank_level::Kept;
 use sy_terms::{Seq, Theory, Value, Want};
 
 /// A row for each of the kept terms, which says at which points it is true.

@@ -13,18 +13,18 @@ use Rattle.sy_terms.specs.declared.op.Op.{Op}
 use Rattle.sy_terms.specs.declared.sort.Sort.TheVariants as sorts
 use Rattle.sy_terms.specs.declared.term.Term.{Term}
 use Rattle.sy_terms.specs.declared.term.Def.{Def}
-use Rattle.sy_terms_laws.specs.Evaluation.{BodiesFit, TermFits, FitsWith, GivesValue, scope_with, wanted_functions, can_compute}
-use Rattle.sy_terms_laws.specs.Asking.{asks}
-use Rattle.sy_terms_laws.specs.Tracing.{GainsCalls}
+use Rattle.sy_terms_operators.specs.Evaluation.{BodiesFit, TermFits, FitsWith, GivesValue, scope_with, wanted_functions, can_compute}
+use Rattle.sy_terms_operators.specs.Asking.{asks}
+use Rattle.sy_terms_operators.specs.Tracing.{GainsCalls}
 use Rattle.sy_meaning.specs.Calls.{IsCallOf, AsksRightly}
 use Rattle.sy_grammar_base.specs.Questions.{Goal, Question, goal_of, question_of, signatures, wanted_signature}
 use Rattle.sy_grammar_base.specs.Solving.{AreValues, IsTrueUnder, Meets}
 use Rattle.sy_grammar_base.specs.declared.problem.Problem.{Problem}
 use Rattle.sy_grammar_base.specs.declared.problem.Wanted.{Wanted}
-use Rattle.sy_loop_history.specs.Budgets as budgets
+use Rattle.sy_loop_spec.specs.Budgets as budgets
 use Rattle.sy_loop_truth.specs.declared.truth.Truth as answer
 use Rattle.sy_loop_truth.specs.declared.truth.Truth.TheVariants.{True, False, Leaves}
-use Rattle.sy_loop_history.specs.Truths.{asked_by, IsFalseByCalls, IsOneFalse, OneLeaves}
+use Rattle.sy_loop_spec.specs.Truths.{asked_by, IsFalseByCalls, IsOneFalse, OneLeaves}
 use Rattle.sy_loop_truth.specs.Answers.{AnswersValue, Says, SaysOfAll, JudgesBodies}
 use Rattle.sy_loop_truth.proofs.Traced.{gained_all, gained_only}
 use Rattle.sy_grammar_base.specs.Fits.{IsTruth, wanted_of}

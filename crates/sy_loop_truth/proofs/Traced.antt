@@ -5,9 +5,9 @@ use Rattle.std.specs.List.{Contains}
 use Rattle.std.proofs.lemmas.List.Elements.{Contains-push, Contains-push_cases, Contains-append_left, Contains-append_right, Contains-append_cases}
 use mathlib.Core.Bool.{true≢false}
 use Rattle.sy_terms.specs.Values.{Val}
-use Rattle.sy_terms_laws.specs.Tracing.{same_values, has_call, traced, traced_all, GainsCalls}
-use Rattle.sy_terms_laws.proofs.Equations.{both_true}
-use Rattle.sy_terms_laws.proofs.Traced.{same_values_is}
+use Rattle.sy_terms_operators.specs.Tracing.{same_values, has_call, traced, traced_all, GainsCalls}
+use Rattle.sy_terms_operators.proofs.Equations.{both_true}
+use Rattle.sy_terms_operators.proofs.Traced.{same_values_is}
 
 pub here : {X : Type 0} (x : X) (xs : List X) → Contains (x ∷ xs) x
 here x xs = Contains-append_left (x ∷ []) xs x (Contains-push [] x)

@@ -9,7 +9,7 @@ use Rattle.sy_points.specs.Asked as points
 use Rattle.sy_points.specs.Asked.{Asked, of_function, with_tuple}
 use Rattle.sy_points.specs.declared.points.Added.TheVariants as added
 use Rattle.sy_points.proofs.Distinct.{bounded_with}
-use Rattle.sy_loop_history.specs.Adding.{IsAsked, room_in, room, GainsTuples, AreAsked, FunctionIsFull}
+use Rattle.sy_loop_spec.specs.Adding.{IsAsked, room_in, room, GainsTuples, AreAsked, FunctionIsFull}
 use Rattle.sy_loop_truth.specs.Answers.{AddsCalls}
 use Rattle.sy_loop_truth.specs.declared.calls.Adding.{Adding}
 use Rattle.sy_loop_truth.specs.declared.calls.Adding.TheVariants.{There, New, Full}

@@ -5,9 +5,9 @@ use Rattle.sy_terms.specs.Expr.{Expr}
 use Rattle.sy_grammar_base.specs.Questions.{Question}
 use Rattle.sy_grammar_base.specs.Solving.{IsTrueUnder, Meets}
 use Rattle.sy_points.specs.Asked.{Asked}
-use Rattle.sy_loop_history.specs.Adding.{AreAsked, FunctionIsFull, room}
-use Rattle.sy_loop_history.specs.Budgets as budgets
-use Rattle.sy_loop_history.specs.Truths.{IsFalseByCalls, IsOneFalse, IsViolated, OneLeaves}
+use Rattle.sy_loop_spec.specs.Adding.{AreAsked, FunctionIsFull, room}
+use Rattle.sy_loop_spec.specs.Budgets as budgets
+use Rattle.sy_loop_spec.specs.Truths.{IsFalseByCalls, IsOneFalse, IsViolated, OneLeaves}
 use Rattle.sy_loop_truth.specs.declared.calls.Adding.{Adding}
 use Rattle.sy_loop_truth.specs.declared.calls.Adding.TheVariants as adding
 use Rattle.sy_loop_truth.specs.declared.calls.Adding.TheVariants.{There, New}

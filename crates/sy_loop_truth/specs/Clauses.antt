@@ -3,14 +3,14 @@ use Rattle.std.specs.Prelude.{List}
 use Rattle.sy_terms.specs.Expr.{Expr}
 use Rattle.sy_terms.specs.declared.term.Term.{Term}
 use Rattle.sy_terms.specs.declared.theory.Theory.{Ghosts as TheoryOf}
-use Rattle.sy_terms_laws.specs.Evaluation.{BodiesFit}
+use Rattle.sy_terms_operators.specs.Evaluation.{BodiesFit}
 use Rattle.sy_grammar_base.specs.Questions.{question_of, signatures}
 use Rattle.sy_grammar_base.specs.declared.problem.Problem.{Problem}
 use Rattle.sy_query_limits.specs.declared.Limits.{Limits}
 use Rattle.sy_points.specs.Asked.{Asked, of_function}
 use Rattle.sy_points.specs.declared.stored.Stored.{Stored}
-use Rattle.sy_loop_history.specs.Goods.{assignments_of}
-use Rattle.sy_loop_history.specs.Stored.{history_of}
+use Rattle.sy_loop_spec.specs.Goods.{assignments_of}
+use Rattle.sy_loop_spec.specs.Stored.{history_of}
 use Rattle.sy_loop_truth.specs.Known.{IsHeld}
 use Rattle.sy_loop_truth.specs.Rests.{AreAssigned, AreRests, IsRest}
 use Rattle.sy_loop_truth.specs.Traces.{MeetAll, Widens}

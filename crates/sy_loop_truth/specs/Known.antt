@@ -7,9 +7,9 @@ use Rattle.sy_grammar_base.specs.Questions.{Question}
 use Rattle.sy_grammar_base.specs.Solving.{AreValues}
 use Rattle.sy_query_limits.specs.declared.Limits.{Limits}
 use Rattle.sy_points.specs.Asked.{Asked, IsBounded}
-use Rattle.sy_loop_bounds.specs.declared.reach.Reach.{Reach}
-use Rattle.sy_loop_history.specs.Adding.{IsAsked, room}
-use Rattle.sy_loop_history.specs.Histories.{Counterexample, IsHonestHistory, IsMet}
+use Rattle.sy_loop_spec.specs.declared.reach.Reach.{Reach}
+use Rattle.sy_loop_spec.specs.Adding.{IsAsked, room}
+use Rattle.sy_loop_spec.specs.Histories.{Counterexample, IsHonestHistory, IsMet}
 
 -- the assignments have values of the variables, and each function has distinct tuples of its arguments, at most so many
 pub record IsHeld (question : Question) (limits : Limits) (history : List Counterexample) (asked : Asked) : Type 0 where

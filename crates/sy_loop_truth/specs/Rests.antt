@@ -4,8 +4,8 @@ use Rattle.sy_terms.specs.Values.{Val}
 use Rattle.sy_terms.specs.Expr.{Expr}
 use Rattle.sy_grammar_base.specs.Questions.{Question}
 use Rattle.sy_grammar_base.specs.Solving.{AreValues}
-use Rattle.sy_loop_bounds.specs.Resting.{RestsOn}
-use Rattle.sy_loop_history.specs.Histories.{Counterexample}
+use Rattle.sy_loop_spec.specs.Resting.{RestsOn}
+use Rattle.sy_loop_spec.specs.Histories.{Counterexample}
 use Rattle.sy_loop_truth.specs.declared.rest.Rest.{Rest}
 
 -- the assignments have values of the variables

@@ -6,9 +6,9 @@ use Rattle.sy_grammar_base.specs.Questions.{Question}
 use Rattle.sy_grammar_base.specs.Solving.{Meets}
 use Rattle.sy_meaning.specs.Calls.{IsCallOf}
 use Rattle.sy_points.specs.Asked.{Asked, of_function}
-use Rattle.sy_loop_history.specs.Histories.{Counterexample, trace}
-use Rattle.sy_loop_history.specs.Adding.{IsAsked, AreAsked, room}
-use Rattle.sy_loop_history.specs.Truths.{OneLeaves}
+use Rattle.sy_loop_spec.specs.Histories.{Counterexample, trace}
+use Rattle.sy_loop_spec.specs.Adding.{IsAsked, AreAsked, room}
+use Rattle.sy_loop_spec.specs.Truths.{OneLeaves}
 use Rattle.sy_loop_truth.specs.declared.calls.Adding.{Adding}
 use Rattle.sy_loop_truth.specs.declared.calls.Adding.TheVariants.{There, New, Full}
 use Rattle.sy_grammar_base.specs.Fits.{wanted_of}

@@ -19,8 +19,8 @@ use Rattle.sy_terms.specs.declared.op.Op.TheVariants as ops
 use Rattle.sy_terms.specs.declared.sort.Sort.{Sort}
 use Rattle.sy_terms.specs.declared.sort.Sort.TheVariants as kinds
 use Rattle.sy_terms.specs.declared.sorts.Sorted.TheVariants.{Is, Mismatch}
-use Rattle.sy_terms_laws.specs.Plain.{is_plain, are_plain}
-use Rattle.sy_terms_laws.proofs.Equations.{both_true, with_sort_Some}
+use Rattle.sy_terms_operators.specs.Plain.{is_plain, are_plain}
+use Rattle.sy_terms_operators.proofs.Equations.{both_true, with_sort_Some}
 use Rattle.sy_meaning_integers.specs.Lia.{owned}
 use Rattle.sy_lower_laws.specs.Lowering.{Step, Quotient, Remainder, Magnitude, Itself, step_of, Progress, Lowered, AllLowered, Divided, nonzero, is_negation, negated_divisor, divisor, is_variable, at_most, whole_constant, equated, paired, quotient_of, remainder_of, quotient_at, remainder_at, quotient_by, remainder_by, quotients, as_variable, magnitude, absolute_of, divided, reduced, unsigned, applied_by, applied}
 use Rattle.sy_lower_laws.proofs.Arithmetic.{only}

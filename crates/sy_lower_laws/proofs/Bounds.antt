@@ -12,7 +12,7 @@ use Rattle.sy_terms.specs.declared.op.Op.TheVariants as ops
 use Rattle.sy_terms.specs.declared.sort.Sort.{Sort}
 use Rattle.sy_terms.specs.declared.sort.Sort.TheVariants as kinds
 use Rattle.sy_terms.specs.declared.sorts.Sorted.TheVariants.{Is, Mismatch}
-use Rattle.sy_terms_laws.proofs.Equations.{both_true, applied_sort_Some, after_Some, with_sort_Some}
+use Rattle.sy_terms_operators.proofs.Equations.{both_true, applied_sort_Some, after_Some, with_sort_Some}
 use Rattle.sy_query_base.specs.Asked.{Query, QueryFits}
 use Rattle.sy_query_base.specs.Placed.{count}
 use Rattle.sy_query_base.specs.Weights.{sort_weight, operator_weight, with_sorts, weight, weights}

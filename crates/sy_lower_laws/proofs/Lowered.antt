@@ -15,9 +15,9 @@ use Rattle.sy_terms.specs.declared.op.Op.TheVariants as ops
 use Rattle.sy_terms.specs.declared.sort.Sort.{Sort}
 use Rattle.sy_terms.specs.declared.sort.Sort.TheVariants as kinds
 use Rattle.sy_terms.specs.declared.sorts.Sorted.TheVariants.{Is}
-use Rattle.sy_terms_laws.specs.Plain.{is_plain, are_plain}
-use Rattle.sy_terms_laws.proofs.Equations.{both_true, value_at_position_is}
-use Rattle.sy_terms_laws.proofs.Plain.{plain_append}
+use Rattle.sy_terms_operators.specs.Plain.{is_plain, are_plain}
+use Rattle.sy_terms_operators.proofs.Equations.{both_true, value_at_position_is}
+use Rattle.sy_terms_operators.proofs.Plain.{plain_append}
 use Rattle.sy_query_base.specs.Asked.{Query, QueryFits, Satisfies}
 use Rattle.sy_meaning_integers.specs.Lia.{owned, numeric}
 use Rattle.sy_lower_laws.specs.Lowering.{Progress, Lowered, has_divisions, first_variables, begun, with_sides, lowered, lowering}

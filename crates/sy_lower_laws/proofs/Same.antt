@@ -7,7 +7,7 @@ use Rattle.sy_terms.specs.Values.{Val, Truth, Whole, Bits, same}
 use Rattle.sy_terms.specs.Expr.{Expr, Exprs, Constant, Variable, Apply, Invoke, Bind, none, more}
 use Rattle.sy_terms.specs.declared.op.Op.{Op}
 use Rattle.sy_terms.specs.declared.op.Op.TheVariants as ops
-use Rattle.sy_terms_laws.proofs.Equations.{both_true}
+use Rattle.sy_terms_operators.proofs.Equations.{both_true}
 use Rattle.sy_lower_laws.specs.Lowering.{operator_code, same_code, same_expr, same_exprs}
 
 -- the operators of Core and Ints in the order of their numbers

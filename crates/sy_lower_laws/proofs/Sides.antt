@@ -13,9 +13,9 @@ use Rattle.sy_terms.specs.declared.op.Op.TheVariants as ops
 use Rattle.sy_terms.specs.declared.sort.Sort.{Sort}
 use Rattle.sy_terms.specs.declared.sort.Sort.TheVariants as kinds
 use Rattle.sy_terms.specs.declared.sorts.Sorted.TheVariants.{Is}
-use Rattle.sy_terms_laws.specs.Plain.{is_plain, are_plain}
-use Rattle.sy_terms_laws.proofs.Equations.{both_true, same_sort_is, with_sort_Some}
-use Rattle.sy_terms_laws.proofs.Plain.{stays}
+use Rattle.sy_terms_operators.specs.Plain.{is_plain, are_plain}
+use Rattle.sy_terms_operators.proofs.Equations.{both_true, same_sort_is, with_sort_Some}
+use Rattle.sy_terms_operators.proofs.Plain.{stays}
 use Rattle.sy_lower_laws.specs.Lowering.{equation, at_most, whole_constant, recomposed, division_sides}
 use Rattle.sy_lower_laws.proofs.Arithmetic.{IsDivision}
 use Rattle.sy_lower_laws.proofs.Same.{same_value, value_same}

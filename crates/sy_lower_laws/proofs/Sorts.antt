@@ -16,9 +16,9 @@ use Rattle.sy_terms.specs.declared.sort.Sort.TheVariants as kinds
 use Rattle.sy_terms.specs.declared.sorts.Sorted.TheVariants.{Is, Mismatch}
 use Rattle.sy_terms.specs.declared.term.Fun.{Fun}
 use Rattle.sy_terms.specs.declared.term.Fun.TheVariants.{Defined, Wanted}
-use Rattle.sy_terms_laws.specs.Plain.{is_plain, are_plain}
-use Rattle.sy_terms_laws.proofs.Equations.{both_true, if_Some, applied_sort_Some, after_Some, with_sort_Some}
-use Rattle.sy_terms_laws.proofs.OperatorSorts.{op_value-sort}
+use Rattle.sy_terms_operators.specs.Plain.{is_plain, are_plain}
+use Rattle.sy_terms_operators.proofs.Equations.{both_true, if_Some, applied_sort_Some, after_Some, with_sort_Some}
+use Rattle.sy_terms_operators.proofs.OperatorSorts.{op_value-sort}
 use Rattle.sy_grammar_base.specs.Formed.{is_known}
 use Rattle.sy_grammar_base.specs.Solving.{AreValues}
 use Rattle.sy_query_base.specs.Weights.{query_scope}

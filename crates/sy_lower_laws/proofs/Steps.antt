@@ -14,9 +14,9 @@ use Rattle.sy_terms.specs.Fitting.{sort_in, sorts_in}
 use Rattle.sy_terms.specs.Meaning.{meaning, value_at_position}
 use Rattle.sy_terms.specs.declared.sort.Sort.{Sort}
 use Rattle.sy_terms.specs.declared.sort.Sort.TheVariants as kinds
-use Rattle.sy_terms_laws.specs.Plain.{is_plain, are_plain}
-use Rattle.sy_terms_laws.proofs.Equations.{both_true}
-use Rattle.sy_terms_laws.proofs.Plain.{plain_append, stays, further, all_further}
+use Rattle.sy_terms_operators.specs.Plain.{is_plain, are_plain}
+use Rattle.sy_terms_operators.proofs.Equations.{both_true}
+use Rattle.sy_terms_operators.proofs.Plain.{plain_append, stays, further, all_further}
 use Rattle.sy_grammar_base.specs.Solving.{AreValues}
 use Rattle.sy_lower_laws.specs.Lowering.{Pair, Progress, Lowered, Divided, equation, equated, division_sides, pair_of, fresh_pair, paired_by, paired, same_expr}
 use Rattle.sy_lower_laws.proofs.Arithmetic.{IsDivision, divides}

@@ -7,9 +7,9 @@ use Rattle.sy_terms.specs.Expr.{Expr, Exprs, Constant, Variable, Apply, Invoke, 
 use Rattle.sy_terms.specs.Fitting.{sort_in, sorts_in}
 use Rattle.sy_terms.specs.Meaning.{meaning, meanings, value_at_position}
 use Rattle.sy_terms.specs.declared.sort.Sort.{Sort}
-use Rattle.sy_terms_laws.specs.Plain.{is_plain, are_plain}
-use Rattle.sy_terms_laws.proofs.Equations.{both_true, applied_sort_Some, after_Some, with_sort_Some}
-use Rattle.sy_terms_laws.proofs.Plain.{plain_append}
+use Rattle.sy_terms_operators.specs.Plain.{is_plain, are_plain}
+use Rattle.sy_terms_operators.proofs.Equations.{both_true, applied_sort_Some, after_Some, with_sort_Some}
+use Rattle.sy_terms_operators.proofs.Plain.{plain_append}
 use Rattle.sy_lower_laws.specs.Lowering.{Progress, Lowered, AllLowered, is_name, equated, equated_at, named, name_at, lowered, all_lowered, bound_lowered}
 use Rattle.sy_lower_laws.specs.Laws.{has_integers, have_integers}
 use Rattle.sy_lower_laws.proofs.Sorts.{integers, IsKnown, with_both, cons_both, sorts_append, uncalled, sort_known, sorts_known}

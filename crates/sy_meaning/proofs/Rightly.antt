@@ -17,10 +17,10 @@ use Rattle.sy_terms.specs.declared.term.Fun.{Fun}
 use Rattle.sy_terms.specs.declared.term.Fun.TheVariants.{Defined, Wanted}
 use Rattle.sy_terms.specs.declared.term.Term.{Term, Const, Var, App, Call, Let}
 use Rattle.sy_terms.specs.declared.term.Terms.{Terms}
-use Rattle.sy_terms_laws.specs.Evaluation.{HaveValues}
-use Rattle.sy_terms_laws.proofs.Asks as asks
-use Rattle.sy_terms_laws.proofs.Cases as cases
-use Rattle.sy_terms_laws.proofs.Steps.{map-both}
+use Rattle.sy_terms_operators.specs.Evaluation.{HaveValues}
+use Rattle.sy_terms_operators.proofs.Asks as asks
+use Rattle.sy_terms_operators.proofs.Cases as cases
+use Rattle.sy_terms_operators.proofs.Steps.{map-both}
 use Rattle.sy_meaning.specs.Calls.{IsCallOf}
 
 module _ (signatures : List Signature) {T N : Type 0} (number : N → Val) (defined wanted : List Function) (values : List Val) (term : Term T N) where

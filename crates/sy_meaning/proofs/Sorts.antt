@@ -19,8 +19,8 @@ use Rattle.sy_terms.specs.declared.sort.Value.{Value}
 use Rattle.sy_terms.specs.declared.term.Fun.{Fun}
 use Rattle.sy_terms.specs.declared.term.Term.{Term, Const, Var, App, Call, Let}
 use Rattle.sy_terms.specs.declared.term.Terms.{Terms}
-use Rattle.sy_terms_laws.proofs.Equations.{with_sort_Some}
-use Rattle.sy_terms_laws.proofs.Steps.{app-is, call-is, let-is}
+use Rattle.sy_terms_operators.proofs.Equations.{with_sort_Some}
+use Rattle.sy_terms_operators.proofs.Steps.{app-is, call-is, let-is}
 
 pub sorts_in-nil : (scope : Scope) (ts found : List Sort) → found ≡ [] → sorts_in scope ts none ≡ Some found
 unfolding sorts_in

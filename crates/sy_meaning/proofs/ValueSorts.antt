@@ -8,8 +8,8 @@ use Rattle.sy_terms.specs.Denoted.{val_of, vals_of, sorts_of, AreValid}
 use Rattle.sy_terms.specs.Theories.{sort_of_value, valid}
 use Rattle.sy_terms.specs.declared.sort.Sort.{Sort}
 use Rattle.sy_terms.specs.declared.sort.Value.{Value}
-use Rattle.sy_terms_laws.proofs.Equations.{if_Some}
-use Rattle.sy_terms_laws.proofs.Steps.{map-both}
+use Rattle.sy_terms_operators.proofs.Equations.{if_Some}
+use Rattle.sy_terms_operators.proofs.Steps.{map-both}
 
 -- the sort of a value that is one of its sort
 abbrev pub its_sort : Val → Option Sort

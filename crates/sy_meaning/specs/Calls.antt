@@ -7,8 +7,8 @@ use Rattle.sy_terms.specs.Fitting.{Signature}
 use Rattle.sy_terms.specs.declared.op.Op.{Op}
 use Rattle.sy_terms.specs.declared.term.Def.{Def}
 use Rattle.sy_terms.specs.declared.term.Term.{Term}
-use Rattle.sy_terms_laws.specs.Evaluation.{BodiesFit, TermFits, TermsFit, scope_with}
-use Rattle.sy_terms_laws.specs.Asking.{asks, all_asks}
+use Rattle.sy_terms_operators.specs.Evaluation.{BodiesFit, TermFits, TermsFit, scope_with}
+use Rattle.sy_terms_operators.specs.Asking.{asks, all_asks}
 
 -- a call of a function to be found, at values of the sorts that it takes
 pub record IsCallOf (wanted : List Signature) (call : ℕ × List Val) : Type 0 where

@@ -4,7 +4,7 @@ use Rattle.sy_terms.specs.Fitting as fitting
 use Rattle.sy_terms.specs.Fitting.{Scope}
 use Rattle.sy_terms.specs.declared.op.Op.{Op}
 use Rattle.sy_terms.specs.declared.term.Def.{Def}
-use Rattle.sy_terms_laws.specs.Evaluation.{scope_with}
+use Rattle.sy_terms_operators.specs.Evaluation.{scope_with}
 use Rattle.std.specs.Prelude.{Bool}
 use Rattle.sy_meaning.specs.declared.fitting.Signature.{Signature}
 

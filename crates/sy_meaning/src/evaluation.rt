@@ -2,9 +2,9 @@
 ghost use Rattle.std.specs.Prelude.{◌≡◌, ◌++◌, [], IfOk, OnOk, OnErr, IsErrOf, false};
 ghost use Rattle.sy_terms.specs.Denoted.{val_of, vals_of, AreValid, expr_of, exprs_of};
 ghost use Rattle.sy_terms.specs.Definitions.{DefinitionsFit, scope_of};
-ghost use Rattle.sy_terms_laws.specs.Evaluation.{TermFits, FitsWith, AllFitWith, GivesValue, AllGive, can_compute, can_compute_all};
-ghost use Rattle.sy_terms_laws.specs.Tracing.{GainsCalls, TracedSome};
-ghost use Rattle.sy_terms_laws.specs.Asking.{asks, all_asks, StandsWith};
+ghost use Rattle.sy_terms_operators.specs.Evaluation.{TermFits, FitsWith, AllFitWith, GivesValue, AllGive, can_compute, can_compute_all};
+ghost use Rattle.sy_terms_operators.specs.Tracing.{GainsCalls, TracedSome};
+ghost use Rattle.sy_terms_operators.specs.Asking.{asks, all_asks, StandsWith};
 ghost use Rattle.sy_meaning.specs.Calls.{AsksRightly, AllAskRightly};
 
 use crate::trace::Trace;

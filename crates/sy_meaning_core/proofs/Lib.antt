@@ -1,2 +1,4 @@
 pub mod Lists
+pub mod Masks
 pub mod Three
+pub mod Wrapping

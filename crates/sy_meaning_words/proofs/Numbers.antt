@@ -8,8 +8,8 @@ use Rattle.std.proofs.Math.Nat.{pow-le-pow_right, mul-mod_left, div-one}
 use Rattle.sy_terms.specs.Values.{Bits, width, number}
 use Rattle.sy_terms.specs.Theories.{valid}
 use Rattle.sy_terms.specs.BitVectors.{negative, shifted_left, sign_extended, joined, rotated_left, rotated_right}
-use Rattle.sy_meaning_numbers.proofs.Masks.{fits, is_fit}
-use Rattle.sy_meaning_numbers.proofs.Wrapping.{mod_64}
+use Rattle.sy_meaning_core.proofs.Masks.{fits, is_fit}
+use Rattle.sy_meaning_core.proofs.Wrapping.{mod_64}
 
 pub or_fits : (w a b : ℕ) → valid (Bits w a) ≡ true → valid (Bits w b) ≡ true → valid (Bits w (bit_or a b)) ≡ true
 or_fits w a b h k = let x = is_fit w a h in let y = is_fit w b k in fits w (bit_or a b) x.0 x.1 (or_lt w a b x.2 y.2)

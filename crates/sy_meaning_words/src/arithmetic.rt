@@ -10,7 +10,7 @@ pub(crate) fn negated(s: Word) -> Word
     ensures { Bits result.width result.bits ≡ Bits s.width (bv.negated s.width s.bits) }
 {
     let width = s.width();
-    Word::made(width, sy_meaning_numbers::negated(width, s.bits()))
+    Word::made(width, sy_meaning_core::negated(width, s.bits()))
 }
 
 /// `s + t`.
@@ -19,7 +19,7 @@ pub(crate) fn sum(s: Word, t: Word) -> Word
     ensures { Bits result.width result.bits ≡ Bits s.width (bv.sum s.width s.bits t.bits) }
 {
     let width = s.width();
-    Word::made(width, sy_meaning_numbers::sum(width, s.bits(), t.bits()))
+    Word::made(width, sy_meaning_core::sum(width, s.bits(), t.bits()))
 }
 
 /// `s - t`.

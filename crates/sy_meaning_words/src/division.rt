@@ -11,10 +11,7 @@ pub(crate) fn quotient(s: Word, t: Word) -> Word
     ensures { Bits result.width result.bits ≡ Bits s.width (bv.quotient s.width s.bits t.bits) }
 {
     let width = s.width();
-    Word::made(
-        width,
-        sy_meaning_numbers::quotient(width, s.bits(), t.bits()),
-    )
+    Word::made(width, sy_meaning_core::quotient(width, s.bits(), t.bits()))
 }
 
 /// The remainder; `s` where `t` is 0.
@@ -23,10 +20,7 @@ pub(crate) fn remainder(s: Word, t: Word) -> Word
     ensures { Bits result.width result.bits ≡ Bits s.width (bv.remainder s.width s.bits t.bits) }
 {
     let width = s.width();
-    Word::made(
-        width,
-        sy_meaning_numbers::remainder(width, s.bits(), t.bits()),
-    )
+    Word::made(width, sy_meaning_core::remainder(width, s.bits(), t.bits()))
 }
 
 /// The quotient of the absolute values, negated where the top bits differ.
@@ -37,7 +31,7 @@ pub(crate) fn signed_quotient(s: Word, t: Word) -> Word
     let width = s.width();
     Word::made(
         width,
-        sy_meaning_numbers::signed_quotient(width, s.bits(), t.bits()),
+        sy_meaning_core::signed_quotient(width, s.bits(), t.bits()),
     )
 }
 
@@ -49,7 +43,7 @@ pub(crate) fn signed_remainder(s: Word, t: Word) -> Word
     let width = s.width();
     Word::made(
         width,
-        sy_meaning_numbers::signed_remainder(width, s.bits(), t.bits()),
+        sy_meaning_core::signed_remainder(width, s.bits(), t.bits()),
     )
 }
 
@@ -61,6 +55,6 @@ pub(crate) fn signed_modulus(s: Word, t: Word) -> Word
     let width = s.width();
     Word::made(
         width,
-        sy_meaning_numbers::signed_modulus(width, s.bits(), t.bits()),
+        sy_meaning_core::signed_modulus(width, s.bits(), t.bits()),
     )
 }

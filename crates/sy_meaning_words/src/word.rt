@@ -15,7 +15,8 @@ pub struct Word {
 impl Word {
     /// The vector; `None` exactly where the width isn't from 1 to 64 or the number has more bits.
     pub fn new(width: u8, bits: u64) -> Option<Word>
-        ensures { MatchOption result (valid (Bits width bits) ≡ false) (λ word. (word.width ≡ width) × (word.bits ≡ bits)) }
+        ensures { MatchOption result (valid (Bits width bits) ≡ false) (λ word. (word.width ≡ width) ×
+            (word.bits ≡ bits)) }
     {
         if 1 <= width && width <= 64 && bits <= u64::MAX >> (64 - width) {
             Some(Word { width, bits })
@@ -38,7 +39,7 @@ impl Word {
         requires most { width ≤ 64 }
         ensures { Bits result.width result.bits ≡ Bits width (number % 2 ^ width) }
     {
-        Word::made(width, sy_meaning_numbers::lowest(width, number))
+        Word::made(width, sy_meaning_core::lowest(width, number))
     }
 
     /// The greatest number of a width.
@@ -47,7 +48,7 @@ impl Word {
         requires most { width ≤ 64 }
         ensures { result ≡ 2 ^ width - 1 }
     {
-        sy_meaning_numbers::greatest(width)
+        sy_meaning_core::greatest(width)
     }
 
     /// The vector whose top bit alone is 1.
@@ -72,7 +73,7 @@ impl Word {
     pub(crate) fn is_negative(self) -> bool
         ensures { result ≡ negative self.width self.bits }
     {
-        sy_meaning_numbers::is_negative(self.width, self.bits)
+        sy_meaning_core::is_negative(self.width, self.bits)
     }
 
     /// How many bits there are.

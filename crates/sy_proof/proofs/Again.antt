@@ -5,11 +5,11 @@ use Rattle.std.proofs.lemmas.Bool.{lt-ltb}
 use Rattle.std.proofs.lemmas.List.Elements.{All-head, All-tail}
 use Rattle.sy_text_items.specs.Lexicon.{space}
 use Rattle.sy_text_items.specs.Items.{Item, leaf, group, Items, none, more}
-use Rattle.sy_text_reader.specs.Grammar.{Alike, AllAlike}
-use Rattle.sy_text_reader.specs.Reading.{command_at}
-use Rattle.sy_text_reader.specs.Spelling.{item_text, ItemFits, ItemsFit, parted}
-use Rattle.sy_text_reader.proofs.Nests.{command_again}
-use Rattle.sy_text_writer.proofs.Digits.{item_spelled, empty_gap}
+use Rattle.sy_text.specs.Grammar.{Alike, AllAlike}
+use Rattle.sy_text.specs.Reading.{command_at}
+use Rattle.sy_text.specs.Spelling.{item_text, ItemFits, ItemsFit, parted}
+use Rattle.sy_text.proofs.Nests.{command_again}
+use Rattle.sy_text.proofs.Digits.{item_spelled, empty_gap}
 use Rattle.sy_forms_items.specs.Parts.{numeral, numeral_in, symbol, symbol_in, is_symbol, is_name}
 use Rattle.sy_proof.specs.Lists.{below, behind_word, each_in, each_item, number_item, with_first}
 use Rattle.sy_proof.specs.Numbers.{small_in}

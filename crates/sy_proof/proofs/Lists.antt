@@ -5,7 +5,7 @@ use Rattle.std.specs.Option.{option_map}
 use Rattle.std.proofs.lemmas.List.{drop_all}
 use Rattle.std.proofs.lemmas.List.Elements.{All-head, All-tail}
 use Rattle.sy_text_items.specs.Items.{Item, Items, none, more}
-use Rattle.sy_text_reader.specs.Spelling.{item_text, others_text}
+use Rattle.sy_text.specs.Spelling.{item_text, others_text}
 use Rattle.sy_proof.specs.Lists.{each_in, spaced, with_first, Finds}
 
 -- ---- reading: what was read, and what is left

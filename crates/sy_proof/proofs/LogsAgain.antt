@@ -5,9 +5,9 @@ use Rattle.std.proofs.lemmas.List.Elements.{All-head, All-tail}
 use Rattle.sy_text_items.specs.Items.{Item, leaf, group, Items, none, more}
 use Rattle.sy_text_items.specs.Lexicon.{bar_content, digit, letter, mark, quotable, space, symbol_byte}
 use Rattle.sy_text_items.specs.declared.fault.TextFault.{TextFault}
-use Rattle.sy_text_reader.specs.Grammar.{Alike, AllAlike}
-use Rattle.sy_text_reader.specs.Reading.{command_at}
-use Rattle.sy_text_reader.specs.Spelling.{all_bytes, atom_text, bare, item_text, others_text, symbol_text, ItemFits, ItemsFit}
+use Rattle.sy_text.specs.Grammar.{Alike, AllAlike}
+use Rattle.sy_text.specs.Reading.{command_at}
+use Rattle.sy_text.specs.Spelling.{all_bytes, atom_text, bare, item_text, others_text, symbol_text, ItemFits, ItemsFit}
 use Rattle.sy_clauses.specs.declared.Line.{Line}
 use Rattle.sy_clauses.specs.declared.Step.{Step}
 use Rattle.sy_proof.specs.Lists.{each_in, each_item, number_item, spaced}

@@ -5,7 +5,7 @@ use Rattle.std.specs.Option.{option_map}
 use Rattle.std.proofs.lemmas.Bool.{lt-ltb, eqb-true, eqb-false}
 use Rattle.sy_text_items.specs.Items.{Item, leaf, group, none, more}
 use Rattle.sy_text_items.specs.Lexicon.{bar_content, quotable, space}
-use Rattle.sy_text_reader.specs.Spelling.{all_bytes, ItemFits}
+use Rattle.sy_text.specs.Spelling.{all_bytes, ItemFits}
 use Rattle.sy_frac.specs.Fraction.{Fraction, IsInRange, IsLowest}
 use Rattle.sy_proof.specs.Lists.{below, nowhere, number_item, word_item}
 use Rattle.sy_proof.specs.Numbers.{denominator_in, fraction_by, fraction_in, fraction_item, from_two, negative_in, opposite, quotient_in, quotient_item, whole_in, whole_item, whole_or, WholeFits}

@@ -3,7 +3,7 @@ use Rattle.std.proofs.Common.{◌≡◌, ◌^◌, ℕ, List, refl, ap, sym, ◌�
 use Rattle.std.specs.Prelude.{Option, ℤ, codes, pos, option_and_then, if◌then◌else◌}
 use Rattle.std.specs.Option.{option_map}
 use Rattle.sy_text_items.specs.Items.{Item, leaf, group, Items, none, more}
-use Rattle.sy_text_reader.specs.Grammar.{Alike, AllAlike}
+use Rattle.sy_text.specs.Grammar.{Alike, AllAlike}
 use Rattle.sy_forms_items.specs.Parts.{numeral, is_symbol}
 use Rattle.sy_proof.specs.Lists.{below, each_in, nowhere, with_first}
 use Rattle.sy_proof.specs.Nodes.{branch_by, branch_in, cut_by, cut_in, form_by, form_in, holds_in, node_behind, node_in, pair_by, pair_in, pair_of, shown_in, split_in, test_in}

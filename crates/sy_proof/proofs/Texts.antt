@@ -1,7 +1,7 @@
 -- Texts of lists, as they are written piece by piece.
 use Rattle.std.proofs.Common.{◌≡◌, ℕ, List, [], ◌∷◌, ◌++◌, refl, ap, sym, ◌∙◌, append_assoc}
 use Rattle.sy_text_items.specs.Items.{Item, Items}
-use Rattle.sy_text_reader.specs.Spelling.{item_text, others_text}
+use Rattle.sy_text.specs.Spelling.{item_text, others_text}
 use Rattle.sy_proof.specs.Lists.{each_item, spaced}
 use Rattle.sy_proof.proofs.Lists.{others_spaced}
 

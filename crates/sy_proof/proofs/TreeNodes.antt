@@ -4,7 +4,7 @@ use Rattle.std.specs.Prelude.{All, ℤ}
 use Rattle.std.specs.declared.alloc.Global.{Global}
 use Rattle.std.specs.declared.boxed.Box.{Box}
 use Rattle.std.proofs.lemmas.List.Elements.{All-append, All-cons}
-use Rattle.sy_text_reader.specs.Spelling.{item_text}
+use Rattle.sy_text.specs.Spelling.{item_text}
 use Rattle.sy_frac.specs.Fraction.{Fraction}
 use Rattle.sy_linear_known.specs.Stored.{tree_shape_of}
 use Rattle.sy_linear_known.specs.declared.path.Test.{Test}

@@ -6,10 +6,10 @@ use Rattle.std.proofs.lemmas.List.Elements.{All-head, All-tail, All-nil, All-con
 use Rattle.sy_text_items.specs.Items.{Item}
 use Rattle.sy_text_items.specs.Lexicon.{bar_content, quotable, space}
 use Rattle.sy_text_items.specs.declared.fault.TextFault.{TextFault}
-use Rattle.sy_text_reader.specs.Reading.{command_at}
-use Rattle.sy_text_reader.specs.Spelling.{all_bytes, item_text, ItemFits, ItemsFit}
+use Rattle.sy_text.specs.Reading.{command_at}
+use Rattle.sy_text.specs.Spelling.{all_bytes, item_text, ItemFits, ItemsFit}
 use Rattle.sy_frac.specs.Fraction.{Fraction, IsLowest}
-use Rattle.sy_linear_forms.specs.Forms.{Coefficient}
+use Rattle.sy_linear_known.specs.Forms.{Coefficient}
 use Rattle.sy_linear_known.specs.Trees.{TreeShape}
 use Rattle.sy_linear_known.specs.declared.path.Test.{Test}
 use Rattle.sy_linear_known.specs.declared.path.Test.TheVariants.{AtLeast, Holds}

@@ -1,7 +1,7 @@
 -- Clauses in the format of DIMACS: a line `p cnf V N`, then a line for each clause, as `1 -2 0`. Numbers are decimal.
 use Rattle.std.specs.Prelude.{ℕ, ◌+◌, List, [], ◌++◌, length, map, codes, if◌then◌else◌}
 use Rattle.std.specs.List.{concat}
-use Rattle.sy_text_reader.specs.Spelling.{numeral_text}
+use Rattle.sy_text.specs.Spelling.{numeral_text}
 use Rattle.sy_clauses.specs.declared.Cnf.{Cnf}
 use Rattle.sy_clauses.specs.declared.Lit.{Lit}
 

@@ -3,7 +3,7 @@ use Rattle.std.specs.Prelude.{ℕ, ◌≡◌, List, [], ◌∷◌, ◌++◌, Opt
 use Rattle.sy_text_items.specs.Items.{Item, leaf, group, Items, none, more}
 use Rattle.sy_text_items.specs.declared.atom.Atom.TheVariants.{Symbol, Numeral}
 use Rattle.sy_text_items.specs.declared.atom.Place.{Place}
-use Rattle.sy_text_reader.specs.Spelling.{item_text}
+use Rattle.sy_text.specs.Spelling.{item_text}
 use Rattle.sy_forms_items.specs.Parts.{is_symbol}
 
 -- items that are written take no places

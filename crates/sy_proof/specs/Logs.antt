@@ -2,7 +2,7 @@
 use Rattle.std.specs.Prelude.{ℕ, ◌^◌, ◌≡◌, ◌<◌, List, [], ◌∷◌, ◌++◌, All, Option, Some, None, option_and_then, Result, Ok, Err, codes}
 use Rattle.sy_text_items.specs.Items.{Item, leaf, group, Items, none, more}
 use Rattle.sy_text_items.specs.declared.fault.TextFault.{TextFault}
-use Rattle.sy_text_reader.specs.Spelling.{item_text}
+use Rattle.sy_text.specs.Spelling.{item_text}
 use Rattle.sy_clauses.specs.declared.Line.{Line}
 use Rattle.sy_clauses.specs.declared.Step.{Step}
 use Rattle.sy_proof.specs.Lists.{behind_word, each_in, each_item, nowhere, number_item, word_item}

@@ -5,8 +5,8 @@ use Rattle.std.specs.Option.{option_map}
 use Rattle.sy_text_items.specs.Items.{Item, leaf, group, Items, none, more}
 use Rattle.sy_forms_items.specs.Parts.{is_symbol}
 use Rattle.sy_frac.specs.Fraction.{Fraction, IsLowest}
-use Rattle.sy_linear_forms.specs.Forms.{Coefficient}
-use Rattle.sy_linear_forms.specs.declared.form.Form.{Form}
+use Rattle.sy_linear_known.specs.Forms.{Coefficient}
+use Rattle.sy_linear_known.specs.declared.form.Form.{Form}
 use Rattle.sy_linear_known.specs.declared.path.Test.{Test}
 use Rattle.sy_linear_known.specs.declared.path.Test.TheVariants.{AtLeast, Holds}
 use Rattle.sy_proof.specs.Lists.{each_in, each_item, nowhere, number_item, word_item}

@@ -2,8 +2,8 @@
 ghost use Rattle.std.specs.Prelude.{◌≡◌, ◌++◌, ◌∷◌, [], ℕ, List, All, OnOk, IfOk};
 ghost use Rattle.std.specs.Option.{option_map};
 ghost use Rattle.sy_text_items.specs.Views.{item_of};
-ghost use Rattle.sy_text_reader.specs.Reading.{command_at};
-ghost use Rattle.sy_text_reader.specs.Spelling.{item_text};
+ghost use Rattle.sy_text.specs.Reading.{command_at};
+ghost use Rattle.sy_text.specs.Spelling.{item_text};
 ghost use Rattle.sy_forms_items.specs.Views.{items_in};
 ghost use Rattle.sy_proof.specs.Lists.{each_in, each_item, spaced};
 ghost use Rattle.sy_proof.specs.Logs.{line_in, line_item, log_in, log_item, steps_in, step_text, steps_items, LineIsSmall, StepIsSmall, ReadsLog};

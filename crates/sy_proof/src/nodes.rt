@@ -14,8 +14,7 @@ use crate::words::two;
 use std::alloc::Global;
 use sy_forms_items::{Rest, is_symbol};
 use sy_frac::Frac;
-use sy_linear_forms::Form;
-use sy_linear_known::Test;
+use sy_linear_known::{Form, Test};
 use sy_seq::{Seq, Want};
 use sy_text_items::Sexp;
 

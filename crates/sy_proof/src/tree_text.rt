@@ -1,9 +1,9 @@
 // Refutation trees written as text.
-#![tactic(auto, using(crate::proofs::Lists::others_spaced), unfolding(sy_text_reader::specs::Spelling::atom_text, sy_text_reader::specs::Spelling::symbol_text, sy_text_reader::specs::Spelling::bare, sy_text_items::specs::Lexicon::digit, sy_text_items::specs::Lexicon::symbol_byte, sy_text_items::specs::Lexicon::letter, sy_text_items::specs::Lexicon::mark))]
+#![tactic(auto, using(crate::proofs::Lists::others_spaced), unfolding(sy_text::specs::Spelling::atom_text, sy_text::specs::Spelling::symbol_text, sy_text::specs::Spelling::bare, sy_text_items::specs::Lexicon::digit, sy_text_items::specs::Lexicon::symbol_byte, sy_text_items::specs::Lexicon::letter, sy_text_items::specs::Lexicon::mark))]
 
 ghost use Rattle.std.specs.Prelude.{◌≡◌, ◌++◌, ◌∷◌, [], ◌<◌, ◌^◌, ℕ, List, All, OnOk, IfOk};
-ghost use Rattle.sy_text_reader.specs.Reading.{command_at};
-ghost use Rattle.sy_text_reader.specs.Spelling.{item_text};
+ghost use Rattle.sy_text.specs.Reading.{command_at};
+ghost use Rattle.sy_text.specs.Spelling.{item_text};
 ghost use Rattle.sy_frac.specs.Fraction.{IsLowest};
 ghost use Rattle.sy_linear_known.specs.Stored.{tree_shape_of};
 ghost use Rattle.sy_proof.specs.Lists.{each_item, spaced};
@@ -17,10 +17,9 @@ use crate::numbers::put_number;
 use std::alloc::Global;
 use sy_frac::Frac;
 use sy_io::Bytes;
-use sy_linear_forms::Form;
-use sy_linear_known::{Test, Tree};
+use sy_linear_known::{Form, Test, Tree};
 use sy_seq::Want;
-use sy_text_writer::write_numeral;
+use sy_text::write_numeral;
 
 /// The tree as text, and byte 10. Its points aren't written, and an unfinished leaf is `(unfinished)`, which isn't
 /// read.

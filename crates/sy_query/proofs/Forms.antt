@@ -17,7 +17,7 @@ use Rattle.sy_terms.specs.declared.term.Terms.{Terms}
 use Rattle.sy_terms.specs.declared.term.Def.{Def}
 use Rattle.std.specs.declared.boxed.Box.{Box}
 use Rattle.std.specs.declared.alloc.Global.{Global}
-use Rattle.sy_terms_laws.proofs.Steps.{app-is, call-is, let-is}
+use Rattle.sy_terms_operators.proofs.Steps.{app-is, call-is, let-is}
 use Rattle.sy_query_base.specs.Placed.{placed, called_at, count, placements}
 use Rattle.sy_query_base.specs.Weights.{query_scope}
 use Rattle.sy_query.specs.Placing.{placed_with, all_placed_with, called_with, wanted_placements, FitsOver, AllFitOver}

@@ -13,7 +13,7 @@ use Rattle.sy_terms.specs.declared.sort.Sort.TheVariants as sorts
 use Rattle.sy_terms.specs.declared.term.Def.{Def}
 use Rattle.sy_terms.specs.declared.term.Fun.TheVariants.{Defined, Wanted}
 use Rattle.sy_terms.specs.declared.term.Term.{Term}
-use Rattle.sy_terms_laws.proofs.Equations.{applied_sort_Some, after_Some, with_sort_Some}
+use Rattle.sy_terms_operators.proofs.Equations.{applied_sort_Some, after_Some, with_sort_Some}
 use Rattle.sy_query_base.specs.Placed.{placed, all_placed}
 use Rattle.sy_query_base.specs.Weights.{weight, query_scope}
 use Rattle.sy_query.specs.Placing.{placed_with, FitsOver}

@@ -6,6 +6,7 @@ pub mod Reaching
 pub mod Sizes
 pub mod Sorted
 pub mod Steps
+pub mod Trying
 pub mod Violation
 pub mod Walking
 pub mod Weighing

@@ -11,9 +11,9 @@ use Rattle.sy_terms.specs.Definitions.{scope_of, signature, bodies, body, Defini
 use Rattle.sy_terms.specs.declared.op.Op.{Op}
 use Rattle.sy_terms.specs.declared.term.Def.{Def}
 use Rattle.sy_terms.specs.declared.term.Term.{Term}
-use Rattle.sy_terms_laws.specs.Evaluation.{BodiesFit}
-use Rattle.sy_terms_laws.proofs.Called.{FitAfter-at}
-use Rattle.sy_terms_laws.proofs.Reached.{weight_of}
+use Rattle.sy_terms_operators.specs.Evaluation.{BodiesFit}
+use Rattle.sy_terms_operators.proofs.Called.{FitAfter-at}
+use Rattle.sy_terms_operators.proofs.Reached.{weight_of}
 use Rattle.sy_query_base.specs.Placed.{Placement, placement_from, placements_after, placements}
 use Rattle.sy_query.specs.Placing.{wanted_placements}
 

@@ -21,9 +21,9 @@ use Rattle.sy_terms.specs.declared.term.Terms.{Terms}
 use Rattle.sy_terms.specs.declared.term.Def.{Def}
 use Rattle.std.specs.declared.boxed.Box.{Box}
 use Rattle.std.specs.declared.alloc.Global.{Global}
-use Rattle.sy_terms_laws.specs.Evaluation.{scope_with}
-use Rattle.sy_terms_laws.proofs.Equations.{if_Some, applied_sort_Some, called_sort_Some, after_Some, with_sort_Some}
-use Rattle.sy_terms_laws.proofs.Steps.{app-is, call-is, let-is}
+use Rattle.sy_terms_operators.specs.Evaluation.{scope_with}
+use Rattle.sy_terms_operators.proofs.Equations.{if_Some, applied_sort_Some, called_sort_Some, after_Some, with_sort_Some}
+use Rattle.sy_terms_operators.proofs.Steps.{app-is, call-is, let-is}
 use Rattle.sy_query_base.specs.Placed.{count, all_placed}
 use Rattle.sy_query_base.specs.Weights.{weight, weights, sort_weight, operator_weight, with_sorts, query_scope}
 use Rattle.sy_query.specs.declared.room.Left.{Left}
@@ -31,9 +31,9 @@ use Rattle.sy_query.specs.Placing.{placed_with, all_placed_with, called_with, Fu
 use Rattle.sy_query.specs.Sized.{IsSized}
 use Rattle.sy_query.proofs.Forms.{var-placed, app-placed, defined-called, wanted-called, whole-sort, wholes-sort}
 use Rattle.sy_query.proofs.Reaching.{defines, fills, weight_of-at}
-use Rattle.sy_terms_laws.proofs.Lists.{weight-at}
-use Rattle.sy_terms_laws.proofs.Lists as counted
-use Rattle.sy_terms_laws.proofs.Reached.{weight_of}
+use Rattle.sy_terms_operators.proofs.Lists.{weight-at}
+use Rattle.sy_terms_operators.proofs.Lists as counted
+use Rattle.sy_terms_operators.proofs.Reached.{weight_of}
 use Rattle.std.proofs.Math.Seq.{drop-append_seam}
 use Rattle.sy_query.proofs.Sorted.{sorts_in-length}
 use Rattle.sy_query.proofs.Weighing.{all-weigh, count-nodes}

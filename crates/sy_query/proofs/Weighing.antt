@@ -16,7 +16,7 @@ use Rattle.sy_terms.specs.declared.sort.Sort.{Sort}
 use Rattle.sy_terms.specs.declared.sort.Sort.TheVariants as sorts
 use Rattle.sy_terms.specs.declared.sorts.Sorted.TheVariants.{Is}
 use Rattle.sy_terms.specs.declared.term.Fun.TheVariants.{Defined, Wanted}
-use Rattle.sy_terms_laws.proofs.Equations.{both_true, if_Some, applied_sort_Some, after_Some, with_sort_Some}
+use Rattle.sy_terms_operators.proofs.Equations.{both_true, if_Some, applied_sort_Some, after_Some, with_sort_Some}
 use Rattle.sy_query_base.specs.Placed.{count}
 use Rattle.sy_query_base.specs.Weights.{weight, weights, sort_weight, operator_weight, query_scope}
 use Rattle.sy_query.specs.Sized.{IsSized}

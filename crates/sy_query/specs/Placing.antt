@@ -12,7 +12,7 @@ use Rattle.sy_terms.specs.declared.sort.Sort.{Sort}
 use Rattle.sy_terms.specs.declared.term.Def.{Def}
 use Rattle.sy_terms.specs.declared.term.Fun.{Fun}
 use Rattle.sy_terms.specs.declared.term.Term.{Term}
-use Rattle.sy_terms_laws.specs.Evaluation.{BodiesFit, scope_with}
+use Rattle.sy_terms_operators.specs.Evaluation.{BodiesFit, scope_with}
 use Rattle.sy_query.specs.declared.room.Left.{Left}
 use Rattle.sy_query_base.specs.Placed.{Placement, count, placed, all_placed, called_at, placement_of, placement_from, placements}
 use Rattle.sy_query_base.specs.Weights.{weight, weights, sort_weight, operator_weight}

@@ -15,9 +15,9 @@ use Rattle.sy_terms.specs.declared.op.Op.TheVariants as ops
 use Rattle.sy_terms.specs.declared.sort.Sort.{Sort}
 use Rattle.sy_terms.specs.declared.sort.Sort.TheVariants as sorts
 use Rattle.sy_terms.specs.declared.term.Term.{Term}
-use Rattle.sy_terms_laws.proofs.Traced.{same_is, same_again}
-use Rattle.sy_query_sums.specs.Sums.{BeginWithSorts, IsSameOver}
-use Rattle.sy_query_sums.proofs.Terms.{two-terms}
+use Rattle.sy_terms_operators.proofs.Traced.{same_is, same_again}
+use Rattle.sy_rewrite_orders.specs.Sums.{BeginWithSorts, IsSameOver}
+use Rattle.sy_rewrite_orders.proofs.Terms.{two-terms}
 
 same_turned : (x y : Val) → same y x ≡ same x y
 same_turned x y =

@@ -14,8 +14,8 @@ use Rattle.sy_terms.specs.declared.op.Op.{Op}
 use Rattle.sy_terms.specs.declared.sort.Sort.{Sort}
 use Rattle.sy_terms.specs.declared.sorts.Sorted.TheVariants.{Is}
 use Rattle.sy_terms.specs.declared.term.Term.{Term}
-use Rattle.sy_terms_laws.proofs.OperatorSorts.{op_value-sort}
-use Rattle.sy_query_sums.specs.Sums.{BeginWithSorts, IsSameOver}
+use Rattle.sy_terms_operators.proofs.OperatorSorts.{op_value-sort}
+use Rattle.sy_rewrite_orders.specs.Sums.{BeginWithSorts, IsSameOver}
 use Rattle.sy_query_normal.specs.Unordered.{cancels, GiveTheSame, IsUnordered}
 use Rattle.sy_query_normal.proofs.Lists.{moved, gone, kept_once, one_more, several_more, stands_for, is_given}
 

@@ -16,7 +16,7 @@ use Rattle.sy_terms.specs.declared.op.Op.TheVariants as ops
 use Rattle.sy_terms.specs.declared.sort.Sort.{Sort}
 use Rattle.sy_terms.specs.declared.sort.Sort.TheVariants as sorts
 use Rattle.sy_terms.specs.declared.term.Term.{Term}
-use Rattle.sy_query_sums.specs.Sums.{BeginWithSorts, IsSameOver}
+use Rattle.sy_rewrite_orders.specs.Sums.{BeginWithSorts, IsSameOver}
 
 below-power : (n : ℕ) → n < 2 ^ n
 below-power zero = omega arith

@@ -17,7 +17,7 @@ use Rattle.std.specs.declared.alloc.Global.{Global}
 use Rattle.sy_terms.specs.Expr.{Constant, Variable, Apply, Invoke, Bind, none, more}
 use Rattle.sy_terms.specs.declared.sort.Sort.{Sort}
 use Rattle.sy_terms.specs.declared.term.Fun.TheVariants.{Defined, Wanted}
-use Rattle.sy_text_reader.specs.Spelling.{symbol_text}
+use Rattle.sy_text.specs.Spelling.{symbol_text}
 use Rattle.sy_scope_causes.specs.declared.titles.Title.{Title}
 use Rattle.sy_grammar_base.specs.Questions.{Goal, goal_of}
 use Rattle.sy_grammar_base.specs.declared.problem.Wanted.{Wanted as Asked}

@@ -1,7 +1,7 @@
 -- The text of a reply: a line `(`, one definition on each line, and a line `)`.
 use Rattle.std.specs.Prelude.{ℕ, List, [], ◌∷◌, ◌++◌, codes, map, true, false, pos, negsuc, slice_get, Option, Some, None}
 use Rattle.std.specs.List.{join_with_byte, concat}
-use Rattle.sy_text_reader.specs.Spelling.{symbol_text, numeral_text, vector_text}
+use Rattle.sy_text.specs.Spelling.{symbol_text, numeral_text, vector_text}
 use Rattle.sy_scope_causes.specs.declared.titles.Title.{Title}
 use Rattle.sy_scope_causes.specs.declared.titles.Titles.{Titles}
 use Rattle.sy_terms.specs.Values.{Val, Truth, Whole, Bits}

@@ -1,6 +1,6 @@
 // Writing sorts, operators and values.
 ghost use Rattle.std.specs.Prelude.{◌≡◌, ◌++◌, ◌∷◌, map, true, OnOk, codes};
-ghost use Rattle.sy_text_reader.specs.Spelling.{numeral_text};
+ghost use Rattle.sy_text.specs.Spelling.{numeral_text};
 ghost use Rattle.sy_terms.specs.Denoted.{val_of};
 ghost use Rattle.sy_reply.specs.Replies as replies;
 ghost use Rattle.sy_reply.specs.Writable.{is_plain_value};
@@ -9,7 +9,7 @@ use sy_io::Bytes;
 use sy_seq::Want;
 use sy_terms::{Op, Sort, Theory, Value};
 use sy_terms_operators::spell;
-use sy_text_writer::{write_numeral, write_vector};
+use sy_text::{write_numeral, write_vector};
 
 /// Appends a sort.
 #[tactic(auto, unfolding(crate::specs::Replies::sort_text, crate::specs::Replies::bracketed))]
@@ -46,7 +46,8 @@ pub fn write_operator(out: &mut Bytes, operator: &Op) -> Result<(), Want>
 
 /// Appends `(_ NAME I ..)`.
 fn write_indexed(out: &mut Bytes, name: &str, indices: &[u8]) -> Result<(), Want>
-    ensures { OnOk result (out.new ≡ out.old ++ replies.bracketed (codes "_" ∷ name.now ∷ map numeral_text indices.now)) }
+    ensures { OnOk result (out.new ≡ out.old ++
+        replies.bracketed (codes "_" ∷ name.now ∷ map numeral_text indices.now)) }
 {
     out.append(b"(_ ")?;
     out.append(name.as_bytes())?;

@@ -19,27 +19,27 @@ use Rattle.sy_terms.specs.declared.sort.Sort.{Sort}
 use Rattle.sy_terms.specs.declared.term.Def.{Def}
 use Rattle.sy_terms.specs.declared.term.Term.{Term}
 use Rattle.sy_terms.specs.declared.theory.Theory.{Ghosts as TheoryOf}
-use Rattle.sy_terms_laws.specs.Evaluation.{BodiesFit}
-use Rattle.sy_terms_laws.proofs.Equations.{same_sorts_is}
+use Rattle.sy_terms_operators.specs.Evaluation.{BodiesFit}
+use Rattle.sy_terms_operators.proofs.Equations.{same_sorts_is}
 use Rattle.sy_forms_items.specs.Parts.{place_of}
 use Rattle.sy_forms_items.specs.Readings.{Reading}
-use Rattle.sy_forms_names.specs.declared.names.Named.{Named}
-use Rattle.sy_forms_names.specs.Sorts.{read_sort}
+use Rattle.sy_forms_items.specs.declared.names.Named.{Named}
+use Rattle.sy_forms_items.specs.Sorts.{read_sort}
 use Rattle.sy_grammar_base.specs.Questions.{Goal, Question, question_of, goal_of, wanted_signature, signatures}
 use Rattle.sy_grammar_base.specs.declared.problem.Problem.{Problem}
 use Rattle.sy_grammar_base.specs.declared.problem.Wanted.{Wanted}
-use Rattle.sy_scope_bodies.specs.Bodies.{body_read}
-use Rattle.sy_scope_bodies.proofs.Fitting.{body_fits}
+use Rattle.sy_scope_steps.specs.Bodies.{body_read}
+use Rattle.sy_scope_steps.proofs.Fitting.{body_fits}
 use Rattle.sy_scope_causes.specs.declared.titles.Titles.{Titles}
 use Rattle.sy_scope_names.specs.Lists.{sorts_of_names, read_named}
-use Rattle.sy_scope_commands.specs.Requests.{Listed, list_in}
-use Rattle.sy_reply_statements.specs.Ends.{ReplyReading, ◌>>=◌}
-use Rattle.sy_reply_statements.specs.Fitting.{IsStatedFor, AreStatedFor}
-use Rattle.sy_reply_statements.specs.Statements.{Statement, Nothing, Bodies, statement_of}
-use Rattle.sy_reply_statements.specs.declared.refused.ReplyCause.{ReplyCause}
-use Rattle.sy_reply_statements.specs.declared.refused.ReplyCause.TheVariants as reply
-use Rattle.sy_reply_statements.specs.declared.stated.Stated.{Stated}
-use Rattle.sy_reply_statements.specs.declared.stated.Stated.TheVariants as stated
+use Rattle.sy_scope_names.specs.Requests.{Listed, list_in}
+use Rattle.sy_reply.specs.Ends.{ReplyReading, ◌>>=◌}
+use Rattle.sy_reply.specs.Fitting.{IsStatedFor, AreStatedFor}
+use Rattle.sy_reply.specs.Statements.{Statement, Nothing, Bodies, statement_of}
+use Rattle.sy_reply.specs.declared.refused.ReplyCause.{ReplyCause}
+use Rattle.sy_reply.specs.declared.refused.ReplyCause.TheVariants as reply
+use Rattle.sy_reply.specs.declared.stated.Stated.{Stated}
+use Rattle.sy_reply.specs.declared.stated.Stated.TheVariants as stated
 use Rattle.sy_reply_reader.specs.Parts.{Part, part_of}
 use Rattle.sy_reply_reader.specs.Signatures.{is_read_as, with_sorts, arguments_of}
 use Rattle.sy_reply_reader.specs.Slots.{no_bodies, open_from, all_there}

@@ -8,11 +8,11 @@ use Rattle.sy_terms.specs.Expr.{Expr}
 use Rattle.sy_terms.specs.declared.sort.Logic.{Logic}
 use Rattle.sy_grammar_base.specs.Questions.{Question}
 use Rattle.sy_scope_causes.specs.declared.titles.Titles.{Titles}
-use Rattle.sy_reply_statements.specs.Ends.{ReplyReading, RepliesEndAs, ReadsReplies, ◌>>=◌}
-use Rattle.sy_reply_statements.specs.Statements.{Statement}
-use Rattle.sy_reply_statements.specs.declared.refused.ReplyCause.TheVariants as reply
-use Rattle.sy_reply_statements.specs.declared.end.ReplyEnd.{ReplyEnd}
-use Rattle.sy_reply_statements.specs.declared.end.ReplyEnd.TheVariants as ends
+use Rattle.sy_reply.specs.Ends.{ReplyReading, RepliesEndAs, ReadsReplies, ◌>>=◌}
+use Rattle.sy_reply.specs.Statements.{Statement}
+use Rattle.sy_reply.specs.declared.refused.ReplyCause.TheVariants as reply
+use Rattle.sy_reply.specs.declared.end.ReplyEnd.{ReplyEnd}
+use Rattle.sy_reply.specs.declared.end.ReplyEnd.TheVariants as ends
 use Rattle.sy_reply_reader.specs.Replies.{item_read, stated_by, statement_read, statements_from, next_item, nothing_left, behind}
 use Rattle.sy_reply_reader.proofs.Readings.{ends_bind, ends_same, ends_next, gives_next}
 use Rattle.sy_reply_reader.specs.Definitions.{definitions_read}

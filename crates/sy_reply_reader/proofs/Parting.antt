@@ -8,8 +8,8 @@ use Rattle.sy_terms.specs.declared.sort.Logic.{Logic}
 use Rattle.sy_forms_items.specs.Parts.{place_of}
 use Rattle.sy_grammar_base.specs.Questions.{Question}
 use Rattle.sy_scope_causes.specs.declared.titles.Titles.{Titles}
-use Rattle.sy_reply_statements.specs.Ends.{◌>>=◌}
-use Rattle.sy_reply_statements.specs.declared.refused.ReplyCause.TheVariants as reply
+use Rattle.sy_reply.specs.Ends.{◌>>=◌}
+use Rattle.sy_reply.specs.declared.refused.ReplyCause.TheVariants as reply
 use Rattle.sy_reply_reader.specs.Definitions.{there_or, part_body, part_read, parts_read}
 use Rattle.sy_reply_reader.specs.Parts.{Part, part_of}
 use Rattle.sy_reply_reader.specs.Slots.{open_from}

@@ -1,9 +1,9 @@
 -- Readings of replies, one after the other.
 use Rattle.std.proofs.Common.{◌≡◌, refl, ap, sym, ◌∙◌, subst}
 use Rattle.std.specs.Prelude.{Result, Ok, Err}
-use Rattle.sy_reply_statements.specs.declared.end.ReplyEnd.{ReplyEnd}
-use Rattle.sy_reply_statements.specs.declared.end.ReplyEnd.TheVariants as ends
-use Rattle.sy_reply_statements.specs.Ends.{ReplyReading, RepliesEndAs, ReadsReplies, ◌>>=◌}
+use Rattle.sy_reply.specs.declared.end.ReplyEnd.{ReplyEnd}
+use Rattle.sy_reply.specs.declared.end.ReplyEnd.TheVariants as ends
+use Rattle.sy_reply.specs.Ends.{ReplyReading, RepliesEndAs, ReadsReplies, ◌>>=◌}
 
 -- what is returned gives what is read, where that is another way to read
 pub gives_same : {X Y : Type 0} (view : X → Y) (result : Result X ReplyEnd) (read other : ReplyReading Y) → read ≡ other → ReadsReplies view result other → ReadsReplies view result read

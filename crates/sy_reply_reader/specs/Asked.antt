@@ -3,8 +3,8 @@ use Rattle.std.specs.Prelude.{◌≡◌, map}
 use Rattle.sy_terms.specs.Values.{Val}
 use Rattle.sy_terms.specs.Definitions.{signature, bodies}
 use Rattle.sy_grammar_base.specs.Questions.{Question, question_of}
-use Rattle.sy_scope_bodies.specs.Around.{surroundings}
-use Rattle.sy_scope_bodies.specs.Seen.{context_around}
+use Rattle.sy_scope_steps.specs.Around.{surroundings}
+use Rattle.sy_scope_steps.specs.BodiesSeen.{context_around}
 use Rattle.sy_reply_reader.specs.declared.definitions.Asked.{Asked}
 
 -- what the problem asks

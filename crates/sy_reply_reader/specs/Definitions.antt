@@ -8,12 +8,12 @@ use Rattle.sy_terms.specs.declared.sort.Logic.{Logic}
 use Rattle.sy_forms_items.specs.Parts.{is_symbol, place_of}
 use Rattle.sy_forms_items.specs.Readings.{Reading}
 use Rattle.sy_grammar_base.specs.Questions.{Question}
-use Rattle.sy_scope_bodies.specs.Bodies.{body_read}
+use Rattle.sy_scope_steps.specs.Bodies.{body_read}
 use Rattle.sy_scope_causes.specs.declared.titles.Titles.{Titles}
-use Rattle.sy_scope_commands.specs.Requests.{list_in, Listed}
-use Rattle.sy_reply_statements.specs.Ends.{ReplyReading, refuse_reply, ◌>>=◌}
-use Rattle.sy_reply_statements.specs.declared.refused.ReplyCause.{ReplyCause}
-use Rattle.sy_reply_statements.specs.declared.refused.ReplyCause.TheVariants as reply
+use Rattle.sy_scope_names.specs.Requests.{list_in, Listed}
+use Rattle.sy_reply.specs.Ends.{ReplyReading, refuse_reply, ◌>>=◌}
+use Rattle.sy_reply.specs.declared.refused.ReplyCause.{ReplyCause}
+use Rattle.sy_reply.specs.declared.refused.ReplyCause.TheVariants as reply
 use Rattle.sy_reply_reader.specs.Parts.{Part, part_of}
 use Rattle.sy_reply_reader.specs.Signatures.{arguments_of}
 use Rattle.sy_reply_reader.specs.Slots.{no_bodies, open_from, all_there}

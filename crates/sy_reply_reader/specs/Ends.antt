@@ -2,9 +2,9 @@
 use Rattle.std.specs.Prelude.{ℕ}
 use Rattle.sy_forms_items.specs.declared.fault.ReadEnd.{ReadEnd}
 use Rattle.sy_forms_items.specs.declared.fault.ReadEnd.TheVariants as read_ends
-use Rattle.sy_reply_statements.specs.declared.end.ReplyEnd.{ReplyEnd}
-use Rattle.sy_reply_statements.specs.declared.end.ReplyEnd.TheVariants as ends
-use Rattle.sy_reply_statements.specs.declared.refused.ReplyCause.TheVariants as reply
+use Rattle.sy_reply.specs.declared.end.ReplyEnd.{ReplyEnd}
+use Rattle.sy_reply.specs.declared.end.ReplyEnd.TheVariants as ends
+use Rattle.sy_reply.specs.declared.refused.ReplyCause.TheVariants as reply
 
 abbrev pub ended_as : ℕ → ReadEnd → ReplyEnd
 ended_as check read_ends.Want = ends.Want

@@ -3,7 +3,7 @@ use Rattle.std.specs.Prelude.{ℕ, List, Bool, true, false, ◌&&◌, is_some, O
 use Rattle.sy_text_items.specs.Items.{Item, leaf, group, Items, none, more}
 use Rattle.sy_text_items.specs.declared.atom.Place.{Place}
 use Rattle.sy_forms_items.specs.Parts.{symbol, is_symbol}
-use Rattle.sy_scope_commands.specs.Requests.{Spelled, Request, define_fun, ToDefine}
+use Rattle.sy_scope_names.specs.Requests.{Spelled, Request, define_fun, ToDefine}
 
 -- the name, the arguments, the sort and the body of a definition, and where its bracket stands
 pub record Part : Type 0 where

@@ -3,17 +3,17 @@ use Rattle.std.specs.Prelude.{ℕ, ◌+◌, List, [], ◌∷◌, Bool, true, fal
 use Rattle.sy_text_items.specs.Items.{Item, leaf, group, Items, none, more}
 use Rattle.sy_text_items.specs.declared.atom.Place.{Place}
 use Rattle.sy_text_items.specs.declared.fault.TextFault.{TextFault}
-use Rattle.sy_text_reader.specs.Reading.{command_at, offset_of}
+use Rattle.sy_text.specs.Reading.{command_at, offset_of}
 use Rattle.sy_terms.specs.Expr.{Expr}
 use Rattle.sy_terms.specs.declared.sort.Logic.{Logic}
 use Rattle.sy_terms.specs.declared.sort.Logic.TheVariants.{Lia, Bv}
 use Rattle.sy_forms_items.specs.Parts.{is_symbol, place_of}
 use Rattle.sy_grammar_base.specs.Questions.{Question}
 use Rattle.sy_scope_causes.specs.declared.titles.Titles.{Titles}
-use Rattle.sy_reply_statements.specs.Ends.{ReplyReading, refuse_reply, ◌>>=◌}
-use Rattle.sy_reply_statements.specs.Statements.{Statement, Nothing, Bodies}
-use Rattle.sy_reply_statements.specs.declared.refused.ReplyCause.{ReplyCause}
-use Rattle.sy_reply_statements.specs.declared.refused.ReplyCause.TheVariants as reply
+use Rattle.sy_reply.specs.Ends.{ReplyReading, refuse_reply, ◌>>=◌}
+use Rattle.sy_reply.specs.Statements.{Statement, Nothing, Bodies}
+use Rattle.sy_reply.specs.declared.refused.ReplyCause.{ReplyCause}
+use Rattle.sy_reply.specs.declared.refused.ReplyCause.TheVariants as reply
 use Rattle.sy_reply_reader.specs.Definitions.{there_or, definitions_read}
 
 abbrev pub item_read_as : ℕ → Result (Option (Item × ℕ)) TextFault → ReplyReading (Option (Item × ℕ))

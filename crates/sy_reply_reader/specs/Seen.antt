@@ -3,7 +3,7 @@ use Rattle.std.specs.Prelude.{ℕ, Option}
 use Rattle.std.specs.Option.{option_map}
 use Rattle.sy_text_items.specs.Views.{item_of}
 use Rattle.sy_terms.specs.Fitting.{Signature}
-use Rattle.sy_scope_commands.specs.Asked.{spelled_of}
+use Rattle.sy_scope_names.specs.Asked.{spelled_of}
 use Rattle.sy_reply_reader.specs.Parts as spec
 use Rattle.sy_reply_reader.specs.declared.part.Part.{Part}
 use Rattle.sy_reply_reader.specs.declared.slots.Function.{Function}

@@ -5,8 +5,8 @@ use Rattle.sy_terms.specs.Sorts.{same_sort}
 use Rattle.sy_terms.specs.declared.sort.Logic.{Logic}
 use Rattle.sy_terms.specs.declared.sort.Sort.{Sort}
 use Rattle.sy_forms_items.specs.Readings.{Reading}
-use Rattle.sy_forms_names.specs.Sorts.{read_sort}
-use Rattle.sy_forms_names.specs.declared.names.Named.{Named}
+use Rattle.sy_forms_items.specs.Sorts.{read_sort}
+use Rattle.sy_forms_items.specs.declared.names.Named.{Named}
 use Rattle.sy_scope_names.specs.Lists.{sorts_of_names, read_named}
 use Rattle.sy_reply_reader.specs.Parts.{Part}
 

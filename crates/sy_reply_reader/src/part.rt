@@ -3,12 +3,12 @@ ghost use Rattle.std.specs.Prelude.{◌≡◌};
 ghost use Rattle.std.specs.Option.{option_map};
 ghost use Rattle.sy_text_items.specs.Views.{item_of};
 ghost use Rattle.sy_forms_items.specs.Views.{items_in};
-ghost use Rattle.sy_scope_commands.specs.Asked.{request_in};
+ghost use Rattle.sy_scope_names.specs.Asked.{request_in};
 ghost use Rattle.sy_reply_reader.specs.Parts as spec;
 ghost use Rattle.sy_reply_reader.specs.Seen.{part_in};
 
 use sy_forms_items::{Rest, is_symbol, symbol};
-use sy_scope_commands::{Command, Request, Spelled, request_of};
+use sy_scope_names::{Command, Request, Spelled, request_of};
 use sy_text_items::{Place, Sexp, Sexps};
 
 /// A definition `(define-fun name ((x s) ..) s t)`.
@@ -82,7 +82,7 @@ fn part_asked(place: Place, request: Option<Request<'_>>) -> Option<Part<'_>>
 }
 
 /// The part that the item is; `None` exactly where it isn't `(define-fun name ((x s) ..) s t)`.
-#[tactic(auto, unfolding(crate::specs::Parts::part_of, sy_scope_commands::specs::Requests::request_of))]
+#[tactic(auto, unfolding(crate::specs::Parts::part_of, sy_scope_names::specs::Requests::request_of))]
 pub(crate) fn part_of(item: &Sexp) -> Option<Part<'_>>
     ensures { option_map part_in result ≡ spec.part_of (item_of item.now) }
 {

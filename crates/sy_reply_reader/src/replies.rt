@@ -2,26 +2,26 @@
 ghost use Rattle.std.specs.Prelude.{◌≡◌, ◌≤◌, [], length, map, IfOk, IfSome};
 ghost use Rattle.std.specs.Option.{option_map};
 ghost use Rattle.sy_text_items.specs.Views.{item_of, command_of};
-ghost use Rattle.sy_text_reader.specs.Reading as reading;
+ghost use Rattle.sy_text.specs.Reading as reading;
 ghost use Rattle.sy_terms.specs.Denoted.{expr_of};
 ghost use Rattle.sy_terms.specs.Logics.{IsTheoryOf};
 ghost use Rattle.sy_grammar_base.specs.Questions.{question_of};
-ghost use Rattle.sy_reply_statements.specs.Ends.{ReadsReplies};
-ghost use Rattle.sy_reply_statements.specs.Statements.{statement_of};
+ghost use Rattle.sy_reply.specs.Ends.{ReadsReplies};
+ghost use Rattle.sy_reply.specs.Statements.{statement_of};
 ghost use Rattle.sy_reply_reader.specs.Definitions as definitions;
-ghost use Rattle.sy_reply_statements.specs.Fitting.{AreStatedFor};
+ghost use Rattle.sy_reply.specs.Fitting.{AreStatedFor};
 ghost use Rattle.sy_reply_reader.specs.Replies as spec;
 
 use crate::definitions::{Asked, definitions_read, refused};
 use std::alloc::Global;
 use sy_forms_items::{Rest, is_symbol, place_of};
 use sy_grammar_base::Problem;
-use sy_reply_statements::{ReplyCause, ReplyEnd, Stated};
-use sy_scope_bodies::Surroundings;
+use sy_reply::{ReplyCause, ReplyEnd, Stated};
 use sy_scope_causes::Titles;
+use sy_scope_steps::Surroundings;
 use sy_terms::{Bodies, Logic, Seq, Theory};
+use sy_text::{TextEnd, next_command};
 use sy_text_items::{Place, Sexp, TextFault};
-use sy_text_reader::{TextEnd, next_command};
 
 /// A file with replies: its bytes, its logic, the names of its functions, and whether each list of definitions has a
 /// proof behind it.

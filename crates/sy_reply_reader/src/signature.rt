@@ -2,7 +2,7 @@
 ghost use Rattle.std.specs.Prelude.{◌≡◌, [], IfOk, Ok};
 ghost use Rattle.sy_text_items.specs.Views.{item_of};
 ghost use Rattle.sy_forms_items.specs.Readings.{ReadingGives};
-ghost use Rattle.sy_forms_names.specs.Sorts as sorts;
+ghost use Rattle.sy_forms_items.specs.Sorts as sorts;
 ghost use Rattle.sy_scope_names.specs.Lists as lists;
 ghost use Rattle.sy_reply_reader.specs.Seen.{part_in, signature_in};
 ghost use Rattle.sy_reply_reader.specs.Signatures as spec;
@@ -10,8 +10,7 @@ ghost use Rattle.sy_reply_reader.specs.Signatures as spec;
 use crate::part::Part;
 use crate::slots::Function;
 use std::alloc::Global;
-use sy_forms_items::ReadEnd;
-use sy_forms_names::{Named, Names, read_sort, same_sorts};
+use sy_forms_items::{Named, Names, ReadEnd, read_sort, same_sorts};
 use sy_scope_names::{Naming, read_named, sorts_of};
 use sy_seq::{Seq, Want};
 use sy_terms::{Logic, Sort, same_sort};

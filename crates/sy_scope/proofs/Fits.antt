@@ -12,7 +12,7 @@ use Rattle.sy_terms.specs.Logics.{IsTheoryOf}
 use Rattle.sy_grammar_base.specs.Fits.{QuestionFits}
 use Rattle.sy_scope_names.specs.Contexts as spec
 use Rattle.sy_scope_steps.specs.Files.{FileOutcome, file_read}
-use Rattle.sy_scope_laws.proofs.Files.{file_fits}
+use Rattle.sy_scope.proofs.Files.{file_fits}
 use Rattle.sy_scope_declared.specs.Seen.{context_of}
 use Rattle.sy_scope_declared.specs.declared.context.Context.{Context}
 use Rattle.sy_scope.specs.Fit.{ProblemsFit}

@@ -5,10 +5,10 @@ use Rattle.std.proofs.lemmas.List.{take_all}
 use Rattle.sy_text_items.specs.Items.{Item, leaf, group, none, more, Items}
 use Rattle.sy_text_items.specs.declared.fault.TextFault.{TextFault}
 use Rattle.sy_text_items.specs.declared.atom.Place.{Place}
-use Rattle.sy_text_reader.specs.Reading.{command_at}
+use Rattle.sy_text.specs.Reading.{command_at}
 use Rattle.sy_forms_items.specs.Parts.{place_of, symbol}
 use Rattle.sy_forms_items.specs.Readings.{Reading}
-use Rattle.sy_scope_front.specs.Fronts.{begins_replies, read_well, front_by, front_from, front}
+use Rattle.sy_scope.specs.Fronts.{begins_replies, read_well, front_by, front_from, front}
 use Rattle.sy_scope_names.specs.Contexts.{Context, beginning}
 use Rattle.sy_scope_names.specs.Changes.{PlacedRequest, asked_named}
 use Rattle.sy_scope_names.proofs.Earlier.{bind_ok}

@@ -12,8 +12,8 @@ use Rattle.sy_grammar_base.specs.Fits.{GoalFits}
 use Rattle.sy_forms_items.specs.Readings.{Reading}
 use Rattle.sy_scope_names.specs.Contexts.{Context, beginning, with_logic, goal_sought}
 use Rattle.sy_scope_steps.specs.Steps.{step}
-use Rattle.sy_scope_laws.specs.Sound.{defined_in, ContextIsSound, SoundBy, Sound}
-use Rattle.sy_scope_laws.proofs.Files.{begun_sound, step_sound}
+use Rattle.sy_scope.specs.Sound.{defined_in, ContextIsSound, SoundBy, Sound}
+use Rattle.sy_scope.proofs.Files.{begun_sound, step_sound}
 
 -- a file's first context
 pub sound_from : (logic : Logic) (context : Context) → context ≡ with_logic logic beginning → Sound context

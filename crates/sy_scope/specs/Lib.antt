@@ -1,3 +1,11 @@
-pub mod Read
+pub mod Entered
 pub mod Fit
+pub mod Fronts
+pub mod Grammars
+pub mod Knowing
+pub mod Laws
 pub mod Own
+pub mod Read
+pub mod Rightly
+pub mod Sound
+pub mod Titled

@@ -1,6 +1,6 @@
 -- Files without a reply part.
 use Rattle.std.specs.Prelude.{ℕ, List, ◌≡◌, IfOk}
-use Rattle.sy_scope_front.specs.Fronts.{front}
+use Rattle.sy_scope.specs.Fronts.{front}
 use Rattle.sy_scope_names.specs.Contexts.{Context}
 use Rattle.sy_scope_steps.specs.Files.{file_read}
 

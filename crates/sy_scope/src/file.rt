@@ -1,9 +1,9 @@
 // Files.
 ghost use Rattle.std.specs.Prelude.{◌≡◌, ◌≤◌, ◌<◌, length, IfOk, IfSome, OnOk};
-ghost use Rattle.sy_text_reader.specs.Reading as reading;
+ghost use Rattle.sy_text.specs.Reading as reading;
 ghost use Rattle.sy_text_items.specs.Views.{command_of};
 ghost use Rattle.sy_terms.specs.Logics.{IsTheoryOf, Serves};
-ghost use Rattle.sy_scope_commands.specs.Asked.{request_in};
+ghost use Rattle.sy_scope_names.specs.Asked.{request_in};
 ghost use Rattle.sy_text_items.specs.Views.{item_of};
 ghost use Rattle.sy_forms_items.specs.Readings.{ReadingGives};
 ghost use Rattle.sy_scope_names.specs.Contexts as contexts;
@@ -15,6 +15,7 @@ ghost use Rattle.sy_scope_declared.specs.Seen.{context_of};
 ghost use Rattle.sy_scope_names.specs.Changes as changes;
 ghost use Rattle.sy_scope_steps.specs.Steps as steps;
 
+use crate::commands::step;
 use crate::job::Job;
 use std::alloc::Global;
 use std::mem::replace;
@@ -23,13 +24,12 @@ use sy_grammar_base::Problem;
 use sy_meaning_integers::IntTheory;
 use sy_meaning_words::BvTheory;
 use sy_scope_causes::{Cause, Refused, Titles};
-use sy_scope_commands::Request;
-use sy_scope_context::step;
 use sy_scope_declared::{Asked, Context, check_feature, read_request};
 use sy_scope_ends::{ScopeEnd, ended, numbered};
+use sy_scope_names::Request;
 use sy_terms::{Logic, Seq, Theory};
+use sy_text::{TextEnd, next_command};
 use sy_text_items::{Place, Sexp, TextFault};
-use sy_text_reader::{TextEnd, next_command};
 
 /// The commands up to the one that sets the logic are done: the logic, and the offset and the number of the next one.
 #[derive(Clone, Copy)]

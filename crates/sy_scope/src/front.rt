@@ -1,17 +1,17 @@
 // The front of a file, before its reply part.
 ghost use Rattle.std.specs.Prelude.{◌≡◌, ◌≤◌, length, IfOk};
-ghost use Rattle.sy_scope_front.specs.Fronts.{front, front_length};
+ghost use Rattle.sy_scope.specs.Fronts.{front, front_length};
 ghost use Rattle.sy_scope_names.specs.Jobs.{wished};
 ghost use Rattle.sy_scope_steps.specs.Files.{file_read};
 ghost use Rattle.sy_scope.specs.Fit.{JobFits};
 ghost use Rattle.sy_scope.specs.Own.{FilesAreFronts};
 ghost use Rattle.sy_scope.specs.Read.{ReadsFile, wish_in};
 
+use crate::beginning::reply_start;
 use crate::file::read_file;
 use crate::job::Job;
 use std::alloc::Global;
 use sy_scope_ends::ScopeEnd;
-use sy_scope_front::reply_start;
 
 /// Reads the front of a file of at most 4,194,304 bytes as `read_file` reads a file, and gives the offset of its reply
 /// part too: that of the first item that is an atom, the empty list, or a list whose first part is no symbol; the

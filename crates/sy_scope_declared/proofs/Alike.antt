@@ -8,7 +8,7 @@ use Rattle.std.proofs.lemmas.List.Elements.{All-head, All-tail}
 use Rattle.sy_terms.specs.Fitting.{Scope, Signature}
 use Rattle.sy_terms.specs.declared.op.Op.{Op}
 use Rattle.sy_terms.specs.declared.sort.Sort.{Sort}
-use Rattle.sy_terms_laws.proofs.Equations.{both_true}
+use Rattle.sy_terms_operators.proofs.Equations.{both_true}
 use Rattle.sy_grammar_base.specs.Fits.{with_functions, GoalFits}
 use Rattle.sy_grammar_base.specs.Formed.{is_known, nonterminal_fits}
 use Rattle.sy_grammar_base.specs.Questions.{Goal}

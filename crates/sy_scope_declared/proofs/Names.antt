@@ -5,8 +5,8 @@ use Rattle.std.proofs.lemmas.Bool.{le-ltb}
 use Rattle.sy_text_items.specs.declared.atom.Place.{Place}
 use Rattle.sy_terms.specs.declared.sort.Logic.{Logic}
 use Rattle.sy_scope_causes.specs.declared.cause.Cause.TheVariants as cause
-use Rattle.sy_forms_names.specs.Environments.{entry_under}
-use Rattle.sy_forms_names.specs.Operators.{is_reserved}
+use Rattle.sy_forms_items.specs.Environments.{entry_under}
+use Rattle.sy_forms_items.specs.Operators.{is_reserved}
 use Rattle.sy_forms_items.specs.Readings.{Reading, ReadingFails, refuse, ◌>>=◌}
 use Rattle.sy_forms_items.specs.declared.fault.ReadEnd.{ReadEnd}
 use Rattle.sy_forms_items.proofs.Readings as readings

@@ -1,5 +1,5 @@
 -- Requests and called functions apart from memory.
-use Rattle.sy_scope_commands.specs.Asked.{request_in}
+use Rattle.sy_scope_names.specs.Asked.{request_in}
 use Rattle.sy_scope_names.specs.Changes as spec
 use Rattle.sy_scope_declared.specs.declared.invariant.Called.{Called}
 use Rattle.sy_scope_declared.specs.declared.invariant.Parts.{Parts}

@@ -6,14 +6,14 @@ use Rattle.sy_terms.specs.declared.sort.Logic.{Logic}
 use Rattle.sy_terms.specs.declared.sort.Sort.{Sort}
 use Rattle.sy_grammar_base.specs.Trees.{Syntax}
 use Rattle.sy_grammar_base.specs.Questions.{question_of}
-use Rattle.sy_forms_names.specs.declared.names.Named.{Named}
-use Rattle.sy_forms_phrases.specs.Meant.{phrase_of}
-use Rattle.sy_forms_phrases.specs.Measured.{measures_of}
+use Rattle.sy_forms_items.specs.declared.names.Named.{Named}
+use Rattle.sy_forms_items.specs.Meant.{phrase_of}
+use Rattle.sy_forms_items.specs.Measured.{measures_of}
 use Rattle.sy_scope_names.specs.Lists.{sorts_of_names}
 use Rattle.sy_scope_names.specs.Groups.{group_of}
 use Rattle.sy_scope_names.specs.declared.convert.Group.{Group}
-use Rattle.sy_grammar_defaults.specs.Defaults.{default_syntax}
-use Rattle.sy_scope_pool.specs.Kept.{pool_of}
+use Rattle.sy_grammar.specs.Defaults.{default_syntax}
+use Rattle.sy_scope_names.specs.Kept.{pool_of}
 use Rattle.sy_scope_names.specs.Contexts as spec
 use Rattle.sy_scope_declared.specs.declared.context.Definition.{Definition}
 use Rattle.sy_scope_declared.specs.declared.context.Sought.{Sought}

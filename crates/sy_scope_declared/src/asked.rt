@@ -1,13 +1,13 @@
 // What commands ask for.
 ghost use Rattle.sy_text_items.specs.Views.{item_of};
 ghost use Rattle.sy_forms_items.specs.Readings.{ReadingGives};
-ghost use Rattle.sy_scope_commands.specs.Asked.{spelled_of};
+ghost use Rattle.sy_scope_names.specs.Asked.{spelled_of};
 ghost use Rattle.sy_scope_declared.specs.Calls.{asked_of};
 ghost use Rattle.sy_scope_names.specs.Changes as spec;
 
 use sy_forms_items::{ReadEnd, Rest, is, place_of, symbol};
 use sy_scope_causes::Cause;
-use sy_scope_commands::{Request, Spelled, command_named, request_of};
+use sy_scope_names::{Request, Spelled, command_named, request_of};
 use sy_text_items::{Place, Sexp};
 
 /// `set-feature`: grammars alone can be switched on; else `Feature` at the keyword.

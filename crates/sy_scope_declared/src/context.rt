@@ -4,11 +4,9 @@ ghost use Rattle.sy_scope_names.specs.Contexts as spec;
 ghost use Rattle.sy_scope_declared.specs.Seen.{context_of};
 
 use std::alloc::Global;
-use sy_forms_names::{Named, Names};
-use sy_forms_phrases::{Measures, Phrase};
+use sy_forms_items::{Measures, Named, Names, Phrase};
 use sy_grammar_base::Problem;
-use sy_scope_names::Group;
-use sy_scope_pool::Pool;
+use sy_scope_names::{Group, Pool};
 use sy_terms::{Logic, Seq, Sort, Term, Theory};
 use sy_text_items::Name;
 
@@ -21,8 +19,8 @@ pub struct Definition<T: Theory> {
     pub body: Phrase<T>,
 }
 
-/// A function to be found: its name, its arguments, its value's sort, and the nonterminals of its grammar, where one was
-/// written.
+/// A function to be found: its name, its arguments, its value's sort, and the nonterminals of its grammar, where one
+/// was written.
 #[derive(Drop)]
 pub struct Sought<T: Theory> {
     pub name: Name,

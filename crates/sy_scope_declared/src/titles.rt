@@ -3,13 +3,12 @@ ghost use Rattle.std.specs.Prelude.{◌≡◌, map, IfOk};
 ghost use Rattle.sy_scope_names.specs.Jobs as spec;
 ghost use Rattle.sy_scope_declared.specs.Seen.{context_of, definition_of, sought_of};
 ghost use Rattle.sy_terms.specs.declared.sort.Logic.{Logic};
-ghost use Rattle.sy_forms_names.specs.declared.names.Named.{Named};
+ghost use Rattle.sy_forms_items.specs.declared.names.Named.{Named};
 ghost use Rattle.sy_scope_names.specs.Contexts as contexts;
 
 use crate::context::{Context, Definition, Sought};
 use std::alloc::Global;
-use sy_forms_items::copied;
-use sy_forms_names::Named;
+use sy_forms_items::{Named, copied};
 use sy_scope_causes::{Title, Titles};
 use sy_terms::{Seq, Theory, Want};
 use sy_text_items::Name;
@@ -36,7 +35,8 @@ fn title_of<T: Theory>(alloc: Global, sought: &Sought<T>) -> Result<Title, Want>
 
 /// The names of the functions to be found, in order.
 fn wanted_titles<T: Theory>(alloc: Global, sought: &[Sought<T>]) -> Result<Seq<Title>, Want>
-    ensures { (logic : Logic) → IfOk result (λ titles. titles ≡ map spec.title_of (map (sought_of T.denotes logic) sought.now)) }
+    ensures { (logic : Logic) →
+        IfOk result (λ titles. titles ≡ map spec.title_of (map (sought_of T.denotes logic) sought.now)) }
 {
     let mut titles = Seq::new(alloc);
     for one in sought {
@@ -47,7 +47,8 @@ fn wanted_titles<T: Theory>(alloc: Global, sought: &[Sought<T>]) -> Result<Seq<T
 
 /// The names of definitions, in order.
 fn defined_names<T: Theory>(alloc: Global, definitions: &[Definition<T>]) -> Result<Seq<Name>, Want>
-    ensures { IfOk result (λ names. names ≡ map (λ (d : contexts.Definition). d.name) (map (definition_of T.denotes) definitions.now)) }
+    ensures { IfOk result (λ names. names ≡
+        map (λ (d : contexts.Definition). d.name) (map (definition_of T.denotes) definitions.now)) }
 {
     let mut names = Seq::new(alloc);
     for definition in definitions {

@@ -2,3 +2,4 @@ pub mod Earlier
 pub mod Listing
 pub mod Made
 pub mod Named
+mod Pooling

@@ -6,10 +6,10 @@ use Rattle.sy_text_items.specs.declared.atom.Place.{Place}
 use Rattle.sy_terms.specs.declared.sort.Logic.{Logic}
 use Rattle.sy_terms.specs.declared.sort.Sort.{Sort}
 use Rattle.sy_scope_causes.specs.declared.cause.Cause.TheVariants as cause
-use Rattle.sy_forms_names.specs.declared.names.Named.{Named}
+use Rattle.sy_forms_items.specs.declared.names.Named.{Named}
 use Rattle.sy_forms_items.specs.Parts.{place_of, has_no_items}
 use Rattle.sy_forms_items.specs.Readings.{refuse, ◌>>=◌}
-use Rattle.sy_scope_commands.specs.Requests.{symbol_spelled}
+use Rattle.sy_scope_names.specs.Requests.{symbol_spelled}
 use Rattle.sy_scope_names.specs.Lists.{read_named, named_item, named_pair, named_by, counted}
 
 pub named_none : (sorts : List (List ℕ × Sort)) (logic : Logic) (taken done : List Named) (items : Items) → items ≡ none → read_named sorts logic taken done items ≡ Ok done

@@ -9,13 +9,13 @@ use Rattle.sy_text_items.specs.declared.atom.Place.{Place}
 use Rattle.sy_terms.specs.declared.sort.Logic.{Logic}
 use Rattle.sy_terms.specs.declared.sort.Sort.{Sort}
 use Rattle.sy_scope_causes.specs.declared.cause.Cause.TheVariants as cause
-use Rattle.sy_forms_names.specs.declared.names.Named.{Named}
-use Rattle.sy_forms_names.specs.Environments.{place_among}
-use Rattle.sy_forms_names.specs.Operators.{is_reserved}
+use Rattle.sy_forms_items.specs.declared.names.Named.{Named}
+use Rattle.sy_forms_items.specs.Environments.{place_among}
+use Rattle.sy_forms_items.specs.Operators.{is_reserved}
 use Rattle.sy_forms_items.specs.Parts.{place_of}
 use Rattle.sy_forms_items.specs.Readings.{◌>>=◌}
-use Rattle.sy_forms_names.specs.Sorts.{read_sort}
-use Rattle.sy_scope_commands.specs.Requests.{Spelled, symbol_spelled}
+use Rattle.sy_forms_items.specs.Sorts.{read_sort}
+use Rattle.sy_scope_names.specs.Requests.{Spelled, symbol_spelled}
 use Rattle.sy_scope_names.specs.Lists.{free_name, named_by, named_pair, named_item, counted, read_named}
 use Rattle.sy_scope_names.proofs.Earlier.{bind_ok, if_ok, unless_ok}
 

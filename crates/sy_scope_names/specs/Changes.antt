@@ -11,21 +11,21 @@ use Rattle.sy_terms.specs.declared.sort.Sort.TheVariants as sorts
 use Rattle.sy_terms.specs.declared.term.Fun.{Fun}
 use Rattle.sy_terms.specs.declared.term.Fun.TheVariants as funs
 use Rattle.sy_scope_causes.specs.declared.cause.Cause.TheVariants as cause
-use Rattle.sy_forms_names.specs.declared.names.Entity.{Entity}
-use Rattle.sy_forms_names.specs.declared.names.Entity.TheVariants as entity
-use Rattle.sy_forms_names.specs.Environments.{entry_under}
+use Rattle.sy_forms_items.specs.declared.names.Entity.{Entity}
+use Rattle.sy_forms_items.specs.declared.names.Entity.TheVariants as entity
+use Rattle.sy_forms_items.specs.Environments.{entry_under}
 use Rattle.sy_terms.specs.Values.{Val}
-use Rattle.sy_forms_phrases.specs.Measures.{Measures, unfolded_size, unfolded_depth, literals_in}
+use Rattle.sy_forms_items.specs.Measures.{Measures, unfolded_size, unfolded_depth, literals_in}
 use Rattle.sy_forms_items.specs.Parts.{symbol, place_of}
-use Rattle.sy_forms_phrases.specs.Phrases.{Phrase}
+use Rattle.sy_forms_items.specs.Phrases.{Phrase}
 use Rattle.sy_forms_items.specs.Readings.{Reading, refuse, found_or, ◌>>=◌}
-use Rattle.sy_forms_names.specs.Sorts.{read_sort}
+use Rattle.sy_forms_items.specs.Sorts.{read_sort}
 use Rattle.sy_scope_names.specs.Lists.{sorts_of_names}
-use Rattle.sy_scope_pool.specs.Pools.{pooled}
+use Rattle.sy_scope_names.specs.Pools.{pooled}
 use Rattle.sy_inv.specs.Conditions.{starts, keeps, ends}
 use Rattle.sy_scope_names.specs.Contexts.{Context, Definition, Sought, Expanded, has_room, new_name, new_sort_name, with_logic, question_at}
-use Rattle.sy_scope_commands.specs.declared.commands.Command.{Command}
-use Rattle.sy_scope_commands.specs.Requests.{Request, Spelled, command_named, request_of}
+use Rattle.sy_scope_names.specs.declared.commands.Command.{Command}
+use Rattle.sy_scope_names.specs.Requests.{Request, Spelled, command_named, request_of}
 
 -- `set-logic`
 

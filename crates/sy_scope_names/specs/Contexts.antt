@@ -9,12 +9,12 @@ use Rattle.sy_terms.specs.declared.sort.Sort.{Sort}
 use Rattle.sy_scope_causes.specs.declared.cause.Cause.TheVariants as cause
 use Rattle.sy_grammar_base.specs.Trees.{Syntax}
 use Rattle.sy_grammar_base.specs.Questions.{Goal, Question}
-use Rattle.sy_forms_names.specs.declared.names.Entity.{Entity}
-use Rattle.sy_forms_names.specs.declared.names.Named.{Named}
-use Rattle.sy_forms_names.specs.Environments.{entry_under}
-use Rattle.sy_forms_phrases.specs.Measures.{Measures}
-use Rattle.sy_forms_names.specs.Operators.{is_reserved}
-use Rattle.sy_forms_phrases.specs.Phrases.{Phrase, expr_at}
+use Rattle.sy_forms_items.specs.declared.names.Entity.{Entity}
+use Rattle.sy_forms_items.specs.declared.names.Named.{Named}
+use Rattle.sy_forms_items.specs.Environments.{entry_under}
+use Rattle.sy_forms_items.specs.Measures.{Measures}
+use Rattle.sy_forms_items.specs.Operators.{is_reserved}
+use Rattle.sy_forms_items.specs.Phrases.{Phrase, expr_at}
 use Rattle.sy_forms_items.specs.Readings.{Reading, refuse}
 use Rattle.sy_scope_names.specs.Lists.{sorts_of_names}
 

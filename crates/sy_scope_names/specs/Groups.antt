@@ -2,9 +2,9 @@
 use Rattle.std.specs.Prelude.{map}
 use Rattle.sy_terms.specs.Values.{Val}
 use Rattle.sy_grammar_base.specs.Trees.{Production, Nonterminal}
-use Rattle.sy_forms_phrases.specs.Productions.{production_at}
-use Rattle.sy_forms_phrases.specs.Rulings.{ruling_of}
-use Rattle.sy_forms_phrases.specs.declared.ruling.Ruling.{Ruling}
+use Rattle.sy_forms_items.specs.Productions.{production_at}
+use Rattle.sy_forms_items.specs.Rulings.{ruling_of}
+use Rattle.sy_forms_items.specs.declared.ruling.Ruling.{Ruling}
 use Rattle.sy_scope_names.specs.declared.convert.Group.{Group}
 
 abbrev pub production_in : {T N : Type 0} → (N → Val) → Ruling T N → Production

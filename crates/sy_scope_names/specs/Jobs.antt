@@ -5,7 +5,7 @@ use Rattle.sy_scope_causes.specs.declared.cause.Refused.{Refused}
 use Rattle.sy_scope_causes.specs.declared.titles.Title.{Title}
 use Rattle.sy_scope_causes.specs.declared.titles.Titles.{Titles}
 use Rattle.sy_grammar_base.specs.Questions.{Question}
-use Rattle.sy_forms_names.specs.declared.names.Named.{Named}
+use Rattle.sy_forms_items.specs.declared.names.Named.{Named}
 use Rattle.sy_scope_names.specs.Contexts.{Context, Definition, Sought}
 
 -- the names of the functions, in order of declaration

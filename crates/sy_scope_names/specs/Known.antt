@@ -1,6 +1,6 @@
 -- What a table of names declares.
 use Rattle.std.specs.Prelude.{ℕ}
-use Rattle.sy_forms_names.specs.Table.{NameTable}
+use Rattle.sy_forms_items.specs.Table.{NameTable}
 use Rattle.sy_scope_names.specs.Contexts.{Context, beginning}
 
 -- a context with these names and so many fresh variables, and nothing else

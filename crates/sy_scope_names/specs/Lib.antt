@@ -1,6 +1,10 @@
-pub mod Lists
-pub mod Contexts
-pub mod Known
-pub mod Groups
+pub mod Asked
 pub mod Changes
+pub mod Contexts
+pub mod Groups
 pub mod Jobs
+pub mod Kept
+pub mod Known
+pub mod Lists
+pub mod Pools
+pub mod Requests

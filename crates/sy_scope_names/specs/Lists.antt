@@ -6,13 +6,13 @@ use Rattle.sy_terms.specs.Sorts.{same_sort}
 use Rattle.sy_terms.specs.declared.sort.Logic.{Logic}
 use Rattle.sy_terms.specs.declared.sort.Sort.{Sort}
 use Rattle.sy_scope_causes.specs.declared.cause.Cause.TheVariants as cause
-use Rattle.sy_forms_names.specs.declared.names.Named.{Named}
-use Rattle.sy_forms_names.specs.Environments.{place_among}
-use Rattle.sy_forms_names.specs.Operators.{is_reserved}
+use Rattle.sy_forms_items.specs.declared.names.Named.{Named}
+use Rattle.sy_forms_items.specs.Environments.{place_among}
+use Rattle.sy_forms_items.specs.Operators.{is_reserved}
 use Rattle.sy_forms_items.specs.Parts.{place_of, has_no_items}
 use Rattle.sy_forms_items.specs.Readings.{Reading, refuse, ◌>>=◌}
-use Rattle.sy_forms_names.specs.Sorts.{read_sort}
-use Rattle.sy_scope_commands.specs.Requests.{Listed, Spelled, symbol_spelled}
+use Rattle.sy_forms_items.specs.Sorts.{read_sort}
+use Rattle.sy_scope_names.specs.Requests.{Listed, Spelled, symbol_spelled}
 
 -- the sorts of names
 abbrev pub sorts_of_names : List Named → List Sort

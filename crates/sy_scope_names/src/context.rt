@@ -1,12 +1,11 @@
 // Room for names, and new names.
 ghost use Rattle.std.specs.Prelude.{◌≡◌, None, IfOk};
-ghost use Rattle.sy_forms_names.specs.Environments.{entry_under};
+ghost use Rattle.sy_forms_items.specs.Environments.{entry_under};
 ghost use Rattle.sy_forms_items.specs.Readings.{ReadingGives};
 ghost use Rattle.sy_scope_names.specs.Contexts as spec;
 ghost use Rattle.sy_scope_names.specs.Known.{declared};
 
-use sy_forms_items::{ReadEnd, is};
-use sy_forms_names::{Names, is_reserved};
+use sy_forms_items::{Names, ReadEnd, is, is_reserved};
 use sy_scope_causes::Cause;
 use sy_terms::Logic;
 use sy_text_items::Place;
@@ -60,7 +59,8 @@ pub fn new_sort_name(
     at: Place,
     name: &[u8],
 ) -> Result<(), ReadEnd>
-    ensures name { ReadingGives (λ _. name.now) result (spec.new_sort_name (declared names.now fresh) logic at name.now) }
+    ensures name { ReadingGives (λ _.
+        name.now) result (spec.new_sort_name (declared names.now fresh) logic at name.now) }
     ensures free { IfOk result (λ _. entry_under name.now names.now.sorts ≡ None) }
 {
     if is_reserved(logic, name) || is_sort_name(name) || names.sort(name).is_some() {

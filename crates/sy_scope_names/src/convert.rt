@@ -1,12 +1,12 @@
 // Nonterminals that were read, as nonterminals of grammars.
 ghost use Rattle.std.specs.Prelude.{◌≡◌, IfOk, map};
 ghost use Rattle.sy_grammar_base.specs.Grown.{nonterminal_of, production_of};
-ghost use Rattle.sy_forms_phrases.specs.Rulings.{ruling_of};
-ghost use Rattle.sy_forms_phrases.specs.Productions.{production_at};
+ghost use Rattle.sy_forms_items.specs.Rulings.{ruling_of};
+ghost use Rattle.sy_forms_items.specs.Productions.{production_at};
 ghost use Rattle.sy_scope_names.specs.Groups.{group_of, production_in};
 
 use std::alloc::Global;
-use sy_forms_phrases::Ruling;
+use sy_forms_items::Ruling;
 use sy_grammar_base::{Non, Rule};
 use sy_seq::{Seq, Want};
 use sy_terms::{Sort, Theory};

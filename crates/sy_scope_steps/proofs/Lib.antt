@@ -1,2 +1,5 @@
-pub mod Walking
+pub mod Entries
+pub mod Fitting
+pub mod Measuring
 pub mod Read
+pub mod Walking

@@ -8,11 +8,11 @@ use Rattle.sy_terms.specs.declared.sort.Sort.{Sort}
 use Rattle.sy_scope_causes.specs.declared.cause.Cause.{Cause}
 use Rattle.sy_scope_causes.specs.declared.cause.Cause.TheVariants as cause
 use Rattle.sy_grammar_base.specs.Trees.{Production, Nonterminal}
-use Rattle.sy_forms_names.specs.declared.names.Named.{Named}
-use Rattle.sy_forms_names.specs.Environments.{Environment}
+use Rattle.sy_forms_items.specs.declared.names.Named.{Named}
+use Rattle.sy_forms_items.specs.Environments.{Environment}
 use Rattle.sy_forms_items.specs.Parts.{place_of}
 use Rattle.sy_forms_items.specs.Readings.{Reading, refuse, ◌>>=◌}
-use Rattle.sy_forms_phrases.specs.Productions.{Ruling, production_at}
+use Rattle.sy_forms_items.specs.Productions.{Ruling, production_at}
 use Rattle.sy_forms.specs.Rules.{read_rule}
 use Rattle.sy_scope_names.proofs.Earlier.{bind_ok, if_ok, unless_ok}
 use Rattle.sy_scope_steps.specs.Grammars.{Collected, Grouped, GrownGrammar, with_rule, read_rules, grouped, is_group_of, opened, with_group, grammar_extended, read_grouped, read_group, read_groups}

@@ -4,8 +4,8 @@ use Rattle.std.specs.Prelude.{Ok, nat_lt}
 use Rattle.sy_text_items.specs.Items.{Item, Items, none, more}
 use Rattle.sy_terms.specs.declared.sort.Sort.{Sort}
 use Rattle.sy_scope_causes.specs.declared.cause.Cause.TheVariants as cause
-use Rattle.sy_forms_names.specs.declared.names.Named.{Named}
-use Rattle.sy_forms_names.specs.Environments.{Environment}
+use Rattle.sy_forms_items.specs.declared.names.Named.{Named}
+use Rattle.sy_forms_items.specs.Environments.{Environment}
 use Rattle.sy_forms_items.specs.Parts.{place_of, has_no_items}
 use Rattle.sy_forms_items.specs.Readings.{refuse, ◌>>=◌}
 use Rattle.sy_forms.specs.Rules.{read_rule}

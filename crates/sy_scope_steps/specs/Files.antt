@@ -1,7 +1,7 @@
 -- A file is a list of commands, each of which steps; or it has a first fault.
 use Rattle.std.specs.Prelude.{ℕ, zero, suc, ◌+◌, List, length, drop, Option, Some, None, Result, Ok, Err}
 use Rattle.sy_text_items.specs.Items.{Item}
-use Rattle.sy_text_reader.specs.Reading.{command_at, offset_of}
+use Rattle.sy_text.specs.Reading.{command_at, offset_of}
 use Rattle.sy_text_items.specs.declared.fault.TextFault.{TextFault}
 use Rattle.sy_scope_causes.specs.declared.cause.Cause.TheVariants as cause
 use Rattle.sy_scope_causes.specs.declared.cause.Refused.{Refused}

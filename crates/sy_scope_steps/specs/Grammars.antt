@@ -7,17 +7,17 @@ use Rattle.sy_terms.specs.declared.sort.Logic.{Logic}
 use Rattle.sy_terms.specs.declared.sort.Sort.{Sort}
 use Rattle.sy_scope_causes.specs.declared.cause.Cause.TheVariants as cause
 use Rattle.sy_grammar_base.specs.Trees.{Production, Syntax, Nonterminal}
-use Rattle.sy_forms_names.specs.declared.names.Entity.{Entity}
-use Rattle.sy_forms_names.specs.declared.names.Named.{Named}
-use Rattle.sy_forms_names.specs.declared.names.Role.TheVariants as role
-use Rattle.sy_forms_names.specs.Environments.{Environment}
-use Rattle.sy_forms_phrases.specs.Measures.{literals_in}
+use Rattle.sy_forms_items.specs.declared.names.Entity.{Entity}
+use Rattle.sy_forms_items.specs.declared.names.Named.{Named}
+use Rattle.sy_forms_items.specs.declared.names.Role.TheVariants as role
+use Rattle.sy_forms_items.specs.Environments.{Environment}
+use Rattle.sy_forms_items.specs.Measures.{literals_in}
 use Rattle.sy_forms_items.specs.Parts.{symbol, place_of, has_no_items, is_symbol}
 use Rattle.sy_forms_items.specs.Readings.{Reading, refuse, ◌>>=◌}
-use Rattle.sy_forms_phrases.specs.Productions.{Ruling, Template, EachConstant, EachVariable, production_at}
+use Rattle.sy_forms_items.specs.Productions.{Ruling, Template, EachConstant, EachVariable, production_at}
 use Rattle.sy_forms_linear.specs.Flags.{constant_groups, divisor_groups, has_sort}
 use Rattle.sy_forms.specs.Rules.{read_rule}
-use Rattle.sy_scope_commands.specs.Requests.{Listed, Rulebook}
+use Rattle.sy_scope_names.specs.Requests.{Listed, Rulebook}
 use Rattle.sy_scope_names.specs.Lists.{sorts_of_names, read_predeclared}
 
 -- Rules of one group

@@ -3,7 +3,7 @@ use Rattle.std.specs.Prelude.{List, map}
 use Rattle.sy_text_items.specs.Views.{item_of}
 use Rattle.sy_terms.specs.Values.{Val}
 use Rattle.sy_terms.specs.Denoted.{vals_of}
-use Rattle.sy_forms_names.specs.declared.names.Named.{Named}
+use Rattle.sy_forms_items.specs.declared.names.Named.{Named}
 use Rattle.sy_scope_names.specs.Groups.{production_in, group_of}
 use Rattle.sy_scope_steps.specs.Grammars as spec
 use Rattle.sy_scope_names.specs.Lists.{sorts_of_names}

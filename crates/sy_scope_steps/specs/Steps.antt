@@ -6,23 +6,23 @@ use Rattle.sy_terms.specs.declared.sort.Logic.{Logic}
 use Rattle.sy_terms.specs.declared.sort.Sort.{Sort}
 use Rattle.sy_terms.specs.declared.sort.Sort.TheVariants as sorts
 use Rattle.sy_scope_causes.specs.declared.cause.Cause.TheVariants as cause
-use Rattle.sy_forms_names.specs.declared.names.Named.{Named}
-use Rattle.sy_forms_names.specs.declared.names.Role.{Role}
-use Rattle.sy_forms_names.specs.declared.names.Role.TheVariants as role
-use Rattle.sy_forms_names.specs.Environments.{Environment}
-use Rattle.sy_forms_phrases.specs.Measures.{literals_in}
-use Rattle.sy_forms_phrases.specs.Phrases.{Phrase}
+use Rattle.sy_forms_items.specs.declared.names.Named.{Named}
+use Rattle.sy_forms_items.specs.declared.names.Role.{Role}
+use Rattle.sy_forms_items.specs.declared.names.Role.TheVariants as role
+use Rattle.sy_forms_items.specs.Environments.{Environment}
+use Rattle.sy_forms_items.specs.Measures.{literals_in}
+use Rattle.sy_forms_items.specs.Phrases.{Phrase}
 use Rattle.sy_forms_items.specs.Readings.{Reading, refuse, ◌>>=◌}
-use Rattle.sy_forms_names.specs.Sorts.{read_sort}
+use Rattle.sy_forms_items.specs.Sorts.{read_sort}
 use Rattle.sy_forms.specs.Terms.{read_whole}
 use Rattle.sy_scope_names.specs.Lists.{sorts_of_names, read_named}
 use Rattle.sy_scope_steps.specs.Grammars.{Written, read_rulebook}
-use Rattle.sy_grammar_defaults.specs.Defaults.{default_syntax}
-use Rattle.sy_scope_pool.specs.Pools.{pooled}
+use Rattle.sy_grammar.specs.Defaults.{default_syntax}
+use Rattle.sy_scope_names.specs.Pools.{pooled}
 use Rattle.sy_scope_names.specs.Contexts.{Context, new_name, new_sought}
 use Rattle.sy_scope_names.specs.Contexts as contexts
-use Rattle.sy_scope_commands.specs.Requests as requests
-use Rattle.sy_scope_commands.specs.Requests.{Request, Spelled, Rulebook}
+use Rattle.sy_scope_names.specs.Requests as requests
+use Rattle.sy_scope_names.specs.Requests.{Request, Spelled, Rulebook}
 use Rattle.sy_scope_names.specs.Changes.{set_logic, set_feature, declare_variable, define_sort, with_definition, with_sought, value_sort, constrain_invariant, check_synth, PlacedRequest, command_asked}
 
 -- Terms in a context

@@ -4,12 +4,12 @@ use Rattle.std.proofs.Common.{sym, ◌∙◌, ap₂, subst, arith, inl, inr}
 use Rattle.std.proofs.lemmas.List.{get_or_read}
 use Rattle.std.proofs.lemmas.Int.{ints}
 use Rattle.sy_frac.specs.Fraction.{Fraction, IsLowest}
-use Rattle.sy_linear_forms.specs.declared.form.Form.{Form}
-use Rattle.sy_linear_forms.specs.Systems.{MeetsSystem, IsCorner, IsRefutation}
-use Rattle.sy_simplex_tableau.specs.Rows.{at, AreLowest}
-use Rattle.sy_simplex_tableau.proofs.Exact.{opposite_lowest, whole_lowest}
-use Rattle.sy_simplex_tableau.proofs.Zeros.{zero_lowest}
-use Rattle.sy_simplex_tableau.specs.States.{TableauState, variable_of_column, coef, IsShaped, BoundsAreMet, IsStuck, IsLeaving, IsEntering, IsPivot}
+use Rattle.sy_linear_known.specs.declared.form.Form.{Form}
+use Rattle.sy_linear_known.specs.Systems.{MeetsSystem, IsCorner, IsRefutation}
+use Rattle.sy_simplex.specs.Rows.{at, AreLowest}
+use Rattle.sy_simplex.proofs.Exact.{opposite_lowest, whole_lowest}
+use Rattle.sy_simplex.proofs.Zeros.{zero_lowest}
+use Rattle.sy_simplex.specs.States.{TableauState, variable_of_column, coef, IsShaped, BoundsAreMet, IsStuck, IsLeaving, IsEntering, IsPivot}
 use Rattle.sy_simplex.specs.declared.answer.Feasible.{Feasible}
 use Rattle.sy_simplex.specs.declared.answer.Feasible.TheVariants.{Point, Conflict, Pivots, Range}
 use Rattle.sy_simplex.specs.Answers.{AnswerIsSound, TellsFeasible, IsPointAnswer, IsConflictAnswer}

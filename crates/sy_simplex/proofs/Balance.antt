@@ -4,7 +4,7 @@ use Rattle.std.proofs.Common.{sym, ◌∙◌, ap, ap₂, subst, inl, inr, ◌⊎
 use Rattle.std.proofs.Math.Dec.{eqb}
 use Rattle.std.proofs.lemmas.Bool.Decides.{eqb_tells}
 use Rattle.sy_frac.specs.Rational.{ℚ, ◌+ℚ◌, ◌*ℚ◌, neg_ℚ, +ℚ_comm, +ℚ_assoc, +ℚ_zero, +ℚ-neg, *ℚ_comm, *ℚ-+ℚ, 0ℚ}
-use Rattle.sy_linear_forms.specs.Total.{total, total-same, zero_at, rest_same, combined_total, combined_split, replaced, replaced_same, replaced_other, IsSolved, IsPut, solved_gives, put_gives}
+use Rattle.sy_linear_known.specs.Total.{total, total-same, zero_at, rest_same, combined_total, combined_split, replaced, replaced_same, replaced_other, IsSolved, IsPut, solved_gives, put_gives}
 
 -- a combination where the value of column e is raised by d
 combined_raised : (n e : ℕ) (a y : ℕ → ℚ) (d : ℚ) → e < n → combined_total n a (replaced e (y e +ℚ d) y) ≡ combined_total n a y +ℚ a e *ℚ d

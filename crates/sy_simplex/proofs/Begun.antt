@@ -5,14 +5,14 @@ use Rattle.std.proofs.Common.{Result, Ok, Err, refl, sym, ◌∙◌, ap, subst, 
 use Rattle.std.proofs.Math.Dec.{eqb}
 use Rattle.std.proofs.lemmas.Bool.Decides.{eqb_tells}
 use Rattle.sy_frac.specs.Fraction.{Fraction, IsInRange}
-use Rattle.sy_linear_forms.specs.declared.form.Form.{Form}
-use Rattle.sy_simplex_tableau.specs.Operations.{fraction_of_whole, fraction_opposite}
-use Rattle.sy_simplex_tableau.specs.Rows.{at}
-use Rattle.sy_simplex_tableau.specs.States.{TableauState}
-use Rattle.sy_simplex_tableau.proofs.Pushed.{each_pushed}
+use Rattle.sy_linear_known.specs.declared.form.Form.{Form}
+use Rattle.sy_simplex.specs.Operations.{fraction_of_whole, fraction_opposite}
+use Rattle.sy_simplex.specs.Rows.{at}
+use Rattle.sy_simplex.specs.States.{TableauState}
+use Rattle.sy_simplex.proofs.Pushed.{each_pushed}
 use Rattle.sy_simplex.specs.Problems.{form}
 use Rattle.sy_simplex.specs.Runs.{FormFits, IsInitial}
-use Rattle.sy_simplex_tableau.specs.declared.fault.Fault.TheVariants as faults
+use Rattle.sy_simplex.specs.declared.fault.Fault.TheVariants as faults
 use Rattle.sy_simplex.specs.Beginnings.{AreCounted, AreZeros, IsBegun, IsFullRow, CoefficientsFit, FormsFit}
 
 -- an error that `?` hands on is the same

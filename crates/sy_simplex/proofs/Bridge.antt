@@ -5,10 +5,10 @@ use Rattle.std.proofs.Math.Dec.{eqb, ltb}
 use Rattle.std.proofs.lemmas.Bool.Decides.{eqb_tells}
 use Rattle.std.proofs.lemmas.List.{get_or-set_same, get_or-set_other}
 use Rattle.sy_frac.specs.Rational.{ℚ, ◌+ℚ◌, ◌*ℚ◌, neg_ℚ, value as number, value_sum, +ℚ_comm, +ℚ_cancel, +ℚ-neg, zero-+ℚ, *ℚ_comm, neg_ℚ-*ℚ}
-use Rattle.sy_linear_forms.specs.Total.{IsSolved, IsPut}
-use Rattle.sy_simplex_tableau.specs.Operations.{fraction_opposite, fraction_of_whole}
-use Rattle.sy_simplex_tableau.specs.Rows.{at, beside, IsPutRow}
-use Rattle.sy_simplex_tableau.specs.States.{TableauState, variable_of_column, basic, row, coef, row_value, bound, rest, IsShaped, IsVariable, IsPivot}
+use Rattle.sy_linear_known.specs.Total.{IsSolved, IsPut}
+use Rattle.sy_simplex.specs.Operations.{fraction_opposite, fraction_of_whole}
+use Rattle.sy_simplex.specs.Rows.{at, beside, IsPutRow}
+use Rattle.sy_simplex.specs.States.{TableauState, variable_of_column, basic, row, coef, row_value, bound, rest, IsShaped, IsVariable, IsPivot}
 use Rattle.sy_simplex.proofs.Values.{zero_is, one_is, value_opposite, value_quotient, value_plus_product, value_shift}
 use Rattle.sy_simplex.proofs.Tables.{Table, IsExchange}
 use Rattle.sy_simplex.proofs.Balance.{IsShifted}

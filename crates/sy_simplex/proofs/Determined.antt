@@ -7,10 +7,10 @@ use Rattle.std.proofs.lemmas.Bool.Decides.{eqb_tells}
 use Rattle.sy_frac.specs.Fraction.{Fraction}
 use Rattle.sy_frac.proofs.Canonical.{same_quotient}
 use Rattle.sy_frac.proofs.Quotients.{product_nonzero}
-use Rattle.sy_simplex_tableau.specs.Operations.{sum, difference, product, quotient, HasResult, OperationFits, fraction_opposite, fraction_of_whole, IsPlusProduct, PlusProductUnfit, product_unfit, sum_unfit, IsShift, ShiftUnfit, gap_unfit, quotient_unfit}
-use Rattle.sy_simplex_tableau.specs.Rows.{at, AreLowest, IsSolvedAt, IsSolvedRow, SolvedAtUnfit, here_unfit, elsewhere_unfit, beside, IsPutRow, PutUnfit}
-use Rattle.sy_simplex_tableau.proofs.Shapes.{solved_lowest}
-use Rattle.sy_simplex_tableau.specs.States.{TableauState, variable_of_column, basic, row, coef, row_value, bound, rest, IsShaped, IsPivot, StepUnfit, shift_unfit, entered_unfit, raised_unfit, solved_unfit, put_unfit}
+use Rattle.sy_simplex.specs.Operations.{sum, difference, product, quotient, HasResult, OperationFits, fraction_opposite, fraction_of_whole, IsPlusProduct, PlusProductUnfit, product_unfit, sum_unfit, IsShift, ShiftUnfit, gap_unfit, quotient_unfit}
+use Rattle.sy_simplex.specs.Rows.{at, AreLowest, IsSolvedAt, IsSolvedRow, SolvedAtUnfit, here_unfit, elsewhere_unfit, beside, IsPutRow, PutUnfit}
+use Rattle.sy_simplex.proofs.Shapes.{solved_lowest}
+use Rattle.sy_simplex.specs.States.{TableauState, variable_of_column, basic, row, coef, row_value, bound, rest, IsShaped, IsPivot, StepUnfit, shift_unfit, entered_unfit, raised_unfit, solved_unfit, put_unfit}
 
 positive_nonzero : (n : ℕ) → 0 < n → pos n ≢ pos 0
 positive_nonzero zero p e = omega arith

@@ -1,8 +1,8 @@
 -- A run takes fewer steps than there are sets of its variables.
 use Rattle.std.specs.Prelude.{◌≡◌, ℕ, ◌<◌, ◌≤◌, ◌+◌, ◌^◌, Bool, true, List, length}
 use Rattle.std.proofs.Common.{sym, ◌∙◌, subst, arith}
-use Rattle.sy_linear_forms.specs.declared.form.Form.{Form}
-use Rattle.sy_simplex_tableau.specs.States.{TableauState, basic}
+use Rattle.sy_linear_known.specs.declared.form.Form.{Form}
+use Rattle.sy_simplex.specs.States.{TableauState, basic}
 use Rattle.sy_simplex.specs.Runs.{Ran, RunIsSpent}
 use Rattle.sy_simplex.proofs.Bridge.{basic_variable}
 use Rattle.sy_simplex.proofs.Sound.{IsSteady, of_tableau}

@@ -4,8 +4,8 @@ use Rattle.std.proofs.Common.{refl, sym, ◌∙◌, ap, ap₂, subst, arith, inl
 use Rattle.std.proofs.Math.Dec.{eqb, ltb}
 use Rattle.std.proofs.lemmas.Bool.Decides.{eqb_tells}
 use Rattle.sy_frac.specs.Rational.{ℚ, 0ℚ, 1ℚ, ◌+ℚ◌, ◌*ℚ◌, neg_ℚ, is_negative_rational, not_negative_plus, zero_not_negative, one_not_negative, +ℚ_cancel, +ℚ_comm, +ℚ_zero, zero-+ℚ, +ℚ-neg, *ℚ_zero, zero-*ℚ, one-*ℚ, *ℚ-+ℚ, +ℚ-*ℚ, neg_ℚ-*ℚ}
-use Rattle.sy_linear_forms.specs.Total.{total, total-same, total-plus, total_zero, total_split, zero_at, without_same, without_other, combined_total}
-use Rattle.sy_linear_forms.specs.Systems.{System, form_at_point, MeetsSystem, IsRefutation, IsCorner, total_not_negative}
+use Rattle.sy_linear_known.specs.Total.{total, total-same, total-plus, total_zero, total_split, zero_at, without_same, without_other, combined_total}
+use Rattle.sy_linear_known.specs.Systems.{System, form_at_point, MeetsSystem, IsRefutation, IsCorner, total_not_negative}
 use Rattle.sy_simplex.proofs.Tables.{Table, Holds, initial, basics_agree}
 
 -- ---- points and assignments

@@ -6,9 +6,9 @@ use Rattle.std.proofs.Math.ListN.{length-set}
 use Rattle.std.proofs.lemmas.Bool.Decides.{eqb_tells}
 use Rattle.std.proofs.lemmas.List.{get_or-set_same, get_or-set_other}
 use Rattle.sy_frac.specs.Fraction.{Fraction, IsInRange}
-use Rattle.sy_linear_forms.specs.declared.form.Form.{Form}
-use Rattle.sy_simplex_tableau.specs.Operations.{fraction_of_whole}
-use Rattle.sy_simplex_tableau.specs.Rows.{at}
+use Rattle.sy_linear_known.specs.declared.form.Form.{Form}
+use Rattle.sy_simplex.specs.Operations.{fraction_of_whole}
+use Rattle.sy_simplex.specs.Rows.{at}
 use Rattle.sy_simplex.specs.Problems.{coefficient, variable_at, IsForm}
 use Rattle.sy_simplex.specs.Beginnings.{AreZeros, IsFullRow}
 

@@ -4,10 +4,10 @@ use Rattle.std.proofs.Common.{refl, sym, ◌∙◌, ap, ap₂, subst, arith, inl
 use Rattle.std.proofs.Math.Dec.{ltb}
 use Rattle.std.proofs.lemmas.List.{ext_get_or}
 use Rattle.sy_frac.specs.Fraction.{Fraction, CrossesFit}
-use Rattle.sy_linear_forms.specs.declared.form.Form.{Form}
-use Rattle.sy_simplex_tableau.specs.Operations.{fraction_of_whole}
-use Rattle.sy_simplex_tableau.specs.Rows.{at, LeastRaising}
-use Rattle.sy_simplex_tableau.specs.States.{TableauState, variable_of_column, basic, row, row_value, bound, BoundsAreMet, FirstUnclear, IsStuck, IsLeaving, IsEntering, ChoiceUnfit, SomeChoiceUnfit, IsPivot, StepUnfit}
+use Rattle.sy_linear_known.specs.declared.form.Form.{Form}
+use Rattle.sy_simplex.specs.Operations.{fraction_of_whole}
+use Rattle.sy_simplex.specs.Rows.{at, LeastRaising}
+use Rattle.sy_simplex.specs.States.{TableauState, variable_of_column, basic, row, row_value, bound, BoundsAreMet, FirstUnclear, IsStuck, IsLeaving, IsEntering, ChoiceUnfit, SomeChoiceUnfit, IsPivot, StepUnfit}
 use Rattle.sy_simplex.specs.Problems.{form}
 use Rattle.sy_simplex.specs.declared.answer.Feasible.{Feasible}
 use Rattle.sy_simplex.specs.declared.answer.Feasible.TheVariants.{Point, Conflict, Pivots, Range}

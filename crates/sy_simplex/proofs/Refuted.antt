@@ -6,11 +6,11 @@ use Rattle.std.proofs.lemmas.Bool.Decides.{eqb_tells}
 use Rattle.std.proofs.lemmas.Int.{ints}
 use Rattle.sy_frac.specs.Fraction.{Fraction}
 use Rattle.sy_frac.specs.Rational.{ℚ, 0ℚ, 1ℚ, ◌+ℚ◌, ◌*ℚ◌, neg_ℚ, value as number, is_negative_rational, +ℚ_zero, zero-+ℚ}
-use Rattle.sy_linear_forms.specs.declared.form.Form.{Form}
-use Rattle.sy_linear_forms.specs.Total.{total, total-same, total_zero, total_split, zero_at, without_same, without_other}
-use Rattle.sy_linear_forms.specs.Systems.{form_at_point, IsRefutation}
-use Rattle.sy_simplex_tableau.specs.Rows.{at, Raises}
-use Rattle.sy_simplex_tableau.specs.States.{TableauState, variable_of_column, basic, row, coef, row_value, bound, IsStuck}
+use Rattle.sy_linear_known.specs.declared.form.Form.{Form}
+use Rattle.sy_linear_known.specs.Total.{total, total-same, total_zero, total_split, zero_at, without_same, without_other}
+use Rattle.sy_linear_known.specs.Systems.{form_at_point, IsRefutation}
+use Rattle.sy_simplex.specs.Rows.{at, Raises}
+use Rattle.sy_simplex.specs.States.{TableauState, variable_of_column, basic, row, coef, row_value, bound, IsStuck}
 use Rattle.sy_simplex.specs.Problems.{system_of, numbers}
 use Rattle.sy_simplex.specs.Runs.{IsMultiplier, AreRowMultipliers}
 use Rattle.sy_simplex.proofs.Values.{zero_is, one_is, value_opposite, less_negative, opposite_not_negative, zero_numerator}

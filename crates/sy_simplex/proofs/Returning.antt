@@ -8,11 +8,11 @@ use Rattle.std.proofs.lemmas.List.{get_or-set_same, get_or-set_other}
 use Rattle.std.proofs.lemmas.Int.{ints}
 use Rattle.sy_frac.specs.Fraction.{Fraction}
 use Rattle.sy_frac.specs.Rational.{ℚ, 0ℚ, ◌+ℚ◌, ◌*ℚ◌, neg_ℚ, over, value as number, is_negative_rational, over_negative, not_negative_plus, not_negative_times, zero_not_negative, +ℚ_comm, +ℚ_assoc, +ℚ_zero, +ℚ_cancel, +ℚ-neg, +ℚ_left_comm, *ℚ_zero, zero-*ℚ, *ℚ-+ℚ, neg_ℚ-*ℚ, neg_ℚ-+ℚ}
-use Rattle.sy_linear_forms.specs.declared.form.Form.{Form}
-use Rattle.sy_linear_forms.specs.Total.{total, total-same, total-plus, combined_total}
-use Rattle.sy_linear_forms.specs.Systems.{total_not_negative}
-use Rattle.sy_simplex_tableau.specs.Rows.{Raises}
-use Rattle.sy_simplex_tableau.specs.States.{TableauState, variable_of_column, basic, row, coef, row_value, bound, IsVariable, IsClear, IsLeaving, IsEntering}
+use Rattle.sy_linear_known.specs.declared.form.Form.{Form}
+use Rattle.sy_linear_known.specs.Total.{total, total-same, total-plus, combined_total}
+use Rattle.sy_linear_known.specs.Systems.{total_not_negative}
+use Rattle.sy_simplex.specs.Rows.{Raises}
+use Rattle.sy_simplex.specs.States.{TableauState, variable_of_column, basic, row, coef, row_value, bound, IsVariable, IsClear, IsLeaving, IsEntering}
 use Rattle.sy_simplex.specs.Problems.{form}
 use Rattle.sy_simplex.specs.Runs.{Ran}
 use Rattle.sy_simplex.proofs.Values.{less_negative, not_less_negative, opposite_not_negative, zero_numerator, lt_false}

@@ -5,14 +5,14 @@ use Rattle.std.proofs.Math.Dec.{ltb}
 use Rattle.std.proofs.Math.ListN.{length-set}
 use Rattle.sy_frac.specs.Fraction.{Fraction, IsInRange, IsLowest}
 use Rattle.sy_frac.specs.Rational.{ℚ, 0ℚ, ◌+ℚ◌, ◌*ℚ◌, neg_ℚ, over, value as number, is_negative_rational, zero_not_negative, +ℚ_comm, +ℚ-neg, *ℚ_zero}
-use Rattle.sy_linear_forms.specs.declared.form.Form.{Form}
-use Rattle.sy_linear_forms.specs.Total.{total-same, total_zero, combined_total}
-use Rattle.sy_linear_forms.specs.Systems.{System, form_at_point, MeetsSystem, IsCorner}
-use Rattle.sy_simplex_tableau.specs.Operations.{fraction_of_whole}
-use Rattle.sy_simplex_tableau.specs.Rows.{at, AreLowest}
-use Rattle.sy_simplex_tableau.specs.States.{TableauState, variable_of_column, basic, row, coef, row_value, bound, rest, IsShaped, IsVariable, IsClear, BoundsAreMet, IsPivot}
-use Rattle.sy_simplex_tableau.proofs.Exact.{whole_lowest, abs_neg}
-use Rattle.sy_simplex_tableau.proofs.Shapes.{step_shaped}
+use Rattle.sy_linear_known.specs.declared.form.Form.{Form}
+use Rattle.sy_linear_known.specs.Total.{total-same, total_zero, combined_total}
+use Rattle.sy_linear_known.specs.Systems.{System, form_at_point, MeetsSystem, IsCorner}
+use Rattle.sy_simplex.specs.Operations.{fraction_of_whole}
+use Rattle.sy_simplex.specs.Rows.{at, AreLowest}
+use Rattle.sy_simplex.specs.States.{TableauState, variable_of_column, basic, row, coef, row_value, bound, rest, IsShaped, IsVariable, IsClear, BoundsAreMet, IsPivot}
+use Rattle.sy_simplex.proofs.Exact.{whole_lowest, abs_neg}
+use Rattle.sy_simplex.proofs.Shapes.{step_shaped}
 use Rattle.sy_simplex.specs.Problems.{coefficient, form, system_of, numbers}
 use Rattle.sy_simplex.specs.Runs.{FormFits, IsInitial, Ran, begun, stepped, IsValue, IsPoint}
 use Rattle.sy_simplex.proofs.Values.{zero_is, value_opposite, not_less_negative}

@@ -5,7 +5,7 @@ use Rattle.std.proofs.Common.{sym, ◌∙◌, ap, subst, inl, inr, ◌⊎◌}
 use Rattle.std.proofs.Math.Dec.{eqb}
 use Rattle.std.proofs.lemmas.Bool.Decides.{eqb_tells}
 use Rattle.sy_frac.specs.Rational.{ℚ, ◌*ℚ◌}
-use Rattle.sy_linear_forms.specs.Total.{total-same, combined_total, replaced, replaced_same, replaced_other, IsSolved, IsPut, solved_gives, put_gives, solved_back, put_back}
+use Rattle.sy_linear_known.specs.Total.{total-same, combined_total, replaced, replaced_same, replaced_other, IsSolved, IsPut, solved_gives, put_gives, solved_back, put_back}
 
 -- rows and columns with their variables, and the coefficients of the rows
 pub record Table : Type 0 where

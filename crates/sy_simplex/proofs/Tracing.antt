@@ -3,8 +3,8 @@ use Rattle.std.specs.Prelude.{◌≡◌, ◌≢◌, ℕ, suc, ◌<◌, ◌≤◌
 use Rattle.std.proofs.Common.{refl, sym, ap, subst, arith, inl, inr, ◌⊎◌, ltb-true, ltb-false, length-append}
 use Rattle.std.proofs.Math.Dec.{eqb, ltb}
 use Rattle.std.proofs.lemmas.Bool.Decides.{eqb_tells}
-use Rattle.sy_linear_forms.specs.declared.form.Form.{Form}
-use Rattle.sy_simplex_tableau.specs.States.{TableauState, variable_of_column, basic}
+use Rattle.sy_linear_known.specs.declared.form.Form.{Form}
+use Rattle.sy_simplex.specs.States.{TableauState, variable_of_column, basic}
 use Rattle.sy_simplex.specs.Runs.{Ran, begun, stepped}
 use Rattle.sy_simplex.proofs.Sound.{IsSteady, ran_steady}
 use Rattle.sy_simplex.proofs.Outcomes.{Goes}

@@ -5,9 +5,9 @@ use Rattle.std.proofs.Math.IntN.{*ℤ_comm, zero-*ℤ}
 use borrow.Author.Differences.{up, down, ints, same_in, sum_is_lem}
 use Rattle.sy_frac.specs.Fraction.{Fraction, sum_over, difference_over}
 use Rattle.sy_frac.specs.Rational.{ℚ, 0ℚ, 1ℚ, ◌+ℚ◌, ◌*ℚ◌, neg_ℚ, is_negative_rational, over, value, over_same, sum_over_is, product_over_is, value_sum, value_product, over_negative, one_over, +ℚ_comm, +ℚ_cancel, +ℚ-neg, zero-+ℚ}
-use Rattle.sy_linear_forms.specs.Laws.{times_assoc, distributes}
-use Rattle.sy_simplex_tableau.specs.Operations.{HasResult, difference, quotient, fraction_opposite, fraction_of_whole, IsPlusProduct, IsShift}
-use Rattle.sy_simplex_tableau.specs.States.{IsLess}
+use Rattle.sy_linear_known.specs.Laws.{times_assoc, distributes}
+use Rattle.sy_simplex.specs.Operations.{HasResult, difference, quotient, fraction_opposite, fraction_of_whole, IsPlusProduct, IsShift}
+use Rattle.sy_simplex.specs.States.{IsLess}
 
 positive_product : (a b : ℕ) → 0 < a → 0 < b → 0 < a * b
 positive_product a b p q = grind arith

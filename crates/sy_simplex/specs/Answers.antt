@@ -1,12 +1,12 @@
 -- What each answer says of the forms, and of the run.
 use Rattle.std.specs.Prelude.{◌≡◌, ℕ, List, length}
-use Rattle.sy_linear_forms.specs.declared.form.Form.{Form}
-use Rattle.sy_linear_forms.specs.Systems.{MeetsSystem, IsCorner, IsRefutation}
-use Rattle.sy_simplex_tableau.specs.Rows.{AreLowest}
+use Rattle.sy_linear_known.specs.declared.form.Form.{Form}
+use Rattle.sy_linear_known.specs.Systems.{MeetsSystem, IsCorner, IsRefutation}
+use Rattle.sy_simplex.specs.Rows.{AreLowest}
 use Rattle.sy_simplex.specs.declared.answer.Feasible.{Feasible}
 use Rattle.sy_simplex.specs.declared.answer.Feasible.TheVariants.{Point, Conflict, Pivots, Range}
 use Rattle.sy_simplex.specs.Problems.{system_of, numbers}
-use Rattle.sy_simplex_tableau.specs.States.{TableauState}
+use Rattle.sy_simplex.specs.States.{TableauState}
 use Rattle.sy_simplex.specs.Runs.{IsPoint, AreRowMultipliers, EndsAt, EndsStuck, RunIsSpent, IsOutOfRange}
 
 -- the point meets every form and is a corner of them; the multipliers, fractions in lowest terms, refute them

@@ -1,6 +1,6 @@
 -- The basic variables of a tableau.
 use Rattle.std.specs.Prelude.{◌≡◌, ℕ, ◌<◌, length}
-use Rattle.sy_simplex_tableau.specs.States.{TableauState, basic}
+use Rattle.sy_simplex.specs.States.{TableauState, basic}
 
 -- the variable is that of some row
 abbrev pub IsBasic : TableauState → ℕ → Type 0

@@ -1,9 +1,9 @@
 -- The parts of the initial tableau.
 use Rattle.std.specs.Prelude.{◌≡◌, ℕ, ◌<◌, ◌+◌, List, [], length, ℤ, pos, neg_ℤ, get_or}
 use Rattle.sy_frac.specs.Fraction.{Fraction, IsInRange}
-use Rattle.sy_linear_forms.specs.declared.form.Form.{Form}
-use Rattle.sy_simplex_tableau.specs.Operations.{fraction_of_whole}
-use Rattle.sy_simplex_tableau.specs.Rows.{at}
+use Rattle.sy_linear_known.specs.declared.form.Form.{Form}
+use Rattle.sy_simplex.specs.Operations.{fraction_of_whole}
+use Rattle.sy_simplex.specs.Rows.{at}
 use Rattle.sy_simplex.specs.Problems.{coefficient, form}
 use Rattle.sy_simplex.specs.Runs.{FormFits}
 

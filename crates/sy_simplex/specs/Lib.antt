@@ -1,5 +1,10 @@
-pub mod Problems
-pub mod Runs
 pub mod Answers
-pub mod Beginnings
 pub mod Bases
+pub mod Beginnings
+pub mod Choices
+pub mod Operations
+pub mod Problems
+pub mod Rows
+pub mod Runs
+pub mod Stated
+pub mod States

@@ -2,10 +2,10 @@
 use Rattle.std.specs.Prelude.{ℕ, ◌<◌, ◌+◌, ◌==◌, cond, List, [], ◌∷◌, length, ℤ, pos, get_or}
 use Rattle.sy_frac.specs.Fraction.{Fraction}
 use Rattle.sy_frac.specs.Rational.{ℚ, over, value}
-use Rattle.sy_linear_forms.specs.declared.form.Form.{Form}
-use Rattle.sy_linear_forms.specs.Forms.{constant_form}
-use Rattle.sy_linear_forms.specs.Systems.{System}
-use Rattle.sy_simplex_tableau.specs.Rows.{at}
+use Rattle.sy_linear_known.specs.declared.form.Form.{Form}
+use Rattle.sy_linear_known.specs.Forms.{constant_form}
+use Rattle.sy_linear_known.specs.Systems.{System}
+use Rattle.sy_simplex.specs.Rows.{at}
 
 -- the coefficient of a variable
 abbrev pub coefficient : List (ℕ × ℤ) → ℕ → ℤ

@@ -1,10 +1,10 @@
 -- Runs of the simplex method by Bland's rule, from the initial tableau.
 use Rattle.std.specs.Prelude.{◌≡◌, ◌≢◌, ℕ, ◌<◌, ◌≤◌, ◌+◌, ◌⊎◌, List, [], ◌∷◌, ◌++◌, length, pos, neg_ℤ, get_or}
 use Rattle.sy_frac.specs.Fraction.{Fraction, IsInRange}
-use Rattle.sy_linear_forms.specs.declared.form.Form.{Form}
-use Rattle.sy_simplex_tableau.specs.Operations.{fraction_of_whole, fraction_opposite}
-use Rattle.sy_simplex_tableau.specs.Rows.{at}
-use Rattle.sy_simplex_tableau.specs.States.{TableauState, variable_of_column, basic, row, coef, row_value, rest, BoundsAreMet, IsStuck, IsLeaving, IsEntering, SomeChoiceUnfit, IsPivot, StepUnfit}
+use Rattle.sy_linear_known.specs.declared.form.Form.{Form}
+use Rattle.sy_simplex.specs.Operations.{fraction_of_whole, fraction_opposite}
+use Rattle.sy_simplex.specs.Rows.{at}
+use Rattle.sy_simplex.specs.States.{TableauState, variable_of_column, basic, row, coef, row_value, rest, BoundsAreMet, IsStuck, IsLeaving, IsEntering, SomeChoiceUnfit, IsPivot, StepUnfit}
 use Rattle.sy_simplex.specs.Problems.{coefficient, form}
 
 -- each coefficient and constant is at most 2^127 - 1 in magnitude

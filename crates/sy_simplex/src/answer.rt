@@ -1,8 +1,8 @@
 // The answers of the simplex method.
 
+use crate::tableau::Tableau;
 use sy_frac::Frac;
 use sy_seq::Seq;
-use sy_simplex_tableau::Tableau;
 
 /// The steps of a run: pairs of the leaving and the entering variable.
 #[derive(Drop)]

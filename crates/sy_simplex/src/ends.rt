@@ -1,13 +1,14 @@
 // What the end of a run gives.
 ghost use Rattle.std.specs.Prelude.{◌≡◌, ◌<◌, ◌^◌, length, IfOk};
-ghost use Rattle.sy_simplex_tableau.specs.States.{IsShaped, IsVariable};
-ghost use Rattle.sy_simplex_tableau.specs.Stated.{tableau_state_of};
+ghost use Rattle.sy_simplex.specs.States.{IsShaped, IsVariable};
+ghost use Rattle.sy_simplex.specs.Stated.{tableau_state_of};
 ghost use Rattle.sy_simplex.specs.Runs.{IsValue, IsPoint, IsMultiplier, AreRowMultipliers};
 
+use crate::fractions::{negated, one, zero};
+use crate::tableau::Tableau;
 use std::alloc::Global;
 use sy_frac::Frac;
 use sy_seq::{Seq, Want};
-use sy_simplex_tableau::{Tableau, negated, one, zero};
 
 /// The value of a variable.
 fn value_of(tableau: &Tableau, variable: u32) -> Frac

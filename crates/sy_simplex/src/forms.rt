@@ -2,7 +2,7 @@
 ghost use Rattle.std.specs.Prelude.{◌↔◌, ◌<◌, IsTrue, ℕ, length};
 ghost use Rattle.sy_simplex.specs.Problems.{IsForm, AreForms};
 
-use sy_linear_forms::Form;
+use sy_linear_known::Form;
 
 /// Whether the form's variables are below `vars`, in ascending order.
 pub fn is_form(vars: u32, form: &Form) -> bool

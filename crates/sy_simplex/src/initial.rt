@@ -1,20 +1,24 @@
 // The initial tableau.
 ghost use Rattle.std.specs.Prelude.{◌≡◌, ◌<◌, ◌^◌, length, IfOk, OnOk, IsErrOf, MatchOption};
 ghost use Rattle.sy_frac.specs.Fraction.{IsInRange};
-ghost use Rattle.sy_simplex_tableau.specs.Operations.{fraction_of_whole as whole_fraction};
-ghost use Rattle.sy_simplex_tableau.specs.Stated.{tableau_state_of};
+ghost use Rattle.sy_simplex.specs.Operations.{fraction_of_whole as whole_fraction};
+ghost use Rattle.sy_simplex.specs.Stated.{tableau_state_of};
 ghost use Rattle.sy_simplex.specs.Problems.{AreForms, IsForm};
 ghost use Rattle.sy_simplex.specs.Runs.{IsInitial};
 ghost use Rattle.sy_simplex.specs.Beginnings.{AreCounted, AreZeros, IsBegun, IsFullRow, CoefficientsFit, FormsFit, SomeUnfit};
 
+use crate::fault::Fault;
+use crate::fractions::{negated, whole, zero};
+use crate::row::Row;
+use crate::tableau::Tableau;
 use std::alloc::Global;
 use sy_frac::Frac;
-use sy_linear_forms::Form;
-use sy_simplex_tableau::{Fault, Row, Tableau, negated, whole, zero};
+use sy_linear_known::Form;
 
 /// The fraction of a whole number; `None` exactly where the number is `-2^127`.
 fn fraction(number: &i128) -> Option<Frac>
-    ensures { MatchOption result (¬ (IsInRange number.now)) (λ f. IsInRange number.now × (f ≡ whole_fraction number.now)) }
+    ensures { MatchOption result (¬ (IsInRange number.now)) (λ f. IsInRange number.now ×
+        (f ≡ whole_fraction number.now)) }
 {
     let value = *number;
     whole(value)
@@ -75,7 +79,8 @@ fn begin(
     requires few_vars { vars < 2 ^ 31 }
     requires few_forms { length forms.now < 2 ^ 31 }
     requires none { IsBegun vars forms.now 0 basics.old.items rows.old.items bounds.old.items }
-    ensures begun { OnOk result (IsBegun vars forms.now (length forms.now) basics.new.items rows.new.items bounds.new.items) }
+    ensures begun { OnOk result
+        (IsBegun vars forms.now (length forms.now) basics.new.items rows.new.items bounds.new.items) }
     ensures unfit { IsErrOf result Fault.Unfit → SomeUnfit forms.now }
 {
     for at in 0..forms.len() {

@@ -2,13 +2,23 @@
 #![tactic(auto)]
 
 mod answer;
+mod choice;
 mod ends;
+mod fault;
 mod forms;
+mod fractions;
 mod initial;
 mod law;
+mod row;
 mod solve;
+mod tableau;
 
 pub use answer::{Ended, Feasible, Run};
+pub use choice::Choice;
+pub use fault::Fault;
 pub use forms::{are_forms, is_form};
+pub use fractions::{negated, one, whole, zero};
 pub use law::{answers_are_determined, enough_pivots_are_never_spent, no_basis_comes_twice};
+pub use row::Row;
 pub use solve::{ended, feasible};
+pub use tableau::Tableau;

@@ -1,17 +1,19 @@
 // The run from the initial tableau to its answer.
 ghost use Rattle.std.specs.Prelude.{◌<◌, ◌^◌, ◌↔◌, length, IfOk, IsTrue};
-ghost use Rattle.sy_simplex_tableau.specs.States.{IsShaped};
-ghost use Rattle.sy_simplex_tableau.specs.Stated.{tableau_state_of};
+ghost use Rattle.sy_simplex.specs.States.{IsShaped};
+ghost use Rattle.sy_simplex.specs.Stated.{tableau_state_of};
 ghost use Rattle.sy_simplex.specs.Problems.{AreForms};
 ghost use Rattle.sy_simplex.specs.Answers.{AnswerIsSound, TellsFeasible, IsPointAnswer, IsConflictAnswer};
 
 use crate::answer::{Ended, Feasible, Run};
+use crate::choice::Choice;
 use crate::ends::{multipliers, point};
+use crate::fault::Fault;
 use crate::initial::initial;
+use crate::tableau::Tableau;
 use std::alloc::{AllocError, Global};
-use sy_linear_forms::Form;
+use sy_linear_known::Form;
 use sy_seq::{Seq, Want};
-use sy_simplex_tableau::{Choice, Fault, Tableau};
 
 /// Whether there are fewer than 2^31 variables, and as few forms.
 fn are_few(vars: u32, forms: &[Form]) -> bool

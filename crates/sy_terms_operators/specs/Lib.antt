@@ -1,0 +1,5 @@
+pub mod Agreement
+pub mod Asking
+pub mod Evaluation
+pub mod Plain
+pub mod Tracing

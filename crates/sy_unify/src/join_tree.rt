@@ -3,11 +3,11 @@ ghost use Rattle.std.specs.Prelude.{◌≡◌, ◌<◌, ◌≤◌, ◌^◌, ℕ,
 ghost use Rattle.std.specs.List.Sorted.{IsStrictlyIncreasing};
 ghost use Rattle.sy_unify.specs.Unify.{IsJoin, IsTreeStep, LeavesWithin};
 
+use crate::choice::{Choice, Joined};
+use crate::guide::{Guide, Hint};
 use crate::rows::{common_leaf, first_other, keep, splits, splitting_test};
-use crate::{Choice, Joined};
 use std::alloc::Global;
 use sy_seq::{Seq, Want};
-use sy_unify_guide::{Guide, Hint};
 
 /// All points below a number, in order.
 fn all_points(alloc: Global, points: u32) -> Result<Seq<u32>, Want>

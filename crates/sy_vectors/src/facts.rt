@@ -8,8 +8,8 @@ use sy_linear::{Fact, Known, Path, Test, known};
 use sy_meaning_integers::IntTheory;
 use sy_terms::{Seq, Want};
 
-/// Facts with semicolons between them: `B` where the second variable is true, `!B` where it is false, or a form that is at
-/// least 0.
+/// Facts with semicolons between them: `B` where the second variable is true, `!B` where it is false, or a form that is
+/// at least 0.
 fn path(rt: &impl Abort, alloc: Global, text: &str) -> Path {
     let mut facts = Seq::new(alloc);
     if text.is_empty() {

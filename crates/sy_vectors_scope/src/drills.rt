@@ -1,7 +1,7 @@
 // Files that are made from numbers.
 use std::alloc::Global;
 use std::process::Abort;
-use sygus_drill::drill_file;
+use sygus_drills::drill_file;
 
 /// Numbers and how their files begin, behind `^`; `~` stands between rows.
 pub const FILES: &str = "0^(set-logic BV)

@@ -2,7 +2,7 @@
 use std::alloc::Global;
 use std::process::Abort;
 use sy_meaning_integers::IntTheory;
-use sy_scope_pool::Pool;
+use sy_scope_names::Pool;
 use sy_terms::Value;
 
 /// Whether each value stands once, in the order in which it came first.

@@ -10,7 +10,7 @@ use Rattle.sy_terms.specs.declared.op.Op.{Op}
 use Rattle.sy_terms.specs.declared.sort.Sort.{Sort}
 use Rattle.sy_terms.specs.declared.term.Def.{Def}
 use Rattle.sy_terms.specs.declared.term.Term.{Term}
-use Rattle.sy_terms_laws.specs.Evaluation.{BodiesFit}
+use Rattle.sy_terms_operators.specs.Evaluation.{BodiesFit}
 use Rattle.sy_grammar_base.specs.Fits.{with_functions, GrammarFits, ProblemFits, QuestionFits}
 use Rattle.sy_grammar_base.specs.Grown.{syntax_from}
 use Rattle.sy_grammar_base.specs.Questions.{goal_of, question_of, wanted_signature}
@@ -18,8 +18,8 @@ use Rattle.sy_grammar_base.specs.Solving.{AreMembers}
 use Rattle.sy_grammar_base.specs.Trees.{IsMember, IsNumbered}
 use Rattle.sy_grammar_base.specs.declared.problem.Problem.{Problem}
 use Rattle.sy_grammar_base.specs.declared.problem.Wanted.{Wanted}
-use Rattle.sy_grammar_laws.proofs.Numbering.{numbered}
-use Rattle.sy_grammar_laws.proofs.Problems.{problem_grammars}
+use Rattle.sy_grammar_base.proofs.Numbering.{numbered}
+use Rattle.sy_grammar_base.proofs.Problems.{problem_grammars}
 use Rattle.sy_verify.specs.Posing.{IsFirstOutside}
 
 module _ {T N : Type 0} (number : N → Val) where

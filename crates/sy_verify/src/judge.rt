@@ -1,6 +1,6 @@
 // Candidates judged by a solver.
 ghost use Rattle.std.specs.Prelude.{IfOk};
-ghost use Rattle.sy_terms_laws.specs.Evaluation.{BodiesFit};
+ghost use Rattle.sy_terms_operators.specs.Evaluation.{BodiesFit};
 ghost use Rattle.sy_grammar_base.specs.Fits.{ProblemFits};
 ghost use Rattle.sy_grammar_base.specs.Questions.{signatures};
 ghost use Rattle.sy_query_base.specs.Answers.{Answers};

@@ -8,8 +8,8 @@ ghost use Rattle.sy_grammar_base.specs.Trees.{IsMember, IsNumbered};
 ghost use Rattle.sy_verify.specs.Posing.{IsFirstOutside};
 
 use std::alloc::Global;
+use sy_grammar::derive;
 use sy_grammar_base::{Grammar, Wanted};
-use sy_grammar_derive::derive;
 use sy_terms::{Term, Theory, Want};
 
 /// The number of the first function whose body is no member of its grammar; `None` exactly where all are members.

@@ -1,6 +1,6 @@
 // The query of a problem and bodies, where there is one to be asked.
 ghost use Rattle.std.specs.Prelude.{IfOk};
-ghost use Rattle.sy_terms_laws.specs.Evaluation.{BodiesFit};
+ghost use Rattle.sy_terms_operators.specs.Evaluation.{BodiesFit};
 ghost use Rattle.sy_grammar_base.specs.Fits.{ProblemFits};
 ghost use Rattle.sy_grammar_base.specs.Questions.{signatures};
 ghost use Rattle.sy_verify.specs.Clauses.{PosesFor};

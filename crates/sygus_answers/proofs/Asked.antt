@@ -6,8 +6,8 @@ use Rattle.sy_scope_names.specs.Contexts.{Context}
 use Rattle.sy_scope_steps.specs.Files.{file_read}
 use Rattle.sy_scope_names.specs.Jobs.{Wish, wish_of, wished}
 use Rattle.sy_reply.specs.Writable.{IsTitled}
-use Rattle.sy_scope_laws.specs.Titled.{AreNamed}
-use Rattle.sy_scope_laws.proofs.FilesNamed.{files_named}
+use Rattle.sy_scope.specs.Titled.{AreNamed}
+use Rattle.sy_scope.proofs.FilesNamed.{files_named}
 
 -- the context that a file leads to, where it asks for this
 record LeadsTo (read : Result Context Refused) (wish : Wish) : Type 0 where

@@ -1,3 +1,9 @@
 pub mod Asked
+pub mod Complete
+pub mod Computing
 pub mod Lines
+pub mod Named
+pub mod Ranges
 pub mod RuledOut
+pub mod Seeking
+pub mod Statuses

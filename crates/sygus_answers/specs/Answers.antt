@@ -8,10 +8,10 @@ use Rattle.sy_query_limits.specs.declared.FailName.{FailName}
 use Rattle.sy_query_limits.specs.declared.FailName.TheVariants as names
 use Rattle.sy_linear_known.specs.Stored.{tree_shape_of}
 use Rattle.sy_linear_known.specs.declared.tree.Tree.{Tree}
-use Rattle.sy_intsolve_trees.specs.Budgets as int_budgets
+use Rattle.sy_intsolve_cuts.specs.Budgets as int_budgets
 use Rattle.sy_bits.specs.Proofs as bits
 use Rattle.sy_bits.specs.declared.answers.BvProof.{BvProof}
-use Rattle.sy_text_reader.specs.Spelling.{item_text}
+use Rattle.sy_text.specs.Spelling.{item_text}
 use Rattle.sy_proof.specs.Logs.{log_item}
 use Rattle.sy_proof.specs.Trees.{tree_item}
 use Rattle.sygus_replies.specs.Replies.{Reply, Defined, Infeasible, Failed, Shown, reply_of, shown_of, if_asked}

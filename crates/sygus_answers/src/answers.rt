@@ -6,7 +6,7 @@ ghost use Rattle.sy_io.specs.Causes.{Rose};
 use sy_bits::{BvProof, BvSpent};
 use sy_intsolve::{IntSpent, Tree};
 use sy_io::Sink;
-use sy_loop_outcome::Outcome;
+use sy_loop_spec::Outcome;
 use sy_meaning_integers::IntTheory;
 use sy_meaning_words::BvTheory;
 use sy_terms::Seq;

@@ -10,11 +10,11 @@ use Rattle.sy_terms.specs.declared.sort.Sort.{Sort}
 use Rattle.sy_terms.specs.declared.sort.Sort.TheVariants as sorts
 use Rattle.sy_terms.specs.declared.term.Def.{Def}
 use Rattle.sy_terms.specs.declared.term.Term.{Term}
-use Rattle.sy_terms_laws.specs.Evaluation.{BodiesFit, TermFits, FitsWith, GivesValue, scope_with, wanted_functions, can_compute}
+use Rattle.sy_terms_operators.specs.Evaluation.{BodiesFit, TermFits, FitsWith, GivesValue, scope_with, wanted_functions, can_compute}
 use Rattle.sy_grammar_base.specs.Fits.{FitInTurn, IsTruth}
 use Rattle.sy_grammar_base.specs.Questions.{question_of, signatures}
 use Rattle.sy_grammar_base.specs.declared.problem.Problem.{Problem}
-use Rattle.sygus_search.proofs.Computing.{AreTotal, none_total, more_total, computes, body_total, definitions_total}
+use Rattle.sygus_answers.proofs.Computing.{AreTotal, none_total, more_total, computes, body_total, definitions_total}
 use Rattle.sygus_drills.specs.Counts.{AlwaysFit, is_met}
 
 functions_are : {T N : Type 0} (number : N → Val) (defs : List (Def T N)) (terms : List (Term T N)) → wanted_functions number defs terms ≡ map (function_from (functions (bodies number defs))) (map (expr_of number) terms)

@@ -6,14 +6,14 @@ use Rattle.sy_terms.specs.declared.theory.Theory.{Ghosts as TheoryOf}
 use Rattle.sy_grammar_base.specs.Questions.{Question}
 use Rattle.sy_query_limits.specs.declared.Limits.{Limits}
 use Rattle.sy_query_base.specs.declared.decide.Decide.{Ghosts as DecideOf}
-use Rattle.sy_loop_outcome.specs.declared.outcome.Outcome.{Outcome}
-use Rattle.sy_loop_outcome.specs.declared.outcome.Outcome.TheVariants.{Found, Infeasible, Fail}
-use Rattle.sygus_drill.specs.Examples.{examples}
-use Rattle.sygus_drill_laws.specs.Asked.{AsksFor, constraint}
-use Rattle.sygus_drill_laws.proofs.Lengths.{thousand}
+use Rattle.sy_loop_spec.specs.declared.outcome.Outcome.{Outcome}
+use Rattle.sy_loop_spec.specs.declared.outcome.Outcome.TheVariants.{Found, Infeasible, Fail}
+use Rattle.sygus_drills.specs.Examples.{examples}
+use Rattle.sygus_drills.specs.Asked.{AsksFor, constraint}
+use Rattle.sygus_drills.proofs.Lengths.{thousand}
 use Rattle.sygus_replies.specs.Replies.{reply_for}
 use Rattle.sygus_words.specs.declared.settings.Mode.{Mode}
-use Rattle.sygus_search.specs.RightAnswers.{RightOutcomeFor}
+use Rattle.sygus_answers.specs.RightAnswers.{RightOutcomeFor}
 use Rattle.sygus_drills.specs.DrillAnswers.{HasSolution}
 
 -- bodies that are found are a solution

@@ -10,7 +10,7 @@ use Rattle.sy_bits.specs.declared.answers.BvSpent.{BvSpent}
 use Rattle.sy_grammar_base.specs.Fits.{QuestionFits}
 use Rattle.sy_grammar_base.specs.Questions.{Question, question_of}
 use Rattle.sy_grammar_base.specs.declared.problem.Problem.{Problem}
-use Rattle.sy_loop_outcome.specs.declared.outcome.Outcome.{Outcome}
+use Rattle.sy_loop_spec.specs.declared.outcome.Outcome.{Outcome}
 use Rattle.sy_meaning_integers.specs.declared.theory.IntTheory.{IntTheory}
 use Rattle.sy_meaning_words.specs.Vectors as vectors
 use Rattle.sy_meaning_words.specs.declared.theory.BvTheory.{BvTheory}
@@ -23,19 +23,19 @@ use Rattle.sy_scope_causes.specs.declared.cause.Refused.{Refused}
 use Rattle.sy_scope_steps.specs.Files.{file_read}
 use Rattle.sy_scope_names.specs.Jobs.{Wish, wished}
 use Rattle.sy_scope_causes.specs.declared.titles.Titles.{Titles}
-use Rattle.sygus_search.specs.RightAnswers.{RightOutcome}
+use Rattle.sygus_answers.specs.RightAnswers.{RightOutcome}
 use Rattle.sygus_drills.specs.DrillAnswers.{AnswersDrill}
-use Rattle.sygus_drill.specs.Examples.{examples}
-use Rattle.sygus_drill.specs.Files.{drill_file}
-use Rattle.sygus_drill_laws.specs.Asked.{Asks, AsksFor}
-use Rattle.sygus_drill_laws.proofs.Files.{files_are_read}
+use Rattle.sygus_drills.specs.Examples.{examples}
+use Rattle.sygus_drills.specs.Files.{drill_file}
+use Rattle.sygus_drills.specs.Asked.{Asks, AsksFor}
+use Rattle.sygus_drills.proofs.Files.{files_are_read}
 use Rattle.sygus_replies.specs.Answered.{AreRight}
 use Rattle.sygus_replies.specs.Replies.{reply_of}
 use Rattle.sygus_replies.proofs.Steps.{right-more, right-none}
 use Rattle.sygus_words.specs.declared.settings.Mode.TheVariants.{Drill}
 use Rattle.sygus_input.specs.Inputs.{AskDrill}
 use Rattle.sygus_input.proofs.Asking.{one_drill_asked}
-use Rattle.sygus_search.proofs.Named.{bits_named}
+use Rattle.sygus_answers.proofs.Named.{bits_named}
 use Rattle.sygus_answers.specs.Answers.{AreNamedFor}
 use Rattle.sygus_drills.specs.Drills.{Drilled, EndsDrill, IsProblemOf}
 use Rattle.sygus_answers.specs.declared.answers.Answers.{Answers}

@@ -1,4 +1,11 @@
 pub mod Closed
+pub mod Commands
 pub mod Counting
 pub mod Drilled
 pub mod Drilling
+pub mod Files
+pub mod Laid
+pub mod Lengths
+pub mod Reading
+pub mod Steps
+pub mod Texts

@@ -2,9 +2,9 @@
 use Rattle.std.specs.Prelude.{ℕ, ◌≡◌, List, [], ◌∷◌}
 use Rattle.sy_grammar_base.specs.Questions.{Question}
 use Rattle.sy_grammar_base.specs.Solving.{AreMembers, Solves}
-use Rattle.sygus_drill.specs.Lines.{drill_line}
-use Rattle.sygus_drill.specs.declared.line.DrillEnd.{DrillEnd}
-use Rattle.sygus_drill.specs.declared.line.DrillEnd.TheVariants as ends
+use Rattle.sygus_drills.specs.Lines.{drill_line}
+use Rattle.sygus_drills.specs.declared.line.DrillEnd.{DrillEnd}
+use Rattle.sygus_drills.specs.declared.line.DrillEnd.TheVariants as ends
 use Rattle.sygus_replies.specs.Replies.{Reply, Defined, Infeasible, Failed}
 
 -- how the drill of a right reply ends: a definition meets each of the 1,000 examples

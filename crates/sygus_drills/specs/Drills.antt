@@ -9,16 +9,16 @@ use Rattle.sy_query_limits.specs.declared.Limits.{Limits}
 use Rattle.sy_scope.specs.Fit.{ProblemsFit}
 use Rattle.sy_scope_steps.specs.Files.{file_read}
 use Rattle.sy_scope_names.specs.Jobs.{Wish, wished}
-use Rattle.sygus_drill.specs.Files.{drill_file}
-use Rattle.sygus_drill.specs.Lines.{drill_line}
-use Rattle.sygus_drill_laws.specs.Asked.{Asks}
+use Rattle.sygus_drills.specs.Files.{drill_file}
+use Rattle.sygus_drills.specs.Lines.{drill_line}
+use Rattle.sygus_drills.specs.Asked.{Asks}
 use Rattle.sygus_replies.specs.Replies.{Reply}
 use Rattle.sygus_words.specs.declared.settings.Mode.TheVariants.{Drill}
 use Rattle.sygus_drills.specs.DrillAnswers.{drill_end}
 use Rattle.sygus_answers.specs.declared.answers.Answers.{Answers}
 use Rattle.sygus_answers.specs.declared.answers.Answers.TheVariants.{Idle}
 use Rattle.sygus_answers.specs.Answers.{replies_of, AreOfLogic}
-use Rattle.sygus_search.specs.RightAnswers.{AreRightAnswers}
+use Rattle.sygus_answers.specs.RightAnswers.{AreRightAnswers}
 
 -- the number's file is in the profile, and what it asks are these problems
 pub record IsProblemOf {T : Type 0} (number : ℕ) (problems : List (Problem T Word)) : Type 0 where

@@ -8,6 +8,7 @@ ghost use Rattle.sygus_answers.specs.Answers.{replies_of, AreNamedFor};
 ghost use Rattle.sygus_drills.specs.Drills.{Drilled, EndsDrill, IsProblemOf};
 
 use crate::drill_answers;
+use crate::file::drill_file;
 use std::alloc::Global;
 use sy_bits::BvDecide;
 use sy_grammar_base::Problem;
@@ -17,7 +18,6 @@ use sy_query_limits::Limits;
 use sy_scope::{Job, ScopeEnd, read_file};
 use sy_terms::Seq;
 use sygus_answers::{Answers, Ended, unanswered};
-use sygus_drill::drill_file;
 
 /// Answers the problem of a number's file, and writes the line that tells how the drill ended.
 pub fn drill<O: Sink, E: Sink>(
@@ -56,7 +56,8 @@ fn drilled<O: Sink>(alloc: Global, number: u32, limits: &Limits, out: &mut O) ->
     ensures named { IfOk result (λ ended. AreNamedFor ended.answers) }
     ensures write { IfOk result (λ ended. ended.status ≡ 5 → Rose (O.faults out.old) (O.faults out.new)) }
     ensures cut_off { IfOk result (λ ended. ended.status ≡ 5 →
-        Drilled number limits.now ended.answers (λ line. (count : ℕ) × Appends (O.written out.old) (O.written out.new) (take count line))) }
+        Drilled number limits.now ended.answers (λ line. (count : ℕ) ×
+        Appends (O.written out.old) (O.written out.new) (take count line))) }
     ensures unwritten { OnErr result (O.written out.new ≡ O.written out.old) }
 {
     let problems = read_drill(alloc, number)?;

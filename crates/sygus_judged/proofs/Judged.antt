@@ -18,11 +18,11 @@ use Rattle.sygus_verdicts.proofs.Steps.{appended_nothing, lines-none}
 use Rattle.sygus_verdicts.specs.Verdicts.{Verdict, verdict_on, verdicts_status}
 use Rattle.sygus_words.specs.declared.settings.Settings.{Settings}
 use Rattle.sygus_verdicts.specs.Lines.{memory_line, verdict_lines, WritesMostLines}
-use Rattle.sy_reply_statements.specs.Ends.{ReplyReading, RepliesEndAs, ◌>>=◌}
-use Rattle.sy_reply_statements.specs.Statements.{Statement}
-use Rattle.sy_reply_statements.specs.declared.end.ReplyEnd.{ReplyEnd}
-use Rattle.sy_reply_statements.specs.declared.end.ReplyEnd.TheVariants as reply_ends
-use Rattle.sy_scope_front.specs.Fronts.{front, front_length}
+use Rattle.sy_reply.specs.Ends.{ReplyReading, RepliesEndAs, ◌>>=◌}
+use Rattle.sy_reply.specs.Statements.{Statement}
+use Rattle.sy_reply.specs.declared.end.ReplyEnd.{ReplyEnd}
+use Rattle.sy_reply.specs.declared.end.ReplyEnd.TheVariants as reply_ends
+use Rattle.sy_scope.specs.Fronts.{front, front_length}
 use Rattle.sy_scope_names.specs.Jobs.{Wish, wished}
 use Rattle.sy_scope_steps.specs.Files.{file_read}
 use Rattle.sygus_answers.specs.declared.answers.Answers.{Answers}

@@ -1,12 +1,12 @@
 -- How the reading and the judging of replies ended.
 use Rattle.std.specs.Prelude.{ℕ, ◌≡◌, ◌≤◌, ◌⊎◌, List, [], Option, Err}
 use Rattle.std.specs.Io.KnownBytes.{Appends}
-use Rattle.sy_reply_statements.specs.Ends.{ReplyReading}
-use Rattle.sy_reply_statements.specs.Lines.{reply_refusal_line}
-use Rattle.sy_reply_statements.specs.Statements.{Statement}
-use Rattle.sy_reply_statements.specs.declared.end.ReplyEnd.{ReplyEnd}
-use Rattle.sy_reply_statements.specs.declared.end.ReplyEnd.TheVariants as ends
-use Rattle.sy_reply_statements.specs.declared.refused.ReplyRefused.{ReplyRefused}
+use Rattle.sy_reply.specs.Ends.{ReplyReading}
+use Rattle.sy_reply.specs.StatementsLines.{reply_refusal_line}
+use Rattle.sy_reply.specs.Statements.{Statement}
+use Rattle.sy_reply.specs.declared.end.ReplyEnd.{ReplyEnd}
+use Rattle.sy_reply.specs.declared.end.ReplyEnd.TheVariants as ends
+use Rattle.sy_reply.specs.declared.refused.ReplyRefused.{ReplyRefused}
 use Rattle.sy_scope_names.specs.Jobs.{Wish}
 use Rattle.sygus_answers.specs.declared.answers.Answers.{Answers}
 use Rattle.sygus_answers.specs.declared.answers.Answers.TheVariants.{Idle}

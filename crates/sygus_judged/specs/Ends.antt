@@ -2,11 +2,11 @@
 use Rattle.std.specs.Prelude.{ℕ, ◌≡◌, ◌<◌, ◌≤◌, ◌⊎◌, List, length, Option, Ok, Err}
 use Rattle.std.specs.Io.KnownBytes.{Appends}
 use Rattle.sy_io.specs.Source.{Holding}
-use Rattle.sy_reply_lines.specs.Lines.{refusal_line}
-use Rattle.sy_reply_statements.specs.Lines.{reply_refusal_line}
-use Rattle.sy_reply_statements.specs.declared.refused.ReplyRefused.{ReplyRefused}
+use Rattle.sy_reply.specs.Lines.{refusal_line}
+use Rattle.sy_reply.specs.StatementsLines.{reply_refusal_line}
+use Rattle.sy_reply.specs.declared.refused.ReplyRefused.{ReplyRefused}
 use Rattle.sy_scope_causes.specs.declared.cause.Refused.{Refused}
-use Rattle.sy_scope_front.specs.Fronts.{front, front_length}
+use Rattle.sy_scope.specs.Fronts.{front, front_length}
 use Rattle.sy_scope_names.specs.Jobs.{Wish, wished}
 use Rattle.sy_scope_steps.specs.Files.{file_read}
 use Rattle.sygus_answers.specs.declared.answers.Answers.{Answers}

@@ -11,13 +11,13 @@ use Rattle.sy_grammar_base.specs.Questions.{Question}
 use Rattle.sy_query_limits.specs.declared.FailName.{FailName}
 use Rattle.sy_query_limits.specs.declared.Limits.{Limits}
 use Rattle.sy_query_base.specs.Asked.{Query}
-use Rattle.sy_intsolve_trees.specs.Budgets as int_budgets
+use Rattle.sy_intsolve_cuts.specs.Budgets as int_budgets
 use Rattle.sy_intsolve.specs.Proofs as int_proofs
 use Rattle.sy_bits.specs.Proofs as bits
 use Rattle.sy_scope_causes.specs.declared.titles.Titles.{Titles}
 use Rattle.sy_scope_names.specs.Jobs.{Wish}
-use Rattle.sy_reply_statements.specs.Ends.{ReplyReading}
-use Rattle.sy_reply_statements.specs.Statements.{Statement}
+use Rattle.sy_reply.specs.Ends.{ReplyReading}
+use Rattle.sy_reply.specs.Statements.{Statement}
 use Rattle.sy_reply_reader.specs.Replies.{statements_from}
 use Rattle.sy_text_items.specs.Items.{Item}
 use Rattle.sy_verify.specs.Checking.{IsChecked}
@@ -25,16 +25,16 @@ use Rattle.sy_verify.specs.Spelling.{IsSpelled}
 use Rattle.sy_verify.specs.declared.checked.Checked.{Checked}
 use Rattle.sy_verify.specs.declared.rechecked.Rechecked.{Rechecked}
 use Rattle.sy_verify.specs.declared.spelled.Spelled.{Spelled}
-use Rattle.sy_verify_logs.specs.Logs as logs
-use Rattle.sy_verify_trees.specs.Trees as trees
+use Rattle.sy_verify_proofs.specs.Logs as logs
+use Rattle.sy_verify_proofs.specs.Trees as trees
 use Rattle.sygus_answers.specs.Answers.{AreOfLogic}
 use Rattle.sygus_answers.specs.declared.answers.Answers.{Answers}
 use Rattle.sygus_answers.specs.declared.answers.Answers.TheVariants.{Idle, Ints, Bits, IntChecks, BitChecks, IntRechecks, BitRechecks, IntSpellings, BitSpellings}
 use Rattle.sygus_verdicts.specs.Judged.{AreJudged}
 use Rattle.sygus_verdicts.specs.Lines.{verdict_lines, WritesMostLines}
 use Rattle.sygus_verdicts.specs.Verdicts.{Verdict, verdict_on, verdicts_status}
-use Rattle.sygus_judges.specs.Found.{verdict_found}
-use Rattle.sygus_judges.specs.Proofs.{IsRecheckedWith, verdict_rechecked, verdict_spelled}
+use Rattle.sygus_verdicts.specs.Found.{verdict_found}
+use Rattle.sygus_verdicts.specs.Proofs.{IsRecheckedWith, verdict_rechecked, verdict_spelled}
 use Rattle.sygus_words.specs.declared.settings.Mode.{Mode}
 use Rattle.sygus_words.specs.declared.settings.Mode.TheVariants.{Solve, Least, Check, Recheck, Clauses, Drill}
 use Rattle.sygus_words.specs.declared.settings.Settings.{Settings}

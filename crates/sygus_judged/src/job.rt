@@ -9,9 +9,9 @@ ghost use Rattle.sy_terms.specs.Values.{Whole};
 ghost use Rattle.sy_terms.specs.declared.sort.Logic.TheVariants.{Lia, Bv};
 ghost use Rattle.sy_grammar_base.specs.Questions.{question_of};
 ghost use Rattle.sy_reply_reader.specs.Replies.{statements_from};
-ghost use Rattle.sy_reply_statements.specs.Ends.{ReadsReplies};
-ghost use Rattle.sy_reply_statements.specs.Fitting.{AreStatedFor};
-ghost use Rattle.sy_reply_statements.specs.Statements.{statement_of};
+ghost use Rattle.sy_reply.specs.Ends.{ReadsReplies};
+ghost use Rattle.sy_reply.specs.Fitting.{AreStatedFor};
+ghost use Rattle.sy_reply.specs.Statements.{statement_of};
 ghost use Rattle.sy_scope.specs.Fit.{JobFits, ProblemsFit};
 ghost use Rattle.sy_scope.specs.Read.{wish_in, wish_over};
 ghost use Rattle.sygus_verdicts.specs.Lines.{memory_line};
@@ -26,16 +26,14 @@ use sy_intsolve::IntDecide;
 use sy_io::Sink;
 use sy_meaning_integers::IntTheory;
 use sy_meaning_words::BvTheory;
+use sy_reply::{ReplyEnd, reply_refusal_text};
 use sy_reply_reader::read_reply;
-use sy_reply_statements::{ReplyEnd, reply_refusal_text};
 use sy_scope::Job;
 use sy_scope_causes::Titles;
 use sy_terms::{Logic, Seq, Theory};
-use sy_verify_logs::{LogChecker, LogClauses};
-use sy_verify_trees::{NoClauses, TreeChecker};
+use sy_verify_proofs::{LogChecker, LogClauses, NoClauses, TreeChecker};
 use sygus_answers::{Answers, Ended, unanswered};
-use sygus_judges::{Rechecking, Spelling, Verifying};
-use sygus_verdicts::{Claims, judge_all};
+use sygus_verdicts::{Claims, Rechecking, Spelling, Verifying, judge_all};
 use sygus_words::{Mode, Settings};
 
 /// Replies to be judged: the settings of the run, the bytes of the file, and the offset from which they stand.
@@ -84,7 +82,8 @@ pub(crate) fn judge_job<O: Sink, E: Sink>(
 /// The replies to no problem: there is none, or the first one is refused.
 fn judge_none<E: Sink>(alloc: Global, replies: &Replies<'_>, err: &mut E) -> Ended
     requires { replies.now.at ≤ length replies.now.file.now }
-    ensures ends { (out : Option (List ℕ)) → EndsReplies replies.now.settings.now replies.now.file.now replies.now.at (wish_in Job.Idle)
+    ensures ends { (out : Option (List ℕ)) →
+        EndsReplies replies.now.settings.now replies.now.file.now replies.now.at (wish_in Job.Idle)
         result.status result.answers out out (E.written err.old) (E.written err.new) }
     ensures write { result.status ≡ 5 → Rose (E.faults err.old) (E.faults err.new) }
 {

@@ -6,10 +6,10 @@ use Rattle.sy_terms.specs.Denoted.{expr_of}
 use Rattle.sy_terms.specs.declared.theory.Theory.{Ghosts as TheoryOf}
 use Rattle.sy_query_limits.specs.declared.FailName.{FailName}
 use Rattle.sy_query_base.specs.declared.decide.Decide.{Ghosts as DecideOf}
-use Rattle.sy_loop_outcome.specs.Names.{fail_name_of}
-use Rattle.sy_loop_outcome.specs.declared.outcome.Outcome.{Outcome}
-use Rattle.sy_loop_outcome.specs.declared.outcome.Outcome.TheVariants.{Found, Fail}
-use Rattle.sy_loop_outcome.specs.declared.outcome.Outcome.TheVariants as outcomes
+use Rattle.sy_loop_spec.specs.Names.{fail_name_of}
+use Rattle.sy_loop_spec.specs.declared.outcome.Outcome.{Outcome}
+use Rattle.sy_loop_spec.specs.declared.outcome.Outcome.TheVariants.{Found, Fail}
+use Rattle.sy_loop_spec.specs.declared.outcome.Outcome.TheVariants as outcomes
 use Rattle.sygus_replies.specs.declared.prints.Prints.{Ghosts as PrintsOf}
 
 -- a body for each function to be found; that no bodies solve the problem; or the name of what ended the search

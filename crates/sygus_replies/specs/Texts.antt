@@ -2,7 +2,7 @@
 use Rattle.std.specs.Prelude.{ℕ, ◌+◌, List, [], ◌∷◌, ◌++◌, codes}
 use Rattle.sy_grammar_base.specs.Questions.{Question}
 use Rattle.sy_scope_causes.specs.declared.titles.Titles.{Titles}
-use Rattle.sy_reply_lines.specs.Lines.{fail_line}
+use Rattle.sy_reply.specs.Lines.{fail_line}
 use Rattle.sy_reply.specs.Replies.{line, reply_text}
 use Rattle.sygus_replies.specs.Replies.{Reply, Defined, Infeasible, Failed, Shown}
 

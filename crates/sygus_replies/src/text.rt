@@ -9,10 +9,9 @@ use crate::prints::Prints;
 use std::alloc::Global;
 use sy_grammar_base::Problem;
 use sy_io::Bytes;
-use sy_loop_outcome::{Outcome, fail_name};
+use sy_loop_spec::{Outcome, fail_name};
 use sy_query_base::Decide;
-use sy_reply::reply_text;
-use sy_reply_lines::fail_line;
+use sy_reply::{fail_line, reply_text};
 use sy_scope_causes::Titles;
 use sy_terms::{Theory, Want};
 

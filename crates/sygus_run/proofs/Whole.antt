@@ -6,7 +6,7 @@ use Rattle.std.proofs.lemmas.Bool.{true≢false}
 use Rattle.sy_io.specs.Causes.{Rose}
 use Rattle.sy_io.specs.Source.{Holding, bytes_under}
 use Rattle.sy_query_limits.specs.declared.Limits.{Limits}
-use Rattle.sy_scope_front.specs.Fronts.{front, front_length}
+use Rattle.sy_scope.specs.Fronts.{front, front_length}
 use Rattle.sy_scope_steps.specs.Files.{file_read}
 use Rattle.sy_scope_names.specs.Jobs.{Wish, wished}
 use Rattle.sygus_words.proofs.Readings.{one_reading}
@@ -20,8 +20,8 @@ use Rattle.sygus_input.specs.declared.input.InputFault.{InputFault}
 use Rattle.sygus_input.specs.declared.input.InputFault.TheVariants as faults
 use Rattle.sygus_answers.specs.Answers.{replies_of}
 use Rattle.sygus_answers.specs.declared.answers.Answers.{Answers}
-use Rattle.sygus_search.specs.Complete.{AreComplete}
-use Rattle.sygus_search.proofs.Complete.{answers_complete}
+use Rattle.sygus_answers.specs.Complete.{AreComplete}
+use Rattle.sygus_answers.proofs.Complete.{answers_complete}
 use Rattle.sygus_solve.specs.Files.{AnswersFile, RefusesFile, WritesAll}
 use Rattle.sygus_judged.specs.Ends.{JudgesFile, RefusesFront, RefusesReplies}
 use Rattle.sygus_judged.specs.Judging.{replies_read, wants_proofs}

@@ -11,10 +11,10 @@ use Rattle.sygus_words.specs.declared.settings.Mode.{Mode}
 use Rattle.sygus_words.specs.declared.settings.Mode.TheVariants.{Solve, Least, Check, Recheck, Clauses, Drill}
 use Rattle.sygus_words.specs.declared.settings.Settings.{Settings}
 use Rattle.sy_scope_causes.specs.declared.cause.Refused.{Refused}
-use Rattle.sy_reply_lines.specs.Lines.{refusal_line}
-use Rattle.sy_reply_statements.specs.Statements.{Statement}
-use Rattle.sy_reply_statements.specs.declared.refused.ReplyRefused.{ReplyRefused}
-use Rattle.sy_scope_front.specs.Fronts.{front, front_length}
+use Rattle.sy_reply.specs.Lines.{refusal_line}
+use Rattle.sy_reply.specs.Statements.{Statement}
+use Rattle.sy_reply.specs.declared.refused.ReplyRefused.{ReplyRefused}
+use Rattle.sy_scope.specs.Fronts.{front, front_length}
 use Rattle.sy_scope_steps.specs.Files.{file_read}
 use Rattle.sy_scope_names.specs.Jobs.{Wish, wished}
 use Rattle.sygus_replies.specs.Texts.{texts, answer_lines, words_line, read_line, too_long_line, memory_line}
@@ -22,8 +22,8 @@ use Rattle.sygus_replies.specs.Answered.{WritesMost}
 use Rattle.sygus_answers.specs.declared.answers.Answers.{Answers}
 use Rattle.sygus_answers.specs.declared.answers.Answers.TheVariants.{Idle}
 use Rattle.sygus_answers.specs.Answers.{replies_of, shown_in, AreOfLogic}
-use Rattle.sygus_search.specs.Complete.{AreComplete}
-use Rattle.sygus_search.specs.RightAnswers.{AreRightAnswers}
+use Rattle.sygus_answers.specs.Complete.{AreComplete}
+use Rattle.sygus_answers.specs.RightAnswers.{AreRightAnswers}
 use Rattle.sygus_judged.specs.Judging.{replies_read, wants_proofs}
 
 -- the file of these words is in the profile, and this is what it asks for

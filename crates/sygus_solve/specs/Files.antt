@@ -3,7 +3,7 @@ use Rattle.std.specs.Prelude.{ℕ, Bool, ◌≡◌, ◌⊎◌, List, length, Opt
 use Rattle.std.specs.Io.KnownBytes.{Appends}
 use Rattle.sygus_words.specs.declared.settings.Settings.{Settings}
 use Rattle.sy_scope_causes.specs.declared.cause.Refused.{Refused}
-use Rattle.sy_reply_lines.specs.Lines.{refusal_line}
+use Rattle.sy_reply.specs.Lines.{refusal_line}
 use Rattle.sy_scope_steps.specs.Files.{file_read}
 use Rattle.sy_scope_names.specs.Jobs.{Wish, wished}
 use Rattle.sygus_replies.specs.Texts.{texts, answer_lines}
@@ -11,7 +11,7 @@ use Rattle.sygus_replies.specs.Answered.{WritesMost}
 use Rattle.sygus_answers.specs.declared.answers.Answers.{Answers}
 use Rattle.sygus_answers.specs.declared.answers.Answers.TheVariants.{Idle}
 use Rattle.sygus_answers.specs.Answers.{replies_of, shown_in, AreOfLogic}
-use Rattle.sygus_search.specs.RightAnswers.{AreRightAnswers}
+use Rattle.sygus_answers.specs.RightAnswers.{AreRightAnswers}
 
 -- the file is in the profile, the answers so far are right, and this was written of what it asks for
 pub record AnswersFile (settings : Settings) (file : List ℕ) (answers : Answers) (Written : Wish → Type 0) : Type 0 where

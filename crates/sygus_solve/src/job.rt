@@ -9,7 +9,7 @@ ghost use Rattle.sygus_replies.specs.Answered.{WritesMost, WritesMostFails};
 ghost use Rattle.sygus_replies.specs.Replies.{IsSettled, IsFail};
 ghost use Rattle.sygus_replies.specs.Texts.{texts, answer_lines, memory_line};
 ghost use Rattle.sygus_answers.specs.Answers.{replies_of, shown_in, AreOfLogic, AreNamedFor};
-ghost use Rattle.sygus_search.specs.RightAnswers.{AreRightAnswers};
+ghost use Rattle.sygus_answers.specs.RightAnswers.{AreRightAnswers};
 
 use crate::printers::{Logs, Trees};
 use crate::problems::solve;
@@ -23,7 +23,8 @@ use sy_scope::Job;
 use sygus_answers::{Answers, Ended};
 use sygus_words::Settings;
 
-/// Answers the problems of a file in order, each by the search of the settings' mode with the solver of the file's logic.
+/// Answers the problems of a file in order, each by the search of the settings' mode with the solver of the file's
+/// logic.
 pub(crate) fn answer<O: Sink, E: Sink>(
     alloc: Global,
     job: Job,

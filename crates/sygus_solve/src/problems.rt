@@ -7,17 +7,17 @@ ghost use Rattle.sygus_replies.specs.Answerable.{IsAnswerable, IsAnswerableFor};
 ghost use Rattle.sygus_replies.specs.Answered.{WritesMost, WritesMostFails, AnswersNext, BreaksNext};
 ghost use Rattle.sygus_replies.specs.Replies.{IsSettled, IsFail, reply_for, replies_for, shown_for, all_shown_for};
 ghost use Rattle.sygus_replies.specs.Texts.{texts, answer_lines, memory_line};
-ghost use Rattle.sygus_search.specs.RightAnswers.{RightOutcomeFor, AreRightFor};
+ghost use Rattle.sygus_answers.specs.RightAnswers.{RightOutcomeFor, AreRightFor};
 
 use std::alloc::Global;
 use sy_grammar_base::Problem;
 use sy_io::Sink;
-use sy_loop_outcome::Outcome;
+use sy_loop_spec::Outcome;
 use sy_query_base::Decide;
 use sy_scope_causes::Titles;
 use sy_terms::{Seq, Theory, Want};
+use sygus_answers::{Solved, sought, status_of};
 use sygus_replies::{Prints, WriteFault, answer_line, answer_text, last, write_both};
-use sygus_search::{Solved, sought, status_of};
 use sygus_words::Settings;
 
 /// Answers the problems in order, each by the search of the settings' mode with this solver. Of each answer the text,
@@ -94,6 +94,7 @@ enum Stop {
 }
 
 /// Answers one problem, and writes its text and its line.
+/// Eight parameters: the contract speaks of what each of the two outputs was given, so they stay apart.
 fn answer_next<T: Theory, D: Decide<T>, S: Prints<D::Proof>, O: Sink, E: Sink>(
     alloc: Global,
     titles: &Titles,

@@ -4,8 +4,8 @@ use Rattle.std.specs.Prelude.{All, slice_get}
 use Rattle.std.proofs.lemmas.List.Elements.{All-head, All-tail}
 use Rattle.sy_terms.specs.declared.theory.Theory.{Ghosts as TheoryOf}
 use Rattle.sy_grammar_base.specs.declared.problem.Problem.{Problem}
-use Rattle.sy_reply_statements.specs.Fitting.{IsStatedFor, AreStatedFor}
-use Rattle.sy_reply_statements.specs.declared.stated.Stated.{Stated}
+use Rattle.sy_reply.specs.Fitting.{IsStatedFor, AreStatedFor}
+use Rattle.sy_reply.specs.declared.stated.Stated.{Stated}
 
 -- what holds of each item holds of that at a place
 pub holds_at : {X : Type 0} (P : X → Type 0) (xs : List X) (k : ℕ) (x : X) → slice_get xs k ≡ Some x → All P xs → P x

@@ -1,3 +1,5 @@
-pub mod Written
 pub mod Claimed
+pub mod Printable
+pub mod Proved
 pub mod Steps
+pub mod Written

@@ -12,7 +12,7 @@ use Rattle.sy_terms.specs.Expr.{Expr}
 use Rattle.sy_terms.specs.declared.theory.Theory.{Ghosts as TheoryOf}
 use Rattle.sy_grammar_base.specs.Questions.{Question, question_of}
 use Rattle.sy_query_limits.specs.declared.Limits.{Limits}
-use Rattle.sy_reply_statements.specs.Statements.{Statement, statement_of}
+use Rattle.sy_reply.specs.Statements.{Statement, statement_of}
 use Rattle.sy_scope_causes.specs.declared.titles.Titles.{Titles}
 use Rattle.sygus_verdicts.specs.Judged.{AreJudged, IsJudged}
 use Rattle.sygus_verdicts.specs.Lines.{verdict_line, verdict_lines, WritesMostLines}

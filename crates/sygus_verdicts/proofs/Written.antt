@@ -8,7 +8,7 @@ use Rattle.sy_terms.specs.Theories.{valid}
 use Rattle.sy_terms.specs.Denoted.{val_of}
 use Rattle.sy_terms.specs.declared.sort.Value.{Value}
 use Rattle.std.proofs.lemmas.Option.{slice_get_past}
-use Rattle.sy_text_reader.specs.Spelling.{symbol_text}
+use Rattle.sy_text.specs.Spelling.{symbol_text}
 use Rattle.sy_scope_causes.specs.declared.titles.Title.{Title}
 use Rattle.sy_scope_causes.specs.declared.titles.Titles.{Titles}
 use Rattle.sygus_verdicts.specs.Lines.{title_text, verdict_text}

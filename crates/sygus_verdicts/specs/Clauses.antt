@@ -4,8 +4,8 @@ use Rattle.sy_terms.specs.declared.theory.Theory.{Ghosts as TheoryOf}
 use Rattle.sy_grammar_base.specs.Questions.{question_of}
 use Rattle.sy_grammar_base.specs.declared.problem.Problem.{Problem}
 use Rattle.sy_query_limits.specs.declared.Limits.{Limits}
-use Rattle.sy_reply_statements.specs.Statements.{statement_of}
-use Rattle.sy_reply_statements.specs.declared.stated.Stated.{Stated}
+use Rattle.sy_reply.specs.Statements.{statement_of}
+use Rattle.sy_reply.specs.declared.stated.Stated.{Stated}
 use Rattle.sygus_verdicts.specs.Judged.{IsJudged, AreJudged}
 use Rattle.sygus_verdicts.specs.Lines.{verdict_line}
 use Rattle.sygus_verdicts.specs.Verdicts.{Verdict, verdict_on}

@@ -3,7 +3,7 @@ use Rattle.std.specs.Prelude.{List, [], ◌∷◌, Option, Some, None}
 use Rattle.sy_text_items.specs.Items.{Item}
 use Rattle.sy_terms.specs.Expr.{Expr}
 use Rattle.sy_grammar_base.specs.Questions.{Question}
-use Rattle.sy_reply_statements.specs.Statements.{Statement, Nothing, Bodies}
+use Rattle.sy_reply.specs.Statements.{Statement, Nothing, Bodies}
 
 -- something is found exactly of bodies, and it is right
 abbrev pub IsJudged : {A : Type 0} → (Question → List Expr → Option Item → A → Type 0) → Question → Statement → Option A → Type 0

@@ -1,4 +1,6 @@
-pub mod Verdicts
-pub mod Lines
-pub mod Judged
 pub mod Clauses
+pub mod Found
+pub mod Judged
+pub mod Lines
+pub mod Proofs
+pub mod Verdicts

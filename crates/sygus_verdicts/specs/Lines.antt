@@ -2,11 +2,11 @@
 use Rattle.std.specs.Prelude.{ℕ, ◌+◌, ◌≤◌, ◌≡◌, ℤ, pos, negsuc, List, [], ◌∷◌, ◌++◌, codes, map, length, take, true, false, slice_get, Option, Some, None}
 use Rattle.std.specs.List.{concat}
 use Rattle.std.specs.Io.KnownBytes.{Appends}
-use Rattle.sy_text_reader.specs.Spelling.{symbol_text, numeral_text, vector_text}
+use Rattle.sy_text.specs.Spelling.{symbol_text, numeral_text, vector_text}
 use Rattle.sy_terms.specs.Values.{Val, Truth, Whole, Bits}
 use Rattle.sy_scope_causes.specs.declared.titles.Title.{Title}
 use Rattle.sy_scope_causes.specs.declared.titles.Titles.{Titles}
-use Rattle.sy_reply_lines.specs.Lines.{fail_name}
+use Rattle.sy_reply.specs.Lines.{fail_name}
 use Rattle.sygus_verdicts.specs.Verdicts.{Verdict, Holds, Accepted, Rejected, NoDefinitions, NotMember, Refuted, Budget, Clauses, NoClauses}
 
 -- a whole number; one below 0 as `(- n)`

@@ -18,7 +18,7 @@ pub trait Judge<T: Theory> {
     ghost use Rattle.sy_text_items.specs.Views.{item_of};
     ghost use Rattle.sy_terms.specs.Denoted.{expr_of};
     ghost use Rattle.sy_terms.specs.Expr.{Expr};
-    ghost use Rattle.sy_terms_laws.specs.Evaluation.{BodiesFit};
+    ghost use Rattle.sy_terms_operators.specs.Evaluation.{BodiesFit};
     ghost use Rattle.sy_grammar_base.specs.Fits.{QuestionFits};
     ghost use Rattle.sy_grammar_base.specs.Questions.{Question, question_of, signatures};
     ghost use Rattle.sy_query_limits.specs.declared.Limits.{Limits};

@@ -7,10 +7,10 @@ ghost use Rattle.sygus_verdicts.specs.Verdicts.{IsPrintable};
 use crate::judge::Judge;
 use std::alloc::Global;
 use sy_io::Bytes;
-use sy_reply_lines::put;
+use sy_reply::put;
 use sy_scope_causes::Titles;
 use sy_terms::{Theory, Want};
-use sy_text_writer::write_numeral;
+use sy_text::write_numeral;
 
 /// The line `check-synth K VERDICT` of the reply number `check`, counted from 1, of which this was found where it gives
 /// definitions. It ends with byte 10.

@@ -7,11 +7,11 @@ ghost use Rattle.sygus_verdicts.specs.Verdicts as spec;
 
 use sy_io::Bytes;
 use sy_query_limits::FailName;
-use sy_reply_lines::{name_text, put};
+use sy_reply::{name_text, put};
 use sy_scope_causes::Titles;
 use sy_seq::Want;
 use sy_terms::{Sort, Theory, Value};
-use sy_text_writer::{write_numeral, write_symbol, write_vector};
+use sy_text::{write_numeral, write_symbol, write_vector};
 
 /// Appends a whole number; one below 0 as `(- n)`.
 fn put_whole(out: &mut Bytes, number: i128) -> Result<(), Want>

@@ -3,7 +3,7 @@ ghost use Rattle.std.specs.Prelude.{◌≡◌, ◌≢◌, ◌≤◌, ◌<◌, �
 ghost use Rattle.std.specs.Io.KnownBytes.{Appends};
 ghost use Rattle.sy_io.specs.Causes.{Rose};
 ghost use Rattle.sy_grammar_base.specs.Fits.{ProblemFits};
-ghost use Rattle.sy_reply_statements.specs.Fitting.{IsStatedFor, AreStatedFor};
+ghost use Rattle.sy_reply.specs.Fitting.{IsStatedFor, AreStatedFor};
 ghost use Rattle.sygus_verdicts.specs.Clauses.{IsJudgedFor, AreJudgedFor, JudgesNext, verdict_for, verdicts_for};
 ghost use Rattle.sygus_verdicts.specs.Lines.{verdict_lines, memory_line, WritesMostLines};
 ghost use Rattle.sygus_verdicts.specs.Verdicts.{IsPrintable, verdicts_status};
@@ -15,7 +15,7 @@ use std::alloc::Global;
 use sy_grammar_base::Problem;
 use sy_io::{Bytes, Sink, write_whole};
 use sy_query_limits::Limits;
-use sy_reply_statements::Stated;
+use sy_reply::Stated;
 use sy_scope_causes::Titles;
 use sy_terms::{Seq, Theory, Want};
 

@@ -7,7 +7,7 @@ use Rattle.std.proofs.lemmas.Fmt.{digits_value-decimal}
 use Rattle.std.proofs.lemmas.Str.Parse.{numerals_by_value, tells_digits}
 use Rattle.clap.specs.Words.{Text}
 use Rattle.sy_query_limits.specs.declared.Limits.{Limits}
-use Rattle.sygus_numbers.specs.Numbers.{LimitIs}
+use Rattle.sygus_words.specs.Numbers.{LimitIs}
 use Rattle.sygus_words.specs.CommandLine.{DrillIs, ModeIs, AreLimits, IsReading, word_value}
 use Rattle.sygus_words.specs.declared.settings.Mode.{Mode}
 use Rattle.sygus_words.specs.declared.settings.Mode.TheVariants.{Solve, Least, Check, Recheck, Clauses, Drill}

@@ -6,7 +6,7 @@ use Rattle.clap.specs.Words.{App, Rule, Text, fault_of, first_of, matches_of, ne
 use Rattle.clap.specs.Simple.{new_shape}
 use Rattle.clap.specs.declared.builder.ArgAction.TheVariants.{Set, SetTrue}
 use Rattle.sy_query_limits.specs.declared.Limits.{Limits}
-use Rattle.sygus_numbers.specs.Numbers.{LimitIs}
+use Rattle.sygus_words.specs.Numbers.{LimitIs}
 use Rattle.sygus_words.specs.declared.settings.Mode.{Mode}
 use Rattle.sygus_words.specs.declared.settings.Mode.TheVariants.{Solve, Least, Check, Recheck, Clauses, Drill}
 use Rattle.sygus_words.specs.declared.settings.Settings.{Settings}

@@ -3,20 +3,20 @@ ghost use Rattle.std.specs.Prelude.{◌≡◌, ◌≤◌, ◌<◌, ◌^◌, ℕ,
 ghost use Rattle.std.specs.Fmt.{decimal};
 ghost use Rattle.std.specs.String.{string_bytes};
 ghost use Rattle.clap.specs.Words.{fault_of, first_value, found_of, matches_of, rows_of};
-ghost use Rattle.sygus_numbers.specs.Numbers.{LimitIs};
+ghost use Rattle.sygus_words.specs.Numbers.{LimitIs};
 ghost use Rattle.sygus_words.specs.CommandLine.{sygus, greatest_drill, DrillIs, ModeIs, ProofsAre, AreLimits, AreSettings, IsReading, WordsAreRefused};
 ghost use Rattle.sygus_words.specs.declared.settings.Settings.{Settings};
 ghost use Rattle.sygus_words.specs.declared.settings.WordFault.TheVariants.{Refused};
 ghost use Rattle.sygus_words.specs.declared.settings.Mode.{Mode};
 ghost use Rattle.sy_query_limits.specs.declared.Limits.{Limits};
 
+use crate::numbers::{limit_of, number};
 use crate::options::command;
 use crate::settings::{FileName, Mode, Settings, WordFault};
 use clap::ArgMatches;
 use clap::error::ErrorKind;
 use std::alloc::Global;
 use sy_query_limits::Limits;
-use sygus_numbers::{limit_of, number};
 
 /// The value of an option, from 1 to `greatest`, or its default.
 fn limit(matches: &ArgMatches<'_>, name: &str, default: u32, greatest: u32) -> Option<u32>
@@ -68,8 +68,10 @@ fn drill(matches: &ArgMatches<'_>) -> Option<u32>
 /// The mode, which is `solve` where none is named.
 fn mode(matches: &ArgMatches<'_>) -> Option<Mode>
     ensures { MatchOption result
-        ((m : Mode) → ModeIs (first_value (found_of matches.now) (codes "mode")) (first_value (found_of matches.now) (codes "FILE")) m → ⊥)
-        (λ m. ModeIs (first_value (found_of matches.now) (codes "mode")) (first_value (found_of matches.now) (codes "FILE")) m) }
+        ((m : Mode) → ModeIs (first_value (found_of matches.now) (codes "mode"))
+        (first_value (found_of matches.now) (codes "FILE")) m → ⊥)
+        (λ m. ModeIs (first_value (found_of matches.now) (codes "mode"))
+        (first_value (found_of matches.now) (codes "FILE")) m) }
 {
     match matches.get_str("mode") {
         None | Some("solve") => Some(Mode::Solve),

@@ -1,7 +1,7 @@
 use Rattle.std.proofs.Common.{[], ◌∷◌, map}
 use Rattle.std.proofs.lemmas.List.{map-append}
 use Rattle.sy_terms.specs.Denoted.{vals_of}
-use Rattle.sy_bank_laws.proofs.Points.{points-more}
+use Rattle.sy_bank_level.proofs.Points.{points-more}
 use Rattle.bench_parts.proofs.bank.points.Goals as goal
 
 pub loop-preserved : goal.loop-preserved

@@ -1,7 +1,7 @@
 use Rattle.std.proofs.Common.{sym, ◌∙◌}
 use Rattle.sy_terms.specs.Definitions.{scope_of}
 use Rattle.sy_meaning_integers.specs.Lia.{owned, numeric}
-use Rattle.sy_grammar_laws.proofs.Numbering.{numbered}
+use Rattle.sy_grammar_base.proofs.Numbering.{numbered}
 use Rattle.bench_parts.proofs.derive.derived.Goals as goal
 
 pub both_derived-requires : goal.both_derived-requires

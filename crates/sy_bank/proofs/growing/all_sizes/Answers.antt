@@ -5,10 +5,10 @@ use Rattle.sy_terms.specs.Denoted.{vals_of}
 use Rattle.sy_terms.specs.Definitions.{scope_of, bodies}
 use Rattle.sy_terms.specs.Meaning.{functions}
 use Rattle.sy_grammar_base.specs.Grown.{syntax_from}
-use Rattle.sy_bank_rows.specs.Stored.{lost_of}
+use Rattle.sy_bank_level.specs.Stored.{lost_of}
 use Rattle.sy_bank_level.specs.Task.{level_of}
-use Rattle.sy_bank_rows.specs.Rows.{ArePointsOf}
-use Rattle.sy_bank_laws.proofs.Next.{whole-covers}
+use Rattle.sy_bank_level.specs.Rows.{ArePointsOf}
+use Rattle.sy_bank_level.proofs.Next.{whole-covers}
 use Rattle.sy_bank_level.specs.Bank.{merged_of}
 use Rattle.sy_bank.specs.Promised.{Stays, IsBank, BankIsFull}
 use Rattle.sy_bank.proofs.Ends.{end-bank, end-stays, handed-on, handed-on-full, some-dropped}

@@ -3,7 +3,7 @@ use Rattle.sy_terms.specs.Denoted.{vals_of}
 use Rattle.sy_terms.specs.Definitions.{scope_of, bodies}
 use Rattle.sy_terms.specs.Meaning.{functions}
 use Rattle.sy_grammar_base.specs.Grown.{syntax_from}
-use Rattle.sy_bank_rows.specs.Banks.{kept_count}
+use Rattle.sy_bank_level.specs.Banks.{kept_count}
 use Rattle.sy_bank.specs.Answers.{BankIsBuilt}
 use Rattle.sy_bank_level.specs.Bank.{merged_of}
 use Rattle.sy_bank.specs.Promised.{Stays}

@@ -4,11 +4,11 @@ use Rattle.sy_terms.specs.Denoted.{vals_of}
 use Rattle.sy_terms.specs.Definitions.{scope_of, bodies}
 use Rattle.sy_terms.specs.Meaning.{functions}
 use Rattle.sy_grammar_base.specs.Grown.{syntax_from, nonterminal_of}
-use Rattle.sy_bank_rows.specs.Stored.{entry_of}
+use Rattle.sy_bank_level.specs.Stored.{entry_of}
 use Rattle.sy_bank_level.specs.Filling.{World}
 use Rattle.sy_bank_level.specs.Places.{places_of}
 use Rattle.sy_bank_level.specs.Task.{level_of, levels_of, level_state_of}
-use Rattle.sy_bank_laws.proofs.Next.{steady-begun}
+use Rattle.sy_bank_level.proofs.Next.{steady-begun}
 use Rattle.sy_bank_level.specs.Bank.{merged_of}
 use Rattle.sy_bank.proofs.Steps.{IsStep, step-next, step-indexed, step-ready, step-full}
 use Rattle.sy_bank.proofs.growing.next_size.Goals as goal

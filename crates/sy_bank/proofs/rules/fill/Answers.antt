@@ -2,7 +2,7 @@ use Rattle.std.proofs.Common.{◌≡◌, ◌∙◌, sym, arith, length}
 use Rattle.std.proofs.lemmas.List.{length-map}
 use Rattle.sy_grammar_base.specs.Grown.{nonterminal_of}
 use Rattle.sy_bank_level.specs.Task.{world, level_state_of, level_of}
-use Rattle.sy_bank_laws.proofs.TriedLemmas.{all-tried-on, filled-all}
+use Rattle.sy_bank_level.proofs.TriedLemmas.{all-tried-on, filled-all}
 use Rattle.sy_bank.proofs.rules.fill.Goals as goal
 
 pub returns-clause-filled : goal.returns-clause-filled

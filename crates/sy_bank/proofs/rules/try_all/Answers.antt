@@ -1,5 +1,5 @@
 use Rattle.sy_bank_level.specs.Task.{world, level_state_of}
-use Rattle.sy_bank_laws.proofs.TriedLemmas.{all-tried-more}
+use Rattle.sy_bank_level.proofs.TriedLemmas.{all-tried-more}
 use Rattle.sy_bank.proofs.rules.try_all.Goals as goal
 
 pub loop-nonterminal-preserved : goal.loop-nonterminal-preserved

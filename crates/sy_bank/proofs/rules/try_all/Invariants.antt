@@ -1,6 +1,6 @@
 use Rattle.sy_bank_level.specs.Filling.{IsSteady}
 use Rattle.sy_bank_level.specs.Task.{world, level_state_of}
-use Rattle.sy_bank_laws.specs.Tried.{AllAreTried}
+use Rattle.sy_bank_level.specs.Tried.{AllAreTried}
 use Rattle.sy_bank.proofs.rules.try_all.Given as goal
 
 abbrev pub invariant-loop-nonterminal : goal.invariant-loop-nonterminal

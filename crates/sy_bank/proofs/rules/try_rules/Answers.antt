@@ -2,10 +2,10 @@ use Rattle.std.proofs.Common.{◌≡◌, ◌∙◌, ap, subst, arith, length, sl
 use Rattle.std.proofs.lemmas.List.{length-map}
 use Rattle.sy_grammar_base.specs.Grown.{nonterminal_of, production_of}
 use Rattle.sy_grammar_base.specs.declared.grammar.Non.{Non}
-use Rattle.sy_grammar_laws.proofs.Numbering.{numbered}
+use Rattle.sy_grammar_base.proofs.Numbering.{numbered}
 use Rattle.sy_bank_level.specs.Task.{world, level_state_of}
 use Rattle.sy_bank_level.proofs.Keeping.{grows-on}
-use Rattle.sy_bank_laws.proofs.TriedLemmas.{rules-tried-more, all-rules}
+use Rattle.sy_bank_level.proofs.TriedLemmas.{rules-tried-more, all-rules}
 use Rattle.sy_bank.proofs.Places.{place, rule-place, few-rules}
 use Rattle.sy_bank.proofs.rules.try_rules.Goals as goal
 

@@ -1,6 +1,6 @@
 use Rattle.sy_bank_level.specs.Filling.{IsSteady, LevelGrows}
 use Rattle.sy_bank_level.specs.Task.{world, level_state_of}
-use Rattle.sy_bank_laws.specs.Tried.{AreTried}
+use Rattle.sy_bank_level.specs.Tried.{AreTried}
 use Rattle.sy_bank.proofs.rules.try_rules.Given as goal
 
 abbrev pub invariant-loop-number : goal.invariant-loop-number

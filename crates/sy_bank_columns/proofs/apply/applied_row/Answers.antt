@@ -1,8 +1,8 @@
 use Rattle.std.proofs.Common.{◌≡◌, ◌<◌, [], ◌∷◌, map, subst, false, arith}
 use Rattle.sy_terms.specs.Denoted.{val_of, vals_of}
 use Rattle.sy_terms.specs.Theories.{fits}
-use Rattle.sy_terms_laws.proofs.Steps.{map-both}
-use Rattle.sy_bank_rows.specs.Columns.{column}
+use Rattle.sy_terms_operators.proofs.Steps.{map-both}
+use Rattle.sy_bank_level.specs.Columns.{column}
 use Rattle.sy_bank_columns.specs.Found.{IsColumnOf}
 use Rattle.sy_bank_columns.specs.Lent.{row_values}
 use Rattle.sy_bank_columns.proofs.ByPoint.{applied-next}

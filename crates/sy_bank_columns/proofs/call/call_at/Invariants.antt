@@ -1,6 +1,6 @@
 use Rattle.std.proofs.Common.{◌≡◌, take, map}
 use Rattle.sy_terms.specs.Denoted.{vals_of, exprs_of}
-use Rattle.sy_bank_rows.specs.Columns.{column, constants}
+use Rattle.sy_bank_level.specs.Columns.{column, constants}
 use Rattle.sy_bank_columns.specs.Lent.{row_values}
 use Rattle.sy_bank_columns.proofs.call.call_at.Given as goal
 

@@ -3,9 +3,9 @@ use Rattle.std.proofs.lemmas.List.{length-map}
 use Rattle.sy_terms.specs.Denoted.{val_of, vals_of}
 use Rattle.sy_terms.specs.Expr.{Invoke}
 use Rattle.sy_terms.specs.declared.term.Fun.TheVariants.{Defined}
-use Rattle.sy_terms_laws.specs.Evaluation.{GivesValue, can_compute}
-use Rattle.sy_terms_laws.proofs.Steps.{map-both}
-use Rattle.sy_bank_rows.specs.Columns.{column, constants}
+use Rattle.sy_terms_operators.specs.Evaluation.{GivesValue, can_compute}
+use Rattle.sy_terms_operators.proofs.Steps.{map-both}
+use Rattle.sy_bank_level.specs.Columns.{column, constants}
 use Rattle.sy_bank_columns.specs.Lent.{row_values}
 use Rattle.sy_bank_columns.proofs.ByPoint.{values-next}
 use Rattle.sy_bank_columns.proofs.Forms.{loss-at}

@@ -3,8 +3,8 @@ use Rattle.sy_terms.specs.Denoted.{vals_of}
 use Rattle.sy_terms.specs.Expr.{Invoke}
 use Rattle.sy_terms.specs.Meaning.{value_at_position}
 use Rattle.sy_terms.specs.declared.term.Fun.TheVariants.{Defined}
-use Rattle.sy_terms_laws.specs.Evaluation.{GivesValue}
-use Rattle.sy_bank_rows.specs.Columns.{column, constants}
+use Rattle.sy_terms_operators.specs.Evaluation.{GivesValue}
+use Rattle.sy_bank_level.specs.Columns.{column, constants}
 use Rattle.sy_bank_columns.specs.Lent.{row_values}
 use Rattle.sy_bank_columns.proofs.call.called_row.Given as goal
 

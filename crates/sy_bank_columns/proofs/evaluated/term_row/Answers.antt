@@ -5,9 +5,9 @@ use Rattle.sy_terms.specs.Values.{Val}
 use Rattle.sy_terms.specs.Denoted.{val_of, vals_of, expr_of}
 use Rattle.sy_terms.specs.Meaning.{functions}
 use Rattle.sy_terms.specs.Definitions.{scope_of, bodies}
-use Rattle.sy_terms_laws.specs.Evaluation.{HasValue}
-use Rattle.sy_terms_laws.proofs.Steps.{map-both}
-use Rattle.sy_bank_rows.specs.Rows.{IsLostAt}
+use Rattle.sy_terms_operators.specs.Evaluation.{HasValue}
+use Rattle.sy_terms_operators.proofs.Steps.{map-both}
+use Rattle.sy_bank_level.specs.Rows.{IsLostAt}
 use Rattle.sy_bank_columns.proofs.ByPoint.{values-next, point-of}
 use Rattle.sy_bank_columns.proofs.Forms.{loss-at, row-of}
 use Rattle.sy_bank_columns.proofs.evaluated.term_row.Goals as goal

@@ -3,7 +3,7 @@ use Rattle.sy_terms.specs.Values.{Val}
 use Rattle.sy_terms.specs.Denoted.{vals_of, expr_of}
 use Rattle.sy_terms.specs.Meaning.{functions, value_at_position}
 use Rattle.sy_terms.specs.Definitions.{scope_of, bodies}
-use Rattle.sy_terms_laws.specs.Evaluation.{HasValue}
+use Rattle.sy_terms_operators.specs.Evaluation.{HasValue}
 use Rattle.sy_bank_columns.proofs.evaluated.term_row.Given as goal
 
 abbrev pub invariant-loop-number : goal.invariant-loop-number

@@ -8,18 +8,18 @@ use Rattle.sy_terms.specs.Definitions.{scope_of, bodies}
 use Rattle.sy_terms.specs.declared.term.Fun.TheVariants.{Defined}
 use Rattle.sy_grammar_base.specs.Patterns.{all_occurring, all_filled}
 use Rattle.sy_grammar_base.specs.Written.{patterns_of, pattern_of-Non, pattern_of-App, pattern_of-Call}
-use Rattle.sy_bank_rows.specs.Rows.{IsLostAt}
-use Rattle.sy_bank_rows.specs.Columns.{AreSized, FitsAt, HasRow, HaveRows}
-use Rattle.sy_bank_rows.specs.Covering.{terms}
+use Rattle.sy_bank_level.specs.Rows.{IsLostAt}
+use Rattle.sy_bank_level.specs.Columns.{AreSized, FitsAt, HasRow, HaveRows}
+use Rattle.sy_bank_level.specs.Covering.{terms}
 use Rattle.sy_bank_columns.specs.Lent.{row_values}
 use Rattle.sy_bank_columns.specs.declared.ends.RowEnd.TheVariants.{Want}
-use Rattle.sy_bank_rows.specs.Stored.{chosen_of}
+use Rattle.sy_bank_level.specs.Stored.{chosen_of}
 use Rattle.sy_bank_columns.specs.Found.{IsColumnOf}
 use Rattle.sy_bank_columns.proofs.Pieces.{apply-owned, rows-none, rows-from, part-fits, part-lost, rows-next}
 use Rattle.sy_bank_columns.proofs.Paired.{pair-items, pair-used, pair-rows, pair-sorted, pair-applied, pair-lost, row-long}
 use Rattle.sy_bank_columns.proofs.Weights.{all_weight, app-falls, call-falls, part-falls}
 use Rattle.sy_bank_columns.proofs.Forms.{constant-part, position-within, variable-part, place-part, apply-part-fit, call-part-fit, apply-part, call-part, apply-arguments, apply-sorted, apply-row, apply-lost, apply-lost-argument, call-arguments, call-lost-argument, call-fits, call-row, call-lost, handed_on, lost_then}
-use Rattle.sy_bank_rows.proofs.Fillings.{occurring-next, all_filled-none}
+use Rattle.sy_bank_level.proofs.Fillings.{occurring-next, all_filled-none}
 use Rattle.sy_bank_columns.proofs.Fillings.{enough-left}
 use Rattle.sy_bank_columns.proofs.rows.+row.Goals as goal
 

@@ -4,10 +4,10 @@ use Rattle.sy_terms.specs.Meaning.{functions}
 use Rattle.sy_terms.specs.Definitions.{scope_of, bodies}
 use Rattle.sy_grammar_base.specs.Patterns.{all_occurring, all_filled}
 use Rattle.sy_grammar_base.specs.Written.{patterns_of}
-use Rattle.sy_bank_rows.specs.Covering.{terms}
-use Rattle.sy_bank_rows.specs.Columns.{HaveRows}
+use Rattle.sy_bank_level.specs.Covering.{terms}
+use Rattle.sy_bank_level.specs.Columns.{HaveRows}
 use Rattle.sy_bank_columns.specs.Lent.{row_values}
-use Rattle.sy_bank_rows.specs.Stored.{chosen_of}
+use Rattle.sy_bank_level.specs.Stored.{chosen_of}
 use Rattle.sy_bank_columns.proofs.Weights.{weight, all_weight}
 use Rattle.sy_grammar_base.specs.Written.{pattern_of}
 use Rattle.sy_bank_columns.proofs.rows.+row.Given as goal

@@ -1,7 +1,7 @@
 use Rattle.std.proofs.Common.{◌≡◌, ◌≤◌, ◌+◌, ◌++◌, Bool, List, drop}
 use Rattle.sy_gates.specs.Models.{values_of}
 use Rattle.sy_bits_operators.specs.Signals.{signal_sorts, signal_values, signals_bound, total_width, AllHaveSignals}
-use Rattle.sy_bits_terms.specs.Assignments.{assignment}
+use Rattle.sy_bits_circuit.specs.Assignments.{assignment}
 use Rattle.sy_bits_circuit.proofs.inputs.input_signals.Given as goal
 
 abbrev pub invariant-loop-sort : goal.invariant-loop-sort

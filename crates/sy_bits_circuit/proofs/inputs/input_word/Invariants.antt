@@ -1,7 +1,7 @@
 use Rattle.std.proofs.Common.{◌≡◌, ◌≤◌, ◌+◌, Bool, List, length, take, drop}
 use Rattle.sy_gates.specs.Circuits.{word_number, word_bound}
 use Rattle.sy_gates.specs.Models.{values_of}
-use Rattle.sy_bits_terms.specs.Assignments.{number_of_bits}
+use Rattle.sy_bits_circuit.specs.Assignments.{number_of_bits}
 use Rattle.sy_bits_circuit.proofs.inputs.input_word.Given as goal
 
 abbrev pub invariant-loop-i : goal.invariant-loop-i

@@ -1,5 +1,5 @@
 use Rattle.std.proofs.Common.{◌≡◌, take}
-use Rattle.sy_bits_terms.specs.Assignments.{number_of_bits}
+use Rattle.sy_bits_circuit.specs.Assignments.{number_of_bits}
 use Rattle.sy_bits_circuit.proofs.values.read_number.Given as goal
 
 abbrev pub invariant-loop-i : goal.invariant-loop-i

@@ -2,7 +2,7 @@ use Rattle.std.proofs.Common.{◌≡◌, ◌≤◌, ◌++◌, length, drop}
 use Rattle.sy_terms.specs.Denoted.{vals_of}
 use Rattle.sy_meaning_words.specs.Vectors.{vector}
 use Rattle.sy_bits_operators.specs.Signals.{total_width, AllHaveSignals}
-use Rattle.sy_bits_terms.specs.Assignments.{assignment}
+use Rattle.sy_bits_circuit.specs.Assignments.{assignment}
 use Rattle.sy_bits_circuit.proofs.values.read_values.Given as goal
 
 abbrev pub invariant-loop-sort : goal.invariant-loop-sort

@@ -3,8 +3,8 @@ use Rattle.std.specs.Prelude.{if◌then◌else◌, Ok}
 use Rattle.sy_terms.specs.Sorts.{sort_of}
 use Rattle.sy_terms.specs.declared.sorts.Sorted.{Sorted}
 use Rattle.sy_scope_causes.specs.declared.cause.Cause.TheVariants as cause
-use Rattle.sy_forms_phrases.specs.Meant.{phrases_of}
-use Rattle.sy_forms_phrases.specs.Phrases as phrase
+use Rattle.sy_forms_items.specs.Meant.{phrases_of}
+use Rattle.sy_forms_items.specs.Phrases as phrase
 use Rattle.sy_forms_items.specs.Readings.{refuse}
 use Rattle.sy_forms_linear.specs.Linear.{is_linear}
 use Rattle.sy_forms.specs.Terms.{operation_by, typed}

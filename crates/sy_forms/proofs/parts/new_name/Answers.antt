@@ -1,7 +1,7 @@
 use Rattle.std.proofs.Common.{◌∙◌, sym, ap, ℕ, List}
 use Rattle.sy_text_items.specs.Views.{item_of}
 use Rattle.sy_scope_causes.specs.declared.cause.Cause.TheVariants as cause
-use Rattle.sy_forms_names.specs.Operators.{is_reserved}
+use Rattle.sy_forms_items.specs.Operators.{is_reserved}
 use Rattle.sy_forms_items.specs.Readings.{refuse}
 use Rattle.sy_forms.proofs.NewNames.{new_reserved}
 use Rattle.sy_forms.proofs.parts.new_name.Goals as goal

@@ -3,9 +3,9 @@ use Rattle.std.proofs.lemmas.Result.{err_from_is_err_and}
 use Rattle.sy_text_items.specs.Items.{Items, listed}
 use Rattle.sy_text_items.specs.Views.{item_of}
 use Rattle.sy_forms.specs.Gathered.{several_of, bounds_of, bound_of}
-use Rattle.sy_forms_phrases.specs.Meant.{typed_of}
-use Rattle.sy_forms_phrases.specs.Phrases.{behind}
-use Rattle.sy_forms_names.specs.Seen.{environment_of}
+use Rattle.sy_forms_items.specs.Meant.{typed_of}
+use Rattle.sy_forms_items.specs.Phrases.{behind}
+use Rattle.sy_forms_items.specs.Seen.{environment_of}
 use Rattle.sy_forms.specs.Heads.{head_in}
 use Rattle.sy_forms.specs.Terms as spec
 use Rattle.sy_forms_items.specs.Views.{items_in}

@@ -2,8 +2,8 @@ use Rattle.std.proofs.Common.{◌≡◌, ◌≤◌, ◌+◌, ◌*◌, length}
 use Rattle.sy_text_items.specs.Items.{item_size, items_size, listed}
 use Rattle.sy_text_items.specs.Views.{item_of}
 use Rattle.sy_forms.specs.Gathered.{several_of, bounds_of}
-use Rattle.sy_forms_phrases.specs.Phrases.{no_terms}
-use Rattle.sy_forms_names.specs.Seen.{environment_of}
+use Rattle.sy_forms_items.specs.Phrases.{no_terms}
+use Rattle.sy_forms_items.specs.Seen.{environment_of}
 use Rattle.sy_forms.specs.Terms as spec
 use Rattle.sy_forms_items.specs.Views.{items_in}
 use Rattle.sy_forms.proofs.term.+reading.Given as goal

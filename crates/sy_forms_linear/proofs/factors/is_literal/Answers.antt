@@ -1,8 +1,8 @@
 use Rattle.std.proofs.Common.{◌≡◌, ◌≤◌, ◌<◌, ◌∙◌, ap, sym, refl, false, length, slice_index_or, arith, List, [], ◌∷◌}
 use Rattle.sy_terms.specs.Values.{Val}
-use Rattle.sy_forms_phrases.specs.Meant.{phrase_of, phrases_of}
+use Rattle.sy_forms_items.specs.Meant.{phrase_of, phrases_of}
 use Rattle.sy_forms_linear.specs.Linear.{is_one_literal, is_written_phrase}
-use Rattle.sy_forms_phrases.specs.declared.phrase.Phrase.{Phrase}
+use Rattle.sy_forms_items.specs.declared.phrase.Phrase.{Phrase}
 use Rattle.sy_forms_linear.proofs.factors.is_literal.Goals as goal
 
 several : {T N : Type 0} (number : N → Val) (phrases : List (Phrase T N)) → 2 ≤ length phrases → is_one_literal (phrases_of number phrases) ≡ false

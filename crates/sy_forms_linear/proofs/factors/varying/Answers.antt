@@ -1,8 +1,8 @@
 use Rattle.std.proofs.Common.{◌≡◌, ◌+◌, arith, ap, drop}
 use Rattle.std.proofs.lemmas.List.{at_drop_all}
-use Rattle.sy_forms_phrases.specs.Meant.{phrase_of, phrases_of}
+use Rattle.sy_forms_items.specs.Meant.{phrase_of, phrases_of}
 use Rattle.sy_forms_linear.specs.Linear.{varying_factors, factor_weight}
-use Rattle.sy_forms_names.proofs.Lookups.{found_at, drop-at}
+use Rattle.sy_forms_items.proofs.Lookups.{found_at, drop-at}
 use Rattle.sy_forms_linear.proofs.factors.varying.Goals as goal
 
 pub loop-factor-preserved : goal.loop-factor-preserved

@@ -1,5 +1,5 @@
 use Rattle.std.proofs.Common.{◌≡◌, ◌+◌, ◌≤◌, drop}
-use Rattle.sy_forms_phrases.specs.Meant.{phrases_of}
+use Rattle.sy_forms_items.specs.Meant.{phrases_of}
 use Rattle.sy_forms_linear.specs.Linear as spec
 use Rattle.sy_forms_linear.proofs.factors.varying.Given as goal
 

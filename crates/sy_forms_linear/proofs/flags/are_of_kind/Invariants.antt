@@ -1,7 +1,7 @@
 use Rattle.std.proofs.Common.{◌≡◌, length}
 use Rattle.sy_text_items.specs.Items.{listed}
 use Rattle.sy_forms_linear.specs.Flags as spec
-use Rattle.sy_forms_names.specs.Seen.{environment_of}
+use Rattle.sy_forms_items.specs.Seen.{environment_of}
 use Rattle.sy_forms_items.specs.Views.{items_in}
 use Rattle.sy_forms_linear.proofs.flags.are_of_kind.Given as goal
 

@@ -1,9 +1,9 @@
 use Rattle.std.proofs.Common.{◌≡◌, ◌≤◌, ◌+◌, ◌∙◌, ℕ, zero, suc, List, [], ◌∷◌, ◌++◌, length, drop, refl, sym, ap, arith}
 use Rattle.sy_text_items.specs.Items.{listed}
 use Rattle.sy_forms_linear.specs.Flags.{groups_of_kind}
-use Rattle.sy_forms_names.specs.Seen.{environment_of}
+use Rattle.sy_forms_items.specs.Seen.{environment_of}
 use Rattle.sy_forms_items.specs.Views.{items_in}
-use Rattle.sy_forms_names.proofs.Lookups.{found_at, drop-at}
+use Rattle.sy_forms_items.proofs.Lookups.{found_at, drop-at}
 use Rattle.sy_forms_linear.proofs.flags.groups_of_kind.Goals as goal
 
 push_assoc : {A : Type 0} (xs : List A) (x : A) (ys : List A) → (xs ++ x ∷ []) ++ ys ≡ xs ++ x ∷ ys

@@ -1,4 +1,4 @@
-use Rattle.sy_linear_forms.specs.declared.form.FormEnd.TheVariants.{OutOfRange}
+use Rattle.sy_linear_known.specs.declared.form.FormEnd.TheVariants.{OutOfRange}
 use Rattle.std.proofs.Common.{◌∙◌, refl, rules}
 use Rattle.std.specs.Prelude.{Some, None}
 use mir.Syntax.{w128}

@@ -1,5 +1,5 @@
 use Rattle.std.proofs.Common.{◌≡◌, true, take}
-use Rattle.sy_linear_forms.specs.Forms.{all_in_range}
+use Rattle.sy_linear_known.specs.Forms.{all_in_range}
 use Rattle.sy_linear.proofs.nodes.copied.Given as goal
 
 abbrev pub invariant-loop-coefficient : goal.invariant-loop-coefficient

@@ -1,4 +1,4 @@
-use Rattle.sy_linear_forms.specs.Forms.{form_minus}
+use Rattle.sy_linear_known.specs.Forms.{form_minus}
 use Rattle.sy_linear_known.proofs.arithmetic.difference.Goals as goal
 
 pub returns-clause-ok : goal.returns-clause-ok

@@ -1,4 +1,4 @@
-use Rattle.sy_linear_forms.specs.Forms.{above}
+use Rattle.sy_linear_known.specs.Forms.{above}
 use Rattle.sy_linear_known.proofs.arithmetic.excess.Goals as goal
 
 pub returns-clause-ok : goal.returns-clause-ok

@@ -3,7 +3,7 @@ use mir.Val.{to_z, of_z}
 use Rattle.std.specs.Prelude.{◌≡◌, IfOk}
 use Rattle.std.proofs.Common.{subst}
 use Rattle.std.proofs.lemmas.Int.{to_z-of_z}
-use Rattle.sy_linear_forms.specs.Forms.{times}
+use Rattle.sy_linear_known.specs.Forms.{times}
 use Rattle.sy_linear_known.specs.Sights.{form_multiple}
 use Rattle.sy_linear_known.proofs.arithmetic.multiple.Goals as goal
 

@@ -1,4 +1,4 @@
-use Rattle.sy_linear_forms.specs.Forms.{form_plus}
+use Rattle.sy_linear_known.specs.Forms.{form_plus}
 use Rattle.sy_linear_known.proofs.arithmetic.sum.Goals as goal
 
 pub returns-clause-ok : goal.returns-clause-ok

@@ -3,9 +3,9 @@ use Rattle.std.proofs.lemmas.List.{length-map}
 use Rattle.std.proofs.lemmas.Result.{IfOk-from_err}
 use Rattle.sy_grammar_base.specs.Questions.{question_of, goal_of}
 use Rattle.sy_bank_level.specs.Bank.{merged_of}
-use Rattle.sy_loop_history.specs.Stored.{history_of}
-use Rattle.sy_loop_laws.specs.Refuting.{AreDoneBelow}
-use Rattle.sy_loop_laws.proofs.Refuted.{assumes_nothing}
+use Rattle.sy_loop_spec.specs.Stored.{history_of}
+use Rattle.sy_loop_spec.specs.Refuting.{AreDoneBelow}
+use Rattle.sy_loop_spec.proofs.Refuted.{assumes_nothing}
 use Rattle.sy_loop_banks.specs.Dropping.{DroppedNothing}
 use Rattle.sy_loop_banks.proofs.Carrying.{carried_on}
 use Rattle.sy_loop.proofs.Completing.{level_open, next_done, nothing_within, trees_done}
@@ -59,7 +59,7 @@ exhausted-requires g c =
     let banks = map (merged_of g.T.Theory.denotes) c.args.banks.items in
     let whole : DroppedNothing banks = rw c.as_slice-all.ensures.value at (rw c.in_default.is at c.in_ok-left.ensures) in
     let size : c.args.level + 1 ≡ c.args.limits.now.size + 1 = omega (arith, c.if-level-limits.false, c.requires.level) in
-    nothing_within c.args.reach question c.args.limits.now history c.args.known.points c.requires.strict c.requires.known
+    nothing_within c.args.reach question c.args.limits.now history c.args.known.points c.requires.known
     (subst (AreDoneBelow c.args.reach question history c.args.known.points) size
     (next_done question c.args.limits.now history c.args.known.points c.args.level banks c.args.reach (assumes_nothing g.T.Theory.owned question c.requires.problem.assumptions) c.requires.banks whole c.requires.refuted c.requires.trees c.requires.done))
 

@@ -2,13 +2,13 @@ use Rattle.std.proofs.Common.{arith, map, [], refl, inl, sym, subst}
 use Rattle.std.proofs.lemmas.List.{length-map}
 use Rattle.std.proofs.lemmas.Result.{IfOk-from_err}
 use Rattle.sy_grammar_base.specs.Questions.{question_of}
-use Rattle.sy_bank_rows.specs.Stored.{entry_of}
+use Rattle.sy_bank_level.specs.Stored.{entry_of}
 use Rattle.sy_bank_level.specs.Bank.{merged_of}
-use Rattle.sy_loop_history.specs.Stored.{counterexample_of, history_of}
+use Rattle.sy_loop_spec.specs.Stored.{counterexample_of, history_of}
 use Rattle.sy_loop_candidate.proofs.Ending.{room_in}
-use Rattle.sy_loop_laws.proofs.Done as done
+use Rattle.sy_loop_spec.proofs.Done as done
 use Rattle.sy_loop_banks.specs.Banks.{AreBanks}
-use Rattle.sy_loop_level.specs.Levels.{AllAreRefuted}
+use Rattle.sy_loop.specs.Levels.{AllAreRefuted}
 use Rattle.sy_loop.specs.Trees.{TreesFollow}
 use Rattle.sy_loop_banks.proofs.Building.{bank_met}
 use Rattle.sy_loop.proofs.Honest.{honest_banks}

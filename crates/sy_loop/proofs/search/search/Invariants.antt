@@ -1,10 +1,10 @@
 use Rattle.std.proofs.Common.{◌≤◌, ◌<◌, length}
 use Rattle.sy_grammar_base.specs.Questions.{question_of}
-use Rattle.sy_loop_history.specs.Stored.{history_of}
+use Rattle.sy_loop_spec.specs.Stored.{history_of}
 use Rattle.sy_loop_truth.specs.Known.{IsKnown}
-use Rattle.sy_loop_join.specs.Clauses.{IsPlannedFor}
+use Rattle.sy_loop.specs.Clauses.{IsPlannedFor}
 use Rattle.sy_loop_banks.specs.Banks.{AreCarried}
-use Rattle.sy_loop_laws.specs.Refuting.{AreDoneBelow}
+use Rattle.sy_loop_spec.specs.Refuting.{AreDoneBelow}
 use Rattle.sy_loop.specs.Rounds.{work}
 use Rattle.sy_loop.proofs.search.search.Given as goal
 

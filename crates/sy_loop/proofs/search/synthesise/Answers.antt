@@ -1,5 +1,5 @@
 use Rattle.sy_grammar_base.specs.Questions.{question_of}
-use Rattle.sy_loop_bounds.specs.declared.reach.Reach.TheVariants.{Joins}
+use Rattle.sy_loop_spec.specs.declared.reach.Reach.TheVariants.{Joins}
 use Rattle.sy_loop.proofs.Solvable.{complete}
 use Rattle.sy_loop.proofs.search.synthesise.Goals as goal
 

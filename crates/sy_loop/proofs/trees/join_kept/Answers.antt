@@ -3,11 +3,11 @@ use Rattle.std.proofs.lemmas.Result.{IfOk-from_err}
 use Rattle.sy_terms.specs.Definitions.{scope_of}
 use Rattle.sy_grammar_base.specs.Questions.{question_of}
 use Rattle.sy_bank_level.specs.Bank.{merged_of}
-use Rattle.sy_loop_history.specs.Stored.{history_of}
+use Rattle.sy_loop_spec.specs.Stored.{history_of}
 use Rattle.sy_loop_candidate.proofs.Going.{next_weaker}
-use Rattle.sy_loop_join.specs.Joining.{TreesFollowFrom}
+use Rattle.sy_loop.specs.Joining.{TreesFollowFrom}
 use Rattle.sy_loop.specs.Trees.{TreesFollow}
-use Rattle.sy_loop_level.proofs.Choosing.{bank_at}
+use Rattle.sy_loop.proofs.Choosing.{bank_at}
 use Rattle.sy_loop.proofs.Following.{first_follow, first_joinable, none_follow}
 use Rattle.sy_loop.proofs.trees.join_kept.Goals as goal
 

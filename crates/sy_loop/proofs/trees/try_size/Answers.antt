@@ -3,11 +3,11 @@ use Rattle.std.proofs.lemmas.Result.{IfOk-from_err}
 use Rattle.sy_terms.specs.Definitions.{scope_of}
 use Rattle.sy_grammar_base.specs.Questions.{question_of}
 use Rattle.sy_bank_level.specs.Bank.{merged_of}
-use Rattle.sy_loop_history.specs.Histories.{IsOpenNumber}
-use Rattle.sy_loop_history.specs.Stored.{history_of}
+use Rattle.sy_loop_spec.specs.Histories.{IsOpenNumber}
+use Rattle.sy_loop_spec.specs.Stored.{history_of}
 use Rattle.sy_loop_candidate.proofs.Going.{goes_after, next_always, same_room}
 use Rattle.sy_loop_candidate.specs.Going.{OnNext}
-use Rattle.sy_loop_level.specs.Levels.{AreHonest, AllAreRefuted}
+use Rattle.sy_loop.specs.Levels.{AreHonest, AllAreRefuted}
 use Rattle.sy_loop.specs.Trees.{TreesFollow}
 use Rattle.sy_loop.proofs.trees.try_size.Goals as goal
 

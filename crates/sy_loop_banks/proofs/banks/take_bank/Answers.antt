@@ -1,6 +1,6 @@
 use Rattle.std.proofs.Common.{◌≡◌, ◌∙◌, ap, subst, sym, map}
 use Rattle.sy_terms.specs.Denoted.{vals_of}
-use Rattle.sy_bank_rows.specs.Rows.{ArePointsOf}
+use Rattle.sy_bank_level.specs.Rows.{ArePointsOf}
 use Rattle.sy_bank_level.specs.Bank.{merged_of}
 use Rattle.sy_loop_banks.proofs.banks.take_bank.Goals as goal
 

@@ -5,9 +5,9 @@ use Rattle.std.proofs.lemmas.Result.{IfOk-from_err}
 use Rattle.sy_grammar_base.specs.Questions.{question_of, goal_of}
 use Rattle.sy_points.specs.Asked.{tuples_of}
 use Rattle.sy_bank_level.specs.Bank.{merged_of}
-use Rattle.sy_loop_history.specs.Stored.{history_of}
+use Rattle.sy_loop_spec.specs.Stored.{history_of}
 use Rattle.sy_loop_banks.specs.Banks.{AreCarried}
-use Rattle.sy_grammar_laws.proofs.Problems.{problem_definitions}
+use Rattle.sy_grammar_base.proofs.Problems.{problem_definitions}
 use Rattle.sy_loop_banks.proofs.Building.{no_banks, one_bank_more, all_banks, bank_of, whole_of, built_full, grammar_fits, points_fit, tuples_at}
 use Rattle.sy_loop_banks.proofs.Carrying.{take_next, taken_carried, none_carried, bank_carried, one_carried_more, full_carries}
 use Rattle.sy_loop_banks.proofs.banks.take_banks.Goals as goal

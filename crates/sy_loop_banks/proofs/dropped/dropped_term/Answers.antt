@@ -1,9 +1,9 @@
 use Rattle.std.proofs.Common.{arith, ◌≡◌, None}
 use Rattle.std.proofs.lemmas.List.Elements.{All-nil}
 use Rattle.sy_grammar_base.specs.Questions.{question_of}
-use Rattle.sy_bank_rows.specs.Banks.{Merged}
+use Rattle.sy_bank_level.specs.Banks.{Merged}
 use Rattle.sy_bank_level.specs.Bank.{merged_of}
-use Rattle.sy_loop_history.specs.Stored.{history_of}
+use Rattle.sy_loop_spec.specs.Stored.{history_of}
 use Rattle.sy_loop_candidate.proofs.Ending.{room_in}
 use Rattle.sy_loop_truth.proofs.Items.{all_more, all_done}
 use Rattle.sy_loop_banks.proofs.Building.{placed, dropped_leaves, image_at}

@@ -7,8 +7,8 @@ use Rattle.sy_terms.specs.Denoted.{vals_of}
 use Rattle.sy_terms.specs.declared.sort.Sort.{Sort}
 use Rattle.sy_grammar_base.specs.Fits.{GrammarFits}
 use Rattle.sy_grammar_base.specs.Questions.{goal_of, question_of}
-use Rattle.sy_bank_rows.specs.Rows.{ArePointsOf}
-use Rattle.sy_grammar_laws.proofs.Problems.{problem_definitions, problem_grammars}
+use Rattle.sy_bank_level.specs.Rows.{ArePointsOf}
+use Rattle.sy_grammar_base.proofs.Problems.{problem_definitions, problem_grammars}
 use Rattle.sy_loop_truth.proofs.Items.{has_place}
 use Rattle.sy_loop_bodies.proofs.One.{one_goal}
 use Rattle.sy_loop_beyond.proofs.banks.bank_over.Goals as goal

@@ -1,4 +1,4 @@
-use Rattle.sy_grammar_laws.proofs.Problems.{problem_definitions}
+use Rattle.sy_grammar_base.proofs.Problems.{problem_definitions}
 use Rattle.sy_loop_bodies.proofs.columns.term_number.Goals as goal
 
 pub evaluate-requires-clause-definitions : goal.evaluate-requires-clause-definitions

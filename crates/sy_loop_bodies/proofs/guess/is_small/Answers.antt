@@ -8,8 +8,8 @@ use Rattle.sy_terms.specs.Definitions.{scope_of}
 use Rattle.sy_grammar_base.specs.Fits.{GrammarFits}
 use Rattle.sy_grammar_base.specs.Grown.{syntax_from, tree_of}
 use Rattle.sy_grammar_base.specs.Questions.{question_of, goal_of}
-use Rattle.sy_grammar_laws.proofs.Numbering.{numbered}
-use Rattle.sy_grammar_laws.proofs.Problems.{problem_grammars}
+use Rattle.sy_grammar_base.proofs.Numbering.{numbered}
+use Rattle.sy_grammar_base.proofs.Problems.{problem_grammars}
 use Rattle.sy_loop_truth.proofs.Items.{has_place}
 use Rattle.sy_loop_bodies.proofs.One.{one_goal}
 use Rattle.sy_loop_bodies.proofs.Small.{one_within}

@@ -1,4 +1,4 @@
-use Rattle.sy_grammar_laws.proofs.Problems.{problem_assumptions, problem_constraints}
+use Rattle.sy_grammar_base.proofs.Problems.{problem_assumptions, problem_constraints}
 use Rattle.sy_loop_bodies.proofs.judging.meet.Goals as goal
 
 pub are_true-requires-clause-terms : goal.are_true-requires-clause-terms

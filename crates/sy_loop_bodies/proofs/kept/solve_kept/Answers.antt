@@ -1,5 +1,5 @@
-use Rattle.sy_bank_rows.specs.Banks.{Entry}
-use Rattle.sy_bank_rows.specs.Stored.{entry_of}
+use Rattle.sy_bank_level.specs.Banks.{Entry}
+use Rattle.sy_bank_level.specs.Stored.{entry_of}
 use Rattle.sy_loop_bodies.specs.Clauses.{IsSmallFor}
 use Rattle.sy_loop_truth.proofs.Items.{all_at}
 use Rattle.sy_loop_bodies.proofs.kept.solve_kept.Goals as goal

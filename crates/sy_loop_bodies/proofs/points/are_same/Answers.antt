@@ -1,6 +1,6 @@
 use Rattle.std.proofs.Common.{◌∙◌, refl, sym}
 use Rattle.sy_meaning.proofs.Sorts.{pointwise_same}
-use Rattle.sy_terms_laws.proofs.Equations.{same_sorts_is}
+use Rattle.sy_terms_operators.proofs.Equations.{same_sorts_is}
 use Rattle.sy_loop_bodies.proofs.points.are_same.Goals as goal
 
 pub returns : goal.returns

@@ -1,6 +1,6 @@
 use Rattle.std.proofs.Common.{◌≡◌, map, take}
 use Rattle.sy_terms.specs.Denoted.{vals_of}
-use Rattle.sy_bank_rows.specs.Rows.{ArePointsOf}
+use Rattle.sy_bank_level.specs.Rows.{ArePointsOf}
 use Rattle.sy_loop_bodies.proofs.points.points_of.Given as goal
 
 abbrev pub invariant-loop-tuple : goal.invariant-loop-tuple

@@ -1,5 +1,5 @@
 use Rattle.sy_terms.specs.Denoted.{expr_of, vals_of}
-use Rattle.sy_grammar_laws.proofs.Problems.{problem_definitions}
+use Rattle.sy_grammar_base.proofs.Problems.{problem_definitions}
 use Rattle.sy_loop_bodies.proofs.Fitting.{fits_where}
 use Rattle.sy_loop_bodies.proofs.wishes.value_of.Goals as goal
 

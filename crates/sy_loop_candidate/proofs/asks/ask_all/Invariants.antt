@@ -1,7 +1,7 @@
 use Rattle.std.proofs.Common.{map, take}
 use Rattle.sy_terms.specs.Denoted.{expr_of}
 use Rattle.sy_grammar_base.specs.Questions.{question_of}
-use Rattle.sy_loop_history.specs.Stored.{history_of}
+use Rattle.sy_loop_spec.specs.Stored.{history_of}
 use Rattle.sy_loop_truth.specs.Known.{IsHeld}
 use Rattle.sy_loop_truth.specs.Traces.{AreTraced, Widens}
 use Rattle.sy_loop_candidate.proofs.Asking.{SoFar}

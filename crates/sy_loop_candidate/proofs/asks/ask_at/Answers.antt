@@ -4,7 +4,7 @@ use Rattle.sy_terms.specs.Denoted.{expr_of}
 use Rattle.sy_terms.specs.declared.sort.Value.{Value}
 use Rattle.sy_terms.specs.declared.term.Term.{Term}
 use Rattle.sy_grammar_base.specs.Questions.{question_of}
-use Rattle.sy_loop_history.specs.Stored.{counterexample_of, history_of}
+use Rattle.sy_loop_spec.specs.Stored.{counterexample_of, history_of}
 use Rattle.sy_loop_truth.proofs.Places.{place_of}
 use Rattle.sy_loop_candidate.proofs.Asking.{within_held, held_with, widened, widens_not, asks_at, asks_leaves}
 use Rattle.sy_loop_candidate.proofs.asks.ask_at.Goals as goal

@@ -1,6 +1,6 @@
 use Rattle.std.proofs.Common.{ap, Err}
 use Rattle.sy_terms.specs.Denoted.{vals_of}
-use Rattle.sy_grammar_laws.proofs.Problems.{problem_definitions, problem_constraints}
+use Rattle.sy_grammar_base.proofs.Problems.{problem_definitions, problem_constraints}
 use Rattle.sy_grammar_base.specs.Fits.{IsTruth}
 use Rattle.sy_loop_truth.proofs.Items.{item_of}
 use Rattle.sy_loop_truth.proofs.Saying.{fits_with}

@@ -5,7 +5,7 @@ use Rattle.sy_loop_candidate.proofs.Asking.{grows_not}
 use Rattle.sy_terms.specs.Denoted.{expr_of}
 use Rattle.sy_grammar_base.specs.Questions.{question_of}
 use Rattle.sy_query_base.specs.Asked.{query_of}
-use Rattle.sy_loop_history.specs.Stored.{counterexample_of, history_of}
+use Rattle.sy_loop_spec.specs.Stored.{counterexample_of, history_of}
 use Rattle.sy_loop_candidate.proofs.Ending.{candidate_members, stored_more, known_more, rounds_more, last_fits, followed, room_in}
 use Rattle.sy_query_base.proofs.Solved.{solved}
 use Rattle.sy_loop_candidate.proofs.due.decide_due.Goals as goal

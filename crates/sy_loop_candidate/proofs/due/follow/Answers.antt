@@ -4,7 +4,7 @@ use Rattle.sy_terms.specs.Denoted.{expr_of, vals_of}
 use Rattle.sy_terms.specs.declared.sort.Value.{Value}
 use Rattle.sy_terms.specs.declared.term.Term.{Term}
 use Rattle.sy_grammar_base.specs.Questions.{question_of}
-use Rattle.sy_loop_history.specs.Stored.{counterexample_of, history_of}
+use Rattle.sy_loop_spec.specs.Stored.{counterexample_of, history_of}
 use Rattle.sy_loop_candidate.proofs.Asking.{grows_by, known_wider}
 use Rattle.sy_loop_truth.proofs.Places.{place_of}
 use Rattle.sy_loop_candidate.proofs.Ending.{points_met, followed_at, followed_leaves, stored_candidate, room_in}

@@ -4,7 +4,7 @@ use Rattle.std.proofs.lemmas.Option.{slice_get_within}
 use Rattle.std.proofs.lemmas.Result.{IfOk-from_err}
 use Rattle.sy_terms.specs.Denoted.{expr_of, vals_of}
 use Rattle.sy_grammar_base.specs.Questions.{question_of}
-use Rattle.sy_loop_history.specs.Stored.{counterexample_of, history_of}
+use Rattle.sy_loop_spec.specs.Stored.{counterexample_of, history_of}
 use Rattle.sy_loop_truth.specs.Traces.{AsksMore, LeavesRangeAt}
 use Rattle.sy_loop_candidate.proofs.Asking.{grows_by, grows_then, known_wider}
 use Rattle.sy_loop_candidate.specs.Steps.{Steps}

@@ -6,8 +6,8 @@ use Rattle.sy_terms.specs.declared.sort.Value.{Value}
 use Rattle.sy_terms.specs.declared.term.Term.{Term}
 use Rattle.sy_grammar_base.specs.Questions.{question_of}
 use Rattle.sy_grammar_base.specs.Solving.{Meets}
-use Rattle.sy_loop_history.specs.Histories.{Counterexample}
-use Rattle.sy_loop_history.specs.Stored.{counterexample_of, history_of}
+use Rattle.sy_loop_spec.specs.Histories.{Counterexample}
+use Rattle.sy_loop_spec.specs.Stored.{counterexample_of, history_of}
 use Rattle.sy_loop_truth.proofs.Items.{all_next, all_done}
 use Rattle.sy_loop_truth.proofs.Places.{place_of}
 use Rattle.sy_loop_candidate.proofs.Assignments.{calls_within, holds, widens, tried, leaves_at}

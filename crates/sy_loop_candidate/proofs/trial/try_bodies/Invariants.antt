@@ -2,8 +2,8 @@ use Rattle.std.proofs.Common.{◌≡◌, map, take, All}
 use Rattle.sy_terms.specs.Denoted.{expr_of}
 use Rattle.sy_grammar_base.specs.Questions.{question_of}
 use Rattle.sy_grammar_base.specs.Solving.{Meets}
-use Rattle.sy_loop_history.specs.Histories.{Counterexample}
-use Rattle.sy_loop_history.specs.Stored.{counterexample_of}
+use Rattle.sy_loop_spec.specs.Histories.{Counterexample}
+use Rattle.sy_loop_spec.specs.Stored.{counterexample_of}
 use Rattle.sy_loop_candidate.proofs.trial.try_bodies.Given as goal
 
 abbrev pub invariant-loop-place : goal.invariant-loop-place

@@ -1,6 +1,6 @@
 use Rattle.std.proofs.Common.{◌∙◌, sym, true≢false}
 use Rattle.sy_grammar_base.specs.Questions.{question_of}
-use Rattle.sy_loop_laws.proofs.Refuted.{no_solution}
+use Rattle.sy_loop_spec.proofs.Refuted.{no_solution}
 use Rattle.sy_loop_claims.proofs.outcome.exhausted.Goals as goal
 
 pub returns-then-branch-clause-right : goal.returns-then-branch-clause-right

@@ -4,10 +4,10 @@ use Rattle.std.proofs.lemmas.Result.{IfOk-from_err}
 use Rattle.sy_terms.specs.Denoted.{vals_of}
 use Rattle.sy_grammar_base.specs.Questions.{question_of}
 use Rattle.sy_points.specs.Asked.{AreDistinct, of_function, tuples_of}
-use Rattle.sy_bank_rows.specs.Stored.{chosen_of, entry_of}
-use Rattle.sy_bank_rows.specs.declared.kept.Kept.{Kept}
-use Rattle.sy_loop_history.specs.Stored.{history_of}
-use Rattle.sy_loop_history.specs.Goods.{assignments_of}
+use Rattle.sy_bank_level.specs.Stored.{chosen_of, entry_of}
+use Rattle.sy_bank_level.specs.declared.kept.Kept.{Kept}
+use Rattle.sy_loop_spec.specs.Stored.{history_of}
+use Rattle.sy_loop_spec.specs.Goods.{assignments_of}
 use Rattle.sy_loop_goods.specs.Columns.{row_from}
 use Rattle.sy_loop_goods.specs.Leaves.{LeafLeaves}
 use Rattle.sy_loop_goods.proofs.Columns.{columns_next, goods_all, left_by, tuples_are}

@@ -2,9 +2,9 @@ use Rattle.std.proofs.Common.{◌≡◌, None, take}
 use Rattle.std.specs.Prelude.{IfSome}
 use Rattle.sy_grammar_base.specs.Questions.{question_of}
 use Rattle.sy_points.specs.Asked.{of_function}
-use Rattle.sy_bank_rows.specs.Stored.{chosen_of}
-use Rattle.sy_loop_history.specs.Stored.{history_of}
-use Rattle.sy_loop_history.specs.Goods.{assignments_of}
+use Rattle.sy_bank_level.specs.Stored.{chosen_of}
+use Rattle.sy_loop_spec.specs.Stored.{history_of}
+use Rattle.sy_loop_spec.specs.Goods.{assignments_of}
 use Rattle.sy_loop_goods.specs.Columns.{AreColumns}
 use Rattle.sy_loop_goods.specs.Leaves.{LeafLeaves}
 use Rattle.sy_loop_goods.specs.Memos.{IsMemo}

@@ -4,8 +4,8 @@ use Rattle.std.proofs.lemmas.Result.{IfOk-from_err}
 use Rattle.sy_terms.specs.Denoted.{expr_of}
 use Rattle.sy_grammar_base.specs.Questions.{question_of}
 use Rattle.sy_points.specs.Asked.{of_function}
-use Rattle.sy_loop_history.specs.Stored.{history_of}
-use Rattle.sy_loop_history.specs.Goods.{assignments_of}
+use Rattle.sy_loop_spec.specs.Stored.{history_of}
+use Rattle.sy_loop_spec.specs.Goods.{assignments_of}
 use Rattle.sy_loop_goods.specs.Judging.{IsTrueAt}
 use Rattle.sy_loop_truth.specs.Rests.{IsRest}
 use Rattle.sy_loop_goods.proofs.Told.{all_more, all_done}

@@ -2,8 +2,8 @@ use Rattle.std.proofs.Common.{map, take}
 use Rattle.std.specs.List.{All}
 use Rattle.sy_terms.specs.Denoted.{expr_of}
 use Rattle.sy_grammar_base.specs.Questions.{question_of}
-use Rattle.sy_loop_history.specs.Stored.{history_of}
-use Rattle.sy_loop_history.specs.Goods.{assignments_of}
+use Rattle.sy_loop_spec.specs.Stored.{history_of}
+use Rattle.sy_loop_spec.specs.Goods.{assignments_of}
 use Rattle.sy_loop_goods.specs.Judging.{IsTrueAt}
 use Rattle.sy_loop_goods.specs.Memos.{IsMemo}
 use Rattle.sy_loop_goods.proofs.judging.judge.Given as goal

@@ -1,6 +1,6 @@
 use Rattle.std.proofs.Common.{ap, Err}
 use Rattle.sy_terms.specs.Denoted.{val_of, vals_of}
-use Rattle.sy_grammar_laws.proofs.Problems.{problem_definitions}
+use Rattle.sy_grammar_base.proofs.Problems.{problem_definitions}
 use Rattle.sy_loop_truth.proofs.Saying.{says_leaves}
 use Rattle.sy_loop_goods.proofs.Told.{told}
 use Rattle.sy_loop_goods.proofs.judging.tell.Goals as goal

@@ -1,7 +1,7 @@
 use Rattle.std.proofs.Common.{◌∙◌, Some, ap, refl, sym}
 use Rattle.std.proofs.lemmas.Option.{slice_get_read}
 use Rattle.sy_terms.specs.Denoted.{val_of}
-use Rattle.sy_bank_rows.specs.Stored.{entry_of}
+use Rattle.sy_bank_level.specs.Stored.{entry_of}
 use Rattle.sy_loop_goods.proofs.Columns.{chosen_at}
 use Rattle.sy_loop_goods.proofs.leaf.copied.Goals as goal
 

@@ -4,9 +4,9 @@ use Rattle.std.proofs.lemmas.Option.{slice_get_read}
 use Rattle.std.proofs.lemmas.Result.{IfOk-from_err}
 use Rattle.sy_grammar_base.specs.Questions.{question_of}
 use Rattle.sy_grammar_base.specs.Solving.{AreMembers}
-use Rattle.sy_grammar_laws.proofs.Candidates.{bodies_fit}
-use Rattle.sy_bank_rows.specs.Banks.{Entry}
-use Rattle.sy_bank_rows.specs.Stored.{chosen_of, entry_of}
+use Rattle.sy_grammar_base.proofs.Candidates.{bodies_fit}
+use Rattle.sy_bank_level.specs.Banks.{Entry}
+use Rattle.sy_bank_level.specs.Stored.{chosen_of, entry_of}
 use Rattle.sy_loop_truth.proofs.Items.{has_place}
 use Rattle.sy_loop_goods.proofs.Columns.{chosen_at}
 use Rattle.sy_loop_goods.proofs.leaf.judge_leaf.Goals as goal

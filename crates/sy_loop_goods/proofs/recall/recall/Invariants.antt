@@ -1,9 +1,9 @@
 use Rattle.std.proofs.Common.{[], ◌∷◌, take}
 use Rattle.std.specs.List.{All}
 use Rattle.sy_grammar_base.specs.Questions.{question_of}
-use Rattle.sy_bank_rows.specs.Stored.{entry_of}
-use Rattle.sy_loop_history.specs.Stored.{history_of}
-use Rattle.sy_loop_history.specs.Goods.{assignments_of}
+use Rattle.sy_bank_level.specs.Stored.{entry_of}
+use Rattle.sy_loop_spec.specs.Stored.{history_of}
+use Rattle.sy_loop_spec.specs.Goods.{assignments_of}
 use Rattle.sy_loop_goods.specs.Judging.{IsTrueAt}
 use Rattle.sy_loop_goods.proofs.recall.recall.Given as goal
 

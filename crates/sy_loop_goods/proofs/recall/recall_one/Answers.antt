@@ -5,8 +5,8 @@ use Rattle.sy_terms.specs.declared.sort.Value.{Value}
 use Rattle.sy_terms.specs.declared.term.Term.{Term}
 use Rattle.sy_grammar_base.specs.Questions.{question_of}
 use Rattle.sy_points.specs.Asked.{of_function}
-use Rattle.sy_bank_rows.specs.Stored.{entry_of}
-use Rattle.sy_loop_history.specs.Stored.{counterexample_of, history_of}
+use Rattle.sy_bank_level.specs.Stored.{entry_of}
+use Rattle.sy_loop_spec.specs.Stored.{counterexample_of, history_of}
 use Rattle.sy_loop_truth.proofs.Places.{place_of}
 use Rattle.sy_loop_goods.proofs.Memos.{recalled}
 use Rattle.sy_loop_truth.proofs.Places.{assignment_at}

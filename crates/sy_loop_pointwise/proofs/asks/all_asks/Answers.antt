@@ -2,10 +2,10 @@ use Rattle.std.proofs.Common.{◌∙◌, ap, sym, subst, length, Some, refl, ari
 use Rattle.std.proofs.lemmas.List.{length_push}
 use Rattle.std.proofs.lemmas.Option.{slice_get-get_or}
 use Rattle.std.proofs.lemmas.Result.{IfOk-from_err}
-use Rattle.sy_loop_bounds.specs.Applications.{applications}
-use Rattle.sy_loop_subterms.specs.Denoted.{shape_of, shapes_of}
-use Rattle.sy_loop_subterms.specs.Shapes.{AreBelow, numbers_of, subterms, term_of}
-use Rattle.sy_loop_subterms.proofs.Shaped.{shape_is}
+use Rattle.sy_loop_spec.specs.Applications.{applications}
+use Rattle.sy_loop_pointwise.specs.Denoted.{shape_of, shapes_of}
+use Rattle.sy_loop_pointwise.specs.Shapes.{AreBelow, numbers_of, subterms, term_of}
+use Rattle.sy_loop_pointwise.proofs.Shaped.{shape_is}
 use Rattle.sy_loop_pointwise.specs.Asked.{AreApplications, AreKnown}
 use Rattle.sy_loop_pointwise.proofs.Calls.{at_shape}
 use Rattle.sy_loop_pointwise.proofs.Kept.{known_nothing, known_more}

@@ -1,6 +1,6 @@
 use Rattle.std.proofs.Common.{◌≡◌, length}
-use Rattle.sy_loop_subterms.specs.Denoted.{shapes_of}
-use Rattle.sy_loop_subterms.specs.Shapes.{subterms}
+use Rattle.sy_loop_pointwise.specs.Denoted.{shapes_of}
+use Rattle.sy_loop_pointwise.specs.Shapes.{subterms}
 use Rattle.sy_loop_pointwise.specs.Asked.{AreKnown}
 use Rattle.sy_loop_pointwise.proofs.asks.all_asks.Given as goal
 

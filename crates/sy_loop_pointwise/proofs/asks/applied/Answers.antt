@@ -1,7 +1,7 @@
 use Rattle.std.proofs.Common.{subst}
-use Rattle.sy_loop_bounds.specs.Applications.{all_applications}
-use Rattle.sy_loop_subterms.specs.Denoted.{shapes_of}
-use Rattle.sy_loop_subterms.specs.Shapes.{subterms}
+use Rattle.sy_loop_spec.specs.Applications.{all_applications}
+use Rattle.sy_loop_pointwise.specs.Denoted.{shapes_of}
+use Rattle.sy_loop_pointwise.specs.Shapes.{subterms}
 use Rattle.sy_loop_pointwise.specs.Asked.{AreApplications}
 use Rattle.sy_loop_pointwise.proofs.Asked.{applied_once, applied_again, applied_mixed}
 use Rattle.sy_loop_pointwise.proofs.asks.applied.Goals as goal

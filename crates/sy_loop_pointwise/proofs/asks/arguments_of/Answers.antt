@@ -2,7 +2,7 @@ use Rattle.std.proofs.Common.{◌∙◌, ap, sym, Some, arith}
 use Rattle.std.proofs.lemmas.Bool.{ltb-true}
 use Rattle.std.proofs.lemmas.List.{length-map}
 use Rattle.std.proofs.lemmas.Option.{slice_get-get_or}
-use Rattle.sy_loop_subterms.specs.Denoted.{shape_of, shapes_of}
+use Rattle.sy_loop_pointwise.specs.Denoted.{shape_of, shapes_of}
 use Rattle.sy_loop_pointwise.proofs.Calls.{no_call_past, call_arguments, no_call, at_shape, not_call}
 use Rattle.sy_loop_pointwise.proofs.asks.arguments_of.Goals as goal
 

@@ -2,9 +2,9 @@ use Rattle.std.proofs.Common.{◌<◌, arith, length, take, subst, sym, get_or, 
 use Rattle.std.proofs.lemmas.List.{take_all}
 use Rattle.std.proofs.lemmas.List.Elements.{All-get_or}
 use Rattle.std.proofs.lemmas.Option.{slice_get-get_or}
-use Rattle.sy_loop_bounds.specs.Applications.{applications, all_applications}
-use Rattle.sy_loop_subterms.specs.Denoted.{shapes_of}
-use Rattle.sy_loop_subterms.specs.Shapes.{subterms, term_of, terms_of}
+use Rattle.sy_loop_spec.specs.Applications.{applications, all_applications}
+use Rattle.sy_loop_pointwise.specs.Denoted.{shapes_of}
+use Rattle.sy_loop_pointwise.specs.Shapes.{subterms, term_of, terms_of}
 use Rattle.sy_loop_pointwise.specs.Asked.{AreApplications}
 use Rattle.sy_loop_pointwise.proofs.Kept.{asked_nothing, asked_more}
 use Rattle.sy_loop_pointwise.proofs.asks.asked_by.Goals as goal

@@ -1,9 +1,9 @@
 use Rattle.std.proofs.Common.{◌∙◌, ap, sym, subst, length}
 use Rattle.sy_terms.specs.Denoted.{val_of}
 use Rattle.sy_terms.specs.Expr.{Invoke}
-use Rattle.sy_loop_bounds.specs.Applications.{applications, all_applications}
-use Rattle.sy_loop_subterms.specs.Denoted.{shape_of, shapes_of}
-use Rattle.sy_loop_subterms.specs.Shapes.{AreBelow, numbers_of, shaped, subterms, term_of, terms_of}
+use Rattle.sy_loop_spec.specs.Applications.{applications, all_applications}
+use Rattle.sy_loop_pointwise.specs.Denoted.{shape_of, shapes_of}
+use Rattle.sy_loop_pointwise.specs.Shapes.{AreBelow, numbers_of, shaped, subterms, term_of, terms_of}
 use Rattle.sy_loop_pointwise.specs.Asked.{AreApplications}
 use Rattle.sy_loop_pointwise.proofs.Kept.{within_constant, within_variable, within_operator, within_defined}
 use Rattle.sy_loop_pointwise.proofs.asks.asks_of.Goals as goal

@@ -1,8 +1,8 @@
 use Rattle.std.proofs.Common.{◌∙◌, ◌++◌, sym, subst, true}
 use Rattle.std.proofs.lemmas.Bool.{true≢false}
 use Rattle.sy_terms.specs.declared.term.Fun.TheVariants.{Wanted}
-use Rattle.sy_loop_subterms.specs.Denoted.{shapes_of}
-use Rattle.sy_loop_subterms.specs.Shapes.{subterms}
+use Rattle.sy_loop_pointwise.specs.Denoted.{shapes_of}
+use Rattle.sy_loop_pointwise.specs.Shapes.{subterms}
 use Rattle.sy_loop_pointwise.specs.Asked.{AreApplications, IsTheCall}
 use Rattle.sy_loop_pointwise.proofs.Asked.{same_joined, others_joined, mixed_first, mixed_second}
 use Rattle.sy_loop_pointwise.proofs.asks.joined.Goals as goal

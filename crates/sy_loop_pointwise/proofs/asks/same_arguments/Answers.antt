@@ -1,4 +1,4 @@
-use Rattle.sy_loop_subterms.specs.Denoted.{shapes_of}
+use Rattle.sy_loop_pointwise.specs.Denoted.{shapes_of}
 use Rattle.sy_loop_pointwise.proofs.Calls.{same_calls}
 use Rattle.sy_loop_pointwise.proofs.asks.same_arguments.Goals as goal
 

@@ -1,6 +1,6 @@
 use Rattle.std.proofs.lemmas.Result.{IfOk-from_err}
 use Rattle.sy_grammar_base.specs.Questions.{question_of}
-use Rattle.sy_loop_bounds.specs.Pointwise.{IsPointwise}
+use Rattle.sy_loop_spec.specs.Pointwise.{IsPointwise}
 use Rattle.sy_loop_pointwise.specs.Posed.{ArePosed}
 use Rattle.sy_loop_pointwise.proofs.Constraints.{answered}
 use Rattle.sy_loop_pointwise.proofs.posed.pointwise.Goals as goal

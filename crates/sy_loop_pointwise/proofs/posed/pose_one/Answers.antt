@@ -3,9 +3,9 @@ use Rattle.std.proofs.lemmas.List.{length-map}
 use Rattle.std.proofs.lemmas.Result.{IfOk-from_err}
 use Rattle.sy_terms.specs.Denoted.{expr_of}
 use Rattle.sy_grammar_base.specs.Questions.{question_of}
-use Rattle.sy_loop_bounds.specs.WrittenOut.{written_out}
-use Rattle.sy_loop_subterms.specs.Denoted.{shape_of}
-use Rattle.sy_loop_subterms.specs.Shapes.{AreSubterms, subterms}
+use Rattle.sy_loop_spec.specs.WrittenOut.{written_out}
+use Rattle.sy_loop_pointwise.specs.Denoted.{shape_of}
+use Rattle.sy_loop_pointwise.specs.Shapes.{AreSubterms, subterms}
 use Rattle.sy_loop_pointwise.specs.Asked.{AreKnown}
 use Rattle.sy_loop_pointwise.specs.declared.asks.Asks.TheVariants.{Nothing, Calls, Mixed}
 use Rattle.sy_loop_pointwise.proofs.Kept.{known_at}

@@ -6,11 +6,11 @@ use Rattle.sy_terms.specs.Denoted.{vals_of}
 use Rattle.sy_terms.specs.Meaning.{functions}
 use Rattle.sy_terms.specs.declared.term.Fun.TheVariants.{Wanted}
 use Rattle.sy_grammar_base.specs.Questions.{question_of}
-use Rattle.sy_grammar_laws.proofs.Problems.{problem_definitions}
-use Rattle.sy_loop_bounds.specs.Applications.{applications}
-use Rattle.sy_loop_bounds.specs.WrittenOut.{written_out}
-use Rattle.sy_loop_subterms.specs.Denoted.{shape_of, shapes_of}
-use Rattle.sy_loop_subterms.specs.Shapes.{AreSubterms, subterms}
+use Rattle.sy_grammar_base.proofs.Problems.{problem_definitions}
+use Rattle.sy_loop_spec.specs.Applications.{applications}
+use Rattle.sy_loop_spec.specs.WrittenOut.{written_out}
+use Rattle.sy_loop_pointwise.specs.Denoted.{shape_of, shapes_of}
+use Rattle.sy_loop_pointwise.specs.Shapes.{AreSubterms, subterms}
 use Rattle.sy_loop_pointwise.specs.Asked.{IsTheCall}
 use Rattle.sy_loop_pointwise.specs.Posed.{PosesConstraint}
 use Rattle.sy_loop_pointwise.specs.Valued.{AreValued}

@@ -5,9 +5,9 @@ use Rattle.std.proofs.lemmas.Result.{IfOk-from_err}
 use Rattle.sy_terms.specs.Definitions.{bodies, scope_of}
 use Rattle.sy_terms.specs.Denoted.{vals_of}
 use Rattle.sy_terms.specs.Meaning.{functions}
-use Rattle.sy_loop_subterms.specs.Denoted.{shape_of, shapes_of}
-use Rattle.sy_loop_subterms.specs.Shapes.{AreBelow, numbers_of, subterms, term_of}
-use Rattle.sy_loop_subterms.proofs.Shaped.{shape_is}
+use Rattle.sy_loop_pointwise.specs.Denoted.{shape_of, shapes_of}
+use Rattle.sy_loop_pointwise.specs.Shapes.{AreBelow, numbers_of, subterms, term_of}
+use Rattle.sy_loop_pointwise.proofs.Shaped.{shape_is}
 use Rattle.sy_loop_pointwise.specs.Valued.{EachIsValued, IsValued}
 use Rattle.sy_loop_pointwise.proofs.Calls.{at_shape}
 use Rattle.sy_loop_pointwise.proofs.Values.{each_none, each_more}

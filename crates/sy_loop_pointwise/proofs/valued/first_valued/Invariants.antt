@@ -2,8 +2,8 @@ use Rattle.std.proofs.Common.{◌≡◌, length}
 use Rattle.sy_terms.specs.Definitions.{bodies, scope_of}
 use Rattle.sy_terms.specs.Denoted.{vals_of}
 use Rattle.sy_terms.specs.Meaning.{functions}
-use Rattle.sy_loop_subterms.specs.Denoted.{shapes_of}
-use Rattle.sy_loop_subterms.specs.Shapes.{subterms}
+use Rattle.sy_loop_pointwise.specs.Denoted.{shapes_of}
+use Rattle.sy_loop_pointwise.specs.Shapes.{subterms}
 use Rattle.sy_loop_pointwise.specs.Valued.{EachIsValued}
 use Rattle.sy_loop_pointwise.proofs.valued.first_valued.Given as goal
 

@@ -3,9 +3,9 @@ use Rattle.std.proofs.lemmas.Result.{IfOk-from_err}
 use Rattle.sy_terms.specs.Definitions.{bodies, scope_of}
 use Rattle.sy_terms.specs.Denoted.{val_of, vals_of, expr_of-Const, expr_of-App, expr_of-Call, exprs_of}
 use Rattle.sy_terms.specs.Meaning.{computable, functions}
-use Rattle.sy_terms_laws.specs.Evaluation.{TermFits}
-use Rattle.sy_loop_subterms.specs.Denoted.{shape_of}
-use Rattle.sy_loop_subterms.specs.Shapes.{AreBelow, numbers_of, shaped, terms_of}
+use Rattle.sy_terms_operators.specs.Evaluation.{TermFits}
+use Rattle.sy_loop_pointwise.specs.Denoted.{shape_of}
+use Rattle.sy_loop_pointwise.specs.Shapes.{AreBelow, numbers_of, shaped, terms_of}
 use Rattle.sy_loop_pointwise.specs.Valued.{AreValued, IsValued}
 use Rattle.sy_loop_pointwise.proofs.Values.{applied_from, applied_unvalued, arguments_valued, called_from, called_unvalued, constant_valued}
 use Rattle.sy_loop_pointwise.proofs.valued.shape_value.Goals as goal

@@ -5,8 +5,8 @@ use Rattle.std.proofs.lemmas.List.Elements.{All-get_or}
 use Rattle.std.proofs.lemmas.Option.{slice_get-get_or}
 use Rattle.std.proofs.lemmas.Result.{IfOk-from_err}
 use Rattle.sy_terms.specs.Denoted.{val_of}
-use Rattle.sy_terms_laws.specs.Evaluation.{HasValue}
-use Rattle.sy_loop_subterms.specs.Shapes.{term_of}
+use Rattle.sy_terms_operators.specs.Evaluation.{HasValue}
+use Rattle.sy_loop_pointwise.specs.Shapes.{term_of}
 use Rattle.sy_loop_pointwise.specs.Valued.{IsValued}
 use Rattle.sy_loop_pointwise.proofs.Values.{all_valued, one_unvalued, zip_more}
 use Rattle.sy_loop_pointwise.proofs.valued.values_at.Goals as goal

@@ -5,8 +5,8 @@ use Rattle.sy_terms.specs.Expr.{Expr}
 use Rattle.sy_terms.specs.Denoted.{val_of}
 use Rattle.sy_terms.specs.Fitting.{Scope}
 use Rattle.sy_terms.specs.Meaning.{Function}
-use Rattle.sy_terms_laws.specs.Evaluation.{HasValue}
-use Rattle.sy_loop_subterms.specs.Shapes.{AreBelow, term_of}
+use Rattle.sy_terms_operators.specs.Evaluation.{HasValue}
+use Rattle.sy_loop_pointwise.specs.Shapes.{AreBelow, term_of}
 use Rattle.sy_loop_pointwise.specs.Valued.{EachIsValued}
 use Rattle.sy_loop_pointwise.proofs.valued.values_at.Given as goal
 

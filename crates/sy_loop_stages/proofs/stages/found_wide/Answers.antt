@@ -1,5 +1,5 @@
 use Rattle.sy_grammar_base.specs.Questions.{question_of}
-use Rattle.sy_loop_outcome.specs.declared.outcome.Outcome.TheVariants.{Found}
+use Rattle.sy_loop_spec.specs.declared.outcome.Outcome.TheVariants.{Found}
 use Rattle.sy_loop_stages.proofs.Staged.{found_within}
 use Rattle.sy_loop_stages.proofs.stages.found_wide.Goals as goal
 

@@ -1,4 +1,4 @@
-use Rattle.sy_bank_rows.specs.Shared.{term_from-Leaf}
+use Rattle.sy_bank_level.specs.Shared.{term_from-Leaf}
 use Rattle.sy_loop_tests.proofs.part_rows.kept.Goals as goal
 
 pub returns : goal.returns

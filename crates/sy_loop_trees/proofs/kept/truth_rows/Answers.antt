@@ -3,8 +3,8 @@ use Rattle.std.proofs.lemmas.List.{take_all}
 use Rattle.sy_terms.specs.Values as values
 use Rattle.sy_terms.specs.Denoted.{vals_of}
 use Rattle.sy_terms.specs.declared.sort.Value.{Value}
-use Rattle.sy_bank_rows.specs.Stored.{chosen_of}
-use Rattle.sy_loop_history.specs.Trees.{truths}
+use Rattle.sy_bank_level.specs.Stored.{chosen_of}
+use Rattle.sy_loop_spec.specs.Trees.{truths}
 use Rattle.sy_loop_trees.proofs.Listed.{rows_more}
 use Rattle.sy_loop_trees.proofs.kept.truth_rows.Goals as goal
 

@@ -1,6 +1,6 @@
 use Rattle.std.proofs.Common.{◌≡◌, take}
-use Rattle.sy_bank_rows.specs.Stored.{chosen_of}
-use Rattle.sy_loop_history.specs.Trees.{truths}
+use Rattle.sy_bank_level.specs.Stored.{chosen_of}
+use Rattle.sy_loop_spec.specs.Trees.{truths}
 use Rattle.sy_loop_trees.proofs.kept.truth_rows.Given as goal
 
 abbrev pub invariant-loop-kept : goal.invariant-loop-kept

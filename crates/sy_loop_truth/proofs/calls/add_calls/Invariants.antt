@@ -1,5 +1,5 @@
 use Rattle.std.proofs.Common.{take}
-use Rattle.sy_loop_history.specs.Adding.{GainsTuples, AreAsked}
+use Rattle.sy_loop_spec.specs.Adding.{GainsTuples, AreAsked}
 use Rattle.sy_loop_truth.proofs.Tuples.{Changed}
 use Rattle.sy_loop_truth.proofs.calls.add_calls.Given as goal
 

@@ -2,7 +2,7 @@ use Rattle.std.proofs.Common.{map}
 use Rattle.std.proofs.lemmas.Result.{IfOk-from_err}
 use Rattle.sy_terms.specs.Denoted.{expr_of, vals_of}
 use Rattle.sy_grammar_base.specs.Questions.{question_of}
-use Rattle.sy_grammar_laws.proofs.Problems.{problem_assumptions, problem_constraints}
+use Rattle.sy_grammar_base.proofs.Problems.{problem_assumptions, problem_constraints}
 use Rattle.sy_loop_truth.proofs.Saying.{judged, unassumed, assumption_leaves}
 use Rattle.sy_loop_truth.proofs.truth.judge.Goals as goal
 

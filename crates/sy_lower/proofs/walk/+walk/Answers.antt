@@ -2,7 +2,7 @@ use Rattle.std.proofs.Common.{arith, ◌∙◌, refl, ap}
 use Rattle.std.proofs.lemmas.List.{take_all}
 use Rattle.sy_terms.specs.Values.{Whole}
 use Rattle.sy_terms.specs.Denoted.{expr_of, exprs_of, expr_of-Const, expr_of-Var, expr_of-App, expr_of-Call, expr_of-Let}
-use Rattle.sy_terms_laws.proofs.Steps.{app-falls, let-falls, all-falls}
+use Rattle.sy_terms_operators.proofs.Steps.{app-falls, let-falls, all-falls}
 use Rattle.sy_lower.proofs.Lists.{taken, pushed, longer_names, cut_off}
 use Rattle.sy_lower.proofs.Steps as step
 use Rattle.sy_lower.proofs.walk.+walk.Goals as goal

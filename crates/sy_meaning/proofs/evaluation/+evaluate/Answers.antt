@@ -5,12 +5,12 @@ use Rattle.std.proofs.lemmas.List.{take_all}
 use Rattle.std.proofs.lemmas.Result.{IfOk-from_err}
 use Rattle.sy_terms.specs.Expr.{nodes}
 use Rattle.sy_terms.specs.Denoted.{expr_of}
-use Rattle.sy_terms_laws.proofs.Steps as step
-use Rattle.sy_terms_laws.proofs.Reached as reached
-use Rattle.sy_terms_laws.proofs.Asks as asks
+use Rattle.sy_terms_operators.proofs.Steps as step
+use Rattle.sy_terms_operators.proofs.Reached as reached
+use Rattle.sy_terms_operators.proofs.Asks as asks
 use Rattle.sy_meaning.proofs.Rightly as rightly
-use Rattle.sy_terms_laws.proofs.Reached.{weight_of}
-use Rattle.sy_terms_laws.proofs.Lists.{weight, HaveValues-none}
+use Rattle.sy_terms_operators.proofs.Reached.{weight_of}
+use Rattle.sy_terms_operators.proofs.Lists.{weight, HaveValues-none}
 use Rattle.sy_meaning.proofs.evaluation.+evaluate.Goals as goal
 
 -- an error that `?` hands on is the same

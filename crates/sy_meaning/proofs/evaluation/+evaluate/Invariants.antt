@@ -4,12 +4,12 @@ use Rattle.sy_terms.specs.Expr.{nodes, nodes_of}
 use Rattle.sy_terms.specs.Denoted.{vals_of, expr_of, exprs_of}
 use Rattle.sy_terms.specs.Meaning.{functions}
 use Rattle.sy_terms.specs.Definitions.{bodies}
-use Rattle.sy_terms_laws.specs.Evaluation.{BodiesFit, TermsFit, HaveValues, scope_with, wanted_functions}
-use Rattle.sy_terms_laws.specs.Asking.{all_asks}
-use Rattle.sy_terms_laws.specs.Tracing.{GainsCalls}
+use Rattle.sy_terms_operators.specs.Evaluation.{BodiesFit, TermsFit, HaveValues, scope_with, wanted_functions}
+use Rattle.sy_terms_operators.specs.Asking.{all_asks}
+use Rattle.sy_terms_operators.specs.Tracing.{GainsCalls}
 use Rattle.sy_meaning.specs.Calls.{IsCallOf}
-use Rattle.sy_terms_laws.proofs.Lists.{weight}
-use Rattle.sy_terms_laws.proofs.Reached.{weight_of}
+use Rattle.sy_terms_operators.proofs.Lists.{weight}
+use Rattle.sy_terms_operators.proofs.Reached.{weight_of}
 use Rattle.sy_meaning.proofs.evaluation.+evaluate.Given as goal
 
 abbrev pub decreases-evaluate_under : goal.decreases-evaluate_under

@@ -1,10 +1,10 @@
 use Rattle.std.proofs.Common.{Result, Ok, Err, OnOk, subst}
 use Rattle.sy_terms.specs.Denoted.{vals_of, expr_of}
-use Rattle.sy_terms_laws.specs.Evaluation.{wanted_functions}
-use Rattle.sy_terms_laws.specs.Asking.{asks}
-use Rattle.sy_terms_laws.specs.Agreement.{Agree}
-use Rattle.sy_terms_laws.proofs.Agreement.{same_under}
-use Rattle.sy_terms_laws.proofs.Traced.{agree_all}
+use Rattle.sy_terms_operators.specs.Evaluation.{wanted_functions}
+use Rattle.sy_terms_operators.specs.Asking.{asks}
+use Rattle.sy_terms_operators.specs.Agreement.{Agree}
+use Rattle.sy_terms_operators.proofs.Agreement.{same_under}
+use Rattle.sy_terms_operators.proofs.Traced.{agree_all}
 use Rattle.sy_meaning.proofs.evaluation.evaluate_with.Goals as goal
 
 on_ok : {T E : Type 0} {P Q : Type 0} (r : Result T E) → OnOk r P → (P → Q) → OnOk r Q

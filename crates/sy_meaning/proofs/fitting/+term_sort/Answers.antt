@@ -1,6 +1,6 @@
 use Rattle.std.proofs.Common.{arith, ◌++◌, ap, sym, ◌∙◌, Result, Ok, Err, IfOk}
 use Rattle.std.proofs.lemmas.Result.{IfOk-from_err}
-use Rattle.sy_terms_laws.proofs.Steps as step
+use Rattle.sy_terms_operators.proofs.Steps as step
 use Rattle.sy_meaning.proofs.Sorts as sorts
 use Rattle.sy_meaning.proofs.fitting.+term_sort.Goals as goal
 

@@ -1,5 +1,5 @@
 use Rattle.std.proofs.Common.{◌≡◌, sym, ap, ◌∙◌, nat_eq, ◌&&◌, Bool, true, arith}
-use Rattle.sy_terms_laws.proofs.Traced.{test_is}
+use Rattle.sy_terms_operators.proofs.Traced.{test_is}
 use Rattle.sy_meaning.proofs.trace.is_call.Goals as goal
 
 then_and : (b r s : Bool) → b ≡ true → r ≡ s → r ≡ (b && s)

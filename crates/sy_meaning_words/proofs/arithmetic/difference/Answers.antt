@@ -1,7 +1,7 @@
 use Rattle.std.proofs.Common.{ap, ◌∙◌}
 use Rattle.sy_terms.specs.Values.{Bits}
-use Rattle.sy_meaning_numbers.proofs.Masks.{is_fit}
-use Rattle.sy_meaning_numbers.proofs.Wrapping.{wrap_sub}
+use Rattle.sy_meaning_core.proofs.Masks.{is_fit}
+use Rattle.sy_meaning_core.proofs.Wrapping.{wrap_sub}
 use Rattle.sy_meaning_words.proofs.arithmetic.difference.Goals as goal
 
 pub returns : goal.returns

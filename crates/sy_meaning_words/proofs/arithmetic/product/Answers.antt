@@ -1,7 +1,7 @@
 use Rattle.std.proofs.Common.{ap, ◌∙◌}
 use Rattle.sy_terms.specs.Values.{Bits}
-use Rattle.sy_meaning_numbers.proofs.Masks.{is_fit}
-use Rattle.sy_meaning_numbers.proofs.Wrapping.{mod_64}
+use Rattle.sy_meaning_core.proofs.Masks.{is_fit}
+use Rattle.sy_meaning_core.proofs.Wrapping.{mod_64}
 use Rattle.std.proofs.Common.{◌*◌}
 use Rattle.sy_meaning_words.proofs.arithmetic.product.Goals as goal
 

@@ -1,6 +1,6 @@
 use Rattle.std.proofs.Common.{arith, ap, ◌∙◌}
 use Rattle.sy_terms.specs.Values.{Bits}
-use Rattle.sy_meaning_numbers.proofs.Masks.{is_fit}
+use Rattle.sy_meaning_core.proofs.Masks.{is_fit}
 use Rattle.sy_meaning_words.proofs.Numbers.{shift_up}
 use Rattle.sy_meaning_words.proofs.shifts.shifted_left.Goals as goal
 

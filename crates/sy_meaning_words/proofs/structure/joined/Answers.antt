@@ -1,6 +1,6 @@
 use Rattle.std.proofs.Common.{ap, ◌∙◌}
 use Rattle.sy_terms.specs.Values.{Bits}
-use Rattle.sy_meaning_numbers.proofs.Masks.{is_fit}
+use Rattle.sy_meaning_core.proofs.Masks.{is_fit}
 use Rattle.sy_meaning_words.proofs.Numbers.{cat_is, cat_fits}
 use Rattle.std.proofs.Common.{◌+◌}
 use Rattle.sy_meaning_words.proofs.structure.joined.Goals as goal

@@ -4,7 +4,7 @@ use Rattle.std.proofs.lemmas.List.{take_all}
 use Rattle.std.proofs.lemmas.List.Elements.{All-more}
 use Rattle.sy_clauses.specs.declared.Line.{Line}
 use Rattle.sy_proof.specs.Lists.{each_item, spaced}
-use Rattle.sy_text_reader.specs.Spelling.{item_text}
+use Rattle.sy_text.specs.Spelling.{item_text}
 use Rattle.sy_proof.specs.Logs.{line_item, LineIsSmall}
 use Rattle.sy_proof.proofs.Lists.{written_step}
 use Rattle.sy_proof.proofs.logs.put_lines.Goals as goal

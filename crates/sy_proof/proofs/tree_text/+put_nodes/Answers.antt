@@ -2,7 +2,7 @@ use Rattle.std.proofs.Common.{◌≡◌, ◌++◌, ◌∷◌, subst, sym, rules}
 use Rattle.std.specs.Prelude.{OnOk}
 use Rattle.std.proofs.lemmas.Int.{to_z-of_z}
 use Rattle.sy_text_items.specs.Lexicon.{digit, letter, mark, symbol_byte}
-use Rattle.sy_text_reader.specs.Spelling.{atom_text, bare, item_text, symbol_text}
+use Rattle.sy_text.specs.Spelling.{atom_text, bare, item_text, symbol_text}
 use Rattle.sy_linear_known.specs.declared.tree.Tree.{Tree}
 use Rattle.sy_proof.specs.Lists.{each_item, spaced}
 use Rattle.sy_proof.specs.Nodes.{node_item}

@@ -2,7 +2,7 @@ use Rattle.std.proofs.Common.{◌≡◌, ◌++◌, subst}
 use Rattle.std.specs.Prelude.{codes}
 use Rattle.std.proofs.lemmas.Int.{to_z-of_z}
 use Rattle.sy_text_items.specs.Lexicon.{digit, letter, mark, symbol_byte}
-use Rattle.sy_text_reader.specs.Spelling.{atom_text, bare, item_text, symbol_text}
+use Rattle.sy_text.specs.Spelling.{atom_text, bare, item_text, symbol_text}
 use Rattle.sy_proof.specs.Lists.{each_item}
 use Rattle.sy_proof.specs.Numbers.{fraction_item, whole_item}
 use Rattle.sy_proof.proofs.Texts.{word_text_then}

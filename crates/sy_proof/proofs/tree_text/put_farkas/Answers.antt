@@ -1,6 +1,6 @@
 use Rattle.std.specs.Prelude.{codes}
 use Rattle.sy_text_items.specs.Lexicon.{digit, letter, mark, symbol_byte}
-use Rattle.sy_text_reader.specs.Spelling.{atom_text, bare, symbol_text}
+use Rattle.sy_text.specs.Spelling.{atom_text, bare, symbol_text}
 use Rattle.sy_proof.specs.Lists.{each_item}
 use Rattle.sy_proof.specs.Numbers.{fraction_item}
 use Rattle.sy_proof.proofs.Texts.{word_then}

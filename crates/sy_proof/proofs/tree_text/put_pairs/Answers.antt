@@ -2,9 +2,9 @@ use Rattle.std.proofs.Common.{◌<◌, ◌∷◌, length, get_or, refl, subst, a
 use Rattle.std.specs.Prelude.{All, pos}
 use Rattle.std.proofs.lemmas.List.{take_all}
 use Rattle.std.proofs.lemmas.List.Elements.{All-more}
-use Rattle.sy_linear_forms.specs.Forms.{Coefficient}
+use Rattle.sy_linear_known.specs.Forms.{Coefficient}
 use Rattle.sy_proof.specs.Lists.{each_item, spaced}
-use Rattle.sy_text_reader.specs.Spelling.{item_text}
+use Rattle.sy_text.specs.Spelling.{item_text}
 use Rattle.sy_proof.specs.Nodes.{pair_item, PairFits}
 use Rattle.sy_proof.proofs.Lists.{written_step}
 use Rattle.sy_proof.proofs.tree_text.put_pairs.Goals as goal

@@ -1,7 +1,7 @@
 use Rattle.std.proofs.Common.{◌++◌, ap, ◌∙◌, List, ℕ}
 use Rattle.std.specs.Prelude.{codes}
 use Rattle.sy_text_items.specs.Lexicon.{digit, letter, mark, symbol_byte}
-use Rattle.sy_text_reader.specs.Spelling.{atom_text, bare, symbol_text}
+use Rattle.sy_text.specs.Spelling.{atom_text, bare, symbol_text}
 use Rattle.sy_linear_known.specs.Stored.{tree_shape_of}
 use Rattle.sy_proof.specs.Lists.{each_item}
 use Rattle.sy_proof.specs.Nodes.{node_item}

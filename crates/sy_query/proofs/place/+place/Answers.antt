@@ -4,9 +4,9 @@ use Rattle.std.proofs.lemmas.List.{take_all}
 use Rattle.std.proofs.Math.Seq.{take-append_seam}
 use Rattle.std.proofs.lemmas.Result.{IfOk-from_err}
 use Rattle.sy_query_base.specs.Weights.{query_scope}
-use Rattle.sy_terms_laws.proofs.Steps as laws
-use Rattle.sy_terms_laws.proofs.Lists.{weight}
-use Rattle.sy_terms_laws.proofs.Reached.{weight_of}
+use Rattle.sy_terms_operators.proofs.Steps as laws
+use Rattle.sy_terms_operators.proofs.Lists.{weight}
+use Rattle.sy_terms_operators.proofs.Reached.{weight_of}
 use Rattle.sy_query.proofs.Forms as forms
 use Rattle.sy_query.proofs.Steps as step
 use Rattle.sy_query.proofs.Walking as walk

@@ -1,8 +1,8 @@
 use Rattle.std.proofs.Common.{◌≡◌, ◌+◌, ◌*◌, take, length}
 use Rattle.sy_terms.specs.Expr.{nodes, nodes_of}
 use Rattle.sy_terms.specs.Denoted.{expr_of, exprs_of}
-use Rattle.sy_terms_laws.proofs.Lists.{weight}
-use Rattle.sy_terms_laws.proofs.Reached.{weight_of}
+use Rattle.sy_terms_operators.proofs.Lists.{weight}
+use Rattle.sy_terms_operators.proofs.Reached.{weight_of}
 use Rattle.sy_query_base.specs.Weights.{query_scope}
 use Rattle.sy_query.specs.Placing.{all_placed_with, AreBuilt}
 use Rattle.sy_query.proofs.place.+place.Given as goal

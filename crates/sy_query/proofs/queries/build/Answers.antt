@@ -3,7 +3,7 @@ use Rattle.std.proofs.lemmas.Result.{IfOk-from_err}
 use Rattle.sy_terms.specs.Denoted.{expr_of}
 use Rattle.sy_terms.specs.declared.op.Op.TheVariants as ops
 use Rattle.sy_grammar_base.specs.Questions.{question_of}
-use Rattle.sy_grammar_laws.proofs.Problems.{problem_definitions, problem_variables, problem_assumptions, problem_constraints}
+use Rattle.sy_grammar_base.proofs.Problems.{problem_definitions, problem_variables, problem_assumptions, problem_constraints}
 use Rattle.sy_query_base.specs.Asked.{Query, QueryFits, query_weight}
 use Rattle.sy_query_base.specs.Queries.{IsViolation}
 use Rattle.sy_query_base.proofs.Violations.{says}

@@ -2,7 +2,7 @@ use Rattle.sy_terms.specs.Expr.{Apply}
 use Rattle.sy_terms.specs.Denoted.{expr_of, exprs_of}
 use Rattle.sy_terms.specs.declared.op.Op.TheVariants as ops
 use Rattle.sy_meaning_words.specs.Vectors.{vector}
-use Rattle.sy_query_sums.specs.Sums.{IsSameOver}
+use Rattle.sy_rewrite_orders.specs.Sums.{IsSameOver}
 use Rattle.sy_query_normal.proofs.Pairs.{over_these}
 use Rattle.sy_query_normal.proofs.normal.anew.Goals as goal
 

@@ -1,7 +1,7 @@
 use Rattle.std.proofs.Common.{◌∙◌, ap}
 use Rattle.sy_terms.specs.Expr.{Apply}
 use Rattle.sy_terms.specs.Denoted.{exprs_of}
-use Rattle.sy_terms_laws.proofs.Steps.{app-is}
+use Rattle.sy_terms_operators.proofs.Steps.{app-is}
 use Rattle.sy_meaning_words.specs.Vectors.{vector}
 use Rattle.sy_query_normal.proofs.parts.arguments_under.Goals as goal
 

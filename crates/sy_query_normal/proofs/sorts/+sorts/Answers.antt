@@ -5,7 +5,7 @@ use Rattle.sy_terms.specs.Sorts.{sort_of}
 use Rattle.sy_terms.specs.Theories.{sort_of_value}
 use Rattle.sy_terms.specs.Denoted.{expr_of, exprs_of, val_of, expr_of-Const, expr_of-Var}
 use Rattle.sy_terms.specs.Meaning.{meanings}
-use Rattle.sy_terms_laws.proofs.Steps.{app-is}
+use Rattle.sy_terms_operators.proofs.Steps.{app-is}
 use Rattle.sy_meaning_words.specs.Vectors.{vector}
 use Rattle.sy_query_normal.proofs.Terms.{constant_sorted, variable_sorted, application_sorted, operator_sorted, next_sorted}
 use Rattle.sy_query_normal.proofs.Truths.{says_truth}

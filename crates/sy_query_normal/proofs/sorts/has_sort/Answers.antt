@@ -1,6 +1,6 @@
 use Rattle.std.proofs.Common.{sym, ◌∙◌}
 use Rattle.std.proofs.lemmas.Result.{IfOk-from_err}
-use Rattle.sy_terms_laws.proofs.Equations.{same_sort_is}
+use Rattle.sy_terms_operators.proofs.Equations.{same_sort_is}
 use Rattle.sy_query_normal.proofs.sorts.has_sort.Goals as goal
 
 pub returns : goal.returns

@@ -3,7 +3,7 @@ use Rattle.std.proofs.lemmas.Result.{IfOk-from_err}
 use Rattle.sy_terms.specs.Expr.{Apply}
 use Rattle.sy_terms.specs.Denoted.{expr_of, exprs_of}
 use Rattle.sy_meaning_words.specs.Vectors.{vector}
-use Rattle.sy_query_sums.specs.Sums.{IsSameOver}
+use Rattle.sy_rewrite_orders.specs.Sums.{IsSameOver}
 use Rattle.sy_query_normal.proofs.Terms.{gathered_same}
 use Rattle.sy_query_normal.proofs.unordered.gathered.Goals as goal
 

@@ -1,6 +1,6 @@
 use Rattle.std.proofs.Common.{sym, ◌∙◌, ap, ◌++◌, map}
 use Rattle.std.proofs.lemmas.List.{drop_more, drop_all}
-use Rattle.sy_text_reader.specs.Spelling.{numeral_text}
+use Rattle.sy_text.specs.Spelling.{numeral_text}
 use Rattle.sy_reply.proofs.Written as written
 use Rattle.sy_reply.specs.Replies.{spaced}
 use Rattle.sy_reply.proofs.symbols.write_indexed.Goals as goal

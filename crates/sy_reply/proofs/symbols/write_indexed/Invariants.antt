@@ -1,5 +1,5 @@
 use Rattle.std.proofs.Common.{◌≡◌, ◌++◌, map, drop}
-use Rattle.sy_text_reader.specs.Spelling.{numeral_text}
+use Rattle.sy_text.specs.Spelling.{numeral_text}
 use Rattle.sy_reply.specs.Replies.{spaced}
 use Rattle.sy_reply.proofs.symbols.write_indexed.Given as goal
 

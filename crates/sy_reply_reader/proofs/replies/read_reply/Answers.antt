@@ -1,7 +1,7 @@
 use Rattle.std.proofs.Common.{◌≡◌, ap, map, length, Ok, arith}
 use Rattle.std.proofs.lemmas.Result.{err_from_is_err_and}
 use Rattle.sy_grammar_base.specs.Questions.{question_of}
-use Rattle.sy_reply_statements.specs.Statements.{statement_of}
+use Rattle.sy_reply.specs.Statements.{statement_of}
 use Rattle.sy_reply_reader.specs.Replies.{statements_from}
 use Rattle.sy_reply_reader.proofs.Fitting.{statements_fit, all_stated}
 use Rattle.sy_reply_reader.proofs.Leading.{leads_all, leads_step, ends_step, ends_all, leads_to_all}

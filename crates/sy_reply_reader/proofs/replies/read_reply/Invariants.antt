@@ -1,6 +1,6 @@
 use Rattle.std.proofs.Common.{◌≡◌, ◌+◌, map, drop}
 use Rattle.sy_grammar_base.specs.Questions.{question_of}
-use Rattle.sy_reply_statements.specs.Statements.{statement_of}
+use Rattle.sy_reply.specs.Statements.{statement_of}
 use Rattle.sy_reply_reader.specs.Replies as spec
 use Rattle.sy_reply_reader.proofs.Leading.{Leads}
 use Rattle.sy_reply_reader.proofs.replies.read_reply.Given as goal

@@ -1,6 +1,6 @@
 use Rattle.std.proofs.Common.{◌≡◌, ◌-◌, length}
 use Rattle.sy_scope_steps.specs.Files.{file_read}
-use Rattle.sy_scope_laws.specs.Sound.{Sound}
+use Rattle.sy_scope.specs.Sound.{Sound}
 use Rattle.sy_scope.specs.Read.{LeadsToOutcome}
 use Rattle.sy_scope_declared.specs.Seen.{context_of}
 use Rattle.sy_scope.proofs.file.read_commands.Given as goal

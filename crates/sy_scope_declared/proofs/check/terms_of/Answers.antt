@@ -1,7 +1,7 @@
 use Rattle.std.proofs.Common.{map}
 use Rattle.sy_terms.specs.Denoted.{expr_of}
-use Rattle.sy_forms_phrases.specs.Meant.{phrase_of}
-use Rattle.sy_forms_phrases.specs.Phrases.{expr_at}
+use Rattle.sy_forms_items.specs.Meant.{phrase_of}
+use Rattle.sy_forms_items.specs.Phrases.{expr_at}
 use Rattle.sy_scope_declared.proofs.Alike.{more_alike, all_seen}
 use Rattle.sy_scope_declared.proofs.check.terms_of.Goals as goal
 

@@ -1,4 +1,4 @@
-use Rattle.sy_forms_names.specs.declared.names.Named.{Named}
+use Rattle.sy_forms_items.specs.declared.names.Named.{Named}
 use Rattle.sy_scope_declared.proofs.Alike.{more_made, all_made}
 use Rattle.sy_scope_declared.proofs.titles.names_of.Goals as goal
 

@@ -1,5 +1,5 @@
 use Rattle.std.proofs.Common.{◌≡◌, map, take}
-use Rattle.sy_forms_names.specs.declared.names.Named.{Named}
+use Rattle.sy_forms_items.specs.declared.names.Named.{Named}
 use Rattle.sy_scope_declared.proofs.titles.names_of.Given as goal
 
 abbrev pub invariant-loop-argument : goal.invariant-loop-argument

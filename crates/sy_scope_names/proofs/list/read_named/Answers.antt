@@ -3,7 +3,7 @@ use Rattle.std.proofs.lemmas.Bool.{le-ltb, lt-ltb}
 use Rattle.std.proofs.lemmas.Result.{err_from_is_err_and}
 use Rattle.sy_text_items.specs.Views.{item_of}
 use Rattle.sy_scope_causes.specs.declared.cause.Cause.TheVariants as cause
-use Rattle.sy_forms_names.specs.declared.names.Named.{Named}
+use Rattle.sy_forms_items.specs.declared.names.Named.{Named}
 use Rattle.sy_forms_items.specs.Parts.{place_of}
 use Rattle.sy_forms_items.specs.Readings.{refuse}
 use Rattle.sy_forms_items.specs.Views.{items_in}

@@ -3,10 +3,10 @@ use Rattle.std.proofs.lemmas.Bool.{le-ltb, lt-ltb}
 use Rattle.std.proofs.lemmas.Result.{err_from_is_err_and}
 use Rattle.sy_text_items.specs.Views.{item_of}
 use Rattle.sy_scope_causes.specs.declared.cause.Cause.TheVariants as cause
-use Rattle.sy_forms_phrases.specs.Rulings.{ruling_of}
+use Rattle.sy_forms_items.specs.Rulings.{ruling_of}
 use Rattle.sy_forms_items.specs.Readings.{refuse}
 use Rattle.sy_forms.specs.Rules.{read_rule}
-use Rattle.sy_forms_names.specs.Seen.{environment_of}
+use Rattle.sy_forms_items.specs.Seen.{environment_of}
 use Rattle.sy_forms_items.specs.Views.{items_in}
 use Rattle.sy_forms_items.proofs.Readings as readings
 use Rattle.sy_scope_steps.specs.Grammars as spec

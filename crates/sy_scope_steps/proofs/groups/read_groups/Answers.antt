@@ -1,10 +1,10 @@
 use Rattle.std.proofs.Common.{◌+◌, ◌∙◌, sym, arith, drop}
 use Rattle.std.proofs.lemmas.Result.{err_from_is_err_and}
-use Rattle.sy_forms_names.specs.Seen.{environment_of}
+use Rattle.sy_forms_items.specs.Seen.{environment_of}
 use Rattle.sy_text_items.specs.Views.{item_of}
 use Rattle.sy_forms_items.specs.Views.{items_in}
 use Rattle.sy_forms_items.proofs.Readings as readings
-use Rattle.sy_forms_names.proofs.Lookups.{found_at, drop-at}
+use Rattle.sy_forms_items.proofs.Lookups.{found_at, drop-at}
 use Rattle.sy_scope_steps.specs.Grammars as spec
 use Rattle.sy_scope_steps.specs.Seen.{grown_grammar_of}
 use Rattle.sy_scope_steps.proofs.Walking.{past, groups_over, groups_none, groups_more}

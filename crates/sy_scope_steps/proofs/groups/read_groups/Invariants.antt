@@ -1,5 +1,5 @@
 use Rattle.std.proofs.Common.{◌≡◌, drop}
-use Rattle.sy_forms_names.specs.Seen.{environment_of}
+use Rattle.sy_forms_items.specs.Seen.{environment_of}
 use Rattle.sy_forms_items.specs.Views.{items_in}
 use Rattle.sy_scope_steps.specs.Grammars as spec
 use Rattle.sy_scope_steps.specs.Seen.{grown_grammar_of}

@@ -1,6 +1,6 @@
 use Rattle.std.proofs.Common.{◌≡◌, ◌+◌, ℕ, ◌<◌, length}
-use Rattle.sy_simplex_tableau.specs.Rows.{at}
-use Rattle.sy_simplex_tableau.specs.Stated.{tableau_state_of}
+use Rattle.sy_simplex.specs.Rows.{at}
+use Rattle.sy_simplex.specs.Stated.{tableau_state_of}
 use Rattle.sy_simplex.specs.Runs.{IsMultiplier}
 use Rattle.sy_simplex.proofs.ends.multipliers.Given as goal
 

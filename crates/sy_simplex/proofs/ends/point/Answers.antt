@@ -1,7 +1,7 @@
 use Rattle.std.specs.Prelude.{pos}
-use Rattle.sy_simplex_tableau.specs.Operations.{fraction_of_whole}
-use Rattle.sy_simplex_tableau.specs.Stated.{tableau_state_of}
-use Rattle.sy_simplex_tableau.proofs.Pushed.{each_pushed}
+use Rattle.sy_simplex.specs.Operations.{fraction_of_whole}
+use Rattle.sy_simplex.specs.Stated.{tableau_state_of}
+use Rattle.sy_simplex.proofs.Pushed.{each_pushed}
 use Rattle.sy_simplex.proofs.Begun.{length_pushed}
 use Rattle.sy_simplex.specs.Runs.{IsValue}
 use Rattle.sy_simplex.proofs.ends.point.Goals as goal

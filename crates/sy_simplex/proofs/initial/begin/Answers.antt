@@ -3,7 +3,7 @@ use Rattle.std.proofs.lemmas.Result.{err_from_is_err_and}
 use Rattle.std.proofs.lemmas.List.{get_or_read}
 use Rattle.std.specs.Prelude.{pos}
 use Rattle.sy_frac.specs.Fraction.{IsInRange}
-use Rattle.sy_linear_forms.specs.Forms.{constant_form}
+use Rattle.sy_linear_known.specs.Forms.{constant_form}
 use Rattle.sy_simplex.specs.Problems.{form}
 use Rattle.sy_simplex.specs.Beginnings.{CoefficientsFit, IsBegun, IsFullRow}
 use Rattle.sy_simplex.proofs.Begun.{same_fault, no_misfit, begun_item}

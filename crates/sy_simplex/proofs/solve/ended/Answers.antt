@@ -1,7 +1,7 @@
 use Rattle.std.proofs.Common.{◌≡◌, ◌<◌, ◌+◌, ◌^◌, length, arith, sym, ap, refl, subst}
-use Rattle.sy_simplex_tableau.specs.Choices.{IsChoice}
-use Rattle.sy_simplex_tableau.specs.States.{BoundsAreMet, IsStuck, IsLeaving, IsEntering}
-use Rattle.sy_simplex_tableau.specs.Stated.{tableau_state_of}
+use Rattle.sy_simplex.specs.Choices.{IsChoice}
+use Rattle.sy_simplex.specs.States.{BoundsAreMet, IsStuck, IsLeaving, IsEntering}
+use Rattle.sy_simplex.specs.Stated.{tableau_state_of}
 use Rattle.sy_simplex.specs.Beginnings.{SomeUnfit, FormsFit}
 use Rattle.sy_simplex.specs.Runs.{Ran, begun, IsInitial, IsOutOfRange, form_unfit, choice_unfit, step_unfit}
 use Rattle.sy_simplex.proofs.Answering.{ran_shaped, ran_few, point_answer_sound, point_answer_exact, conflict_answer_sound, conflict_answer_exact, entering_nonzero, ran_more}

@@ -1,5 +1,5 @@
 use Rattle.std.proofs.Common.{◌≤◌, ◌-◌, length}
-use Rattle.sy_simplex_tableau.specs.Stated.{tableau_state_of}
+use Rattle.sy_simplex.specs.Stated.{tableau_state_of}
 use Rattle.sy_simplex.specs.Runs.{Ran}
 use Rattle.sy_simplex.proofs.solve.ended.Given as goal
 

@@ -1,4 +1,4 @@
-use Rattle.sy_grammar_laws.proofs.Problems.{problem_constraints}
+use Rattle.sy_grammar_base.proofs.Problems.{problem_constraints}
 use Rattle.sygus_drills.proofs.count.count_met.Goals as goal
 
 pub count_true-requires-clause-terms : goal.count_true-requires-clause-terms

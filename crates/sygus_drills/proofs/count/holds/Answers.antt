@@ -1,8 +1,8 @@
 use Rattle.std.proofs.Common.{ap, Err}
 use Rattle.std.proofs.lemmas.List.Elements.{All-nil}
 use Rattle.sy_terms.specs.Denoted.{val_of}
-use Rattle.sy_grammar_laws.proofs.Candidates.{bodies_fit}
-use Rattle.sy_grammar_laws.proofs.Problems.{problem_definitions}
+use Rattle.sy_grammar_base.proofs.Candidates.{bodies_fit}
+use Rattle.sy_grammar_base.proofs.Problems.{problem_definitions}
 use Rattle.sygus_drills.proofs.Closed.{fits_closed, says_met, never_out}
 use Rattle.sygus_drills.proofs.count.holds.Goals as goal
 

@@ -2,7 +2,7 @@ use Rattle.std.proofs.Common.{◌≡◌, ◌∙◌, ap, map, length, arith}
 use Rattle.std.proofs.lemmas.List.{length-map}
 use Rattle.sy_terms.specs.Denoted.{expr_of}
 use Rattle.sy_grammar_base.specs.Questions.{question_of}
-use Rattle.sygus_drill.specs.declared.line.DrillEnd.TheVariants.{Met}
+use Rattle.sygus_drills.specs.declared.line.DrillEnd.TheVariants.{Met}
 use Rattle.sygus_drills.proofs.Counting.{all_met}
 use Rattle.sygus_drills.proofs.drill_answers.end_of.Goals as goal
 

@@ -1,6 +1,6 @@
 use Rattle.sy_meaning_words.specs.Vectors as vectors
 use Rattle.sygus_drills.proofs.Drilling.{problem_asks, problem_fits, drilled_by, named_either}
-use Rattle.sygus_search.proofs.Named.{vectors_fit}
+use Rattle.sygus_answers.proofs.Named.{vectors_fit}
 use Rattle.sygus_drills.proofs.drills.drilled.Goals as goal
 
 pub drill-requires-clause-problem : goal.drill-requires-clause-problem

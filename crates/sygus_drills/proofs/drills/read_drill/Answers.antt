@@ -1,4 +1,4 @@
-use Rattle.sygus_drill_laws.proofs.Lengths.{files_are_short}
+use Rattle.sygus_drills.proofs.Lengths.{files_are_short}
 use Rattle.sygus_drills.proofs.Drilling.{not_refused, not_idle, not_integers, is_asked}
 use Rattle.sygus_drills.proofs.drills.read_drill.Goals as goal
 

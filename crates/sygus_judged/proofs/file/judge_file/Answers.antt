@@ -1,6 +1,6 @@
 use Rattle.std.proofs.Common.{◌≡◌}
 use Rattle.sy_scope.specs.Read.{wish_in}
-use Rattle.sy_scope_front.specs.Fronts.{front}
+use Rattle.sy_scope.specs.Fronts.{front}
 use Rattle.sygus_answers.proofs.Asked.{few_questions}
 use Rattle.sygus_judged.proofs.Judged.{judges_file, stops_file, refuses_file, not_two, widened}
 use Rattle.sygus_judged.proofs.file.judge_file.Goals as goal

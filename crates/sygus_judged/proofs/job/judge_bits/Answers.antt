@@ -2,8 +2,8 @@ use Rattle.std.proofs.Common.{refl, ap}
 use Rattle.sy_terms.specs.declared.sort.Logic.TheVariants.{Bv}
 use Rattle.sy_meaning_words.specs.Vectors.{vector}
 use Rattle.sy_bits.specs.Proofs as bits
-use Rattle.sygus_judges.specs.Found.{verdict_found}
-use Rattle.sygus_judges.specs.Proofs.{verdict_rechecked, verdict_spelled}
+use Rattle.sygus_verdicts.specs.Found.{verdict_found}
+use Rattle.sygus_verdicts.specs.Proofs.{verdict_rechecked, verdict_spelled}
 use Rattle.sygus_judged.proofs.Judged.{ends_kept}
 use Rattle.sygus_judged.proofs.job.judge_bits.Goals as goal
 

@@ -1,9 +1,9 @@
 use Rattle.std.proofs.Common.{refl, ap}
 use Rattle.sy_terms.specs.declared.sort.Logic.TheVariants.{Lia}
 use Rattle.sy_terms.specs.Values.{Whole}
-use Rattle.sy_intsolve_trees.specs.Budgets as int_budgets
-use Rattle.sygus_judges.specs.Found.{verdict_found}
-use Rattle.sygus_judges.specs.Proofs.{verdict_rechecked, verdict_spelled}
+use Rattle.sy_intsolve_cuts.specs.Budgets as int_budgets
+use Rattle.sygus_verdicts.specs.Found.{verdict_found}
+use Rattle.sygus_verdicts.specs.Proofs.{verdict_rechecked, verdict_spelled}
 use Rattle.sygus_judged.proofs.Judged.{ends_kept}
 use Rattle.sygus_judged.proofs.job.judge_ints.Goals as goal
 

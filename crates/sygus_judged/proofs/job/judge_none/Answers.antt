@@ -1,7 +1,7 @@
 use Rattle.std.proofs.Common.{◌≡◌, ◌∙◌, refl, map, subst, sym}
 use Rattle.std.specs.Prelude.{List}
-use Rattle.sy_reply_statements.specs.Ends.{ReplyReading, RepliesEndAs}
-use Rattle.sy_reply_statements.specs.Statements.{Statement, statement_of}
+use Rattle.sy_reply.specs.Ends.{ReplyReading, RepliesEndAs}
+use Rattle.sy_reply.specs.Statements.{Statement, statement_of}
 use Rattle.sy_scope.specs.Read.{wish_in}
 use Rattle.sy_scope.specs.declared.job.Job.TheVariants as jobs
 use Rattle.sy_terms.specs.Values.{Whole}

@@ -7,7 +7,7 @@ use Rattle.sy_meaning_integers.specs.Lia as lia
 use Rattle.sy_meaning_words.specs.Vectors as vectors
 use Rattle.sygus_solve.proofs.Answerable.{answerable}
 use Rattle.sygus_solve.proofs.Jobs.{texts_nothing, lines_nothing}
-use Rattle.sygus_search.proofs.Named.{ints_named, bits_named}
+use Rattle.sygus_answers.proofs.Named.{ints_named, bits_named}
 use Rattle.sygus_solve.proofs.job.answer.Goals as goal
 
 pub solve-solved-requires-clause-answerable : goal.solve-solved-requires-clause-answerable

@@ -4,7 +4,7 @@ use Rattle.sy_io.proofs.Streams.{appended_more}
 use Rattle.sy_grammar_base.specs.Questions.{question_of}
 use Rattle.sygus_replies.specs.Replies.{reply_for, replies_for, shown_for, all_shown_for}
 use Rattle.sygus_replies.proofs.Steps.{appended_nothing, texts-none, lines-none, right-none, replies-more, texts-more, right-more, lines-more, most-more, most-all, fails-more, fails-all, question_at, question_count, question_answerable}
-use Rattle.sygus_search.specs.RightAnswers.{RightOutcomeFor}
+use Rattle.sygus_answers.specs.RightAnswers.{RightOutcomeFor}
 use Rattle.sygus_answers.proofs.RuledOut.{not_five, not_six, five_not_small, five_not_none, five_not_one, five_not_six, six_not_small, six_not_none, six_not_one}
 use Rattle.sygus_solve.proofs.problems.solve.Goals as goal
 

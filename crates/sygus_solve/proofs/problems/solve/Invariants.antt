@@ -3,7 +3,7 @@ use Rattle.std.specs.Io.KnownBytes.{Appends}
 use Rattle.sy_grammar_base.specs.Questions.{question_of}
 use Rattle.sygus_replies.specs.Replies.{replies_for, all_shown_for}
 use Rattle.sygus_replies.specs.Texts.{texts, answer_lines}
-use Rattle.sygus_search.specs.RightAnswers.{AreRightFor}
+use Rattle.sygus_answers.specs.RightAnswers.{AreRightFor}
 use Rattle.sygus_solve.proofs.problems.solve.Given as goal
 
 abbrev pub invariant-loop-problem : goal.invariant-loop-problem

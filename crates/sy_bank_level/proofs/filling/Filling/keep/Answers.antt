@@ -4,7 +4,7 @@ use Rattle.std.specs.Result.{IsErrAnd}
 use Rattle.std.proofs.lemmas.List.{length-map}
 use Rattle.std.proofs.lemmas.Result.{IfOk-from_err}
 use Rattle.sy_grammar_base.specs.Grown.{nonterminal_of}
-use Rattle.sy_bank_rows.specs.Stored.{entry_of}
+use Rattle.sy_bank_level.specs.Stored.{entry_of}
 use Rattle.sy_bank_level.specs.Filling.{EntryIsRight}
 use Rattle.sy_bank_level.specs.Places.{places_of}
 use Rattle.sy_bank_level.specs.declared.filling.Stop.TheVariants.{Want}

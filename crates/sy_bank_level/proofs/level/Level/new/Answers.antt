@@ -1,5 +1,5 @@
 use Rattle.std.proofs.Common.{◌≡◌, arith}
-use Rattle.sy_bank_rows.specs.Stored.{entry_of}
+use Rattle.sy_bank_level.specs.Stored.{entry_of}
 use Rattle.sy_bank_level.proofs.Hashes.{none-kept}
 use Rattle.sy_bank_level.proofs.level.Level.new.Goals as goal
 

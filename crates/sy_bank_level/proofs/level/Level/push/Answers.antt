@@ -2,7 +2,7 @@ use Rattle.std.proofs.Common.{◌<◌, length, arith, refl, ap, ◌∙◌}
 use Rattle.std.proofs.lemmas.List.{length-map}
 use Rattle.std.proofs.lemmas.Result.{err_from_is_err_and}
 use Rattle.std.proofs.lemmas.Result.{IfOk-from_err}
-use Rattle.sy_bank_rows.specs.Stored.{entry_of, entries_of}
+use Rattle.sy_bank_level.specs.Stored.{entry_of, entries_of}
 use Rattle.sy_bank_level.proofs.Hashes.{pushed-view, mapped-last, set-same}
 use Rattle.sy_bank_level.proofs.level.Level.push.Goals as goal
 

@@ -1,7 +1,7 @@
 use Rattle.std.proofs.Common.{rules, ◌≡◌}
 use Rattle.sy_terms.specs.Denoted.{vals_of}
 use Rattle.sy_meaning_words.specs.Vectors.{vector}
-use Rattle.sy_bits_terms.specs.Assignments.{assignment}
+use Rattle.sy_bits_circuit.specs.Assignments.{assignment}
 use Rattle.sy_bits_circuit.proofs.Reading.{read-satisfies}
 use Rattle.sy_bits_circuit.proofs.circuit.Circuit.read.Goals as goal
 

@@ -1,5 +1,5 @@
 use Rattle.std.proofs.Common.{refl}
-use Rattle.sy_forms_phrases.specs.Meant.{phrases_of-append}
+use Rattle.sy_forms_items.specs.Meant.{phrases_of-append}
 use Rattle.sy_forms.proofs.apply.Several.push.Goals as goal
 
 pub returns : goal.returns

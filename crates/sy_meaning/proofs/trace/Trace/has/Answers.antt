@@ -1,8 +1,8 @@
 use Rattle.std.proofs.Common.{arith, ◌≡◌, sym, ◌∙◌, subst, true, false}
 use Rattle.std.proofs.lemmas.List.{take_all}
 use Rattle.sy_terms.specs.Denoted.{vals_of}
-use Rattle.sy_terms_laws.specs.Tracing.{has_call}
-use Rattle.sy_terms_laws.proofs.Traced.{scan-found, scan-more}
+use Rattle.sy_terms_operators.specs.Tracing.{has_call}
+use Rattle.sy_terms_operators.proofs.Traced.{scan-found, scan-more}
 use Rattle.sy_meaning.proofs.trace.Trace.has.Goals as goal
 
 pub returns-then-is_call : goal.returns-then-is_call

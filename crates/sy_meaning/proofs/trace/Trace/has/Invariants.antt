@@ -1,6 +1,6 @@
 use Rattle.std.proofs.Common.{◌≡◌, take, false}
 use Rattle.sy_terms.specs.Denoted.{vals_of}
-use Rattle.sy_terms_laws.specs.Tracing.{has_call, calls_of}
+use Rattle.sy_terms_operators.specs.Tracing.{has_call, calls_of}
 use Rattle.sy_meaning.proofs.trace.Trace.has.Given as goal
 
 abbrev pub invariant-loop-call : goal.invariant-loop-call

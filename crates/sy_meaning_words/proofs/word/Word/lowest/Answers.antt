@@ -1,6 +1,6 @@
 use Rattle.std.proofs.Common.{ap, ◌∙◌}
 use Rattle.sy_terms.specs.Values.{Bits}
-use Rattle.sy_meaning_numbers.proofs.Masks.{lowest_fits}
+use Rattle.sy_meaning_core.proofs.Masks.{lowest_fits}
 use Rattle.sy_meaning_words.proofs.word.Word.lowest.Goals as goal
 
 pub made-requires : goal.made-requires

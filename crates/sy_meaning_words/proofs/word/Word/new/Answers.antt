@@ -2,7 +2,7 @@ use Rattle.std.proofs.Common.{arith, ◌≡◌, ◌<◌, ◌≤◌, false, ℕ, 
 use Rattle.std.specs.Prelude.{nat_le, nat_lt, ◌&&◌}
 use Rattle.std.proofs.lemmas.Bool.Decides.{nat_tests}
 use Rattle.std.proofs.lemmas.Nat.{pow_pos}
-use Rattle.sy_meaning_numbers.proofs.Masks.{greatest, fits}
+use Rattle.sy_meaning_core.proofs.Masks.{greatest, fits}
 use Rattle.sy_meaning_words.proofs.word.Word.new.Goals as goal
 use Rattle.sy_meaning_words.proofs.word.Word.new.Goals.{else-width-ge1-via-then-width-ge1+then-width-le64+else-bits-width, else-width-ge1-via-then-width-ge1+else-width-le64, else-width-ge1-via-else-width-ge1}
 

@@ -1,6 +1,6 @@
 use Rattle.std.proofs.Common.{◌≡◌, ◌∙◌, ap, map, length, arith}
-use Rattle.sy_forms_phrases.specs.Meant.{phrase_of}
-use Rattle.sy_forms_phrases.specs.Phrases.{expr_at}
+use Rattle.sy_forms_items.specs.Meant.{phrase_of}
+use Rattle.sy_forms_items.specs.Phrases.{expr_at}
 use Rattle.sy_scope_names.specs.Contexts.{definition_signature, body_of, goal_sought, condition_at}
 use Rattle.sy_scope_declared.specs.Seen.{definition_of, sought_of, condition_of}
 use Rattle.sy_scope_declared.proofs.context.Context.problem.Goals as goal

@@ -1,0 +1,16 @@
+use Rattle.std.proofs.Common.{◌≡◌}
+use Rattle.sy_bank_level.specs.Filling.{IsSteady, LevelGrows}
+use Rattle.sy_bank_level.specs.Task.{world, level_state_of}
+use Rattle.sy_bank.proofs.Entries.{AllPassedBelow}
+use Rattle.sy_bank.proofs.passing.pass_all.Given as goal
+
+abbrev pub invariant-loop-nonterminal : goal.invariant-loop-nonterminal
+invariant-loop-nonterminal g l =
+    let w = world g.T.Theory.owned g.T.Theory.denotes l.task in
+    let r = level_state_of g.T.Theory.denotes l.fn.filling in
+    let s = level_state_of g.T.Theory.denotes l.filling in
+    record {
+      steady : IsSteady w s;
+      grows : LevelGrows w r s;
+      done : r.count ≡ s.count → AllPassedBelow w s l.task.size l.nonterminal;
+    }

@@ -1,3 +1,0 @@
-pub mod ConstantSizes
-pub mod Digits
-pub mod Offered

@@ -1,3 +1,0 @@
-pub mod Assignments
-pub mod Clauses
-pub mod Fitting

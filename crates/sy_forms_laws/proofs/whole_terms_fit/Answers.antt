@@ -1,5 +1,0 @@
-use Rattle.sy_forms_laws.proofs.Whole.{whole_fits_later}
-use Rattle.sy_forms_laws.proofs.whole_terms_fit.Goals as goal
-
-pub returns : goal.returns
-returns c = whole_fits_later

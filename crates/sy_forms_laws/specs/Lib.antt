@@ -1,4 +1,0 @@
-pub mod Fitting
-pub mod Right
-pub mod Declared
-pub mod Laws

@@ -1,6 +1,0 @@
-pub mod Environments
-pub mod Table
-pub mod Operators
-pub mod Sorts
-pub mod Seen
-pub mod Locals

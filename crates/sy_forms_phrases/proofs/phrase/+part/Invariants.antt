@@ -1,8 +1,0 @@
-use Rattle.std.proofs.Common.{◌≡◌, take}
-use Rattle.sy_grammar_base.specs.Written.{patterns_of}
-use Rattle.sy_forms_phrases.specs.Phrases.{patterns_at}
-use Rattle.sy_forms_phrases.specs.Meant.{phrases_of}
-use Rattle.sy_forms_phrases.proofs.phrase.+part.Given as goal
-
-abbrev pub invariant-Phrases::parts-loop-phrase : goal.invariant-Phrases::parts-loop-phrase
-invariant-Phrases::parts-loop-phrase g l = patterns_of g.T.Theory.denotes l.parts.items.items ≡ patterns_at (phrases_of g.T.Theory.denotes (take l.phrase-index l.phrase-items))

@@ -1,7 +1,0 @@
-use Rattle.std.proofs.Common.{◌≡◌, min, take}
-use Rattle.sy_forms_phrases.specs.Measures.{unfolded_sizes}
-use Rattle.sy_forms_phrases.specs.Meant.{phrases_of}
-use Rattle.sy_forms_phrases.proofs.phrase.+size.Given as goal
-
-abbrev pub invariant-Phrases::unfolded_sizes-loop-phrase : goal.invariant-Phrases::unfolded_sizes-loop-phrase
-invariant-Phrases::unfolded_sizes-loop-phrase g l = l.total ≡ min l.cap (unfolded_sizes l.sizes (phrases_of g.T.Theory.denotes (take l.phrase-index l.phrase-items)))

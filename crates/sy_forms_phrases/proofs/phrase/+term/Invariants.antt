@@ -1,8 +1,0 @@
-use Rattle.std.proofs.Common.{◌≡◌, take}
-use Rattle.sy_terms.specs.Denoted.{exprs_of}
-use Rattle.sy_forms_phrases.specs.Phrases.{exprs_at}
-use Rattle.sy_forms_phrases.specs.Meant.{phrases_of}
-use Rattle.sy_forms_phrases.proofs.phrase.+term.Given as goal
-
-abbrev pub invariant-Phrases::terms-loop-phrase : goal.invariant-Phrases::terms-loop-phrase
-invariant-Phrases::terms-loop-phrase g l = exprs_of g.T.Theory.denotes l.terms.items.items ≡ exprs_at l.outside (phrases_of g.T.Theory.denotes (take l.phrase-index l.phrase-items))

@@ -1,6 +1,0 @@
-use Rattle.std.proofs.Common.{refl}
-use Rattle.sy_forms_phrases.specs.Meant.{phrase_of-Operation}
-use Rattle.sy_forms_phrases.proofs.phrase.operation.Goals as goal
-
-pub returns : goal.returns
-returns g c = rw (phrase_of-Operation) refl

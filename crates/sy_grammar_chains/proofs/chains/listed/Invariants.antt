@@ -1,5 +1,0 @@
-use Rattle.sy_grammar_chains.proofs.Marks.{IsList}
-use Rattle.sy_grammar_chains.proofs.chains.listed.Given as goal
-
-abbrev pub invariant-loop-i : goal.invariant-loop-i
-invariant-loop-i l = IsList l.marks l.i l.list

@@ -1,7 +1,0 @@
-use Rattle.std.proofs.Common.{map, take}
-use Rattle.sy_terms.specs.Denoted.{val_of}
-use Rattle.sy_grammar_chains.proofs.LeafTables.{IsLeafTable}
-use Rattle.sy_grammar_chains.proofs.leaves.leaf_table.Given as goal
-
-abbrev pub invariant-loop-item : goal.invariant-loop-item
-invariant-loop-item g l = IsLeafTable g.T.Theory.denotes l.g.args (map (val_of g.T.Theory.denotes) l.pool) l.limit (take l.item-index l.item-items) l.table.items

@@ -1,4 +1,0 @@
-pub mod Chains
-pub mod Constants
-pub mod Marking
-pub mod Tables

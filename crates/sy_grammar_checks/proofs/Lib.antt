@@ -1,5 +1,0 @@
-pub mod Choices
-pub mod Factors
-pub mod Fitted
-pub mod Reading
-pub mod Sorting

@@ -1,6 +1,0 @@
-use Rattle.std.proofs.Common.{◌≡◌, map, take}
-use Rattle.sy_grammar_defaults.specs.Occurrences.{occurrence}
-use Rattle.sy_grammar_defaults.proofs.rules.places.Given as goal
-
-abbrev pub invariant-loop-nonterminal : goal.invariant-loop-nonterminal
-invariant-loop-nonterminal g l = l.parts.items.items ≡ map occurrence (take l.nonterminal-index l.nonterminals)

@@ -1,8 +1,0 @@
-pub mod Built
-pub mod Closing
-pub mod Complete
-pub mod Filling
-pub mod Grammars
-pub mod Literals
-pub mod Pieces
-pub mod Sound

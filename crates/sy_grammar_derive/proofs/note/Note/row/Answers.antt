@@ -1,5 +1,0 @@
-use Rattle.sy_grammar_derive.specs.Noted.{note_of-out}
-use Rattle.sy_grammar_derive.proofs.note.Note.row.Goals as goal
-
-pub returns : goal.returns
-returns c = rw (note_of-out) (c.as_slice.ensures.value)

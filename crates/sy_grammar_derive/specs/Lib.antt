@@ -1,5 +1,0 @@
-pub mod Filled
-pub mod Noted
-pub mod Notes
-pub mod Rows
-pub mod Steps

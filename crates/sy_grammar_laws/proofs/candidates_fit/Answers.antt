@@ -1,5 +1,0 @@
-use Rattle.sy_grammar_laws.proofs.Candidates.{bodies_fit}
-use Rattle.sy_grammar_laws.proofs.candidates_fit.Goals as goal
-
-pub returns : goal.returns
-returns g c = bodies_fit g.T.Theory.owned g.T.Theory.numeric g.T.Theory.denotes c.args.problem.now c.args.bodies.now c.requires.problem g.met.T.Theory.negation c.requires.members

@@ -1,0 +1,5 @@
+use Rattle.sy_intsolve.proofs.Ends.{spent-range}
+use Rattle.sy_intsolve.proofs.spent.spent_range.Goals as goal
+
+pub returns : goal.returns
+returns c order query limits before way within spent = spent-range order query limits c.args.way c.in_ok-tree.tree c.in_ok-tree.path c.args.run way within c.in_ok-tree.ensures.tree c.in_ok-tree.ensures.path spent

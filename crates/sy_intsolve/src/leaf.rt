@@ -1,0 +1,246 @@
+// A turn at an open leaf.
+ghost use Rattle.std.specs.Prelude.{◌≡◌, IfOk, IfSome};
+ghost use Rattle.sy_linear_known.specs.declared.answer.Known.TheVariants as known;
+ghost use Rattle.sy_linear_known.specs.Right.{KnownIsRight};
+ghost use Rattle.sy_linear_known.specs.Seen.{query_known};
+ghost use Rattle.sy_linear_known.specs.Stored.{linear_query_of};
+ghost use Rattle.sy_intsolve_cuts.specs.Points.{IsPointOf, IsCornerOf, IsPlaceOf};
+ghost use Rattle.sy_intsolve_cuts.specs.declared.fork.Fork.TheVariants.{Branch};
+ghost use Rattle.sy_intsolve_cuts.specs.Growing.{IsFork};
+ghost use Rattle.sy_intsolve.specs.Ways.{IsNumberedQuery, IsLeaf, IsSplit, CanTurn};
+ghost use Rattle.sy_intsolve.specs.States.{IsTurn, room_open};
+
+use crate::choosing::guessed_test;
+use crate::cut::{cut_at, under};
+use crate::fork::{enter, goes_left};
+use crate::open::{broken, known_at, near, place_at, point_at};
+use crate::plan::Plan;
+use crate::rounds::Near;
+use crate::spent::{model, spent_known, spent_nodes, spent_pivots, spent_range};
+use crate::state::{State, Turn};
+use crate::way::Way;
+use std::alloc::Global;
+use sy_frac::Frac;
+use sy_intsolve_cuts::Fork;
+use sy_intsolve_order::Guide;
+use sy_linear_known::{Known, Test, Tree};
+use sy_meaning_integers::IntTheory;
+use sy_query_base::Query;
+use sy_seq::{Seq, Want};
+use sy_simplex::{Ended, Feasible, Tableau};
+
+/// The fork at the end of the way, where the tree may have an inner node more; else what shows that it may not.
+fn grow(
+    alloc: Global,
+    query: &Query<IntTheory>,
+    plan: &Plan,
+    way: Way,
+    fork: Fork,
+    point: Seq<Frac>,
+) -> Result<Turn, Want>
+    requires leaf { IsLeaf plan.now.order (linear_query_of query.now) plan.now.limits.nodes way }
+    requires fork { IsFork plan.now.order (linear_query_of query.now) way.facts.items fork point }
+    requires turns { CanTurn query.now.vars way.facts.items fork }
+    ensures { IfOk result
+        (IsTurn plan.now.order (linear_query_of query.now) plan.now.limits (room_open plan.now.limits.nodes way)) }
+{
+    if way.inner >= plan.limits.nodes {
+        drop(fork);
+        return spent_nodes(alloc, way);
+    }
+    let here = point.as_slice();
+    let left = goes_left(&fork, here);
+    let grown = way.counted();
+    let state = enter(alloc, query, grown, fork, point, left, None)?;
+    Ok(Turn::On(state))
+}
+
+/// A cut at the corner at the end of the way, where the last tableau suggests one, or else the branch on the variable's
+/// value.
+fn cut_or_branch(
+    alloc: Global,
+    query: &Query<IntTheory>,
+    plan: &Plan,
+    way: Way,
+    value: (u32, i128),
+    point: Seq<Frac>,
+    last: Option<Tableau>,
+) -> Result<Turn, Want>
+    requires asked { IsNumberedQuery (linear_query_of query.now) }
+    requires leaf { IsLeaf plan.now.order (linear_query_of query.now) plan.now.limits.nodes way }
+    requires known { query_known (linear_query_of query.now) way.facts.items ≡ known.True }
+    requires corner { IsCornerOf query.now.vars way.facts.items point }
+    requires fork { IsFork plan.now.order (linear_query_of query.now) way.facts.items (Branch value.0 value.1) point }
+    requires turns { CanTurn query.now.vars way.facts.items (Branch value.0 value.1) }
+    ensures { IfOk result
+        (IsTurn plan.now.order (linear_query_of query.now) plan.now.limits (room_open plan.now.limits.nodes way)) }
+{
+    let here = point.as_slice();
+    let found = cut_at(alloc, query, &way, here, last)?;
+    match found {
+        Some(rounding) => under(alloc, query, plan, way, rounding, point),
+        None => {
+            let branch = Fork::Branch(value.0, value.1);
+            grow(alloc, query, plan, way, branch, point)
+        }
+    }
+}
+
+/// A turn at a point of the path of a leaf at which the query is known true: where each value is whole a model, and
+/// else, at a corner, a cut or a branch on the first value that isn't whole.
+fn at_place(
+    alloc: Global,
+    query: &Query<IntTheory>,
+    plan: &Plan,
+    way: Way,
+    point: Seq<Frac>,
+    last: Option<Tableau>,
+) -> Result<Turn, Want>
+    requires asked { IsNumberedQuery (linear_query_of query.now) }
+    requires leaf { IsLeaf plan.now.order (linear_query_of query.now) plan.now.limits.nodes way }
+    requires known { query_known (linear_query_of query.now) way.facts.items ≡ known.True }
+    requires right { KnownIsRight (linear_query_of query.now) way.facts.items known.True }
+    requires place { IsPlaceOf query.now.vars way.facts.items point }
+    ensures { IfOk result
+        (IsTurn plan.now.order (linear_query_of query.now) plan.now.limits (room_open plan.now.limits.nodes way)) }
+{
+    let here = point.as_slice();
+    match broken(query, &way, here) {
+        None => model(alloc, query, &way, here),
+        Some(value) => cut_or_branch(alloc, query, plan, way, value, point, last),
+    }
+}
+
+/// A turn at a leaf at which the query is known true: a whole point is a model.
+fn settled(
+    alloc: Global,
+    query: &Query<IntTheory>,
+    plan: &Plan,
+    way: Way,
+    point: Option<Seq<Frac>>,
+) -> Result<Turn, Want>
+    requires asked { IsNumberedQuery (linear_query_of query.now) }
+    requires leaf { IsLeaf plan.now.order (linear_query_of query.now) plan.now.limits.nodes way }
+    requires kept { IfSome point (IsPointOf query.now.vars way.facts.items) }
+    requires known { query_known (linear_query_of query.now) way.facts.items ≡ known.True }
+    requires right { KnownIsRight (linear_query_of query.now) way.facts.items known.True }
+    ensures { IfOk result
+        (IsTurn plan.now.order (linear_query_of query.now) plan.now.limits (room_open plan.now.limits.nodes way)) }
+{
+    let end = place_at(alloc, query, plan.limits.pivots, &way, point)?;
+    let Ended { answer, last } = end;
+    match answer {
+        Feasible::Point(place) => at_place(alloc, query, plan, way, place, last),
+        Feasible::Conflict(multipliers) => {
+            Ok(Turn::On(State::Closed(way, Tree::Farkas(multipliers))))
+        }
+        Feasible::Pivots(run) => spent_pivots(alloc, way, run),
+        Feasible::Range(run) => spent_range(alloc, way, run),
+    }
+}
+
+/// A turn at a leaf that can be split on the test: a split on it at a point of the path, where there is one.
+fn undecided(
+    alloc: Global,
+    query: &Query<IntTheory>,
+    plan: &Plan,
+    way: Way,
+    point: Option<Seq<Frac>>,
+    test: Test,
+) -> Result<Turn, Want>
+    requires asked { IsNumberedQuery (linear_query_of query.now) }
+    requires leaf { IsLeaf plan.now.order (linear_query_of query.now) plan.now.limits.nodes way }
+    requires kept { IfSome point (IsPointOf query.now.vars way.facts.items) }
+    requires split { IsSplit plan.now.order (linear_query_of query.now) way.facts.items test }
+    ensures { IfOk result
+        (IsTurn plan.now.order (linear_query_of query.now) plan.now.limits (room_open plan.now.limits.nodes way)) }
+{
+    let answer = point_at(alloc, query, plan.limits.pivots, &way, point)?;
+    match answer {
+        Feasible::Point(near) => grow(alloc, query, plan, way, Fork::Split(test), near),
+        Feasible::Conflict(multipliers) => {
+            drop(test);
+            Ok(Turn::On(State::Closed(way, Tree::Farkas(multipliers))))
+        }
+        Feasible::Pivots(run) => {
+            drop(test);
+            spent_pivots(alloc, way, run)
+        }
+        Feasible::Range(run) => {
+            drop(test);
+            spent_range(alloc, way, run)
+        }
+    }
+}
+
+/// A turn at an open leaf, by what its path tells of the query.
+fn told(
+    alloc: Global,
+    query: &Query<IntTheory>,
+    plan: &Plan,
+    way: Way,
+    point: Option<Seq<Frac>>,
+) -> Result<Turn, Want>
+    requires asked { IsNumberedQuery (linear_query_of query.now) }
+    requires leaf { IsLeaf plan.now.order (linear_query_of query.now) plan.now.limits.nodes way }
+    requires kept { IfSome point (IsPointOf query.now.vars way.facts.items) }
+    ensures { IfOk result
+        (IsTurn plan.now.order (linear_query_of query.now) plan.now.limits (room_open plan.now.limits.nodes way)) }
+{
+    let known = known_at(alloc, query, &way)?;
+    match known {
+        Known::True => settled(alloc, query, plan, way, point),
+        Known::False => Ok(Turn::On(State::Closed(way, Tree::Shown))),
+        Known::Undecided(test) => undecided(alloc, query, plan, way, point, test),
+        Known::OutOfRange(node) => spent_known(alloc, way, node),
+    }
+}
+
+/// A turn at an open leaf, with a point of its path where one is known. What the path tells of the query, which takes
+/// the most time, is asked only where the guide finds no test to split on.
+fn opened(
+    alloc: Global,
+    query: &Query<IntTheory>,
+    plan: &Plan,
+    guide: &mut Guide,
+    way: Way,
+    point: Option<Seq<Frac>>,
+) -> Result<Turn, Want>
+    requires asked { IsNumberedQuery (linear_query_of query.now) }
+    requires leaf { IsLeaf plan.now.order (linear_query_of query.now) plan.now.limits.nodes way }
+    requires kept { IfSome point (IsPointOf query.now.vars way.facts.items) }
+    ensures { IfOk result
+        (IsTurn plan.now.order (linear_query_of query.now) plan.now.limits (room_open plan.now.limits.nodes way)) }
+{
+    let found = guessed_test(alloc, query, plan, guide, &way)?;
+    match found {
+        Some(test) => undecided(alloc, query, plan, way, point, test),
+        None => told(alloc, query, plan, way, point),
+    }
+}
+
+/// A turn at an open leaf, with a point of its path where one is kept: where few of the path's facts refute it, they
+/// close the leaf.
+pub(crate) fn look(
+    alloc: Global,
+    query: &Query<IntTheory>,
+    plan: &Plan,
+    guide: &mut Guide,
+    way: Way,
+    point: Option<Seq<Frac>>,
+) -> Result<Turn, Want>
+    requires asked { IsNumberedQuery (linear_query_of query.now) }
+    requires leaf { IsLeaf plan.now.order (linear_query_of query.now) plan.now.limits.nodes way }
+    requires kept { IfSome point (IsPointOf query.now.vars way.facts.items) }
+    ensures { IfOk result
+        (IsTurn plan.now.order (linear_query_of query.now) plan.now.limits (room_open plan.now.limits.nodes way)) }
+{
+    let told = near(alloc, query, plan.limits.pivots, &way, point)?;
+    match told {
+        Near::Point(here) => opened(alloc, query, plan, guide, way, Some(here)),
+        Near::Conflict(multipliers) => {
+            Ok(Turn::On(State::Closed(way, Tree::Farkas(multipliers))))
+        }
+        Near::Unknown => opened(alloc, query, plan, guide, way, None),
+    }
+}

@@ -1,4 +1,0 @@
-use Rattle.sy_intsolve_search.proofs.search.solve_query.Goals as goal
-
-pub returns : goal.returns
-returns c = c.search_twice.ensures

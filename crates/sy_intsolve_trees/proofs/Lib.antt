@@ -1,4 +1,0 @@
-pub mod Layers
-pub mod Refuting
-pub mod Stored
-pub mod Opening

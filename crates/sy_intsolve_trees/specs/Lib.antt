@@ -1,4 +1,0 @@
-pub mod Growing
-pub mod Steps
-pub mod Stored
-pub mod Budgets

@@ -1,6 +1,0 @@
-use Rattle.std.proofs.Common.{◌∙◌}
-use Rattle.sy_linear_forms.proofs.Equality.{pointwise_is}
-use Rattle.sy_linear_forms.proofs.coefficients.are_same.Goals as goal
-
-pub returns : goal.returns
-returns c = c.eq.ensures ∙ pointwise_is c.args.cs.now c.args.ds.now

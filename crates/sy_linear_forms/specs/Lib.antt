@@ -1,4 +1,0 @@
-pub mod Forms
-pub mod Laws
-pub mod Systems
-pub mod Total

@@ -1,0 +1,39 @@
+use Rattle.std.proofs.Common.{map, [], ◌∷◌}
+use Rattle.std.proofs.lemmas.Result.{IfOk-from_err}
+use Rattle.sy_terms.specs.Denoted.{expr_of}
+use Rattle.sy_grammar_base.specs.Questions.{question_of}
+use Rattle.sy_loop_spec.specs.Stored.{history_of}
+use Rattle.sy_loop_candidate.proofs.Going.{goes_by}
+use Rattle.sy_loop.proofs.Joining.{candidate_fits}
+use Rattle.sy_loop.proofs.join.try_term.Goals as goal
+
+pub try_candidate-requires-clause-bodies : goal.try_candidate-requires-clause-bodies
+try_candidate-requires-clause-bodies g c =
+    rw (c.in_ok-push.ensures.ok, c.new-bodies.ensures)
+    (candidate_fits g.T.Theory.owned g.T.Theory.numeric g.T.Theory.denotes c.args.problem.now c.args.reach c.args.limits.now.size (history_of g.T.Theory.denotes c.args.known.now.stored) (c.args.term ∷ []) c.requires.problem g.met.T.Theory.negation c.requires.candidate)
+
+pub returns-clause-step : goal.returns-clause-step
+returns-clause-step g c =
+    goes_by g.T.Theory.owned g.T.Theory.denotes g.D.Decide.accepted g.D.Decide.budget g.D.Decide.shows c.args.reach (question_of g.T.Theory.denotes c.args.problem.now) c.args.limits.now (map (expr_of g.T.Theory.denotes) c.push.new.self)
+    (history_of g.T.Theory.denotes c.args.known.now.stored) (history_of g.T.Theory.denotes c.try_candidate.new.known.stored) c.args.known.now.points c.try_candidate.new.known.points c.in_ok-step.step c.in_ok-step.ensures.step c.in_ok-step.ensures.grows
+
+pub returns-in_err-push-clause-known : goal.returns-in_err-push-clause-known
+returns-in_err-push-clause-known g c = IfOk-from_err c.from_residual.result _ c.from_residual.ensures.0
+
+pub returns-in_err-push-clause-step : goal.returns-in_err-push-clause-step
+returns-in_err-push-clause-step g c = IfOk-from_err c.from_residual.result _ c.from_residual.ensures.0
+
+pub returns-in_err-push-clause-refuted : goal.returns-in_err-push-clause-refuted
+returns-in_err-push-clause-refuted g c = IfOk-from_err c.from_residual.result _ c.from_residual.ensures.0
+
+pub returns-in_err-step-clause-known : goal.returns-in_err-step-clause-known
+returns-in_err-step-clause-known g c = IfOk-from_err c.from_residual-in_err-step.result _ c.from_residual-in_err-step.ensures.0
+
+pub returns-in_err-step-clause-step : goal.returns-in_err-step-clause-step
+returns-in_err-step-clause-step g c = IfOk-from_err c.from_residual-in_err-step.result _ c.from_residual-in_err-step.ensures.0
+
+pub returns-in_err-step-clause-refuted : goal.returns-in_err-step-clause-refuted
+returns-in_err-step-clause-refuted g c = IfOk-from_err c.from_residual-in_err-step.result _ c.from_residual-in_err-step.ensures.0
+
+pub returns-clause-known : goal.returns-clause-known
+returns-clause-known g c = c.in_ok-step.ensures.known

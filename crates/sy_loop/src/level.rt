@@ -1,0 +1,225 @@
+// All bodies of one size together.
+// Functions here have more than seven parameters where clauses name the problem, the limits and the reach apart, as
+// those of the crates below do: a record of them would be taken apart at each call.
+ghost use Rattle.std.specs.Prelude.{◌≡◌, ◌≤◌, ◌<◌, ◌+◌, ◌++◌, ◌∷◌, [], length, map, drop, All, IfOk, OnOk};
+ghost use Rattle.sy_terms.specs.Denoted.{expr_of};
+ghost use Rattle.sy_bank_level.specs.Bank.{merged_of};
+ghost use Rattle.sy_bank_level.specs.Covering.{terms};
+ghost use Rattle.sy_bank_level.specs.Stored.{entry_of, entries_of, chosen_of};
+ghost use Rattle.sy_loop_truth.specs.Traces.{TuplesGrow};
+ghost use Rattle.sy_loop_candidate.specs.Going.{OnNext};
+ghost use Rattle.sy_grammar_base.specs.Fits.{ProblemFits};
+ghost use Rattle.sy_loop_candidate.specs.Clauses.{GoesFor, IsKnownFor, IsOpenFor, StepsFor};
+ghost use Rattle.sy_loop.specs.LevelClauses.{AreHonestFor, HaveRowsFor, IsBegunFor, AreChoicesFor, AllAreRefutedFor, AreWithinFor};
+
+use std::alloc::Global;
+use sy_bank_level::{Bank, Kept};
+use sy_grammar_base::Problem;
+use sy_loop_candidate::{Known, Step, Suspects, are_refuted, try_candidate};
+use sy_loop_spec::Reach;
+use sy_query_base::Decide;
+use sy_query_limits::Limits;
+use sy_terms::{Bodies, Seq, Theory, Want};
+
+/// What stays the same while bodies are tried: the problem, the limits, which bodies count as candidates, the size that
+/// the bodies' sizes sum to, and a bank for each function to be found.
+#[derive(Drop)]
+struct Task<'a, T: Theory> {
+    alloc: Global,
+    problem: &'a Problem<T>,
+    limits: &'a Limits,
+    reach: Reach,
+    level: u32,
+    banks: &'a [Bank<T>],
+}
+
+/// Tries all bodies of kept terms of the banks whose sizes sum to `level`. `Want` comes where memory doesn't suffice
+/// for the chosen terms, or for judging and deciding a candidate.
+pub fn try_level<T: Theory, D: Decide<T>>(
+    alloc: Global,
+    problem: &Problem<T>,
+    limits: &Limits,
+    reach: Reach,
+    decide: &mut D,
+    banks: &[Bank<T>],
+    level: u32,
+    known: &mut Known<T>,
+) -> Result<Step<T, D::Proof, D::Spent>, Want>
+    requires problem { ProblemFits T.Theory problem.now }
+    requires banks { AreHonestFor T.Theory problem.now known.old.points banks.now }
+    requires opened { IsOpenFor T.Theory reach problem.now limits.now known.old level }
+    requires known { IsKnownFor T.Theory reach problem.now limits.now known.old }
+    requires room { length known.old.stored.items < limits.now.rounds }
+    ensures known { OnOk result (IsKnownFor T.Theory reach problem.now limits.now known.new) }
+    ensures step { IfOk result (GoesFor T.Theory D.Decide reach problem.now limits.now known.old known.new) }
+    ensures refuted { IfOk result
+        (OnNext (AllAreRefutedFor T.Theory problem.now known.old [] (map (merged_of T.denotes) banks.now) level)) }
+{
+    let task = Task {
+        alloc,
+        problem,
+        limits,
+        reach,
+        level,
+        banks,
+    };
+    let mut chosen = Vec::with_capacity(alloc, banks.len())?;
+    let mut suspects = Suspects::new(alloc);
+    let step = try_rest(&task, decide, &mut suspects, &mut chosen, level, known)?;
+    Ok(step)
+}
+
+/// Tries all bodies that begin with the chosen kept terms, and whose further sizes sum to `left`.
+#[cycle(level)]
+fn try_rest<'a, T: Theory, D: Decide<T>>(
+    task: &Task<'a, T>,
+    decide: &mut D,
+    suspects: &mut Suspects,
+    chosen: &mut Vec<&'a Kept<T>>,
+    left: u32,
+    known: &mut Known<T>,
+) -> Result<Step<T, D::Proof, D::Spent>, Want>
+    requires problem { ProblemFits T.Theory task.now.problem.now }
+    requires banks { AreHonestFor T.Theory task.now.problem.now known.old.points task.now.banks.now }
+    requires begun { IsBegunFor T.Theory task.now.problem.now known.old.points task.now.level
+        (chosen_of T.denotes chosen.old.items) left }
+    requires few { length chosen.old.items ≤ length task.now.banks.now }
+    requires opened { IsOpenFor T.Theory task.now.reach
+        task.now.problem.now task.now.limits.now known.old task.now.level }
+    requires known { IsKnownFor T.Theory task.now.reach task.now.problem.now task.now.limits.now known.old }
+    requires room { length known.old.stored.items < task.now.limits.now.rounds }
+    ensures chosen { OnOk result (chosen.new.items ≡ chosen.old.items) }
+    ensures known { OnOk result
+        (IsKnownFor T.Theory task.now.reach task.now.problem.now task.now.limits.now known.new) }
+    ensures step { IfOk result
+        (GoesFor T.Theory D.Decide task.now.reach task.now.problem.now task.now.limits.now known.old known.new) }
+    ensures refuted { IfOk result
+        (OnNext (AllAreRefutedFor T.Theory task.now.problem.now known.old (terms (chosen_of T.denotes chosen.old.items))
+        (drop (length chosen.old.items) (map (merged_of T.denotes) task.now.banks.now)) left)) }
+{
+    let function = chosen.len();
+    if function >= task.banks.len() {
+        if left > 0 {
+            return Ok(Step::Next);
+        }
+        let step = try_chosen(task, decide, suspects, chosen.as_slice(), known)?;
+        return Ok(step);
+    }
+    let bank = &task.banks[function];
+    let least = if function + 1 == task.banks.len() {
+        left
+    } else {
+        0
+    };
+    for size in u64::from(least)..u64::from(left) + 1 {
+        let size = size as u32;
+        let kept = bank.kept(0, size);
+        match try_kept(task, decide, suspects, chosen, kept, left - size, known)? {
+            Step::Next => {}
+            Step::Again => return Ok(Step::Again),
+            Step::End(end) => return Ok(Step::End(end)),
+        }
+    }
+    Ok(Step::Next)
+}
+
+/// Tries all bodies that begin with the chosen kept terms and one of these of the next function.
+#[cycle(level)]
+fn try_kept<'a, T: Theory, D: Decide<T>>(
+    task: &Task<'a, T>,
+    decide: &mut D,
+    suspects: &mut Suspects,
+    chosen: &mut Vec<&'a Kept<T>>,
+    kept: &'a [Kept<T>],
+    left: u32,
+    known: &mut Known<T>,
+) -> Result<Step<T, D::Proof, D::Spent>, Want>
+    requires problem { ProblemFits T.Theory task.now.problem.now }
+    requires banks { AreHonestFor T.Theory task.now.problem.now known.old.points task.now.banks.now }
+    requires few { length chosen.old.items < length task.now.banks.now }
+    requires choices { AreChoicesFor T.Theory task.now.problem.now known.old.points task.now.level
+        (chosen_of T.denotes chosen.old.items) (entries_of T.denotes kept.now) left }
+    requires opened { IsOpenFor T.Theory task.now.reach
+        task.now.problem.now task.now.limits.now known.old task.now.level }
+    requires known { IsKnownFor T.Theory task.now.reach task.now.problem.now task.now.limits.now known.old }
+    requires room { length known.old.stored.items < task.now.limits.now.rounds }
+    ensures chosen { OnOk result (chosen.new.items ≡ chosen.old.items) }
+    ensures known { OnOk result
+        (IsKnownFor T.Theory task.now.reach task.now.problem.now task.now.limits.now known.new) }
+    ensures step { IfOk result
+        (GoesFor T.Theory D.Decide task.now.reach task.now.problem.now task.now.limits.now known.old known.new) }
+    ensures refuted { IfOk result (OnNext (All (λ term. AllAreRefutedFor T.Theory task.now.problem.now known.old
+        (terms (chosen_of T.denotes chosen.old.items ++ entry_of T.denotes term ∷ []))
+        (drop (length chosen.old.items + 1) (map (merged_of T.denotes) task.now.banks.now)) left) kept.now)) }
+{
+    for choice in kept {
+        chosen.push(choice)?;
+        let step = try_rest(task, decide, suspects, chosen, left, known)?;
+        chosen.pop();
+        match step {
+            Step::Next => {}
+            Step::Again => return Ok(Step::Again),
+            Step::End(end) => return Ok(Step::End(end)),
+        }
+    }
+    Ok(Step::Next)
+}
+
+/// Tries the chosen kept terms as bodies. Where their rows show that they violate the problem at a stored assignment,
+/// they are neither copied nor evaluated.
+fn try_chosen<T: Theory, D: Decide<T>>(
+    task: &Task<T>,
+    decide: &mut D,
+    suspects: &mut Suspects,
+    chosen: &[&Kept<T>],
+    known: &mut Known<T>,
+) -> Result<Step<T, D::Proof, D::Spent>, Want>
+    requires problem { ProblemFits T.Theory task.now.problem.now }
+    requires within { AreWithinFor T.Theory task.now.problem.now task.now.level
+        (terms (chosen_of T.denotes chosen.now)) }
+    requires rows { HaveRowsFor T.Theory task.now.problem.now known.old.points (chosen_of T.denotes chosen.now) }
+    requires opened { IsOpenFor T.Theory task.now.reach
+        task.now.problem.now task.now.limits.now known.old task.now.level }
+    requires known { IsKnownFor T.Theory task.now.reach task.now.problem.now task.now.limits.now known.old }
+    requires room { length known.old.stored.items < task.now.limits.now.rounds }
+    ensures known { OnOk result
+        (IsKnownFor T.Theory task.now.reach task.now.problem.now task.now.limits.now known.new) }
+    ensures grows { OnOk result (TuplesGrow known.old.points known.new.points) }
+    ensures step { IfOk result (StepsFor T.Theory D.Decide task.now.reach task.now.problem.now task.now.limits.now
+        (terms (chosen_of T.denotes chosen.now)) known.old known.new) }
+{
+    let refuted = are_refuted(
+        task.alloc,
+        task.problem,
+        chosen,
+        &known.points,
+        &known.stored,
+        suspects,
+    )?;
+    if refuted {
+        return Ok(Step::Next);
+    }
+    let bodies = copied_bodies(task.alloc, chosen)?;
+    let step = try_candidate(
+        task.alloc,
+        task.problem,
+        task.limits,
+        task.reach,
+        decide,
+        bodies,
+        known,
+    )?;
+    Ok(step)
+}
+
+/// Copies of the terms of the chosen.
+fn copied_bodies<T: Theory>(alloc: Global, chosen: &[&Kept<T>]) -> Result<Bodies<T>, Want>
+    ensures { IfOk result (λ bodies. map (expr_of T.denotes) bodies ≡ terms (chosen_of T.denotes chosen.now)) }
+{
+    let mut bodies = Seq::new(alloc);
+    for kept in chosen {
+        let copy = kept.term(alloc)?;
+        bodies.push(copy)?;
+    }
+    Ok(bodies)
+}

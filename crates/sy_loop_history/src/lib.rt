@@ -1,2 +1,0 @@
-// Definitions alone: what a search may try, what refutes it, and conditional trees over kept terms.
-#![tactic(auto)]

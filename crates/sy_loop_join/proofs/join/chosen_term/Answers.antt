@@ -1,4 +1,0 @@
-use Rattle.sy_loop_join.proofs.join.chosen_term.Goals as goal
-
-pub returns : goal.returns
-returns g c = c.tree_term-term.ensures

@@ -1,5 +1,0 @@
-use Rattle.sy_loop_laws.proofs.Refuted as refuted
-use Rattle.sy_loop_laws.proofs.law.assumptions_ask_nothing.Goals as goal
-
-pub returns : goal.returns
-returns c = refuted.assumes_nothing

@@ -1,5 +1,0 @@
-use Rattle.sy_loop_laws.proofs.Covered.{are_merged}
-use Rattle.sy_loop_laws.proofs.law.members_are_merged.Goals as goal
-
-pub returns : goal.returns
-returns c = are_merged

@@ -1,5 +1,0 @@
-use Rattle.sy_loop_laws.proofs.Refuted as refuted
-use Rattle.sy_loop_laws.proofs.law.what_is_refuted_stays_so.Goals as goal
-
-pub returns : goal.returns
-returns c = refuted.stays_refuted

@@ -1,4 +1,0 @@
-pub mod Choosing
-pub mod Least
-pub mod Observed
-pub mod Refuting

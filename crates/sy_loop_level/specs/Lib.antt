@@ -1,2 +1,0 @@
-pub mod LevelClauses
-pub mod Levels

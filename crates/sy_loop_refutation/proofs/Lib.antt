@@ -1,7 +1,0 @@
-pub mod Calls
-pub mod Reaching
-pub mod Told
-pub mod Untold
-pub mod Telling
-pub mod Places
-mod Rows

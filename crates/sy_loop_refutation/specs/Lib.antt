@@ -1,3 +1,0 @@
-pub mod Bodies
-pub mod Observing
-pub mod Refuting

@@ -1,0 +1,20 @@
+pub mod Applied
+pub mod Conditional
+pub mod Covered
+pub mod Distinct
+pub mod Done
+pub mod Goodness
+pub mod Kept
+pub mod Merged
+pub mod Plain
+pub mod Refuted
+pub mod Resting
+pub mod Same
+pub mod Served
+mod Sizes
+pub mod Staying
+pub mod Trees
+pub mod Uncovered
+pub mod Variables
+pub mod Violated
+pub mod WrittenOut

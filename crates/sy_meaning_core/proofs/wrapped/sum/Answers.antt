@@ -1,0 +1,14 @@
+use Rattle.std.proofs.Common.{◌∙◌, ◌+◌}
+use Rattle.sy_meaning_core.proofs.Masks.{is_fit, lowest_fits}
+use Rattle.sy_meaning_core.proofs.Wrapping.{mod_64}
+use Rattle.sy_meaning_core.proofs.wrapped.sum.Goals as goal
+
+pub returns-clause-is : goal.returns-clause-is
+returns-clause-is c =
+    let fit = is_fit c.args.width c.args.s c.requires.s in
+    c.lowest.ensures ∙ mod_64 (c.args.s + c.args.t) c.args.width fit.1
+
+pub returns-clause-fits : goal.returns-clause-fits
+returns-clause-fits c =
+    let fit = is_fit c.args.width c.args.s c.requires.s in
+    rw c.lowest.ensures (lowest_fits c.args.width _ fit.0 fit.1)

@@ -1,7 +1,0 @@
-use Rattle.sy_query_sums.specs.Sums.{number_at}
-use Rattle.sy_query_sums.proofs.Operations.{multiplied}
-use Rattle.sy_query_sums.proofs.operators.multiplied.Goals as goal
-
-pub returns : goal.returns
-returns c = λ values x y has also.
-    multiplied values c.args.left.now c.args.right.now c.in_ok-product.product x y c.requires.same c.in_ok-product.ensures.width (c.in_ok-product.ensures.value (number_at values)) has also

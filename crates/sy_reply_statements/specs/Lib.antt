@@ -1,4 +1,0 @@
-pub mod Lines
-pub mod Statements
-pub mod Ends
-pub mod Fitting

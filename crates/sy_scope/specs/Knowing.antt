@@ -1,0 +1,12 @@
+-- What is declared, as a context in which nothing else is.
+use Rattle.sy_forms_items.specs.Measured.{measures_of}
+use Rattle.sy_scope_names.specs.Contexts.{Context, beginning}
+use Rattle.sy_scope.specs.declared.definitions.Known.{Known}
+
+abbrev pub known_of : Known → Context
+known_of k = record beginning {
+  sorts = k.names.now.sorts;
+  entities = k.names.now.entities;
+  fresh = k.fresh;
+  measures = measures_of k.measures.now;
+}

@@ -1,5 +1,0 @@
-use Rattle.sy_scope_bodies.proofs.Measuring.{size_at, depth_at}
-use Rattle.sy_scope_bodies.proofs.measures_agree.Goals as goal
-
-pub returns : goal.returns
-returns c = λ measures outside phrase. (size_at measures outside phrase, depth_at measures outside phrase)

@@ -1,4 +1,0 @@
-pub mod Sizes
-pub mod Around
-pub mod Bodies
-pub mod Seen

@@ -1,4 +1,0 @@
-pub mod Small
-pub mod Exits
-pub mod Stages
-pub mod Entered

@@ -1,4 +1,0 @@
-pub mod Sound
-pub mod Laws
-pub mod Rightly
-pub mod Titled

@@ -1,8 +1,0 @@
--- Pools apart from memory.
-use Rattle.std.specs.Prelude.{List}
-use Rattle.sy_terms.specs.Values.{Val}
-use Rattle.sy_terms.specs.Denoted.{vals_of}
-use Rattle.sy_scope_pool.specs.declared.Pool.{Pool}
-
-abbrev pub pool_of : {T N : Type 0} → (N → Val) → Pool T N → List Val
-pool_of number pool = vals_of number pool.values.keys

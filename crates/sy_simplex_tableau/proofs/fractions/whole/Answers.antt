@@ -1,5 +1,0 @@
-use Rattle.sy_simplex_tableau.proofs.Results.{whole_bits}
-use Rattle.sy_simplex_tableau.proofs.fractions.whole.Goals as goal
-
-pub returns : goal.returns
-returns c = whole_bits c.args.number c.new.result c.ranges.number c.new.ensures

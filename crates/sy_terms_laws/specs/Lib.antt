@@ -1,5 +1,0 @@
-pub mod Evaluation
-pub mod Tracing
-pub mod Agreement
-pub mod Asking
-pub mod Plain

@@ -1,0 +1,12 @@
+pub mod Agreement
+pub mod Asked
+pub mod Asks
+pub mod Called
+pub mod Cases
+pub mod Equations
+pub mod Lists
+pub mod OperatorSorts
+pub mod Plain
+pub mod Reached
+pub mod Steps
+pub mod Traced

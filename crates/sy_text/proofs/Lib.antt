@@ -1,0 +1,11 @@
+pub mod Again
+pub mod Digits
+pub mod Fitting
+pub mod Found
+pub mod FoundItems
+pub mod Lying
+pub mod Nested
+pub mod Nests
+pub mod Shorter
+pub mod Values
+pub mod Written

@@ -1,9 +1,0 @@
-pub mod Values
-pub mod Shorter
-pub mod Nested
-pub mod Again
-pub mod Nests
-pub mod Found
-pub mod FoundItems
-pub mod Fitting
-pub mod Lying

@@ -1,0 +1,4 @@
+pub mod Logs
+pub mod Soundness
+pub mod Trees
+pub mod TreesSoundness

@@ -1,9 +1,0 @@
-use Rattle.sygus_drill_laws.proofs.Files.{files_are_read}
-use Rattle.sygus_drill_laws.proofs.Lengths.{files_are_short}
-use Rattle.sygus_drill_laws.proofs.files_ask.Goals as goal
-
-pub returns-clause-short : goal.returns-clause-short
-returns-clause-short c = files_are_short
-
-pub returns-clause-asks : goal.returns-clause-asks
-returns-clause-asks c = files_are_read
