@@ -472,7 +472,8 @@ pub fn solve_by(alloc: Global, cnf: &Cnf, plan: Plan, fuel: u32) -> Result<Solve
 /// `Refuted` has a log of at most `fuel` lines that [`check`](sy_clauses::check) accepts, `Model` a
 /// value for each variable that makes every clause true. `Fuel` comes once `fuel` clauses are learned, of
 /// which none is empty; each is new to the clauses before it, so with a fuel of 3 to the number of
-/// variables it never comes. `Want` comes where memory runs out.
+/// variables it never comes. `Want` comes where memory runs out, a variable has the number 2^31 or more,
+/// or the clauses, those learned among them, have 2^32 literals.
 pub fn solve(alloc: Global, cnf: &Cnf, fuel: u32) -> Result<Solved, Want>
     requires vars { VarsFit cnf.now }
     requires clauses_fit { length cnf.now.clauses < 2 ^ 31 }

@@ -189,9 +189,7 @@ pub(crate) fn combined(
     ensures unfit { IsErrOf result FormEnd.OutOfRange →
         spec.checked_combination multipliers.now (forms facts.now) ≡ None }
 {
-    let Some(mut sum) = nothing(alloc) else {
-        return Err(FormEnd::Want);
-    };
+    let mut sum = nothing(alloc);
     let mut left = multipliers;
     for fact in facts {
         let form = match fact {
@@ -211,16 +209,16 @@ pub(crate) fn combined(
 }
 
 /// The combination of no forms. It takes no memory.
-fn nothing(alloc: Global) -> Option<Combination>
-    ensures { result ≡ Some spec.empty_combination }
+fn nothing(alloc: Global) -> Combination
+    ensures { result ≡ spec.empty_combination }
 {
     let Some(constant) = Frac::new(0, 1) else {
-        return None;
+        unreachable!();
     };
-    Some(Combination {
+    Combination {
         shares: Seq::new(alloc),
         constant,
-    })
+    }
 }
 
 /// Whether the share is 0.

@@ -64,7 +64,8 @@ pub fn pose<T: Theory>(alloc: Global, problem: &Problem<T>) -> Result<Option<Vec
     Ok(Some(all))
 }
 
-/// Whether the problem is pointwise.
+/// Whether the problem is pointwise. `Want` comes also where 32 bits don't count its variables and the subterms of one
+/// of its constraints.
 pub fn pointwise<T: Theory>(alloc: Global, problem: &Problem<T>) -> Result<bool, Want>
     ensures { IfOk result (λ answer. IsTrue answer ↔ IsPointwise (question_of T.denotes problem.now)) }
 {
