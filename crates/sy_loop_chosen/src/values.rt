@@ -36,8 +36,11 @@ pub(crate) fn words_at<T: Theory>(
     term: &Term<T>,
 ) -> Result<Option<Vec<u64>>, Want> {
     let defined = are_defined(alloc, defs)?;
+    if !defined {
+        return Ok(None);
+    }
     let sort = term_sort(alloc, defs.as_slice(), &[], sorts, term)?;
-    if !defined || sort.is_none() {
+    if sort.is_none() {
         return Ok(None);
     }
     let mut words = Vec::with_capacity(alloc, tuples.len())?;
