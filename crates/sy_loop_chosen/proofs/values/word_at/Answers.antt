@@ -5,9 +5,6 @@ use Rattle.sy_terms.specs.Fitting.{sort_in}
 use Rattle.sy_loop_bodies.proofs.Fitting.{fits_where}
 use Rattle.sy_loop_chosen.proofs.values.word_at.Goals as goal
 
-pub evaluate-requires-clause-values : goal.evaluate-requires-clause-values
-evaluate-requires-clause-values g c = (rw c.in-Some.is at c.in_ok-found.ensures).0
-
 pub evaluate-requires-clause-term : goal.evaluate-requires-clause-term
 evaluate-requires-clause-term g c =
     let found = rw c.in-Some.is at c.in_ok-found.ensures in
