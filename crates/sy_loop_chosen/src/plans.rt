@@ -30,6 +30,9 @@ pub(crate) fn planned_term<T: Theory>(
     most: u32,
 ) -> Result<Option<Term<T>>, Want> {
     let (shapes, rules) = rules_of(alloc, grammar, defs, bank.points())?;
+    if search != Search::Deep && !may_choose(shapes.as_slice()) {
+        return Ok(None);
+    }
     let pools = pools_of(alloc, grammar, bank)?;
     let complete = complete_size(pools.as_slice());
     let task = Task {
@@ -45,6 +48,16 @@ pub(crate) fn planned_term<T: Theory>(
         return Ok(None);
     }
     term_of(alloc, grammar, bank, task.shapes.as_slice(), &plan)
+}
+
+/// Whether a rule of the start symbol has parts enough to choose: two between which it does, and one that says where.
+fn may_choose(shapes: &[Shape]) -> bool {
+    for shape in shapes {
+        if shape.pool == 0 && shape.operands.len() > 2 {
+            return true;
+        }
+    }
+    false
 }
 
 /// A plan of a body with the wanted values; `None` where none was found.
