@@ -4,10 +4,10 @@ pub mod ConstantSizes
 pub mod Digits
 pub mod Ends
 pub mod Entries
-pub mod Growing
+pub mod GrowingLaws
 pub mod Items
 pub mod Least
 pub mod Offered
 pub mod Passed
-pub mod Places
+pub mod PlacesLaws
 pub mod Steps
