@@ -21,9 +21,9 @@ const MOST_TUPLES: usize = 64;
 /// How often a bank is built anew since a body that chooses was wrong at tuples that it didn't have.
 const MOST_ROUNDS: u32 = 5;
 
-/// The first body that is found to solve the problem over banks at the tuples of all assignments so far and of some that look
-/// random: a full bank keeps terms that differ at the tuples that counterexamples asked, which are often alike. `None` where
-/// none was found to.
+/// The first body that is found to solve the problem over banks at the tuples of all assignments so far and of some
+/// that look random: a full bank keeps terms that differ at the tuples that counterexamples asked, which are often
+/// alike. `None` where none was found to.
 pub(crate) fn solve_again<T: Theory, D: Decide<T>>(
     task: &Task<T>,
     decide: &mut D,
@@ -48,8 +48,8 @@ pub(crate) fn solve_again<T: Theory, D: Decide<T>>(
     Ok(None)
 }
 
-/// The first body that is found to solve the problem over a bank at the tuples that constraints want at the assignments;
-/// also over banks at some at which bodies that choose were wrong.
+/// The first body that is found to solve the problem over a bank at the tuples that constraints want at the
+/// assignments; also over banks at some at which bodies that choose were wrong.
 fn solve_wished<T: Theory, D: Decide<T>>(
     task: &Task<T>,
     decide: &mut D,
@@ -84,8 +84,8 @@ fn solve_wished<T: Theory, D: Decide<T>>(
     Ok(None)
 }
 
-/// The first combination of kept terms that is found to solve the problem, or else a larger body that chooses or stands below
-/// known operations.
+/// The first combination of kept terms that is found to solve the problem, or else a larger body that chooses or stands
+/// below known operations.
 fn solve_last<T: Theory, D: Decide<T>>(
     task: &Task<T>,
     decide: &mut D,
@@ -106,8 +106,8 @@ fn solve_last<T: Theory, D: Decide<T>>(
     solve_chosen(task, decide, bank, true, wrong, assignments, aside)
 }
 
-/// A bank of the one function at these tuples and at those that constraints want at the assignments; `None` where there is
-/// none, or one of them isn't of the function's arguments.
+/// A bank of the one function at these tuples and at those that constraints want at the assignments; `None` where there
+/// is none, or one of them isn't of the function's arguments.
 fn wished_bank<T: Theory>(
     task: &Task<T>,
     wrong: &[Values<T>],

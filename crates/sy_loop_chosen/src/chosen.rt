@@ -3,7 +3,7 @@ ghost use Rattle.std.specs.Prelude.{◌≡◌, length, IfOk, OnOk};
 ghost use Rattle.sy_grammar_base.specs.Fits.{ProblemFits};
 ghost use Rattle.sy_loop_bodies.specs.Clauses.{AreAssignedFor, IsFoundFor};
 
-use crate::plans::{Search, planned_term};
+use crate::plans::{Breadth, planned_term};
 use crate::tables::{Wanted, wanted_at, wanted_of};
 use crate::values::words_at;
 use std::alloc::Global;
@@ -12,16 +12,17 @@ use sy_loop_bodies::{Aside, Task, point_of, try_term, wishes_of};
 use sy_query_base::Decide;
 use sy_terms::{Bodies, Sort, Term, Theory, Values, Want, copied_values};
 
-/// At how many tuples of one assignment a body is judged at most.
-pub(crate) const MOST_WISHES: usize = 1_000_000;
+/// At how many tuples of all assignments a body is judged at most.
+const MOST_WISHES: usize = 200_000;
 
 /// How many tuples at which a body is wrong are answered at most.
 const MOST_WRONG: usize = 16;
 
-/// A body that has the wanted values at the bank's points, found as one that chooses between kept terms, if it solves the
-/// problem: one that chooses little, or where it `is_last`, one that chooses often, or one below known operations over vectors
-/// where there are no variables and more than one bank is built. `None` where none was found to. Where it has other values
-/// than constraints want, some tuples at which it has are added to `wrong`: a bank over these as well may have better ones.
+/// A body that has the wanted values at the bank's points, found as one that chooses between kept terms, if it solves
+/// the problem: one that chooses little, or where it `is_last`, one that chooses often, or one below known operations
+/// over vectors where there are no variables and more than one bank is built. `None` where none was found to. Where it
+/// has other values than constraints want, some tuples at which it has are added to `wrong`: a bank over these as well
+/// may have better ones.
 pub fn solve_chosen<T: Theory, D: Decide<T>>(
     task: &Task<T>,
     decide: &mut D,
@@ -37,12 +38,13 @@ pub fn solve_chosen<T: Theory, D: Decide<T>>(
     ensures assigned { OnOk result (AreAssignedFor T.Theory task.now.problem.now assignments.new.items) }
     ensures found { IfOk result (IsFoundFor T.Theory D.Decide task.now.problem.now task.now.bound) }
 {
-    let Some(search) = search_of(task, is_last) else {
+    let Some(breadth) = breadth_of(task, is_last) else {
         return Ok(None);
     };
-    let wishes = wishes_of(task, assignments.as_slice(), MOST_WISHES)?;
+    let most = most_wishes(assignments.len());
+    let wishes = wishes_of(task, assignments.as_slice(), most)?;
     let wanted = wanted_of(task.alloc, wishes)?;
-    let Some(term) = chosen_term(task, bank, &wanted, search)? else {
+    let Some(term) = chosen_term(task, bank, &wanted, breadth)? else {
         return Ok(None);
     };
     let known = wrong.len();
@@ -53,12 +55,17 @@ pub fn solve_chosen<T: Theory, D: Decide<T>>(
     try_term(task, decide, term, assignments, aside)
 }
 
+/// At how many tuples of each of so many assignments a body is judged at most.
+pub(crate) fn most_wishes(assignments: usize) -> usize {
+    MOST_WISHES.checked_div(assignments).unwrap_or(0)
+}
+
 /// A body with the wanted values at the bank's points; `None` where none was found.
 fn chosen_term<T: Theory>(
     task: &Task<T>,
     bank: &Bank<T>,
     wanted: &Wanted<T>,
-    search: Search,
+    breadth: Breadth,
 ) -> Result<Option<Term<T>>, Want> {
     let alloc = task.alloc;
     let Some(function) = task.problem.wanted.get(0) else {
@@ -74,13 +81,13 @@ fn chosen_term<T: Theory>(
         defs,
         bank,
         words,
-        search,
+        breadth,
         task.bound,
     )
 }
 
 /// Which bodies are looked for; `None` where bodies are truth values, since formulas seldom choose.
-fn search_of<T: Theory>(task: &Task<T>, is_last: bool) -> Option<Search> {
+fn breadth_of<T: Theory>(task: &Task<T>, is_last: bool) -> Option<Breadth> {
     let function = task.problem.wanted.get(0)?;
     let start = function.grammar.nons().get(0)?;
     let are_vectors = match start.sort {
@@ -89,12 +96,12 @@ fn search_of<T: Theory>(task: &Task<T>, is_last: bool) -> Option<Search> {
         Sort::Bool => return None,
     };
     if !is_last {
-        return Some(Search::Few);
+        return Some(Breadth::Few);
     }
     if are_vectors && task.problem.vars.len() == 0 && task.effort.banks > 1 {
-        return Some(Search::Deep);
+        return Some(Breadth::Deep);
     }
-    Some(Search::Many)
+    Some(Breadth::Many)
 }
 
 /// Adds tuples at which the term has another value than is wanted there, evenly spaced.

@@ -1,4 +1,5 @@
-// Bodies that choose between kept terms: which rules choose, and what of, is found by trial of their values over columns.
+// Bodies that choose between kept terms: which rules choose, and what of, is found by trial of their values over
+// columns.
 #![tactic(auto)]
 
 mod chosen;

@@ -2,18 +2,22 @@
 ghost use Rattle.sy_grammar_base.specs.Fits.{ProblemFits};
 ghost use Rattle.sy_loop_bodies.specs.Clauses.{AreAssignedFor};
 
-use crate::chosen::MOST_WISHES;
+use crate::chosen::most_wishes;
 use std::collections::HashMap;
 use sy_bank_level::row_hash;
 use sy_loop_bodies::{Task, Wish, wishes_of};
 use sy_terms::{Theory, Values, Want, same_value, same_values};
 
-/// Whether constraints want two values at one tuple, so that no body meets them. It needn't be found.
+/// Whether constraints want two values at one tuple, so that no body meets them. It needn't be found, and isn't where
+/// there are assumptions, which may be false or have no value there.
 pub fn are_at_odds<T: Theory>(task: &Task<T>, assignments: &[Values<T>]) -> Result<bool, Want>
     requires problem { ProblemFits T.Theory task.now.problem.now }
     requires assigned { AreAssignedFor T.Theory task.now.problem.now assignments.now }
 {
-    let wishes = wishes_of(task, assignments, MOST_WISHES)?;
+    if task.problem.assumptions.len() > 0 {
+        return Ok(false);
+    }
+    let wishes = wishes_of(task, assignments, most_wishes(assignments.len()))?;
     let mut places: HashMap<u64, usize> = HashMap::new(task.alloc);
     for place in 0..wishes.len() {
         let wish = &wishes[place];

@@ -11,9 +11,10 @@ use sy_terms::{Defs, Term, Theory, Want};
 /// How many choices are few.
 const FEW_CHOICES: u32 = 8;
 
-/// Which bodies are looked for: those that choose little, those that choose, and those below known operations or else these.
+/// Which bodies are looked for: those that choose little, those that choose, and those below known operations or else
+/// these.
 #[derive(Clone, Copy, PartialEq, Eq)]
-pub(crate) enum Search {
+pub(crate) enum Breadth {
     Few,
     Many,
     Deep,
@@ -26,11 +27,11 @@ pub(crate) fn planned_term<T: Theory>(
     defs: &Defs<T>,
     bank: &Bank<T>,
     words: Vec<u64>,
-    search: Search,
+    breadth: Breadth,
     most: u32,
 ) -> Result<Option<Term<T>>, Want> {
     let (shapes, rules) = rules_of(alloc, grammar, defs, bank.points())?;
-    if search != Search::Deep && !may_choose(shapes.as_slice()) {
+    if breadth != Breadth::Deep && !may_choose(shapes.as_slice()) {
         return Ok(None);
     }
     let pools = pools_of(alloc, grammar, bank)?;
@@ -41,7 +42,7 @@ pub(crate) fn planned_term<T: Theory>(
         wanted: words,
         complete,
     };
-    let Some(plan) = plan_of(alloc, &rules, &task, search)? else {
+    let Some(plan) = plan_of(alloc, &rules, &task, breadth)? else {
         return Ok(None);
     };
     if plan.size > most {
@@ -65,16 +66,16 @@ fn plan_of<T: Theory>(
     alloc: Global,
     rules: &RuleValues<'_, T>,
     task: &Task,
-    search: Search,
+    breadth: Breadth,
 ) -> Result<Option<Plan>, Want> {
-    if search == Search::Deep {
+    if breadth == Breadth::Deep {
         let deep = below(alloc, &*rules, &*task)?;
         if deep.is_some() {
             return Ok(deep);
         }
     }
     let chosen = choose(alloc, &*rules, &*task)?;
-    if search == Search::Few && !chooses_little(&chosen) {
+    if breadth == Breadth::Few && !chooses_little(&chosen) {
         return Ok(None);
     }
     Ok(chosen)

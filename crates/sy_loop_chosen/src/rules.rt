@@ -27,7 +27,8 @@ pub(crate) struct RuleValues<'a, T: Theory> {
     rules: Vec<RuleTerm<T>>,
 }
 
-/// The rules of all nonterminals that have one to five parts, of those with two the quick ones, and their values at the points.
+/// The rules of all nonterminals that have one to five parts, of those with two the quick ones, and their values at the
+/// points.
 pub(crate) fn rules_of<'a, T: Theory>(
     alloc: Global,
     grammar: &Grammar<T>,
@@ -95,7 +96,8 @@ fn operands_of<T: Theory>(alloc: Global, part: &Part<T>) -> Result<Vec<u32>, Wan
     Ok(operands)
 }
 
-/// The sorts of the function's arguments, and behind them those of the nonterminals; `None` where one isn't the grammar's.
+/// The sorts of the function's arguments, and behind them those of the nonterminals; `None` where one isn't the
+/// grammar's.
 fn sorts_with<T: Theory>(
     alloc: Global,
     grammar: &Grammar<T>,
@@ -126,8 +128,8 @@ fn rule_term<T: Theory>(
     filled_part(alloc, part, places.as_slice())
 }
 
-/// Whether the rule of this part, with so many nonterminals, is tried. Those of two are tried over thousands of pairs of
-/// columns, so among them the ones alone whose values are quickly had.
+/// Whether the rule of this part, with so many nonterminals, is tried. Those of two are tried over thousands of pairs
+/// of columns, so among them the ones alone whose values are quickly had.
 fn is_tried<T: Theory>(part: &Part<T>, count: usize) -> bool {
     match count {
         0 => false,

@@ -26,8 +26,8 @@ pub(crate) fn value_of<T: Theory>(sort: Sort, word: u64) -> Option<Value<T::Num>
     Some(Value::Num(number))
 }
 
-/// The term's values at the tuples; `None` where it isn't a term over values of these sorts, a tuple has other ones, or a
-/// value leaves the 128 bits.
+/// The term's values at the tuples; `None` where it isn't a term over values of these sorts, a tuple has other ones, or
+/// a value leaves the 128 bits.
 pub(crate) fn words_at<T: Theory>(
     alloc: Global,
     defs: &Defs<T>,
