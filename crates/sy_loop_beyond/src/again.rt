@@ -64,17 +64,9 @@ fn solve_wished<T: Theory, D: Decide<T>>(
 {
     let mut wrong = Vec::new(task.alloc);
     for round in 0..MOST_ROUNDS {
-        let Some(bank) = wished_bank(task, wrong.as_slice(), assignments.as_slice())? else {
-            return Ok(None);
-        };
         let known = wrong.len();
-        if let Some(found) = solve_over(task, decide, &bank, &mut wrong, assignments, aside)? {
-            return Ok(Some(found));
-        }
-        if wrong.len() > known && round + 1 < MOST_ROUNDS {
-            continue;
-        }
-        if let Some(found) = solve_last(task, decide, &bank, &mut wrong, assignments, aside)? {
+        let is_last = round + 1 == MOST_ROUNDS;
+        if let Some(found) = solve_round(task, decide, is_last, &mut wrong, assignments, aside)? {
             return Ok(Some(found));
         }
         if wrong.len() == known {
@@ -84,8 +76,43 @@ fn solve_wished<T: Theory, D: Decide<T>>(
     Ok(None)
 }
 
+<<<<<<< ours
 /// The first combination of kept terms that is found to solve the problem, or else a larger body that chooses or stands
 /// below known operations.
+=======
+/// The first body that is found to solve the problem over one bank, at the tuples that constraints want at the
+/// assignments and at those at which bodies were wrong. Where it adds to the latter, larger bodies are left to the last
+/// round.
+fn solve_round<T: Theory, D: Decide<T>>(
+    task: &Task<T>,
+    decide: &mut D,
+    is_last: bool,
+    wrong: &mut Vec<Values<T>>,
+    assignments: &mut Vec<Values<T>>,
+    aside: &mut Aside<T>,
+) -> Result<Option<(Bodies<T>, D::Proof)>, Want>
+    requires problem { ProblemFits T.Theory task.now.problem.now }
+    requires one { length task.now.problem.now.wanted ≡ 1 }
+    requires assigned { AreAssignedFor T.Theory task.now.problem.now assignments.old.items }
+    ensures assigned { OnOk result (AreAssignedFor T.Theory task.now.problem.now assignments.new.items) }
+    ensures found { IfOk result (IsFoundFor T.Theory D.Decide task.now.problem.now task.now.bound) }
+{
+    let known = wrong.len();
+    let Some(bank) = wished_bank(task, wrong.as_slice(), assignments.as_slice())? else {
+        return Ok(None);
+    };
+    if let Some(found) = solve_over(task, decide, &bank, wrong, assignments, aside)? {
+        return Ok(Some(found));
+    }
+    if wrong.len() > known && !is_last {
+        return Ok(None);
+    }
+    solve_last(task, decide, &bank, wrong, assignments, aside)
+}
+
+/// The first combination of kept terms that is found to solve the problem, or else a larger body that chooses or stands
+/// below known operations.
+>>>>>>> theirs
 fn solve_last<T: Theory, D: Decide<T>>(
     task: &Task<T>,
     decide: &mut D,
