@@ -76,10 +76,6 @@ fn solve_wished<T: Theory, D: Decide<T>>(
     Ok(None)
 }
 
-<<<<<<< ours
-/// The first combination of kept terms that is found to solve the problem, or else a larger body that chooses or stands
-/// below known operations.
-=======
 /// The first body that is found to solve the problem over one bank, at the tuples that constraints want at the
 /// assignments and at those at which bodies were wrong. Where it adds to the latter, larger bodies are left to the last
 /// round.
@@ -112,7 +108,6 @@ fn solve_round<T: Theory, D: Decide<T>>(
 
 /// The first combination of kept terms that is found to solve the problem, or else a larger body that chooses or stands
 /// below known operations.
->>>>>>> theirs
 fn solve_last<T: Theory, D: Decide<T>>(
     task: &Task<T>,
     decide: &mut D,
