@@ -28,7 +28,7 @@ pub(crate) struct Learning<T: Theory> {
     /// How many of the assignments it was told of, and the work that is left for more.
     pub(crate) told: usize,
     pub(crate) work: u64,
-    /// Whether there is no solution.
+    /// Whether no more is learned: there is no solution, or no room for more points.
     pub(crate) is_over: bool,
     /// How many points were inside when equalities were looked for.
     pub(crate) inside: usize,
