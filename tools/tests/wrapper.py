@@ -92,6 +92,8 @@ class Room:
 
 
 def builds(room):
+    status, out, err = room.answer("none.sl")
+    yield "./sygus: doesn't build for a file that isn't there", (status, out, err) == (4, "", "sygus: none.sl: there is no such file\n") and not room.notes.exists()
     status, out, err, built = room.run()
     yield "./sygus: builds each crate after those below it", built == list(CRATES)
     yield "./sygus: ends as the program", (status, out) == (7, "- a word\n")
