@@ -13,16 +13,14 @@ const MOST_EQUALITIES: usize = 8;
 /// How many points there are at most where parts of them are looked at.
 const MOST_PARTED: usize = 200;
 
-/// By how many literals points are parted at most.
+/// By how many literals points are parted at most, and the greatest size of such a literal.
 const MOST_PARTS: u32 = 64;
 
-/// The greatest size of a literal by which points are parted.
 const MOST_SIZE: u32 = 5;
 
-/// At how many points inside such a literal is true at least.
+/// At how many points inside such a literal is true at least, and at how many it is false.
 const LEAST_TRUE: usize = 3;
 
-/// At how many points inside such a literal is false at least.
 const LEAST_FALSE: usize = 6;
 
 impl<T: Theory> Learning<T> {
