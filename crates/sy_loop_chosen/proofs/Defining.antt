@@ -1,5 +1,5 @@
 -- Definitions that fit one after the other.
-use Rattle.std.specs.Prelude.{◌≡◌, ◌<◌, ℕ, Bool, List, [], ◌∷◌, ◌++◌, length, Some}
+use Rattle.std.specs.Prelude.{◌≡◌, ◌+◌, ◌<◌, ℕ, Bool, List, [], ◌∷◌, ◌++◌, length, Some}
 use Rattle.std.proofs.Common.{append_assoc, append-nil, get_or, take}
 use Rattle.std.proofs.lemmas.List.{take_more}
 use Rattle.sy_terms.specs.Values.{Val}
