@@ -1,4 +1,3 @@
-use Rattle.std.specs.Prelude.{◌×◌}
 use Rattle.sy_loop_bodies.specs.Clauses.{AreAssignedFor, AreFoundFor}
 use Rattle.sy_loop_learned.proofs.learned.solve_shorter.Given as goal
 
