@@ -28,7 +28,7 @@ pub(crate) struct Learning<T: Theory> {
     /// How many of the assignments it was told of, and the work that is left for more.
     pub(crate) told: usize,
     pub(crate) work: u64,
-    /// Whether there is no solution.
+    /// Whether no more is learned: there is no solution, or no room for more points.
     pub(crate) is_over: bool,
     /// How many points were inside when equalities were looked for.
     pub(crate) inside: usize,
@@ -256,7 +256,10 @@ fn disjunction_of<T: Theory>(task: &Task<T>, atoms: &Atoms) -> Result<Option<Wor
     requires one { length task.now.problem.now.wanted ≡ 1 }
 {
     for word in WORDS {
-        let (Some(first), Some(second)) = (atoms.term::<T>(task.alloc, 0)?, atoms.term::<T>(task.alloc, 1)?) else {
+        let (Some(first), Some(second)) = (
+            atoms.term::<T>(task.alloc, 0)?,
+            atoms.term::<T>(task.alloc, 1)?,
+        ) else {
             return Ok(None);
         };
         let either = pair(task.alloc, word, false, first, second)?;
