@@ -15,10 +15,12 @@ const MOST_PARTED: usize = 200;
 
 /// By how many literals points are parted at most, and the greatest size of such a literal.
 const MOST_PARTS: u32 = 64;
+
 const MOST_SIZE: u32 = 5;
 
 /// At how many points inside such a literal is true at least, and at how many it is false.
 const LEAST_TRUE: usize = 3;
+
 const LEAST_FALSE: usize = 6;
 
 impl<T: Theory> Learning<T> {

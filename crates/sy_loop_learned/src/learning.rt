@@ -256,7 +256,10 @@ fn disjunction_of<T: Theory>(task: &Task<T>, atoms: &Atoms) -> Result<Option<Wor
     requires one { length task.now.problem.now.wanted ≡ 1 }
 {
     for word in WORDS {
-        let (Some(first), Some(second)) = (atoms.term::<T>(task.alloc, 0)?, atoms.term::<T>(task.alloc, 1)?) else {
+        let (Some(first), Some(second)) = (
+            atoms.term::<T>(task.alloc, 0)?,
+            atoms.term::<T>(task.alloc, 1)?,
+        ) else {
             return Ok(None);
         };
         let either = pair(task.alloc, word, false, first, second)?;

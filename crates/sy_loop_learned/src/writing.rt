@@ -2,8 +2,8 @@
 ghost use Rattle.sy_grammar_base.specs.Fits.{ProblemFits};
 
 use crate::grouping::{Group, grouped, ranked};
-use crate::ways::{Way, joined};
 use crate::learning::setting_of;
+use crate::ways::{Way, joined};
 use sy_loop_atoms::Atoms;
 use sy_loop_bodies::Task;
 use sy_terms::{Term, Theory, Value, Want};
