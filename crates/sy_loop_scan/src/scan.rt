@@ -17,9 +17,8 @@ pub struct Scan {
 }
 
 impl Scan {
-    /// A scan of combinations of up to the size, which does so much work at most: one unit for each combination that is
-    /// judged, ten where that takes a division, twenty for a look-up. Nothing is wanted yet. `Want` comes where memory
-    /// runs out, and nowhere else.
+    /// A scan of combinations of up to the size, which does so much work at most: a unit for each combination that is judged,
+    /// ten where that takes a division. Nothing is wanted yet. `Want` comes where memory runs out, and nowhere else.
     pub fn new(
         alloc: Global,
         shapes: Vec<Shape>,
