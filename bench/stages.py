@@ -1,19 +1,20 @@
 #!/usr/bin/env python3
 """Runs `sygus` on problems of kinds whose banks are apt to fill before a solution is found, and prints how many are answered.
 
-    bench/stages.py [--sygus PROGRAM] [--limit SECONDS] [--cvc5] [--write FOLDER] [FAMILY ..]
+    bench/stages.py [--sygus PROGRAM] [--old PROGRAM] [--limit SECONDS] [--cvc5] [--write FOLDER] [FAMILY ..]
 
 The families, over vectors of 16 and 32 bits and over integers, each by the default grammar and by a small one:
 
-    ring       invariants of a buffer of ten places, which is filled and emptied by turns
+    ring       invariants of a buffer of 10 and of 25 places, which is filled and emptied by turns
     counters   invariants of two numbers that a loop moves at once
     search     invariants of the two bounds of a binary search
     tricks     functions of masks and shifts, over 16 and 32 bits, by a grammar of ten operators
     tables     functions given by 40 rows, by the default grammar alone
 
-Each file runs once with so many processor seconds, 20 without --limit; --cvc5 runs cvc5 beside it. --write puts the
-files into a folder and runs nothing. The problems are always the same. The status is 1 where fewer than a third are
-answered.
+Each file runs once with so many processor seconds, 20 without --limit; --cvc5 runs cvc5 beside it, and --old another
+build of `sygus`, and says how many are answered of those that end by `Bank` with it. --write puts the files into a folder
+and runs nothing. The problems are always the same. The status is 1 where fewer than a third are answered: with --old, of
+those that end by `Bank` with it.
 """
 import argparse
 import os
@@ -79,7 +80,7 @@ RINGS = {"places": "(and (< h {k}) (< t {k}))", "count": "(and (<= c {k}) (< t {
 def rings():
     for numbers in SORTS:
         for small in (False, True):
-            for k in (10,):
+            for k in (10, 25):
                 for name, post in RINGS.items():
                     def trans(it, k=k):
                         step = "(ite (= (+ {0} 1) {1}) 0 (+ {0} 1))"
@@ -99,6 +100,10 @@ COUNTERS = {
     "ahead": ("(and (= x 3) (= y 0))", "(and (< y 40) (= x1 (+ x 1)) (= y1 (+ y 1)))", "(or (< y 40) (= x 43))", [0, 1, 3, 40]),
     # by turns
     "turns": ("(and (= x 0) (= y 0))", "(or (and (= x y) (< x 30) (= x1 (+ x 1)) (= y1 y)) (and (< y x) (= x1 x) (= y1 (+ y 1))))", "(<= x 30)", [0, 1, 30]),
+    # towards each other
+    "meeting": ("(and (= x 0) (= y 60))", "(and (< x y) (= x1 (+ x 1)) (= y1 (- y 1)))", "(or (< x y) (= x 30))", [0, 1, 30, 60]),
+    # the second is one ahead, in steps of two
+    "paces": ("(and (= x 0) (= y 1))", "(and (< x 80) (= x1 (+ x 2)) (= y1 (+ y 2)))", "(or (< x 80) (= y 81))", [0, 1, 2, 80]),
     # three of the one are one of the other
     "third": ("(and (= x 0) (= y 0))", "(and (< y 20) (= x1 (+ x 3)) (= y1 (+ y 1)))", "(or (< y 20) (= x 60))", [0, 1, 20]),
 }
@@ -140,6 +145,9 @@ TRICKS = {
     "smear_three": "(bvor (bvor x (bvlshr x 1)) (bvlshr (bvor x (bvlshr x 1)) 2))",
     "mask_between": "(bvand (bvnot (bvsub x 1)) (bvsub y 1))",
     "absolute_apart": "(bvsub (bvxor (bvsub x y) (bvashr (bvsub x y) T)) (bvashr (bvsub x y) T))",
+    "carry_step": "(bvxor (bvand x y) (bvshl (bvxor x y) 1))",
+    "spread": "(bvor (bvshl (bvand x y) 1) (bvlshr (bvand x y) 1))",
+    "blend_sum": "(bvadd (bvand x m) (bvand y (bvnot m)))",
     "next_run": "(bvand (bvadd x (bvand x (bvneg x))) (bvnot (bvlshr x 1)))",
 }
 
@@ -202,9 +210,15 @@ def told(ended, limit):
     return f"{ended.seconds:.2f}" if answer(ended) == "definitions" else f"{ended.errors.strip().split(chr(10))[-1]}, {ended.seconds:.2f}"
 
 
+def count(ends):
+    """How many of the runs answer."""
+    return sum(answer(ended) == "definitions" for ended in ends)
+
+
 def main():
     parser = argparse.ArgumentParser(description=__doc__, formatter_class=argparse.RawDescriptionHelpFormatter)
     parser.add_argument("--sygus", metavar="PROGRAM")
+    parser.add_argument("--old", metavar="PROGRAM")
     parser.add_argument("--limit", metavar="SECONDS", type=int, default=20)
     parser.add_argument("--cvc5", action="store_true")
     parser.add_argument("--write", metavar="FOLDER")
@@ -215,6 +229,8 @@ def main():
         print(len(list(write_files(options.write, texts))), "files")
         return
     commands = {"sygus": [sygus(options.sygus)]}
+    if options.old:
+        commands["old"] = [os.path.abspath(options.old)]
     if options.cvc5:
         commands["cvc5"] = ["cvc5", "--lang=sygus2"]
     print("| File | " + " | ".join(f"`{name}` s" for name in commands) + " |")
@@ -230,7 +246,11 @@ def main():
     for name, list_of in ends.items():
         answered = [ended.seconds for ended in list_of if answer(ended) == "definitions"]
         print(f"{name}: {len(answered)} of {len(list_of)}, {sum(answered):.2f} s, the others {sum(ended.seconds for ended in list_of) - sum(answered):.2f} s")
-    sys.exit(3 * sum(answer(ended) == "definitions" for ended in ends["sygus"]) < len(texts))
+    asked = ends["sygus"]
+    if options.old:
+        asked = [ended for ended, old in zip(ends["sygus"], ends["old"]) if old.errors.rstrip().endswith(" Bank")]
+        print(f"{len(asked)} end by Bank with the old program, {count(asked)} of them are answered")
+    sys.exit(3 * count(asked) < len(asked))
 
 
 if __name__ == "__main__":

@@ -703,12 +703,12 @@ def main():
     parser.add_argument("--seconds", type=float, default=SECONDS)
     parser.add_argument("file", metavar="FILE")
     given = parser.parse_args()
-    program = find_program()
     try:
         text = sys.stdin.buffer.read() if given.file == "-" else open(given.file, "rb").read()
     except OSError as error:
         say(f"problem_checks.py: {given.file}: {error.strerror}")
         return 4
+    program = find_program()
     taken = Call([program, "-"], re.sub(rb"\(\s*check-synth\s*\)", b"", text)).result()
     if taken.status:
         say(taken.errors.strip(), "\ntools/explain says more")

@@ -29,6 +29,7 @@ import resource
 import selectors
 import shutil
 import signal
+import stat
 import subprocess
 import sys
 import tempfile
@@ -269,6 +270,16 @@ def find_program(named=None):
             "there is no sygus on the path; SYGUS=PROGRAM names it; tools/install PREFIX of its repository copies it"
         )
     return found
+
+
+def unreadable(file):
+    """Why a file can't be read, or None where it can; asked before a program is built for it. A pipe isn't opened."""
+    try:
+        if file != "-" and not stat.S_ISFIFO(os.stat(file).st_mode):
+            open(file, "rb").close()
+        return None
+    except OSError as error:
+        return error.strerror
 
 
 def build(wrapper):

@@ -255,6 +255,9 @@ def asked(program):
     env = {**os.environ, "SYGUS": str(program)}
     said = subprocess.run([EXPLAIN, "-"], input=UNREAD, env=env, capture_output=True, text=True).stdout
     yield "explain: nothing follows from what can't be read", "BadByte" in said and "Further on" not in said
+    for name in ("nowhere.sl", "/"):
+        ended = subprocess.run([EXPLAIN, name], env={**env, "SYGUS": ""}, capture_output=True, text=True)
+        yield f"explain: {name} can't be read", (ended.returncode, ended.stderr) == (4, "") and "can't be read: " in ended.stdout
     said = subprocess.run([EXPLAIN, "-"], input=FOREIGN, env=env, capture_output=True, text=True).stdout
     places = [line for line in said.splitlines() if line.startswith(("-:", "Further"))]
     wanted = ["-:1:12: Logic", "Further on:", "-:3:2: CommandNotInProfile"]
