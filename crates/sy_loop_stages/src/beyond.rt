@@ -6,8 +6,9 @@ ghost use Rattle.sy_loop_spec.specs.declared.reach.Reach.TheVariants.{Joins};
 ghost use Rattle.sy_loop_spec.specs.Right.{IsRightFor};
 ghost use Rattle.sy_loop_stages.specs.Searched.{CauseHoldsFor, SolvesInFor};
 
+use crate::causes::is_bank;
 use crate::own::{try_aside, try_own};
-use crate::stage::{MOST_SIZE, Stage, limits_of_formula, limits_of_one_body};
+use crate::stage::{MOST_SIZE, Stage, WIDE_SIZE, limits_of_formula, limits_of_one_body};
 use std::alloc::Global;
 use sy_bank_level::Bank;
 use sy_grammar_base::Problem;
@@ -41,7 +42,7 @@ pub(crate) fn found_beyond<T: Theory, D: Decide<T>>(
         alloc,
         problem,
         limits: &limits,
-        size: stage.limits.size,
+        size: size_beyond::<T, D>(stage, cause),
         bound: stage.limits.size.max(MOST_SIZE),
         effort: stage.effort,
     };
@@ -50,6 +51,16 @@ pub(crate) fn found_beyond<T: Theory, D: Decide<T>>(
     }
     let found = found_after_cause(&task, stage, decide, cause, aside)?;
     Ok(found)
+}
+
+/// Up to which size terms are kept and combined beyond the stage: larger ones after a full bank, whose terms are small.
+fn size_beyond<T: Theory, D: Decide<T>>(stage: &Stage, cause: &FailCause<T, D::Spent>) -> u32 {
+    let size = stage.limits.size;
+    if is_bank::<T, D>(cause) {
+        size.max(WIDE_SIZE)
+    } else {
+        size
+    }
 }
 
 /// A solution that is found after a search within the limits ended by the cause. No bodies within the size are left
