@@ -98,6 +98,9 @@ def evaluated(term, variables, definitions, width):
         if term in variables:
             return variables[term]
         return int(term[2:], 16 if term[1] == "x" else 2)
+    if term[0] == "let":
+        bound = {name: evaluated(value, variables, definitions, width) for name, value in term[1]}
+        return evaluated(term[2], {**variables, **bound}, definitions, width)
     values = [evaluated(part, variables, definitions, width) for part in term[1:]]
     if term[0] in definitions:
         arguments, body = definitions[term[0]]
