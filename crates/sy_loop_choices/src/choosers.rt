@@ -100,6 +100,14 @@ impl Chooser {
         Ok(if whole { Some(row) } else { None })
     }
 
+    /// Whether the rule is asked at which points it has the value of its part `yes`.
+    pub(crate) fn is_asked(&self) -> bool {
+        match self.test {
+            Test::Is(_) | Test::Differs(_) => false,
+            Test::Unknown => true,
+        }
+    }
+
     /// All parts, from left to right.
     pub(crate) fn placed<X: Copy>(
         &self,

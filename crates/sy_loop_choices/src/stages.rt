@@ -17,6 +17,8 @@ use sy_seq::Want;
 
 /// How many combinations of kept terms by rules are gone through at most.
 const MOST_COMBINATIONS: usize = 1_000_000;
+/// And how many for conditions of a rule that has to be asked for each.
+const MOST_ASKED: usize = 30_000;
 /// A tree of so few choices is taken at once.
 const FEW_CHOICES: u32 = 8;
 
@@ -101,7 +103,12 @@ fn gather<R: Rules>(
             }
         }
         Stage::FurtherConditions => {
-            for number in 0..choosers {
+            for (number, chooser) in search.choosers.iter().enumerate() {
+                let most = if chooser.is_asked() {
+                    most.min(MOST_ASKED)
+                } else {
+                    most
+                };
                 gather_further(search, Role::Condition(number), most, gathered)?;
             }
         }
