@@ -5,7 +5,7 @@ use crate::setting::{Setting, Shape};
 use crate::terms::term_of;
 use std::alloc::Global;
 use sy_grammar_sizes::number_of;
-use sy_loop_literals::{Given, Kind, Literal, Sides, Table, Traits};
+use sy_loop_literals::{Given, Kind, Sides, Table, Token, Traits};
 use sy_loop_statements::{Statements, value_of};
 use sy_terms::{Term, Theory, Value, Want};
 
@@ -115,7 +115,7 @@ impl Atoms {
 /// Whether the term is true at the tuple.
 fn is_true<T: Theory>(
     alloc: Global,
-    term: &[sy_loop_literals::Token],
+    term: &[Token],
     tuple: &[Value<T::Num>],
 ) -> Result<bool, Want> {
     match value_of::<T>(alloc, term, tuple)? {

@@ -94,11 +94,13 @@ impl Atoms {
     ) -> Result<(), Want>
         requires { ProblemFits T.Theory setting.now.problem.now }
     {
+        let first = [argument(x)];
+        let second = [argument(y)];
         let compared = Compared {
             relation: Relation::Equal,
             order: Order::Unsigned,
-            first: &[argument(x)],
-            second: &[argument(y)],
+            first: &first[..],
+            second: &second[..],
         };
         self.add_all(setting, &compared, false)
     }

@@ -6,7 +6,7 @@ use crate::setting::Setting;
 use sy_bank_level::Bank;
 use sy_loop_literals::{Compared, Kind, Relation, Sum, Token, Traits, compared_in};
 use sy_loop_statements::opened;
-use sy_terms::{Op, Term, Theory, Want};
+use sy_terms::{Op, Sort, Term, Theory, Want};
 
 /// How many kept terms become literals at most.
 const MOST_TERMS: usize = 2_500;
@@ -86,7 +86,7 @@ impl Atoms {
 fn least_form<T: Theory>(
     setting: &Setting<T>,
     compared: &Compared,
-    sorts: &[sy_terms::Sort],
+    sorts: &[Sort],
 ) -> Result<Option<(Kind, Sum)>, Want> {
     let Some((kind, sum)) = compared.form(setting.alloc, sorts)? else {
         return Ok(None);

@@ -84,8 +84,8 @@ pub(crate) fn size_in<T: Theory>(
     }
 }
 
-/// The size of the derivation of the term that is found; `None` where the start symbol doesn't derive it, or that one isn't
-/// within the bound.
+/// The size of the derivation of the term that is found; `None` where the start symbol doesn't derive it, or that one
+/// isn't within the bound.
 fn term_size<T: Theory>(setting: &Setting<T>, term: &Term<T>) -> Result<Option<u32>, Want>
     requires { ProblemFits T.Theory setting.now.problem.now }
 {
