@@ -29,9 +29,10 @@ impl Atoms {
     pub fn new<T: Theory>(setting: &Setting<T>, statements: &Statements) -> Result<Atoms, Want>
         requires { ProblemFits T.Theory setting.now.problem.now }
     {
+        let shape = Shape::new(setting)?;
         let mut atoms = Atoms {
             table: Table::new(setting.alloc),
-            shape: Shape::new(setting)?,
+            shape,
             given: Given::new(setting.alloc),
             free: false,
             left: 4_000,
