@@ -1,6 +1,7 @@
 -- Lists that grow, and places below their lengths.
-use Rattle.std.specs.Prelude.{ℕ, Bool, List, All, length, [], ◌<◌, ◌≤◌, ◌≡◌, ◌++◌, ◌∷◌, ◌×◌}
+use Rattle.std.specs.Prelude.{ℕ, Bool, List, All, length, [], ◌<◌, ◌≤◌, ◌≡◌, ◌++◌, ◌∷◌}
 use Rattle.std.specs.Global.{Vec}
+use Rattle.std.proofs.Common.{arith}
 use Rattle.std.proofs.lemmas.List.Elements.{All-weaker}
 use Rattle.sy_loop_statements.specs.Places.{AreBelow, Grows}
 

@@ -1,5 +1,5 @@
 -- What conditions speak of: tuples by their places in a list that grows.
-use Rattle.std.specs.Prelude.{ℕ, Bool, List, All, length, ◌<◌, ◌≡◌, ◌++◌, ◌×◌}
+use Rattle.std.specs.Prelude.{ℕ, Bool, List, All, length, ◌<◌, ◌≡◌, ◌++◌}
 use Rattle.std.specs.Global.{Vec}
 
 -- each label is of one of so many tuples
