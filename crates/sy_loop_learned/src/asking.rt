@@ -13,8 +13,8 @@ use sy_terms::{Bodies, Term, Theory, Values, Want};
 /// How often the literals of a formula that wasn't decided are made dearer, so that another one comes.
 const SHIFTS: u32 = 4;
 
-/// Tries the formula as the one body. Where it is refuted, what constraints say at the assignment is told; where it isn't
-/// decided, or the grammar hasn't it, another one is wanted.
+/// Tries the formula as the one body. Where it is refuted, what constraints say at the assignment is told; where it
+/// isn't decided, or the grammar hasn't it, another one is wanted.
 pub(crate) fn try_formula<T: Theory, D: Decide<T>>(
     task: &Task<T>,
     decide: &mut D,

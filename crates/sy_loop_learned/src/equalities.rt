@@ -13,14 +13,16 @@ const MOST_EQUALITIES: usize = 8;
 /// How many points there are at most where parts of them are looked at.
 const MOST_PARTED: usize = 200;
 
-/// By how many literals points are parted at most, and the greatest size of such a literal.
+/// By how many literals points are parted at most.
 const MOST_PARTS: u32 = 64;
 
+/// The greatest size of a literal by which points are parted.
 const MOST_SIZE: u32 = 5;
 
-/// At how many points inside such a literal is true at least, and at how many it is false.
+/// At how many points inside such a literal is true at least.
 const LEAST_TRUE: usize = 3;
 
+/// At how many points inside such a literal is false at least.
 const LEAST_FALSE: usize = 6;
 
 impl<T: Theory> Learning<T> {
@@ -33,8 +35,8 @@ impl<T: Theory> Learning<T> {
         Ok(insides)
     }
 
-    /// Looks for equalities of the points inside where there are more than before; where clauses of two are learned, also for
-    /// those that hold where a literal is false.
+    /// Looks for equalities of the points inside where there are more than before; where clauses of two are learned,
+    /// also for those that hold where a literal is false.
     pub(crate) fn refresh_hull(&mut self, task: &Task<T>) -> Result<(), Want>
         requires { ProblemFits T.Theory task.now.problem.now }
     {
@@ -65,7 +67,8 @@ impl<T: Theory> Learning<T> {
             .add_hull(&setting, self.tuples.as_slice(), points, most)
     }
 
-    /// Adds an equality that holds at the points inside where a literal is false, for small literals one after the other.
+    /// Adds an equality that holds at the points inside where a literal is false, for small literals one after the
+    /// other.
     fn add_parts(&mut self, task: &Task<T>, insides: &[bool]) -> Result<(), Want>
         requires { ProblemFits T.Theory task.now.problem.now }
     {
@@ -88,7 +91,8 @@ impl<T: Theory> Learning<T> {
     }
 }
 
-/// For each point whether it is inside and the literal is false there; `None` where that, or the contrary, is at few points.
+/// For each point whether it is inside and the literal is false there; `None` where that, or the contrary, is at few
+/// points.
 fn part_of(
     alloc: Global,
     columns: &[Vec<bool>],

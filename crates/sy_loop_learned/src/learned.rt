@@ -19,10 +19,10 @@ const MOST_GOALS: usize = 8;
 /// How many shorter formulas are tried.
 const MOST_SHORTER: u32 = 14;
 
-/// A body of sort Bool that solves the problem: a formula over comparisons of the arguments and kept terms of the bank,
-/// learned from what constraints say at the assignments and at those that refute others before it. Once one is found, a
-/// shorter one is looked for. `None` where none was found to solve the problem, within as many refuted ones as the task's
-/// effort says; nothing follows from it. `Want` comes as in `solve_kept`.
+/// A body of sort Bool that solves the problem: a formula over comparisons of the arguments and kept terms of the
+/// bank, learned from what constraints say at the assignments and at those that refute others before it. Once one is
+/// found, a shorter one is looked for. `None` where none was found to solve the problem, within as many refuted ones
+/// as the task's effort says; nothing follows from it. `Want` comes as in `solve_kept`.
 pub fn solve_learned<T: Theory, D: Decide<T>>(
     task: &Task<T>,
     decide: &mut D,

@@ -100,8 +100,8 @@ fn bank_of<'a, T: Theory, D: Decide<T>>(cause: &'a FailCause<T, D::Spent>) -> Op
     }
 }
 
-/// A learned formula that solves the problem. What isn't decided of formulas is apart from what others set aside, since the
-/// limits are others.
+/// A learned formula that solves the problem. What isn't decided of formulas is apart from what others set aside,
+/// since the limits are others.
 fn found_learned<T: Theory, D: Decide<T>>(
     task: &Task<T>,
     stage: &Stage,

@@ -78,10 +78,10 @@ fn are_same(first: &[Vec<usize>], second: &[Vec<usize>]) -> bool {
     true
 }
 
-/// Whether the learner does what the step says: `:` and the clauses of the next formula, or `none`; `wide` and `last`, as
-/// there is a wider class or none; `in`, `out` and `open`, and the label of the point; `new` and `old`, and a condition;
-/// `short`; `anew`; `lost`, and a point of the first literal's formula that failed there; `more`, a point at which no truth is
-/// known.
+/// Whether the learner does what the step says: `:` and the clauses of the next formula, or `none`; `wide` and
+/// `last`, as there is a wider class or none; `in`, `out` and `open`, and the label of the point; `new` and `old`,
+/// and a condition; `short`; `anew`; `lost`, and a point of the first literal's formula that failed there; `more`, a
+/// point at which no truth is known.
 fn goes(rt: &impl Abort, alloc: Global, step: &str, learner: &mut Learner) -> bool {
     if let Some(word) = step.strip_prefix(':') {
         let wanted = clauses(rt, alloc, word);
@@ -123,10 +123,11 @@ fn changes(rt: &impl Abort, alloc: Global, word: &str, rest: &str, learner: &mut
     true
 }
 
-/// Points, literals, clauses of the problem, and steps. One literal of the problem before a smaller one that isn't; labels that
-/// follow, and a condition that is known or always holds; two points out; a pair, which no class has where there is no
-/// disjunction, and the same pair as a clause of the problem; three literals; a point that is in and out; a formula that is
-/// true everywhere; a literal that failed and grew dearer, until that is forgotten; the smaller of two; no truth known.
+/// Points, literals, clauses of the problem, and steps. One literal of the problem before a smaller one that isn't;
+/// labels that follow, and a condition that is known or always holds; two points out; a pair, which no class has
+/// where there is no disjunction, and the same pair as a clause of the problem; three literals; a point that is in
+/// and out; a formula that is true everywhere; a literal that failed and grew dearer, until that is forgotten; the
+/// smaller of two; no truth known.
 pub(crate) const ROWS: &str = "\
 formula|joins|3|3-110 4+110||new=0 new=1 new=!2 :1
 formula|joins|4|3+1110||new=0 new=!0.1 new=!1.2 new=!3 in=0 in=1 in=2 out=3 open=4 old=!0.1 old=0.!0 :0
