@@ -6,6 +6,7 @@ ghost use Rattle.sygus_replies.specs.Answered.{WritesMostFails};
 ghost use Rattle.sygus_replies.specs.Replies.{IsSettled, IsFail};
 ghost use Rattle.sygus_replies.specs.Texts.{answer_lines, words_line, read_line, memory_line};
 ghost use Rattle.sygus_answers.specs.Answers.{replies_of, AreNamedFor};
+ghost use Rattle.sygus_answers.specs.Begun.{BeginsLine};
 ghost use Rattle.sygus_input.specs.Inputs.{AskDrill, AskJudging, AskNoJudging, AskSolving, HaveNoReading};
 ghost use Rattle.sygus_run.specs.Runs.{Answered, EndsWhole, FileIsRefused, GoesWell, IsCutOff, NamesKnown, WantsMemory};
 ghost use Rattle.sygus_run.specs.Runs.{fault_line, fault_status};
@@ -128,6 +129,8 @@ fn without_input<E: Sink>(err: &mut E, fault: InputFault) -> Ended
     ensures written { result.status ≢ 5 → (result.status ≡ fault_status fault) × Appends (E.written err.old)
         (E.written err.new) (fault_line fault) }
     ensures write { result.status ≡ 5 → Rose (E.faults err.old) (E.faults err.new) }
+    ensures begun { result.status ≡ 5 → BeginsLine (λ line. line ≡ fault_line fault) (E.written err.old)
+        (E.written err.new) }
 {
     match fault {
         InputFault::Words => unanswered(err, b"refused: words\n", 3),
