@@ -19,8 +19,9 @@ use Rattle.sygus_words.specs.declared.settings.Settings.{Settings}
 use Rattle.sygus_drills.proofs.Drilling.{ends_idle}
 use Rattle.sygus_answers.specs.Answers.{replies_of}
 use Rattle.sygus_drills.specs.Drills.{EndsDrill}
-use Rattle.sygus_solve.specs.Files.{AnswersFile, RefusesFile, Stops, WritesAll, WritesCut, WritesTexts}
-use Rattle.sygus_run.specs.Runs.{Answered, FileIsRefused, IsCutOff, Midway, PosesFile, WantsMemory, fault_line, fault_status}
+use Rattle.sygus_replies.specs.Answered.{WritesMostFails}
+use Rattle.sygus_solve.specs.Files.{AnswersFile, IsRefusalLine, RefusesFile, Stops, WritesAll, WritesCut, WritesTexts}
+use Rattle.sygus_run.specs.Runs.{Answered, FileIsRefused, IsCutOff, IsLineCutOff, IsSolvingLine, of_words, of_read, of_length, of_memory, of_refusal, Midway, PosesFile, WantsMemory, fault_line, fault_status}
 use Rattle.sygus_answers.specs.declared.answers.Answers.{Answers}
 use Rattle.sygus_answers.specs.declared.answers.Answers.TheVariants.{Idle}
 
@@ -60,6 +61,11 @@ module _ (words : List (List ℕ)) (held : Option Holding) (settings : Settings)
   pub cut_off : (answers : Answers) (out out' : Option (List ℕ)) → Stops settings file answers out out' (WritesCut settings.proofs answers out out') → IsCutOff words held answers out out'
   cut_off answers out out' (inl nothing) = inl nothing
   cut_off answers out out' (inr at) = inr (midway answers (λ proofs. WritesCut proofs answers out out') at)
+
+  pub cut_lines : (answers : Answers) (err err' : Option (List ℕ)) → ((answers ≡ Idle) × BeginsLine (IsRefusalLine file) err err') ⊎ WritesMostFails (replies_of answers) err err' → IsLineCutOff words held answers err err'
+  cut_lines answers err err' (inl nothing) =
+      inl (nothing.0, record { line = nothing.1.line; is = of_refusal settings file asked.named nothing.1.is; count = nothing.1.count; begun = nothing.1.begun })
+  cut_lines answers err err' (inr lines) = inr lines
 
   pub wants_memory : (answers : Answers) (out out' : Option (List ℕ)) → Stops settings file answers out out' (WritesTexts settings.proofs answers out out') → WantsMemory words held answers out out'
   wants_memory answers out out' (inl nothing) = inl nothing
@@ -215,6 +221,18 @@ module _ (words : List (List ℕ)) (held : Option Holding) (before now : ℕ) (s
   ends_unjudged faults.Want answers out out' within why ends begun asked idle same =
       idle_ends answers out out' within (λ is. omega (arith, (ends (λ e. omega (arith, e, is))).0, is)) (front_long faults.Want why ends)
       (begins_without faults.Want why asked begun) idle same
+
+-- the front of the line that says why there is no input
+line_unsolved : (words : List (List ℕ)) (held : Option Holding) (before now : ℕ) (fault : InputFault) → HasNoInput words held before now fault → (line : List ℕ) → line ≡ fault_line fault → IsSolvingLine words held line
+line_unsolved words held before now faults.Words why line is = of_words why is
+line_unsolved words held before now faults.Read why line is = of_read is
+line_unsolved words held before now faults.TooLong why line is = of_length why.1.settings why.1.file why.1.named why.1.long is
+line_unsolved words held before now faults.Want why line is = of_memory is
+
+pub cuts_without : (words : List (List ℕ)) (held : Option Holding) (before now : ℕ) (fault : InputFault) (answers : Answers) (err err' : Option (List ℕ)) → HasNoInput words held before now fault →
+    answers ≡ Idle → BeginsLine (λ line. line ≡ fault_line fault) err err' → IsLineCutOff words held answers err err'
+cuts_without words held before now fault answers err err' why idle begun =
+    inl (idle, record { line = begun.line; is = line_unsolved words held before now fault why begun.line begun.is; count = begun.count; begun = begun.begun })
 
 pub wants_line : (status : ℕ) (fault : InputFault) (answers : Answers) (err err' : Option (List ℕ)) → (status ≢ 5 → (status ≡ fault_status fault) × Appends err err' (fault_line fault)) → answers ≡ Idle → status ≡ 6
     → Appends err err' (answer_lines 1 (replies_of answers) ++ memory_line)

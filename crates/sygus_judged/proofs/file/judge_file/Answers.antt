@@ -68,9 +68,9 @@ returns-in-Ok-refusal_text-clause-cut_line g c is =
       begun = begun.begun;
     }
 
-pub returns-in-Err-refusal_text-clause-cut_line : goal.returns-in-Err-refusal_text-clause-cut_line
-returns-in-Err-refusal_text-clause-cut_line g c is =
-    let begun = c.unanswered-in-Err-refusal_text.ensures.begun is (λ e. omega (arith, e)) in
+pub returns-in-Err-clause-cut_line : goal.returns-in-Err-clause-cut_line
+returns-in-Err-clause-cut_line g c is =
+    let begun = c.unanswered-in-Err.ensures.begun is (λ e. omega (arith, e)) in
     record { line = begun.line; is = wants begun.is; count = begun.count; begun = begun.begun }
 
 pub returns-in-Err-Want-clause-cut_line : goal.returns-in-Err-Want-clause-cut_line
