@@ -7,8 +7,8 @@ ghost use Rattle.sygus_replies.specs.Texts.{answer_lines, words_line, read_line,
 ghost use Rattle.sygus_answers.specs.Answers.{replies_of, AreNamedFor};
 ghost use Rattle.sygus_answers.specs.Begun.{BeginsLine};
 ghost use Rattle.sygus_input.specs.Inputs.{AskDrill, AskJudging, AskNoJudging, AskSolving, HaveNoReading};
-ghost use Rattle.sygus_run.specs.Runs.{Answered, EndsWhole, FileIsRefused, GoesWell, IsCutOff, IsLineCutOff, NamesKnown, WantsMemory};
-ghost use Rattle.sygus_run.specs.Runs.{fault_line, fault_status};
+ghost use Rattle.sygus_run.specs.Runs.{Answered, EndsWhole, FileIsRefused, GoesWell, IsCutOff, IsLineCutOff};
+ghost use Rattle.sygus_run.specs.Runs.{NamesKnown, WantsMemory, fault_line, fault_status};
 ghost use Rattle.sygus_drills.specs.Drills.{EndsDrill};
 ghost use Rattle.sygus_judged.specs.Ends.{EndsJudged};
 ghost use Rattle.sy_query_limits.specs.declared.Limits.{Limits};

@@ -8,7 +8,8 @@ ghost use Rattle.sygus_replies.specs.Replies.{IsSettled, IsFail};
 ghost use Rattle.sygus_replies.specs.Texts.{answer_lines, memory_line};
 ghost use Rattle.sygus_answers.specs.Answers.{replies_of, AreNamedFor};
 ghost use Rattle.sygus_answers.specs.Begun.{BeginsLine};
-ghost use Rattle.sygus_solve.specs.Files.{AnswersFile, IsRefusalLine, RefusesFile, WritesAll, WritesCut, WritesTexts, Stops};
+ghost use Rattle.sygus_solve.specs.Files.{AnswersFile, IsRefusalLine, RefusesFile, Stops};
+ghost use Rattle.sygus_solve.specs.Files.{WritesAll, WritesCut, WritesTexts};
 
 use crate::job::answer;
 use std::alloc::Global;

@@ -90,7 +90,8 @@ pub fn judge_all<T: Theory, J: Judge<T>, O: Sink, E: Sink>(
 fn out_of_memory<E: Sink>(err: &mut E) -> u8
     ensures written { result ≢ 5 → (result ≡ 6) × Appends (E.written err.old) (E.written err.new) memory_line }
     ensures fault { result ≡ 5 → Rose (E.faults err.old) (E.faults err.new) }
-    ensures begun { result ≡ 5 → (count : ℕ) × Appends (E.written err.old) (E.written err.new) (take count memory_line) }
+    ensures begun { result ≡ 5 → (count : ℕ) × Appends (E.written err.old) (E.written err.new)
+        (take count memory_line) }
 {
     match write_whole(err, b"want of memory\n") {
         Ok(()) => 6,
