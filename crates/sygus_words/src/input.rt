@@ -1,7 +1,7 @@
 // What a run is asked for.
+use crate::settings::Settings;
 use sy_io::Bytes;
 use sy_query_limits::Limits;
-use sygus_words::Settings;
 use thiserror::Error;
 
 /// What the words of a command line ask for.

@@ -7,10 +7,10 @@ use Rattle.sygus_words.specs.CommandLine.{IsReading}
 use Rattle.sygus_words.specs.declared.settings.Mode.{Mode}
 use Rattle.sygus_words.specs.declared.settings.Mode.TheVariants.{Solve, Least, Check, Recheck, Clauses, Drill}
 use Rattle.sygus_words.specs.declared.settings.Settings.{Settings}
-use Rattle.sygus_input.specs.declared.input.Input.{Input}
-use Rattle.sygus_input.specs.declared.input.Input.TheVariants as inputs
-use Rattle.sygus_input.specs.declared.input.InputFault.{InputFault}
-use Rattle.sygus_input.specs.declared.input.InputFault.TheVariants as faults
+use Rattle.sygus_words.specs.declared.input.Input.{Input}
+use Rattle.sygus_words.specs.declared.input.Input.TheVariants as inputs
+use Rattle.sygus_words.specs.declared.input.InputFault.{InputFault}
+use Rattle.sygus_words.specs.declared.input.InputFault.TheVariants as faults
 
 -- the most bytes that a file may have
 abbrev pub longest : ℕ

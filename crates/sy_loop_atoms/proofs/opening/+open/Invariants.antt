@@ -1,5 +1,5 @@
 use Rattle.std.proofs.Common.{◌+◌, ◌*◌}
-use Rattle.sy_loop_statements.proofs.opening.+open.Given as goal
+use Rattle.sy_loop_atoms.proofs.opening.+open.Given as goal
 
 abbrev pub decreases-open : goal.decreases-open
 decreases-open g l = 3 * l.depth

@@ -8,11 +8,11 @@ use Rattle.sygus_words.proofs.Readings.{one_reading}
 use Rattle.sygus_words.specs.CommandLine.{IsReading}
 use Rattle.sygus_words.specs.declared.settings.Mode.TheVariants.{Drill}
 use Rattle.sygus_words.specs.declared.settings.Settings.{Settings}
-use Rattle.sygus_input.specs.Inputs.{AskDrill, AskNoDrill, AskJudging, AskNoJudging, AskFile, AskReplies, HasNoFile, HasNoInput, IsFileOf, IsInput, IsInputBy, NameTooLong, judges, longest}
-use Rattle.sygus_input.specs.declared.input.Input.{Input}
-use Rattle.sygus_input.specs.declared.input.Input.TheVariants as inputs
-use Rattle.sygus_input.specs.declared.input.InputFault.{InputFault}
-use Rattle.sygus_input.specs.declared.input.InputFault.TheVariants as faults
+use Rattle.sygus_words.specs.Inputs.{AskDrill, AskNoDrill, AskJudging, AskNoJudging, AskFile, AskReplies, HasNoFile, HasNoInput, IsFileOf, IsInput, IsInputBy, NameTooLong, judges, longest}
+use Rattle.sygus_words.specs.declared.input.Input.{Input}
+use Rattle.sygus_words.specs.declared.input.Input.TheVariants as inputs
+use Rattle.sygus_words.specs.declared.input.InputFault.{InputFault}
+use Rattle.sygus_words.specs.declared.input.InputFault.TheVariants as faults
 
 -- their readings have one mode
 same_mode : (words : List (List ℕ)) (s t : Settings) → IsReading words s → IsReading words t → s.mode ≡ t.mode

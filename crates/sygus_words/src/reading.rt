@@ -1,12 +1,13 @@
 // Reading the words, and the file that they name.
 ghost use Rattle.std.specs.Prelude.{ℕ, ◌≡◌, map, string_bytes, IfOk, IfErr};
-ghost use Rattle.sygus_input.specs.Inputs.{AskDrill, HaveNoReading, IsInput, IsInputBy, HasNoInput, IsFileOf, HasNoFile};
+ghost use Rattle.sygus_words.specs.Inputs.{AskDrill, HaveNoReading, IsInput, IsInputBy, HasNoInput, IsFileOf, HasNoFile};
 ghost use Rattle.sy_query_limits.specs.declared.Limits.{Limits};
 
 use crate::input::{Input, InputFault};
+use crate::settings::{Mode, Settings, WordFault};
+use crate::words::read_words;
 use std::alloc::Global;
 use sy_io::{Bytes, ReadEnd, Source, read_whole};
-use sygus_words::{Mode, Settings, WordFault, read_words};
 
 /// The most bytes that a file may have.
 const LONGEST: usize = 4194304;

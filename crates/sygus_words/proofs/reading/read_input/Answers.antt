@@ -1,5 +1,5 @@
-use Rattle.sygus_input.proofs.Asking.{asks_for, asks_none, asks_input, asks_no_file}
-use Rattle.sygus_input.proofs.reading.read_input.Goals as goal
+use Rattle.sygus_words.proofs.Asking.{asks_for, asks_none, asks_input, asks_no_file}
+use Rattle.sygus_words.proofs.reading.read_input.Goals as goal
 
 pub returns-in-Drill-clause-ok : goal.returns-in-Drill-clause-ok
 returns-in-Drill-clause-ok g c = asks_for _ c.in-Ok.settings c.in-Drill.number c.in-Ok.ensures.ok c.in-Drill.is
