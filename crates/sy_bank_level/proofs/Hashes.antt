@@ -7,7 +7,8 @@ use Rattle.std.proofs.lemmas.Option.{none-some}
 use Rattle.sy_terms.specs.Values.{Val}
 use Rattle.sy_terms.specs.Denoted.{val_of, vals_of}
 use Rattle.sy_terms.specs.declared.sort.Value.{Value}
-use Rattle.sy_bank_level.specs.Hashing.{hash_from, lanes, mixed, code, HasPlace, PlaceIsAdded}
+use Rattle.sy_seq.specs.Mixing.{mixed}
+use Rattle.sy_bank_level.specs.Hashing.{hash_from, lanes, code, HasPlace, PlaceIsAdded}
 use Rattle.sy_bank_level.specs.declared.table.Place.{Place}
 
 -- the lanes before the first value, before another, and after the last one

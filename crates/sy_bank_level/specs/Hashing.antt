@@ -1,5 +1,6 @@
 -- Numbers by which rows are found.
 use Rattle.std.specs.Prelude.{ℕ, ◌+◌, ◌-◌, ◌*◌, ◌/◌, ◌%◌, ◌^◌, ◌≡◌, List, [], ◌∷◌, ◌++◌, slice_get, nat_eq, bit_xor, if◌then◌else◌, Some}
+use Rattle.sy_seq.specs.Mixing.{mixed}
 use Rattle.sy_terms.specs.Values.{Val, Truth, Whole, Bits}
 use Rattle.sy_grammar_base.specs.Trees.{value_magnitude, is_negative}
 use Rattle.sy_bank_level.specs.declared.table.Place.{Place}
@@ -13,10 +14,6 @@ abbrev pub code : Val → ℕ
 code (Truth truth) = if truth then 1 else 0
 code (Whole number) = if is_negative (Whole number) then 2 ^ 64 - 1 - halves_folded (value_magnitude (Whole number)) else halves_folded (value_magnitude (Whole number))
 code (Bits width number) = halves_folded number
-
--- a number for two numbers
-abbrev pub mixed : ℕ → ℕ → ℕ
-mixed seed code = ((seed * 11400714819323198485) % 2 ^ 64 + code) % 2 ^ 64
 
 -- with these values more, the next of which is mixed into the first of three numbers
 unfoldable pub lanes : ℕ → ℕ → ℕ → List Val → ℕ

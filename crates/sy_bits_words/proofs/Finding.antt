@@ -8,12 +8,12 @@ use Rattle.sy_gates.specs.declared.gate.Bit.{Bit}
 use Rattle.sy_gates.specs.declared.gate.Bit.TheVariants.{Fixed}
 use Rattle.sy_bits_words.specs.declared.known.Known.{Known}
 use Rattle.sy_bits_words.specs.Places.{HasPlace, PlaceIsAdded}
-use Rattle.sy_bits_words.specs.Mixing.{mixed_number}
+use Rattle.sy_seq.specs.Mixing.{mixed}
 use Rattle.sy_bits_words.specs.Finding.{bit_code, bits_key}
 
 -- keys
 
-pub bits-next : (key : ℕ) (word : List Bit) (i : ℕ) → i < length word → bits_key key (drop i word) ≡ bits_key (mixed_number key (bit_code (get_or word i (Fixed false)))) (drop (i + 1) word)
+pub bits-next : (key : ℕ) (word : List Bit) (i : ℕ) → i < length word → bits_key key (drop i word) ≡ bits_key (mixed key (bit_code (get_or word i (Fixed false)))) (drop (i + 1) word)
 unfolding bits_key
 bits-next key word i within = ap (bits_key key) (drop_more word i (Fixed false) within)
 

@@ -6,7 +6,6 @@ mod division;
 mod equality;
 mod known;
 mod meets;
-mod mixing;
 mod operations;
 mod sharing;
 mod sums;
