@@ -14,8 +14,9 @@ ghost use Rattle.sy_bank.specs.Promised.{IsBank, BankIsWhole, BankIsFull, Stays}
 use crate::bank::BankEnd;
 use crate::growing::all_sizes;
 use std::alloc::Global;
-use sy_bank_level::{Bank, Table};
+use sy_bank_level::Bank;
 use sy_grammar_base::Grammar;
+use sy_seq::Buckets;
 use sy_terms::{Defs, Seq, Theory, Values, Want, copied_values};
 
 /// The same points, in memory of their own.
@@ -58,7 +59,7 @@ pub fn build<T: Theory>(
         points: copied_points::<T>(alloc, points.as_slice())?,
         upto,
         levels: Vec::new(alloc),
-        table: Table::new(alloc),
+        table: Buckets::new(alloc),
         count: 0,
         dropped: None,
     };

@@ -1,4 +1,3 @@
 pub mod Standing
 pub mod Sums
-pub mod Places
 pub mod Finding

@@ -9,7 +9,6 @@ mod meets;
 mod operations;
 mod sharing;
 mod sums;
-mod table;
 mod words;
 
 pub use known::Known;
