@@ -15,7 +15,7 @@ use sy_loop_spec::{FailCause, Outcome, Reach};
 use sy_points::Stored;
 use sy_query_base::Decide;
 use sy_query_limits::Limits;
-use sy_terms::{Bodies, Seq, Theory, Values, Want, copied_values};
+use sy_terms::{Bodies, Theory, Values, Want, copied_tuples};
 
 /// The outcome of a search that ends by a candidate. `Want` comes where memory doesn't suffice for a copy of a
 /// function's tuples.
@@ -79,19 +79,7 @@ fn points_met<T: Theory, D: Decide<T>>(
     ensures right { IfOk result (IsRightFor T.Theory D.Decide _reach _problem.now _limits.now) }
     ensures least { IfOk result (FindsLeastFor T.Theory _reach _problem.now) }
 {
-    let tuples = copied_tuples::<T>(alloc, known.points.of(function))?;
+    let tuples = copied_tuples::<T>(alloc, known.points.of(function).as_slice())?;
     let cause = FailCause::Points(known.stored, function, bodies, assignment, tuples);
     Ok(Outcome::Fail(cause))
-}
-
-/// The same tuples, in memory of their own.
-fn copied_tuples<T: Theory>(alloc: Global, tuples: &Seq<Values<T>>) -> Result<Seq<Values<T>>, Want>
-    ensures { IfOk result (λ copy. copy ≡ tuples.now) }
-{
-    let mut copy = Seq::new(alloc);
-    for tuple in tuples.as_slice() {
-        let values = copied_values::<T>(alloc, tuple.as_slice())?;
-        copy.push(values)?;
-    }
-    Ok(copy)
 }

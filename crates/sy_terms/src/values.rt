@@ -32,3 +32,14 @@ pub fn copied_values<T: Theory>(alloc: Global, values: &[Value<T::Num>]) -> Resu
     copy.extend_from_slice(values)?;
     Ok(Seq::from(copy))
 }
+
+/// The same tuples of values, in memory of their own. `Want` comes where memory runs out, and nowhere else.
+pub fn copied_tuples<T: Theory>(alloc: Global, tuples: &[Values<T>]) -> Result<Seq<Values<T>>, Want>
+    ensures { IfOk result (λ copies. copies ≡ tuples.now) }
+{
+    let mut copies = Seq::new(alloc);
+    for tuple in tuples {
+        copies.push(copied_values::<T>(alloc, tuple.as_slice())?)?;
+    }
+    Ok(copies)
+}
