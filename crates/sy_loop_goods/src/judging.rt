@@ -18,10 +18,10 @@ use crate::recall::{judged_by, value_at};
 use std::alloc::{AllocError, Global};
 use sy_bank_level::Kept;
 use sy_grammar_base::Problem;
-use sy_loop_truth::{Rest, is_true};
+use sy_loop_truth::Rest;
 use sy_meaning::{Eval, Trace, evaluate_with};
 use sy_points::{Points, Stored};
-use sy_terms::{Bodies, Seq, Term, Theory, Value, Want};
+use sy_terms::{Bodies, Seq, Term, Theory, Value, Want, is_true};
 
 /// Whether constraints are true under bodies, each at a stored assignment.
 #[derive(Clone, Copy)]

@@ -10,4 +10,4 @@ mod truth;
 pub use calls::{Adding, add_calls};
 pub use point::point_of;
 pub use rest::Rest;
-pub use truth::{Truth, all_true, is_true, judge};
+pub use truth::{Truth, all_true, judge};

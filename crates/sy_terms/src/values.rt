@@ -1,5 +1,6 @@
-// Values as what they stand for: comparisons and copies.
-ghost use Rattle.std.specs.Prelude.{◌≡◌, ◌↔◌, IsTrue, IfOk};
+// Values as what they stand for: comparisons, truth and copies.
+ghost use Rattle.std.specs.Prelude.{◌≡◌, ◌↔◌, IsTrue, IfOk, true};
+ghost use Rattle.sy_terms.specs.Values.{Truth};
 ghost use Rattle.sy_terms.specs.Denoted.{val_of, vals_of};
 
 use crate::sort::Value;
@@ -22,6 +23,16 @@ pub fn same_values<T: Theory>(a: &[Value<T::Num>], b: &[Value<T::Num>]) -> bool
     ensures { IsTrue result ↔ vals_of T.denotes a.now ≡ vals_of T.denotes b.now }
 {
     a == b
+}
+
+/// Whether the value is true.
+pub fn is_true<T: Theory>(value: &Value<T::Num>) -> bool
+    ensures { IsTrue result ↔ val_of T.denotes value.now ≡ Truth true }
+{
+    match value {
+        Value::Truth(truth) => *truth,
+        Value::Num(_) => false,
+    }
 }
 
 /// The same values, in memory of their own.
