@@ -16,9 +16,11 @@ front (z ∷ xs) x y (suc i) at = front xs x y i at
 
 -- what was added is found
 pub has-added : {V : Type 0} (before after : ℕ → List V) (key : ℕ) (value : V) → ValueIsAdded before key value after → HasValue after key value
-has-added {V} before after key value added =
-    (length (before key), ap (λ (list : List V). slice_get list (length (before key)))
-    (added key ∙ ap (λ (b : Bool). if b then before key ++ value ∷ [] else before key) (eq-eqb key key refl)) ∙ end (before key) value)
+has-added {V} before after key value added = (
+  length (before key),
+  ap (λ (list : List V). slice_get list (length (before key)))
+      (added key ∙ ap (λ (b : Bool). if b then before key ++ value ∷ [] else before key) (eq-eqb key key refl)) ∙ end (before key) value,
+)
 
 or-more : {V : Type 0} (b : Bool) (xs : List V) (value other : V) (i : ℕ) → slice_get xs i ≡ Some other →
     slice_get (if b then xs ++ value ∷ [] else xs) i ≡ Some other
