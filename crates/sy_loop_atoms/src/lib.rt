@@ -1,6 +1,6 @@
 // What a function of sort Bool may be made of: comparisons of its arguments as literals, with their truths at points.
-// What constraints state of the function is opened, as tokens. All are guides to a search: what is made of them is tested
-// and proved afterwards.
+// What constraints state of the function is opened, as tokens. All are guides to a search: what is made of them is
+// tested and proved afterwards.
 #![tactic(auto)]
 
 mod adding;
