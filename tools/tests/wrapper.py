@@ -59,7 +59,7 @@ class Room:
     def words(self, lasts=0.0, fails="", **others):
         """The environment of ./sygus."""
         own = {"NOTES": str(self.notes), "LASTS": str(lasts), "FAILS": fails, "TMPDIR": str(self.scratch), **others}
-        return {**os.environ, **own, "PATH": f"{self.folder}:{os.environ['PATH']}"}
+        return {**os.environ, **own, "SYGUS": "", "PATH": f"{self.folder}:{os.environ['PATH']}"}
 
     def begin(self, lasts=0.0, fails=""):
         """Starts ./sygus, as a shell with a terminal does."""

@@ -13,7 +13,7 @@ fn number(word: &str) -> usize {
 fn add_literal(rt: &impl Abort, alloc: Global, word: &str, learner: &mut Learner) {
     let is_program = word.contains('+');
     let mut parts = word.split(if is_program { '+' } else { '-' });
-    let size = number(parts.next().unwrap_or("")) as u32;
+    let size = parts.next().unwrap_or("").parse::<u32>().unwrap_or(0);
     let mut truths = Vec::new(alloc);
     for sign in parts.next().unwrap_or("").as_bytes() {
         truths.push(*sign == b'1').expect(rt, "memory");
