@@ -24,7 +24,7 @@ use std::alloc::{AllocError, Global};
 use sy_bank_level::{Bank, Kept};
 use sy_grammar_base::Problem;
 use sy_loop_candidate::{End, Known, Step, decide_due, try_candidate};
-use sy_loop_goods::{Goods, Memo, good_rows};
+use sy_loop_goods::{Goods, LeafTask, Memo, good_rows};
 use sy_loop_spec::Reach;
 use sy_loop_trees::{tree_term, truth_rows};
 use sy_loop_truth::Rest;
@@ -166,15 +166,15 @@ fn parts_of<'a, T: Theory>(
     if leaves.len() >= TOO_MANY || conditions.len() >= TOO_MANY {
         return Err(AllocError);
     }
-    let goods = good_rows(
+    let judged = LeafTask {
         alloc,
         problem,
-        &known.stored,
-        &known.points,
+        stored: &known.stored,
+        points: &known.points,
         rests,
-        leaves.as_slice(),
-        memo,
-    )?;
+        leaves: leaves.as_slice(),
+    };
+    let goods = good_rows(&judged, memo)?;
     let rows = truth_rows(alloc, conditions.as_slice())?;
     Ok(Parts {
         leaves,
