@@ -5,9 +5,11 @@
 mod calls;
 mod point;
 mod rest;
+mod task;
 mod truth;
 
 pub use calls::{Adding, add_calls};
 pub use point::point_of;
 pub use rest::Rest;
+pub use task::Search;
 pub use truth::{Truth, all_true, is_true, judge};
