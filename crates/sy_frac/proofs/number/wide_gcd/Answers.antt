@@ -1,0 +1,12 @@
+use Rattle.std.proofs.Common.{arith}
+use Rattle.std.proofs.lemmas.Nat.Gcd.{IsGcd-from_mod, IsGcd-from_zero}
+use Rattle.sy_frac.proofs.number.wide_gcd.Goals as goal
+
+pub loop-y-preserved : goal.loop-y-preserved
+loop-y-preserved c = record {
+  same = λ g h. c.loop-y.invariant.same g (IsGcd-from_mod c.loop-y.x c.loop-y.y g h);
+  positive = λ p. omega arith;
+}
+
+pub returns-clause-divisor : goal.returns-clause-divisor
+returns-clause-divisor c = c.loop-y.invariant.same c.loop-y.x (IsGcd-from_zero c.loop-y.x c.loop-y.y (omega arith))
