@@ -4,6 +4,9 @@ use Rattle.std.proofs.Common.{sym, ◌∙◌, subst, arith}
 use Rattle.sy_linear_known.specs.declared.form.Form.{Form}
 use Rattle.sy_simplex.specs.States.{TableauState, basic}
 use Rattle.sy_simplex.specs.Runs.{Ran, RunIsSpent}
+use Rattle.sy_simplex.specs.declared.answer.Feasible.{Feasible}
+use Rattle.sy_simplex.specs.declared.answer.Feasible.TheVariants.{Point, Conflict, Pivots, Range}
+use Rattle.sy_simplex.specs.Answers.{TellsFeasible, IsPivots}
 use Rattle.sy_simplex.proofs.Bridge.{basic_variable}
 use Rattle.sy_simplex.proofs.Sound.{IsSteady, of_tableau}
 use Rattle.sy_simplex.proofs.Endings.{among, among_found, among_holds}
@@ -50,3 +53,10 @@ too_many vars forms steps u ran h =
 
 pub never_spent : (vars : ℕ) (forms : List Form) (pivots : ℕ) (steps : List (ℕ × ℕ)) → 2 ^ (vars + length forms) ≤ pivots → ¬ (RunIsSpent vars forms pivots steps)
 never_spent vars forms pivots steps h e = too_many vars forms steps e.state e.ran (omega (arith, h, e.all))
+
+-- so no such run is answered by `Pivots`
+pub never_pivots : (vars : ℕ) (forms : List Form) (pivots : ℕ) (answer : Feasible) → 2 ^ (vars + length forms) ≤ pivots → TellsFeasible vars forms pivots answer → ¬ (IsPivots answer)
+never_pivots vars forms pivots (Point p) enough told = λ x. x
+never_pivots vars forms pivots (Conflict m) enough told = λ x. x
+never_pivots vars forms pivots (Pivots run) enough told = λ x. never_spent vars forms pivots run.steps enough told
+never_pivots vars forms pivots (Range run) enough told = λ x. x

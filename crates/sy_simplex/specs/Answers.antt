@@ -23,6 +23,11 @@ TellsFeasible vars forms pivots (Conflict m) = EndsStuck vars forms pivots
 TellsFeasible vars forms pivots (Pivots run) = RunIsSpent vars forms pivots run.steps
 TellsFeasible vars forms pivots (Range run) = IsOutOfRange vars forms pivots run.steps
 
+-- the steps were spent
+abbrev pub IsPivots : Feasible → Type 0
+IsPivots (Pivots run) = Unit {0}
+IsPivots _ = ⊥
+
 -- the same answer: one point, or one list of steps; a conflict may have several multipliers
 abbrev pub IsSameAnswer : Feasible → Feasible → Type 0
 IsSameAnswer (Point p) (Point q) = p ≡ q

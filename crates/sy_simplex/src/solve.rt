@@ -1,9 +1,9 @@
 // The run from the initial tableau to its answer.
-ghost use Rattle.std.specs.Prelude.{◌<◌, ◌^◌, ◌↔◌, length, IfOk, IsTrue};
+ghost use Rattle.std.specs.Prelude.{◌<◌, ◌≤◌, ◌+◌, ◌^◌, ◌↔◌, length, IfOk, IsTrue};
 ghost use Rattle.sy_simplex.specs.States.{IsShaped};
 ghost use Rattle.sy_simplex.specs.Stated.{tableau_state_of};
 ghost use Rattle.sy_simplex.specs.Problems.{AreForms};
-ghost use Rattle.sy_simplex.specs.Answers.{AnswerIsSound, TellsFeasible, IsPointAnswer, IsConflictAnswer};
+ghost use Rattle.sy_simplex.specs.Answers.{AnswerIsSound, TellsFeasible, IsPointAnswer, IsConflictAnswer, IsPivots};
 
 use crate::answer::{Ended, Feasible, Run};
 use crate::choice::Choice;
@@ -140,11 +140,13 @@ pub fn ended(alloc: Global, vars: u32, bounds: &Seq<Form>, pivots: u32) -> Resul
     }
 }
 
-/// The answer of `ended`, without the tableau.
+/// The answer of `ended`, without the tableau. It isn't `Pivots` where there are as many steps as sets of the variables,
+/// of which each form has one.
 pub fn feasible(alloc: Global, vars: u32, bounds: &Seq<Form>, pivots: u32) -> Result<Feasible, Want>
     requires { AreForms vars bounds.now }
     ensures sound { IfOk result (λ answer. AnswerIsSound vars bounds.now answer) }
     ensures exact { IfOk result (λ answer. TellsFeasible vars bounds.now pivots answer) }
+    ensures ends { 2 ^ (vars + length bounds.now) ≤ pivots → IfOk result (λ answer. ¬ (IsPivots answer)) }
 {
     let end = ended(alloc, vars, bounds, pivots)?;
     Ok(end.answer)
