@@ -11,7 +11,7 @@ use sy_frac::Frac;
 use sy_seq::{Seq, Want};
 
 /// The value of a variable.
-fn value_of(tableau: &Tableau, variable: u32) -> Frac
+pub fn value_of(tableau: &Tableau, variable: u32) -> Frac
     requires shaped { IsShaped (tableau_state_of tableau.now) }
     requires below { IsVariable (tableau_state_of tableau.now) variable }
     ensures { IsValue (tableau_state_of tableau.now) variable result }
@@ -37,7 +37,7 @@ pub(crate) fn point(alloc: Global, tableau: &Tableau) -> Result<Seq<Frac>, Want>
 }
 
 /// The multiplier of the form with this variable, by the row.
-fn multiplier(tableau: &Tableau, row: usize, variable: u32) -> Frac
+pub fn multiplier(tableau: &Tableau, row: usize, variable: u32) -> Frac
     requires shaped { IsShaped (tableau_state_of tableau.now) }
     requires row_below { row < length (tableau_state_of tableau.now).basics }
     ensures { IsMultiplier (tableau_state_of tableau.now) row variable result }
