@@ -79,7 +79,7 @@ pick_not_negative u i q h = by (i == u)
     by false = zero_not_negative
 
 -- a sum of products by a pick
-total_pick : (n u : ℕ) (q : ℚ) (g : ℕ → ℚ) → u < n → total n (λ i. pick u i q *ℚ g i) ≡ q *ℚ g u
+pub total_pick : (n u : ℕ) (q : ℚ) (g : ℕ → ℚ) → u < n → total n (λ i. pick u i q *ℚ g i) ≡ q *ℚ g u
 total_pick n u q g h =
     total_split n u (λ i. pick u i q *ℚ g i) h
     ∙ ap₂ (λ a b. a +ℚ b) (ap (λ a. a *ℚ g u) (pick_same u q)) (total-same n (zero_at u (λ i. pick u i q *ℚ g i)) (λ i. 0ℚ) (λ i l. by i (eqb_tells i u)) ∙ total_zero n)

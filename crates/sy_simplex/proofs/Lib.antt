@@ -9,6 +9,7 @@ pub mod Ending
 pub mod Endings
 pub mod Exact
 pub mod Exchanging
+pub mod Fixed
 pub mod FullRows
 pub mod Outcomes
 pub mod Places

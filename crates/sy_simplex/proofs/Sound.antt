@@ -159,7 +159,7 @@ module _ (vars : ℕ) (forms : List Form) (t : TableauState) (steady : IsSteady 
   unfolding assignment
   at_row i l = assigned_row (length forms) (λ i. basic t i) (λ i. number (row_value t i)) (λ v. number (rest t v)) steady.placed.rows_differ i l
 
-  at_column : (j : ℕ) → j < vars → assignment (variable_of_column t j) ≡ number (rest t (variable_of_column t j))
+  pub at_column : (j : ℕ) → j < vars → assignment (variable_of_column t j) ≡ number (rest t (variable_of_column t j))
   unfolding assignment
   at_column j k = assigned_other (length forms) (λ i. basic t i) (λ i. number (row_value t i)) (λ v. number (rest t v)) (variable_of_column t j) (λ i l. steady.placed.apart i j l k)
 

@@ -19,7 +19,10 @@ pub use ends::{multiplier, value_of};
 pub use fault::Fault;
 pub use forms::{are_forms, is_form};
 pub use fractions::{negated, one, whole, zero};
-pub use law::{answers_are_determined, enough_pivots_are_never_spent, no_basis_comes_twice};
+pub use law::{
+    a_basis_fixes_its_tableau, answers_are_determined, columns_are_at_rest, enough_pivots_are_never_spent,
+    no_basis_comes_twice,
+};
 pub use row::Row;
 pub use solve::{ended, feasible};
 pub use tableau::Tableau;
