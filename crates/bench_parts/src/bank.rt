@@ -1,6 +1,6 @@
 // A bank of ten operators over four arguments of 32 bits, built at random points: the words are the numbers of points,
-// of sizes and of terms that are kept at most. It prints how many terms were tried and how many are kept; the status is 4
-// where it gets full.
+// of sizes and of terms that are kept at most. It prints how many terms were tried and how many are kept; the status is
+// 4 where it gets full.
 ghost use Rattle.std.specs.Prelude.{◌≡◌, ◌∷◌, [], true, All, map, IfOk, IfSome};
 ghost use Rattle.sy_terms.specs.Denoted.{val_of, vals_of, AreValid};
 ghost use Rattle.sy_terms.specs.Theories.{valid, sort_of_value};
@@ -31,7 +31,8 @@ fn value<T: Theory>(sort: Sort, state: u64) -> Option<Value<T::Num>>
 /// A point of four random values.
 fn point<T: Theory>(alloc: Global, sort: Sort, state: u64) -> Result<Option<Values<T>>, Want>
     ensures valid { IfOk result (λ found. IfSome found (λ point. AreValid T.denotes point)) }
-    ensures sorts { IfOk result (λ found. IfSome found (λ point. map sort_of_value (vals_of T.denotes point) ≡ sort ∷ sort ∷ sort ∷ sort ∷ [])) }
+    ensures sorts { IfOk result (λ found.
+        IfSome found (λ point. map sort_of_value (vals_of T.denotes point) ≡ sort ∷ sort ∷ sort ∷ sort ∷ [])) }
 {
     let Some(first) = value::<T>(sort, state) else {
         return Ok(None);

@@ -28,7 +28,8 @@ fn values<T: Theory>(
     round: u32,
 ) -> Result<Option<Vec<Value<T::Num>>>, Want>
     ensures valid { IfOk result (λ found. IfSome found (λ vs. AreValid T.denotes vs.items)) }
-    ensures sorts { IfOk result (λ found. IfSome found (λ vs. map sort_of_value (vals_of T.denotes vs.items) ≡ sort ∷ sort ∷ sort ∷ [])) }
+    ensures sorts { IfOk result (λ found.
+        IfSome found (λ vs. map sort_of_value (vals_of T.denotes vs.items) ≡ sort ∷ sort ∷ sort ∷ [])) }
 {
     let Some(first) = value::<T>(sort, round) else {
         return Ok(None);

@@ -8,7 +8,7 @@ use crate::terms::{NONE, Node, add_term};
 use crate::words::{WANT, number};
 use std::alloc::Global;
 use sy_frac::Frac;
-use sy_linear::check_tree;
+use sy_linear::{check_tree, is_countable};
 use sy_linear_known::{CheckEnd, Fact, Form, Known, Test, Tree, is_numbered, known_under};
 use sy_meaning_integers::IntTheory;
 use sy_query_base::Query;
@@ -158,7 +158,7 @@ fn is_open(alloc: Global, query: &Query<IntTheory>, count: u32) -> Result<Option
     is_open_under(alloc, query, path.as_slice())
 }
 
-/// Whether the tree of a small query is accepted.
+/// Whether the tree of a small query is accepted, and neither is too large.
 fn is_accepted(
     alloc: Global,
     query: &Query<IntTheory>,
@@ -166,6 +166,9 @@ fn is_accepted(
     depth: u32,
 ) -> Result<bool, CheckEnd> {
     let tree = tree(alloc, count, depth)?;
+    if !is_numbered(query) || !is_countable(&tree) {
+        return Ok(false);
+    }
     check_tree(alloc, query, &tree)
 }
 

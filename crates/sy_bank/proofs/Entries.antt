@@ -17,7 +17,7 @@ use Rattle.std.proofs.lemmas.List.{length-map}
 use Rattle.sy_bank_level.specs.Banks.{Entry, kept_at, IsKept}
 use Rattle.sy_bank_level.specs.Covering.{terms}
 use Rattle.sy_bank_level.specs.Filling.{World, LevelState, all_levels, EntryIsRight, IsSteady, LevelGrows, TermIsDone}
-use Rattle.sy_bank_level.proofs.Kept.{below-or-last, kept_at-last}
+use Rattle.sy_bank_level.proofs.KeptLaws.{below-or-last, kept_at-last}
 use Rattle.sy_bank_level.proofs.Keeping.{done-on}
 use Rattle.sy_bank_level.specs.Tasks.{IsSet}
 use Rattle.sy_bank_level.proofs.Given.{found-done}

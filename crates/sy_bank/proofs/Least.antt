@@ -12,7 +12,7 @@ use Rattle.sy_grammar_base.specs.Trees.{Syntax, Production, Template, EachConsta
 use Rattle.sy_bank_level.specs.Banks.{Entry, kept_at}
 use Rattle.sy_bank_level.specs.Covering.{AreKept, sizes}
 use Rattle.sy_bank_level.specs.Filling.{World, LevelState, IsSteady, EntryIsRight}
-use Rattle.sy_bank_level.proofs.Kept.{kept_at-before, size-within}
+use Rattle.sy_bank_level.proofs.KeptLaws.{kept_at-before, size-within}
 
 cond-least : (test : Bool) (n : ℕ) → 1 ≤ (if test then 1 else n + 1)
 cond-least true n = omega arith

@@ -4,7 +4,7 @@ pub mod ConstantSizes
 pub mod Digits
 pub mod Ends
 pub mod Entries
-pub mod Growing
+pub mod GrowingLaws
 pub mod Items
 pub mod Least
 pub mod Offered

@@ -18,7 +18,7 @@ use Rattle.sy_grammar_base.specs.Trees.{Nonterminal, rule_of, value_magnitude, T
 use Rattle.sy_bank_level.specs.Banks.{Entry, IsKept}
 use Rattle.sy_bank_level.specs.Columns.{HasRow}
 use Rattle.sy_bank_level.specs.Filling.{World, LevelState, all_levels, EntryIsRight, IsSteady, LevelGrows, TermIsDone}
-use Rattle.sy_bank_level.proofs.Kept.{below-or-last}
+use Rattle.sy_bank_level.proofs.KeptLaws.{below-or-last}
 use Rattle.sy_bank_level.proofs.Keeping.{done-on}
 use Rattle.sy_bank_level.proofs.Given.{has-row, found-done}
 use Rattle.sy_bank.specs.Leaves.{IsLeafRule, GivesDone, IsGivenConstant, IsDoneFor, IsDoneAt}

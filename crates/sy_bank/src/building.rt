@@ -31,7 +31,8 @@ fn copied_points<T: Theory>(alloc: Global, points: &[Values<T>]) -> Result<Seq<V
 
 /// A bank of the terms of derivations up to this size, over these points, of at most `cap` kept terms. Where none was
 /// dropped, each yield of such a derivation is computable at all points, and its row is that of a kept term of its
-/// nonterminal, at most as large. `Full` comes exactly where `cap` terms are kept, none was dropped and one more is new.
+/// nonterminal, at most as large. `Full` comes exactly where `cap` terms are kept, none was dropped and one more is
+/// new. `Want` comes also where 32 bits don't count the points, or the grammar's arguments.
 pub fn build<T: Theory>(
     alloc: Global,
     grammar: &Grammar<T>,
@@ -44,10 +45,14 @@ pub fn build<T: Theory>(
     requires definitions { DefinitionsFit T.owned T.denotes defs.now }
     requires formed { is_formed T.numeric (scope_of T.owned defs.now) (syntax_from T.denotes grammar.now) ≡ true }
     requires points { ArePointsOf grammar.now.args (map (vals_of T.denotes) points.now) }
-    ensures bank { OnBank T.denotes result (IsBank (syntax_from T.denotes grammar.now) (functions (bodies T.denotes defs.now)) (vals_of T.denotes pool.now) (map (vals_of T.denotes) points.now) upto cap) }
-    ensures whole { IfOk result (λ bank. BankIsWhole (syntax_from T.denotes grammar.now) (functions (bodies T.denotes defs.now)) (vals_of T.denotes pool.now) (merged_of T.denotes bank)) }
-    ensures full { IfFull T.denotes result (BankIsFull (syntax_from T.denotes grammar.now) (functions (bodies T.denotes defs.now)) (vals_of T.denotes pool.now) cap) }
-    ensures built { IfOk result (BankIsBuilt T.denotes (scope_of T.owned defs.now) (syntax_from T.denotes grammar.now) (functions (bodies T.denotes defs.now)) (vals_of T.denotes pool.now)) }
+    ensures bank { OnBank T.denotes result (IsBank (syntax_from T.denotes grammar.now) (functions
+        (bodies T.denotes defs.now)) (vals_of T.denotes pool.now) (map (vals_of T.denotes) points.now) upto cap) }
+    ensures whole { IfOk result (λ bank. BankIsWhole (syntax_from T.denotes grammar.now)
+        (functions (bodies T.denotes defs.now)) (vals_of T.denotes pool.now) (merged_of T.denotes bank)) }
+    ensures full { IfFull T.denotes result (BankIsFull (syntax_from T.denotes grammar.now)
+        (functions (bodies T.denotes defs.now)) (vals_of T.denotes pool.now) cap) }
+    ensures built { IfOk result (BankIsBuilt T.denotes (scope_of T.owned defs.now)
+        (syntax_from T.denotes grammar.now) (functions (bodies T.denotes defs.now)) (vals_of T.denotes pool.now)) }
 {
     let bank = Bank {
         points: copied_points::<T>(alloc, points.as_slice())?,
@@ -74,14 +79,19 @@ pub fn grow<T: Theory>(
     requires definitions { DefinitionsFit T.owned T.denotes defs.now }
     requires formed { is_formed T.numeric (scope_of T.owned defs.now) (syntax_from T.denotes grammar.now) ≡ true }
     requires points { ArePointsOf grammar.now.args (merged_of T.denotes begun).points }
-    requires built { BankIsBuilt T.denotes (scope_of T.owned defs.now) (syntax_from T.denotes grammar.now) (functions (bodies T.denotes defs.now)) (vals_of T.denotes pool.now) begun }
+    requires built { BankIsBuilt T.denotes (scope_of T.owned defs.now)
+        (syntax_from T.denotes grammar.now) (functions (bodies T.denotes defs.now)) (vals_of T.denotes pool.now) begun }
     requires none_lost { (merged_of T.denotes begun).dropped ≡ None }
     requires larger { begun.upto ≤ upto }
     requires room { kept_count (merged_of T.denotes begun).levels ≤ cap }
-    ensures bank { OnBank T.denotes result (IsBank (syntax_from T.denotes grammar.now) (functions (bodies T.denotes defs.now)) (vals_of T.denotes pool.now) (merged_of T.denotes begun).points upto cap) }
-    ensures whole { IfOk result (λ bank. BankIsWhole (syntax_from T.denotes grammar.now) (functions (bodies T.denotes defs.now)) (vals_of T.denotes pool.now) (merged_of T.denotes bank)) }
-    ensures full { IfFull T.denotes result (BankIsFull (syntax_from T.denotes grammar.now) (functions (bodies T.denotes defs.now)) (vals_of T.denotes pool.now) cap) }
-    ensures built { IfOk result (BankIsBuilt T.denotes (scope_of T.owned defs.now) (syntax_from T.denotes grammar.now) (functions (bodies T.denotes defs.now)) (vals_of T.denotes pool.now)) }
+    ensures bank { OnBank T.denotes result (IsBank (syntax_from T.denotes grammar.now) (functions
+        (bodies T.denotes defs.now)) (vals_of T.denotes pool.now) (merged_of T.denotes begun).points upto cap) }
+    ensures whole { IfOk result (λ bank. BankIsWhole (syntax_from T.denotes grammar.now)
+        (functions (bodies T.denotes defs.now)) (vals_of T.denotes pool.now) (merged_of T.denotes bank)) }
+    ensures full { IfFull T.denotes result (BankIsFull (syntax_from T.denotes grammar.now)
+        (functions (bodies T.denotes defs.now)) (vals_of T.denotes pool.now) cap) }
+    ensures built { IfOk result (BankIsBuilt T.denotes (scope_of T.owned defs.now)
+        (syntax_from T.denotes grammar.now) (functions (bodies T.denotes defs.now)) (vals_of T.denotes pool.now)) }
     ensures stays { OnBank T.denotes result (Stays (merged_of T.denotes begun)) }
 {
     let mut bank = begun;

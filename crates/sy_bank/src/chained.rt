@@ -19,7 +19,8 @@ pub struct Chain {
 
 /// The kept term, derived by the chain rule.
 pub fn chained<T: Theory>(alloc: Global, chain: &Chain, kept: &Kept<T>) -> Result<Kept<T>, Want>
-    ensures { IfOk result (λ passed. entry_of T.denotes passed ≡ spec.chained chain.now.number (entry_of T.denotes kept.now)) }
+    ensures { IfOk result (λ passed. entry_of T.denotes passed ≡
+        spec.chained chain.now.number (entry_of T.denotes kept.now)) }
 {
     let part = Rc::new(alloc, Part::Non(chain.to))?;
     let mut passed = Growns::with_capacity(alloc, 1)?;

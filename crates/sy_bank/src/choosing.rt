@@ -22,12 +22,16 @@ pub fn choose<T: Theory>(
     template: &Template<T>,
 ) -> Result<(), Stop<T>>
     requires task { IsTask T.owned T.numeric T.denotes task.now }
-    requires rule { IsRule (world T.owned T.denotes task.now).syntax template.now.nonterminal template.now.number (pattern_of T.denotes template.now.part.now.value) }
+    requires rule { IsRule (world T.owned T.denotes task.now).syntax template.now.nonterminal template.now.number
+        (pattern_of T.denotes template.now.part.now.value) }
     requires steady { IsSteady (world T.owned T.denotes task.now) (level_state_of T.denotes filling.old) }
     ensures steady { OnOk result (IsSteady (world T.owned T.denotes task.now) (level_state_of T.denotes filling.new)) }
-    ensures grows { OnOk result (LevelGrows (world T.owned T.denotes task.now) (level_state_of T.denotes filling.old) (level_state_of T.denotes filling.new)) }
-    ensures done { OnOk result (AreDone (world T.owned T.denotes task.now) (level_state_of T.denotes filling.new) template.now.nonterminal task.now.size (pattern_of T.denotes template.now.part.now.value)) }
-    ensures stop { IfErr result (IsStop T.denotes (world T.owned T.denotes task.now) (level_state_of T.denotes filling.new)) }
+    ensures grows { OnOk result (LevelGrows (world T.owned T.denotes task.now)
+        (level_state_of T.denotes filling.old) (level_state_of T.denotes filling.new)) }
+    ensures done { OnOk result (AreDone (world T.owned T.denotes task.now) (level_state_of T.denotes filling.new)
+        template.now.nonterminal task.now.size (pattern_of T.denotes template.now.part.now.value)) }
+    ensures stop { IfErr result
+        (IsStop T.denotes (world T.owned T.denotes task.now) (level_state_of T.denotes filling.new)) }
 {
     let Some(left) = left_of(template.part, task.size) else {
         return Ok(());
@@ -45,8 +49,8 @@ pub fn choose<T: Theory>(
     Ok(())
 }
 
-/// Offers what the rule gives of the chosen terms and of each list of kept terms for the places left, whose sizes sum to
-/// what is left.
+/// Offers what the rule gives of the chosen terms and of each list of kept terms for the places left, whose sizes sum
+/// to what is left.
 #[cycle(choose)]
 fn choose_rest<'a, T: Theory>(
     task: &Task<'a, T>,
@@ -57,14 +61,20 @@ fn choose_rest<'a, T: Theory>(
     chosen: &mut Vec<&'a Kept<T>>,
 ) -> Result<(), Stop<T>>
     requires task { IsTask T.owned T.numeric T.denotes task.now }
-    requires rule { IsRule (world T.owned T.denotes task.now).syntax template.now.nonterminal template.now.number (pattern_of T.denotes template.now.part.now.value) }
+    requires rule { IsRule (world T.owned T.denotes task.now).syntax template.now.nonterminal template.now.number
+        (pattern_of T.denotes template.now.part.now.value) }
     requires steady { IsSteady (world T.owned T.denotes task.now) (level_state_of T.denotes filling.old) }
-    requires begun { PatternIsBegun (world T.owned T.denotes task.now) (pattern_of T.denotes template.now.part.now.value) (chosen_of T.denotes chosen.old.items) places.now left }
+    requires begun { PatternIsBegun (world T.owned T.denotes task.now)
+        (pattern_of T.denotes template.now.part.now.value) (chosen_of T.denotes chosen.old.items) places.now left }
     ensures steady { OnOk result (IsSteady (world T.owned T.denotes task.now) (level_state_of T.denotes filling.new)) }
-    ensures grows { OnOk result (LevelGrows (world T.owned T.denotes task.now) (level_state_of T.denotes filling.old) (level_state_of T.denotes filling.new)) }
+    ensures grows { OnOk result (LevelGrows (world T.owned T.denotes task.now)
+        (level_state_of T.denotes filling.old) (level_state_of T.denotes filling.new)) }
     ensures chosen { OnOk result (chosen.new.items ≡ chosen.old.items) }
-    ensures done { OnOk result (AreDoneFrom (world T.owned T.denotes task.now) (level_state_of T.denotes filling.new) template.now.nonterminal (pattern_of T.denotes template.now.part.now.value) (chosen_of T.denotes chosen.old.items) places.now left) }
-    ensures stop { IfErr result (IsStop T.denotes (world T.owned T.denotes task.now) (level_state_of T.denotes filling.new)) }
+    ensures done { OnOk result
+        (AreDoneFrom (world T.owned T.denotes task.now) (level_state_of T.denotes filling.new) template.now.nonterminal
+        (pattern_of T.denotes template.now.part.now.value) (chosen_of T.denotes chosen.old.items) places.now left) }
+    ensures stop { IfErr result
+        (IsStop T.denotes (world T.owned T.denotes task.now) (level_state_of T.denotes filling.new)) }
 {
     let Some((first, others)) = places.split_first() else {
         if left == 0 {
@@ -97,14 +107,21 @@ fn choose_first<'a, T: Theory>(
     chosen: &mut Vec<&'a Kept<T>>,
 ) -> Result<(), Stop<T>>
     requires task { IsTask T.owned T.numeric T.denotes task.now }
-    requires rule { IsRule (world T.owned T.denotes task.now).syntax template.now.nonterminal template.now.number (pattern_of T.denotes template.now.part.now.value) }
+    requires rule { IsRule (world T.owned T.denotes task.now).syntax template.now.nonterminal template.now.number
+        (pattern_of T.denotes template.now.part.now.value) }
     requires steady { IsSteady (world T.owned T.denotes task.now) (level_state_of T.denotes filling.old) }
-    requires begun { All (λ term. PatternIsBegun (world T.owned T.denotes task.now) (pattern_of T.denotes template.now.part.now.value) (chosen_of T.denotes chosen.old.items ++ entry_of T.denotes term ∷ []) places.now left) terms.now }
+    requires begun { All (λ term.
+        PatternIsBegun (world T.owned T.denotes task.now) (pattern_of T.denotes template.now.part.now.value)
+        (chosen_of T.denotes chosen.old.items ++ entry_of T.denotes term ∷ []) places.now left) terms.now }
     ensures steady { OnOk result (IsSteady (world T.owned T.denotes task.now) (level_state_of T.denotes filling.new)) }
-    ensures grows { OnOk result (LevelGrows (world T.owned T.denotes task.now) (level_state_of T.denotes filling.old) (level_state_of T.denotes filling.new)) }
+    ensures grows { OnOk result (LevelGrows (world T.owned T.denotes task.now)
+        (level_state_of T.denotes filling.old) (level_state_of T.denotes filling.new)) }
     ensures chosen { OnOk result (chosen.new.items ≡ chosen.old.items) }
-    ensures done { OnOk result (All (λ term. AreDoneFrom (world T.owned T.denotes task.now) (level_state_of T.denotes filling.new) template.now.nonterminal (pattern_of T.denotes template.now.part.now.value) (chosen_of T.denotes chosen.old.items ++ entry_of T.denotes term ∷ []) places.now left) terms.now) }
-    ensures stop { IfErr result (IsStop T.denotes (world T.owned T.denotes task.now) (level_state_of T.denotes filling.new)) }
+    ensures done { OnOk result (All (λ term. AreDoneFrom (world T.owned T.denotes task.now) (level_state_of T.denotes
+        filling.new) template.now.nonterminal (pattern_of T.denotes template.now.part.now.value)
+        (chosen_of T.denotes chosen.old.items ++ entry_of T.denotes term ∷ []) places.now left) terms.now) }
+    ensures stop { IfErr result
+        (IsStop T.denotes (world T.owned T.denotes task.now) (level_state_of T.denotes filling.new)) }
 {
     for term in terms {
         chosen.push(term)?;

@@ -29,7 +29,8 @@ pub fn copied_part<T: Theory>(alloc: Global, part: &Part<T>) -> Result<Part<T>, 
 /// The same for a list.
 #[cycle(copied)]
 fn copied_parts<T: Theory>(alloc: Global, parts: &Parts<T>) -> Result<Parts<T>, Want>
-    ensures { IfOk result (λ copies. patterns_of T.denotes copies.items.items ≡ patterns_of T.denotes parts.now.items.items) }
+    ensures { IfOk result (λ copies. patterns_of T.denotes copies.items.items ≡
+        patterns_of T.denotes parts.now.items.items) }
 {
     let mut copies = Parts::new(alloc);
     for part in parts.as_slice() {

@@ -22,7 +22,8 @@ pub fn chosen_part<T: Theory>(
     part: &Part<T>,
     chosen: &[&Kept<T>],
 ) -> Result<Term<T>, Want>
-    ensures { IfOk result (λ term. expr_of T.denotes term ≡ filled (pattern_of T.denotes part.now) (terms (chosen_of T.denotes chosen.now))) }
+    ensures { IfOk result (λ term. expr_of T.denotes term ≡
+        filled (pattern_of T.denotes part.now) (terms (chosen_of T.denotes chosen.now))) }
 {
     let mut copies = Vec::with_capacity(alloc, chosen.len())?;
     for kept in chosen {
@@ -41,8 +42,10 @@ pub fn grown<T: Theory>(
     part: &Rc<Part<T>>,
     chosen: &[&Kept<T>],
 ) -> Result<Rc<Grown<T>>, Want>
-    ensures term { IfOk result (λ grown. term_from T.denotes grown.value ≡ filled (pattern_of T.denotes part.now.value) (terms (chosen_of T.denotes chosen.now))) }
-    ensures tree { IfOk result (λ grown. tree_from T.denotes grown.value ≡ Node rule (children (chosen_of T.denotes chosen.now))) }
+    ensures term { IfOk result (λ grown. term_from T.denotes grown.value ≡
+        filled (pattern_of T.denotes part.now.value) (terms (chosen_of T.denotes chosen.now))) }
+    ensures tree { IfOk result (λ grown. tree_from T.denotes grown.value ≡
+        Node rule (children (chosen_of T.denotes chosen.now))) }
 {
     let mut growns = Growns::with_capacity(alloc, chosen.len())?;
     for kept in chosen {

@@ -28,7 +28,14 @@ fn closed<T: Theory>(
     levels: Vec<Level<T>>,
     filling: Filling<T>,
 ) -> Result<Bank<T>, Want>
-    ensures merged { IfOk result (λ bank. merged_of T.denotes bank ≡ record { points = map (vals_of T.denotes) points; upto = upto; levels = levels_of T.denotes levels.items ++ level_of T.denotes filling.fresh ∷ []; dropped = option_map (lost_of T.denotes) filling.dropped }) }
+    ensures merged { IfOk result (λ bank. merged_of T.denotes bank ≡
+        record {
+          points = map (vals_of T.denotes) points;
+          upto = upto;
+          levels = levels_of T.denotes levels.items ++
+              level_of T.denotes filling.fresh ∷ [];
+          dropped = option_map (lost_of T.denotes) filling.dropped;
+        }) }
     ensures table { IfOk result (λ bank. bank.table ≡ filling.table) }
     ensures count { IfOk result (λ bank. bank.count ≡ filling.count) }
 {
@@ -56,13 +63,17 @@ pub(crate) fn next_size<T: Theory>(
     requires definitions { DefinitionsFit T.owned T.denotes defs.now }
     requires formed { is_formed T.numeric (scope_of T.owned defs.now) (syntax_from T.denotes grammar.now) ≡ true }
     requires points { ArePointsOf grammar.now.args (merged_of T.denotes begun).points }
-    requires built { BankIsBuilt T.denotes (scope_of T.owned defs.now) (syntax_from T.denotes grammar.now) (functions (bodies T.denotes defs.now)) (vals_of T.denotes pool.now) begun }
+    requires built { BankIsBuilt T.denotes (scope_of T.owned defs.now)
+        (syntax_from T.denotes grammar.now) (functions (bodies T.denotes defs.now)) (vals_of T.denotes pool.now) begun }
     requires none_lost { (merged_of T.denotes begun).dropped ≡ None }
     requires open { length begun.levels.items ≤ begun.upto }
     requires room { kept_count (merged_of T.denotes begun).levels ≤ cap }
-    ensures next { OnBank T.denotes result (IsNextBank (syntax_from T.denotes grammar.now) (functions (bodies T.denotes defs.now)) (vals_of T.denotes pool.now) cap (merged_of T.denotes begun)) }
-    ensures built { IfOk result (BankIsBuilt T.denotes (scope_of T.owned defs.now) (syntax_from T.denotes grammar.now) (functions (bodies T.denotes defs.now)) (vals_of T.denotes pool.now)) }
-    ensures full { IfFull T.denotes result (BankIsFull (syntax_from T.denotes grammar.now) (functions (bodies T.denotes defs.now)) (vals_of T.denotes pool.now) cap) }
+    ensures next { OnBank T.denotes result (IsNextBank (syntax_from T.denotes grammar.now)
+        (functions (bodies T.denotes defs.now)) (vals_of T.denotes pool.now) cap (merged_of T.denotes begun)) }
+    ensures built { IfOk result (BankIsBuilt T.denotes (scope_of T.owned defs.now)
+        (syntax_from T.denotes grammar.now) (functions (bodies T.denotes defs.now)) (vals_of T.denotes pool.now)) }
+    ensures full { IfFull T.denotes result (BankIsFull (syntax_from T.denotes grammar.now)
+        (functions (bodies T.denotes defs.now)) (vals_of T.denotes pool.now) cap) }
 {
     let Bank {
         points,
@@ -117,12 +128,17 @@ pub(crate) fn all_sizes<T: Theory>(
     requires definitions { DefinitionsFit T.owned T.denotes defs.now }
     requires formed { is_formed T.numeric (scope_of T.owned defs.now) (syntax_from T.denotes grammar.now) ≡ true }
     requires points { ArePointsOf grammar.now.args (merged_of T.denotes begun).points }
-    requires built { BankIsBuilt T.denotes (scope_of T.owned defs.now) (syntax_from T.denotes grammar.now) (functions (bodies T.denotes defs.now)) (vals_of T.denotes pool.now) begun }
+    requires built { BankIsBuilt T.denotes (scope_of T.owned defs.now)
+        (syntax_from T.denotes grammar.now) (functions (bodies T.denotes defs.now)) (vals_of T.denotes pool.now) begun }
     requires room { kept_count (merged_of T.denotes begun).levels ≤ cap }
-    ensures bank { OnBank T.denotes result (IsBank (syntax_from T.denotes grammar.now) (functions (bodies T.denotes defs.now)) (vals_of T.denotes pool.now) (merged_of T.denotes begun).points begun.upto cap) }
-    ensures whole { IfOk result (λ bank. BankIsWhole (syntax_from T.denotes grammar.now) (functions (bodies T.denotes defs.now)) (vals_of T.denotes pool.now) (merged_of T.denotes bank)) }
-    ensures full { IfFull T.denotes result (BankIsFull (syntax_from T.denotes grammar.now) (functions (bodies T.denotes defs.now)) (vals_of T.denotes pool.now) cap) }
-    ensures built { IfOk result (BankIsBuilt T.denotes (scope_of T.owned defs.now) (syntax_from T.denotes grammar.now) (functions (bodies T.denotes defs.now)) (vals_of T.denotes pool.now)) }
+    ensures bank { OnBank T.denotes result (IsBank (syntax_from T.denotes grammar.now) (functions
+        (bodies T.denotes defs.now)) (vals_of T.denotes pool.now) (merged_of T.denotes begun).points begun.upto cap) }
+    ensures whole { IfOk result (λ bank. BankIsWhole (syntax_from T.denotes grammar.now)
+        (functions (bodies T.denotes defs.now)) (vals_of T.denotes pool.now) (merged_of T.denotes bank)) }
+    ensures full { IfFull T.denotes result (BankIsFull (syntax_from T.denotes grammar.now)
+        (functions (bodies T.denotes defs.now)) (vals_of T.denotes pool.now) cap) }
+    ensures built { IfOk result (BankIsBuilt T.denotes (scope_of T.owned defs.now)
+        (syntax_from T.denotes grammar.now) (functions (bodies T.denotes defs.now)) (vals_of T.denotes pool.now)) }
     ensures stays { OnBank T.denotes result (Stays (merged_of T.denotes begun)) }
 {
     let upto = begun.upto as usize;

@@ -25,12 +25,17 @@ pub fn offer_leaf<T: Theory>(
     requires task { IsTask T.owned T.numeric T.denotes task.now }
     requires known { nonterminal < length (world T.owned T.denotes task.now).syntax.nonterminals }
     requires steady { IsSteady (world T.owned T.denotes task.now) (level_state_of T.denotes filling.old) }
-    requires derives { Derives (world T.owned T.denotes task.now).syntax nonterminal (tree_of T.denotes derivation) (expr_of T.denotes term) }
-    requires sized { tree_size (world T.owned T.denotes task.now).syntax (world T.owned T.denotes task.now).pool nonterminal (tree_of T.denotes derivation) ≡ task.now.size }
+    requires derives { Derives (world T.owned T.denotes task.now).syntax nonterminal
+        (tree_of T.denotes derivation) (expr_of T.denotes term) }
+    requires sized { tree_size (world T.owned T.denotes task.now).syntax
+        (world T.owned T.denotes task.now).pool nonterminal (tree_of T.denotes derivation) ≡ task.now.size }
     ensures steady { OnOk result (IsSteady (world T.owned T.denotes task.now) (level_state_of T.denotes filling.new)) }
-    ensures grows { OnOk result (LevelGrows (world T.owned T.denotes task.now) (level_state_of T.denotes filling.old) (level_state_of T.denotes filling.new)) }
-    ensures done { OnOk result (TermIsDone (world T.owned T.denotes task.now) (level_state_of T.denotes filling.new) nonterminal task.now.size (expr_of T.denotes term)) }
-    ensures stop { IfErr result (IsStop T.denotes (world T.owned T.denotes task.now) (level_state_of T.denotes filling.new)) }
+    ensures grows { OnOk result (LevelGrows (world T.owned T.denotes task.now)
+        (level_state_of T.denotes filling.old) (level_state_of T.denotes filling.new)) }
+    ensures done { OnOk result (TermIsDone (world T.owned T.denotes task.now)
+        (level_state_of T.denotes filling.new) nonterminal task.now.size (expr_of T.denotes term)) }
+    ensures stop { IfErr result
+        (IsStop T.denotes (world T.owned T.denotes task.now) (level_state_of T.denotes filling.new)) }
 {
     let alloc = task.alloc;
     let row = match term_row(alloc, task.defs, task.points, &term) {

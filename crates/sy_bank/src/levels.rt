@@ -13,7 +13,8 @@ pub fn kept_terms<'a, T: Theory>(
     nonterminal: u32,
     size: usize,
 ) -> Option<&'a [Kept<T>]>
-    ensures { MatchOption result (kept_at (levels_of T.denotes levels.now) nonterminal size ≡ []) (λ kept. entries_of T.denotes kept.now ≡ kept_at (levels_of T.denotes levels.now) nonterminal size) }
+    ensures { MatchOption result (kept_at (levels_of T.denotes levels.now) nonterminal size ≡ []) (λ kept.
+        entries_of T.denotes kept.now ≡ kept_at (levels_of T.denotes levels.now) nonterminal size) }
 {
     let level = levels.get(size)?;
     let nonterminal = nonterminal as usize;

@@ -12,7 +12,8 @@ pub fn magnitudes(sort: Sort, size: u32) -> (u128, u128)
     requires { size ≢ 1 }
     ensures positive { 0 < result.0 }
     ensures bounded { result.1 ≤ 2 ^ 127 }
-    ensures whole { (value : Val) → IsGivenConstant sort value → digits (value_magnitude value) + 1 ≡ size → (result.0 ≤ value_magnitude value) × (value_magnitude value < result.1) }
+    ensures whole { (value : Val) → IsGivenConstant sort value → digits (value_magnitude value) + 1 ≡ size →
+        (result.0 ≤ value_magnitude value) × (value_magnitude value < result.1) }
 {
     if size < 2 || size > 128 {
         return (1, 1);

@@ -35,7 +35,8 @@ fn all_own<T: Theory>(parts: &Parts<T>, cap: usize) -> usize
 
 /// What is left of the size for the terms at the part's places; `None` exactly where the part itself is larger.
 pub fn left_of<T: Theory>(part: &Part<T>, size: u32) -> Option<usize>
-    ensures { MatchOption result (size < own_size (pattern_of T.denotes part.now)) (λ left. own_size (pattern_of T.denotes part.now) + left ≡ size) }
+    ensures { MatchOption result (size < own_size (pattern_of T.denotes part.now)) (λ left.
+        own_size (pattern_of T.denotes part.now) + left ≡ size) }
 {
     let size = size as usize;
     size.checked_sub(own(part, size + 1))

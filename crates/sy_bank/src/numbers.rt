@@ -26,12 +26,16 @@ pub fn constants<T: Theory>(
     rule: &LeafRule,
 ) -> Result<(), Stop<T>>
     requires task { IsTask T.owned T.numeric T.denotes task.now }
-    requires rule { IsLeafRule (world T.owned T.denotes task.now).syntax rule.now.nonterminal rule.now.number (EachConstant rule.now.sort) }
+    requires rule { IsLeafRule (world T.owned T.denotes task.now).syntax rule.now.nonterminal rule.now.number
+        (EachConstant rule.now.sort) }
     requires steady { IsSteady (world T.owned T.denotes task.now) (level_state_of T.denotes filling.old) }
     ensures steady { OnOk result (IsSteady (world T.owned T.denotes task.now) (level_state_of T.denotes filling.new)) }
-    ensures grows { OnOk result (LevelGrows (world T.owned T.denotes task.now) (level_state_of T.denotes filling.old) (level_state_of T.denotes filling.new)) }
-    ensures done { OnOk result (GivesDone (world T.owned T.denotes task.now) (level_state_of T.denotes filling.new) rule.now.nonterminal (EachConstant rule.now.sort) task.now.size) }
-    ensures stop { IfErr result (IsStop T.denotes (world T.owned T.denotes task.now) (level_state_of T.denotes filling.new)) }
+    ensures grows { OnOk result (LevelGrows (world T.owned T.denotes task.now)
+        (level_state_of T.denotes filling.old) (level_state_of T.denotes filling.new)) }
+    ensures done { OnOk result (GivesDone (world T.owned T.denotes task.now)
+        (level_state_of T.denotes filling.new) rule.now.nonterminal (EachConstant rule.now.sort) task.now.size) }
+    ensures stop { IfErr result
+        (IsStop T.denotes (world T.owned T.denotes task.now) (level_state_of T.denotes filling.new)) }
 {
     if task.size == 1 {
         offer_ones(task, filling, rule)?;
@@ -48,13 +52,17 @@ fn offer_ones<T: Theory>(
     rule: &LeafRule,
 ) -> Result<(), Stop<T>>
     requires task { IsTask T.owned T.numeric T.denotes task.now }
-    requires rule { IsLeafRule (world T.owned T.denotes task.now).syntax rule.now.nonterminal rule.now.number (EachConstant rule.now.sort) }
+    requires rule { IsLeafRule (world T.owned T.denotes task.now).syntax rule.now.nonterminal rule.now.number
+        (EachConstant rule.now.sort) }
     requires steady { IsSteady (world T.owned T.denotes task.now) (level_state_of T.denotes filling.old) }
     requires one { task.now.size ≡ 1 }
     ensures steady { OnOk result (IsSteady (world T.owned T.denotes task.now) (level_state_of T.denotes filling.new)) }
-    ensures grows { OnOk result (LevelGrows (world T.owned T.denotes task.now) (level_state_of T.denotes filling.old) (level_state_of T.denotes filling.new)) }
-    ensures done { OnOk result ((value : Val) → IsDoneFor (world T.owned T.denotes task.now) (level_state_of T.denotes filling.new) rule.now.nonterminal rule.now.sort task.now.size value) }
-    ensures stop { IfErr result (IsStop T.denotes (world T.owned T.denotes task.now) (level_state_of T.denotes filling.new)) }
+    ensures grows { OnOk result (LevelGrows (world T.owned T.denotes task.now)
+        (level_state_of T.denotes filling.old) (level_state_of T.denotes filling.new)) }
+    ensures done { OnOk result ((value : Val) → IsDoneFor (world T.owned T.denotes task.now)
+        (level_state_of T.denotes filling.new) rule.now.nonterminal rule.now.sort task.now.size value) }
+    ensures stop { IfErr result
+        (IsStop T.denotes (world T.owned T.denotes task.now) (level_state_of T.denotes filling.new)) }
 {
     offer_truths(task, filling, rule)?;
     offer_number(task, filling, rule, 0)?;
@@ -72,12 +80,16 @@ fn offer_truths<T: Theory>(
     rule: &LeafRule,
 ) -> Result<(), Stop<T>>
     requires task { IsTask T.owned T.numeric T.denotes task.now }
-    requires rule { IsLeafRule (world T.owned T.denotes task.now).syntax rule.now.nonterminal rule.now.number (EachConstant rule.now.sort) }
+    requires rule { IsLeafRule (world T.owned T.denotes task.now).syntax rule.now.nonterminal rule.now.number
+        (EachConstant rule.now.sort) }
     requires steady { IsSteady (world T.owned T.denotes task.now) (level_state_of T.denotes filling.old) }
     ensures steady { OnOk result (IsSteady (world T.owned T.denotes task.now) (level_state_of T.denotes filling.new)) }
-    ensures grows { OnOk result (LevelGrows (world T.owned T.denotes task.now) (level_state_of T.denotes filling.old) (level_state_of T.denotes filling.new)) }
-    ensures done { OnOk result ((truth : Bool) → IsDoneFor (world T.owned T.denotes task.now) (level_state_of T.denotes filling.new) rule.now.nonterminal rule.now.sort task.now.size (Truth truth)) }
-    ensures stop { IfErr result (IsStop T.denotes (world T.owned T.denotes task.now) (level_state_of T.denotes filling.new)) }
+    ensures grows { OnOk result (LevelGrows (world T.owned T.denotes task.now)
+        (level_state_of T.denotes filling.old) (level_state_of T.denotes filling.new)) }
+    ensures done { OnOk result ((truth : Bool) → IsDoneFor (world T.owned T.denotes task.now)
+        (level_state_of T.denotes filling.new) rule.now.nonterminal rule.now.sort task.now.size (Truth truth)) }
+    ensures stop { IfErr result
+        (IsStop T.denotes (world T.owned T.denotes task.now) (level_state_of T.denotes filling.new)) }
 {
     match rule.sort {
         Sort::Bool => {
@@ -96,13 +108,17 @@ fn offer_counted<T: Theory>(
     rule: &LeafRule,
 ) -> Result<(), Stop<T>>
     requires task { IsTask T.owned T.numeric T.denotes task.now }
-    requires rule { IsLeafRule (world T.owned T.denotes task.now).syntax rule.now.nonterminal rule.now.number (EachConstant rule.now.sort) }
+    requires rule { IsLeafRule (world T.owned T.denotes task.now).syntax rule.now.nonterminal rule.now.number
+        (EachConstant rule.now.sort) }
     requires steady { IsSteady (world T.owned T.denotes task.now) (level_state_of T.denotes filling.old) }
     requires counted { task.now.size ≢ 1 }
     ensures steady { OnOk result (IsSteady (world T.owned T.denotes task.now) (level_state_of T.denotes filling.new)) }
-    ensures grows { OnOk result (LevelGrows (world T.owned T.denotes task.now) (level_state_of T.denotes filling.old) (level_state_of T.denotes filling.new)) }
-    ensures done { OnOk result ((value : Val) → IsDoneFor (world T.owned T.denotes task.now) (level_state_of T.denotes filling.new) rule.now.nonterminal rule.now.sort task.now.size value) }
-    ensures stop { IfErr result (IsStop T.denotes (world T.owned T.denotes task.now) (level_state_of T.denotes filling.new)) }
+    ensures grows { OnOk result (LevelGrows (world T.owned T.denotes task.now)
+        (level_state_of T.denotes filling.old) (level_state_of T.denotes filling.new)) }
+    ensures done { OnOk result ((value : Val) → IsDoneFor (world T.owned T.denotes task.now)
+        (level_state_of T.denotes filling.new) rule.now.nonterminal rule.now.sort task.now.size value) }
+    ensures stop { IfErr result
+        (IsStop T.denotes (world T.owned T.denotes task.now) (level_state_of T.denotes filling.new)) }
 {
     let (first, end) = magnitudes(rule.sort, task.size);
     let mut magnitude = first;
@@ -121,14 +137,19 @@ fn offer_magnitude<T: Theory>(
     magnitude: u128,
 ) -> Result<(), Stop<T>>
     requires task { IsTask T.owned T.numeric T.denotes task.now }
-    requires rule { IsLeafRule (world T.owned T.denotes task.now).syntax rule.now.nonterminal rule.now.number (EachConstant rule.now.sort) }
+    requires rule { IsLeafRule (world T.owned T.denotes task.now).syntax rule.now.nonterminal rule.now.number
+        (EachConstant rule.now.sort) }
     requires steady { IsSteady (world T.owned T.denotes task.now) (level_state_of T.denotes filling.old) }
     requires positive { 0 < magnitude }
     requires bounded { magnitude < 2 ^ 127 }
     ensures steady { OnOk result (IsSteady (world T.owned T.denotes task.now) (level_state_of T.denotes filling.new)) }
-    ensures grows { OnOk result (LevelGrows (world T.owned T.denotes task.now) (level_state_of T.denotes filling.old) (level_state_of T.denotes filling.new)) }
-    ensures done { OnOk result ((value : Val) → trees.value_magnitude value ≡ magnitude → IsDoneFor (world T.owned T.denotes task.now) (level_state_of T.denotes filling.new) rule.now.nonterminal rule.now.sort task.now.size value) }
-    ensures stop { IfErr result (IsStop T.denotes (world T.owned T.denotes task.now) (level_state_of T.denotes filling.new)) }
+    ensures grows { OnOk result (LevelGrows (world T.owned T.denotes task.now)
+        (level_state_of T.denotes filling.old) (level_state_of T.denotes filling.new)) }
+    ensures done { OnOk result ((value : Val) → trees.value_magnitude value ≡ magnitude →
+        IsDoneFor (world T.owned T.denotes task.now)
+        (level_state_of T.denotes filling.new) rule.now.nonterminal rule.now.sort task.now.size value) }
+    ensures stop { IfErr result
+        (IsStop T.denotes (world T.owned T.denotes task.now) (level_state_of T.denotes filling.new)) }
 {
     let number = magnitude as i128;
     offer_number(task, filling, rule, number)?;
@@ -144,12 +165,16 @@ fn offer_number<T: Theory>(
     number: i128,
 ) -> Result<(), Stop<T>>
     requires task { IsTask T.owned T.numeric T.denotes task.now }
-    requires rule { IsLeafRule (world T.owned T.denotes task.now).syntax rule.now.nonterminal rule.now.number (EachConstant rule.now.sort) }
+    requires rule { IsLeafRule (world T.owned T.denotes task.now).syntax rule.now.nonterminal rule.now.number
+        (EachConstant rule.now.sort) }
     requires steady { IsSteady (world T.owned T.denotes task.now) (level_state_of T.denotes filling.old) }
     ensures steady { OnOk result (IsSteady (world T.owned T.denotes task.now) (level_state_of T.denotes filling.new)) }
-    ensures grows { OnOk result (LevelGrows (world T.owned T.denotes task.now) (level_state_of T.denotes filling.old) (level_state_of T.denotes filling.new)) }
-    ensures done { OnOk result (IsDoneAt (world T.owned T.denotes task.now) (level_state_of T.denotes filling.new) rule.now.nonterminal rule.now.sort task.now.size number) }
-    ensures stop { IfErr result (IsStop T.denotes (world T.owned T.denotes task.now) (level_state_of T.denotes filling.new)) }
+    ensures grows { OnOk result (LevelGrows (world T.owned T.denotes task.now)
+        (level_state_of T.denotes filling.old) (level_state_of T.denotes filling.new)) }
+    ensures done { OnOk result (IsDoneAt (world T.owned T.denotes task.now)
+        (level_state_of T.denotes filling.new) rule.now.nonterminal rule.now.sort task.now.size number) }
+    ensures stop { IfErr result
+        (IsStop T.denotes (world T.owned T.denotes task.now) (level_state_of T.denotes filling.new)) }
 {
     if !is_written(number) {
         return Ok(());
@@ -171,13 +196,17 @@ fn offer_constant<T: Theory>(
     value: Value<T::Num>,
 ) -> Result<(), Stop<T>>
     requires task { IsTask T.owned T.numeric T.denotes task.now }
-    requires rule { IsLeafRule (world T.owned T.denotes task.now).syntax rule.now.nonterminal rule.now.number (EachConstant rule.now.sort) }
+    requires rule { IsLeafRule (world T.owned T.denotes task.now).syntax rule.now.nonterminal rule.now.number
+        (EachConstant rule.now.sort) }
     requires steady { IsSteady (world T.owned T.denotes task.now) (level_state_of T.denotes filling.old) }
     requires given { IsGivenConstant rule.now.sort (val_of T.denotes value) }
     ensures steady { OnOk result (IsSteady (world T.owned T.denotes task.now) (level_state_of T.denotes filling.new)) }
-    ensures grows { OnOk result (LevelGrows (world T.owned T.denotes task.now) (level_state_of T.denotes filling.old) (level_state_of T.denotes filling.new)) }
-    ensures done { OnOk result (IsDoneFor (world T.owned T.denotes task.now) (level_state_of T.denotes filling.new) rule.now.nonterminal rule.now.sort task.now.size (val_of T.denotes value)) }
-    ensures stop { IfErr result (IsStop T.denotes (world T.owned T.denotes task.now) (level_state_of T.denotes filling.new)) }
+    ensures grows { OnOk result (LevelGrows (world T.owned T.denotes task.now)
+        (level_state_of T.denotes filling.old) (level_state_of T.denotes filling.new)) }
+    ensures done { OnOk result (IsDoneFor (world T.owned T.denotes task.now) (level_state_of T.denotes filling.new)
+        rule.now.nonterminal rule.now.sort task.now.size (val_of T.denotes value)) }
+    ensures stop { IfErr result
+        (IsStop T.denotes (world T.owned T.denotes task.now) (level_state_of T.denotes filling.new)) }
 {
     if constant_size::<T>(&value, task.pool) != task.size {
         return Ok(());
@@ -199,7 +228,8 @@ fn is_settled<T: Theory>(task: &Task<T>, filling: &Filling<T>, nonterminal: u32)
     requires task { IsTask T.owned T.numeric T.denotes task.now }
     requires steady { IsSteady (world T.owned T.denotes task.now) (level_state_of T.denotes filling.now) }
     ensures { MatchBool result
-        ((term : Expr) → TermIsDone (world T.owned T.denotes task.now) (level_state_of T.denotes filling.now) nonterminal task.now.size term)
+        ((term : Expr) → TermIsDone (world T.owned T.denotes task.now)
+        (level_state_of T.denotes filling.now) nonterminal task.now.size term)
         (Unit {0}) }
 {
     if !task.points.is_empty() {

@@ -22,14 +22,21 @@ pub fn offer<T: Theory>(
     chosen: &[&Kept<T>],
 ) -> Result<(), Stop<T>>
     requires task { IsTask T.owned T.numeric T.denotes task.now }
-    requires rule { IsRule (world T.owned T.denotes task.now).syntax template.now.nonterminal template.now.number (pattern_of T.denotes template.now.part.now.value) }
+    requires rule { IsRule (world T.owned T.denotes task.now).syntax template.now.nonterminal template.now.number
+        (pattern_of T.denotes template.now.part.now.value) }
     requires steady { IsSteady (world T.owned T.denotes task.now) (level_state_of T.denotes filling.old) }
-    requires chosen { AreKept (levels_of T.denotes task.now.levels.now) (occurring (pattern_of T.denotes template.now.part.now.value)) (chosen_of T.denotes chosen.now) }
-    requires sized { own_size (pattern_of T.denotes template.now.part.now.value) + sizes (chosen_of T.denotes chosen.now) ≡ task.now.size }
+    requires chosen { AreKept (levels_of T.denotes task.now.levels.now)
+        (occurring (pattern_of T.denotes template.now.part.now.value)) (chosen_of T.denotes chosen.now) }
+    requires sized { own_size (pattern_of T.denotes template.now.part.now.value) + sizes
+        (chosen_of T.denotes chosen.now) ≡ task.now.size }
     ensures steady { OnOk result (IsSteady (world T.owned T.denotes task.now) (level_state_of T.denotes filling.new)) }
-    ensures grows { OnOk result (LevelGrows (world T.owned T.denotes task.now) (level_state_of T.denotes filling.old) (level_state_of T.denotes filling.new)) }
-    ensures done { OnOk result (TermIsDone (world T.owned T.denotes task.now) (level_state_of T.denotes filling.new) template.now.nonterminal task.now.size (filled (pattern_of T.denotes template.now.part.now.value) (terms (chosen_of T.denotes chosen.now)))) }
-    ensures stop { IfErr result (IsStop T.denotes (world T.owned T.denotes task.now) (level_state_of T.denotes filling.new)) }
+    ensures grows { OnOk result (LevelGrows (world T.owned T.denotes task.now)
+        (level_state_of T.denotes filling.old) (level_state_of T.denotes filling.new)) }
+    ensures done { OnOk result (TermIsDone (world T.owned T.denotes task.now)
+        (level_state_of T.denotes filling.new) template.now.nonterminal task.now.size
+        (filled (pattern_of T.denotes template.now.part.now.value) (terms (chosen_of T.denotes chosen.now)))) }
+    ensures stop { IfErr result
+        (IsStop T.denotes (world T.owned T.denotes task.now) (level_state_of T.denotes filling.new)) }
 {
     let alloc = task.alloc;
     let row = match part_row(alloc, task.defs, task.points, template.part, chosen) {

@@ -21,9 +21,12 @@ pub fn pass_chains<T: Theory>(task: &Task<T>, filling: &mut Filling<T>) -> Resul
     requires task { IsTask T.owned T.numeric T.denotes task.now }
     requires steady { IsSteady (world T.owned T.denotes task.now) (level_state_of T.denotes filling.old) }
     ensures steady { OnOk result (IsSteady (world T.owned T.denotes task.now) (level_state_of T.denotes filling.new)) }
-    ensures grows { OnOk result (LevelGrows (world T.owned T.denotes task.now) (level_state_of T.denotes filling.old) (level_state_of T.denotes filling.new)) }
-    ensures done { OnOk result (ArePassed (world T.owned T.denotes task.now) (level_state_of T.denotes filling.new) task.now.size) }
-    ensures stop { IfErr result (IsStop T.denotes (world T.owned T.denotes task.now) (level_state_of T.denotes filling.new)) }
+    ensures grows { OnOk result (LevelGrows (world T.owned T.denotes task.now)
+        (level_state_of T.denotes filling.old) (level_state_of T.denotes filling.new)) }
+    ensures done { OnOk result
+        (ArePassed (world T.owned T.denotes task.now) (level_state_of T.denotes filling.new) task.now.size) }
+    ensures stop { IfErr result
+        (IsStop T.denotes (world T.owned T.denotes task.now) (level_state_of T.denotes filling.new)) }
 {
     loop {
         let before = filling.count;
@@ -39,9 +42,13 @@ fn pass_all<T: Theory>(task: &Task<T>, filling: &mut Filling<T>) -> Result<(), S
     requires task { IsTask T.owned T.numeric T.denotes task.now }
     requires steady { IsSteady (world T.owned T.denotes task.now) (level_state_of T.denotes filling.old) }
     ensures steady { OnOk result (IsSteady (world T.owned T.denotes task.now) (level_state_of T.denotes filling.new)) }
-    ensures grows { OnOk result (LevelGrows (world T.owned T.denotes task.now) (level_state_of T.denotes filling.old) (level_state_of T.denotes filling.new)) }
-    ensures done { OnOk result ((level_state_of T.denotes filling.old).count ≡ (level_state_of T.denotes filling.new).count → ArePassed (world T.owned T.denotes task.now) (level_state_of T.denotes filling.new) task.now.size) }
-    ensures stop { IfErr result (IsStop T.denotes (world T.owned T.denotes task.now) (level_state_of T.denotes filling.new)) }
+    ensures grows { OnOk result (LevelGrows (world T.owned T.denotes task.now)
+        (level_state_of T.denotes filling.old) (level_state_of T.denotes filling.new)) }
+    ensures done { OnOk result ((level_state_of T.denotes filling.old).count ≡
+        (level_state_of T.denotes filling.new).count →
+        ArePassed (world T.owned T.denotes task.now) (level_state_of T.denotes filling.new) task.now.size) }
+    ensures stop { IfErr result
+        (IsStop T.denotes (world T.owned T.denotes task.now) (level_state_of T.denotes filling.new)) }
 {
     for (nonterminal, item) in task.grammar.nons().as_slice().iter().enumerate() {
         pass_rules(task, filling, nonterminal as u32, item.rules.as_slice())?;
@@ -58,13 +65,19 @@ fn pass_rules<T: Theory>(
 ) -> Result<(), Stop<T>>
     requires task { IsTask T.owned T.numeric T.denotes task.now }
     requires known { nonterminal < length (world T.owned T.denotes task.now).syntax.nonterminals }
-    requires rules { (number : ℕ) → rule_at (world T.owned T.denotes task.now).syntax nonterminal number ≡ slice_get (map (production_of T.denotes) rules.now) number }
+    requires rules { (number : ℕ) → rule_at (world T.owned T.denotes task.now).syntax nonterminal number ≡
+        slice_get (map (production_of T.denotes) rules.now) number }
     requires few { length rules.now < 2 ^ 31 }
     requires steady { IsSteady (world T.owned T.denotes task.now) (level_state_of T.denotes filling.old) }
     ensures steady { OnOk result (IsSteady (world T.owned T.denotes task.now) (level_state_of T.denotes filling.new)) }
-    ensures grows { OnOk result (LevelGrows (world T.owned T.denotes task.now) (level_state_of T.denotes filling.old) (level_state_of T.denotes filling.new)) }
-    ensures done { OnOk result ((level_state_of T.denotes filling.old).count ≡ (level_state_of T.denotes filling.new).count → (number to : ℕ) → rule_at (world T.owned T.denotes task.now).syntax nonterminal number ≡ Some (Template (Occurrence to)) → IsPassed (world T.owned T.denotes task.now) (level_state_of T.denotes filling.new) nonterminal to task.now.size) }
-    ensures stop { IfErr result (IsStop T.denotes (world T.owned T.denotes task.now) (level_state_of T.denotes filling.new)) }
+    ensures grows { OnOk result (LevelGrows (world T.owned T.denotes task.now)
+        (level_state_of T.denotes filling.old) (level_state_of T.denotes filling.new)) }
+    ensures done { OnOk result ((level_state_of T.denotes filling.old).count ≡ (level_state_of T.denotes
+        filling.new).count → (number to : ℕ) → rule_at (world T.owned T.denotes task.now).syntax nonterminal number ≡
+        Some (Template (Occurrence to)) → IsPassed (world T.owned T.denotes task.now)
+        (level_state_of T.denotes filling.new) nonterminal to task.now.size) }
+    ensures stop { IfErr result
+        (IsStop T.denotes (world T.owned T.denotes task.now) (level_state_of T.denotes filling.new)) }
 {
     for (number, rule) in rules.iter().enumerate() {
         pass_rule(task, filling, nonterminal, number as u32, rule)?;
@@ -82,12 +95,18 @@ fn pass_rule<T: Theory>(
 ) -> Result<(), Stop<T>>
     requires task { IsTask T.owned T.numeric T.denotes task.now }
     requires known { nonterminal < length (world T.owned T.denotes task.now).syntax.nonterminals }
-    requires at { rule_at (world T.owned T.denotes task.now).syntax nonterminal number ≡ Some (production_of T.denotes rule.now) }
+    requires at { rule_at (world T.owned T.denotes task.now).syntax nonterminal number ≡
+        Some (production_of T.denotes rule.now) }
     requires steady { IsSteady (world T.owned T.denotes task.now) (level_state_of T.denotes filling.old) }
     ensures steady { OnOk result (IsSteady (world T.owned T.denotes task.now) (level_state_of T.denotes filling.new)) }
-    ensures grows { OnOk result (LevelGrows (world T.owned T.denotes task.now) (level_state_of T.denotes filling.old) (level_state_of T.denotes filling.new)) }
-    ensures done { OnOk result ((level_state_of T.denotes filling.old).count ≡ (level_state_of T.denotes filling.new).count → (to : ℕ) → rule_at (world T.owned T.denotes task.now).syntax nonterminal number ≡ Some (Template (Occurrence to)) → IsPassed (world T.owned T.denotes task.now) (level_state_of T.denotes filling.new) nonterminal to task.now.size) }
-    ensures stop { IfErr result (IsStop T.denotes (world T.owned T.denotes task.now) (level_state_of T.denotes filling.new)) }
+    ensures grows { OnOk result (LevelGrows (world T.owned T.denotes task.now)
+        (level_state_of T.denotes filling.old) (level_state_of T.denotes filling.new)) }
+    ensures done { OnOk result ((level_state_of T.denotes filling.old).count ≡
+        (level_state_of T.denotes filling.new).count → (to : ℕ) → rule_at (world T.owned T.denotes task.now).syntax
+        nonterminal number ≡ Some (Template (Occurrence to)) → IsPassed (world T.owned T.denotes task.now)
+        (level_state_of T.denotes filling.new) nonterminal to task.now.size) }
+    ensures stop { IfErr result
+        (IsStop T.denotes (world T.owned T.denotes task.now) (level_state_of T.denotes filling.new)) }
 {
     match chain_of(rule) {
         Some(to) => {
@@ -110,12 +129,17 @@ fn pass_chain<T: Theory>(
     chain: &Chain,
 ) -> Result<(), Stop<T>>
     requires task { IsTask T.owned T.numeric T.denotes task.now }
-    requires chain { IsChainRule (world T.owned T.denotes task.now).syntax chain.now.nonterminal chain.now.number chain.now.to }
+    requires chain { IsChainRule (world T.owned T.denotes task.now).syntax
+        chain.now.nonterminal chain.now.number chain.now.to }
     requires steady { IsSteady (world T.owned T.denotes task.now) (level_state_of T.denotes filling.old) }
     ensures steady { OnOk result (IsSteady (world T.owned T.denotes task.now) (level_state_of T.denotes filling.new)) }
-    ensures grows { OnOk result (LevelGrows (world T.owned T.denotes task.now) (level_state_of T.denotes filling.old) (level_state_of T.denotes filling.new)) }
-    ensures done { OnOk result ((level_state_of T.denotes filling.old).count ≡ (level_state_of T.denotes filling.new).count → IsPassed (world T.owned T.denotes task.now) (level_state_of T.denotes filling.new) chain.now.nonterminal chain.now.to task.now.size) }
-    ensures stop { IfErr result (IsStop T.denotes (world T.owned T.denotes task.now) (level_state_of T.denotes filling.new)) }
+    ensures grows { OnOk result (LevelGrows (world T.owned T.denotes task.now)
+        (level_state_of T.denotes filling.old) (level_state_of T.denotes filling.new)) }
+    ensures done { OnOk result ((level_state_of T.denotes filling.old).count ≡
+        (level_state_of T.denotes filling.new).count → IsPassed (world T.owned T.denotes task.now)
+        (level_state_of T.denotes filling.new) chain.now.nonterminal chain.now.to task.now.size) }
+    ensures stop { IfErr result
+        (IsStop T.denotes (world T.owned T.denotes task.now) (level_state_of T.denotes filling.new)) }
 {
     let count = filling.fresh.of(chain.to as usize).len();
     for place in 0..count {
@@ -132,12 +156,17 @@ fn pass_term<T: Theory>(
     place: usize,
 ) -> Result<(), Stop<T>>
     requires task { IsTask T.owned T.numeric T.denotes task.now }
-    requires chain { IsChainRule (world T.owned T.denotes task.now).syntax chain.now.nonterminal chain.now.number chain.now.to }
+    requires chain { IsChainRule (world T.owned T.denotes task.now).syntax
+        chain.now.nonterminal chain.now.number chain.now.to }
     requires steady { IsSteady (world T.owned T.denotes task.now) (level_state_of T.denotes filling.old) }
     ensures steady { OnOk result (IsSteady (world T.owned T.denotes task.now) (level_state_of T.denotes filling.new)) }
-    ensures grows { OnOk result (LevelGrows (world T.owned T.denotes task.now) (level_state_of T.denotes filling.old) (level_state_of T.denotes filling.new)) }
-    ensures done { OnOk result ((entry : Entry) → slice_get (slice_index_or (level_state_of T.denotes filling.old).fresh chain.now.to []) place ≡ Some entry → TermIsDone (world T.owned T.denotes task.now) (level_state_of T.denotes filling.new) chain.now.nonterminal task.now.size entry.term) }
-    ensures stop { IfErr result (IsStop T.denotes (world T.owned T.denotes task.now) (level_state_of T.denotes filling.new)) }
+    ensures grows { OnOk result (LevelGrows (world T.owned T.denotes task.now)
+        (level_state_of T.denotes filling.old) (level_state_of T.denotes filling.new)) }
+    ensures done { OnOk result ((entry : Entry) → slice_get (slice_index_or (level_state_of T.denotes filling.old).fresh
+        chain.now.to []) place ≡ Some entry → TermIsDone (world T.owned T.denotes task.now)
+        (level_state_of T.denotes filling.new) chain.now.nonterminal task.now.size entry.term) }
+    ensures stop { IfErr result
+        (IsStop T.denotes (world T.owned T.denotes task.now) (level_state_of T.denotes filling.new)) }
 {
     let Some(kept) = filling.fresh.get(chain.to as usize, place) else {
         return Ok(());

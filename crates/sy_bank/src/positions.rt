@@ -22,12 +22,16 @@ pub fn variables<T: Theory>(
     rule: &LeafRule,
 ) -> Result<(), Stop<T>>
     requires task { IsTask T.owned T.numeric T.denotes task.now }
-    requires rule { IsLeafRule (world T.owned T.denotes task.now).syntax rule.now.nonterminal rule.now.number (EachVariable rule.now.sort) }
+    requires rule { IsLeafRule (world T.owned T.denotes task.now).syntax rule.now.nonterminal rule.now.number
+        (EachVariable rule.now.sort) }
     requires steady { IsSteady (world T.owned T.denotes task.now) (level_state_of T.denotes filling.old) }
     ensures steady { OnOk result (IsSteady (world T.owned T.denotes task.now) (level_state_of T.denotes filling.new)) }
-    ensures grows { OnOk result (LevelGrows (world T.owned T.denotes task.now) (level_state_of T.denotes filling.old) (level_state_of T.denotes filling.new)) }
-    ensures done { OnOk result (GivesDone (world T.owned T.denotes task.now) (level_state_of T.denotes filling.new) rule.now.nonterminal (EachVariable rule.now.sort) task.now.size) }
-    ensures stop { IfErr result (IsStop T.denotes (world T.owned T.denotes task.now) (level_state_of T.denotes filling.new)) }
+    ensures grows { OnOk result (LevelGrows (world T.owned T.denotes task.now)
+        (level_state_of T.denotes filling.old) (level_state_of T.denotes filling.new)) }
+    ensures done { OnOk result (GivesDone (world T.owned T.denotes task.now)
+        (level_state_of T.denotes filling.new) rule.now.nonterminal (EachVariable rule.now.sort) task.now.size) }
+    ensures stop { IfErr result
+        (IsStop T.denotes (world T.owned T.denotes task.now) (level_state_of T.denotes filling.new)) }
 {
     if task.size != 1 {
         return Ok(());
@@ -47,14 +51,18 @@ fn offer_argument<T: Theory>(
     sort: &Sort,
 ) -> Result<(), Stop<T>>
     requires task { IsTask T.owned T.numeric T.denotes task.now }
-    requires rule { IsLeafRule (world T.owned T.denotes task.now).syntax rule.now.nonterminal rule.now.number (EachVariable rule.now.sort) }
+    requires rule { IsLeafRule (world T.owned T.denotes task.now).syntax rule.now.nonterminal rule.now.number
+        (EachVariable rule.now.sort) }
     requires steady { IsSteady (world T.owned T.denotes task.now) (level_state_of T.denotes filling.old) }
     requires one { task.now.size ≡ 1 }
     requires at { slice_get (world T.owned T.denotes task.now).syntax.arguments position ≡ Some sort.now }
     ensures steady { OnOk result (IsSteady (world T.owned T.denotes task.now) (level_state_of T.denotes filling.new)) }
-    ensures grows { OnOk result (LevelGrows (world T.owned T.denotes task.now) (level_state_of T.denotes filling.old) (level_state_of T.denotes filling.new)) }
-    ensures done { OnOk result (sorts.same_sort rule.now.sort sort.now ≡ true → TermIsDone (world T.owned T.denotes task.now) (level_state_of T.denotes filling.new) rule.now.nonterminal task.now.size (Variable position)) }
-    ensures stop { IfErr result (IsStop T.denotes (world T.owned T.denotes task.now) (level_state_of T.denotes filling.new)) }
+    ensures grows { OnOk result (LevelGrows (world T.owned T.denotes task.now)
+        (level_state_of T.denotes filling.old) (level_state_of T.denotes filling.new)) }
+    ensures done { OnOk result (sorts.same_sort rule.now.sort sort.now ≡ true → TermIsDone (world T.owned T.denotes
+        task.now) (level_state_of T.denotes filling.new) rule.now.nonterminal task.now.size (Variable position)) }
+    ensures stop { IfErr result
+        (IsStop T.denotes (world T.owned T.denotes task.now) (level_state_of T.denotes filling.new)) }
 {
     if !same_sort(&rule.sort, sort) {
         return Ok(());

@@ -25,8 +25,10 @@ pub(crate) fn fill<T: Theory>(task: &Task<T>, filling: &mut Filling<T>) -> Resul
     requires task { IsTask T.owned T.numeric T.denotes task.now }
     requires steady { IsSteady (world T.owned T.denotes task.now) (level_state_of T.denotes filling.old) }
     ensures steady { OnOk result (IsSteady (world T.owned T.denotes task.now) (level_state_of T.denotes filling.new)) }
-    ensures filled { OnOk result (IsFilled (world T.owned T.denotes task.now) (level_state_of T.denotes filling.new) task.now.size) }
-    ensures stop { IfErr result (IsStop T.denotes (world T.owned T.denotes task.now) (level_state_of T.denotes filling.new)) }
+    ensures filled { OnOk result
+        (IsFilled (world T.owned T.denotes task.now) (level_state_of T.denotes filling.new) task.now.size) }
+    ensures stop { IfErr result
+        (IsStop T.denotes (world T.owned T.denotes task.now) (level_state_of T.denotes filling.new)) }
 {
     try_all(task, filling)?;
     pass_chains(task, filling)?;
@@ -38,8 +40,10 @@ fn try_all<T: Theory>(task: &Task<T>, filling: &mut Filling<T>) -> Result<(), St
     requires task { IsTask T.owned T.numeric T.denotes task.now }
     requires steady { IsSteady (world T.owned T.denotes task.now) (level_state_of T.denotes filling.old) }
     ensures steady { OnOk result (IsSteady (world T.owned T.denotes task.now) (level_state_of T.denotes filling.new)) }
-    ensures tried { OnOk result (AllAreTried (world T.owned T.denotes task.now) (level_state_of T.denotes filling.new) task.now.size (length task.now.grammar.now.nons)) }
-    ensures stop { IfErr result (IsStop T.denotes (world T.owned T.denotes task.now) (level_state_of T.denotes filling.new)) }
+    ensures tried { OnOk result (AllAreTried (world T.owned T.denotes task.now)
+        (level_state_of T.denotes filling.new) task.now.size (length task.now.grammar.now.nons)) }
+    ensures stop { IfErr result
+        (IsStop T.denotes (world T.owned T.denotes task.now) (level_state_of T.denotes filling.new)) }
 {
     for nonterminal in 0..task.grammar.nons().len() {
         try_rules(task, filling, nonterminal as u32)?;
@@ -57,9 +61,12 @@ fn try_rules<T: Theory>(
     requires known { nonterminal < length task.now.grammar.now.nons }
     requires steady { IsSteady (world T.owned T.denotes task.now) (level_state_of T.denotes filling.old) }
     ensures steady { OnOk result (IsSteady (world T.owned T.denotes task.now) (level_state_of T.denotes filling.new)) }
-    ensures grows { OnOk result (LevelGrows (world T.owned T.denotes task.now) (level_state_of T.denotes filling.old) (level_state_of T.denotes filling.new)) }
-    ensures tried { OnOk result ((rule : ℕ) → IsTried (world T.owned T.denotes task.now) (level_state_of T.denotes filling.new) task.now.size nonterminal rule) }
-    ensures stop { IfErr result (IsStop T.denotes (world T.owned T.denotes task.now) (level_state_of T.denotes filling.new)) }
+    ensures grows { OnOk result (LevelGrows (world T.owned T.denotes task.now)
+        (level_state_of T.denotes filling.old) (level_state_of T.denotes filling.new)) }
+    ensures tried { OnOk result ((rule : ℕ) → IsTried (world T.owned T.denotes task.now)
+        (level_state_of T.denotes filling.new) task.now.size nonterminal rule) }
+    ensures stop { IfErr result
+        (IsStop T.denotes (world T.owned T.denotes task.now) (level_state_of T.denotes filling.new)) }
 {
     let rules = task.grammar.nons().as_slice()[nonterminal as usize]
         .rules
@@ -80,12 +87,16 @@ fn try_rule<T: Theory>(
 ) -> Result<(), Stop<T>>
     requires task { IsTask T.owned T.numeric T.denotes task.now }
     requires known { nonterminal < length task.now.grammar.now.nons }
-    requires rule { rule_at (world T.owned T.denotes task.now).syntax nonterminal number ≡ Some (production_of T.denotes rule.now) }
+    requires rule { rule_at (world T.owned T.denotes task.now).syntax nonterminal number ≡
+        Some (production_of T.denotes rule.now) }
     requires steady { IsSteady (world T.owned T.denotes task.now) (level_state_of T.denotes filling.old) }
     ensures steady { OnOk result (IsSteady (world T.owned T.denotes task.now) (level_state_of T.denotes filling.new)) }
-    ensures grows { OnOk result (LevelGrows (world T.owned T.denotes task.now) (level_state_of T.denotes filling.old) (level_state_of T.denotes filling.new)) }
-    ensures tried { OnOk result (IsTried (world T.owned T.denotes task.now) (level_state_of T.denotes filling.new) task.now.size nonterminal number) }
-    ensures stop { IfErr result (IsStop T.denotes (world T.owned T.denotes task.now) (level_state_of T.denotes filling.new)) }
+    ensures grows { OnOk result (LevelGrows (world T.owned T.denotes task.now)
+        (level_state_of T.denotes filling.old) (level_state_of T.denotes filling.new)) }
+    ensures tried { OnOk result (IsTried (world T.owned T.denotes task.now)
+        (level_state_of T.denotes filling.new) task.now.size nonterminal number) }
+    ensures stop { IfErr result
+        (IsStop T.denotes (world T.owned T.denotes task.now) (level_state_of T.denotes filling.new)) }
 {
     match rule {
         Rule::Term(part) => try_part(task, filling, nonterminal, number, part),
@@ -117,12 +128,16 @@ fn try_part<T: Theory>(
     part: &Part<T>,
 ) -> Result<(), Stop<T>>
     requires task { IsTask T.owned T.numeric T.denotes task.now }
-    requires rule { IsRule (world T.owned T.denotes task.now).syntax nonterminal number (pattern_of T.denotes part.now) }
+    requires rule { IsRule (world T.owned T.denotes task.now).syntax nonterminal number
+        (pattern_of T.denotes part.now) }
     requires steady { IsSteady (world T.owned T.denotes task.now) (level_state_of T.denotes filling.old) }
     ensures steady { OnOk result (IsSteady (world T.owned T.denotes task.now) (level_state_of T.denotes filling.new)) }
-    ensures grows { OnOk result (LevelGrows (world T.owned T.denotes task.now) (level_state_of T.denotes filling.old) (level_state_of T.denotes filling.new)) }
-    ensures tried { OnOk result (IsTried (world T.owned T.denotes task.now) (level_state_of T.denotes filling.new) task.now.size nonterminal number) }
-    ensures stop { IfErr result (IsStop T.denotes (world T.owned T.denotes task.now) (level_state_of T.denotes filling.new)) }
+    ensures grows { OnOk result (LevelGrows (world T.owned T.denotes task.now)
+        (level_state_of T.denotes filling.old) (level_state_of T.denotes filling.new)) }
+    ensures tried { OnOk result (IsTried (world T.owned T.denotes task.now)
+        (level_state_of T.denotes filling.new) task.now.size nonterminal number) }
+    ensures stop { IfErr result
+        (IsStop T.denotes (world T.owned T.denotes task.now) (level_state_of T.denotes filling.new)) }
 {
     let part = Rc::new(task.alloc, copied_part(task.alloc, part)?)?;
     let template = Template {

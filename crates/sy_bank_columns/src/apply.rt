@@ -21,7 +21,8 @@ pub fn fill<T: Theory>(
 ) -> Result<(), AllocError>
     requires sized { AreSized count (map (λ row. vals_of T.denotes (row_values row)) rows.now) }
     requires within { number < count }
-    ensures { OnOk result (vals_of T.denotes values.new.items ≡ column (map (λ row. vals_of T.denotes (row_values row)) rows.now) number) }
+    ensures { OnOk result (vals_of T.denotes values.new.items ≡
+        column (map (λ row. vals_of T.denotes (row_values row)) rows.now) number) }
 {
     values.clear();
     for row in rows {
@@ -39,9 +40,12 @@ pub fn applied_row<T: Theory>(
 ) -> Result<Vec<Value<T::Num>>, RowEnd>
     requires owned { (k : ℕ) → k < count → T.owned operator.now ≡ true }
     requires sized { AreSized count (map (λ row. vals_of T.denotes (row_values row)) rows.now) }
-    requires sorted { (k : ℕ) → k < count → IsSorted operator.now (column (map (λ row. vals_of T.denotes (row_values row)) rows.now) k) }
-    ensures ok { IfOk result (λ found. IsColumnOf operator.now (map (λ row. vals_of T.denotes (row_values row)) rows.now) count (vals_of T.denotes found.items)) }
-    ensures lost { IfErr result (λ end. WhereLost end (λ k. (k < count) × (fits operator.now (column (map (λ row. vals_of T.denotes (row_values row)) rows.now) k) ≡ false))) }
+    requires sorted { (k : ℕ) → k < count →
+        IsSorted operator.now (column (map (λ row. vals_of T.denotes (row_values row)) rows.now) k) }
+    ensures ok { IfOk result (λ found. IsColumnOf operator.now
+        (map (λ row. vals_of T.denotes (row_values row)) rows.now) count (vals_of T.denotes found.items)) }
+    ensures lost { IfErr result (λ end. WhereLost end (λ k. (k < count) ×
+        (fits operator.now (column (map (λ row. vals_of T.denotes (row_values row)) rows.now) k) ≡ false))) }
 {
     let mut found = Vec::with_capacity(alloc, count)?;
     let mut values = Vec::with_capacity(alloc, rows.len())?;
@@ -65,8 +69,10 @@ pub fn pair_row<T: Theory>(
     requires owned { (k : ℕ) → k < length first.now → T.owned operator.now ≡ true }
     requires same { length second.now ≡ length first.now }
     requires sorted { ArePairsSorted operator.now (vals_of T.denotes first.now) (vals_of T.denotes second.now) }
-    ensures ok { IfOk result (λ found. ArePairsApplied operator.now (vals_of T.denotes first.now) (vals_of T.denotes second.now) (vals_of T.denotes found.items)) }
-    ensures lost { IfErr result (λ end. WhereLost end (IsFirstUnfit operator.now (vals_of T.denotes first.now) (vals_of T.denotes second.now))) }
+    ensures ok { IfOk result (λ found. ArePairsApplied operator.now
+        (vals_of T.denotes first.now) (vals_of T.denotes second.now) (vals_of T.denotes found.items)) }
+    ensures lost { IfErr result (λ end.
+        WhereLost end (IsFirstUnfit operator.now (vals_of T.denotes first.now) (vals_of T.denotes second.now))) }
 {
     let mut found = Vec::with_capacity(alloc, first.len())?;
     found.extend_from_slice(first)?;

@@ -26,7 +26,8 @@ fn call_at<T: Theory>(
 ) -> Result<Term<T>, AllocError>
     requires sized { AreSized count (map (λ row. vals_of T.denotes (row_values row)) rows.now) }
     requires within { number < count }
-    ensures { IfOk result (λ term. expr_of T.denotes term ≡ Invoke (Defined definition) (constants (column (map (λ row. vals_of T.denotes (row_values row)) rows.now) number))) }
+    ensures { IfOk result (λ term. expr_of T.denotes term ≡ Invoke (Defined definition)
+        (constants (column (map (λ row. vals_of T.denotes (row_values row)) rows.now) number))) }
 {
     let mut arguments = Terms::with_capacity(alloc, rows.len())?;
     for row in rows {
@@ -47,9 +48,13 @@ fn called_value<T: Theory>(
     requires definitions { DefinitionsFit T.owned T.denotes defs.now }
     requires sized { AreSized count (map (λ row. vals_of T.denotes (row_values row)) rows.now) }
     requires within { number < count }
-    requires fit { FitsWith T.owned T.denotes defs.now [] [] (Invoke (Defined definition) (constants (column (map (λ row. vals_of T.denotes (row_values row)) rows.now) number))) }
-    ensures ok { IfOk result (λ value. GivesValue T.owned T.denotes defs.now [] [] (Invoke (Defined definition) (constants (column (map (λ row. vals_of T.denotes (row_values row)) rows.now) number))) (val_of T.denotes value)) }
-    ensures range { IsErrOf result Eval.Range → can_compute T.denotes defs.now [] [] (Invoke (Defined definition) (constants (column (map (λ row. vals_of T.denotes (row_values row)) rows.now) number))) ≡ false }
+    requires fit { FitsWith T.owned T.denotes defs.now [] [] (Invoke (Defined definition)
+        (constants (column (map (λ row. vals_of T.denotes (row_values row)) rows.now) number))) }
+    ensures ok { IfOk result (λ value. GivesValue T.owned T.denotes defs.now [] [] (Invoke (Defined definition)
+        (constants (column (map (λ row. vals_of T.denotes (row_values row)) rows.now) number)))
+        (val_of T.denotes value)) }
+    ensures range { IsErrOf result Eval.Range → can_compute T.denotes defs.now [] [] (Invoke (Defined definition)
+        (constants (column (map (λ row. vals_of T.denotes (row_values row)) rows.now) number))) ≡ false }
 {
     let term = call_at::<T>(alloc, definition, rows, number, count)?;
     let nothing = Vec::new(alloc);
@@ -66,10 +71,15 @@ pub fn called_row<T: Theory>(
 ) -> Result<Vec<Value<T::Num>>, RowEnd>
     requires definitions { DefinitionsFit T.owned T.denotes defs.now }
     requires sized { AreSized count (map (λ row. vals_of T.denotes (row_values row)) rows.now) }
-    requires fit { (k : ℕ) → k < count → FitsWith T.owned T.denotes defs.now [] [] (Invoke (Defined definition) (constants (column (map (λ row. vals_of T.denotes (row_values row)) rows.now) k))) }
+    requires fit { (k : ℕ) → k < count → FitsWith T.owned T.denotes defs.now [] [] (Invoke (Defined definition)
+        (constants (column (map (λ row. vals_of T.denotes (row_values row)) rows.now) k))) }
     ensures sized { IfOk result (λ found. length found.items ≡ count) }
-    ensures ok { IfOk result (λ found. (k : ℕ) → k < count → GivesValue T.owned T.denotes defs.now [] [] (Invoke (Defined definition) (constants (column (map (λ row. vals_of T.denotes (row_values row)) rows.now) k))) (value_at_position (vals_of T.denotes found.items) k)) }
-    ensures lost { IfErr result (λ end. WhereLost end (λ k. (k < count) × (can_compute T.denotes defs.now [] [] (Invoke (Defined definition) (constants (column (map (λ row. vals_of T.denotes (row_values row)) rows.now) k))) ≡ false))) }
+    ensures ok { IfOk result (λ found. (k : ℕ) → k < count → GivesValue T.owned T.denotes defs.now [] []
+        (Invoke (Defined definition) (constants (column (map (λ row. vals_of T.denotes (row_values row)) rows.now) k)))
+        (value_at_position (vals_of T.denotes found.items) k)) }
+    ensures lost { IfErr result (λ end.
+        WhereLost end (λ k. (k < count) × (can_compute T.denotes defs.now [] [] (Invoke (Defined definition)
+        (constants (column (map (λ row. vals_of T.denotes (row_values row)) rows.now) k))) ≡ false))) }
 {
     let mut found = Vec::with_capacity(alloc, count)?;
     for number in 0..count {

@@ -23,9 +23,12 @@ pub fn term_row<T: Theory>(
 ) -> Result<Vec<Value<T::Num>>, RowEnd>
     requires definitions { DefinitionsFit T.owned T.denotes defs.now }
     requires points { ArePoints (map (vals_of T.denotes) points.now) }
-    requires fits { FitsAt (scope_of T.owned defs.now) (map (vals_of T.denotes) points.now) (expr_of T.denotes term.now) }
-    ensures ok { IfOk result (λ row. HasRow (scope_of T.owned defs.now) (functions (bodies T.denotes defs.now)) (map (vals_of T.denotes) points.now) (expr_of T.denotes term.now) (vals_of T.denotes row.items)) }
-    ensures lost { IfErr result (λ end. WhereLost end (IsLostAt (functions (bodies T.denotes defs.now)) (map (vals_of T.denotes) points.now) (expr_of T.denotes term.now))) }
+    requires fits { FitsAt (scope_of T.owned defs.now)
+        (map (vals_of T.denotes) points.now) (expr_of T.denotes term.now) }
+    ensures ok { IfOk result (λ row. HasRow (scope_of T.owned defs.now) (functions (bodies T.denotes defs.now))
+        (map (vals_of T.denotes) points.now) (expr_of T.denotes term.now) (vals_of T.denotes row.items)) }
+    ensures lost { IfErr result (λ end. WhereLost end (IsLostAt (functions (bodies T.denotes defs.now))
+        (map (vals_of T.denotes) points.now) (expr_of T.denotes term.now))) }
 {
     let mut row = Vec::with_capacity(alloc, points.len())?;
     for number in 0..points.len() {

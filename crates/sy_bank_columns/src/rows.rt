@@ -1,5 +1,22 @@
 // The row of a rule's part, from those of kept terms.
-ghost use Rattle.std.specs.Prelude.{◌≡◌, ℕ, ◌<◌, ◌≤◌, true, [], ◌∷◌, All, IfOk, IfErr, length, map, slice_get, Some, replicate, List};
+ghost use Rattle.std.specs.Prelude.{
+  ◌≡◌,
+  ℕ,
+  ◌<◌,
+  ◌≤◌,
+  true,
+  [],
+  ◌∷◌,
+  All,
+  IfOk,
+  IfErr,
+  length,
+  map,
+  slice_get,
+  Some,
+  replicate,
+  List,
+};
 ghost use Rattle.sy_terms.specs.Values.{Val};
 ghost use Rattle.sy_terms.specs.Expr.{Apply};
 ghost use Rattle.sy_terms.specs.Denoted.{val_of, vals_of};
@@ -44,7 +61,8 @@ fn argument_row<T: Theory>(
     position: usize,
 ) -> Result<Vec<Value<T::Num>>, AllocError>
     requires { (k : ℕ) (point : List (Value T.Num)) → slice_get points.now k ≡ Some point → position < length point }
-    ensures { IfOk result (λ row. vals_of T.denotes row.items ≡ map (λ point. value_at_position (vals_of T.denotes point) position) points.now) }
+    ensures { IfOk result (λ row. vals_of T.denotes row.items ≡
+        map (λ point. value_at_position (vals_of T.denotes point) position) points.now) }
 {
     let mut row = Vec::with_capacity(alloc, points.len())?;
     for point in points {
@@ -65,11 +83,16 @@ pub fn part_row<'a, T: Theory>(
 ) -> Result<Row<'a, Value<T::Num>>, RowEnd>
     requires definitions { DefinitionsFit T.owned T.denotes defs.now }
     requires points { ArePoints (map (vals_of T.denotes) points.now) }
-    requires rows { AreRows (scope_of T.owned defs.now) (functions (bodies T.denotes defs.now)) (map (vals_of T.denotes) points.now) (chosen_of T.denotes chosen.now) }
+    requires rows { AreRows (scope_of T.owned defs.now)
+        (functions (bodies T.denotes defs.now)) (map (vals_of T.denotes) points.now) (chosen_of T.denotes chosen.now) }
     requires enough { length (occurring (pattern_of T.denotes part.now)) ≤ length chosen.now }
-    requires fits { FitsAt (scope_of T.owned defs.now) (map (vals_of T.denotes) points.now) (filled (pattern_of T.denotes part.now) (terms (chosen_of T.denotes chosen.now))) }
-    ensures ok { IfOk result (λ row. HasRow (scope_of T.owned defs.now) (functions (bodies T.denotes defs.now)) (map (vals_of T.denotes) points.now) (filled (pattern_of T.denotes part.now) (terms (chosen_of T.denotes chosen.now))) (vals_of T.denotes (row_values row))) }
-    ensures lost { IfErr result (λ end. WhereLost end (IsLostAt (functions (bodies T.denotes defs.now)) (map (vals_of T.denotes) points.now) (filled (pattern_of T.denotes part.now) (terms (chosen_of T.denotes chosen.now))))) }
+    requires fits { FitsAt (scope_of T.owned defs.now) (map (vals_of T.denotes) points.now)
+        (filled (pattern_of T.denotes part.now) (terms (chosen_of T.denotes chosen.now))) }
+    ensures ok { IfOk result (λ row. HasRow (scope_of T.owned defs.now) (functions (bodies T.denotes defs.now))
+        (map (vals_of T.denotes) points.now) (filled (pattern_of T.denotes part.now)
+        (terms (chosen_of T.denotes chosen.now))) (vals_of T.denotes (row_values row))) }
+    ensures lost { IfErr result (λ end. WhereLost end (IsLostAt (functions (bodies T.denotes defs.now)) (map (vals_of
+        T.denotes) points.now) (filled (pattern_of T.denotes part.now) (terms (chosen_of T.denotes chosen.now))))) }
 {
     match part {
         Part::Const(value) => {
@@ -117,11 +140,17 @@ fn part_pair<'a, T: Theory>(
 ) -> Result<Vec<Value<T::Num>>, RowEnd>
     requires definitions { DefinitionsFit T.owned T.denotes defs.now }
     requires points { ArePoints (map (vals_of T.denotes) points.now) }
-    requires rows { AreRows (scope_of T.owned defs.now) (functions (bodies T.denotes defs.now)) (map (vals_of T.denotes) points.now) (chosen_of T.denotes chosen.now) }
+    requires rows { AreRows (scope_of T.owned defs.now)
+        (functions (bodies T.denotes defs.now)) (map (vals_of T.denotes) points.now) (chosen_of T.denotes chosen.now) }
     requires enough { length (all_occurring (patterns_of T.denotes (first.now ∷ second.now ∷ []))) ≤ length chosen.now }
-    requires fits { FitsAt (scope_of T.owned defs.now) (map (vals_of T.denotes) points.now) (Apply operator.now (all_filled (patterns_of T.denotes (first.now ∷ second.now ∷ [])) (terms (chosen_of T.denotes chosen.now)))) }
-    ensures ok { IfOk result (λ row. HasRow (scope_of T.owned defs.now) (functions (bodies T.denotes defs.now)) (map (vals_of T.denotes) points.now) (Apply operator.now (all_filled (patterns_of T.denotes (first.now ∷ second.now ∷ [])) (terms (chosen_of T.denotes chosen.now)))) (vals_of T.denotes row.items)) }
-    ensures lost { IfErr result (λ end. WhereLost end (IsLostAt (functions (bodies T.denotes defs.now)) (map (vals_of T.denotes) points.now) (Apply operator.now (all_filled (patterns_of T.denotes (first.now ∷ second.now ∷ [])) (terms (chosen_of T.denotes chosen.now)))))) }
+    requires fits { FitsAt (scope_of T.owned defs.now) (map (vals_of T.denotes) points.now) (Apply operator.now
+        (all_filled (patterns_of T.denotes (first.now ∷ second.now ∷ [])) (terms (chosen_of T.denotes chosen.now)))) }
+    ensures ok { IfOk result (λ row. HasRow (scope_of T.owned defs.now) (functions (bodies T.denotes defs.now))
+        (map (vals_of T.denotes) points.now) (Apply operator.now (all_filled (patterns_of T.denotes (first.now ∷
+        second.now ∷ [])) (terms (chosen_of T.denotes chosen.now)))) (vals_of T.denotes row.items)) }
+    ensures lost { IfErr result (λ end. WhereLost end
+        (IsLostAt (functions (bodies T.denotes defs.now)) (map (vals_of T.denotes) points.now) (Apply operator.now
+        (all_filled (patterns_of T.denotes (first.now ∷ second.now ∷ [])) (terms (chosen_of T.denotes chosen.now)))))) }
 {
     let (_, rest) = chosen.split_at(places(first, chosen.len()));
     let left = part_row(alloc, defs, points, first, chosen)?;
@@ -141,11 +170,17 @@ fn part_rows<'a, T: Theory>(
 ) -> Result<Vec<Row<'a, Value<T::Num>>>, RowEnd>
     requires definitions { DefinitionsFit T.owned T.denotes defs.now }
     requires points { ArePoints (map (vals_of T.denotes) points.now) }
-    requires rows { AreRows (scope_of T.owned defs.now) (functions (bodies T.denotes defs.now)) (map (vals_of T.denotes) points.now) (chosen_of T.denotes chosen.now) }
+    requires rows { AreRows (scope_of T.owned defs.now)
+        (functions (bodies T.denotes defs.now)) (map (vals_of T.denotes) points.now) (chosen_of T.denotes chosen.now) }
     requires enough { length (all_occurring (patterns_of T.denotes parts.now.items.items)) ≤ length chosen.now }
-    requires fit { FitAt (scope_of T.owned defs.now) (map (vals_of T.denotes) points.now) (all_filled (patterns_of T.denotes parts.now.items.items) (terms (chosen_of T.denotes chosen.now))) }
-    ensures ok { IfOk result (λ rows. HaveRows (scope_of T.owned defs.now) (functions (bodies T.denotes defs.now)) (map (vals_of T.denotes) points.now) (all_filled (patterns_of T.denotes parts.now.items.items) (terms (chosen_of T.denotes chosen.now))) (map (λ row. vals_of T.denotes (row_values row)) rows.items)) }
-    ensures lost { IfErr result (λ end. WhereLost end (IsOneLostAt (functions (bodies T.denotes defs.now)) (map (vals_of T.denotes) points.now) (all_filled (patterns_of T.denotes parts.now.items.items) (terms (chosen_of T.denotes chosen.now))))) }
+    requires fit { FitAt (scope_of T.owned defs.now) (map (vals_of T.denotes) points.now)
+        (all_filled (patterns_of T.denotes parts.now.items.items) (terms (chosen_of T.denotes chosen.now))) }
+    ensures ok { IfOk result (λ rows. HaveRows (scope_of T.owned defs.now) (functions (bodies T.denotes defs.now))
+        (map (vals_of T.denotes) points.now) (all_filled (patterns_of T.denotes parts.now.items.items)
+        (terms (chosen_of T.denotes chosen.now))) (map (λ row. vals_of T.denotes (row_values row)) rows.items)) }
+    ensures lost { IfErr result (λ end.
+        WhereLost end (IsOneLostAt (functions (bodies T.denotes defs.now)) (map (vals_of T.denotes) points.now)
+        (all_filled (patterns_of T.denotes parts.now.items.items) (terms (chosen_of T.denotes chosen.now))))) }
 {
     let mut rows = Vec::with_capacity(alloc, parts.len())?;
     let count = chosen.len();

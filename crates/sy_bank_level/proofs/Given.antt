@@ -17,7 +17,7 @@ use Rattle.sy_bank_level.specs.Columns.{FitsAt, HasRow}
 use Rattle.sy_bank_level.specs.Chosen.{AreRows, children}
 use Rattle.sy_bank_level.specs.Hashing.{hash_from}
 use Rattle.sy_bank_level.specs.Filling.{World, LevelState, all_levels, EntryIsRight, IsSteady, IsNewRow, TermIsDone, AreOther}
-use Rattle.sy_bank_level.proofs.Kept.{kept_at-before, size-within}
+use Rattle.sy_bank_level.proofs.KeptLaws.{kept_at-before, size-within}
 use Rattle.sy_bank_level.specs.Tasks.{IsSet, IsRule}
 use Rattle.sy_bank_level.proofs.Nodes.{AreSound, node-derives, node-sized, as-many, derived-fits}
 

@@ -6,7 +6,7 @@ use Rattle.sy_bank_level.specs.Hashing.{hash_from, PlaceIsAdded}
 use Rattle.sy_bank_level.specs.Filling.{World, LevelState, all_levels, EntryIsRight, IsNewRow, IsSteady, LevelGrows, TermIsDone}
 use Rattle.sy_bank_level.specs.declared.table.Place.{Place}
 use Rattle.sy_bank_level.proofs.Hashes.{has-added, still-has}
-use Rattle.sy_bank_level.proofs.Kept.{pushed, at-last, still-last, new-pushed, wide-pushed, count-last, kept_at-last}
+use Rattle.sy_bank_level.proofs.KeptLaws.{pushed, at-last, still-last, new-pushed, wide-pushed, count-last, kept_at-last}
 
 -- the state with the term kept, and with another table
 abbrev pub after : LevelState → ℕ → Entry → (ℕ → List Place) → LevelState

@@ -1,7 +1,7 @@
 -- What is kept with one size more.
 use Rattle.std.proofs.Common.{◌≡◌, ℕ, List, [], ◌∷◌, ◌++◌, ap, ◌∙◌, Some, slice_get}
 use Rattle.sy_bank_level.specs.Banks.{Entry, kept_at, IsKept}
-use Rattle.sy_bank_level.proofs.Kept.{kept_at-before, size-within}
+use Rattle.sy_bank_level.proofs.KeptLaws.{kept_at-before, size-within}
 
 -- kept terms stay where they stand
 pub stays-more : {X : Type 0} (levels : List (List (List X))) (lists : List (List X)) (n size place : ℕ) (x : X) → slice_get (kept_at levels n size) place ≡ Some x → slice_get (kept_at (levels ++ lists ∷ []) n size) place ≡ Some x

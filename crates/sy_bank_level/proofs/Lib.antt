@@ -9,7 +9,7 @@ pub mod Finding
 pub mod Given
 pub mod Hashes
 pub mod Keeping
-pub mod Kept
+pub mod KeptLaws
 pub mod LevelsLemmas
 pub mod Next
 pub mod Nodes

@@ -12,7 +12,7 @@ use Rattle.sy_bank_level.specs.Covering.{IsCovered, Covers, Offers}
 use Rattle.sy_bank_level.specs.Filling.{World, LevelState, all_levels, IsSteady, IsBeyond}
 use Rattle.sy_bank_level.specs.declared.table.Place.{Place}
 use Rattle.sy_bank_level.proofs.Beginnings.{kept_at-idle, count-idle}
-use Rattle.sy_bank_level.proofs.Kept.{size-within}
+use Rattle.sy_bank_level.proofs.KeptLaws.{size-within}
 use Rattle.sy_bank_level.proofs.Coverage.{saturated_covers}
 use Rattle.sy_bank_level.specs.Indexed.{IsIndexed}
 use Rattle.sy_bank_level.specs.Ready.{IsSaturatedBelow, BankIsReady}

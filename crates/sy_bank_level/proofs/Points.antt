@@ -3,7 +3,7 @@ use Rattle.std.proofs.Common.{◌≡◌, List, [], ◌∷◌, ◌++◌, map, All
 use Rattle.sy_terms.specs.Values.{Val}
 use Rattle.sy_terms.specs.Theories.{sort_of_value, valid}
 use Rattle.sy_terms.specs.declared.sort.Sort.{Sort}
-use Rattle.sy_bank_level.proofs.Kept.{at-end}
+use Rattle.sy_bank_level.proofs.KeptLaws.{at-end}
 use Rattle.sy_bank_level.specs.Rows.{ArePointsOf}
 
 -- one point more

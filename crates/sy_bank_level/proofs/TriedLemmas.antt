@@ -7,7 +7,7 @@ use Rattle.sy_grammar_base.specs.Trees.{Production, Template, EachConstant, Each
 use Rattle.sy_bank_level.specs.Banks.{Entry, IsKept}
 use Rattle.sy_bank_level.specs.Covering.{AreKept, sizes, terms, Offers}
 use Rattle.sy_bank_level.specs.Filling.{World, LevelState, all_levels, IsSteady, LevelGrows, TermIsDone}
-use Rattle.sy_bank_level.proofs.Kept.{below-or-last, kept_at-before}
+use Rattle.sy_bank_level.proofs.KeptLaws.{below-or-last, kept_at-before}
 use Rattle.sy_bank_level.proofs.Keeping.{done-on}
 use Rattle.sy_bank_level.specs.Tried.{IsTried, AreTried, AllAreTried, IsFilled}
 

@@ -44,7 +44,8 @@ impl<T: Theory> Bank<T> {
 
     /// The term that was dropped, which isn't computable at its point; `None` exactly where none was.
     pub fn overflow(&self) -> Option<&Dropped<T>>
-        ensures { option_map (λ dropped. lost_of T.denotes dropped.now) result ≡ (merged_of T.denotes self.now).dropped }
+        ensures { option_map (λ dropped. lost_of T.denotes dropped.now) result ≡
+            (merged_of T.denotes self.now).dropped }
     {
         self.dropped.as_ref()
     }

@@ -71,7 +71,8 @@ impl<T: Theory> Growns<T> {
     /// The terms, in memory of their own.
     #[cycle(term)]
     fn terms(&self, alloc: Global) -> Result<Vec<Term<T>>, Want>
-        ensures { IfOk result (λ terms. map (expr_of T.denotes) terms.items ≡ terms_from T.denotes self.now.items.items) }
+        ensures { IfOk result (λ terms. map (expr_of T.denotes) terms.items ≡
+            terms_from T.denotes self.now.items.items) }
     {
         let all = self.as_slice();
         let mut terms = Vec::with_capacity(alloc, all.len())?;
@@ -85,7 +86,8 @@ impl<T: Theory> Growns<T> {
     /// The derivations, in memory of their own.
     #[cycle(derivation)]
     fn derivations(&self, alloc: Global) -> Result<Derivations<T>, Want>
-        ensures { IfOk result (λ derivations. trees_of T.denotes derivations.items.items ≡ shared_trees T.denotes self.now.items.items) }
+        ensures { IfOk result (λ derivations. trees_of T.denotes derivations.items.items ≡
+            shared_trees T.denotes self.now.items.items) }
     {
         let all = self.as_slice();
         let mut derivations = Derivations::with_capacity(alloc, all.len())?;
@@ -121,7 +123,8 @@ fn copied_derivations<T: Theory>(
     alloc: Global,
     derivations: &Derivations<T>,
 ) -> Result<Derivations<T>, Want>
-    ensures { IfOk result (λ copies. trees_of T.denotes copies.items.items ≡ trees_of T.denotes derivations.now.items.items) }
+    ensures { IfOk result (λ copies. trees_of T.denotes copies.items.items ≡
+        trees_of T.denotes derivations.now.items.items) }
 {
     let mut copies = Derivations::with_capacity(alloc, derivations.len())?;
     for derivation in derivations.as_slice() {

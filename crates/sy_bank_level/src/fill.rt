@@ -17,7 +17,8 @@ pub fn filled_part<T: Theory>(
     part: &Part<T>,
     terms: &[Term<T>],
 ) -> Result<Term<T>, Want>
-    ensures { IfOk result (λ term. expr_of T.denotes term ≡ filled (pattern_of T.denotes part.now) (map (expr_of T.denotes) terms.now)) }
+    ensures { IfOk result (λ term. expr_of T.denotes term ≡
+        filled (pattern_of T.denotes part.now) (map (expr_of T.denotes) terms.now)) }
 {
     match part {
         Part::Const(value) => Ok(Term::Const(*value)),
@@ -44,7 +45,8 @@ fn filled_parts<T: Theory>(
     parts: &Parts<T>,
     terms: &[Term<T>],
 ) -> Result<Terms<T>, Want>
-    ensures { IfOk result (λ filled. exprs_of T.denotes filled.items.items ≡ all_filled (patterns_of T.denotes parts.now.items.items) (map (expr_of T.denotes) terms.now)) }
+    ensures { IfOk result (λ filled. exprs_of T.denotes filled.items.items ≡
+        all_filled (patterns_of T.denotes parts.now.items.items) (map (expr_of T.denotes) terms.now)) }
 {
     let mut filled = Terms::with_capacity(alloc, parts.len())?;
     let mut left = terms;

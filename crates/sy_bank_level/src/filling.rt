@@ -1,12 +1,35 @@
 // Finding the kept terms of one size.
-ghost use Rattle.std.specs.Prelude.{◌≡◌, ◌≢◌, ◌<◌, None, IfErr, OnOk, MatchBool, IsTrue, ◌↔◌, length, [], ◌∷◌, ◌++◌, slice_get};
+ghost use Rattle.std.specs.Prelude.{
+  ◌≡◌,
+  ◌≢◌,
+  ◌<◌,
+  None,
+  IfErr,
+  OnOk,
+  MatchBool,
+  IsTrue,
+  ◌↔◌,
+  length,
+  [],
+  ◌∷◌,
+  ◌++◌,
+  slice_get,
+};
 ghost use Rattle.std.specs.Option.{option_map};
 ghost use Rattle.sy_terms.specs.Denoted.{vals_of};
 ghost use Rattle.sy_bank_level.specs.Banks.{Entry, IsKept, IsDropped, kept_at};
 ghost use Rattle.sy_bank_level.specs.Stored.{entry_of, lost_of};
 ghost use Rattle.sy_bank_level.specs.Hashing.{hash_from};
 ghost use Rattle.sy_bank_level.specs.Places.{places_of};
-ghost use Rattle.sy_bank_level.specs.Filling.{IsSteady, EntryIsRight, IsNewRow, LevelGrows, TermIsDone, RowIsThere, AreOther};
+ghost use Rattle.sy_bank_level.specs.Filling.{
+  IsSteady,
+  EntryIsRight,
+  IsNewRow,
+  LevelGrows,
+  TermIsDone,
+  RowIsThere,
+  AreOther,
+};
 ghost use Rattle.sy_bank_level.specs.Task.{world, IsStop, level_of, levels_of, level_state_of};
 
 use crate::kept::{Dropped, Kept};
@@ -60,7 +83,9 @@ pub struct Filling<T: Theory> {
 impl<T: Theory> Filling<T> {
     /// The kept term at this place.
     fn at<'a>(&'a self, levels: &'a [Level<T>], place: &Place) -> Option<&'a Kept<T>>
-        ensures { option_map (λ kept. entry_of T.denotes kept.now) result ≡ slice_get (kept_at (levels_of T.denotes levels.now ++ level_of T.denotes self.now.fresh ∷ []) place.now.nonterminal place.now.size) place.now.index }
+        ensures { option_map (λ kept. entry_of T.denotes kept.now) result ≡
+            slice_get (kept_at (levels_of T.denotes levels.now ++
+            level_of T.denotes self.now.fresh ∷ []) place.now.nonterminal place.now.size) place.now.index }
     {
         let size = place.size as usize;
         if size < levels.len() {
@@ -80,7 +105,8 @@ impl<T: Theory> Filling<T> {
         place: &Place,
         row: &[Value<T::Num>],
     ) -> bool
-        ensures { IsTrue result ↔ RowIsThere (levels_of T.denotes levels.now ++ level_of T.denotes self.now.fresh ∷ []) nonterminal place.now (vals_of T.denotes row.now) }
+        ensures { IsTrue result ↔ RowIsThere (levels_of T.denotes levels.now ++
+            level_of T.denotes self.now.fresh ∷ []) nonterminal place.now (vals_of T.denotes row.now) }
     {
         if place.nonterminal != nonterminal {
             return false;
@@ -100,8 +126,10 @@ impl<T: Theory> Filling<T> {
         row: &[Value<T::Num>],
     ) -> bool
         ensures { MatchBool result
-            ((entry : Entry) × IsKept (levels_of T.denotes levels.now ++ level_of T.denotes self.now.fresh ∷ []) nonterminal entry × (entry.row ≡ vals_of T.denotes row.now))
-            (AreOther (levels_of T.denotes levels.now ++ level_of T.denotes self.now.fresh ∷ []) nonterminal (places_of self.now.table hash) (vals_of T.denotes row.now)) }
+            ((entry : Entry) × IsKept (levels_of T.denotes levels.now ++
+            level_of T.denotes self.now.fresh ∷ []) nonterminal entry × (entry.row ≡ vals_of T.denotes row.now))
+            (AreOther (levels_of T.denotes levels.now ++ level_of T.denotes self.now.fresh ∷
+            []) nonterminal (places_of self.now.table hash) (vals_of T.denotes row.now)) }
     {
         let Some(first) = self.table.first(hash) else {
             return false;
@@ -128,13 +156,18 @@ impl<T: Theory> Filling<T> {
         requires sized { task.now.size ≡ length task.now.levels.now }
         requires known { nonterminal < length task.now.grammar.now.nons }
         requires steady { IsSteady (world T.owned T.denotes task.now) (level_state_of T.denotes self.old) }
-        requires right { EntryIsRight (world T.owned T.denotes task.now) nonterminal task.now.size (entry_of T.denotes kept) }
+        requires right { EntryIsRight (world T.owned T.denotes task.now) nonterminal task.now.size
+            (entry_of T.denotes kept) }
         requires hash { hash ≡ hash_from nonterminal (vals_of T.denotes kept.row) }
-        requires differs { IsNewRow (world T.owned T.denotes task.now) (level_state_of T.denotes self.old) nonterminal (vals_of T.denotes kept.row) }
+        requires differs { IsNewRow (world T.owned T.denotes task.now)
+            (level_state_of T.denotes self.old) nonterminal (vals_of T.denotes kept.row) }
         ensures steady { OnOk result (IsSteady (world T.owned T.denotes task.now) (level_state_of T.denotes self.new)) }
-        ensures grows { OnOk result (LevelGrows (world T.owned T.denotes task.now) (level_state_of T.denotes self.old) (level_state_of T.denotes self.new)) }
-        ensures done { OnOk result (TermIsDone (world T.owned T.denotes task.now) (level_state_of T.denotes self.new) nonterminal task.now.size (entry_of T.denotes kept).term) }
-        ensures stop { IfErr result (IsStop T.denotes (world T.owned T.denotes task.now) (level_state_of T.denotes self.new)) }
+        ensures grows { OnOk result (LevelGrows (world T.owned T.denotes task.now)
+            (level_state_of T.denotes self.old) (level_state_of T.denotes self.new)) }
+        ensures done { OnOk result (TermIsDone (world T.owned T.denotes task.now)
+            (level_state_of T.denotes self.new) nonterminal task.now.size (entry_of T.denotes kept).term) }
+        ensures stop { IfErr result
+            (IsStop T.denotes (world T.owned T.denotes task.now) (level_state_of T.denotes self.new)) }
     {
         if self.count >= task.cap {
             return if self.dropped.is_some() {
@@ -158,9 +191,12 @@ impl<T: Theory> Filling<T> {
     pub fn lose(&mut self, task: &Task<T>, dropped: Dropped<T>)
         requires sized { task.now.size ≡ length task.now.levels.now }
         requires steady { IsSteady (world T.owned T.denotes task.now) (level_state_of T.denotes self.old) }
-        requires lost { IsDropped (world T.owned T.denotes task.now).syntax (world T.owned T.denotes task.now).defined (world T.owned T.denotes task.now).pool (world T.owned T.denotes task.now).points task.now.size (lost_of T.denotes dropped) }
+        requires lost { IsDropped (world T.owned T.denotes task.now).syntax
+            (world T.owned T.denotes task.now).defined (world T.owned T.denotes task.now).pool
+            (world T.owned T.denotes task.now).points task.now.size (lost_of T.denotes dropped) }
         ensures steady { IsSteady (world T.owned T.denotes task.now) (level_state_of T.denotes self.new) }
-        ensures grows { LevelGrows (world T.owned T.denotes task.now) (level_state_of T.denotes self.old) (level_state_of T.denotes self.new) }
+        ensures grows { LevelGrows (world T.owned T.denotes task.now)
+            (level_state_of T.denotes self.old) (level_state_of T.denotes self.new) }
         ensures lost { (level_state_of T.denotes self.new).dropped ≢ None }
     {
         if self.dropped.is_none() {

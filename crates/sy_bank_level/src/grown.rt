@@ -12,7 +12,8 @@ use sy_terms::{Term, Theory, Want};
 pub enum Grown<T: Theory> {
     /// A term that isn't made of others, as a constant or an argument.
     Leaf(Term<T>, Derivation<T>),
-    /// What the part of the rule of this number becomes where the others stand for its nonterminals, from left to right.
+    /// What the part of the rule of this number becomes where the others stand for its nonterminals, from left to
+    /// right.
     Filled(u32, Rc<Part<T>>, Growns<T>),
 }
 

@@ -1,5 +1,19 @@
 // The kept terms of one size.
-ghost use Rattle.std.specs.Prelude.{◌≡◌, ◌<◌, [], ◌++◌, ◌∷◌, length, IfOk, OnOk, OnErr, replicate, slice_get, slice_index_or, slice_set};
+ghost use Rattle.std.specs.Prelude.{
+  ◌≡◌,
+  ◌<◌,
+  [],
+  ◌++◌,
+  ◌∷◌,
+  length,
+  IfOk,
+  OnOk,
+  OnErr,
+  replicate,
+  slice_get,
+  slice_index_or,
+  slice_set,
+};
 ghost use Rattle.std.specs.Option.{option_map};
 ghost use Rattle.sy_bank_level.specs.Stored.{entry_of, entries_of};
 ghost use Rattle.sy_bank_level.specs.Task.{level_of};
@@ -43,7 +57,8 @@ impl<T: Theory> Level<T> {
 
     /// The term at this place of what is kept for the nonterminal; `None` exactly where there is none.
     pub fn get(&self, nonterminal: usize, place: usize) -> Option<&Kept<T>>
-        ensures { option_map (λ kept. entry_of T.denotes kept.now) result ≡ slice_get (slice_index_or (level_of T.denotes self.now) nonterminal []) place }
+        ensures { option_map (λ kept. entry_of T.denotes kept.now) result ≡
+            slice_get (slice_index_or (level_of T.denotes self.now) nonterminal []) place }
     {
         self.lists.get(nonterminal)?.get(place)
     }
@@ -51,7 +66,8 @@ impl<T: Theory> Level<T> {
     /// Keeps the term for the nonterminal, after the others. On `Want` nothing changes and the term is dropped.
     pub fn push(&mut self, nonterminal: usize, kept: Kept<T>) -> Result<(), Want>
         requires { nonterminal < length (level_of T.denotes self.old) }
-        ensures ok { OnOk result (level_of T.denotes self.new ≡ slice_set (level_of T.denotes self.old) nonterminal (slice_index_or (level_of T.denotes self.old) nonterminal [] ++ entry_of T.denotes kept ∷ [])) }
+        ensures ok { OnOk result (level_of T.denotes self.new ≡ slice_set (level_of T.denotes self.old) nonterminal
+            (slice_index_or (level_of T.denotes self.old) nonterminal [] ++ entry_of T.denotes kept ∷ [])) }
         ensures err { OnErr result (level_of T.denotes self.new ≡ level_of T.denotes self.old) }
     {
         self.lists[nonterminal].push(kept)?;

@@ -25,11 +25,11 @@ use sy_terms::Want;
 const MOST_LEARNED: u32 = 2_147_483_647;
 
 /// A solver of queries over bit vectors. It tries up to 128 assignments at which queries are often true; then it makes
-/// the circuit clauses of the query, or of one that the same values satisfy and that is easier to search, and searches a
-/// model or a refutation of them that learns at most as many clauses as the limit `clauses`.
+/// the circuit clauses of the query, or of one that the same values satisfy and that is easier to search, and searches
+/// a model or a refutation of them that learns at most as many clauses as the limit `clauses`.
 ///
-/// A query with variables, of which and of whose clauses there may be 2^31 or more, is answered as want of memory where none
-/// of these assignments satisfies it, and so is a search that learns 2^31 - 1 clauses below its limit. What has no
+/// A query with variables, of which and of whose clauses there may be 2^31 or more, is answered as want of memory where
+/// none of these assignments satisfies it, and so is a search that learns 2^31 - 1 clauses below its limit. What has no
 /// variables is evaluated, however large it is.
 #[derive(Clone, Copy, Debug, PartialEq, Eq)]
 pub struct BvDecide;
@@ -96,7 +96,8 @@ fn answer(
     requires variables { circuit.variables ≡ query.now.vars }
     requires clauses { HasCircuitClauses (query_of vector query.now) circuit.clauses }
     requires solved { AnswersFormula circuit.clauses (min limits.now.clauses 2147483647) solved }
-    ensures { IfOk result (Answers vector proofs.Accepted proofs.budget proofs.Shows (query_of vector query.now) limits.now) }
+    ensures { IfOk result
+        (Answers vector proofs.Accepted proofs.budget proofs.Shows (query_of vector query.now) limits.now) }
 {
     match solved {
         Solved::Refuted(log) => {

@@ -23,8 +23,8 @@ use sy_query_base::Query;
 use sy_seq::{Seq, Want};
 use sy_terms::{Sort, Values};
 
-/// The clauses of a query's circuit. The bits of the query's variables come first among the variables of the clauses: one
-/// variable of the query after the other, each from its least bit on; a truth value is one bit.
+/// The clauses of a query's circuit. The bits of the query's variables come first among the variables of the clauses:
+/// one variable of the query after the other, each from its least bit on; a truth value is one bit.
 #[derive(Drop)]
 pub struct Circuit {
     variables: Seq<Sort>,

@@ -38,7 +38,8 @@ const MOST_EACH: u64 = 1000;
 pub fn query_circuit(alloc: Global, query: &Query<BvTheory>) -> Result<Option<Circuit>, Want>
     requires fits { QueryFits owned is_bits (query_of vector query.now) }
     ensures variables { IfOk result (λ found. IfSome found (λ circuit. circuit.variables ≡ query.now.vars)) }
-    ensures clauses { IfOk result (λ found. IfSome found (λ circuit. HasCircuitClauses (query_of vector query.now) circuit.clauses)) }
+    ensures clauses { IfOk result (λ found.
+        IfSome found (λ circuit. HasCircuitClauses (query_of vector query.now) circuit.clauses)) }
     ensures vars { IfOk result (λ found. IfSome found (λ circuit. VarsFit circuit.clauses)) }
     ensures count { IfOk result (λ found. IfSome found (λ circuit. length circuit.clauses.clauses < 2 ^ 31)) }
 {
@@ -54,10 +55,10 @@ pub fn query_circuit(alloc: Global, query: &Query<BvTheory>) -> Result<Option<Ci
     Ok(Some(circuit))
 }
 
-/// A circuit whose clauses say what the query of this size says: that of a query which the same values satisfy and which is
-/// easier to search, where it has no more variables and clauses than the query's own may have, and else the query's own.
-/// Where the query gets too large with small terms in the places of their names, constants and variables alone are written
-/// there.
+/// A circuit whose clauses say what the query of this size says: that of a query which the same values satisfy and
+/// which is easier to search, where it has no more variables and clauses than the query's own may have, and else the
+/// query's own. Where the query gets too large with small terms in the places of their names, constants and variables
+/// alone are written there.
 fn circuit_of(alloc: Global, query: &Query<BvTheory>, size: u32) -> Result<Circuit, Want>
     requires fits { QueryFits owned is_bits (query_of vector query.now) }
     requires size { size ≡ query_size (query_of vector query.now) }
@@ -78,8 +79,8 @@ fn circuit_of(alloc: Global, query: &Query<BvTheory>, size: u32) -> Result<Circu
     Ok(circuit)
 }
 
-/// The circuit of what is written for a query of this size, where it is small enough. What is written is let go of by a call,
-/// here and below, since a proof walks through all that a term may be wherever one goes out of scope.
+/// The circuit of what is written for a query of this size, where it is small enough. What is written is let go of by a
+/// call, here and below, since a proof walks through all that a term may be wherever one goes out of scope.
 fn rewritten_circuit(
     alloc: Global,
     query: &Query<BvTheory>,
@@ -88,7 +89,8 @@ fn rewritten_circuit(
 ) -> Result<Option<Circuit>, Want>
     requires size { size ≡ query_size (query_of vector query.now) }
     ensures variables { IfOk result (λ found. IfSome found (λ circuit. circuit.variables ≡ query.now.vars)) }
-    ensures clauses { IfOk result (λ found. IfSome found (λ circuit. HasCircuitClauses (query_of vector query.now) circuit.clauses)) }
+    ensures clauses { IfOk result (λ found.
+        IfSome found (λ circuit. HasCircuitClauses (query_of vector query.now) circuit.clauses)) }
     ensures vars { IfOk result (λ found. IfSome found (λ circuit. VarsFit circuit.clauses)) }
 {
     let first = ordered(alloc, query, named)?;

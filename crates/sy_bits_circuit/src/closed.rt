@@ -22,7 +22,8 @@ pub(crate) fn closed_circuit(
     requires fits { QueryFits owned is_bits (query_of vector query.now) }
     requires size { size ≤ query_size (query_of vector query.now) }
     ensures variables { IfOk result (λ found. IfSome found (λ circuit. circuit.variables ≡ query.now.vars)) }
-    ensures clauses { IfOk result (λ found. IfSome found (λ circuit. HasCircuitClauses (query_of vector query.now) circuit.clauses)) }
+    ensures clauses { IfOk result (λ found.
+        IfSome found (λ circuit. HasCircuitClauses (query_of vector query.now) circuit.clauses)) }
     ensures vars { IfOk result (λ found. IfSome found (λ circuit. VarsFit circuit.clauses)) }
     ensures count { IfOk result (λ found. IfSome found (λ circuit. length circuit.clauses.clauses < 2 ^ 31)) }
 {

@@ -35,7 +35,8 @@ fn input_word(alloc: Global, first: u32, width: u32) -> Result<Seq<Bit>, Want>
     requires { first + width < 2 ^ 31 }
     ensures width { IfOk result (λ r. length r ≡ width) }
     ensures inside { IfOk result (λ r. word_bound r ≤ first + width) }
-    ensures value { IfOk result (λ r. (m : List Bool) → word_number (values_of m) r ≡ number_of_bits (take width (drop first m))) }
+    ensures value { IfOk result (λ r. (m : List Bool) →
+        word_number (values_of m) r ≡ number_of_bits (take width (drop first m))) }
 {
     let mut word = Seq::new(alloc);
     for i in 0..width {
@@ -50,7 +51,8 @@ fn input_signal(alloc: Global, sort: Sort, first: u32) -> Result<Signal, Want>
     requires room { first + sort_width sort < 2 ^ 31 }
     ensures sort { IfOk result (λ r. signal_sort r ≡ sort) }
     ensures inside { IfOk result (λ r. signal_bound r ≤ first + sort_width sort) }
-    ensures value { IfOk result (λ r. (m : List Bool) → signal_value (values_of m) r ≡ value_of_bits sort (take (sort_width sort) (drop first m))) }
+    ensures value { IfOk result (λ r. (m : List Bool) →
+        signal_value (values_of m) r ≡ value_of_bits sort (take (sort_width sort) (drop first m))) }
 {
     match sort {
         Sort::Bool => Ok(Signal::Truth(input_bit(first))),
@@ -69,7 +71,8 @@ pub(crate) fn input_signals(alloc: Global, sorts: &[Sort]) -> Result<Inputs, Wan
     ensures count { IfOk result (λ r. r.count ≡ total_width sorts.now) }
     ensures sorts { IfOk result (λ r. signal_sorts r.signals.items ≡ sorts.now) }
     ensures inside { IfOk result (λ r. signals_bound r.signals.items ≤ r.count) }
-    ensures values { IfOk result (λ r. (m : List Bool) → signal_values (values_of m) r.signals.items ≡ assignment sorts.now m) }
+    ensures values { IfOk result (λ r. (m : List Bool) →
+        signal_values (values_of m) r.signals.items ≡ assignment sorts.now m) }
 {
     let mut signals = Vec::new(alloc);
     let mut count = 0;

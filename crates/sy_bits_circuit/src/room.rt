@@ -44,7 +44,8 @@ pub(crate) fn countable_size(alloc: Global, query: &Query<BvTheory>) -> Result<O
     requires { QueryFits owned is_bits (query_of vector query.now) }
     ensures { IfOk result (λ found. MatchOption found
         (2 ^ 31 ≤ 1000 * query_size (query_of vector query.now))
-        (λ size. (size ≡ query_size (query_of vector query.now)) × (1000 * query_size (query_of vector query.now) < 2 ^ 31))) }
+        (λ size. (size ≡ query_size (query_of vector query.now)) ×
+        (1000 * query_size (query_of vector query.now) < 2 ^ 31))) }
 {
     let Some(room) = room_after(query.vars.as_slice(), LARGEST) else {
         return Ok(None);

@@ -20,7 +20,8 @@ use sy_terms::{Term, Terms};
 
 /// The signal of a term that calls no function, where the values in force have these signals: wherever the circuit's
 /// gates are followed, its value is the term's. Values that a `let` binds are encoded once; during the call their
-/// signals stand after the given ones. A word whose sum is that of a word in `words` is this word. `Want` exactly where memory is refused.
+/// signals stand after the given ones. A word whose sum is that of a word in `words` is this word. `Want` exactly where
+/// memory is refused.
 #[cycle(signals)]
 pub fn signal_of(
     words: &mut Words,
@@ -33,15 +34,19 @@ pub fn signal_of(
     requires sorts { AllHaveSignals (signal_sorts signals.old.items) }
     requires inside { signals_bound signals.old.items ≤ variables circuit.old }
     requires stand { AllStand circuit.old words.old }
-    requires room { variables circuit.old + most_gates (signal_sorts signals.old.items) (expr_of vector term.now) < 2 ^ 31 }
+    requires room { variables circuit.old + most_gates (signal_sorts signals.old.items) (expr_of vector term.now) <
+        2 ^ 31 }
     ensures kept { OnOk result (signals.new.items ≡ signals.old.items) }
     ensures stand { OnOk result (AllStand circuit.new words.new) }
     ensures grown { GrownCircuit circuit.old circuit.new }
-    ensures cost { IfOk result (λ r. variables circuit.new + 5 * sort_width (signal_sort r) ≤ variables circuit.old + most_gates (signal_sorts signals.old.items) (expr_of vector term.now)) }
+    ensures cost { IfOk result (λ r. variables circuit.new + 5 * sort_width (signal_sort r) ≤
+        variables circuit.old + most_gates (signal_sorts signals.old.items) (expr_of vector term.now)) }
     ensures inside { IfOk result (λ r. signal_bound r ≤ variables circuit.new) }
-    ensures sort { IfOk result (λ r. sort_in scope (signal_sorts signals.old.items) (expr_of vector term.now) ≡ Some (signal_sort r)) }
+    ensures sort { IfOk result (λ r. sort_in scope (signal_sorts signals.old.items) (expr_of vector term.now) ≡
+        Some (signal_sort r)) }
     ensures has { IfOk result (λ r. has_signals (signal_sort r) ≡ true) }
-    ensures value { IfOk result (λ r. (v : ℕ → Bool) → FollowsPlan v circuit.new → signal_value v r ≡ meaning [] [] (signal_values v signals.old.items) (expr_of vector term.now)) }
+    ensures value { IfOk result (λ r. (v : ℕ → Bool) → FollowsPlan v circuit.new →
+        signal_value v r ≡ meaning [] [] (signal_values v signals.old.items) (expr_of vector term.now)) }
 {
     match term {
         Term::Const(value) => {
@@ -82,15 +87,19 @@ pub fn signals_of(
     requires sorts { AllHaveSignals (signal_sorts signals.old.items) }
     requires inside { signals_bound signals.old.items ≤ variables circuit.old }
     requires stand { AllStand circuit.old words.old }
-    requires room { variables circuit.old + all_most_gates (signal_sorts signals.old.items) (exprs_of vector terms.now.items.items) < 2 ^ 31 }
+    requires room { variables circuit.old + all_most_gates (signal_sorts signals.old.items)
+        (exprs_of vector terms.now.items.items) < 2 ^ 31 }
     ensures kept { OnOk result (signals.new.items ≡ signals.old.items) }
     ensures stand { OnOk result (AllStand circuit.new words.new) }
     ensures grown { GrownCircuit circuit.old circuit.new }
-    ensures cost { IfOk result (λ rs. variables circuit.new + 5 * total_width (signal_sorts rs.items) ≤ variables circuit.old + all_most_gates (signal_sorts signals.old.items) (exprs_of vector terms.now.items.items)) }
+    ensures cost { IfOk result (λ rs. variables circuit.new + 5 * total_width (signal_sorts rs.items) ≤ variables
+        circuit.old + all_most_gates (signal_sorts signals.old.items) (exprs_of vector terms.now.items.items)) }
     ensures inside { IfOk result (λ rs. signals_bound rs.items ≤ variables circuit.new) }
-    ensures sorts { IfOk result (λ rs. sorts_in scope (signal_sorts signals.old.items) (exprs_of vector terms.now.items.items) ≡ Some (signal_sorts rs.items)) }
+    ensures sorts { IfOk result (λ rs. sorts_in scope (signal_sorts signals.old.items)
+        (exprs_of vector terms.now.items.items) ≡ Some (signal_sorts rs.items)) }
     ensures have { IfOk result (λ rs. AllHaveSignals (signal_sorts rs.items)) }
-    ensures value { IfOk result (λ rs. (v : ℕ → Bool) → FollowsPlan v circuit.new → signal_values v rs.items ≡ meanings [] [] (signal_values v signals.old.items) (exprs_of vector terms.now.items.items)) }
+    ensures value { IfOk result (λ rs. (v : ℕ → Bool) → FollowsPlan v circuit.new → signal_values v rs.items ≡
+        meanings [] [] (signal_values v signals.old.items) (exprs_of vector terms.now.items.items)) }
 {
     let mut found = Vec::with_capacity(alloc, terms.len())?;
     for term in terms.as_slice() {

@@ -61,8 +61,10 @@ fn bitwise(
     ensures grown { GrownCircuit circuit.old circuit.new }
     ensures cost { OnOk result (variables circuit.new ≤ variables circuit.old + pair_gates op.now (length s.now)) }
     ensures inside { IfOk result (λ r. word_bound r ≤ variables circuit.new) }
-    ensures sort { IfOk result (λ r. (v : ℕ → Bool) → sorts.Bits (length r) ≡ sort_of_value (op_value op.now (Bits (length s.now) (word_number v s.now) ∷ Bits (length t.now) (word_number v t.now) ∷ []))) }
-    ensures value { IfOk result (λ r. (v : ℕ → Bool) → FollowsPlan v circuit.new → Bits (length r) (word_number v r) ≡ op_value op.now (Bits (length s.now) (word_number v s.now) ∷ Bits (length t.now) (word_number v t.now) ∷ [])) }
+    ensures sort { IfOk result (λ r. (v : ℕ → Bool) → sorts.Bits (length r) ≡ sort_of_value (op_value op.now
+        (Bits (length s.now) (word_number v s.now) ∷ Bits (length t.now) (word_number v t.now) ∷ []))) }
+    ensures value { IfOk result (λ r. (v : ℕ → Bool) → FollowsPlan v circuit.new → Bits (length r) (word_number v r) ≡
+        op_value op.now (Bits (length s.now) (word_number v s.now) ∷ Bits (length t.now) (word_number v t.now) ∷ [])) }
 {
     match op {
         Op::BvAnd => circuit.bitwise(alloc, Joint::And, s, t),
@@ -87,8 +89,10 @@ fn ordered(circuit: &mut Circuit, alloc: Global, op: &Op, s: &[Bit], t: &[Bit]) 
     ensures grown { GrownCircuit circuit.old circuit.new }
     ensures cost { OnOk result (variables circuit.new ≤ variables circuit.old + pair_gates op.now (length s.now)) }
     ensures inside { IfOk result (λ r. bit_bound r ≤ variables circuit.new) }
-    ensures sort { IfOk result (λ r. (v : ℕ → Bool) → sorts.Bool ≡ sort_of_value (op_value op.now (Bits (length s.now) (word_number v s.now) ∷ Bits (length t.now) (word_number v t.now) ∷ []))) }
-    ensures value { IfOk result (λ r. (v : ℕ → Bool) → FollowsPlan v circuit.new → Truth (bit_value v r) ≡ op_value op.now (Bits (length s.now) (word_number v s.now) ∷ Bits (length t.now) (word_number v t.now) ∷ [])) }
+    ensures sort { IfOk result (λ r. (v : ℕ → Bool) → sorts.Bool ≡ sort_of_value (op_value op.now
+        (Bits (length s.now) (word_number v s.now) ∷ Bits (length t.now) (word_number v t.now) ∷ []))) }
+    ensures value { IfOk result (λ r. (v : ℕ → Bool) → FollowsPlan v circuit.new → Truth (bit_value v r) ≡
+        op_value op.now (Bits (length s.now) (word_number v s.now) ∷ Bits (length t.now) (word_number v t.now) ∷ [])) }
 {
     match op {
         Op::BvUlt => circuit.compare(alloc, Order::Less, s, t),
@@ -126,8 +130,10 @@ fn numeric(
     ensures grown { GrownCircuit circuit.old circuit.new }
     ensures cost { OnOk result (variables circuit.new ≤ variables circuit.old + pair_gates op.now (length s.now)) }
     ensures inside { IfOk result (λ r. word_bound r ≤ variables circuit.new) }
-    ensures sort { IfOk result (λ r. (v : ℕ → Bool) → sorts.Bits (length r) ≡ sort_of_value (op_value op.now (Bits (length s.now) (word_number v s.now) ∷ Bits (length t.now) (word_number v t.now) ∷ []))) }
-    ensures value { IfOk result (λ r. (v : ℕ → Bool) → FollowsPlan v circuit.new → Bits (length r) (word_number v r) ≡ op_value op.now (Bits (length s.now) (word_number v s.now) ∷ Bits (length t.now) (word_number v t.now) ∷ [])) }
+    ensures sort { IfOk result (λ r. (v : ℕ → Bool) → sorts.Bits (length r) ≡ sort_of_value (op_value op.now
+        (Bits (length s.now) (word_number v s.now) ∷ Bits (length t.now) (word_number v t.now) ∷ []))) }
+    ensures value { IfOk result (λ r. (v : ℕ → Bool) → FollowsPlan v circuit.new → Bits (length r) (word_number v r) ≡
+        op_value op.now (Bits (length s.now) (word_number v s.now) ∷ Bits (length t.now) (word_number v t.now) ∷ [])) }
 {
     match op {
         Op::BvAdd => circuit.add(alloc, s, t),
@@ -166,8 +172,10 @@ pub(crate) fn same_width(
     ensures grown { GrownCircuit circuit.old circuit.new }
     ensures cost { OnOk result (variables circuit.new ≤ variables circuit.old + pair_gates op.now (length s.now)) }
     ensures inside { IfOk result (λ r. signal_bound r ≤ variables circuit.new) }
-    ensures sort { IfOk result (λ r. (v : ℕ → Bool) → signal_sort r ≡ sort_of_value (op_value op.now (Bits (length s.now) (word_number v s.now) ∷ Bits (length t.now) (word_number v t.now) ∷ []))) }
-    ensures value { IfOk result (λ r. (v : ℕ → Bool) → FollowsPlan v circuit.new → signal_value v r ≡ op_value op.now (Bits (length s.now) (word_number v s.now) ∷ Bits (length t.now) (word_number v t.now) ∷ [])) }
+    ensures sort { IfOk result (λ r. (v : ℕ → Bool) → signal_sort r ≡ sort_of_value (op_value op.now
+        (Bits (length s.now) (word_number v s.now) ∷ Bits (length t.now) (word_number v t.now) ∷ []))) }
+    ensures value { IfOk result (λ r. (v : ℕ → Bool) → FollowsPlan v circuit.new → signal_value v r ≡
+        op_value op.now (Bits (length s.now) (word_number v s.now) ∷ Bits (length t.now) (word_number v t.now) ∷ [])) }
 {
     if is_bitwise(op) {
         let word = bitwise(circuit, alloc, op, s, t)?;

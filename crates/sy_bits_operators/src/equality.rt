@@ -20,7 +20,8 @@ fn same(circuit: &mut Circuit, a: &Signal, b: &Signal) -> Result<Bit, Want>
     ensures grown { GrownCircuit circuit.old circuit.new }
     ensures cost { OnOk result (variables circuit.new ≤ variables circuit.old + 2 * sort_width (signal_sort a.now)) }
     ensures inside { IfOk result (λ r. bit_bound r ≤ variables circuit.new) }
-    ensures value { IfOk result (λ r. (v : ℕ → Bool) → FollowsPlan v circuit.new → bit_value v r ≡ same (signal_value v a.now) (signal_value v b.now)) }
+    ensures value { IfOk result (λ r. (v : ℕ → Bool) →
+        FollowsPlan v circuit.new → bit_value v r ≡ same (signal_value v a.now) (signal_value v b.now)) }
 {
     match (a, b) {
         (Signal::Truth(x), Signal::Truth(y)) => {
@@ -40,11 +41,14 @@ fn agrees(circuit: &mut Circuit, signal: &Signal, others: &[Signal]) -> Result<B
     requires sorts { list_all (same_sort (signal_sort signal.now)) (signal_sorts others.now) ≡ true }
     requires left { signal_bound signal.now ≤ variables circuit.old }
     requires right { signals_bound others.now ≤ variables circuit.old }
-    requires room { variables circuit.old + length others.now * same_gates (sort_width (signal_sort signal.now)) < 2 ^ 31 }
+    requires room { variables circuit.old + length others.now * same_gates (sort_width (signal_sort signal.now)) <
+        2 ^ 31 }
     ensures grown { GrownCircuit circuit.old circuit.new }
-    ensures cost { OnOk result (variables circuit.new ≤ variables circuit.old + length others.now * same_gates (sort_width (signal_sort signal.now))) }
+    ensures cost { OnOk result (variables circuit.new ≤
+        variables circuit.old + length others.now * same_gates (sort_width (signal_sort signal.now))) }
     ensures inside { IfOk result (λ r. bit_bound r ≤ variables circuit.new) }
-    ensures value { IfOk result (λ r. (v : ℕ → Bool) → FollowsPlan v circuit.new → bit_value v r ≡ list_all (same (signal_value v signal.now)) (signal_values v others.now)) }
+    ensures value { IfOk result (λ r. (v : ℕ → Bool) → FollowsPlan v circuit.new →
+        bit_value v r ≡ list_all (same (signal_value v signal.now)) (signal_values v others.now)) }
 {
     let mut all = Bit::Fixed(true);
     for i in 0..others.len() {
@@ -60,11 +64,14 @@ fn differs(circuit: &mut Circuit, signal: &Signal, others: &[Signal]) -> Result<
     requires sorts { list_all (same_sort (signal_sort signal.now)) (signal_sorts others.now) ≡ true }
     requires left { signal_bound signal.now ≤ variables circuit.old }
     requires right { signals_bound others.now ≤ variables circuit.old }
-    requires room { variables circuit.old + length others.now * same_gates (sort_width (signal_sort signal.now)) < 2 ^ 31 }
+    requires room { variables circuit.old + length others.now * same_gates (sort_width (signal_sort signal.now)) <
+        2 ^ 31 }
     ensures grown { GrownCircuit circuit.old circuit.new }
-    ensures cost { OnOk result (variables circuit.new ≤ variables circuit.old + length others.now * same_gates (sort_width (signal_sort signal.now))) }
+    ensures cost { OnOk result (variables circuit.new ≤
+        variables circuit.old + length others.now * same_gates (sort_width (signal_sort signal.now))) }
     ensures inside { IfOk result (λ r. bit_bound r ≤ variables circuit.new) }
-    ensures value { IfOk result (λ r. (v : ℕ → Bool) → FollowsPlan v circuit.new → bit_value v r ≡ to_all (λ x y. not (same x y)) (signal_value v signal.now) (signal_values v others.now)) }
+    ensures value { IfOk result (λ r. (v : ℕ → Bool) → FollowsPlan v circuit.new →
+        bit_value v r ≡ to_all (λ x y. not (same x y)) (signal_value v signal.now) (signal_values v others.now)) }
 {
     let mut all = Bit::Fixed(true);
     for i in 0..others.len() {
@@ -79,11 +86,14 @@ fn differs(circuit: &mut Circuit, signal: &Signal, others: &[Signal]) -> Result<
 pub(crate) fn all_same(circuit: &mut Circuit, signals: &[Signal]) -> Result<Bit, Want>
     requires sorts { are_alike (signal_sorts signals.now) ≡ true }
     requires inside { signals_bound signals.now ≤ variables circuit.old }
-    requires room { variables circuit.old + length signals.now * same_gates (first_width (signal_sorts signals.now)) < 2 ^ 31 }
+    requires room { variables circuit.old + length signals.now * same_gates (first_width (signal_sorts signals.now)) <
+        2 ^ 31 }
     ensures grown { GrownCircuit circuit.old circuit.new }
-    ensures cost { OnOk result (variables circuit.new ≤ variables circuit.old + length signals.now * same_gates (first_width (signal_sorts signals.now))) }
+    ensures cost { OnOk result (variables circuit.new ≤
+        variables circuit.old + length signals.now * same_gates (first_width (signal_sorts signals.now))) }
     ensures inside { IfOk result (λ r. bit_bound r ≤ variables circuit.new) }
-    ensures value { IfOk result (λ r. (v : ℕ → Bool) → FollowsPlan v circuit.new → bit_value v r ≡ neighbours same (signal_values v signals.now)) }
+    ensures value { IfOk result (λ r. (v : ℕ → Bool) →
+        FollowsPlan v circuit.new → bit_value v r ≡ neighbours same (signal_values v signals.now)) }
 {
     match signals.split_first() {
         Some((first, rest)) => {
@@ -98,11 +108,14 @@ pub(crate) fn all_same(circuit: &mut Circuit, signals: &[Signal]) -> Result<Bit,
 pub(crate) fn all_distinct(circuit: &mut Circuit, signals: &[Signal]) -> Result<Bit, Want>
     requires sorts { are_alike (signal_sorts signals.now) ≡ true }
     requires inside { signals_bound signals.now ≤ variables circuit.old }
-    requires room { variables circuit.old + length signals.now * (length signals.now * same_gates (first_width (signal_sorts signals.now))) < 2 ^ 31 }
+    requires room { variables circuit.old + length
+        signals.now * (length signals.now * same_gates (first_width (signal_sorts signals.now))) < 2 ^ 31 }
     ensures grown { GrownCircuit circuit.old circuit.new }
-    ensures cost { OnOk result (variables circuit.new ≤ variables circuit.old + length signals.now * (length signals.now * same_gates (first_width (signal_sorts signals.now)))) }
+    ensures cost { OnOk result (variables circuit.new ≤ variables
+        circuit.old + length signals.now * (length signals.now * same_gates (first_width (signal_sorts signals.now)))) }
     ensures inside { IfOk result (λ r. bit_bound r ≤ variables circuit.new) }
-    ensures value { IfOk result (λ r. (v : ℕ → Bool) → FollowsPlan v circuit.new → bit_value v r ≡ all_pairs (λ x y. not (same x y)) (signal_values v signals.now)) }
+    ensures value { IfOk result (λ r. (v : ℕ → Bool) →
+        FollowsPlan v circuit.new → bit_value v r ≡ all_pairs (λ x y. not (same x y)) (signal_values v signals.now)) }
 {
     let mut all = Bit::Fixed(true);
     for i in 0..signals.len() {

@@ -34,7 +34,8 @@ fn choice(
     ensures cost { OnOk result (variables circuit.new ≤ variables circuit.old + sort_width (signal_sort a.now)) }
     ensures inside { IfOk result (λ r. signal_bound r ≤ variables circuit.new) }
     ensures sort { IfOk result (λ r. signal_sort r ≡ signal_sort a.now) }
-    ensures value { IfOk result (λ r. (v : ℕ → Bool) → FollowsPlan v circuit.new → signal_value v r ≡ cond (bit_value v test) (signal_value v a.now) (signal_value v b.now)) }
+    ensures value { IfOk result (λ r. (v : ℕ → Bool) → FollowsPlan v circuit.new →
+        signal_value v r ≡ cond (bit_value v test) (signal_value v a.now) (signal_value v b.now)) }
 {
     match (a, b) {
         (Signal::Truth(x), Signal::Truth(y)) => {
@@ -57,10 +58,13 @@ fn core(circuit: &mut Circuit, alloc: Global, op: &Op, args: &[Signal]) -> Resul
     requires inside { signals_bound args.now ≤ variables circuit.old }
     requires room { variables circuit.old + core_gates op.now (length args.now) (signal_sorts args.now) < 2 ^ 31 }
     ensures grown { GrownCircuit circuit.old circuit.new }
-    ensures cost { OnOk result (variables circuit.new ≤ variables circuit.old + core_gates op.now (length args.now) (signal_sorts args.now)) }
+    ensures cost { OnOk result (variables circuit.new ≤
+        variables circuit.old + core_gates op.now (length args.now) (signal_sorts args.now)) }
     ensures inside { IfOk result (λ r. signal_bound r ≤ variables circuit.new) }
-    ensures sort { IfOk result (λ r. (v : ℕ → Bool) → signal_sort r ≡ sort_of_value (op_value op.now (signal_values v args.now))) }
-    ensures value { IfOk result (λ r. (v : ℕ → Bool) → FollowsPlan v circuit.new → signal_value v r ≡ op_value op.now (signal_values v args.now)) }
+    ensures sort { IfOk result (λ r. (v : ℕ → Bool) →
+        signal_sort r ≡ sort_of_value (op_value op.now (signal_values v args.now))) }
+    ensures value { IfOk result (λ r. (v : ℕ → Bool) →
+        FollowsPlan v circuit.new → signal_value v r ≡ op_value op.now (signal_values v args.now)) }
 {
     match op {
         Op::Not => Ok(Signal::Truth(all_true(circuit, alloc, args)?.negated())),
@@ -82,10 +86,13 @@ fn chosen(circuit: &mut Circuit, alloc: Global, args: &[Signal]) -> Result<Signa
     requires inside { signals_bound args.now ≤ variables circuit.old }
     requires room { variables circuit.old + core_gates Op.Ite (length args.now) (signal_sorts args.now) < 2 ^ 31 }
     ensures grown { GrownCircuit circuit.old circuit.new }
-    ensures cost { OnOk result (variables circuit.new ≤ variables circuit.old + core_gates Op.Ite (length args.now) (signal_sorts args.now)) }
+    ensures cost { OnOk result (variables circuit.new ≤
+        variables circuit.old + core_gates Op.Ite (length args.now) (signal_sorts args.now)) }
     ensures inside { IfOk result (λ r. signal_bound r ≤ variables circuit.new) }
-    ensures sort { IfOk result (λ r. (v : ℕ → Bool) → signal_sort r ≡ sort_of_value (op_value Op.Ite (signal_values v args.now))) }
-    ensures value { IfOk result (λ r. (v : ℕ → Bool) → FollowsPlan v circuit.new → signal_value v r ≡ op_value Op.Ite (signal_values v args.now)) }
+    ensures sort { IfOk result (λ r. (v : ℕ → Bool) →
+        signal_sort r ≡ sort_of_value (op_value Op.Ite (signal_values v args.now))) }
+    ensures value { IfOk result (λ r. (v : ℕ → Bool) →
+        FollowsPlan v circuit.new → signal_value v r ≡ op_value Op.Ite (signal_values v args.now)) }
 {
     let test = args[0].bit();
     let signal = choice(circuit, alloc, test, &args[1], &args[2])?;
@@ -109,8 +116,10 @@ pub fn applied(
     ensures grown { GrownCircuit circuit.old circuit.new }
     ensures cost { OnOk result (variables circuit.new ≤ variables circuit.old + gates op.now (signal_sorts args.now)) }
     ensures inside { IfOk result (λ r. signal_bound r ≤ variables circuit.new) }
-    ensures sort { IfOk result (λ r. (v : ℕ → Bool) → signal_sort r ≡ sort_of_value (op_value op.now (signal_values v args.now))) }
-    ensures value { IfOk result (λ r. (v : ℕ → Bool) → FollowsPlan v circuit.new → signal_value v r ≡ op_value op.now (signal_values v args.now)) }
+    ensures sort { IfOk result (λ r. (v : ℕ → Bool) →
+        signal_sort r ≡ sort_of_value (op_value op.now (signal_values v args.now))) }
+    ensures value { IfOk result (λ r. (v : ℕ → Bool) →
+        FollowsPlan v circuit.new → signal_value v r ≡ op_value op.now (signal_values v args.now)) }
 {
     if in_core(op) {
         let signal = core(circuit, alloc, op, args)?;

@@ -17,7 +17,8 @@ use sy_seq::{Seq, Want};
 fn bits(alloc: Global, signals: &[Signal]) -> Result<Seq<Bit>, Want>
     ensures length { IfOk result (λ r. length r ≡ length signals.now) }
     ensures bound { IfOk result (λ r. word_bound r ≤ signals_bound signals.now) }
-    ensures value { IfOk result (λ r. (v : ℕ → Bool) → map (λ b. bit_value v b) r ≡ map truth (signal_values v signals.now)) }
+    ensures value { IfOk result (λ r. (v : ℕ → Bool) →
+        map (λ b. bit_value v b) r ≡ map truth (signal_values v signals.now)) }
 {
     let mut all = Seq::new(alloc);
     for i in 0..signals.len() {
@@ -38,7 +39,8 @@ pub(crate) fn all_true(
     ensures grown { GrownCircuit circuit.old circuit.new }
     ensures cost { OnOk result (variables circuit.new ≤ variables circuit.old + length signals.now) }
     ensures inside { IfOk result (λ r. bit_bound r ≤ variables circuit.new) }
-    ensures value { IfOk result (λ r. (v : ℕ → Bool) → FollowsPlan v circuit.new → bit_value v r ≡ list_all truth (signal_values v signals.now)) }
+    ensures value { IfOk result (λ r. (v : ℕ → Bool) →
+        FollowsPlan v circuit.new → bit_value v r ≡ list_all truth (signal_values v signals.now)) }
 {
     let bits = bits(alloc, signals)?;
     let bit = circuit.join_all(Joint::And, bits.as_slice())?;
@@ -56,7 +58,8 @@ pub(crate) fn any_true(
     ensures grown { GrownCircuit circuit.old circuit.new }
     ensures cost { OnOk result (variables circuit.new ≤ variables circuit.old + length signals.now) }
     ensures inside { IfOk result (λ r. bit_bound r ≤ variables circuit.new) }
-    ensures value { IfOk result (λ r. (v : ℕ → Bool) → FollowsPlan v circuit.new → bit_value v r ≡ list_any truth (signal_values v signals.now)) }
+    ensures value { IfOk result (λ r. (v : ℕ → Bool) →
+        FollowsPlan v circuit.new → bit_value v r ≡ list_any truth (signal_values v signals.now)) }
 {
     let bits = bits(alloc, signals)?;
     let bit = circuit.join_all(Joint::Or, bits.as_slice())?;
@@ -75,7 +78,8 @@ pub(crate) fn exclusive(
     ensures grown { GrownCircuit circuit.old circuit.new }
     ensures cost { OnOk result (variables circuit.new ≤ variables circuit.old + length signals.now) }
     ensures inside { IfOk result (λ r. bit_bound r ≤ variables circuit.new) }
-    ensures value { IfOk result (λ r. (v : ℕ → Bool) → FollowsPlan v circuit.new → Truth (bit_value v r) ≡ op_value ops.Xor (signal_values v signals.now)) }
+    ensures value { IfOk result (λ r. (v : ℕ → Bool) →
+        FollowsPlan v circuit.new → Truth (bit_value v r) ≡ op_value ops.Xor (signal_values v signals.now)) }
 {
     let bits = bits(alloc, signals)?;
     let bit = circuit.join_all(Joint::Xor, bits.as_slice())?;
@@ -89,7 +93,8 @@ pub(crate) fn implied(circuit: &mut Circuit, alloc: Global, signals: &[Signal]) 
     ensures grown { GrownCircuit circuit.old circuit.new }
     ensures cost { OnOk result (variables circuit.new ≤ variables circuit.old + length signals.now) }
     ensures inside { IfOk result (λ r. bit_bound r ≤ variables circuit.new) }
-    ensures value { IfOk result (λ r. (v : ℕ → Bool) → FollowsPlan v circuit.new → bit_value v r ≡ implied (signal_values v signals.now)) }
+    ensures value { IfOk result (λ r. (v : ℕ → Bool) →
+        FollowsPlan v circuit.new → bit_value v r ≡ implied (signal_values v signals.now)) }
 {
     match signals.split_last() {
         Some((conclusion, premises)) => {

@@ -30,8 +30,10 @@ fn single(circuit: &mut Circuit, alloc: Global, op: &Op, s: &[Bit]) -> Result<Se
     ensures grown { GrownCircuit circuit.old circuit.new }
     ensures cost { OnOk result (variables circuit.new ≤ variables circuit.old + single_gates op.now (length s.now)) }
     ensures inside { IfOk result (λ r. word_bound r ≤ variables circuit.new) }
-    ensures sort { IfOk result (λ r. (v : ℕ → Bool) → sorts.Bits (length r) ≡ sort_of_value (op_value op.now (Bits (length s.now) (word_number v s.now) ∷ []))) }
-    ensures value { IfOk result (λ r. (v : ℕ → Bool) → FollowsPlan v circuit.new → Bits (length r) (word_number v r) ≡ op_value op.now (Bits (length s.now) (word_number v s.now) ∷ [])) }
+    ensures sort { IfOk result (λ r. (v : ℕ → Bool) →
+        sorts.Bits (length r) ≡ sort_of_value (op_value op.now (Bits (length s.now) (word_number v s.now) ∷ []))) }
+    ensures value { IfOk result (λ r. (v : ℕ → Bool) → FollowsPlan v circuit.new →
+        Bits (length r) (word_number v r) ≡ op_value op.now (Bits (length s.now) (word_number v s.now) ∷ [])) }
 {
     match *op {
         Op::BvNot => Ok(inverted(alloc, s)?),
@@ -59,8 +61,10 @@ fn pair(circuit: &mut Circuit, alloc: Global, op: &Op, s: &[Bit], t: &[Bit]) -> 
     ensures grown { GrownCircuit circuit.old circuit.new }
     ensures cost { OnOk result (variables circuit.new ≤ variables circuit.old + pair_gates op.now (length s.now)) }
     ensures inside { IfOk result (λ r. signal_bound r ≤ variables circuit.new) }
-    ensures sort { IfOk result (λ r. (v : ℕ → Bool) → signal_sort r ≡ sort_of_value (op_value op.now (Bits (length s.now) (word_number v s.now) ∷ Bits (length t.now) (word_number v t.now) ∷ []))) }
-    ensures value { IfOk result (λ r. (v : ℕ → Bool) → FollowsPlan v circuit.new → signal_value v r ≡ op_value op.now (Bits (length s.now) (word_number v s.now) ∷ Bits (length t.now) (word_number v t.now) ∷ [])) }
+    ensures sort { IfOk result (λ r. (v : ℕ → Bool) → signal_sort r ≡ sort_of_value (op_value op.now
+        (Bits (length s.now) (word_number v s.now) ∷ Bits (length t.now) (word_number v t.now) ∷ []))) }
+    ensures value { IfOk result (λ r. (v : ℕ → Bool) → FollowsPlan v circuit.new → signal_value v r ≡
+        op_value op.now (Bits (length s.now) (word_number v s.now) ∷ Bits (length t.now) (word_number v t.now) ∷ [])) }
 {
     match op {
         Op::Concat => {
@@ -90,10 +94,12 @@ fn folded(
     requires right { signals_bound rest.now ≤ variables circuit.old }
     requires room { variables circuit.old + length rest.now * pair_gates op.now (length first.now) < 2 ^ 31 }
     ensures grown { GrownCircuit circuit.old circuit.new }
-    ensures cost { OnOk result (variables circuit.new ≤ variables circuit.old + length rest.now * pair_gates op.now (length first.now)) }
+    ensures cost { OnOk result (variables circuit.new ≤
+        variables circuit.old + length rest.now * pair_gates op.now (length first.now)) }
     ensures inside { IfOk result (λ r. signal_bound r ≤ variables circuit.new) }
     ensures sort { IfOk result (λ r. signal_sort r ≡ sorts.Bits (length first.now)) }
-    ensures value { IfOk result (λ r. (v : ℕ → Bool) → FollowsPlan v circuit.new → signal_value v r ≡ op_value op.now (Bits (length first.now) (word_number v first.now) ∷ signal_values v rest.now)) }
+    ensures value { IfOk result (λ r. (v : ℕ → Bool) → FollowsPlan v circuit.new → signal_value v r ≡
+        op_value op.now (Bits (length first.now) (word_number v first.now) ∷ signal_values v rest.now)) }
 {
     let mut total = Signal::Vector(joined(alloc, first, &[])?);
     for i in 0..rest.len() {
@@ -116,10 +122,13 @@ pub(crate) fn vector(
     requires inside { signals_bound args.now ≤ variables circuit.old }
     requires room { variables circuit.old + vector_gates op.now (signal_sorts args.now) < 2 ^ 31 }
     ensures grown { GrownCircuit circuit.old circuit.new }
-    ensures cost { OnOk result (variables circuit.new ≤ variables circuit.old + vector_gates op.now (signal_sorts args.now)) }
+    ensures cost { OnOk result (variables circuit.new ≤
+        variables circuit.old + vector_gates op.now (signal_sorts args.now)) }
     ensures inside { IfOk result (λ r. signal_bound r ≤ variables circuit.new) }
-    ensures sort { IfOk result (λ r. (v : ℕ → Bool) → signal_sort r ≡ sort_of_value (op_value op.now (signal_values v args.now))) }
-    ensures value { IfOk result (λ r. (v : ℕ → Bool) → FollowsPlan v circuit.new → signal_value v r ≡ op_value op.now (signal_values v args.now)) }
+    ensures sort { IfOk result (λ r. (v : ℕ → Bool) →
+        signal_sort r ≡ sort_of_value (op_value op.now (signal_values v args.now))) }
+    ensures value { IfOk result (λ r. (v : ℕ → Bool) →
+        FollowsPlan v circuit.new → signal_value v r ≡ op_value op.now (signal_values v args.now)) }
 {
     match args {
         [] => unreachable!(),

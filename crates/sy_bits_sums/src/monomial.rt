@@ -15,7 +15,8 @@ pub struct Monomial {
 
 /// Puts another value into a product.
 fn add_factor(factors: &mut Vec<u32>, place: u32) -> Result<(), Want>
-    ensures { OnOk result ((values : ℕ → ℕ) → product values factors.new.items ≡ values place * product values factors.old.items) }
+    ensures { OnOk result ((values : ℕ → ℕ) →
+        product values factors.new.items ≡ values place * product values factors.old.items) }
 {
     let at = factors.as_slice().partition_point(|other| *other < place);
     factors.insert(at, place)?;
@@ -57,7 +58,8 @@ impl Monomial {
         other: &Monomial,
     ) -> Result<Monomial, Want>
         requires { width ≤ 64 }
-        ensures value { IfOk result (λ r. (values : ℕ → ℕ) → Agree width (monomial_value values r) (monomial_value values self.now * monomial_value values other.now)) }
+        ensures value { IfOk result (λ r. (values : ℕ → ℕ) →
+            Agree width (monomial_value values r) (monomial_value values self.now * monomial_value values other.now)) }
         ensures reduced { IfOk result (λ r. r.coefficient < 2 ^ width) }
     {
         let mut factors = Vec::from_slice(alloc, self.factors.as_slice())?;

@@ -15,8 +15,9 @@ pub struct Sides {
     pub right: Sum,
 }
 
-/// By what a monomial is multiplied on the left and on the right of a difference: by 1 and 0 where its coefficient is in
-/// the lower half of the numbers of the width, and by 0 and minus 1 where it is in the upper one, or there are no factors.
+/// By what a monomial is multiplied on the left and on the right of a difference: by 1 and 0 where its coefficient is
+/// in the lower half of the numbers of the width, and by 0 and minus 1 where it is in the upper one, or there are no
+/// factors.
 fn signs(width: u32, monomial: &Monomial) -> (u64, u64)
     requires { width ≤ 64 }
     ensures { Agree width result.0 (1 + result.1) }
@@ -34,7 +35,8 @@ impl Sum {
     fn add_product(&mut self, alloc: Global, monomial: &Monomial, number: u64) -> Result<(), Want>
         requires { self.old.width ≤ 64 }
         ensures width { self.new.width ≡ self.old.width }
-        ensures value { OnOk result ((values : ℕ → ℕ) → Agree self.old.width (total values self.new.monomials.items) (total values self.old.monomials.items + monomial_value values monomial.now * number)) }
+        ensures value { OnOk result ((values : ℕ → ℕ) → Agree self.old.width (total values self.new.monomials.items)
+            (total values self.old.monomials.items + monomial_value values monomial.now * number)) }
     {
         let by = Monomial::number(alloc, number);
         let product = monomial.times(alloc, self.width, &by)?;
@@ -48,7 +50,8 @@ impl Sum {
         requires { width ≤ 64 }
         ensures left { IfOk result (λ r. r.left.width ≡ width) }
         ensures right { IfOk result (λ r. r.right.width ≡ width) }
-        ensures value { IfOk result (λ r. (values : ℕ → ℕ) → Agree width (total values r.left.monomials.items) (total values self.now.monomials.items + total values r.right.monomials.items)) }
+        ensures value { IfOk result (λ r. (values : ℕ → ℕ) → Agree width (total values r.left.monomials.items)
+            (total values self.now.monomials.items + total values r.right.monomials.items)) }
     {
         let mut left = Sum::new(alloc, width);
         let mut right = Sum::new(alloc, width);

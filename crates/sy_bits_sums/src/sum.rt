@@ -31,7 +31,8 @@ impl Sum {
     /// Whether the monomial at the place has these factors.
     fn has_at(&self, place: usize, factors: &[u32]) -> bool
         ensures within { IsTrue result → place < length self.now.monomials.items }
-        ensures same { IsTrue result → (d : Monomial) → (get_or self.now.monomials.items place d).factors.items ≡ factors.now }
+        ensures same { IsTrue result → (d : Monomial) →
+            (get_or self.now.monomials.items place d).factors.items ≡ factors.now }
     {
         if place >= self.monomials.len() {
             return false;
@@ -44,7 +45,8 @@ impl Sum {
     pub fn add(&mut self, monomial: Monomial) -> Result<(), Want>
         requires { self.old.width ≤ 64 }
         ensures width { self.new.width ≡ self.old.width }
-        ensures value { OnOk result ((values : ℕ → ℕ) → Agree self.old.width (total values self.new.monomials.items) (total values self.old.monomials.items + monomial_value values monomial)) }
+        ensures value { OnOk result ((values : ℕ → ℕ) → Agree self.old.width (total values self.new.monomials.items)
+            (total values self.old.monomials.items + monomial_value values monomial)) }
     {
         let Monomial {
             mut coefficient,
@@ -71,7 +73,9 @@ impl Sum {
     pub fn add_multiple(&mut self, alloc: Global, other: &Sum, by: &Monomial) -> Result<(), Want>
         requires { self.old.width ≤ 64 }
         ensures width { self.new.width ≡ self.old.width }
-        ensures value { OnOk result ((values : ℕ → ℕ) → Agree self.old.width (total values self.new.monomials.items) (total values self.old.monomials.items + total values other.now.monomials.items * monomial_value values by.now)) }
+        ensures value { OnOk result ((values : ℕ → ℕ) →
+            Agree self.old.width (total values self.new.monomials.items) (total values
+            self.old.monomials.items + total values other.now.monomials.items * monomial_value values by.now)) }
     {
         for monomial in other.monomials.as_slice() {
             let multiple = monomial.times(alloc, self.width, by)?;
@@ -95,7 +99,8 @@ impl Sum {
     pub fn value(alloc: Global, width: u32, place: u32) -> Result<Sum, Want>
         requires { width ≤ 64 }
         ensures width { IfOk result (λ r. r.width ≡ width) }
-        ensures value { IfOk result (λ r. (values : ℕ → ℕ) → Agree width (total values r.monomials.items) (values place)) }
+        ensures value { IfOk result (λ r. (values : ℕ → ℕ) →
+            Agree width (total values r.monomials.items) (values place)) }
     {
         let mut monomial = Monomial::number(alloc, 1);
         monomial.factors.push(place)?;
@@ -108,7 +113,8 @@ impl Sum {
     pub fn plus(&self, alloc: Global, width: u32, other: &Sum, multiple: u64) -> Result<Sum, Want>
         requires { width ≤ 64 }
         ensures width { IfOk result (λ r. r.width ≡ width) }
-        ensures value { IfOk result (λ r. (values : ℕ → ℕ) → Agree width (total values r.monomials.items) (total values self.now.monomials.items + total values other.now.monomials.items * multiple)) }
+        ensures value { IfOk result (λ r. (values : ℕ → ℕ) → Agree width (total values r.monomials.items)
+            (total values self.now.monomials.items + total values other.now.monomials.items * multiple)) }
     {
         let mut sum = Sum::new(alloc, width);
         let one = Monomial::number(alloc, 1);
@@ -122,7 +128,8 @@ impl Sum {
     pub fn minus(&self, alloc: Global, width: u32, other: &Sum) -> Result<Sum, Want>
         requires { width ≤ 64 }
         ensures width { IfOk result (λ r. r.width ≡ width) }
-        ensures value { IfOk result (λ r. (values : ℕ → ℕ) → Agree width (total values r.monomials.items + total values other.now.monomials.items) (total values self.now.monomials.items)) }
+        ensures value { IfOk result (λ r. (values : ℕ → ℕ) → Agree width (total values
+            r.monomials.items + total values other.now.monomials.items) (total values self.now.monomials.items)) }
     {
         let difference = self.plus(alloc, width, other, greatest(width))?;
         Ok(difference)
@@ -132,7 +139,8 @@ impl Sum {
     pub fn times(&self, alloc: Global, width: u32, other: &Sum) -> Result<Sum, Want>
         requires { width ≤ 64 }
         ensures width { IfOk result (λ r. r.width ≡ width) }
-        ensures value { IfOk result (λ r. (values : ℕ → ℕ) → Agree width (total values r.monomials.items) (total values self.now.monomials.items * total values other.now.monomials.items)) }
+        ensures value { IfOk result (λ r. (values : ℕ → ℕ) → Agree width (total values r.monomials.items)
+            (total values self.now.monomials.items * total values other.now.monomials.items)) }
     {
         let mut sum = Sum::new(alloc, width);
         for monomial in other.monomials.as_slice() {
@@ -158,7 +166,8 @@ impl Sum {
     /// Whether the two have the same width and the same monomials.
     pub fn equals(&self, other: &Sum) -> bool
         ensures width { IsTrue result → self.now.width ≡ other.now.width }
-        ensures value { IsTrue result → (values : ℕ → ℕ) → total values self.now.monomials.items ≡ total values other.now.monomials.items }
+        ensures value { IsTrue result → (values : ℕ → ℕ) →
+            total values self.now.monomials.items ≡ total values other.now.monomials.items }
     {
         if self.width != other.width || self.monomials.len() != other.monomials.len() {
             return false;

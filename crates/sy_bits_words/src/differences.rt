@@ -39,7 +39,8 @@ fn above(
 ) -> Result<Option<(Seq<Bit>, Seq<Bit>)>, Want>
     requires place { place < length words.now }
     requires width { sum.now.width ≤ 64 }
-    ensures { IfOk result (λ found. IfSome found (λ pair. (circuit : Plan) → AllStand circuit words.now → IsDifference circuit words.now pair.0 pair.1 sum.now)) }
+    ensures { IfOk result (λ found. IfSome found (λ pair. (circuit : Plan) →
+        AllStand circuit words.now → IsDifference circuit words.now pair.0 pair.1 sum.now)) }
 {
     let known = words.at(place);
     if known.sum.width != sum.width || !has_only_monomial(&known.sum, sum) {
@@ -60,7 +61,8 @@ fn difference_of(
     sum: &Sum,
 ) -> Result<Option<(Seq<Bit>, Seq<Bit>)>, Want>
     requires { sum.now.width ≤ 64 }
-    ensures { IfOk result (λ found. IfSome found (λ pair. (circuit : Plan) → AllStand circuit words.now → IsDifference circuit words.now pair.0 pair.1 sum.now)) }
+    ensures { IfOk result (λ found. IfSome found (λ pair. (circuit : Plan) →
+        AllStand circuit words.now → IsDifference circuit words.now pair.0 pair.1 sum.now)) }
 {
     for place in words.len().saturating_sub(MOST_TRIED)..words.len() {
         if let Some(found) = above(words, alloc, place, sum)? {
@@ -78,8 +80,10 @@ pub(crate) fn product_difference(
     args: &[Signal],
     sum: &Sum,
 ) -> Result<Option<(Seq<Bit>, Seq<Bit>)>, Want>
-    ensures difference { IfOk result (λ found. IfSome found (λ pair. (circuit : Plan) → AllStand circuit words.now → IsDifference circuit words.now pair.0 pair.1 sum.now)) }
-    ensures cost { IfOk result (λ found. IfSome found (λ pair. 3 * sum.now.width ≤ gates op.now (signal_sorts args.now))) }
+    ensures difference { IfOk result (λ found. IfSome found (λ pair. (circuit : Plan) →
+        AllStand circuit words.now → IsDifference circuit words.now pair.0 pair.1 sum.now)) }
+    ensures cost { IfOk result (λ found.
+        IfSome found (λ pair. 3 * sum.now.width ≤ gates op.now (signal_sorts args.now))) }
 {
     match (op, args) {
         (Op::BvMul, [Signal::Vector(s), Signal::Vector(_)]) => {

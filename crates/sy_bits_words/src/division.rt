@@ -1,5 +1,5 @@
-// Quotients and remainders. A remainder is the dividend less the product of the quotient and the divisor, also where the
-// divisor is 0, so it has a sum.
+// Quotients and remainders. A remainder is the dividend less the product of the quotient and the divisor, also where
+// the divisor is 0, so it has a sum.
 ghost use Rattle.std.specs.Prelude.{◌≡◌, ◌≤◌, ◌<◌, ◌+◌, ◌*◌, ◌^◌, length, OnOk, IfOk};
 ghost use Rattle.sy_gates.specs.Circuits.{Plan, variables, GrownCircuit, word_bound};
 ghost use Rattle.sy_bits_words.specs.Standing.{AllStand, IsDivided};
@@ -22,7 +22,8 @@ fn note_remainder(
     requires most { length a.now ≤ 64 }
     requires divisor { length b.now ≡ length a.now }
     requires quotient { length division.now.quotient ≡ length a.now }
-    ensures { OnOk result ((circuit : Plan) → IsDivided circuit a.now b.now division.now → AllStand circuit words.old → AllStand circuit words.new) }
+    ensures { OnOk result ((circuit : Plan) → IsDivided circuit a.now b.now division.now →
+        AllStand circuit words.old → AllStand circuit words.new) }
 {
     let quotient = division.quotient.as_slice();
     let Some(product) = pair_sum(words, alloc, &Op::BvMul, quotient, b)? else {
@@ -56,7 +57,8 @@ pub(crate) fn divided(
     requires stand { AllStand circuit.old words.old }
     ensures stand { OnOk result (AllStand circuit.new words.new) }
     ensures grown { GrownCircuit circuit.old circuit.new }
-    ensures cost { OnOk result (variables circuit.new ≤ variables circuit.old + 4 * (length a.now * (length a.now + 1))) }
+    ensures cost { OnOk result (variables circuit.new ≤
+        variables circuit.old + 4 * (length a.now * (length a.now + 1))) }
     ensures divided { IfOk result (IsDivided circuit.new a.now b.now) }
 {
     let division = circuit.divide(alloc, a, b)?;

@@ -33,8 +33,10 @@ fn word_sides(
 ) -> Result<Option<Vec<Signal>>, Want>
     requires width { length s.now ≤ 64 }
     requires same { length t.now ≡ length s.now }
-    ensures stand { OnOk result ((circuit : Plan) → word_bound s.now ≤ variables circuit → word_bound t.now ≤ variables circuit → AllStand circuit words.old → AllStand circuit words.new) }
-    ensures equal { IfOk result (λ found. IfSome found (λ r. (circuit : Plan) → AllStand circuit words.new → AreEqualWhere circuit (signals.Vector s.now ∷ signals.Vector t.now ∷ []) r.items)) }
+    ensures stand { OnOk result ((circuit : Plan) → word_bound s.now ≤ variables circuit →
+        word_bound t.now ≤ variables circuit → AllStand circuit words.old → AllStand circuit words.new) }
+    ensures equal { IfOk result (λ found. IfSome found (λ r. (circuit : Plan) → AllStand circuit words.new →
+        AreEqualWhere circuit (signals.Vector s.now ∷ signals.Vector t.now ∷ []) r.items)) }
 {
     let Some(first) = words.enter(alloc, s)? else {
         return Ok(None);
@@ -67,8 +69,10 @@ fn signal_sides(
     s: &Signal,
     t: &Signal,
 ) -> Result<Option<Vec<Signal>>, Want>
-    ensures stand { OnOk result ((circuit : Plan) → signal_bound s.now ≤ variables circuit → signal_bound t.now ≤ variables circuit → AllStand circuit words.old → AllStand circuit words.new) }
-    ensures equal { IfOk result (λ found. IfSome found (λ r. (circuit : Plan) → AllStand circuit words.new → AreEqualWhere circuit (s.now ∷ t.now ∷ []) r.items)) }
+    ensures stand { OnOk result ((circuit : Plan) → signal_bound s.now ≤ variables circuit →
+        signal_bound t.now ≤ variables circuit → AllStand circuit words.old → AllStand circuit words.new) }
+    ensures equal { IfOk result (λ found. IfSome found (λ r. (circuit : Plan) →
+        AllStand circuit words.new → AreEqualWhere circuit (s.now ∷ t.now ∷ []) r.items)) }
 {
     match (s, t) {
         (Signal::Vector(s), Signal::Vector(t)) => {
@@ -87,8 +91,8 @@ fn is_equality(op: &Op) -> bool {
     matches!(op, Op::Equal | Op::Distinct)
 }
 
-/// Arguments at which the operator has the value that it has at two signals, by the sides of their difference; `None` where
-/// it doesn't ask for equality, or a side is no known word.
+/// Arguments at which the operator has the value that it has at two signals, by the sides of their difference; `None`
+/// where it doesn't ask for equality, or a side is no known word.
 fn pair_sides(
     words: &mut Words,
     alloc: Global,
@@ -96,8 +100,10 @@ fn pair_sides(
     s: &Signal,
     t: &Signal,
 ) -> Result<Option<Vec<Signal>>, Want>
-    ensures stand { OnOk result ((circuit : Plan) → signal_bound s.now ≤ variables circuit → signal_bound t.now ≤ variables circuit → AllStand circuit words.old → AllStand circuit words.new) }
-    ensures value { IfOk result (λ found. IfSome found (λ r. (circuit : Plan) → AllStand circuit words.new → HaveItsValue circuit op.now (s.now ∷ t.now ∷ []) r.items)) }
+    ensures stand { OnOk result ((circuit : Plan) → signal_bound s.now ≤ variables circuit →
+        signal_bound t.now ≤ variables circuit → AllStand circuit words.old → AllStand circuit words.new) }
+    ensures value { IfOk result (λ found. IfSome found (λ r. (circuit : Plan) →
+        AllStand circuit words.new → HaveItsValue circuit op.now (s.now ∷ t.now ∷ []) r.items)) }
 {
     let Some(sides) = signal_sides(words, alloc, s, t)? else {
         return Ok(None);
@@ -117,8 +123,10 @@ pub(crate) fn sides_of(
     op: &Op,
     args: &[Signal],
 ) -> Result<Option<Vec<Signal>>, Want>
-    ensures stand { OnOk result ((circuit : Plan) → signals_bound args.now ≤ variables circuit → AllStand circuit words.old → AllStand circuit words.new) }
-    ensures value { IfOk result (λ found. IfSome found (λ r. (circuit : Plan) → AllStand circuit words.new → HaveItsValue circuit op.now args.now r.items)) }
+    ensures stand { OnOk result ((circuit : Plan) → signals_bound args.now ≤ variables circuit →
+        AllStand circuit words.old → AllStand circuit words.new) }
+    ensures value { IfOk result (λ found. IfSome found (λ r. (circuit : Plan) →
+        AllStand circuit words.new → HaveItsValue circuit op.now args.now r.items)) }
 {
     if !is_equality(op) {
         return Ok(None);

@@ -81,7 +81,8 @@ pub(crate) fn is_turned(word: &[Bit]) -> bool {
 pub(crate) fn turned_word(alloc: Global, word: &[Bit], turned: bool) -> Result<Seq<Bit>, Want>
     ensures width { IfOk result (λ r. length r ≡ length word.now) }
     ensures bound { IfOk result (λ r. word_bound r ≤ word_bound word.now) }
-    ensures value { IfOk result (λ r. (v : ℕ → Bool) → word_number v r ≡ turned_number (length word.now) turned (word_number v word.now)) }
+    ensures value { IfOk result (λ r. (v : ℕ → Bool) →
+        word_number v r ≡ turned_number (length word.now) turned (word_number v word.now)) }
 {
     if turned {
         let word = inverted(alloc, word)?;
@@ -116,7 +117,8 @@ pub(crate) fn fixed_number(word: &[Bit]) -> Option<u64>
 pub(crate) fn own_sum(alloc: Global, word: &[Bit], place: u32) -> Result<Sum, Want>
     requires { length word.now ≤ 64 }
     ensures width { IfOk result (λ r. r.width ≡ length word.now) }
-    ensures value { IfOk result (λ r. (v : ℕ → Bool) (values : ℕ → ℕ) → values place ≡ word_number v word.now → Agree (length word.now) (total values r.monomials.items) (word_number v word.now)) }
+    ensures value { IfOk result (λ r. (v : ℕ → Bool) (values : ℕ → ℕ) → values place ≡ word_number v word.now →
+        Agree (length word.now) (total values r.monomials.items) (word_number v word.now)) }
 {
     let width = word.len() as u32;
     match fixed_number(word) {

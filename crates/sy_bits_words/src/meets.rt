@@ -1,6 +1,24 @@
-// The sums of words that are joined bit by bit: two numbers add up to the bits that are true in both, counted twice, and
-// those that are true in one.
-ghost use Rattle.std.specs.Prelude.{◌≡◌, ◌≤◌, ◌<◌, ◌+◌, ◌*◌, ◌^◌, ℕ, Bool, cond, bit_and, [], ◌∷◌, length, get_or, OnOk, IfOk, IfSome};
+// The sums of words that are joined bit by bit: two numbers add up to the bits that are true in both, counted twice,
+// and those that are true in one.
+ghost use Rattle.std.specs.Prelude.{
+  ◌≡◌,
+  ◌≤◌,
+  ◌<◌,
+  ◌+◌,
+  ◌*◌,
+  ◌^◌,
+  ℕ,
+  Bool,
+  cond,
+  bit_and,
+  [],
+  ◌∷◌,
+  length,
+  get_or,
+  OnOk,
+  IfOk,
+  IfSome,
+};
 ghost use Rattle.sy_gates.specs.Circuits.{Plan, variables, word_bound, word_number};
 ghost use Rattle.sy_bits_sums.specs.Polynomials.{total, Agree};
 ghost use Rattle.sy_bits_operators.specs.declared.signal.Signal.TheVariants as signals;
@@ -24,16 +42,20 @@ struct Meet {
     right: bool,
 }
 
-/// The place of the bits that are true in two words of one width, where words that begin with a negation are turned: so a
-/// word meets the other one's bits and their negations at one place. `None` where the table is full.
+/// The place of the bits that are true in two words of one width, where words that begin with a negation are turned: so
+/// a word meets the other one's bits and their negations at one place. `None` where the table is full.
 fn meeting(words: &mut Words, alloc: Global, s: &[Bit], t: &[Bit]) -> Result<Option<Meet>, Want>
     requires width { length s.now ≤ 64 }
     requires same { length t.now ≡ length s.now }
-    ensures stand { OnOk result ((circuit : Plan) → word_bound s.now ≤ variables circuit → word_bound t.now ≤ variables circuit → AllStand circuit words.old → AllStand circuit words.new) }
+    ensures stand { OnOk result ((circuit : Plan) → word_bound s.now ≤ variables circuit →
+        word_bound t.now ≤ variables circuit → AllStand circuit words.old → AllStand circuit words.new) }
     ensures longer { OnOk result (length words.old ≤ length words.new) }
-    ensures kept { OnOk result ((i : ℕ) (d : SomeKnown) → i < length words.old → get_or words.new i d ≡ get_or words.old i d) }
+    ensures kept { OnOk result ((i : ℕ) (d : SomeKnown) →
+        i < length words.old → get_or words.new i d ≡ get_or words.old i d) }
     ensures within { IfOk result (λ found. IfSome found (λ m. m.place < length words.new)) }
-    ensures number { IfOk result (λ found. IfSome found (λ m. (d : SomeKnown) (v : ℕ → Bool) → place_number v (get_or words.new m.place d) ≡ bit_and (turned_number (length s.now) m.left (word_number v s.now)) (turned_number (length s.now) m.right (word_number v t.now)))) }
+    ensures number { IfOk result (λ found. IfSome found (λ m. (d : SomeKnown) (v : ℕ → Bool) →
+        place_number v (get_or words.new m.place d) ≡ bit_and (turned_number (length s.now) m.left
+        (word_number v s.now)) (turned_number (length s.now) m.right (word_number v t.now)))) }
 {
     let left = is_turned(s);
     let right = is_turned(t);
@@ -49,7 +71,9 @@ fn meeting(words: &mut Words, alloc: Global, s: &[Bit], t: &[Bit]) -> Result<Opt
 fn turned_sum(alloc: Global, width: u32, sum: &Sum, turned: bool) -> Result<Sum, Want>
     requires { width ≤ 64 }
     ensures width { IfOk result (λ r. r.width ≡ width) }
-    ensures value { IfOk result (λ r. (values : ℕ → ℕ) (n : ℕ) → n < 2 ^ width → Agree width (total values sum.now.monomials.items) n → Agree width (total values r.monomials.items) (turned_number width turned n)) }
+    ensures value { IfOk result (λ r. (values : ℕ → ℕ) (n : ℕ) →
+        n < 2 ^ width → Agree width (total values sum.now.monomials.items) n →
+        Agree width (total values r.monomials.items) (turned_number width turned n)) }
 {
     let ones = greatest(width);
     if turned {
@@ -67,7 +91,9 @@ fn without(alloc: Global, width: u32, whole: &Sum, part: Sum, taken: bool) -> Re
     requires width { width ≤ 64 }
     requires part { part.width ≡ width }
     ensures width { IfOk result (λ r. r.width ≡ width) }
-    ensures value { IfOk result (λ r. (values : ℕ → ℕ) (x y z : ℕ) → Agree width (total values whole.now.monomials.items) z → Agree width (total values part.monomials.items) y → cond taken (x + y) x ≡ cond taken z y → Agree width (total values r.monomials.items) x) }
+    ensures value { IfOk result (λ r. (values : ℕ → ℕ) (x y z : ℕ) →
+        Agree width (total values whole.now.monomials.items) z → Agree width (total values part.monomials.items) y →
+        cond taken (x + y) x ≡ cond taken z y → Agree width (total values r.monomials.items) x) }
 {
     if taken {
         let rest = whole.minus(alloc, width, &part)?;
@@ -80,7 +106,10 @@ fn without(alloc: Global, width: u32, whole: &Sum, part: Sum, taken: bool) -> Re
 fn meet_sum(alloc: Global, width: u32, left: &Sum, right: &Sum, meet: &Meet) -> Result<Sum, Want>
     requires { width ≤ 64 }
     ensures width { IfOk result (λ r. r.width ≡ width) }
-    ensures value { IfOk result (λ r. (values : ℕ → ℕ) (m n : ℕ) → m < 2 ^ width → n < 2 ^ width → Agree width (total values left.now.monomials.items) m → Agree width (total values right.now.monomials.items) n → values meet.now.place ≡ bit_and (turned_number width meet.now.left m) (turned_number width meet.now.right n) → Agree width (total values r.monomials.items) (bit_and m n)) }
+    ensures value { IfOk result (λ r. (values : ℕ → ℕ) (m n : ℕ) → m < 2 ^ width → n < 2 ^ width →
+        Agree width (total values left.now.monomials.items) m → Agree width (total values right.now.monomials.items) n →
+        values meet.now.place ≡ bit_and (turned_number width meet.now.left m) (turned_number width meet.now.right n) →
+        Agree width (total values r.monomials.items) (bit_and m n)) }
 {
     let place = Sum::value(alloc, width, meet.place)?;
     let first = turned_sum(alloc, width, left, meet.left)?;
@@ -93,7 +122,10 @@ fn meet_sum(alloc: Global, width: u32, left: &Sum, right: &Sum, meet: &Meet) -> 
 fn either_sum(alloc: Global, width: u32, left: &Sum, right: &Sum, both: &Sum) -> Result<Sum, Want>
     requires { width ≤ 64 }
     ensures width { IfOk result (λ r. r.width ≡ width) }
-    ensures value { IfOk result (λ r. (values : ℕ → ℕ) (x y m n : ℕ) → Agree width (total values left.now.monomials.items) m → Agree width (total values right.now.monomials.items) n → Agree width (total values both.now.monomials.items) y → x + y ≡ m + n → Agree width (total values r.monomials.items) x) }
+    ensures value { IfOk result (λ r. (values : ℕ → ℕ) (x y m n : ℕ) →
+        Agree width (total values left.now.monomials.items) m →
+        Agree width (total values right.now.monomials.items) n → Agree width (total values both.now.monomials.items) y →
+        x + y ≡ m + n → Agree width (total values r.monomials.items) x) }
 {
     let added = left.plus(alloc, width, right, 1)?;
     let either = added.minus(alloc, width, both)?;
@@ -110,8 +142,10 @@ pub(crate) fn joined_sum(
 ) -> Result<Option<Sum>, Want>
     requires width { length s.now ≤ 64 }
     requires same { length t.now ≡ length s.now }
-    ensures stand { OnOk result ((circuit : Plan) → word_bound s.now ≤ variables circuit → word_bound t.now ≤ variables circuit → AllStand circuit words.old → AllStand circuit words.new) }
-    ensures sum { IfOk result (λ found. IfSome found (λ r. (circuit : Plan) → AllStand circuit words.new → IsSumOf circuit words.new op.now (signals.Vector s.now ∷ signals.Vector t.now ∷ []) r)) }
+    ensures stand { OnOk result ((circuit : Plan) → word_bound s.now ≤ variables circuit →
+        word_bound t.now ≤ variables circuit → AllStand circuit words.old → AllStand circuit words.new) }
+    ensures sum { IfOk result (λ found. IfSome found (λ r. (circuit : Plan) → AllStand circuit words.new →
+        IsSumOf circuit words.new op.now (signals.Vector s.now ∷ signals.Vector t.now ∷ []) r)) }
 {
     let Some(first) = words.enter(alloc, s)? else {
         return Ok(None);

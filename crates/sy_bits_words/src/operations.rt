@@ -1,5 +1,21 @@
 // The sums of operators on words.
-ghost use Rattle.std.specs.Prelude.{◌≡◌, ◌≤◌, ◌-◌, ◌^◌, ℕ, cond, nat_le, [], ◌∷◌, length, slice_get, Some, OnOk, IfOk, IfSome};
+ghost use Rattle.std.specs.Prelude.{
+  ◌≡◌,
+  ◌≤◌,
+  ◌-◌,
+  ◌^◌,
+  ℕ,
+  cond,
+  nat_le,
+  [],
+  ◌∷◌,
+  length,
+  slice_get,
+  Some,
+  OnOk,
+  IfOk,
+  IfSome,
+};
 ghost use Rattle.sy_gates.specs.Circuits.{Plan, variables, word_bound};
 ghost use Rattle.sy_bits_operators.specs.declared.signal.Signal.TheVariants as signals;
 ghost use Rattle.sy_terms.specs.declared.op.Op.TheVariants as ops;
@@ -76,8 +92,10 @@ fn makes_sum(op: &Op) -> bool {
 /// The sum of an operator on one word; `None` where it makes none.
 fn single_sum(words: &mut Words, alloc: Global, op: &Op, s: &[Bit]) -> Result<Option<Sum>, Want>
     requires { length s.now ≤ 64 }
-    ensures stand { OnOk result ((circuit : Plan) → word_bound s.now ≤ variables circuit → AllStand circuit words.old → AllStand circuit words.new) }
-    ensures sum { IfOk result (λ found. IfSome found (λ r. (circuit : Plan) → AllStand circuit words.new → IsSumOf circuit words.new op.now (signals.Vector s.now ∷ []) r)) }
+    ensures stand { OnOk result ((circuit : Plan) → word_bound s.now ≤ variables circuit →
+        AllStand circuit words.old → AllStand circuit words.new) }
+    ensures sum { IfOk result (λ found. IfSome found (λ r. (circuit : Plan) →
+        AllStand circuit words.new → IsSumOf circuit words.new op.now (signals.Vector s.now ∷ []) r)) }
 {
     let Some(place) = words.enter(alloc, s)? else {
         return Ok(None);
@@ -110,8 +128,10 @@ pub(crate) fn pair_sum(
 ) -> Result<Option<Sum>, Want>
     requires width { length s.now ≤ 64 }
     requires same { length t.now ≡ length s.now }
-    ensures stand { OnOk result ((circuit : Plan) → word_bound s.now ≤ variables circuit → word_bound t.now ≤ variables circuit → AllStand circuit words.old → AllStand circuit words.new) }
-    ensures sum { IfOk result (λ found. IfSome found (λ r. (circuit : Plan) → AllStand circuit words.new → IsSumOf circuit words.new op.now (signals.Vector s.now ∷ signals.Vector t.now ∷ []) r)) }
+    ensures stand { OnOk result ((circuit : Plan) → word_bound s.now ≤ variables circuit →
+        word_bound t.now ≤ variables circuit → AllStand circuit words.old → AllStand circuit words.new) }
+    ensures sum { IfOk result (λ found. IfSome found (λ r. (circuit : Plan) → AllStand circuit words.new →
+        IsSumOf circuit words.new op.now (signals.Vector s.now ∷ signals.Vector t.now ∷ []) r)) }
 {
     let Some(first) = words.enter(alloc, s)? else {
         return Ok(None);
@@ -146,8 +166,10 @@ pub(crate) fn pair_sum(
 fn moved_sum(words: &mut Words, alloc: Global, s: &[Bit], t: &[Bit]) -> Result<Option<Sum>, Want>
     requires width { length s.now ≤ 64 }
     requires same { length t.now ≡ length s.now }
-    ensures stand { OnOk result ((circuit : Plan) → word_bound s.now ≤ variables circuit → AllStand circuit words.old → AllStand circuit words.new) }
-    ensures sum { IfOk result (λ found. IfSome found (λ r. (circuit : Plan) → AllStand circuit words.new → IsSumOf circuit words.new ops.BvShl (signals.Vector s.now ∷ signals.Vector t.now ∷ []) r)) }
+    ensures stand { OnOk result ((circuit : Plan) → word_bound s.now ≤ variables circuit →
+        AllStand circuit words.old → AllStand circuit words.new) }
+    ensures sum { IfOk result (λ found. IfSome found (λ r. (circuit : Plan) → AllStand circuit words.new →
+        IsSumOf circuit words.new ops.BvShl (signals.Vector s.now ∷ signals.Vector t.now ∷ []) r)) }
 {
     let Some(by) = fixed_number(t) else {
         return Ok(None);
@@ -171,8 +193,10 @@ fn vectors_sum(
     s: &[Bit],
     t: &[Bit],
 ) -> Result<Option<Sum>, Want>
-    ensures stand { OnOk result ((circuit : Plan) → word_bound s.now ≤ variables circuit → word_bound t.now ≤ variables circuit → AllStand circuit words.old → AllStand circuit words.new) }
-    ensures sum { IfOk result (λ found. IfSome found (λ r. (circuit : Plan) → AllStand circuit words.new → IsSumOf circuit words.new op.now (signals.Vector s.now ∷ signals.Vector t.now ∷ []) r)) }
+    ensures stand { OnOk result ((circuit : Plan) → word_bound s.now ≤ variables circuit →
+        word_bound t.now ≤ variables circuit → AllStand circuit words.old → AllStand circuit words.new) }
+    ensures sum { IfOk result (λ found. IfSome found (λ r. (circuit : Plan) → AllStand circuit words.new →
+        IsSumOf circuit words.new op.now (signals.Vector s.now ∷ signals.Vector t.now ∷ []) r)) }
 {
     if s.len() > 64 || t.len() != s.len() {
         return Ok(None);
@@ -186,8 +210,10 @@ fn vectors_sum(
 
 /// The sum of an operator at one signal; `None` where it makes none.
 fn one(words: &mut Words, alloc: Global, op: &Op, s: &Signal) -> Result<Option<Sum>, Want>
-    ensures stand { OnOk result ((circuit : Plan) → signal_bound s.now ≤ variables circuit → AllStand circuit words.old → AllStand circuit words.new) }
-    ensures sum { IfOk result (λ found. IfSome found (λ r. (circuit : Plan) → AllStand circuit words.new → IsSumOf circuit words.new op.now (s.now ∷ []) r)) }
+    ensures stand { OnOk result ((circuit : Plan) → signal_bound s.now ≤ variables circuit →
+        AllStand circuit words.old → AllStand circuit words.new) }
+    ensures sum { IfOk result (λ found. IfSome found (λ r. (circuit : Plan) →
+        AllStand circuit words.new → IsSumOf circuit words.new op.now (s.now ∷ []) r)) }
 {
     match s {
         Signal::Truth(_) => Ok(None),
@@ -209,8 +235,10 @@ fn two(
     s: &Signal,
     t: &Signal,
 ) -> Result<Option<Sum>, Want>
-    ensures stand { OnOk result ((circuit : Plan) → signal_bound s.now ≤ variables circuit → signal_bound t.now ≤ variables circuit → AllStand circuit words.old → AllStand circuit words.new) }
-    ensures sum { IfOk result (λ found. IfSome found (λ r. (circuit : Plan) → AllStand circuit words.new → IsSumOf circuit words.new op.now (s.now ∷ t.now ∷ []) r)) }
+    ensures stand { OnOk result ((circuit : Plan) → signal_bound s.now ≤ variables circuit →
+        signal_bound t.now ≤ variables circuit → AllStand circuit words.old → AllStand circuit words.new) }
+    ensures sum { IfOk result (λ found. IfSome found (λ r. (circuit : Plan) →
+        AllStand circuit words.new → IsSumOf circuit words.new op.now (s.now ∷ t.now ∷ []) r)) }
 {
     match (s, t) {
         (Signal::Vector(s), Signal::Vector(t)) => {
@@ -228,8 +256,10 @@ pub(crate) fn sum_of(
     op: &Op,
     args: &[Signal],
 ) -> Result<Option<Sum>, Want>
-    ensures stand { OnOk result ((circuit : Plan) → signals_bound args.now ≤ variables circuit → AllStand circuit words.old → AllStand circuit words.new) }
-    ensures sum { IfOk result (λ found. IfSome found (λ r. (circuit : Plan) → AllStand circuit words.new → IsSumOf circuit words.new op.now args.now r)) }
+    ensures stand { OnOk result ((circuit : Plan) → signals_bound args.now ≤ variables circuit →
+        AllStand circuit words.old → AllStand circuit words.new) }
+    ensures sum { IfOk result (λ found. IfSome found (λ r. (circuit : Plan) →
+        AllStand circuit words.new → IsSumOf circuit words.new op.now args.now r)) }
 {
     if !makes_sum(op) {
         return Ok(None);

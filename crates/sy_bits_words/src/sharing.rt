@@ -6,7 +6,15 @@ ghost use Rattle.sy_meaning_words.specs.Vectors.{TakesSorts, owned};
 ghost use Rattle.sy_gates.specs.declared.gate.Bit.{Bit as SomeBit};
 ghost use Rattle.sy_gates.specs.Circuits.{Plan, variables, FollowsPlan, GrownCircuit};
 ghost use Rattle.sy_bits_operators.specs.declared.signal.Signal.TheVariants as signals;
-ghost use Rattle.sy_bits_operators.specs.Signals.{signal_value, signal_values, signal_sort, signal_sorts, signal_bound, signals_bound, AllHaveSignals};
+ghost use Rattle.sy_bits_operators.specs.Signals.{
+  signal_value,
+  signal_values,
+  signal_sort,
+  signal_sorts,
+  signal_bound,
+  signals_bound,
+  AllHaveSignals,
+};
 ghost use Rattle.sy_bits_operators.specs.Costs.{gates};
 ghost use Rattle.sy_bits_words.specs.Standing.{StandsFor, AllStand, IsSumOf, Serves};
 
@@ -24,7 +32,8 @@ use sy_terms::Op;
 
 /// Notes that a vector's word stands for a sum.
 fn note(words: &mut Words, alloc: Global, signal: &Signal, sum: Sum) -> Result<(), Want>
-    ensures { OnOk result ((circuit : Plan) → ((word : List SomeBit) → signal.now ≡ signals.Vector word → StandsFor circuit words.old word sum) → AllStand circuit words.old → AllStand circuit words.new) }
+    ensures { OnOk result ((circuit : Plan) → ((word : List SomeBit) → signal.now ≡ signals.Vector word →
+        StandsFor circuit words.old word sum) → AllStand circuit words.old → AllStand circuit words.new) }
 {
     match signal {
         Signal::Truth(_) => Ok(()),
@@ -35,8 +44,8 @@ fn note(words: &mut Words, alloc: Global, signal: &Signal, sum: Sum) -> Result<(
     }
 }
 
-/// The circuit of an operator on two signals of sorts that it takes, without a sum. Of a quotient and of a remainder it is
-/// noted what sum the remainder stands for.
+/// The circuit of an operator on two signals of sorts that it takes, without a sum. Of a quotient and of a remainder it
+/// is noted what sum the remainder stands for.
 fn pair_unsummed(
     words: &mut Words,
     circuit: &mut Circuit,
@@ -150,8 +159,10 @@ fn summed(
     ensures grown { GrownCircuit circuit.old circuit.new }
     ensures cost { OnOk result (variables circuit.new ≤ variables circuit.old + gates op.now (signal_sorts args.now)) }
     ensures inside { IfOk result (λ r. signal_bound r ≤ variables circuit.new) }
-    ensures sort { IfOk result (λ r. (v : ℕ → Bool) → signal_sort r ≡ sort_of_value (op_value op.now (signal_values v args.now))) }
-    ensures value { IfOk result (λ r. (v : ℕ → Bool) → FollowsPlan v circuit.new → signal_value v r ≡ op_value op.now (signal_values v args.now)) }
+    ensures sort { IfOk result (λ r. (v : ℕ → Bool) →
+        signal_sort r ≡ sort_of_value (op_value op.now (signal_values v args.now))) }
+    ensures value { IfOk result (λ r. (v : ℕ → Bool) →
+        FollowsPlan v circuit.new → signal_value v r ≡ op_value op.now (signal_values v args.now)) }
 {
     let Some(sum) = sum_of(words, alloc, op, args)? else {
         let signal = unsummed(words, circuit, alloc, op, args)?;
@@ -185,8 +196,10 @@ pub fn applied(
     ensures grown { GrownCircuit circuit.old circuit.new }
     ensures cost { OnOk result (variables circuit.new ≤ variables circuit.old + gates op.now (signal_sorts args.now)) }
     ensures inside { IfOk result (λ r. signal_bound r ≤ variables circuit.new) }
-    ensures sort { IfOk result (λ r. (v : ℕ → Bool) → signal_sort r ≡ sort_of_value (op_value op.now (signal_values v args.now))) }
-    ensures value { IfOk result (λ r. (v : ℕ → Bool) → FollowsPlan v circuit.new → signal_value v r ≡ op_value op.now (signal_values v args.now)) }
+    ensures sort { IfOk result (λ r. (v : ℕ → Bool) →
+        signal_sort r ≡ sort_of_value (op_value op.now (signal_values v args.now))) }
+    ensures value { IfOk result (λ r. (v : ℕ → Bool) →
+        FollowsPlan v circuit.new → signal_value v r ≡ op_value op.now (signal_values v args.now)) }
 {
     match sides_of(words, alloc, op, args)? {
         Some(sides) => {

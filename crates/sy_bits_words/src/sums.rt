@@ -33,7 +33,8 @@ fn same_monomials(a: &[Monomial], b: &[Monomial]) -> bool
 pub(crate) fn same_sum(a: &Sum, b: &Sum) -> bool
     ensures same { IsTrue result ↔ sum_content a.now ≡ sum_content b.now }
     ensures width { IsTrue result → a.now.width ≡ b.now.width }
-    ensures value { IsTrue result → (values : ℕ → ℕ) → total values a.now.monomials.items ≡ total values b.now.monomials.items }
+    ensures value { IsTrue result → (values : ℕ → ℕ) →
+        total values a.now.monomials.items ≡ total values b.now.monomials.items }
 {
     a.width == b.width && same_monomials(a.monomials.as_slice(), b.monomials.as_slice())
 }

@@ -1,5 +1,25 @@
 // The table of words whose sums are known.
-ghost use Rattle.std.specs.Prelude.{◌≡◌, ◌≤◌, ◌<◌, ◌^◌, ℕ, Bool, bit_and, [], ◌++◌, ◌∷◌, length, get_or, slice_get, Some, IsSome, IsTrue, IfOk, OnOk, IfSome};
+ghost use Rattle.std.specs.Prelude.{
+  ◌≡◌,
+  ◌≤◌,
+  ◌<◌,
+  ◌^◌,
+  ℕ,
+  Bool,
+  bit_and,
+  [],
+  ◌++◌,
+  ◌∷◌,
+  length,
+  get_or,
+  slice_get,
+  Some,
+  IsSome,
+  IsTrue,
+  IfOk,
+  OnOk,
+  IfSome,
+};
 ghost use Rattle.sy_gates.specs.Circuits.{Plan, variables, word_bound, word_number};
 ghost use Rattle.sy_bits_sums.specs.Polynomials.{total};
 ghost use Rattle.sy_bits_words.specs.Standing.{StandsFor, AllStand, place_number};
@@ -17,8 +37,8 @@ use sy_seq::{Seq, Want};
 /// How many words are kept.
 const MOST_WORDS: usize = 1 << 20;
 
-/// Words of a circuit and the sums that they stand for. A value of these sums is the number at its place: that of a word,
-/// or of the bits that are true in two words.
+/// Words of a circuit and the sums that they stand for. A value of these sums is the number at its place: that of a
+/// word, or of the bits that are true in two words.
 #[derive(Drop)]
 pub struct Words {
     known: Vec<Known>,
@@ -36,7 +56,8 @@ impl Model for Words {
 
     ghost view = { λ w. w.known.items };
 
-    ghost invariant = { λ w. WordsAreFound (places_of w.by_words) w.known.items × SumsAreFound (places_of w.by_sum) w.known.items };
+    ghost invariant = { λ w. WordsAreFound (places_of w.by_words) w.known.items ×
+        SumsAreFound (places_of w.by_sum) w.known.items };
 }
 
 impl Words {
@@ -77,7 +98,8 @@ impl Words {
         ensures within { IsTrue result → place < length self.now }
         ensures word { IsTrue result → (d : Known) → (get_or self.now place d).word ≡ word.now }
         ensures other { IsTrue result → (d : Known) → (get_or self.now place d).other ≡ other.now }
-        ensures found { (known : Known) → slice_get self.now place ≡ Some known → known.word ≡ word.now → known.other ≡ other.now → IsTrue result }
+        ensures found { (known : Known) → slice_get self.now place ≡ Some known →
+            known.word ≡ word.now → known.other ≡ other.now → IsTrue result }
     {
         if place >= self.known.len() {
             return false;
@@ -90,8 +112,10 @@ impl Words {
     fn has_sum(&self, place: usize, sum: &Sum) -> bool
         ensures within { IsTrue result → place < length self.now }
         ensures width { IsTrue result → (d : Known) → (get_or self.now place d).sum.width ≡ sum.now.width }
-        ensures value { IsTrue result → (d : Known) (values : ℕ → ℕ) → total values (get_or self.now place d).sum.monomials.items ≡ total values sum.now.monomials.items }
-        ensures found { (known : Known) → slice_get self.now place ≡ Some known → sum_content known.sum ≡ sum_content sum.now → IsTrue result }
+        ensures value { IsTrue result → (d : Known) (values : ℕ → ℕ) →
+            total values (get_or self.now place d).sum.monomials.items ≡ total values sum.now.monomials.items }
+        ensures found { (known : Known) → slice_get self.now place ≡ Some known →
+            sum_content known.sum ≡ sum_content sum.now → IsTrue result }
     {
         if place >= self.known.len() {
             return false;
@@ -104,7 +128,8 @@ impl Words {
         ensures within { IfSome result (λ place. place < length self.now) }
         ensures word { IfSome result (λ place. (d : Known) → (get_or self.now place d).word ≡ word.now) }
         ensures other { IfSome result (λ place. (d : Known) → (get_or self.now place d).other ≡ other.now) }
-        ensures found { (place : ℕ) (known : Known) → slice_get self.now place ≡ Some known → known.word ≡ word.now → known.other ≡ other.now → IsSome result }
+        ensures found { (place : ℕ) (known : Known) → slice_get self.now place ≡ Some known →
+            known.word ≡ word.now → known.other ≡ other.now → IsSome result }
     {
         let key = pair_key(word, other);
         let Some(first) = self.by_words.first(key) else {
@@ -125,8 +150,10 @@ impl Words {
     fn place_of_sum(&self, sum: &Sum) -> Option<usize>
         ensures within { IfSome result (λ place. place < length self.now) }
         ensures width { IfSome result (λ place. (d : Known) → (get_or self.now place d).sum.width ≡ sum.now.width) }
-        ensures value { IfSome result (λ place. (d : Known) (values : ℕ → ℕ) → total values (get_or self.now place d).sum.monomials.items ≡ total values sum.now.monomials.items) }
-        ensures found { (place : ℕ) (known : Known) → slice_get self.now place ≡ Some known → sum_content known.sum ≡ sum_content sum.now → IsSome result }
+        ensures value { IfSome result (λ place. (d : Known) (values : ℕ → ℕ) →
+            total values (get_or self.now place d).sum.monomials.items ≡ total values sum.now.monomials.items) }
+        ensures found { (place : ℕ) (known : Known) → slice_get self.now place ≡ Some known →
+            sum_content known.sum ≡ sum_content sum.now → IsSome result }
     {
         let key = sum_key(sum);
         let Some(first) = self.by_sum.first(key) else {
@@ -157,17 +184,22 @@ impl Words {
         Ok(())
     }
 
-    /// The place of a word of at most 64 bits, which gets one where it has none: its sum is its number where its bits are
-    /// fixed, and else the word itself. `None` where the table is full.
+    /// The place of a word of at most 64 bits, which gets one where it has none: its sum is its number where its bits
+    /// are fixed, and else the word itself. `None` where the table is full.
     pub(crate) fn enter(&mut self, alloc: Global, word: &[Bit]) -> Result<Option<usize>, Want>
         requires { length word.now ≤ 64 }
-        ensures stand { OnOk result ((circuit : Plan) → word_bound word.now ≤ variables circuit → AllStand circuit self.old → AllStand circuit self.new) }
+        ensures stand { OnOk result ((circuit : Plan) →
+            word_bound word.now ≤ variables circuit → AllStand circuit self.old → AllStand circuit self.new) }
         ensures longer { OnOk result (length self.old ≤ length self.new) }
-        ensures kept { OnOk result ((i : ℕ) (d : Known) → i < length self.old → get_or self.new i d ≡ get_or self.old i d) }
+        ensures kept { OnOk result ((i : ℕ) (d : Known) →
+            i < length self.old → get_or self.new i d ≡ get_or self.old i d) }
         ensures within { IfOk result (λ found. IfSome found (λ place. place < length self.new)) }
-        ensures same { IfOk result (λ found. IfSome found (λ place. (d : Known) → (get_or self.new place d).word ≡ word.now)) }
-        ensures other { IfOk result (λ found. IfSome found (λ place. (d : Known) → (get_or self.new place d).other ≡ word.now)) }
-        ensures again { (place : ℕ) (known : Known) → slice_get self.old place ≡ Some known → known.word ≡ word.now → known.other ≡ word.now → (self.new ≡ self.old) × IfOk result (λ found. IsSome found) }
+        ensures same { IfOk result (λ found.
+            IfSome found (λ place. (d : Known) → (get_or self.new place d).word ≡ word.now)) }
+        ensures other { IfOk result (λ found.
+            IfSome found (λ place. (d : Known) → (get_or self.new place d).other ≡ word.now)) }
+        ensures again { (place : ℕ) (known : Known) → slice_get self.old place ≡ Some known → known.word ≡ word.now →
+            known.other ≡ word.now → (self.new ≡ self.old) × IfOk result (λ found. IsSome found) }
     {
         if let Some(place) = self.place_of(word, word) {
             return Ok(Some(place as usize));
@@ -183,8 +215,8 @@ impl Words {
         Ok(Some(place))
     }
 
-    /// The place of two words, the first of at most 64 bits, which get one where they have none. `None` where the table is
-    /// full.
+    /// The place of two words, the first of at most 64 bits, which get one where they have none. `None` where the table
+    /// is full.
     fn enter_pair(
         &mut self,
         alloc: Global,
@@ -192,13 +224,18 @@ impl Words {
         other: &[Bit],
     ) -> Result<Option<u32>, Want>
         requires { length word.now ≤ 64 }
-        ensures stand { OnOk result ((circuit : Plan) → word_bound word.now ≤ variables circuit → AllStand circuit self.old → AllStand circuit self.new) }
+        ensures stand { OnOk result ((circuit : Plan) →
+            word_bound word.now ≤ variables circuit → AllStand circuit self.old → AllStand circuit self.new) }
         ensures longer { OnOk result (length self.old ≤ length self.new) }
-        ensures kept { OnOk result ((i : ℕ) (d : Known) → i < length self.old → get_or self.new i d ≡ get_or self.old i d) }
+        ensures kept { OnOk result ((i : ℕ) (d : Known) →
+            i < length self.old → get_or self.new i d ≡ get_or self.old i d) }
         ensures within { IfOk result (λ found. IfSome found (λ place. place < length self.new)) }
-        ensures word { IfOk result (λ found. IfSome found (λ place. (d : Known) → (get_or self.new place d).word ≡ word.now)) }
-        ensures other { IfOk result (λ found. IfSome found (λ place. (d : Known) → (get_or self.new place d).other ≡ other.now)) }
-        ensures again { (place : ℕ) (known : Known) → slice_get self.old place ≡ Some known → known.word ≡ word.now → known.other ≡ other.now → (self.new ≡ self.old) × IfOk result (λ found. IsSome found) }
+        ensures word { IfOk result (λ found.
+            IfSome found (λ place. (d : Known) → (get_or self.new place d).word ≡ word.now)) }
+        ensures other { IfOk result (λ found.
+            IfSome found (λ place. (d : Known) → (get_or self.new place d).other ≡ other.now)) }
+        ensures again { (place : ℕ) (known : Known) → slice_get self.old place ≡ Some known → known.word ≡ word.now →
+            known.other ≡ other.now → (self.new ≡ self.old) × IfOk result (λ found. IsSome found) }
     {
         if let Some(place) = self.place_of(word, other) {
             return Ok(Some(place));
@@ -217,8 +254,8 @@ impl Words {
         Ok(Some(place as u32))
     }
 
-    /// The place whose value is the number of the bits that are true in both of two words of at most 64 bits. `None` where
-    /// the table is full.
+    /// The place whose value is the number of the bits that are true in both of two words of at most 64 bits. `None`
+    /// where the table is full.
     pub(crate) fn enter_both(
         &mut self,
         alloc: Global,
@@ -227,11 +264,14 @@ impl Words {
     ) -> Result<Option<u32>, Want>
         requires first { length a.now ≤ 64 }
         requires second { length b.now ≤ 64 }
-        ensures stand { OnOk result ((circuit : Plan) → word_bound a.now ≤ variables circuit → word_bound b.now ≤ variables circuit → AllStand circuit self.old → AllStand circuit self.new) }
+        ensures stand { OnOk result ((circuit : Plan) → word_bound a.now ≤ variables circuit →
+            word_bound b.now ≤ variables circuit → AllStand circuit self.old → AllStand circuit self.new) }
         ensures longer { OnOk result (length self.old ≤ length self.new) }
-        ensures kept { OnOk result ((i : ℕ) (d : Known) → i < length self.old → get_or self.new i d ≡ get_or self.old i d) }
+        ensures kept { OnOk result ((i : ℕ) (d : Known) →
+            i < length self.old → get_or self.new i d ≡ get_or self.old i d) }
         ensures within { IfOk result (λ found. IfSome found (λ place. place < length self.new)) }
-        ensures number { IfOk result (λ found. IfSome found (λ place. (d : Known) (v : ℕ → Bool) → place_number v (get_or self.new place d) ≡ bit_and (word_number v a.now) (word_number v b.now))) }
+        ensures number { IfOk result (λ found. IfSome found (λ place. (d : Known) (v : ℕ → Bool) →
+            place_number v (get_or self.new place d) ≡ bit_and (word_number v a.now) (word_number v b.now))) }
     {
         if is_first(a, b) {
             let Some(place) = self.enter_pair(alloc, a, b)? else {
@@ -247,8 +287,10 @@ impl Words {
 
     /// The word of a sum, in memory of its own: a constant's, or one of the table; `None` where neither is.
     pub(crate) fn word_of(&self, alloc: Global, sum: &Sum) -> Result<Option<Seq<Bit>>, Want>
-        ensures stands { IfOk result (λ found. IfSome found (λ word. (circuit : Plan) → AllStand circuit self.now → StandsFor circuit self.now word sum.now)) }
-        ensures found { (place : ℕ) (known : Known) → slice_get self.now place ≡ Some known → sum_content known.sum ≡ sum_content sum.now → IfOk result (λ found. IsSome found) }
+        ensures stands { IfOk result (λ found. IfSome found (λ word. (circuit : Plan) →
+            AllStand circuit self.now → StandsFor circuit self.now word sum.now)) }
+        ensures found { (place : ℕ) (known : Known) → slice_get self.now place ≡ Some known →
+            sum_content known.sum ≡ sum_content sum.now → IfOk result (λ found. IsSome found) }
     {
         if let Some(number) = sum.fixed() {
             let word = constant(alloc, sum.width as usize, number)?;
@@ -262,10 +304,11 @@ impl Words {
         Ok(None)
     }
 
-    /// Notes that a word stands for a sum. A word whose bits are all fixed isn't noted, since it stands for its number; nor
-    /// is any where the table is full.
+    /// Notes that a word stands for a sum. A word whose bits are all fixed isn't noted, since it stands for its number;
+    /// nor is any where the table is full.
     pub(crate) fn note(&mut self, alloc: Global, word: &[Bit], sum: Sum) -> Result<(), Want>
-        ensures { OnOk result ((circuit : Plan) → StandsFor circuit self.old word.now sum → AllStand circuit self.old → AllStand circuit self.new) }
+        ensures { OnOk result ((circuit : Plan) → StandsFor circuit self.old word.now sum →
+            AllStand circuit self.old → AllStand circuit self.new) }
     {
         if self.known.len() >= MOST_WORDS || is_fixed(word) {
             return Ok(());

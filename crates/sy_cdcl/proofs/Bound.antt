@@ -160,6 +160,24 @@ differ first vars known new below m n c d l k at at' e =
     (λ v s h. sym (same v s (below m c v s at h)) ∙ h)
     (q.settled m c (get_in_taken known n m c k at))
 
+-- a clause that is new to those before it has other literals than each of them
+pub new_differs : (first : ℕ) (known : List Clause) → EachNew first known →
+    (m n : ℕ) (c d : Clause) → first ≤ n → m < n → slice_get known m ≡ Some c → slice_get known n ≡ Some d →
+    ((v : ℕ) (s : Bool) → c v s ≡ d v s) → ⊥
+new_differs first known new m n c d l k at at' same =
+    let q = new n d l at' in
+    not_settled q.values d c q.var q.positive q.unit (λ v s h. sym (same v s) ∙ h) (q.settled m c (get_in_taken known n m c k at))
+
+-- and no variable with both signs
+pub new_proper : (first : ℕ) (known : List Clause) → EachNew first known →
+    (n : ℕ) (c : Clause) → first ≤ n → slice_get known n ≡ Some c → (v : ℕ) → c v true ≡ true → c v false ≡ false
+new_proper first known new n c l at v p =
+    let q = new n c l at in
+    elim (bool_cases (c v false)) [
+      | inl e ↦ absurd (unit_proper q.values c q.var q.positive q.unit v p e)
+      | inr e ↦ e
+    ]
+
 -- the clause at a place
 clause_at : List Clause → ℕ → Clause
 clause_at known n = slice_index_or known n (λ v s. false)

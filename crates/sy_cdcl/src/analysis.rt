@@ -54,11 +54,13 @@ fn resolve_back(
 ) -> Result<Option<Lit>, Want>
     requires ready { TrailIsReady (known_clauses cnf.now.clauses derived.now) trail.now }
     requires levels { LevelsSettled (known_clauses cnf.now.clauses derived.now) trail.now }
-    requires conflict { IsConflict (known_clauses cnf.now.clauses derived.now) (kept_values trail.now.values.items) conflict }
+    requires conflict { IsConflict (known_clauses cnf.now.clauses derived.now)
+        (kept_values trail.now.values.items) conflict }
     requires empty { IsEmpty (clause_of marks.old) }
     requires listed { MarksAreListed marks.old }
     requires new { steps.old ≡ [] }
-    ensures line { OnOk result (line_clause (known_clauses cnf.now.clauses derived.now) (record { first = conflict; steps = steps.new }) ≡ Some (clause_of marks.new)) }
+    ensures line { OnOk result (line_clause (known_clauses cnf.now.clauses derived.now)
+        (record { first = conflict; steps = steps.new }) ≡ Some (clause_of marks.new)) }
     ensures learned { IfOk result (λ last. IsLearned trail.now (clause_of marks.new) last) }
     ensures vars { OnOk result ((v : ℕ) (s : Bool) → clause_of marks.new v s ≡ true → v < vec_len trail.now.values) }
     ensures listed { OnOk result (MarksAreListed marks.new) }
@@ -106,10 +108,12 @@ pub fn analyze(
 ) -> Result<Learned, Want>
     requires ready { TrailIsReady (known_clauses cnf.now.clauses derived.now) trail.now }
     requires levels { LevelsSettled (known_clauses cnf.now.clauses derived.now) trail.now }
-    requires conflict { IsConflict (known_clauses cnf.now.clauses derived.now) (kept_values trail.now.values.items) conflict }
+    requires conflict { IsConflict (known_clauses cnf.now.clauses derived.now)
+        (kept_values trail.now.values.items) conflict }
     requires empty { IsEmpty (clause_of marks.old) }
     requires listed { MarksAreListed marks.old }
-    ensures line { IfOk result (λ r. line_clause (known_clauses cnf.now.clauses derived.now) r.line ≡ Some (clause_of marks.new)) }
+    ensures line { IfOk result (λ r. line_clause (known_clauses cnf.now.clauses derived.now) r.line ≡
+        Some (clause_of marks.new)) }
     ensures learned { IfOk result (λ r. IsLearned trail.now (clause_of marks.new) r.last) }
     ensures vars { OnOk result ((v : ℕ) (s : Bool) → clause_of marks.new v s ≡ true → v < vec_len trail.now.values) }
     ensures listed { OnOk result (MarksAreListed marks.new) }

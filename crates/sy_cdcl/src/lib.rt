@@ -2,6 +2,7 @@
 #![tactic(auto)]
 
 mod analysis;
+mod law;
 mod order;
 mod propagation;
 mod shortening;
@@ -10,5 +11,6 @@ mod store;
 mod trail;
 mod watches;
 
+pub use law::learned_clauses_differ;
 pub use order::{Plan, Start, USUAL_PLAN};
 pub use solver::{Solved, solve, solve_by};

@@ -98,7 +98,8 @@ fn judge(watches: &Watches, trail: &Trail, store: &Store, number: u32, falsified
     requires fit { SpansFit store.now }
     requires agrees { TrailIsReady (clauses_in store.now) trail.now }
     requires watched { AllWatched (clauses_in store.now) trail.now watches.now.head watches.now.pairs.items }
-    ensures { SuitsAt (clauses_in store.now) (kept_values trail.now.values.items) watches.now.pairs.items falsified number result }
+    ensures { SuitsAt (clauses_in store.now)
+        (kept_values trail.now.values.items) watches.now.pairs.items falsified number result }
 {
     let Some(pair) = watches.pair(number) else {
         return Outcome::Stay;
@@ -211,7 +212,8 @@ fn first_of(clause: &[Code]) -> Option<Lit>
 
 /// The first literal of the clause other than this one.
 fn another(clause: &[Code], literal: Lit) -> Option<Lit>
-    ensures { MatchOption result (IsOnly (literals clause.now) literal) (λ other. IsAnother (literals clause.now) literal other) }
+    ensures { MatchOption result (IsOnly (literals clause.now) literal) (λ other.
+        IsAnother (literals clause.now) literal other) }
 {
     for code in clause {
         let other = code.literal();

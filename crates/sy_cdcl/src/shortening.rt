@@ -47,7 +47,8 @@ fn shorten(
     requires line { line_clause (known_clauses cnf.now.clauses derived.now) line ≡ Some (clause_of marks.old) }
     requires unit { IsUnit (value_below trail.now) (clause_of marks.old) literal.var literal.positive }
     requires listed { MarksAreListed marks.old }
-    ensures line { IfOk result (λ r. line_clause (known_clauses cnf.now.clauses derived.now) r ≡ Some (clause_of marks.new)) }
+    ensures line { IfOk result (λ r. line_clause (known_clauses cnf.now.clauses derived.now) r ≡
+        Some (clause_of marks.new)) }
     ensures unit { OnOk result (IsUnit (value_below trail.now) (clause_of marks.new) literal.var literal.positive) }
     ensures within { OnOk result (IsWithin (clause_of marks.new) (clause_of marks.old)) }
     ensures short { OnOk result (IsShort (known_clauses cnf.now.clauses derived.now) trail.now.entries.items
@@ -93,10 +94,12 @@ pub fn conclude(
 ) -> Result<Learned, Want>
     requires ready { TrailIsReady (known_clauses cnf.now.clauses derived.now) trail.now }
     requires levels { LevelsSettled (known_clauses cnf.now.clauses derived.now) trail.now }
-    requires conflict { IsConflict (known_clauses cnf.now.clauses derived.now) (kept_values trail.now.values.items) conflict }
+    requires conflict { IsConflict (known_clauses cnf.now.clauses derived.now)
+        (kept_values trail.now.values.items) conflict }
     requires empty { IsEmpty (clause_of marks.old) }
     requires listed { MarksAreListed marks.old }
-    ensures line { IfOk result (λ r. line_clause (known_clauses cnf.now.clauses derived.now) r.line ≡ Some (clause_of marks.new)) }
+    ensures line { IfOk result (λ r. line_clause (known_clauses cnf.now.clauses derived.now) r.line ≡
+        Some (clause_of marks.new)) }
     ensures learned { IfOk result (λ r. IsLearned trail.now (clause_of marks.new) r.last) }
     ensures short { IfOk result (λ r. IfSome r.last (λ _. IsShort (known_clauses cnf.now.clauses derived.now)
         trail.now.entries.items 0 (level_start trail.now.starts.items) (clause_of marks.new))) }

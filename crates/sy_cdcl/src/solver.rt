@@ -62,7 +62,8 @@ fn decide(trail: &mut Trail, store: &Store, literal: Lit) -> Result<(), Want>
     ensures levels { OnOk result (LevelsSettled (clauses_in store.now) trail.new) }
     ensures entries { OnOk result (trail.new.entries.items ≡
         trail.old.entries.items ++ record { literal = literal; reason = None } ∷ []) }
-    ensures starts { OnOk result (trail.new.starts.items ≡ trail.old.starts.items ++ length trail.old.entries.items ∷ []) }
+    ensures starts { OnOk result (trail.new.starts.items ≡
+        trail.old.starts.items ++ length trail.old.entries.items ∷ []) }
     ensures vars { OnOk result (vec_len trail.new.values ≡ vec_len trail.old.values) }
     ensures fewer { OnOk result (unvalued_count trail.new < unvalued_count trail.old) }
 {
@@ -221,7 +222,8 @@ fn keep(
     requires levels { LevelsSettled (known_clauses cnf.now.clauses derived.old.items) trail.old }
     requires watching { IsWatching (known_clauses cnf.now.clauses derived.old.items) trail.old watches.old }
     requires head { watches.old.head ≡ length trail.old.entries.items }
-    requires unit { IsUnit (entries_values trail.old.entries.items) (literals lesson.clause) lesson.literal.var lesson.literal.positive }
+    requires unit { IsUnit (entries_values trail.old.entries.items)
+        (literals lesson.clause) lesson.literal.var lesson.literal.positive }
     requires lowest { OpenAtLevels trail.old (literals lesson.clause) }
     requires last { LastFits trail.old.entries.items (literals lesson.clause) lesson.last }
     requires vars { (v : ℕ) (s : Bool) → literals lesson.clause v s ≡ true → v < vec_len trail.old.values }
@@ -233,7 +235,8 @@ fn keep(
     ensures derived { OnOk result (derived.new.items ≡ derived.old.items ++ lesson.clause ∷ []) }
     ensures ready { OnOk result (TrailIsReady (known_clauses cnf.now.clauses derived.new.items) trail.new) }
     ensures levels { OnOk result (LevelsSettled (known_clauses cnf.now.clauses derived.new.items) trail.new) }
-    ensures watching { OnOk result (IsWatching (known_clauses cnf.now.clauses derived.new.items) trail.new watches.new) }
+    ensures watching { OnOk result
+        (IsWatching (known_clauses cnf.now.clauses derived.new.items) trail.new watches.new) }
     ensures all { OnOk result (vec_len trail.new.values ≡ vec_len trail.old.values) }
 {
     store.push(lesson.clause.as_slice())?;
@@ -279,7 +282,8 @@ fn learn_from(
     number: u32,
 ) -> Result<bool, Want>
     requires sound { StateIsSound cnf.now state.old }
-    requires conflict { IsConflict (known_clauses cnf.now.clauses state.old.derived.items) (kept_values state.old.trail.values.items) conflict }
+    requires conflict { IsConflict (known_clauses cnf.now.clauses state.old.derived.items)
+        (kept_values state.old.trail.values.items) conflict }
     requires number { length (known_clauses cnf.now.clauses state.old.derived.items) ≡ number }
     ensures lines { OnOk result (length state.new.lines ≡ length state.old.lines + 1) }
     ensures ends { IfOk result (λ more. MatchBool more
@@ -468,7 +472,8 @@ pub fn solve_by(alloc: Global, cnf: &Cnf, plan: Plan, fuel: u32) -> Result<Solve
 /// `Refuted` has a log of at most `fuel` lines that [`check`](sy_clauses::check) accepts, `Model` a
 /// value for each variable that makes every clause true. `Fuel` comes once `fuel` clauses are learned, of
 /// which none is empty; each is new to the clauses before it, so with a fuel of 3 to the number of
-/// variables it never comes. `Want` comes where memory runs out.
+/// variables it never comes. `Want` comes where memory runs out, a variable has the number 2^31 or more,
+/// or the clauses, those learned among them, have 2^32 literals.
 pub fn solve(alloc: Global, cnf: &Cnf, fuel: u32) -> Result<Solved, Want>
     requires vars { VarsFit cnf.now }
     requires clauses_fit { length cnf.now.clauses < 2 ^ 31 }

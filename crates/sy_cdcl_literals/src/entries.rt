@@ -45,7 +45,8 @@ pub fn some_falsifies(entries: &[Entry], start: usize, end: usize, marks: &Marks
     false
 }
 
-/// Whether, with so many levels above the lowest, one at least, no entry between the two places makes a marked literal false.
+/// Whether, with so many levels above the lowest, one at least, no entry between the two places makes a marked literal
+/// false.
 pub fn is_last_hit(
     entries: &[Entry],
     levels: usize,

@@ -33,7 +33,8 @@ pub enum Outcome {
 
 /// What becomes of a clause that has this literal, and whose others are false, by the literal's value.
 pub fn outcome_of(truth: Truth, literal: Lit) -> Outcome
-    ensures { (values : Partial) (clause : Clause) → clause literal.var literal.positive ≡ true → IsFalseBut values clause literal →
+    ensures { (values : Partial) (clause : Clause) → clause literal.var literal.positive ≡ true →
+        IsFalseBut values clause literal →
         IsTruthOf values literal truth → Suits values clause literal result }
 {
     match truth {

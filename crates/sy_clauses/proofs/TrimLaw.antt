@@ -13,7 +13,7 @@ use Rattle.sy_clauses.specs.declared.numbering.Numbering.{Numbering}
 use Rattle.sy_clauses.specs.Names.{names, steps_name, EachIsNamed}
 use Rattle.sy_clauses.specs.Needed.{needs, IsNeededBy, AreNeeded}
 use Rattle.sy_clauses.specs.Numbers.{count_left, new_number, number_in, lines_left, step_renumbered, line_renumbered, CountsLeft}
-use Rattle.sy_clauses.proofs.Marks.{either, or_left, or_right}
+use Rattle.sy_clauses.proofs.MarksLaws.{either, or_left, or_right}
 use Rattle.sy_clauses.proofs.Counts.{count_yes, count_no, count_small, count_grows, bool_cases, below_or, below_cases, line_number, formula_number, table_number}
 
 -- ---- lists with one item more

@@ -28,7 +28,8 @@ fn is_marked(marks: &[bool], place: usize) -> bool
 fn mark(marks: &mut Vec<bool>, place: usize) -> Result<(), Want>
     requires { place + 1 < 2 ^ 64 }
     ensures here { OnOk result (slice_index_or marks.new.items place false ≡ true) }
-    ensures others { OnOk result ((w : ℕ) → w ≢ place → slice_index_or marks.new.items w false ≡ slice_index_or marks.old.items w false) }
+    ensures others { OnOk result ((w : ℕ) → w ≢ place →
+        slice_index_or marks.new.items w false ≡ slice_index_or marks.old.items w false) }
 {
     while marks.len() <= place {
         marks.push(false)?;

@@ -13,7 +13,7 @@ use Rattle.sy_forms_items.specs.Environments as env
 use Rattle.sy_forms_items.specs.Environments.{Sense, or_else, sense_as, declared_in}
 use Rattle.sy_forms.specs.Declared.{setting_with, IsDeclared}
 use Rattle.sy_forms.specs.Right.{SenseIsThere}
-use Rattle.sy_forms.proofs.Names.{sorts_of}
+use Rattle.sy_forms.proofs.NamesLaws.{sorts_of}
 
 -- in a body, over arguments alone
 pub in_body : (owned : Op → Bool) (defined wanted : List Signature) (variables arguments : List Sort) (found : Option Entity) (sense : Sense) → ((it : Entity) → found ≡ Some it → IsDeclared defined wanted variables it)

@@ -2,7 +2,7 @@ pub mod Bodies
 pub mod Exprs
 pub mod Forms
 pub mod Growing
-pub mod Names
+pub mod NamesLaws
 pub mod NewNames
 pub mod Operators
 pub mod Patterns

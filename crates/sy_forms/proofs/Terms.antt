@@ -40,7 +40,7 @@ use Rattle.sy_forms.specs.Fitting.{Setting, phrase_sort, phrase_sorts}
 use Rattle.sy_forms.specs.Right.{SenseIsThere, EnvironmentIsRight}
 use Rattle.sy_forms.proofs.Readings.{chained, either, unless_refused, where_not_refused, any_read}
 use Rattle.sy_forms.proofs.Exprs.{where_allowed, after_as}
-use Rattle.sy_forms.proofs.Names.{sorts_of, there}
+use Rattle.sy_forms.proofs.NamesLaws.{sorts_of, there}
 use Rattle.sy_forms.proofs.Operators.{named_owned, indexed_owned, counted_owned}
 
 abbrev pub TypedFits : Setting → List Sort → Typed → Type 0

@@ -38,7 +38,8 @@ impl<T: Theory> Several<T> {
 
     /// Appends the phrase.
     pub(crate) fn push(&mut self, last: Typed<T>) -> Result<(), Want>
-        ensures { OnOk result (several_of T.denotes self.new ≡ phrases.behind (several_of T.denotes self.old) (typed_of T.denotes last)) }
+        ensures { OnOk result (several_of T.denotes self.new ≡
+            phrases.behind (several_of T.denotes self.old) (typed_of T.denotes last)) }
     {
         self.phrases.push(last.phrase)?;
         self.sorts.push(last.sort)?;
@@ -54,7 +55,8 @@ fn operator_term<T: Theory>(
     operator: Op,
     arguments: Several<T>,
 ) -> Result<Typed<T>, ReadEnd>
-    ensures { ReadingGives (typed_of T.denotes) result (spec.operator_read constants.now divisors.now place operator (several_of T.denotes arguments)) }
+    ensures { ReadingGives (typed_of T.denotes) result
+        (spec.operator_read constants.now divisors.now place operator (several_of T.denotes arguments)) }
 {
     match operator_sort(&operator, arguments.sorts.as_slice()) {
         Sorted::Is(sort) => {
@@ -78,7 +80,8 @@ pub(crate) fn applied<T: Theory>(
     head: Head<'_>,
     arguments: Several<T>,
 ) -> Result<Typed<T>, ReadEnd>
-    ensures { ReadingGives (typed_of T.denotes) result (spec.head_applied constants.now divisors.now place (head_in head.entry) (several_of T.denotes arguments)) }
+    ensures { ReadingGives (typed_of T.denotes) result
+        (spec.head_applied constants.now divisors.now place (head_in head.entry) (several_of T.denotes arguments)) }
 {
     match head {
         Head::Operator(operator) => {

@@ -62,7 +62,8 @@ fn name_term<T: Theory>(
     name: &[u8],
     sense: Option<Sense<'_>>,
 ) -> Result<Typed<T>, ReadEnd>
-    ensures { ReadingGives (typed_of T.denotes) result (spec.name_term logic place name.now (option_map sense_in sense.entry)) }
+    ensures { ReadingGives (typed_of T.denotes) result
+        (spec.name_term logic place name.now (option_map sense_in sense.entry)) }
 {
     match sense {
         Some(Sense::Local(level, sort)) => Ok(local(level, sort)),
@@ -87,7 +88,8 @@ pub(crate) fn atom_term<T: Theory>(
     atom: &Atom,
 ) -> Result<Typed<T>, ReadEnd>
     requires { Serves T.numeric env.now.logic }
-    ensures { ReadingGives (typed_of T.denotes) result (spec.atom_term (environment_of env.now) locals.now place atom.now) }
+    ensures { ReadingGives (typed_of T.denotes) result
+        (spec.atom_term (environment_of env.now) locals.now place atom.now) }
 {
     match atom {
         Atom::Symbol(name) => {
@@ -135,7 +137,8 @@ fn name_head<'a>(
 
 /// An operator with indices of at most 64.
 fn small_head<'a>(place: Place, name: &[u8], indices: Indices) -> Result<Head<'a>, ReadEnd>
-    ensures { ReadingGives head_in result (spec.small_head place indices (operators.indexed_operator name.now indices)) }
+    ensures { ReadingGives head_in result
+        (spec.small_head place indices (operators.indexed_operator name.now indices)) }
 {
     if !is_indexed(name, indices) {
         return Err(ReadEnd::Refused(place, Cause::UnknownName));

@@ -155,7 +155,8 @@ pub(crate) fn indexed_term<T: Theory>(
     indexed: Option<(&Name, Indices)>,
 ) -> Result<Typed<T>, ReadEnd>
     requires { Serves T.numeric logic }
-    ensures { ReadingGives (typed_of T.denotes) result (spec.indexed_term logic place (option_map indexed_of indexed.entry)) }
+    ensures { ReadingGives (typed_of T.denotes) result
+        (spec.indexed_term logic place (option_map indexed_of indexed.entry)) }
 {
     let Some((name, indices)) = indexed else {
         return Err(ReadEnd::Refused(place, Cause::Shape));

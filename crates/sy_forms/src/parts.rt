@@ -27,7 +27,8 @@ fn two_items<'a>(items: Rest<'a>) -> Option<(&'a Sexp, &'a Sexp)>
 
 /// What stands behind `let`: one binding or more, and the inner term.
 pub(crate) fn let_parts<'a>(place: Place, items: Rest<'a>) -> Result<(Rest<'a>, &'a Sexp), ReadEnd>
-    ensures { ReadingGives (λ x. (items_in x.0, item_of x.1.now)) result (parts.let_parts place (items_in items.entry)) }
+    ensures { ReadingGives (λ x.
+        (items_in x.0, item_of x.1.now)) result (parts.let_parts place (items_in items.entry)) }
 {
     let Some((bindings, inner)) = two_items(items) else {
         return Err(ReadEnd::Refused(place, Cause::Shape));
@@ -71,7 +72,8 @@ pub(crate) fn binding_parts<'a>(
     taken: &Locals,
     item: &'a Sexp,
 ) -> Result<(&'a Name, &'a Sexp), ReadEnd>
-    ensures { ReadingGives (λ x. (x.0.now, item_of x.1.now)) result (parts.binding_parts logic taken.now (item_of item.now)) }
+    ensures { ReadingGives (λ x.
+        (x.0.now, item_of x.1.now)) result (parts.binding_parts logic taken.now (item_of item.now)) }
 {
     match item {
         Sexp::Atom(_, place) => Err(ReadEnd::Refused(*place, Cause::Shape)),

@@ -28,7 +28,8 @@ fn read_outermost<T: Theory>(
     item: &Sexp,
 ) -> Result<Typed<T>, ReadEnd>
     requires { Serves T.numeric env.now.logic }
-    ensures { ReadingGives (typed_of T.denotes) result (terms.read_term (environment_of env.now) [] (item_of item.now)) }
+    ensures { ReadingGives (typed_of T.denotes) result
+        (terms.read_term (environment_of env.now) [] (item_of item.now)) }
 {
     let mut locals = Locals::new(alloc);
     let term = read_term(alloc, env, &mut locals, item)?;
@@ -47,7 +48,8 @@ pub fn read_whole<T: Theory>(
     item: &Sexp,
 ) -> Result<Phrase<T>, ReadEnd>
     requires { Serves T.numeric env.now.logic }
-    ensures { ReadingGives (phrase_of T.denotes) result (terms.read_whole (environment_of env.now) (measures_of measures.now) sort (item_of item.now)) }
+    ensures { ReadingGives (phrase_of T.denotes) result
+        (terms.read_whole (environment_of env.now) (measures_of measures.now) sort (item_of item.now)) }
 {
     let term = read_outermost(alloc, env, item)?;
     if !same_sort(&term.sort, &sort) {
@@ -67,7 +69,8 @@ fn rule_term<T: Theory>(
     item: &Sexp,
 ) -> Result<Ruling<T>, ReadEnd>
     requires { Serves T.numeric env.now.logic }
-    ensures { ReadingGives (ruling_of T.denotes) result (spec.rule_term (environment_of env.now) sort (item_of item.now)) }
+    ensures { ReadingGives (ruling_of T.denotes) result
+        (spec.rule_term (environment_of env.now) sort (item_of item.now)) }
 {
     let term = read_outermost(alloc, env, item)?;
     if same_sort(&term.sort, &sort) {
@@ -84,7 +87,8 @@ fn sort_for_all(
     place: Place,
     item: &Sexp,
 ) -> Result<Sort, ReadEnd>
-    ensures { ReadingGives (λ found. found) result (spec.sort_for_all (environment_of env.now) sort place (item_of item.now)) }
+    ensures { ReadingGives (λ found.
+        found) result (spec.sort_for_all (environment_of env.now) sort place (item_of item.now)) }
 {
     let found = read_sort(env.logic, env.names, item)?;
     if same_sort(&found, &sort) {
@@ -104,7 +108,8 @@ pub fn read_rule<T: Theory>(
     item: &Sexp,
 ) -> Result<Ruling<T>, ReadEnd>
     requires { Serves T.numeric env.now.logic }
-    ensures { ReadingGives (ruling_of T.denotes) result (spec.read_rule (environment_of env.now) sort (item_of item.now)) }
+    ensures { ReadingGives (ruling_of T.denotes) result
+        (spec.read_rule (environment_of env.now) sort (item_of item.now)) }
 {
     let Sexp::List(items, place) = item else {
         return rule_term(alloc, env, sort, item);

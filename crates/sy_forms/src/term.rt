@@ -50,7 +50,8 @@ impl<T: Theory> Bounds<T> {
 
     /// Appends the binding.
     fn push(&mut self, last: Bound<T>) -> Result<(), Want>
-        ensures { OnOk result (bounds_of T.denotes self.new ≡ spec.bound_behind (bounds_of T.denotes self.old) (bound_of T.denotes last)) }
+        ensures { OnOk result (bounds_of T.denotes self.new ≡
+            spec.bound_behind (bounds_of T.denotes self.old) (bound_of T.denotes last)) }
     {
         let kept = self.terms.push(last.phrase);
         self.names.push(last.named)?;
@@ -79,7 +80,8 @@ fn closed<T: Theory>(
     terms: Phrases<T>,
     inner: Typed<T>,
 ) -> Result<Typed<T>, ReadEnd>
-    ensures read { ReadingGives (typed_of T.denotes) result (spec.typed (phrases.Let (phrases_of T.denotes terms.items.items) (phrase_of T.denotes inner.phrase)) inner.sort) }
+    ensures read { ReadingGives (typed_of T.denotes) result (spec.typed
+        (phrases.Let (phrases_of T.denotes terms.items.items) (phrase_of T.denotes inner.phrase)) inner.sort) }
     ensures locals { OnOk result (locals.new ≡ take outside locals.old) }
 {
     locals.truncate(outside)?;
@@ -111,7 +113,8 @@ pub(crate) fn read_term<T: Theory>(
     item: &Sexp,
 ) -> Result<Typed<T>, ReadEnd>
     requires { Serves T.numeric env.now.logic }
-    ensures read { ReadingGives (typed_of T.denotes) result (spec.read_term (environment_of env.now) locals.old (item_of item.now)) }
+    ensures read { ReadingGives (typed_of T.denotes) result
+        (spec.read_term (environment_of env.now) locals.old (item_of item.now)) }
     ensures locals { OnOk result (locals.new ≡ locals.old) }
 {
     match item {
@@ -131,7 +134,8 @@ fn read_list<T: Theory>(
     items: Rest<'_>,
 ) -> Result<Typed<T>, ReadEnd>
     requires { Serves T.numeric env.now.logic }
-    ensures read { ReadingGives (typed_of T.denotes) result (spec.read_list (environment_of env.now) locals.old place (items_in items.entry)) }
+    ensures read { ReadingGives (typed_of T.denotes) result
+        (spec.read_list (environment_of env.now) locals.old place (items_in items.entry)) }
     ensures locals { OnOk result (locals.new ≡ locals.old) }
 {
     let Some((head, rest)) = items.split() else {
@@ -161,7 +165,8 @@ fn read_terms<T: Theory>(
     items: Rest<'_>,
 ) -> Result<Several<T>, ReadEnd>
     requires { Serves T.numeric env.now.logic }
-    ensures read { ReadingGives (several_of T.denotes) result (spec.read_terms (environment_of env.now) locals.old phrases.no_terms (items_in items.entry)) }
+    ensures read { ReadingGives (several_of T.denotes) result
+        (spec.read_terms (environment_of env.now) locals.old phrases.no_terms (items_in items.entry)) }
     ensures locals { OnOk result (locals.new ≡ locals.old) }
 {
     let mut done = Several::new(alloc);
@@ -185,7 +190,8 @@ fn read_let<T: Theory>(
     items: Rest<'_>,
 ) -> Result<Typed<T>, ReadEnd>
     requires { Serves T.numeric env.now.logic }
-    ensures read { ReadingGives (typed_of T.denotes) result (spec.read_let (environment_of env.now) locals.old place (items_in items.entry)) }
+    ensures read { ReadingGives (typed_of T.denotes) result
+        (spec.read_let (environment_of env.now) locals.old place (items_in items.entry)) }
     ensures locals { OnOk result (locals.new ≡ locals.old) }
 {
     let (bindings, inner) = let_parts(place, items)?;
@@ -204,7 +210,8 @@ fn read_inner<T: Theory>(
     inner: &Sexp,
 ) -> Result<Typed<T>, ReadEnd>
     requires { Serves T.numeric env.now.logic }
-    ensures read { ReadingGives (typed_of T.denotes) result (spec.read_inner (environment_of env.now) locals.old (bounds_of T.denotes bound) (item_of inner.now)) }
+    ensures read { ReadingGives (typed_of T.denotes) result
+        (spec.read_inner (environment_of env.now) locals.old (bounds_of T.denotes bound) (item_of inner.now)) }
     ensures locals { OnOk result (locals.new ≡ locals.old) }
 {
     let outside = locals.len();
@@ -224,7 +231,8 @@ fn read_bindings<T: Theory>(
     items: Rest<'_>,
 ) -> Result<Bounds<T>, ReadEnd>
     requires { Serves T.numeric env.now.logic }
-    ensures read { ReadingGives (bounds_of T.denotes) result (spec.read_bindings (environment_of env.now) locals.old spec.unbound (items_in items.entry)) }
+    ensures read { ReadingGives (bounds_of T.denotes) result
+        (spec.read_bindings (environment_of env.now) locals.old spec.unbound (items_in items.entry)) }
     ensures locals { OnOk result (locals.new ≡ locals.old) }
 {
     let mut bound = Bounds::new(alloc);
@@ -248,7 +256,8 @@ fn read_binding<T: Theory>(
     item: &Sexp,
 ) -> Result<Bound<T>, ReadEnd>
     requires { Serves T.numeric env.now.logic }
-    ensures read { ReadingGives (bound_of T.denotes) result (spec.read_binding (environment_of env.now) locals.old taken.now (item_of item.now)) }
+    ensures read { ReadingGives (bound_of T.denotes) result
+        (spec.read_binding (environment_of env.now) locals.old taken.now (item_of item.now)) }
     ensures locals { OnOk result (locals.new ≡ locals.old) }
 {
     let (name, term) = binding_parts(env.logic, taken, item)?;

@@ -77,7 +77,8 @@ impl<T: Theory> Phrases<T> {
     /// The terms, in the same order.
     #[cycle(term)]
     fn terms(&self, alloc: Global, outside: u32) -> Result<Terms<T>, Want>
-        ensures { IfOk result (λ terms. exprs_of T.denotes terms.items.items ≡ spec.exprs_at outside (phrases_of T.denotes self.now.items.items)) }
+        ensures { IfOk result (λ terms. exprs_of T.denotes terms.items.items ≡
+            spec.exprs_at outside (phrases_of T.denotes self.now.items.items)) }
     {
         let mut terms = Terms::new(alloc);
         for phrase in self.as_slice() {
@@ -89,7 +90,8 @@ impl<T: Theory> Phrases<T> {
     /// The parts, in the same order.
     #[cycle(part)]
     fn parts(&self, alloc: Global) -> Result<Parts<T>, Want>
-        ensures { IfOk result (λ parts. patterns_of T.denotes parts.items.items ≡ spec.patterns_at (phrases_of T.denotes self.now.items.items)) }
+        ensures { IfOk result (λ parts. patterns_of T.denotes parts.items.items ≡
+            spec.patterns_at (phrases_of T.denotes self.now.items.items)) }
     {
         let mut parts = Parts::new(alloc);
         for phrase in self.as_slice() {

@@ -92,7 +92,8 @@ pub fn sense_of<'a>(
     locals: &Locals,
     name: &[u8],
 ) -> Result<Option<Sense<'a>>, Want>
-    ensures { IfOk result (λ sense. option_map sense_in sense ≡ spec.sense_of (environment_of env.now) locals.now name.now) }
+    ensures { IfOk result (λ sense. option_map sense_in sense ≡
+        spec.sense_of (environment_of env.now) locals.now name.now) }
 {
     if let Some((level, sort)) = locals.find(name) {
         return Ok(Some(Sense::Local(level, sort)));

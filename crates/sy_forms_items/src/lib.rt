@@ -1,4 +1,5 @@
-// What items of text say where a term is read: symbols, numerals and indices, names in scope, and terms as they are written.
+// What items of text say where a term is read: symbols, numerals and indices, names in scope, and terms as they are
+// written.
 #![tactic(auto)]
 
 mod convert;

@@ -33,7 +33,8 @@ impl<'a> Rest<'a> {
 
     /// The first item and the rest; `None` where none is left.
     pub fn split(self) -> Option<(&'a Sexp, Rest<'a>)>
-        ensures { MatchOption result (items_in self.entry ≡ none) (λ x. items_in self.entry ≡ more (item_of x.0.now) (items_in x.1)) }
+        ensures { MatchOption result (items_in self.entry ≡ none) (λ x.
+            items_in self.entry ≡ more (item_of x.0.now) (items_in x.1)) }
     {
         if self.from >= self.items.len() {
             return None;

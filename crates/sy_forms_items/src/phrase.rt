@@ -114,7 +114,8 @@ pub fn nonterminal<T: Theory>(number: u32, sort: Sort) -> Typed<T>
 
 /// An operator at arguments.
 pub fn operation<T: Theory>(operator: Op, arguments: Phrases<T>, sort: Sort) -> Typed<T>
-    ensures { typed_of T.denotes result ≡ record { phrase = spec.Operation operator (phrases_of T.denotes arguments.items.items); sort = sort } }
+    ensures { typed_of T.denotes result ≡
+        record { phrase = spec.Operation operator (phrases_of T.denotes arguments.items.items); sort = sort } }
 {
     Typed {
         phrase: Phrase::Operation(operator, arguments),
@@ -124,7 +125,8 @@ pub fn operation<T: Theory>(operator: Op, arguments: Phrases<T>, sort: Sort) -> 
 
 /// A function at arguments.
 pub fn invocation<T: Theory>(function: Fun, arguments: Phrases<T>, sort: Sort) -> Typed<T>
-    ensures { typed_of T.denotes result ≡ record { phrase = spec.Invocation function (phrases_of T.denotes arguments.items.items); sort = sort } }
+    ensures { typed_of T.denotes result ≡
+        record { phrase = spec.Invocation function (phrases_of T.denotes arguments.items.items); sort = sort } }
 {
     Typed {
         phrase: Phrase::Invocation(function, arguments),
@@ -138,7 +140,11 @@ pub fn binding<T: Theory>(
     bound: Phrases<T>,
     inner: Typed<T>,
 ) -> Result<Typed<T>, Want>
-    ensures { IfOk result (λ x. typed_of T.denotes x ≡ record { phrase = spec.Let (phrases_of T.denotes bound.items.items) (phrase_of T.denotes inner.phrase); sort = inner.sort }) }
+    ensures { IfOk result (λ x. typed_of T.denotes x ≡ record {
+      phrase =
+          spec.Let (phrases_of T.denotes bound.items.items) (phrase_of T.denotes inner.phrase);
+      sort = inner.sort;
+    }) }
 {
     let sort = inner.sort;
     let phrase = Phrase::Let(bound, Box::new(alloc, inner.phrase)?);

@@ -22,7 +22,8 @@ impl Model for Names {
 
     ghost Value = { NameTable };
 
-    ghost view = { λ n. record { sorts = under (λ k. k.items) n.sorts.entries; entities = under (λ k. k.items) n.entities.entries } };
+    ghost view = { λ n.
+        record { sorts = under (λ k. k.items) n.sorts.entries; entities = under (λ k. k.items) n.entities.entries } };
 }
 
 /// The bytes of a name, as a key.

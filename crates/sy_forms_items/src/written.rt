@@ -77,7 +77,8 @@ fn negated_literal<T: Theory>(arguments: &[Phrase<T>]) -> Option<Value<T::Num>>
 
 /// The value -n where the operator at its arguments is `(- n)` with a numeral n of at least 1.
 fn negated<T: Theory>(operator: &Op, arguments: &[Phrase<T>]) -> Option<Value<T::Num>>
-    ensures { option_map (val_of T.denotes) result ≡ spec.literal_negated operator.now (phrases_of T.denotes arguments.now) }
+    ensures { option_map (val_of T.denotes) result ≡
+        spec.literal_negated operator.now (phrases_of T.denotes arguments.now) }
 {
     if is_neg(operator) {
         negated_literal(arguments)
@@ -96,7 +97,8 @@ fn note<T: Theory>(out: &mut Values<T>, value: Value<T::Num>) -> Result<(), Want
 
 /// Appends the value, where there is one.
 fn note_any<T: Theory>(out: &mut Values<T>, value: Option<Value<T::Num>>) -> Result<(), Want>
-    ensures { OnOk result (vals_of T.denotes out.new ≡ vals_of T.denotes out.old ++ spec.at_most_one (option_map (val_of T.denotes) value)) }
+    ensures { OnOk result (vals_of T.denotes out.new ≡
+        vals_of T.denotes out.old ++ spec.at_most_one (option_map (val_of T.denotes) value)) }
 {
     if let Some(value) = value {
         note::<T>(out, value)?;
@@ -109,7 +111,8 @@ impl<T: Theory> Phrase<T> {
     /// a numeral n of at least 1.
     #[cycle(literals)]
     pub fn literals(&self, out: &mut Values<T>) -> Result<(), Want>
-        ensures { OnOk result (vals_of T.denotes out.new ≡ vals_of T.denotes out.old ++ spec.literals_in (phrase_of T.denotes self.now)) }
+        ensures { OnOk result (vals_of T.denotes out.new ≡
+            vals_of T.denotes out.old ++ spec.literals_in (phrase_of T.denotes self.now)) }
     {
         match self {
             Phrase::Literal(value) => note::<T>(out, *value),
@@ -133,7 +136,8 @@ impl<T: Theory> Phrases<T> {
     /// The same over all phrases.
     #[cycle(literals)]
     fn all_literals(&self, out: &mut Values<T>) -> Result<(), Want>
-        ensures { OnOk result (vals_of T.denotes out.new ≡ vals_of T.denotes out.old ++ spec.all_literals (phrases_of T.denotes self.now.items.items)) }
+        ensures { OnOk result (vals_of T.denotes out.new ≡
+            vals_of T.denotes out.old ++ spec.all_literals (phrases_of T.denotes self.now.items.items)) }
     {
         for phrase in self.as_slice() {
             phrase.literals(out)?;

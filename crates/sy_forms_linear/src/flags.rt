@@ -184,7 +184,8 @@ fn groups_of_kind(
     nonterminals: &[Named],
     groups: &Sexps,
 ) -> Result<Seq<bool>, Want>
-    ensures { IfOk result (λ flags. flags ≡ spec.flags_of_kind kind (environment_of env.now) nonterminals.now groups.now) }
+    ensures { IfOk result (λ flags. flags ≡
+        spec.flags_of_kind kind (environment_of env.now) nonterminals.now groups.now) }
 {
     let mut flags = Seq::new(alloc);
     let mut left = Rest::all(groups);
@@ -196,8 +197,8 @@ fn groups_of_kind(
     Ok(flags)
 }
 
-/// Which nonterminals derive numerals alone: each rule is a numeral, `(- n)` with a numeral `n`, or `(Constant Int)`. One
-/// without a group of its own doesn't. `Want` comes where memory runs out.
+/// Which nonterminals derive numerals alone: each rule is a numeral, `(- n)` with a numeral `n`, or `(Constant Int)`.
+/// One without a group of its own doesn't. `Want` comes where memory runs out.
 pub fn constant_groups(
     alloc: Global,
     env: &Environment<'_>,

@@ -25,7 +25,8 @@ impl Circuit {
         ensures grown { GrownCircuit self.old self.new }
         ensures cost { OnOk result (variables self.new ≤ variables self.old + 1) }
         ensures inside { IfOk result (λ r. bit_bound r ≤ variables self.new) }
-        ensures value { IfOk result (λ r. (v : ℕ → Bool) → FollowsPlan v self.new → bit_value v r ≡ joint_value joint (bit_value v a) (bit_value v b)) }
+        ensures value { IfOk result (λ r. (v : ℕ → Bool) →
+            FollowsPlan v self.new → bit_value v r ≡ joint_value joint (bit_value v a) (bit_value v b)) }
     {
         match joint {
             Joint::And => self.and(a, b),
@@ -42,7 +43,8 @@ impl Circuit {
         ensures grown { GrownCircuit self.old self.new }
         ensures cost { OnOk result (variables self.new ≤ variables self.old + length bits.now) }
         ensures inside { IfOk result (λ r. bit_bound r ≤ variables self.new) }
-        ensures value { IfOk result (λ r. (v : ℕ → Bool) → FollowsPlan v self.new → bit_value v r ≡ all_joined joint (map (λ b. bit_value v b) bits.now)) }
+        ensures value { IfOk result (λ r. (v : ℕ → Bool) →
+            FollowsPlan v self.new → bit_value v r ≡ all_joined joint (map (λ b. bit_value v b) bits.now)) }
     {
         let mut all = Bit::Fixed(match joint {
             Joint::And => true,
@@ -72,7 +74,8 @@ impl Circuit {
         ensures cost { OnOk result (variables self.new ≤ variables self.old + length a.now) }
         ensures width { IfOk result (λ r. length r ≡ length a.now) }
         ensures inside { IfOk result (λ r. word_bound r ≤ variables self.new) }
-        ensures value { IfOk result (λ r. (v : ℕ → Bool) → FollowsPlan v self.new → word_number v r ≡ joint_number joint (word_number v a.now) (word_number v b.now)) }
+        ensures value { IfOk result (λ r. (v : ℕ → Bool) →
+            FollowsPlan v self.new → word_number v r ≡ joint_number joint (word_number v a.now) (word_number v b.now)) }
     {
         let mut word = Seq::new(alloc);
         for i in 0..a.len() {
@@ -101,7 +104,8 @@ impl Circuit {
         ensures cost { OnOk result (variables self.new ≤ variables self.old + length a.now) }
         ensures width { IfOk result (λ r. length r ≡ length a.now) }
         ensures inside { IfOk result (λ r. word_bound r ≤ variables self.new) }
-        ensures value { IfOk result (λ r. (v : ℕ → Bool) → FollowsPlan v self.new → word_number v r ≡ 2 ^ length a.now - 1 - joint_number joint (word_number v a.now) (word_number v b.now)) }
+        ensures value { IfOk result (λ r. (v : ℕ → Bool) → FollowsPlan v self.new →
+            word_number v r ≡ 2 ^ length a.now - 1 - joint_number joint (word_number v a.now) (word_number v b.now)) }
     {
         let joined = self.bitwise(alloc, joint, a, b)?;
         let word = inverted(alloc, joined.as_slice())?;

@@ -28,7 +28,8 @@ impl Model for Circuit {
 
     ghost view = { λ c. record { inputs = c.inputs; gates = c.gates } };
 
-    ghost invariant = { λ c. InOrder c.inputs c.gates × (c.inputs + length c.gates < 2 ^ 32) × FindsAll c.table c.gates };
+    ghost invariant = { λ c. InOrder c.inputs c.gates ×
+        (c.inputs + length c.gates < 2 ^ 32) × FindsAll c.table c.gates };
 }
 
 impl Circuit {
@@ -60,8 +61,10 @@ impl Circuit {
     /// The literal of the variable of a gate that was made; `None` exactly where it wasn't.
     fn found(&self, gate: Gate) -> Option<Lit>
         ensures inside { IfSome result (λ l. lit_bound l ≤ variables self.now) }
-        ensures value { IfSome result (λ l. (v : ℕ → Bool) → FollowsPlan v self.now → lit_value v l ≡ gate_value v gate) }
-        ensures found { (place : ℕ) → slice_get self.now.gates place ≡ Some gate → result ≡ Some (record { var = self.now.inputs + place; positive = true }) }
+        ensures value { IfSome result (λ l. (v : ℕ → Bool) →
+            FollowsPlan v self.now → lit_value v l ≡ gate_value v gate) }
+        ensures found { (place : ℕ) → slice_get self.now.gates place ≡ Some gate →
+            result ≡ Some (record { var = self.now.inputs + place; positive = true }) }
     {
         let place = self.place_of(gate)?;
         Some(variable(self.inputs + place))
@@ -91,7 +94,8 @@ impl Circuit {
         ensures cost { OnOk result (variables self.new ≤ variables self.old + 1) }
         ensures inside { IfOk result (λ l. lit_bound l ≤ variables self.new) }
         ensures value { IfOk result (λ l. (v : ℕ → Bool) → FollowsPlan v self.new → lit_value v l ≡ gate_value v gate) }
-        ensures again { (place : ℕ) → slice_get self.old.gates place ≡ Some gate → (self.new ≡ self.old) × (result ≡ Ok (record { var = self.old.inputs + place; positive = true })) }
+        ensures again { (place : ℕ) → slice_get self.old.gates place ≡ Some gate →
+            (self.new ≡ self.old) × (result ≡ Ok (record { var = self.old.inputs + place; positive = true })) }
     {
         if let Some(literal) = self.found(gate) {
             return Ok(literal);
@@ -121,7 +125,8 @@ impl Circuit {
         ensures grown { GrownCircuit self.old self.new }
         ensures cost { OnOk result (variables self.new ≤ variables self.old + 1) }
         ensures inside { IfOk result (λ r. bit_bound r ≤ variables self.new) }
-        ensures value { IfOk result (λ r. (v : ℕ → Bool) → FollowsPlan v self.new → bit_value v r ≡ lit_value v x && lit_value v y) }
+        ensures value { IfOk result (λ r. (v : ℕ → Bool) →
+            FollowsPlan v self.new → bit_value v r ≡ lit_value v x && lit_value v y) }
     {
         if x.var == y.var {
             return Ok(if x.positive == y.positive {
@@ -145,7 +150,8 @@ impl Circuit {
         ensures grown { GrownCircuit self.old self.new }
         ensures cost { OnOk result (variables self.new ≤ variables self.old + 1) }
         ensures inside { IfOk result (λ r. bit_bound r ≤ variables self.new) }
-        ensures value { IfOk result (λ r. (v : ℕ → Bool) → FollowsPlan v self.new → bit_value v r ≡ xor (lit_value v x) (lit_value v y)) }
+        ensures value { IfOk result (λ r. (v : ℕ → Bool) →
+            FollowsPlan v self.new → bit_value v r ≡ xor (lit_value v x) (lit_value v y)) }
     {
         let turned = x.positive != y.positive;
         if x.var == y.var {
@@ -166,7 +172,8 @@ impl Circuit {
         ensures grown { GrownCircuit self.old self.new }
         ensures cost { OnOk result (variables self.new ≤ variables self.old + 1) }
         ensures inside { IfOk result (λ r. bit_bound r ≤ variables self.new) }
-        ensures value { IfOk result (λ r. (v : ℕ → Bool) → FollowsPlan v self.new → bit_value v r ≡ cond (lit_value v test) (lit_value v x) (lit_value v y)) }
+        ensures value { IfOk result (λ r. (v : ℕ → Bool) →
+            FollowsPlan v self.new → bit_value v r ≡ cond (lit_value v test) (lit_value v x) (lit_value v y)) }
     {
         if x.var == y.var {
             return if x.positive == y.positive {
@@ -226,7 +233,8 @@ impl Circuit {
         ensures grown { GrownCircuit self.old self.new }
         ensures cost { OnOk result (variables self.new ≤ variables self.old + 1) }
         ensures inside { IfOk result (λ r. bit_bound r ≤ variables self.new) }
-        ensures value { IfOk result (λ r. (v : ℕ → Bool) → FollowsPlan v self.new → bit_value v r ≡ bit_value v a && bit_value v b) }
+        ensures value { IfOk result (λ r. (v : ℕ → Bool) →
+            FollowsPlan v self.new → bit_value v r ≡ bit_value v a && bit_value v b) }
     {
         match a {
             Bit::Fixed(x) => Ok(if x { b } else { Bit::Fixed(false) }),
@@ -245,7 +253,8 @@ impl Circuit {
         ensures grown { GrownCircuit self.old self.new }
         ensures cost { OnOk result (variables self.new ≤ variables self.old + 1) }
         ensures inside { IfOk result (λ r. bit_bound r ≤ variables self.new) }
-        ensures value { IfOk result (λ r. (v : ℕ → Bool) → FollowsPlan v self.new → bit_value v r ≡ xor (bit_value v a) (bit_value v b)) }
+        ensures value { IfOk result (λ r. (v : ℕ → Bool) →
+            FollowsPlan v self.new → bit_value v r ≡ xor (bit_value v a) (bit_value v b)) }
     {
         match a {
             Bit::Fixed(x) => Ok(if x { b.negated() } else { b }),
@@ -264,7 +273,8 @@ impl Circuit {
         ensures grown { GrownCircuit self.old self.new }
         ensures cost { OnOk result (variables self.new ≤ variables self.old + 1) }
         ensures inside { IfOk result (λ r. bit_bound r ≤ variables self.new) }
-        ensures value { IfOk result (λ r. (v : ℕ → Bool) → FollowsPlan v self.new → bit_value v r ≡ bit_value v a || bit_value v b) }
+        ensures value { IfOk result (λ r. (v : ℕ → Bool) →
+            FollowsPlan v self.new → bit_value v r ≡ bit_value v a || bit_value v b) }
     {
         let neither = self.and(a.negated(), b.negated())?;
         Ok(neither.negated())
@@ -279,7 +289,8 @@ impl Circuit {
         ensures grown { GrownCircuit self.old self.new }
         ensures cost { OnOk result (variables self.new ≤ variables self.old + 1) }
         ensures inside { IfOk result (λ r. bit_bound r ≤ variables self.new) }
-        ensures value { IfOk result (λ r. (v : ℕ → Bool) → FollowsPlan v self.new → bit_value v r ≡ cond (bit_value v test) (bit_value v a) (bit_value v b)) }
+        ensures value { IfOk result (λ r. (v : ℕ → Bool) →
+            FollowsPlan v self.new → bit_value v r ≡ cond (bit_value v test) (bit_value v a) (bit_value v b)) }
     {
         match test {
             Bit::Fixed(t) => Ok(if t { a } else { b }),
@@ -311,7 +322,8 @@ impl Circuit {
         ensures cost { OnOk result (variables self.new ≤ variables self.old + 3) }
         ensures digit_inside { IfOk result (λ r. bit_bound r.digit ≤ variables self.new) }
         ensures carry_inside { IfOk result (λ r. bit_bound r.carry ≤ variables self.new) }
-        ensures value { IfOk result (λ r. (v : ℕ → Bool) → FollowsPlan v self.new → bit_number v r.digit + 2 * bit_number v r.carry ≡ bit_number v a + bit_number v b + bit_number v carry) }
+        ensures value { IfOk result (λ r. (v : ℕ → Bool) → FollowsPlan v self.new →
+            bit_number v r.digit + 2 * bit_number v r.carry ≡ bit_number v a + bit_number v b + bit_number v carry) }
     {
         let differ = self.xor(a, b)?;
         let digit = self.xor(differ, carry)?;

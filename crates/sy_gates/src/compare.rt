@@ -34,7 +34,8 @@ impl Circuit {
         ensures grown { GrownCircuit self.old self.new }
         ensures cost { OnOk result (variables self.new ≤ variables self.old + 3 * length a.now) }
         ensures inside { IfOk result (λ r. bit_bound r ≤ variables self.new) }
-        ensures value { IfOk result (λ r. (v : ℕ → Bool) → FollowsPlan v self.new → bit_value v r ≡ order_value order (word_number v a.now) (word_number v b.now)) }
+        ensures value { IfOk result (λ r. (v : ℕ → Bool) →
+            FollowsPlan v self.new → bit_value v r ≡ order_value order (word_number v a.now) (word_number v b.now)) }
     {
         match order {
             Order::Less => self.less(alloc, a, b),
@@ -60,7 +61,9 @@ impl Circuit {
         ensures grown { GrownCircuit self.old self.new }
         ensures cost { OnOk result (variables self.new ≤ variables self.old + 3 * length a.now + 2) }
         ensures inside { IfOk result (λ r. bit_bound r ≤ variables self.new) }
-        ensures value { IfOk result (λ r. (v : ℕ → Bool) → FollowsPlan v self.new → (bit_value v r ≡ true ↔ Stands order (signed_number (length a.now) (word_number v a.now)) (signed_number (length a.now) (word_number v b.now)))) }
+        ensures value { IfOk result (λ r. (v : ℕ → Bool) → FollowsPlan v self.new →
+            (bit_value v r ≡ true ↔ Stands order (signed_number (length a.now) (word_number v a.now))
+            (signed_number (length a.now) (word_number v b.now)))) }
     {
         match order {
             Order::Less => self.signed_less(alloc, a, b),
@@ -80,7 +83,8 @@ impl Circuit {
         ensures cost { OnOk result (variables self.new ≤ variables self.old + 2 * length a.now) }
         ensures width { IfOk result (λ r. length r ≡ 1) }
         ensures inside { IfOk result (λ r. word_bound r ≤ variables self.new) }
-        ensures value { IfOk result (λ r. (v : ℕ → Bool) → FollowsPlan v self.new → word_number v r ≡ cond (eqb (word_number v a.now) (word_number v b.now)) 1 0) }
+        ensures value { IfOk result (λ r. (v : ℕ → Bool) →
+            FollowsPlan v self.new → word_number v r ≡ cond (eqb (word_number v a.now) (word_number v b.now)) 1 0) }
     {
         let same = self.equal(a, b)?;
         let word = joined(alloc, &[same], &[])?;

@@ -55,9 +55,11 @@ fn add_differing(
     x: Lit,
     y: Lit,
 ) -> Result<(), Want>
-    ensures value { OnOk result ((v : ℕ → Bool) → clauses_value v clauses.new ≡ (clauses_value v clauses.old && (lit_value v unless || xor (lit_value v x) (lit_value v y)))) }
+    ensures value { OnOk result ((v : ℕ → Bool) → clauses_value v clauses.new ≡
+        (clauses_value v clauses.old && (lit_value v unless || xor (lit_value v x) (lit_value v y)))) }
     ensures count { OnOk result (length clauses.new ≤ length clauses.old + 2) }
-    ensures bound { OnOk result (clauses_bound clauses.new ≤ max (clauses_bound clauses.old) (max (lit_bound unless) (max (lit_bound x) (lit_bound y)))) }
+    ensures bound { OnOk result (clauses_bound clauses.new ≤
+        max (clauses_bound clauses.old) (max (lit_bound unless) (max (lit_bound x) (lit_bound y)))) }
 {
     let not_x = negated(x);
     let not_y = negated(y);
@@ -73,9 +75,11 @@ fn add_constant(
     made: u32,
     truth: bool,
 ) -> Result<(), Want>
-    ensures value { OnOk result ((v : ℕ → Bool) → clauses_value v clauses.new ≡ (clauses_value v clauses.old && not (xor (v made) (gate_value v (Constant truth))))) }
+    ensures value { OnOk result ((v : ℕ → Bool) → clauses_value v clauses.new ≡
+        (clauses_value v clauses.old && not (xor (v made) (gate_value v (Constant truth))))) }
     ensures count { OnOk result (length clauses.new ≤ length clauses.old + 4) }
-    ensures bound { OnOk result (clauses_bound clauses.new ≤ max (clauses_bound clauses.old) (max (made + 1) (gate_bound (Constant truth)))) }
+    ensures bound { OnOk result (clauses_bound clauses.new ≤
+        max (clauses_bound clauses.old) (max (made + 1) (gate_bound (Constant truth)))) }
 {
     let literal = Lit {
         var: made,
@@ -93,9 +97,11 @@ fn add_and(
     a: Lit,
     b: Lit,
 ) -> Result<(), Want>
-    ensures value { OnOk result ((v : ℕ → Bool) → clauses_value v clauses.new ≡ (clauses_value v clauses.old && not (xor (v made) (gate_value v (And a b))))) }
+    ensures value { OnOk result ((v : ℕ → Bool) →
+        clauses_value v clauses.new ≡ (clauses_value v clauses.old && not (xor (v made) (gate_value v (And a b))))) }
     ensures count { OnOk result (length clauses.new ≤ length clauses.old + 4) }
-    ensures bound { OnOk result (clauses_bound clauses.new ≤ max (clauses_bound clauses.old) (max (made + 1) (gate_bound (And a b)))) }
+    ensures bound { OnOk result (clauses_bound clauses.new ≤
+        max (clauses_bound clauses.old) (max (made + 1) (gate_bound (And a b)))) }
 {
     let on = variable(made);
     let off = negated(on);
@@ -115,9 +121,11 @@ fn add_xor(
     a: Lit,
     b: Lit,
 ) -> Result<(), Want>
-    ensures value { OnOk result ((v : ℕ → Bool) → clauses_value v clauses.new ≡ (clauses_value v clauses.old && not (xor (v made) (gate_value v (Xor a b))))) }
+    ensures value { OnOk result ((v : ℕ → Bool) →
+        clauses_value v clauses.new ≡ (clauses_value v clauses.old && not (xor (v made) (gate_value v (Xor a b))))) }
     ensures count { OnOk result (length clauses.new ≤ length clauses.old + 4) }
-    ensures bound { OnOk result (clauses_bound clauses.new ≤ max (clauses_bound clauses.old) (max (made + 1) (gate_bound (Xor a b)))) }
+    ensures bound { OnOk result (clauses_bound clauses.new ≤
+        max (clauses_bound clauses.old) (max (made + 1) (gate_bound (Xor a b)))) }
 {
     let on = variable(made);
     let off = negated(on);
@@ -136,9 +144,11 @@ fn add_choose(
     a: Lit,
     b: Lit,
 ) -> Result<(), Want>
-    ensures value { OnOk result ((v : ℕ → Bool) → clauses_value v clauses.new ≡ (clauses_value v clauses.old && not (xor (v made) (gate_value v (Choose t a b))))) }
+    ensures value { OnOk result ((v : ℕ → Bool) → clauses_value v clauses.new ≡
+        (clauses_value v clauses.old && not (xor (v made) (gate_value v (Choose t a b))))) }
     ensures count { OnOk result (length clauses.new ≤ length clauses.old + 4) }
-    ensures bound { OnOk result (clauses_bound clauses.new ≤ max (clauses_bound clauses.old) (max (made + 1) (gate_bound (Choose t a b)))) }
+    ensures bound { OnOk result (clauses_bound clauses.new ≤
+        max (clauses_bound clauses.old) (max (made + 1) (gate_bound (Choose t a b)))) }
 {
     let on = variable(made);
     let not_t = negated(t);
@@ -156,9 +166,11 @@ pub fn add_gate(
     made: u32,
     gate: Gate,
 ) -> Result<(), Want>
-    ensures value { OnOk result ((v : ℕ → Bool) → clauses_value v clauses.new ≡ (clauses_value v clauses.old && not (xor (v made) (gate_value v gate)))) }
+    ensures value { OnOk result ((v : ℕ → Bool) →
+        clauses_value v clauses.new ≡ (clauses_value v clauses.old && not (xor (v made) (gate_value v gate)))) }
     ensures count { OnOk result (length clauses.new ≤ length clauses.old + 4) }
-    ensures bound { OnOk result (clauses_bound clauses.new ≤ max (clauses_bound clauses.old) (max (made + 1) (gate_bound gate))) }
+    ensures bound { OnOk result (clauses_bound clauses.new ≤
+        max (clauses_bound clauses.old) (max (made + 1) (gate_bound gate))) }
 {
     match gate {
         Gate::Constant(b) => add_constant(alloc, clauses, made, b),

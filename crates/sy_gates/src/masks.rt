@@ -28,7 +28,8 @@ fn is_literal(bit: Bit, literal: Lit) -> bool
 
 /// Whether all bits are this literal.
 fn are_all(bits: &[Bit], literal: Lit) -> bool
-    ensures { IsTrue result → (v : ℕ → Bool) → word_number v bits.now ≡ cond (lit_value v literal) (2 ^ length bits.now - 1) 0 }
+    ensures { IsTrue result → (v : ℕ → Bool) →
+        word_number v bits.now ≡ cond (lit_value v literal) (2 ^ length bits.now - 1) 0 }
 {
     for bit in bits {
         if !is_literal(*bit, literal) {
@@ -41,7 +42,8 @@ fn are_all(bits: &[Bit], literal: Lit) -> bool
 /// The sign that a word is, where its bits above the first are one literal, and the first is true or that literal too.
 pub fn sign_of(word: &[Bit]) -> Option<Sign>
     ensures bound { IfSome result (λ sign. bit_bound sign.bit ≤ word_bound word.now) }
-    ensures value { IfSome result (λ sign. (v : ℕ → Bool) → word_number v word.now ≡ cond (bit_value v sign.bit) (2 ^ length word.now - 1) (cond sign.odd 1 0)) }
+    ensures value { IfSome result (λ sign. (v : ℕ → Bool) →
+        word_number v word.now ≡ cond (bit_value v sign.bit) (2 ^ length word.now - 1) (cond sign.odd 1 0)) }
 {
     let (first, above) = word.split_first()?;
     let Bit::Of(literal) = *above.first()? else {
@@ -73,7 +75,8 @@ impl Circuit {
         ensures cost { OnOk result (variables self.new ≤ variables self.old + 4 * length a.now) }
         ensures width { IfOk result (λ r. length r ≡ length a.now) }
         ensures inside { IfOk result (λ r. word_bound r ≤ variables self.new) }
-        ensures value { IfOk result (λ r. (v : ℕ → Bool) → FollowsPlan v self.new → word_number v r ≡ word_number v a.now * cond (bit_value v sign.bit) (2 ^ length a.now - 1) (cond sign.odd 1 0) % 2 ^ length a.now) }
+        ensures value { IfOk result (λ r. (v : ℕ → Bool) → FollowsPlan v self.new → word_number v r ≡ word_number v
+            a.now * cond (bit_value v sign.bit) (2 ^ length a.now - 1) (cond sign.odd 1 0) % 2 ^ length a.now) }
     {
         let minus = self.neg(alloc, a)?;
         let none = zeros(alloc, a.len())?;

@@ -29,7 +29,8 @@ impl Circuit {
         ensures cost { OnOk result (variables self.new ≤ variables self.old + 4 * length a.now) }
         ensures width { IfOk result (λ r. length r ≡ length a.now) }
         ensures inside { IfOk result (λ r. word_bound r ≤ variables self.new) }
-        ensures value { IfOk result (λ r. (v : ℕ → Bool) → FollowsPlan v self.new → word_number v r ≡ (word_number v sum.now + cond (bit_value v bit) (word_number v a.now * 2 ^ by) 0) % 2 ^ length a.now) }
+        ensures value { IfOk result (λ r. (v : ℕ → Bool) → FollowsPlan v self.new → word_number v r ≡
+            (word_number v sum.now + cond (bit_value v bit) (word_number v a.now * 2 ^ by) 0) % 2 ^ length a.now) }
     {
         let moved = moved_up(alloc, a, by)?;
         let none = zeros(alloc, a.len())?;
@@ -49,7 +50,8 @@ impl Circuit {
         ensures cost { OnOk result (variables self.new ≤ variables self.old + 4 * (length a.now * length a.now)) }
         ensures width { IfOk result (λ r. length r ≡ length a.now) }
         ensures inside { IfOk result (λ r. word_bound r ≤ variables self.new) }
-        ensures value { IfOk result (λ r. (v : ℕ → Bool) → FollowsPlan v self.new → word_number v r ≡ word_number v a.now * word_number v b.now % 2 ^ length a.now) }
+        ensures value { IfOk result (λ r. (v : ℕ → Bool) →
+            FollowsPlan v self.new → word_number v r ≡ word_number v a.now * word_number v b.now % 2 ^ length a.now) }
     {
         let mut sum = zeros(alloc, a.len())?;
         for i in 0..a.len() {
@@ -69,7 +71,8 @@ impl Circuit {
         ensures cost { OnOk result (variables self.new ≤ variables self.old + 4 * (length a.now * length a.now)) }
         ensures width { IfOk result (λ r. length r ≡ length a.now) }
         ensures inside { IfOk result (λ r. word_bound r ≤ variables self.new) }
-        ensures value { IfOk result (λ r. (v : ℕ → Bool) → FollowsPlan v self.new → word_number v r ≡ word_number v a.now * word_number v b.now % 2 ^ length a.now) }
+        ensures value { IfOk result (λ r. (v : ℕ → Bool) →
+            FollowsPlan v self.new → word_number v r ≡ word_number v a.now * word_number v b.now % 2 ^ length a.now) }
     {
         if let Some(sign) = sign_of(b) {
             let word = self.times_sign(alloc, a, sign)?;

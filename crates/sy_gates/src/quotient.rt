@@ -44,8 +44,10 @@ impl Circuit {
         ensures width { IfOk result (λ r. length r.rest ≡ length b.now) }
         ensures inside { IfOk result (λ r. word_bound r.rest ≤ variables self.new) }
         ensures digit_inside { IfOk result (λ r. bit_bound r.digit ≤ variables self.new) }
-        ensures digit { IfOk result (λ r. (v : ℕ → Bool) → FollowsPlan v self.new → bit_value v r.digit ≡ leb (word_number v b.now) (word_number v rest.now * 2 + bit_number v next)) }
-        ensures rest { IfOk result (λ r. (v : ℕ → Bool) → FollowsPlan v self.new → word_number v r.rest ≡ (word_number v rest.now * 2 + bit_number v next - cond (bit_value v r.digit) (word_number v b.now) 0) % 2 ^ length b.now) }
+        ensures digit { IfOk result (λ r. (v : ℕ → Bool) → FollowsPlan v self.new →
+            bit_value v r.digit ≡ leb (word_number v b.now) (word_number v rest.now * 2 + bit_number v next)) }
+        ensures rest { IfOk result (λ r. (v : ℕ → Bool) → FollowsPlan v self.new → word_number v r.rest ≡ (word_number v
+            rest.now * 2 + bit_number v next - cond (bit_value v r.digit) (word_number v b.now) 0) % 2 ^ length b.now) }
     {
         let brought = joined(alloc, &[next], rest)?;
         let taken = joined(alloc, b, &[Bit::Fixed(false)])?;
@@ -71,8 +73,10 @@ impl Circuit {
         ensures remainder_width { IfOk result (λ r. length r.remainder ≡ length a.now) }
         ensures quotient_inside { IfOk result (λ r. word_bound r.quotient ≤ variables self.new) }
         ensures remainder_inside { IfOk result (λ r. word_bound r.remainder ≤ variables self.new) }
-        ensures quotient { IfOk result (λ r. (v : ℕ → Bool) → FollowsPlan v self.new → word_number v r.quotient ≡ quotient_of (length a.now) (word_number v a.now) (word_number v b.now)) }
-        ensures remainder { IfOk result (λ r. (v : ℕ → Bool) → FollowsPlan v self.new → word_number v r.remainder ≡ remainder_of (word_number v a.now) (word_number v b.now)) }
+        ensures quotient { IfOk result (λ r. (v : ℕ → Bool) → FollowsPlan v self.new →
+            word_number v r.quotient ≡ quotient_of (length a.now) (word_number v a.now) (word_number v b.now)) }
+        ensures remainder { IfOk result (λ r. (v : ℕ → Bool) → FollowsPlan v self.new →
+            word_number v r.remainder ≡ remainder_of (word_number v a.now) (word_number v b.now)) }
     {
         let width = a.len();
         let mut quotient = zeros(alloc, 0)?;

@@ -20,7 +20,8 @@ impl Circuit {
         ensures cost { OnOk result (variables self.new ≤ variables self.old + length a.now * length by.now) }
         ensures width { IfOk result (λ r. length r ≡ length a.now) }
         ensures inside { IfOk result (λ r. word_bound r ≤ variables self.new) }
-        ensures value { IfOk result (λ r. (v : ℕ → Bool) → FollowsPlan v self.new → word_number v r ≡ word_number v a.now * 2 ^ word_number v by.now % 2 ^ length a.now) }
+        ensures value { IfOk result (λ r. (v : ℕ → Bool) → FollowsPlan v self.new →
+            word_number v r ≡ word_number v a.now * 2 ^ word_number v by.now % 2 ^ length a.now) }
     {
         let mut word = joined(alloc, a, &[])?;
         let mut step = usize::min(1, a.len());
@@ -43,7 +44,8 @@ impl Circuit {
         ensures cost { OnOk result (variables self.new ≤ variables self.old + length a.now * length by.now) }
         ensures width { IfOk result (λ r. length r ≡ length a.now) }
         ensures inside { IfOk result (λ r. word_bound r ≤ variables self.new) }
-        ensures value { IfOk result (λ r. (v : ℕ → Bool) → FollowsPlan v self.new → word_number v r ≡ word_number v a.now / 2 ^ word_number v by.now) }
+        ensures value { IfOk result (λ r. (v : ℕ → Bool) →
+            FollowsPlan v self.new → word_number v r ≡ word_number v a.now / 2 ^ word_number v by.now) }
     {
         let word = self.filled_shift_down(alloc, a, by, Bit::Fixed(false))?;
         Ok(word)
@@ -68,7 +70,8 @@ impl Circuit {
         ensures cost { OnOk result (variables self.new ≤ variables self.old + length a.now * length by.now) }
         ensures width { IfOk result (λ r. length r ≡ length a.now) }
         ensures inside { IfOk result (λ r. word_bound r ≤ variables self.new) }
-        ensures value { IfOk result (λ r. (v : ℕ → Bool) → FollowsPlan v self.new → word_number v r ≡ filled_shift_down (length a.now) (bit_value v fill) (word_number v a.now) (word_number v by.now)) }
+        ensures value { IfOk result (λ r. (v : ℕ → Bool) → FollowsPlan v self.new → word_number v r ≡
+            filled_shift_down (length a.now) (bit_value v fill) (word_number v a.now) (word_number v by.now)) }
     {
         let mut word = joined(alloc, a, &[])?;
         let mut step = usize::min(1, a.len());

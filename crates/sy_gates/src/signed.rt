@@ -1,6 +1,19 @@
 ghost use Rattle.std.specs.Prelude.{◌≡◌, ℕ, Bool, true, ◌+◌, ◌*◌, ◌^◌, ◌≤◌, ◌<◌, ◌-◌, ◌%◌, ◌↔◌, ◌<ℤ◌, cond, length, OnOk, IfOk, [], ◌++◌, ◌∷◌};
 ghost use Rattle.sy_gates.specs.Circuits.{variables, FollowsPlan, GrownCircuit, bit_value, bit_bound, word_bound, word_number, xor};
-ghost use Rattle.sy_gates.specs.Arithmetic.{has_top_bit, minus_vector, magnitude, quotient_of, remainder_of, signed_number, signed_quotient, signed_remainder, signed_modulo, by_signs, moved_to_sign, signed_shift_down};
+ghost use Rattle.sy_gates.specs.Arithmetic.{
+  has_top_bit,
+  minus_vector,
+  magnitude,
+  quotient_of,
+  remainder_of,
+  signed_number,
+  signed_quotient,
+  signed_remainder,
+  signed_modulo,
+  by_signs,
+  moved_to_sign,
+  signed_shift_down,
+};
 
 use crate::circuit::Circuit;
 use crate::gate::Bit;
@@ -29,7 +42,8 @@ impl Circuit {
         ensures cost { OnOk result (variables self.new ≤ variables self.old + 4 * length a.now) }
         ensures width { IfOk result (λ r. length r ≡ length a.now) }
         ensures inside { IfOk result (λ r. word_bound r ≤ variables self.new) }
-        ensures value { IfOk result (λ r. (v : ℕ → Bool) → FollowsPlan v self.new → word_number v r ≡ cond (bit_value v test) (minus_vector (length a.now) (word_number v a.now)) (word_number v a.now)) }
+        ensures value { IfOk result (λ r. (v : ℕ → Bool) → FollowsPlan v self.new → word_number v r ≡
+            cond (bit_value v test) (minus_vector (length a.now) (word_number v a.now)) (word_number v a.now)) }
     {
         let turned = self.neg(alloc, a)?;
         let word = self.choose_word(alloc, test, turned.as_slice(), a)?;
@@ -46,7 +60,9 @@ impl Circuit {
         ensures grown { GrownCircuit self.old self.new }
         ensures cost { OnOk result (variables self.new ≤ variables self.old + 3 * length a.now + 2) }
         ensures inside { IfOk result (λ r. bit_bound r ≤ variables self.new) }
-        ensures value { IfOk result (λ r. (v : ℕ → Bool) → FollowsPlan v self.new → (bit_value v r ≡ true ↔ (signed_number (length a.now) (word_number v a.now) <ℤ signed_number (length a.now) (word_number v b.now)))) }
+        ensures value { IfOk result (λ r. (v : ℕ → Bool) →
+            FollowsPlan v self.new → (bit_value v r ≡ true ↔ (signed_number (length a.now)
+            (word_number v a.now) <ℤ signed_number (length a.now) (word_number v b.now)))) }
     {
         let below = self.less(alloc, a, b)?;
         let differ = self.xor(top(a), top(b))?;
@@ -63,13 +79,18 @@ impl Circuit {
         requires small { length a.now < 2 ^ 32 }
         requires room { variables self.old + 4 * (length a.now * (length a.now + 1)) + 8 * length a.now < 2 ^ 31 }
         ensures grown { GrownCircuit self.old self.new }
-        ensures cost { OnOk result (variables self.new ≤ variables self.old + 4 * (length a.now * (length a.now + 1)) + 8 * length a.now) }
+        ensures cost { OnOk result (variables self.new ≤
+            variables self.old + 4 * (length a.now * (length a.now + 1)) + 8 * length a.now) }
         ensures quotient_width { IfOk result (λ r. length r.quotient ≡ length a.now) }
         ensures remainder_width { IfOk result (λ r. length r.remainder ≡ length a.now) }
         ensures quotient_inside { IfOk result (λ r. word_bound r.quotient ≤ variables self.new) }
         ensures remainder_inside { IfOk result (λ r. word_bound r.remainder ≤ variables self.new) }
-        ensures quotient { IfOk result (λ r. (v : ℕ → Bool) → FollowsPlan v self.new → word_number v r.quotient ≡ quotient_of (length a.now) (magnitude (length a.now) (word_number v a.now)) (magnitude (length a.now) (word_number v b.now))) }
-        ensures remainder { IfOk result (λ r. (v : ℕ → Bool) → FollowsPlan v self.new → word_number v r.remainder ≡ remainder_of (magnitude (length a.now) (word_number v a.now)) (magnitude (length a.now) (word_number v b.now))) }
+        ensures quotient { IfOk result (λ r. (v : ℕ → Bool) →
+            FollowsPlan v self.new → word_number v r.quotient ≡ quotient_of (length a.now)
+            (magnitude (length a.now) (word_number v a.now)) (magnitude (length a.now) (word_number v b.now))) }
+        ensures remainder { IfOk result (λ r. (v : ℕ → Bool) → FollowsPlan v self.new →
+            word_number v r.remainder ≡ remainder_of (magnitude (length a.now) (word_number v a.now))
+            (magnitude (length a.now) (word_number v b.now))) }
     {
         let left = self.negate_where(alloc, top(a), a)?;
         let right = self.negate_where(alloc, top(b), b)?;
@@ -86,10 +107,12 @@ impl Circuit {
         requires small { length a.now < 2 ^ 32 }
         requires room { variables self.old + 4 * (length a.now * (length a.now + 1)) + 12 * length a.now + 1 < 2 ^ 31 }
         ensures grown { GrownCircuit self.old self.new }
-        ensures cost { OnOk result (variables self.new ≤ variables self.old + 4 * (length a.now * (length a.now + 1)) + 12 * length a.now + 1) }
+        ensures cost { OnOk result (variables self.new ≤
+            variables self.old + 4 * (length a.now * (length a.now + 1)) + 12 * length a.now + 1) }
         ensures width { IfOk result (λ r. length r ≡ length a.now) }
         ensures inside { IfOk result (λ r. word_bound r ≤ variables self.new) }
-        ensures value { IfOk result (λ r. (v : ℕ → Bool) → FollowsPlan v self.new → word_number v r ≡ signed_quotient (length a.now) (word_number v a.now) (word_number v b.now)) }
+        ensures value { IfOk result (λ r. (v : ℕ → Bool) → FollowsPlan v self.new →
+            word_number v r ≡ signed_quotient (length a.now) (word_number v a.now) (word_number v b.now)) }
     {
         let quotient = self.divide_magnitudes(alloc, a, b)?.quotient;
         let differ = self.xor(top(a), top(b))?;
@@ -111,10 +134,12 @@ impl Circuit {
         requires small { length a.now < 2 ^ 32 }
         requires room { variables self.old + 4 * (length a.now * (length a.now + 1)) + 12 * length a.now < 2 ^ 31 }
         ensures grown { GrownCircuit self.old self.new }
-        ensures cost { OnOk result (variables self.new ≤ variables self.old + 4 * (length a.now * (length a.now + 1)) + 12 * length a.now) }
+        ensures cost { OnOk result (variables self.new ≤
+            variables self.old + 4 * (length a.now * (length a.now + 1)) + 12 * length a.now) }
         ensures width { IfOk result (λ r. length r ≡ length a.now) }
         ensures inside { IfOk result (λ r. word_bound r ≤ variables self.new) }
-        ensures value { IfOk result (λ r. (v : ℕ → Bool) → FollowsPlan v self.new → word_number v r ≡ signed_remainder (length a.now) (word_number v a.now) (word_number v b.now)) }
+        ensures value { IfOk result (λ r. (v : ℕ → Bool) → FollowsPlan v self.new →
+            word_number v r ≡ signed_remainder (length a.now) (word_number v a.now) (word_number v b.now)) }
     {
         let rest = self.divide_magnitudes(alloc, a, b)?.remainder;
         let word = self.negate_where(alloc, top(a), rest.as_slice())?;
@@ -130,10 +155,12 @@ impl Circuit {
         requires small { length a.now < 2 ^ 32 }
         requires room { variables self.old + 4 * (length a.now * (length a.now + 1)) + 19 * length a.now + 1 < 2 ^ 31 }
         ensures grown { GrownCircuit self.old self.new }
-        ensures cost { OnOk result (variables self.new ≤ variables self.old + 4 * (length a.now * (length a.now + 1)) + 19 * length a.now + 1) }
+        ensures cost { OnOk result (variables self.new ≤
+            variables self.old + 4 * (length a.now * (length a.now + 1)) + 19 * length a.now + 1) }
         ensures width { IfOk result (λ r. length r ≡ length a.now) }
         ensures inside { IfOk result (λ r. word_bound r ≤ variables self.new) }
-        ensures value { IfOk result (λ r. (v : ℕ → Bool) → FollowsPlan v self.new → word_number v r ≡ signed_modulo (length a.now) (word_number v a.now) (word_number v b.now)) }
+        ensures value { IfOk result (λ r. (v : ℕ → Bool) → FollowsPlan v self.new →
+            word_number v r ≡ signed_modulo (length a.now) (word_number v a.now) (word_number v b.now)) }
     {
         let rest = self.divide_magnitudes(alloc, a, b)?.remainder;
         let word = self.signed_choice(alloc, top(a), top(b), rest.as_slice(), b)?;
@@ -159,7 +186,8 @@ impl Circuit {
         ensures cost { OnOk result (variables self.new ≤ variables self.old + 11 * length rest.now + 1) }
         ensures width { IfOk result (λ r. length r ≡ length rest.now) }
         ensures inside { IfOk result (λ r. word_bound r ≤ variables self.new) }
-        ensures value { IfOk result (λ r. (v : ℕ → Bool) → FollowsPlan v self.new → word_number v r ≡ moved_to_sign (length rest.now) (bit_value v left) (bit_value v right) (word_number v rest.now) (word_number v b.now)) }
+        ensures value { IfOk result (λ r. (v : ℕ → Bool) → FollowsPlan v self.new → word_number v r ≡ moved_to_sign
+            (length rest.now) (bit_value v left) (bit_value v right) (word_number v rest.now) (word_number v b.now)) }
     {
         let none = zeros(alloc, rest.len())?;
         let moved = self.choice_by_signs(alloc, left, right, rest, b)?;
@@ -187,7 +215,8 @@ impl Circuit {
         ensures cost { OnOk result (variables self.new ≤ variables self.old + 8 * length rest.now + 1) }
         ensures width { IfOk result (λ r. length r ≡ length rest.now) }
         ensures inside { IfOk result (λ r. word_bound r ≤ variables self.new) }
-        ensures value { IfOk result (λ r. (v : ℕ → Bool) → FollowsPlan v self.new → word_number v r ≡ by_signs (length rest.now) (bit_value v left) (bit_value v right) (word_number v rest.now) (word_number v b.now)) }
+        ensures value { IfOk result (λ r. (v : ℕ → Bool) → FollowsPlan v self.new → word_number v r ≡ by_signs
+            (length rest.now) (bit_value v left) (bit_value v right) (word_number v rest.now) (word_number v b.now)) }
     {
         let signed = self.negate_where(alloc, left, rest)?;
         let other = self.add(alloc, signed.as_slice(), b)?;
@@ -209,10 +238,12 @@ impl Circuit {
         requires right { word_bound by.now ≤ variables self.old }
         requires room { variables self.old + length a.now * length by.now + 2 * length a.now < 2 ^ 31 }
         ensures grown { GrownCircuit self.old self.new }
-        ensures cost { OnOk result (variables self.new ≤ variables self.old + length a.now * length by.now + 2 * length a.now) }
+        ensures cost { OnOk result (variables self.new ≤
+            variables self.old + length a.now * length by.now + 2 * length a.now) }
         ensures width { IfOk result (λ r. length r ≡ length a.now) }
         ensures inside { IfOk result (λ r. word_bound r ≤ variables self.new) }
-        ensures value { IfOk result (λ r. (v : ℕ → Bool) → FollowsPlan v self.new → word_number v r ≡ signed_shift_down (length a.now) (word_number v a.now) (word_number v by.now)) }
+        ensures value { IfOk result (λ r. (v : ℕ → Bool) → FollowsPlan v self.new →
+            word_number v r ≡ signed_shift_down (length a.now) (word_number v a.now) (word_number v by.now)) }
     {
         let word = self.filled_shift_down(alloc, a, by, top(a))?;
         Ok(word)

@@ -41,7 +41,8 @@ impl Table {
 
     /// Notes the place of a gate. On `Want` nothing changes.
     pub(crate) fn note(&mut self, gate: Gate, place: u32) -> Result<(), Want>
-        ensures ok { OnOk result ((other : Made) → place_in self.new other ≡ cond (nat_eq (gate_key gate) (gate_key other)) (Some place) (place_in self.old other)) }
+        ensures ok { OnOk result ((other : Made) → place_in self.new other ≡
+            cond (nat_eq (gate_key gate) (gate_key other)) (Some place) (place_in self.old other)) }
         ensures err { OnErr result ((other : Made) → place_in self.new other ≡ place_in self.old other) }
     {
         self.places.insert(key(gate), place)?;

@@ -12,7 +12,8 @@ use sy_seq::{Seq, Want};
 pub fn joined(alloc: Global, low: &[Bit], high: &[Bit]) -> Result<Seq<Bit>, Want>
     ensures items { IfOk result (λ r. r ≡ low.now ++ high.now) }
     ensures bound { IfOk result (λ r. word_bound r ≡ max (word_bound low.now) (word_bound high.now)) }
-    ensures value { IfOk result (λ r. (v : ℕ → Bool) → word_number v r ≡ word_number v high.now * 2 ^ length low.now + word_number v low.now) }
+    ensures value { IfOk result (λ r. (v : ℕ → Bool) →
+        word_number v r ≡ word_number v high.now * 2 ^ length low.now + word_number v low.now) }
 {
     let mut word = Seq::new(alloc);
     for bit in low {
@@ -59,7 +60,8 @@ pub fn part(alloc: Global, a: &[Bit], from: usize, to: usize) -> Result<Seq<Bit>
     requires within { to ≤ length a.now }
     ensures width { IfOk result (λ r. length r ≡ to - from) }
     ensures bound { IfOk result (λ r. word_bound r ≤ word_bound a.now) }
-    ensures value { IfOk result (λ r. (v : ℕ → Bool) → word_number v r ≡ word_number v a.now / 2 ^ from % 2 ^ (to - from)) }
+    ensures value { IfOk result (λ r. (v : ℕ → Bool) →
+        word_number v r ≡ word_number v a.now / 2 ^ from % 2 ^ (to - from)) }
 {
     let word = joined(alloc, &a[from..to], &[])?;
     Ok(word)
@@ -71,7 +73,8 @@ pub fn moved_up(alloc: Global, a: &[Bit], by: usize) -> Result<Seq<Bit>, Want>
     requires { by ≤ length a.now }
     ensures width { IfOk result (λ r. length r ≡ length a.now) }
     ensures bound { IfOk result (λ r. word_bound r ≤ word_bound a.now) }
-    ensures value { IfOk result (λ r. (v : ℕ → Bool) → word_number v r ≡ word_number v a.now * 2 ^ by % 2 ^ length a.now) }
+    ensures value { IfOk result (λ r. (v : ℕ → Bool) →
+        word_number v r ≡ word_number v a.now * 2 ^ by % 2 ^ length a.now) }
 {
     let low = zeros(alloc, by)?;
     let word = joined(alloc, low.as_slice(), &a[..a.len() - by])?;
@@ -84,7 +87,8 @@ pub fn moved_down(alloc: Global, a: &[Bit], by: usize, top: Bit) -> Result<Seq<B
     requires { by ≤ length a.now }
     ensures width { IfOk result (λ r. length r ≡ length a.now) }
     ensures bound { IfOk result (λ r. word_bound r ≤ max (bit_bound top) (word_bound a.now)) }
-    ensures value { IfOk result (λ r. (v : ℕ → Bool) → word_number v r ≡ cond (bit_value v top) (2 ^ by - 1) 0 * 2 ^ (length a.now - by) + word_number v a.now / 2 ^ by) }
+    ensures value { IfOk result (λ r. (v : ℕ → Bool) → word_number v r ≡
+        cond (bit_value v top) (2 ^ by - 1) 0 * 2 ^ (length a.now - by) + word_number v a.now / 2 ^ by) }
 {
     let high = filled(alloc, top, by)?;
     let word = joined(alloc, &a[by..], high.as_slice())?;
@@ -97,7 +101,8 @@ pub fn extended(alloc: Global, a: &[Bit], more: usize, top: Bit) -> Result<Seq<B
     requires { length a.now + more < 2 ^ 64 }
     ensures width { IfOk result (λ r. length r ≡ length a.now + more) }
     ensures bound { IfOk result (λ r. word_bound r ≤ max (bit_bound top) (word_bound a.now)) }
-    ensures value { IfOk result (λ r. (v : ℕ → Bool) → word_number v r ≡ cond (bit_value v top) (2 ^ more - 1) 0 * 2 ^ length a.now + word_number v a.now) }
+    ensures value { IfOk result (λ r. (v : ℕ → Bool) →
+        word_number v r ≡ cond (bit_value v top) (2 ^ more - 1) 0 * 2 ^ length a.now + word_number v a.now) }
 {
     let high = filled(alloc, top, more)?;
     let word = joined(alloc, a, high.as_slice())?;
@@ -110,7 +115,8 @@ pub fn rotated_up(alloc: Global, a: &[Bit], by: usize) -> Result<Seq<Bit>, Want>
     requires { by ≤ length a.now }
     ensures width { IfOk result (λ r. length r ≡ length a.now) }
     ensures bound { IfOk result (λ r. word_bound r ≤ word_bound a.now) }
-    ensures value { IfOk result (λ r. (v : ℕ → Bool) → word_number v r ≡ word_number v a.now * 2 ^ by % 2 ^ length a.now + word_number v a.now / 2 ^ (length a.now - by)) }
+    ensures value { IfOk result (λ r. (v : ℕ → Bool) → word_number v r ≡
+        word_number v a.now * 2 ^ by % 2 ^ length a.now + word_number v a.now / 2 ^ (length a.now - by)) }
 {
     let seam = a.len() - by;
     let word = joined(alloc, &a[seam..], &a[..seam])?;
@@ -123,7 +129,8 @@ pub fn rotated_down(alloc: Global, a: &[Bit], by: usize) -> Result<Seq<Bit>, Wan
     requires { by ≤ length a.now }
     ensures width { IfOk result (λ r. length r ≡ length a.now) }
     ensures bound { IfOk result (λ r. word_bound r ≤ word_bound a.now) }
-    ensures value { IfOk result (λ r. (v : ℕ → Bool) → word_number v r ≡ word_number v a.now / 2 ^ by + word_number v a.now * 2 ^ (length a.now - by) % 2 ^ length a.now) }
+    ensures value { IfOk result (λ r. (v : ℕ → Bool) → word_number v r ≡
+        word_number v a.now / 2 ^ by + word_number v a.now * 2 ^ (length a.now - by) % 2 ^ length a.now) }
 {
     let word = rotated_up(alloc, a, a.len() - by)?;
     Ok(word)
@@ -134,7 +141,8 @@ pub fn rotated_down(alloc: Global, a: &[Bit], by: usize) -> Result<Seq<Bit>, Wan
 pub fn repeated(alloc: Global, a: &[Bit], times: usize) -> Result<Seq<Bit>, Want>
     ensures width { IfOk result (λ r. length r ≡ times * length a.now) }
     ensures bound { IfOk result (λ r. word_bound r ≤ word_bound a.now) }
-    ensures value { IfOk result (λ r. (v : ℕ → Bool) → word_number v r ≡ copies_of (length a.now) (word_number v a.now) times) }
+    ensures value { IfOk result (λ r. (v : ℕ → Bool) →
+        word_number v r ≡ copies_of (length a.now) (word_number v a.now) times) }
 {
     let mut word = Seq::new(alloc);
     for i in 0..times {

@@ -34,7 +34,8 @@ impl Circuit {
         ensures width { IfOk result (λ r. length r.word ≡ length a.now) }
         ensures inside { IfOk result (λ r. word_bound r.word ≤ variables self.new) }
         ensures carry_inside { IfOk result (λ r. bit_bound r.carry ≤ variables self.new) }
-        ensures value { IfOk result (λ r. (v : ℕ → Bool) → FollowsPlan v self.new → word_number v r.word + 2 ^ length a.now * bit_number v r.carry ≡ word_number v a.now + word_number v b.now + bit_number v carry) }
+        ensures value { IfOk result (λ r. (v : ℕ → Bool) → FollowsPlan v self.new → word_number v r.word + 2 ^ length
+            a.now * bit_number v r.carry ≡ word_number v a.now + word_number v b.now + bit_number v carry) }
     {
         let mut word = Seq::new(alloc);
         let mut over = carry;
@@ -59,7 +60,8 @@ impl Circuit {
         ensures cost { OnOk result (variables self.new ≤ variables self.old + 3 * length a.now) }
         ensures width { IfOk result (λ r. length r ≡ length a.now) }
         ensures inside { IfOk result (λ r. word_bound r ≤ variables self.new) }
-        ensures value { IfOk result (λ r. (v : ℕ → Bool) → FollowsPlan v self.new → word_number v r ≡ (word_number v a.now + word_number v b.now) % 2 ^ length a.now) }
+        ensures value { IfOk result (λ r. (v : ℕ → Bool) →
+            FollowsPlan v self.new → word_number v r ≡ (word_number v a.now + word_number v b.now) % 2 ^ length a.now) }
     {
         let total = self.add_carry(alloc, a, b, Bit::Fixed(false))?;
         Ok(total.word)
@@ -77,7 +79,8 @@ impl Circuit {
         ensures width { IfOk result (λ r. length r.word ≡ length a.now) }
         ensures inside { IfOk result (λ r. word_bound r.word ≤ variables self.new) }
         ensures carry_inside { IfOk result (λ r. bit_bound r.carry ≤ variables self.new) }
-        ensures value { IfOk result (λ r. (v : ℕ → Bool) → FollowsPlan v self.new → word_number v r.word + 2 ^ length a.now * bit_number v r.carry + word_number v b.now ≡ word_number v a.now + 2 ^ length a.now) }
+        ensures value { IfOk result (λ r. (v : ℕ → Bool) → FollowsPlan v self.new → word_number v r.word + 2 ^ length
+            a.now * bit_number v r.carry + word_number v b.now ≡ word_number v a.now + 2 ^ length a.now) }
     {
         let turned = inverted(alloc, b)?;
         self.add_carry(alloc, a, turned.as_slice(), Bit::Fixed(true))
@@ -94,7 +97,8 @@ impl Circuit {
         ensures cost { OnOk result (variables self.new ≤ variables self.old + 3 * length a.now) }
         ensures width { IfOk result (λ r. length r ≡ length a.now) }
         ensures inside { IfOk result (λ r. word_bound r ≤ variables self.new) }
-        ensures value { IfOk result (λ r. (v : ℕ → Bool) → FollowsPlan v self.new → word_number v r ≡ (word_number v a.now + 2 ^ length a.now - word_number v b.now) % 2 ^ length a.now) }
+        ensures value { IfOk result (λ r. (v : ℕ → Bool) → FollowsPlan v self.new →
+            word_number v r ≡ (word_number v a.now + 2 ^ length a.now - word_number v b.now) % 2 ^ length a.now) }
     {
         let total = self.subtract(alloc, a, b)?;
         Ok(total.word)
@@ -109,7 +113,8 @@ impl Circuit {
         ensures cost { OnOk result (variables self.new ≤ variables self.old + 3 * length a.now) }
         ensures width { IfOk result (λ r. length r ≡ length a.now) }
         ensures inside { IfOk result (λ r. word_bound r ≤ variables self.new) }
-        ensures value { IfOk result (λ r. (v : ℕ → Bool) → FollowsPlan v self.new → word_number v r ≡ (2 ^ length a.now - word_number v a.now) % 2 ^ length a.now) }
+        ensures value { IfOk result (λ r. (v : ℕ → Bool) →
+            FollowsPlan v self.new → word_number v r ≡ (2 ^ length a.now - word_number v a.now) % 2 ^ length a.now) }
     {
         let none = zeros(alloc, a.len())?;
         self.sub(alloc, none.as_slice(), a)
@@ -125,7 +130,8 @@ impl Circuit {
         ensures grown { GrownCircuit self.old self.new }
         ensures cost { OnOk result (variables self.new ≤ variables self.old + 3 * length a.now) }
         ensures inside { IfOk result (λ r. bit_bound r ≤ variables self.new) }
-        ensures value { IfOk result (λ r. (v : ℕ → Bool) → FollowsPlan v self.new → bit_value v r ≡ ltb (word_number v a.now) (word_number v b.now)) }
+        ensures value { IfOk result (λ r. (v : ℕ → Bool) →
+            FollowsPlan v self.new → bit_value v r ≡ ltb (word_number v a.now) (word_number v b.now)) }
     {
         let total = self.subtract(alloc, a, b)?;
         Ok(total.carry.negated())
@@ -141,7 +147,8 @@ impl Circuit {
         ensures grown { GrownCircuit self.old self.new }
         ensures cost { OnOk result (variables self.new ≤ variables self.old + 2 * length a.now) }
         ensures inside { IfOk result (λ r. bit_bound r ≤ variables self.new) }
-        ensures value { IfOk result (λ r. (v : ℕ → Bool) → FollowsPlan v self.new → bit_value v r ≡ eqb (word_number v a.now) (word_number v b.now)) }
+        ensures value { IfOk result (λ r. (v : ℕ → Bool) →
+            FollowsPlan v self.new → bit_value v r ≡ eqb (word_number v a.now) (word_number v b.now)) }
     {
         let mut same = Bit::Fixed(true);
         for i in 0..a.len() {
@@ -171,7 +178,8 @@ impl Circuit {
         ensures cost { OnOk result (variables self.new ≤ variables self.old + length a.now) }
         ensures width { IfOk result (λ r. length r ≡ length a.now) }
         ensures inside { IfOk result (λ r. word_bound r ≤ variables self.new) }
-        ensures value { IfOk result (λ r. (v : ℕ → Bool) → FollowsPlan v self.new → word_number v r ≡ cond (bit_value v test) (word_number v a.now) (word_number v b.now)) }
+        ensures value { IfOk result (λ r. (v : ℕ → Bool) → FollowsPlan v self.new →
+            word_number v r ≡ cond (bit_value v test) (word_number v a.now) (word_number v b.now)) }
     {
         let mut word = Seq::new(alloc);
         for i in 0..a.len() {

@@ -9,7 +9,7 @@ pub mod Complete
 pub mod Factors
 pub mod Filling
 pub mod Fitted
-pub mod Fitting
+pub mod FittingLaws
 pub mod Grammars
 pub mod Growing
 pub mod Literals

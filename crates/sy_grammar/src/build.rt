@@ -16,7 +16,8 @@ pub fn build<T: Theory>(
 ) -> Result<Derivation<T>, AllocError>
     requires within { number < length steps.now }
     requires ordered { AreInOrder steps.now }
-    ensures { IfOk result (λ derivation. tree_of T.denotes derivation ≡ tree_at (step_trees T.denotes steps.now) number) }
+    ensures { IfOk result (λ derivation. tree_of T.denotes derivation ≡
+        tree_at (step_trees T.denotes steps.now) number) }
 {
     match &steps[number] {
         Step::Node(rule, fillers) => {

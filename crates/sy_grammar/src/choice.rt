@@ -8,8 +8,8 @@ ghost use Rattle.sy_grammar_base.specs.Grown.{syntax_from, production_of};
 use sy_grammar_base::{Grammar, Part, Parts, Rule};
 use sy_terms::{Op, Theory};
 
-/// The number of the first rule by which the start symbol chooses between two of its own terms, an `ite` whose condition
-/// is a nonterminal; `None` exactly where it has no such rule.
+/// The number of the first rule by which the start symbol chooses between two of its own terms, an `ite` whose
+/// condition is a nonterminal; `None` exactly where it has no such rule.
 pub fn tree_rule<T: Theory>(g: &Grammar<T>) -> Option<u32>
     requires numbered { IsNumbered (syntax_from T.denotes g.now) }
     ensures { MatchOption result

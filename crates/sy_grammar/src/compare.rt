@@ -35,7 +35,8 @@ pub fn is_variable<T: Theory>(term: &Term<T>, position: u32) -> bool
 
 /// The arguments to which the term applies the operator; `None` exactly where it isn't such an application.
 pub fn applied<'a, T: Theory>(term: &'a Term<T>, operator: &Op) -> Option<&'a Terms<T>>
-    ensures { MatchOption result ((terms : Exprs) → expr_of T.denotes term.now ≡ expr.Apply operator.now terms → ⊥) (λ terms. expr_of T.denotes term.now ≡ expr.Apply operator.now (exprs_of T.denotes terms.now.items.items)) }
+    ensures { MatchOption result ((terms : Exprs) → expr_of T.denotes term.now ≡ expr.Apply operator.now terms →
+        ⊥) (λ terms. expr_of T.denotes term.now ≡ expr.Apply operator.now (exprs_of T.denotes terms.now.items.items)) }
 {
     match term {
         Term::App(other, terms) => {
@@ -54,7 +55,9 @@ pub fn applied<'a, T: Theory>(term: &'a Term<T>, operator: &Op) -> Option<&'a Te
 
 /// The arguments with which the term calls the definition; `None` exactly where it isn't such a call.
 pub fn called<T: Theory>(term: &Term<T>, definition: u32) -> Option<&Terms<T>>
-    ensures { MatchOption result ((terms : Exprs) → expr_of T.denotes term.now ≡ expr.Invoke (Defined definition) terms → ⊥) (λ terms. expr_of T.denotes term.now ≡ expr.Invoke (Defined definition) (exprs_of T.denotes terms.now.items.items)) }
+    ensures { MatchOption result ((terms : Exprs) →
+        expr_of T.denotes term.now ≡ expr.Invoke (Defined definition) terms → ⊥) (λ terms.
+        expr_of T.denotes term.now ≡ expr.Invoke (Defined definition) (exprs_of T.denotes terms.now.items.items)) }
 {
     match term {
         Term::Call(function, terms) => match function {

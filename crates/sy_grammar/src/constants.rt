@@ -11,7 +11,8 @@ use sy_terms::{Op, Sort, Term, Terms, Theory, Value, same_sort};
 
 /// The constant of the sort that the term writes; `None` exactly where it writes none.
 pub fn constant_of<T: Theory>(term: &Term<T>, sort: Sort) -> Option<Value<T::Num>>
-    ensures { MatchOption result ((value : Val) → IsConstant sort (expr_of T.denotes term.now) value → ⊥) (λ value. IsConstant sort (expr_of T.denotes term.now) (val_of T.denotes value)) }
+    ensures { MatchOption result ((value : Val) → IsConstant sort (expr_of T.denotes term.now) value →
+        ⊥) (λ value. IsConstant sort (expr_of T.denotes term.now) (val_of T.denotes value)) }
 {
     match term {
         Term::Const(value) => plain::<T>(value, sort),
@@ -30,7 +31,8 @@ pub fn constant_of<T: Theory>(term: &Term<T>, sort: Sort) -> Option<Value<T::Num
 
 /// The value itself, where it is of the sort and no integer below 0.
 fn plain<T: Theory>(value: &Value<T::Num>, sort: Sort) -> Option<Value<T::Num>>
-    ensures { MatchOption result ((v : Val) → IsConstant sort (expr.Constant (val_of T.denotes value.now)) v → ⊥) (λ found. IsConstant sort (expr.Constant (val_of T.denotes value.now)) (val_of T.denotes found)) }
+    ensures { MatchOption result ((v : Val) → IsConstant sort (expr.Constant (val_of T.denotes value.now)) v →
+        ⊥) (λ found. IsConstant sort (expr.Constant (val_of T.denotes value.now)) (val_of T.denotes found)) }
 {
     if !same_sort(&sort, &T::value_sort(value)) {
         return None;
@@ -52,7 +54,9 @@ fn plain<T: Theory>(value: &Value<T::Num>, sort: Sort) -> Option<Value<T::Num>>
 
 /// The constant below 0 that a negation of these arguments writes.
 fn negated<T: Theory>(arguments: &Terms<T>, sort: Sort) -> Option<Value<T::Num>>
-    ensures { MatchOption result ((v : Val) → IsConstant sort (expr.Apply ops.Neg (exprs_of T.denotes arguments.now.items.items)) v → ⊥) (λ found. IsConstant sort (expr.Apply ops.Neg (exprs_of T.denotes arguments.now.items.items)) (val_of T.denotes found)) }
+    ensures { MatchOption result ((v : Val) →
+        IsConstant sort (expr.Apply ops.Neg (exprs_of T.denotes arguments.now.items.items)) v → ⊥) (λ found.
+        IsConstant sort (expr.Apply ops.Neg (exprs_of T.denotes arguments.now.items.items)) (val_of T.denotes found)) }
 {
     if !same_sort(&sort, &Sort::Int) {
         return None;
@@ -74,7 +78,8 @@ fn negated<T: Theory>(arguments: &Terms<T>, sort: Sort) -> Option<Value<T::Num>>
 
 /// The number that stands for minus this integer; `None` exactly where it isn't above 0, in a theory of integers.
 fn opposite<T: Theory>(whole: i128) -> Option<T::Num>
-    ensures { MatchOption result ((less : ℕ) → whole ≡ pos (less + 1) → T.numeric sorts.Int ≡ true → ⊥) (λ number. IsOpposite whole (T.denotes number)) }
+    ensures { MatchOption result ((less : ℕ) → whole ≡ pos (less + 1) →
+        T.numeric sorts.Int ≡ true → ⊥) (λ number. IsOpposite whole (T.denotes number)) }
 {
     if whole < 1 {
         return None;
@@ -84,7 +89,8 @@ fn opposite<T: Theory>(whole: i128) -> Option<T::Num>
 
 /// The integer that the term is; `None` exactly where it is none.
 fn whole_of<T: Theory>(term: &Term<T>) -> Option<i128>
-    ensures { MatchOption result ((whole : ℤ) → expr_of T.denotes term.now ≡ expr.Constant (Whole whole) → ⊥) (λ whole. (expr_of T.denotes term.now ≡ expr.Constant (Whole whole)) × (T.numeric sorts.Int ≡ true)) }
+    ensures { MatchOption result ((whole : ℤ) → expr_of T.denotes term.now ≡ expr.Constant (Whole whole) →
+        ⊥) (λ whole. (expr_of T.denotes term.now ≡ expr.Constant (Whole whole)) × (T.numeric sorts.Int ≡ true)) }
 {
     match term {
         Term::Const(value) => match value {
@@ -106,7 +112,8 @@ fn whole_of<T: Theory>(term: &Term<T>) -> Option<i128>
 
 /// The argument of the sort that the term is; `None` exactly where it is none.
 pub fn variable_of<T: Theory>(term: &Term<T>, arguments: &[Sort], sort: Sort) -> Option<u32>
-    ensures { MatchOption result ((position : ℕ) → IsArgumentOf sort arguments.now (expr_of T.denotes term.now) position → ⊥) (λ position. IsArgumentOf sort arguments.now (expr_of T.denotes term.now) position) }
+    ensures { MatchOption result ((position : ℕ) → IsArgumentOf sort arguments.now (expr_of T.denotes term.now)
+        position → ⊥) (λ position. IsArgumentOf sort arguments.now (expr_of T.denotes term.now) position) }
 {
     match term {
         Term::Var(position) => match arguments.get(*position as usize) {

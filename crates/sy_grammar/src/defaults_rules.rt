@@ -27,7 +27,8 @@ pub fn push_applied<T: Theory>(
     operator: Op,
     nonterminals: &[u32],
 ) -> Result<(), Want>
-    ensures { OnOk result (map (production_of T.denotes) rules.new ≡ map (production_of T.denotes) rules.old ++ spec.rule_applied operator nonterminals.now ∷ []) }
+    ensures { OnOk result (map (production_of T.denotes) rules.new ≡
+        map (production_of T.denotes) rules.old ++ spec.rule_applied operator nonterminals.now ∷ []) }
 {
     let parts = places(alloc, nonterminals)?;
     rules.push(Rule::Term(Part::App(operator, parts)))?;
@@ -36,7 +37,8 @@ pub fn push_applied<T: Theory>(
 
 /// The rules for every argument and every constant of the sort.
 pub fn leaves<T: Theory>(alloc: Global, sort: Sort) -> Result<Seq<Rule<T>>, Want>
-    ensures { IfOk result (λ rules. map (production_of T.denotes) rules ≡ trees.EachVariable sort ∷ trees.EachConstant sort ∷ []) }
+    ensures { IfOk result (λ rules. map (production_of T.denotes) rules ≡
+        trees.EachVariable sort ∷ trees.EachConstant sort ∷ []) }
 {
     let mut rules = Seq::new(alloc);
     rules.push(Rule::AnyVariable(sort))?;
@@ -50,7 +52,8 @@ pub fn push_connectives<T: Theory>(
     rules: &mut Seq<Rule<T>>,
     b: u32,
 ) -> Result<(), Want>
-    ensures { OnOk result (map (production_of T.denotes) rules.new ≡ map (production_of T.denotes) rules.old ++ spec.connectives b) }
+    ensures { OnOk result (map (production_of T.denotes) rules.new ≡
+        map (production_of T.denotes) rules.old ++ spec.connectives b) }
 {
     push_applied(alloc, rules, Op::Not, &[b])?;
     push_applied(alloc, rules, Op::And, &[b, b])?;

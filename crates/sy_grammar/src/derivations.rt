@@ -21,7 +21,8 @@ pub fn derive<T: Theory>(
     requires numbered { IsNumbered (syntax_from T.denotes g.now) }
     ensures { IfOk result (λ found. MatchOption found
         ((tree : Tree) → Derives (syntax_from T.denotes g.now) non tree (expr_of T.denotes t.now) → ⊥)
-        (λ derivation. Derives (syntax_from T.denotes g.now) non (tree_of T.denotes derivation) (expr_of T.denotes t.now))) }
+        (λ derivation.
+        Derives (syntax_from T.denotes g.now) non (tree_of T.denotes derivation) (expr_of T.denotes t.now))) }
 {
     let mut steps = Vec::new(alloc);
     let whole = note(alloc, g, t, &mut steps)?;
@@ -36,7 +37,8 @@ pub fn derive<T: Theory>(
 
 /// The row's step for the nonterminal; `None` exactly where it has none.
 fn step_at(row: &[Option<usize>], nonterminal: u32) -> Option<usize>
-    ensures { MatchOption result ((step : ℕ) → slice_get row.now nonterminal ≡ Some (Some step) → ⊥) (λ step. slice_get row.now nonterminal ≡ Some (Some step)) }
+    ensures { MatchOption result ((step : ℕ) → slice_get row.now nonterminal ≡ Some (Some step) →
+        ⊥) (λ step. slice_get row.now nonterminal ≡ Some (Some step)) }
 {
     *row.get(nonterminal as usize)?
 }

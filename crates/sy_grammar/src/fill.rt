@@ -21,7 +21,8 @@ pub fn fill<T: Theory>(
     below: &[Note],
     steps: &mut Vec<usize>,
 ) -> Result<bool, AllocError>
-    ensures { IfOk result (λ done. Appends (Filled (pattern_of T.denotes part.now) (expr_of T.denotes term.now) row.now (notes_of below.now)) steps.old.items steps.new.items done) }
+    ensures { IfOk result (λ done. Appends (Filled (pattern_of T.denotes part.now)
+        (expr_of T.denotes term.now) row.now (notes_of below.now)) steps.old.items steps.new.items done) }
 {
     match part {
         Part::Const(value) => Ok(is_constant(term, value)),
@@ -55,7 +56,8 @@ fn fill_all<T: Theory>(
     below: &[Note],
     steps: &mut Vec<usize>,
 ) -> Result<bool, AllocError>
-    ensures { IfOk result (λ done. Appends (AllFilled (patterns_of T.denotes parts.now.items.items) (exprs_of T.denotes terms.now.items.items) (notes_of below.now)) steps.old.items steps.new.items done) }
+    ensures { IfOk result (λ done. Appends (AllFilled (patterns_of T.denotes parts.now.items.items)
+        (exprs_of T.denotes terms.now.items.items) (notes_of below.now)) steps.old.items steps.new.items done) }
 {
     for (i, part) in parts.as_slice().iter().enumerate() {
         let Some(term) = terms.get(i) else {

@@ -24,7 +24,8 @@ pub fn part_sort<T: Theory>(
     nons: &[Non<T>],
     defs: &[Def<T>],
 ) -> Option<Sort>
-    ensures { result ≡ pattern_sort (scope_of T.owned defs.now) (syntax_with T.denotes args.now nons.now) (pattern_of T.denotes part.now) }
+    ensures { result ≡ pattern_sort (scope_of T.owned defs.now)
+        (syntax_with T.denotes args.now nons.now) (pattern_of T.denotes part.now) }
 {
     match part {
         Part::Const(value) => constant_sort::<T>(value),
@@ -56,7 +57,8 @@ fn seen_sorts<T: Theory>(
     nons: &[Non<T>],
     defs: &[Def<T>],
 ) -> Option<Seen>
-    ensures { result ≡ option_map (after_all Nothing) (pattern_sorts (scope_of T.owned defs.now) (syntax_with T.denotes args.now nons.now) (patterns_of T.denotes parts.now.items.items)) }
+    ensures { result ≡ option_map (after_all Nothing) (pattern_sorts (scope_of T.owned defs.now)
+        (syntax_with T.denotes args.now nons.now) (patterns_of T.denotes parts.now.items.items)) }
 {
     let mut seen = Seen::Nothing;
     for part in parts.as_slice() {
@@ -75,7 +77,8 @@ fn have_sorts<T: Theory>(
     nons: &[Non<T>],
     defs: &[Def<T>],
 ) -> bool
-    ensures { result ≡ taken wanted.now (pattern_sorts (scope_of T.owned defs.now) (syntax_with T.denotes args.now nons.now) (patterns_of T.denotes parts.now.items.items)) }
+    ensures { result ≡ taken wanted.now (pattern_sorts (scope_of T.owned defs.now)
+        (syntax_with T.denotes args.now nons.now) (patterns_of T.denotes parts.now.items.items)) }
 {
     for (i, part) in parts.as_slice().iter().enumerate() {
         let Some(sort) = wanted.get(i) else {
@@ -93,7 +96,8 @@ fn have_sorts<T: Theory>(
 
 /// The sort of a value as rules write it: one of its sort, and no integer below 0.
 fn constant_sort<T: Theory>(value: &Value<T::Num>) -> Option<Sort>
-    ensures { result ≡ (if is_plain (val_of T.denotes value.now) then Some (sort_of_value (val_of T.denotes value.now)) else None) }
+    ensures { result ≡
+        (if is_plain (val_of T.denotes value.now) then Some (sort_of_value (val_of T.denotes value.now)) else None) }
 {
     match value {
         Value::Truth(_) => Some(Sort::Bool),
@@ -128,7 +132,8 @@ fn definition_at<T: Theory>(defs: &[Def<T>], definition: u32) -> Option<&Def<T>>
 
 /// The sort of the nonterminal of this number; `None` exactly where there is none.
 fn nonterminal_sort<T: Theory>(nons: &[Non<T>], nonterminal: u32) -> Option<Sort>
-    ensures { result ≡ option_map (λ (n : Nonterminal). n.sort) (slice_get (map (nonterminal_of T.denotes) nons.now) nonterminal) }
+    ensures { result ≡
+        option_map (λ (n : Nonterminal). n.sort) (slice_get (map (nonterminal_of T.denotes) nons.now) nonterminal) }
 {
     let non = nons.get(nonterminal as usize)?;
     Some(non.sort)

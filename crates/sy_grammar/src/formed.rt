@@ -43,14 +43,16 @@ fn is_known<T: Theory>(sort: Sort) -> bool
 
 /// Whether all of the nonterminals fit the grammar.
 fn all_fit<T: Theory>(all: &[Non<T>], args: &[Sort], nons: &[Non<T>], defs: &[Def<T>]) -> bool
-    ensures { result ≡ list_all (spec.nonterminal_fits T.numeric (scope_of T.owned defs.now) (syntax_with T.denotes args.now nons.now)) (map (nonterminal_of T.denotes) all.now) }
+    ensures { result ≡ list_all (spec.nonterminal_fits T.numeric (scope_of T.owned defs.now)
+        (syntax_with T.denotes args.now nons.now)) (map (nonterminal_of T.denotes) all.now) }
 {
     all.iter().all(|non| fits(non, args, nons, defs))
 }
 
 /// Whether the nonterminal fits the grammar.
 fn fits<T: Theory>(non: &Non<T>, args: &[Sort], nons: &[Non<T>], defs: &[Def<T>]) -> bool
-    ensures { result ≡ spec.nonterminal_fits T.numeric (scope_of T.owned defs.now) (syntax_with T.denotes args.now nons.now) (nonterminal_of T.denotes non.now) }
+    ensures { result ≡ spec.nonterminal_fits T.numeric
+        (scope_of T.owned defs.now) (syntax_with T.denotes args.now nons.now) (nonterminal_of T.denotes non.now) }
 {
     is_known::<T>(non.sort)
         && non.rules.len() < 1 << 31
@@ -65,7 +67,8 @@ fn rules_fit<T: Theory>(
     nons: &[Non<T>],
     defs: &[Def<T>],
 ) -> bool
-    ensures { result ≡ list_all (λ rule. trees.is_sort sort (spec.rule_sort (scope_of T.owned defs.now) (syntax_with T.denotes args.now nons.now) rule)) (map (production_of T.denotes) rules.now) }
+    ensures { result ≡ list_all (λ rule. trees.is_sort sort (spec.rule_sort (scope_of T.owned defs.now)
+        (syntax_with T.denotes args.now nons.now) rule)) (map (production_of T.denotes) rules.now) }
 {
     rules
         .iter()
@@ -79,7 +82,8 @@ fn rule_sort<T: Theory>(
     nons: &[Non<T>],
     defs: &[Def<T>],
 ) -> Option<Sort>
-    ensures { result ≡ spec.rule_sort (scope_of T.owned defs.now) (syntax_with T.denotes args.now nons.now) (production_of T.denotes rule.now) }
+    ensures { result ≡ spec.rule_sort (scope_of T.owned defs.now)
+        (syntax_with T.denotes args.now nons.now) (production_of T.denotes rule.now) }
 {
     match rule {
         Rule::Term(part) => part_sort(part, args, nons, defs),

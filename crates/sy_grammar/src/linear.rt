@@ -10,7 +10,8 @@ use sy_terms::{Op, Theory};
 
 /// Whether it isn't a product in which two factors vary.
 pub fn is_linear<T: Theory>(nons: &[Non<T>], operator: &Op, parts: &Parts<T>) -> bool
-    ensures { result ≡ spec.is_linear (map (nonterminal_of T.denotes) nons.now) operator.now (patterns_of T.denotes parts.now.items.items) }
+    ensures { result ≡ spec.is_linear (map (nonterminal_of T.denotes) nons.now) operator.now
+        (patterns_of T.denotes parts.now.items.items) }
 {
     if operator.equals(&Op::Mul) {
         varying(nons, parts.as_slice()) <= 1

@@ -26,7 +26,8 @@ fn next_step<T: Theory>(
     requires sized { length row.now ≡ length grammar.now.nons }
     ensures { IfOk result (λ found. MatchOption found
         (RowIsClosed (syntax_from T.denotes grammar.now) (expr_of T.denotes term.now) row.now (notes_of below.now))
-        (λ pair. (slice_get row.now pair.0 ≡ Some None) × IsMade T.denotes (syntax_from T.denotes grammar.now) pair.0 (expr_of T.denotes term.now) row.now (notes_of below.now) pair.1)) }
+        (λ pair. (slice_get row.now pair.0 ≡ Some None) × IsMade T.denotes
+        (syntax_from T.denotes grammar.now) pair.0 (expr_of T.denotes term.now) row.now (notes_of below.now) pair.1)) }
 {
     let arguments = grammar.args().as_slice();
     for (nonterminal, item) in grammar.nons().as_slice().iter().enumerate() {
@@ -74,8 +75,10 @@ fn row_of<T: Theory>(
 ) -> Result<Vec<Option<usize>>, AllocError>
     requires numbered { IsNumbered (syntax_from T.denotes grammar.now) }
     requires ordered { AreInOrder steps.old.items }
-    requires right { NotesAreRight (syntax_from T.denotes grammar.now) (step_trees T.denotes steps.old.items) (arguments_of (expr_of T.denotes term.now)) (notes_of below.now) }
-    ensures { IfOk result (λ row. IsRowOfSteps T.denotes (syntax_from T.denotes grammar.now) (expr_of T.denotes term.now) row.items (notes_of below.now) steps.old.items steps.new.items) }
+    requires right { NotesAreRight (syntax_from T.denotes grammar.now)
+        (step_trees T.denotes steps.old.items) (arguments_of (expr_of T.denotes term.now)) (notes_of below.now) }
+    ensures { IfOk result (λ row. IsRowOfSteps T.denotes (syntax_from T.denotes grammar.now)
+        (expr_of T.denotes term.now) row.items (notes_of below.now) steps.old.items steps.new.items) }
 {
     let mut row = blank_row(alloc, grammar.nons().len())?;
     while let Some((nonterminal, step)) = next_step(alloc, grammar, term, row.as_slice(), below)? {
@@ -95,8 +98,10 @@ fn note_above<T: Theory>(
 ) -> Result<Note, AllocError>
     requires numbered { IsNumbered (syntax_from T.denotes grammar.now) }
     requires ordered { AreInOrder steps.old.items }
-    requires right { NotesAreRight (syntax_from T.denotes grammar.now) (step_trees T.denotes steps.old.items) (arguments_of (expr_of T.denotes term.now)) (notes_of below.items) }
-    ensures { IfOk result (λ note. IsNoted T.denotes (syntax_from T.denotes grammar.now) (expr_of T.denotes term.now) (note_of note) steps.old.items steps.new.items) }
+    requires right { NotesAreRight (syntax_from T.denotes grammar.now)
+        (step_trees T.denotes steps.old.items) (arguments_of (expr_of T.denotes term.now)) (notes_of below.items) }
+    ensures { IfOk result (λ note. IsNoted T.denotes (syntax_from T.denotes grammar.now)
+        (expr_of T.denotes term.now) (note_of note) steps.old.items steps.new.items) }
 {
     let row = row_of(alloc, grammar, term, below.as_slice(), steps)?;
     Ok(Note::new(row, below))
@@ -112,7 +117,8 @@ pub fn note<T: Theory>(
 ) -> Result<Note, AllocError>
     requires numbered { IsNumbered (syntax_from T.denotes grammar.now) }
     requires ordered { AreInOrder steps.old.items }
-    ensures { IfOk result (λ note. IsNoted T.denotes (syntax_from T.denotes grammar.now) (expr_of T.denotes term.now) (note_of note) steps.old.items steps.new.items) }
+    ensures { IfOk result (λ note. IsNoted T.denotes (syntax_from T.denotes grammar.now)
+        (expr_of T.denotes term.now) (note_of note) steps.old.items steps.new.items) }
 {
     let below = match term {
         Term::App(_, arguments) => notes(alloc, grammar, arguments, steps)?,
@@ -135,7 +141,8 @@ fn notes<T: Theory>(
 ) -> Result<Vec<Note>, AllocError>
     requires numbered { IsNumbered (syntax_from T.denotes grammar.now) }
     requires ordered { AreInOrder steps.old.items }
-    ensures { IfOk result (λ notes. AreNoted T.denotes (syntax_from T.denotes grammar.now) (exprs_of T.denotes terms.now.items.items) (notes_of notes.items) steps.old.items steps.new.items) }
+    ensures { IfOk result (λ notes. AreNoted T.denotes (syntax_from T.denotes grammar.now)
+        (exprs_of T.denotes terms.now.items.items) (notes_of notes.items) steps.old.items steps.new.items) }
 {
     let mut notes = Vec::new(alloc);
     for term in terms.as_slice() {

@@ -24,8 +24,10 @@ fn step_by<T: Theory>(
     below: &[Note],
 ) -> Result<Option<Step<T>>, AllocError>
     ensures { IfOk result (λ made. MatchOption made
-        (MakesNone arguments.now (expr_of T.denotes term.now) row.now (notes_of below.now) (production_of T.denotes rule.now))
-        (λ step. Makes T.denotes arguments.now number (expr_of T.denotes term.now) row.now (notes_of below.now) (production_of T.denotes rule.now) step)) }
+        (MakesNone arguments.now (expr_of T.denotes term.now) row.now
+        (notes_of below.now) (production_of T.denotes rule.now))
+        (λ step. Makes T.denotes arguments.now number (expr_of T.denotes term.now) row.now
+        (notes_of below.now) (production_of T.denotes rule.now) step)) }
 {
     match rule {
         Rule::Term(part) => {
@@ -59,8 +61,10 @@ pub fn first_step<T: Theory>(
 ) -> Result<Option<Step<T>>, AllocError>
     requires { length rules.now < 2 ^ 32 }
     ensures { IfOk result (λ made. MatchOption made
-        (IsMadeByNone arguments.now (map (production_of T.denotes) rules.now) (expr_of T.denotes term.now) row.now (notes_of below.now))
-        (λ step. IsMadeBy T.denotes arguments.now (map (production_of T.denotes) rules.now) (expr_of T.denotes term.now) row.now (notes_of below.now) step)) }
+        (IsMadeByNone arguments.now (map (production_of T.denotes) rules.now)
+        (expr_of T.denotes term.now) row.now (notes_of below.now))
+        (λ step. IsMadeBy T.denotes arguments.now (map (production_of T.denotes) rules.now)
+        (expr_of T.denotes term.now) row.now (notes_of below.now) step)) }
 {
     for (place, rule) in rules.iter().enumerate() {
         let made = step_by(alloc, arguments, place as u32, rule, term, row, below)?;

@@ -41,7 +41,8 @@ fn push_vectors<T: Theory>(
 ) -> Result<(), Want>
     requires few { length widths.now ≤ 65 }
     requires low { first ≤ 1 }
-    ensures { OnOk result (map (nonterminal_of T.denotes) nons.new ≡ map (nonterminal_of T.denotes) nons.old ++ spec.vectors_from first b widths.now) }
+    ensures { OnOk result (map (nonterminal_of T.denotes) nons.new ≡
+        map (nonterminal_of T.denotes) nons.old ++ spec.vectors_from first b widths.now) }
 {
     let mut v = first;
     for width in widths {
@@ -53,7 +54,8 @@ fn push_vectors<T: Theory>(
 
 /// The nonterminal for vectors of a width, by the numbers of those for them and for truth values.
 fn vectors<T: Theory>(alloc: Global, width: u8, v: u32, b: u32) -> Result<Non<T>, Want>
-    ensures { IfOk result (λ non. nonterminal_of T.denotes non ≡ record { sort = variants.Bits width; rules = spec.vector_rules width v b }) }
+    ensures { IfOk result (λ non. nonterminal_of T.denotes non ≡
+        record { sort = variants.Bits width; rules = spec.vector_rules width v b }) }
 {
     let sort = Sort::Bits(width);
     let mut rules = leaves(alloc, sort)?;
@@ -66,7 +68,8 @@ fn vectors<T: Theory>(alloc: Global, width: u8, v: u32, b: u32) -> Result<Non<T>
 
 /// Appends the operators of two vectors of one width.
 fn push_operators<T: Theory>(alloc: Global, rules: &mut Seq<Rule<T>>, v: u32) -> Result<(), Want>
-    ensures { OnOk result (map (production_of T.denotes) rules.new ≡ map (production_of T.denotes) rules.old ++ map (λ operator. spec.rule_of_two operator v) spec.default_vector_operators) }
+    ensures { OnOk result (map (production_of T.denotes) rules.new ≡ map (production_of T.denotes) rules.old ++
+        map (λ operator. spec.rule_of_two operator v) spec.default_vector_operators) }
 {
     push_applied(alloc, rules, Op::BvAnd, &[v, v])?;
     push_applied(alloc, rules, Op::BvOr, &[v, v])?;
@@ -82,7 +85,8 @@ fn push_operators<T: Theory>(alloc: Global, rules: &mut Seq<Rule<T>>, v: u32) ->
     Ok(())
 }
 
-/// The nonterminal for truth values, by its own number, and those for vectors, of which there are `count` from `first` on.
+/// The nonterminal for truth values, by its own number, and those for vectors, of which there are `count` from `first`
+/// on.
 fn truths<T: Theory>(alloc: Global, first: u32, count: u32, b: u32) -> Result<Non<T>, Want>
     requires few { count ≤ 65 }
     requires low { first ≤ 1 }
@@ -101,7 +105,8 @@ fn truths<T: Theory>(alloc: Global, first: u32, count: u32, b: u32) -> Result<No
 
 /// Appends the comparisons of vectors.
 fn push_comparisons<T: Theory>(alloc: Global, rules: &mut Seq<Rule<T>>, v: u32) -> Result<(), Want>
-    ensures { OnOk result (map (production_of T.denotes) rules.new ≡ map (production_of T.denotes) rules.old ++ spec.comparisons (v ∷ [])) }
+    ensures { OnOk result (map (production_of T.denotes) rules.new ≡
+        map (production_of T.denotes) rules.old ++ spec.comparisons (v ∷ [])) }
 {
     push_applied(alloc, rules, Op::Equal, &[v, v])?;
     push_applied(alloc, rules, Op::BvUlt, &[v, v])?;

@@ -48,7 +48,8 @@ impl<T: Theory> Derivations<T> {
 
     /// The derivation at `i`; `None` exactly where `i >= len`.
     pub fn get(&self, i: usize) -> Option<&Derivation<T>>
-        ensures { MatchOption result (length self.now.items.items ≤ i) (λ d. slice_get self.now.items.items i ≡ Some d.now) }
+        ensures { MatchOption result (length self.now.items.items ≤ i) (λ d.
+            slice_get self.now.items.items i ≡ Some d.now) }
     {
         self.items.get(i)
     }

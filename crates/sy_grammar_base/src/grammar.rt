@@ -60,7 +60,8 @@ impl<T: Theory> Grammar<T> {
 impl<T: Theory> Grammar<T> {
     /// The part of a nonterminal's rule; `None` where there is no such rule, or it is for all of a sort.
     pub fn part(&self, non: u32, rule: u32) -> Option<&Part<T>>
-        ensures { option_map (λ part. pattern_of T.denotes part.now) result ≡ template_at (syntax_from T.denotes self.now) non rule }
+        ensures { option_map (λ part. pattern_of T.denotes part.now) result ≡
+            template_at (syntax_from T.denotes self.now) non rule }
     {
         let found = self.nons.get(non as usize)?;
         match found.rules.get(rule as usize)? {

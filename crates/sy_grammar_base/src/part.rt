@@ -43,7 +43,8 @@ impl<T: Theory> Parts<T> {
 
     /// The part at `i`; `None` exactly where `i >= len`.
     pub fn get(&self, i: usize) -> Option<&Part<T>>
-        ensures { MatchOption result (length self.now.items.items ≤ i) (λ part. slice_get self.now.items.items i ≡ Some part.now) }
+        ensures { MatchOption result (length self.now.items.items ≤ i) (λ part.
+            slice_get self.now.items.items i ≡ Some part.now) }
     {
         self.items.get(i)
     }
@@ -100,7 +101,8 @@ impl<T: Theory> Part<T> {
     /// The nonterminal that occurs at place `i`, from left to right; `Err` of how far `i` lies beyond the last one.
     #[cycle(occurrence)]
     pub fn occurrence(&self, i: usize) -> Result<u32, usize>
-        ensures { MatchResult result (λ n. slice_get (occurring (pattern_of T.denotes self.now)) i ≡ Some n) (λ beyond. i ≡ length (occurring (pattern_of T.denotes self.now)) + beyond) }
+        ensures { MatchResult result (λ n. slice_get (occurring (pattern_of T.denotes self.now)) i ≡ Some n) (λ beyond.
+            i ≡ length (occurring (pattern_of T.denotes self.now)) + beyond) }
     {
         match self {
             Part::Const(_) => Err(i),
@@ -116,7 +118,8 @@ impl<T: Theory> Parts<T> {
     /// The same over all parts.
     #[cycle(occurrence)]
     fn occurrence(&self, i: usize) -> Result<u32, usize>
-        ensures { MatchResult result (λ n. slice_get (all_occurring (patterns_of T.denotes self.now.items.items)) i ≡ Some n) (λ beyond. i ≡ length (all_occurring (patterns_of T.denotes self.now.items.items)) + beyond) }
+        ensures { MatchResult result (λ n. slice_get (all_occurring (patterns_of T.denotes self.now.items.items)) i ≡
+            Some n) (λ beyond. i ≡ length (all_occurring (patterns_of T.denotes self.now.items.items)) + beyond) }
     {
         let mut rest = i;
         for part in &self.items {

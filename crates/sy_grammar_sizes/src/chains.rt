@@ -54,7 +54,8 @@ fn unmarked(alloc: Global, count: usize) -> Result<Vec<bool>, AllocError>
 
 /// A nonterminal without a mark that a chain rule of a marked one names; `None` exactly where there is none.
 fn next_mark<T: Theory>(g: &Grammar<T>, marks: &[bool]) -> Option<usize>
-    ensures { MatchOption result (AreFull (syntax_from T.denotes g.now) marks.now) (λ to. IsNextMark (syntax_from T.denotes g.now) marks.now to) }
+    ensures { MatchOption result (AreFull (syntax_from T.denotes g.now) marks.now) (λ to.
+        IsNextMark (syntax_from T.denotes g.now) marks.now to) }
 {
     for (from, item) in g.nons().as_slice().iter().enumerate() {
         if has_mark(marks, from, true) {
@@ -68,7 +69,8 @@ fn next_mark<T: Theory>(g: &Grammar<T>, marks: &[bool]) -> Option<usize>
 
 /// A nonterminal without a mark that a chain rule of these names; `None` exactly where there is none.
 fn next_named<T: Theory>(rules: &[Rule<T>], marks: &[bool]) -> Option<usize>
-    ensures { MatchOption result (AreMarked (map (production_of T.denotes) rules.now) marks.now) (λ to. IsNamed (map (production_of T.denotes) rules.now) marks.now to) }
+    ensures { MatchOption result (AreMarked (map (production_of T.denotes) rules.now) marks.now) (λ to.
+        IsNamed (map (production_of T.denotes) rules.now) marks.now to) }
 {
     for rule in rules {
         if let Some(to) = chain_of(rule) {

@@ -80,7 +80,8 @@ fn magnitudes<T: Theory>(
     sort: Sort,
     negative: bool,
 ) -> Result<HashSet<u128>, AllocError>
-    ensures { IfOk result (λ found. (magnitude : ℕ) → contains nat_eq found magnitude ≡ list_any (spec.is_at sort magnitude negative) (map (val_of T.denotes) pool.now)) }
+    ensures { IfOk result (λ found. (magnitude : ℕ) → contains nat_eq found magnitude ≡
+        list_any (spec.is_at sort magnitude negative) (map (val_of T.denotes) pool.now)) }
 {
     let mut found: HashSet<u128> = HashSet::new(alloc);
     for value in pool {

@@ -18,7 +18,8 @@ pub fn leaf_table<T: Theory>(
     pool: &[Value<T::Num>],
     limit: u64,
 ) -> Result<Vec<Option<u64>>, AllocError>
-    ensures { IfOk result (λ table. IsTable (syntax_from T.denotes g.now) (map (val_of T.denotes) pool.now) limit table.items) }
+    ensures { IfOk result (λ table.
+        IsTable (syntax_from T.denotes g.now) (map (val_of T.denotes) pool.now) limit table.items) }
 {
     let mut table = Vec::new(alloc);
     for item in g.nons().as_slice() {
@@ -43,7 +44,8 @@ fn leaves<T: Theory>(
     pool: &[Value<T::Num>],
     limit: u64,
 ) -> Result<Option<u64>, AllocError>
-    ensures { IfOk result (IsBest limit (GivesLeaves arguments.now (map (val_of T.denotes) pool.now) (map (production_of T.denotes) rules.now))) }
+    ensures { IfOk result (IsBest limit
+        (GivesLeaves arguments.now (map (val_of T.denotes) pool.now) (map (production_of T.denotes) rules.now))) }
 {
     let mut best = None;
     for rule in rules {
@@ -53,7 +55,8 @@ fn leaves<T: Theory>(
     Ok(best)
 }
 
-/// The largest size that the rule gives if it is for all of a sort, at most `limit`; `None` exactly where it gives none.
+/// The largest size that the rule gives if it is for all of a sort, at most `limit`; `None` exactly where it gives
+/// none.
 fn leaf<T: Theory>(
     alloc: Global,
     arguments: &[Sort],
@@ -61,7 +64,8 @@ fn leaf<T: Theory>(
     pool: &[Value<T::Num>],
     limit: u64,
 ) -> Result<Option<u64>, AllocError>
-    ensures { IfOk result (IsBest limit (GivesLeaf arguments.now (map (val_of T.denotes) pool.now) (production_of T.denotes rule.now))) }
+    ensures { IfOk result
+        (IsBest limit (GivesLeaf arguments.now (map (val_of T.denotes) pool.now) (production_of T.denotes rule.now))) }
 {
     match rule {
         Rule::Term(_) => Ok(None),

@@ -20,7 +20,8 @@ pub fn derivation_size<T: Theory>(
     pool: &Values<T>,
     cap: u32,
 ) -> u32
-    ensures { result ≡ min cap (tree_size (syntax_from T.denotes g.now) (map (val_of T.denotes) pool.now) non (tree_of T.denotes d.now)) }
+    ensures { result ≡ min cap
+        (tree_size (syntax_from T.denotes g.now) (map (val_of T.denotes) pool.now) non (tree_of T.denotes d.now)) }
 {
     match d {
         Derivation::Node(rule, children) => match g.part(non, *rule) {
@@ -44,7 +45,8 @@ fn children_size<T: Theory>(
     pool: &Values<T>,
     cap: u32,
 ) -> u32
-    ensures { result ≡ min cap (tree_sizes (syntax_from T.denotes g.now) (map (val_of T.denotes) pool.now) (occurring (pattern_of T.denotes part.now)) (trees_of T.denotes children.now.items.items)) }
+    ensures { result ≡ min cap (tree_sizes (syntax_from T.denotes g.now) (map (val_of T.denotes) pool.now)
+        (occurring (pattern_of T.denotes part.now)) (trees_of T.denotes children.now.items.items)) }
 {
     let mut total = 0u32;
     for (place, child) in children.as_slice().iter().enumerate() {

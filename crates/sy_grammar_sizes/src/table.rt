@@ -19,7 +19,8 @@ pub fn next_larger<T: Theory>(
 ) -> Option<(usize, u64)>
     ensures { MatchOption result
         (IsStable (syntax_from T.denotes g.now) limit table.now)
-        (λ pair. (pair.0 < length g.now.nons) × IsImproved (syntax_from T.denotes g.now) limit table.now pair.0 pair.1) }
+        (λ pair. (pair.0 < length g.now.nons) ×
+        IsImproved (syntax_from T.denotes g.now) limit table.now pair.0 pair.1) }
 {
     for (nonterminal, item) in g.nons().as_slice().iter().enumerate() {
         let known = entry(table, nonterminal);
@@ -65,8 +66,10 @@ fn exceeds(known: Option<u64>, size: u64) -> bool
 /// for all of a sort.
 fn rule_size<T: Theory>(rule: &Rule<T>, table: &[Option<u64>], limit: u64) -> Option<u64>
     ensures { MatchOption result
-        ((pattern : Pattern) (size : ℕ) → production_of T.denotes rule.now ≡ Template pattern → pattern_size limit table.now pattern ≡ Some size → ⊥)
-        (λ size. (pattern : Pattern) × (production_of T.denotes rule.now ≡ Template pattern) × (pattern_size limit table.now pattern ≡ Some size)) }
+        ((pattern : Pattern) (size : ℕ) → production_of T.denotes rule.now ≡ Template pattern →
+        pattern_size limit table.now pattern ≡ Some size → ⊥)
+        (λ size. (pattern : Pattern) × (production_of T.denotes rule.now ≡ Template pattern) ×
+        (pattern_size limit table.now pattern ≡ Some size)) }
 {
     match rule {
         Rule::Term(part) => part_size(part, table, limit),
@@ -98,7 +101,8 @@ fn part_size<T: Theory>(part: &Part<T>, table: &[Option<u64>], limit: u64) -> Op
 /// The same over all parts.
 #[cycle(part_size)]
 fn parts_size<T: Theory>(parts: &Parts<T>, table: &[Option<u64>], limit: u64) -> Option<u64>
-    ensures { result ≡ cut limit (patterns.own_sizes (patterns_of T.denotes parts.now.items.items)) (entries_total table.now (all_occurring (patterns_of T.denotes parts.now.items.items))) }
+    ensures { result ≡ cut limit (patterns.own_sizes (patterns_of T.denotes parts.now.items.items))
+        (entries_total table.now (all_occurring (patterns_of T.denotes parts.now.items.items))) }
 {
     let mut sum = 0u64;
     for part in parts.as_slice() {

@@ -77,7 +77,9 @@ pub(crate) fn back(
     tree: Tree,
 ) -> Result<Turn, Want>
     requires { (order : Order) × IsClosedTree order (linear_query_of query.now) way (grown_tree_of tree) }
-    ensures { (order : Order) (limits : Limits) → IsClosedTree order (linear_query_of query.now) way (grown_tree_of tree) → way.inner ≤ limits.nodes → IfOk result (IsTurn order (linear_query_of query.now) limits (room_closed limits.nodes way)) }
+    ensures { (order : Order) (limits : Limits) →
+        IsClosedTree order (linear_query_of query.now) way (grown_tree_of tree) → way.inner ≤ limits.nodes →
+        IfOk result (IsTurn order (linear_query_of query.now) limits (room_closed limits.nodes way)) }
 {
     let Way {
         facts,

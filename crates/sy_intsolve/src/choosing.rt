@@ -24,7 +24,8 @@ pub(crate) fn guessed_test(
 ) -> Result<Option<Test>, Want>
     requires asked { IsNumberedQuery (linear_query_of query.now) }
     requires path { IsPath query.now.vars way.now.facts.items }
-    ensures { IfOk result (λ found. IfSome found (IsSplit plan.now.order (linear_query_of query.now) way.now.facts.items)) }
+    ensures { IfOk result (λ found.
+        IfSome found (IsSplit plan.now.order (linear_query_of query.now) way.now.facts.items)) }
 {
     match plan.order {
         Order::First => Ok(None),

@@ -56,8 +56,8 @@ pub(crate) fn cut_at(
     Ok(found)
 }
 
-/// The leaf below the cut at the end of the way, where the tree may have an inner node more; else what shows that it may
-/// not.
+/// The leaf below the cut at the end of the way, where the tree may have an inner node more; else what shows that it
+/// may not.
 pub(crate) fn under(
     alloc: Global,
     query: &Query<IntTheory>,
@@ -70,7 +70,8 @@ pub(crate) fn under(
     requires known { query_known (linear_query_of query.now) way.facts.items ≡ known.True }
     requires corner { IsCornerOf query.now.vars way.facts.items point }
     requires found { IsCutBy query.now.vars way.facts.items point rounding }
-    ensures { IfOk result (IsTurn plan.now.order (linear_query_of query.now) plan.now.limits (room_open plan.now.limits.nodes way)) }
+    ensures { IfOk result
+        (IsTurn plan.now.order (linear_query_of query.now) plan.now.limits (room_open plan.now.limits.nodes way)) }
 {
     if way.inner >= plan.limits.nodes {
         return spent_nodes(alloc, way);

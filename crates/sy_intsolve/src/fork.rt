@@ -81,7 +81,8 @@ fn ahead(
 ) -> Result<(Fact, Option<Seq<Frac>>), Want>
     requires { HasSides query.now.vars fork.now }
     ensures fact { IfOk result (λ found. found.0 ≡ fork_fact left fork.now) }
-    ensures near { (path : List FactOf) → IsPointOf query.now.vars path point.now → IfOk result (λ found. IfSome found.1 (IsPointOf query.now.vars (path ++ found.0 ∷ []))) }
+    ensures near { (path : List FactOf) → IsPointOf query.now.vars path point.now →
+        IfOk result (λ found. IfSome found.1 (IsPointOf query.now.vars (path ++ found.0 ∷ []))) }
 {
     let vars = query.vars.as_slice();
     let fact = fact_of(alloc, vars, fork, left)?;
@@ -94,10 +95,10 @@ fn ahead(
     }
 }
 
-/// The open leaf on the left of the fork at the end of the way, or else on its right, beside the other side, which isn't
-/// begun where there is none; the way's inner nodes are counted with the fork and that side. The fork's point is kept where
-/// it is known to meet the new fact. What isn't handed on is let go of by calls, since a proof walks through all that a
-/// tree may be wherever one goes out of scope.
+/// The open leaf on the left of the fork at the end of the way, or else on its right, beside the other side, which
+/// isn't begun where there is none; the way's inner nodes are counted with the fork and that side. The fork's point is
+/// kept where it is known to meet the new fact. What isn't handed on is let go of by calls, since a proof walks through
+/// all that a tree may be wherever one goes out of scope.
 pub(crate) fn enter(
     alloc: Global,
     query: &Query<IntTheory>,
@@ -108,7 +109,8 @@ pub(crate) fn enter(
     other: Option<Tree>,
 ) -> Result<State, Want>
     requires { CanTurn query.now.vars way.facts.items fork }
-    ensures state { (order : Order) (nodes : ℕ) → GoesOn order (linear_query_of query.now) way fork point left (side_of other) → way.inner ≤ nodes → IfOk result (IsState order (linear_query_of query.now) nodes) }
+    ensures state { (order : Order) (nodes : ℕ) → GoesOn order (linear_query_of query.now) way fork point left
+        (side_of other) → way.inner ≤ nodes → IfOk result (IsState order (linear_query_of query.now) nodes) }
     ensures room { (nodes : ℕ) → IfOk result (λ next. nodes_left nodes next ≡ room_after nodes way (side_of other)) }
 {
     let here = point.as_slice();

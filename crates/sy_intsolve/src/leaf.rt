@@ -41,7 +41,8 @@ fn grow(
     requires leaf { IsLeaf plan.now.order (linear_query_of query.now) plan.now.limits.nodes way }
     requires fork { IsFork plan.now.order (linear_query_of query.now) way.facts.items fork point }
     requires turns { CanTurn query.now.vars way.facts.items fork }
-    ensures { IfOk result (IsTurn plan.now.order (linear_query_of query.now) plan.now.limits (room_open plan.now.limits.nodes way)) }
+    ensures { IfOk result
+        (IsTurn plan.now.order (linear_query_of query.now) plan.now.limits (room_open plan.now.limits.nodes way)) }
 {
     if way.inner >= plan.limits.nodes {
         drop(fork);
@@ -71,7 +72,8 @@ fn cut_or_branch(
     requires corner { IsCornerOf query.now.vars way.facts.items point }
     requires fork { IsFork plan.now.order (linear_query_of query.now) way.facts.items (Branch value.0 value.1) point }
     requires turns { CanTurn query.now.vars way.facts.items (Branch value.0 value.1) }
-    ensures { IfOk result (IsTurn plan.now.order (linear_query_of query.now) plan.now.limits (room_open plan.now.limits.nodes way)) }
+    ensures { IfOk result
+        (IsTurn plan.now.order (linear_query_of query.now) plan.now.limits (room_open plan.now.limits.nodes way)) }
 {
     let here = point.as_slice();
     let found = cut_at(alloc, query, &way, here, last)?;
@@ -84,8 +86,8 @@ fn cut_or_branch(
     }
 }
 
-/// A turn at a point of the path of a leaf at which the query is known true: where each value is whole a model, and else, at
-/// a corner, a cut or a branch on the first value that isn't whole.
+/// A turn at a point of the path of a leaf at which the query is known true: where each value is whole a model, and
+/// else, at a corner, a cut or a branch on the first value that isn't whole.
 fn at_place(
     alloc: Global,
     query: &Query<IntTheory>,
@@ -99,7 +101,8 @@ fn at_place(
     requires known { query_known (linear_query_of query.now) way.facts.items ≡ known.True }
     requires right { KnownIsRight (linear_query_of query.now) way.facts.items known.True }
     requires place { IsPlaceOf query.now.vars way.facts.items point }
-    ensures { IfOk result (IsTurn plan.now.order (linear_query_of query.now) plan.now.limits (room_open plan.now.limits.nodes way)) }
+    ensures { IfOk result
+        (IsTurn plan.now.order (linear_query_of query.now) plan.now.limits (room_open plan.now.limits.nodes way)) }
 {
     let here = point.as_slice();
     match broken(query, &way, here) {
@@ -121,7 +124,8 @@ fn settled(
     requires kept { IfSome point (IsPointOf query.now.vars way.facts.items) }
     requires known { query_known (linear_query_of query.now) way.facts.items ≡ known.True }
     requires right { KnownIsRight (linear_query_of query.now) way.facts.items known.True }
-    ensures { IfOk result (IsTurn plan.now.order (linear_query_of query.now) plan.now.limits (room_open plan.now.limits.nodes way)) }
+    ensures { IfOk result
+        (IsTurn plan.now.order (linear_query_of query.now) plan.now.limits (room_open plan.now.limits.nodes way)) }
 {
     let end = place_at(alloc, query, plan.limits.pivots, &way, point)?;
     let Ended { answer, last } = end;
@@ -148,7 +152,8 @@ fn undecided(
     requires leaf { IsLeaf plan.now.order (linear_query_of query.now) plan.now.limits.nodes way }
     requires kept { IfSome point (IsPointOf query.now.vars way.facts.items) }
     requires split { IsSplit plan.now.order (linear_query_of query.now) way.facts.items test }
-    ensures { IfOk result (IsTurn plan.now.order (linear_query_of query.now) plan.now.limits (room_open plan.now.limits.nodes way)) }
+    ensures { IfOk result
+        (IsTurn plan.now.order (linear_query_of query.now) plan.now.limits (room_open plan.now.limits.nodes way)) }
 {
     let answer = point_at(alloc, query, plan.limits.pivots, &way, point)?;
     match answer {
@@ -179,7 +184,8 @@ fn told(
     requires asked { IsNumberedQuery (linear_query_of query.now) }
     requires leaf { IsLeaf plan.now.order (linear_query_of query.now) plan.now.limits.nodes way }
     requires kept { IfSome point (IsPointOf query.now.vars way.facts.items) }
-    ensures { IfOk result (IsTurn plan.now.order (linear_query_of query.now) plan.now.limits (room_open plan.now.limits.nodes way)) }
+    ensures { IfOk result
+        (IsTurn plan.now.order (linear_query_of query.now) plan.now.limits (room_open plan.now.limits.nodes way)) }
 {
     let known = known_at(alloc, query, &way)?;
     match known {
@@ -190,8 +196,8 @@ fn told(
     }
 }
 
-/// A turn at an open leaf, with a point of its path where one is known. What the path tells of the query, which takes the
-/// most time, is asked only where the guide finds no test to split on.
+/// A turn at an open leaf, with a point of its path where one is known. What the path tells of the query, which takes
+/// the most time, is asked only where the guide finds no test to split on.
 fn opened(
     alloc: Global,
     query: &Query<IntTheory>,
@@ -203,7 +209,8 @@ fn opened(
     requires asked { IsNumberedQuery (linear_query_of query.now) }
     requires leaf { IsLeaf plan.now.order (linear_query_of query.now) plan.now.limits.nodes way }
     requires kept { IfSome point (IsPointOf query.now.vars way.facts.items) }
-    ensures { IfOk result (IsTurn plan.now.order (linear_query_of query.now) plan.now.limits (room_open plan.now.limits.nodes way)) }
+    ensures { IfOk result
+        (IsTurn plan.now.order (linear_query_of query.now) plan.now.limits (room_open plan.now.limits.nodes way)) }
 {
     let found = guessed_test(alloc, query, plan, guide, &way)?;
     match found {
@@ -212,8 +219,8 @@ fn opened(
     }
 }
 
-/// A turn at an open leaf, with a point of its path where one is kept: where few of the path's facts refute it, they close the
-/// leaf.
+/// A turn at an open leaf, with a point of its path where one is kept: where few of the path's facts refute it, they
+/// close the leaf.
 pub(crate) fn look(
     alloc: Global,
     query: &Query<IntTheory>,
@@ -225,7 +232,8 @@ pub(crate) fn look(
     requires asked { IsNumberedQuery (linear_query_of query.now) }
     requires leaf { IsLeaf plan.now.order (linear_query_of query.now) plan.now.limits.nodes way }
     requires kept { IfSome point (IsPointOf query.now.vars way.facts.items) }
-    ensures { IfOk result (IsTurn plan.now.order (linear_query_of query.now) plan.now.limits (room_open plan.now.limits.nodes way)) }
+    ensures { IfOk result
+        (IsTurn plan.now.order (linear_query_of query.now) plan.now.limits (room_open plan.now.limits.nodes way)) }
 {
     let told = near(alloc, query, plan.limits.pivots, &way, point)?;
     match told {

@@ -31,8 +31,8 @@ pub(crate) fn known_at(alloc: Global, query: &Query<IntTheory>, way: &Way) -> Re
     Ok(known)
 }
 
-/// A point of the way's path that is whole, the kept one where that is so, or a corner and the last tableau; multipliers that
-/// refute the path, or the budget that was met.
+/// A point of the way's path that is whole, the kept one where that is so, or a corner and the last tableau;
+/// multipliers that refute the path, or the budget that was met.
 pub(crate) fn place_at(
     alloc: Global,
     query: &Query<IntTheory>,
@@ -54,7 +54,8 @@ pub(crate) fn place_at(
 /// The most facts of which the simplex method takes all at once.
 const FEW: usize = 48;
 
-/// A point of the way's path, or multipliers that refute it, where few of its facts tell; of a path of few facts, nothing.
+/// A point of the way's path, or multipliers that refute it, where few of its facts tell; of a path of few facts,
+/// nothing.
 fn told_by_few(
     alloc: Global,
     query: &Query<IntTheory>,

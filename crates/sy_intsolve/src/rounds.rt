@@ -95,9 +95,9 @@ fn by_chosen(
     }
 }
 
-/// A point of the path, or multipliers that refute it, where few of its facts tell: the last one, and then each time the
-/// one that is least met at a corner of those before. Each run of the simplex method takes at most `pivots` steps. `Want`
-/// comes where memory runs out, and nowhere else.
+/// A point of the path, or multipliers that refute it, where few of its facts tell: the last one, and then each time
+/// the one that is least met at a corner of those before. Each run of the simplex method takes at most `pivots` steps.
+/// `Want` comes where memory runs out, and nowhere else.
 pub(crate) fn by_few_facts(
     alloc: Global,
     vars: &[Sort],

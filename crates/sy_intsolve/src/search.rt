@@ -27,7 +27,8 @@ fn next_turn(
 ) -> Result<Turn, Want>
     requires asked { IsNumberedQuery (linear_query_of query.now) }
     requires state { IsState plan.now.order (linear_query_of query.now) plan.now.limits.nodes state }
-    ensures { IfOk result (IsTurn plan.now.order (linear_query_of query.now) plan.now.limits (nodes_left plan.now.limits.nodes state)) }
+    ensures { IfOk result
+        (IsTurn plan.now.order (linear_query_of query.now) plan.now.limits (nodes_left plan.now.limits.nodes state)) }
 {
     match state {
         State::Open(way, point) => look(alloc, query, plan, guide, way, point),
@@ -35,8 +36,8 @@ fn next_turn(
     }
 }
 
-/// The search's end: a tree that refutes the query, an assignment that satisfies it, or where a budget was met, the tree so
-/// far.
+/// The search's end: a tree that refutes the query, an assignment that satisfies it, or where a budget was met, the
+/// tree so far.
 fn search(
     alloc: Global,
     query: &Query<IntTheory>,
@@ -65,9 +66,10 @@ fn is_spent(verdict: &Verdict<IntTheory, Tree, IntSpent>) -> bool
     }
 }
 
-/// Whether an assignment satisfies the query, by a tree of at most `limits.nodes` inner nodes, with at most `limits.pivots`
-/// steps of the simplex method at one leaf. `Never` has a tree that refutes the query, `Model` an assignment that satisfies
-/// it, and `Spent` an unfinished tree, each split of which is on the first open test, that shows which budget was met.
+/// Whether an assignment satisfies the query, by a tree of at most `limits.nodes` inner nodes, with at most
+/// `limits.pivots` steps of the simplex method at one leaf. `Never` has a tree that refutes the query, `Model` an
+/// assignment that satisfies it, and `Spent` an unfinished tree, each split of which is on the first open test, that
+/// shows which budget was met.
 ///
 /// Splits are on tests that are likely to settle much; only where that search meets a budget, another one splits on the
 /// first open test. `Want` comes where memory runs out, and where a path has 2^31 forms.
@@ -83,7 +85,8 @@ pub fn solve_query(
     search_twice(alloc, query, limits, &mut guide)
 }
 
-/// The end of the search that is free in its splits; where that meets a budget, of the one that splits on the first open test.
+/// The end of the search that is free in its splits; where that meets a budget, of the one that splits on the first
+/// open test.
 fn search_twice(
     alloc: Global,
     query: &Query<IntTheory>,

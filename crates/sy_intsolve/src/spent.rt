@@ -46,7 +46,8 @@ fn plugged_way(alloc: Global, way: Way) -> Result<(Tree, Path), Want>
 
 /// The end with the tree so far, whose inner nodes are as many as allowed.
 pub(crate) fn spent_nodes(alloc: Global, way: Way) -> Result<Turn, Want>
-    ensures { (order : Order) (query : QueryOf) (limits : LimitsOf) (before : ℕ) → IsWay order query way Unfinished → way.inner ≡ limits.nodes → IfOk result (IsTurn order query limits before) }
+    ensures { (order : Order) (query : QueryOf) (limits : LimitsOf) (before : ℕ) →
+        IsWay order query way Unfinished → way.inner ≡ limits.nodes → IfOk result (IsTurn order query limits before) }
 {
     let tree = plugged(alloc, way.steps, Tree::Unfinished)?;
     Ok(Turn::Over(Verdict::Spent(IntSpent::Nodes(tree))))
@@ -54,7 +55,9 @@ pub(crate) fn spent_nodes(alloc: Global, way: Way) -> Result<Turn, Want>
 
 /// The end with the tree so far and the way's path, under which the simplex method took as many steps as allowed.
 pub(crate) fn spent_pivots(alloc: Global, way: Way, run: Run) -> Result<Turn, Want>
-    ensures { (order : Order) (query : QueryOf) (limits : LimitsOf) (before : ℕ) → IsWay order query way Unfinished → way.inner ≤ limits.nodes → RunIsSpent (length query.vars) (forms way.facts.items) limits.pivots run.steps → IfOk result (IsTurn order query limits before) }
+    ensures { (order : Order) (query : QueryOf) (limits : LimitsOf) (before : ℕ) → IsWay order query way Unfinished →
+        way.inner ≤ limits.nodes → RunIsSpent (length query.vars) (forms way.facts.items) limits.pivots run.steps →
+        IfOk result (IsTurn order query limits before) }
 {
     let (tree, path) = plugged_way(alloc, way)?;
     Ok(Turn::Over(Verdict::Spent(IntSpent::Pivots(tree, path, run))))
@@ -62,15 +65,20 @@ pub(crate) fn spent_pivots(alloc: Global, way: Way, run: Run) -> Result<Turn, Wa
 
 /// The end with the tree so far and the way's path, under which an operation of the simplex method doesn't fit.
 pub(crate) fn spent_range(alloc: Global, way: Way, run: Run) -> Result<Turn, Want>
-    ensures { (order : Order) (query : QueryOf) (limits : LimitsOf) (before : ℕ) → IsWay order query way Unfinished → way.inner ≤ limits.nodes → IsOutOfRange (length query.vars) (forms way.facts.items) limits.pivots run.steps → IfOk result (IsTurn order query limits before) }
+    ensures { (order : Order) (query : QueryOf) (limits : LimitsOf) (before : ℕ) → IsWay order query way Unfinished →
+        way.inner ≤ limits.nodes → IsOutOfRange (length query.vars) (forms way.facts.items) limits.pivots run.steps →
+        IfOk result (IsTurn order query limits before) }
 {
     let (tree, path) = plugged_way(alloc, way)?;
     Ok(Turn::Over(Verdict::Spent(IntSpent::Range(tree, IntRange::Simplex(path, run)))))
 }
 
-/// The end with the tree so far and the way's path, under which a form of the query isn't built at the node of this number.
+/// The end with the tree so far and the way's path, under which a form of the query isn't built at the node of this
+/// number.
 pub(crate) fn spent_known(alloc: Global, way: Way, node: u32) -> Result<Turn, Want>
-    ensures { (order : Order) (query : QueryOf) (limits : LimitsOf) (before : ℕ) → IsWay order query way Unfinished → way.inner ≤ limits.nodes → (query_seen query way.facts.items).misfit ≡ Some node → IfOk result (IsTurn order query limits before) }
+    ensures { (order : Order) (query : QueryOf) (limits : LimitsOf) (before : ℕ) →
+        IsWay order query way Unfinished → way.inner ≤ limits.nodes →
+        (query_seen query way.facts.items).misfit ≡ Some node → IfOk result (IsTurn order query limits before) }
 {
     let (tree, path) = plugged_way(alloc, way)?;
     Ok(Turn::Over(Verdict::Spent(IntSpent::Range(tree, IntRange::Known(path, node)))))
@@ -88,7 +96,8 @@ pub(crate) fn model(
     requires right { KnownIsRight (linear_query_of query.now) way.now.facts.items known.True }
     requires at { IsPointOf query.now.vars way.now.facts.items point.now }
     requires whole { ValuesAreWhole point.now }
-    ensures { (order : Order) (limits : LimitsOf) (before : ℕ) → IfOk result (IsTurn order (linear_query_of query.now) limits before) }
+    ensures { (order : Order) (limits : LimitsOf) (before : ℕ) →
+        IfOk result (IsTurn order (linear_query_of query.now) limits before) }
 {
     let vars = query.vars.as_slice();
     let facts = way.facts.as_slice();

@@ -28,7 +28,8 @@ pub(crate) fn with_fact(
     place: usize,
     chosen: Vec<Fact>,
 ) -> Result<Vec<Fact>, Want>
-    ensures { (vars : List Sort) → IsPath vars facts.now → IsPath vars chosen.items → IfOk result (λ all. IsPath vars all.items) }
+    ensures { (vars : List Sort) → IsPath vars facts.now →
+        IsPath vars chosen.items → IfOk result (λ all. IsPath vars all.items) }
 {
     let Some(form) = form_at(facts, place) else {
         return Ok(chosen);

@@ -66,7 +66,8 @@ pub fn checked(
     point: &[Frac],
 ) -> Result<Option<Form>, Want>
     requires { length vars.now < 2 ^ 31 }
-    ensures { IfOk result (λ found. IfSome found (IsRoundingForm vars.now facts.now multipliers.now (pos 1) point.now)) }
+    ensures { IfOk result (λ found.
+        IfSome found (IsRoundingForm vars.now facts.now multipliers.now (pos 1) point.now)) }
 {
     if !are_below_one(multipliers) {
         return Ok(None);

@@ -17,8 +17,8 @@ pub enum Fork {
     Branch(u32, i128),
 }
 
-/// The tree with this node at its root, at this point, over the two sides. `Want` comes where memory runs out, and nowhere
-/// else.
+/// The tree with this node at its root, at this point, over the two sides. `Want` comes where memory runs out, and
+/// nowhere else.
 pub fn forked(
     alloc: Global,
     fork: Fork,

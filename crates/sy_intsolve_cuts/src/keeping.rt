@@ -49,15 +49,16 @@ fn is_met(number: &Frac) -> bool
 
 /// The coefficient times its variable's number, where each number that this forms fits.
 fn term_at(coefficient: &(u32, i128), point: &[Frac]) -> Option<Frac>
-    ensures { IfSome result (λ number. (value number ≡ whole_ℚ coefficient.now.1 *ℚ numbers point.now coefficient.now.0) × (0 < number.den)) }
+    ensures { IfSome result (λ number.
+        (value number ≡ whole_ℚ coefficient.now.1 *ℚ numbers point.now coefficient.now.0) × (0 < number.den)) }
 {
     let factor = fraction(&coefficient.1)?;
     let number = number_of(point, coefficient.0)?;
     factor.mul(&number)
 }
 
-/// The form's value at the point, where each number that its operations form fits; `None` where one doesn't, or the point
-/// has no number for a variable.
+/// The form's value at the point, where each number that its operations form fits; `None` where one doesn't, or the
+/// point has no number for a variable.
 pub fn number_at(form: &Form, point: &[Frac]) -> Option<Frac>
     ensures { IfSome result (λ number. value number ≡ form_value_at form.now (numbers point.now)) }
 {
@@ -94,10 +95,11 @@ pub fn copied(alloc: Global, point: &[Frac]) -> Result<Seq<Frac>, Want>
     Ok(copy)
 }
 
-/// A copy of the point, where it is known to meet the fact: of a point of a path, one of the path with this fact. `None`
-/// where that isn't known. `Want` comes where memory runs out, and nowhere else.
+/// A copy of the point, where it is known to meet the fact: of a point of a path, one of the path with this fact.
+/// `None` where that isn't known. `Want` comes where memory runs out, and nowhere else.
 pub fn kept(alloc: Global, point: &[Frac], fact: &Fact) -> Result<Option<Seq<Frac>>, Want>
-    ensures { (vars : List Sort) (path : List FactOf) → IsPointOf vars path point.now → IfOk result (λ found. IfSome found (IsPointOf vars (path ++ fact.now ∷ []))) }
+    ensures { (vars : List Sort) (path : List FactOf) →
+        IsPointOf vars path point.now → IfOk result (λ found. IfSome found (IsPointOf vars (path ++ fact.now ∷ []))) }
 {
     if !meets(fact, point) {
         return Ok(None);

@@ -9,8 +9,8 @@ use std::alloc::Global;
 use sy_linear_known::Tree;
 use sy_seq::Want;
 
-/// The tree with the last step's node at its root, over the tree below it. `Want` comes where memory runs out, and nowhere
-/// else.
+/// The tree with the last step's node at its root, over the tree below it. `Want` comes where memory runs out, and
+/// nowhere else.
 pub fn wrapped(alloc: Global, step: Step, below: Tree) -> Result<Tree, Want>
     ensures { IfOk result (λ tree. grown_tree_of tree ≡ spec.wrapped (layer_of step) (grown_tree_of below)) }
 {
@@ -24,8 +24,8 @@ pub fn wrapped(alloc: Global, step: Step, below: Tree) -> Result<Tree, Want>
     }
 }
 
-/// The whole tree whose way from the root has these steps, over the tree at its end. `Want` comes where memory runs out,
-/// and nowhere else.
+/// The whole tree whose way from the root has these steps, over the tree at its end. `Want` comes where memory runs
+/// out, and nowhere else.
 pub fn plugged(alloc: Global, steps: Vec<Step>, end: Tree) -> Result<Tree, Want>
     ensures { IfOk result (λ tree. grown_tree_of tree ≡ spec.plugged (layers_of steps.items) (grown_tree_of end)) }
 {

@@ -13,8 +13,9 @@ use sy_simplex::{Ended, ended};
 use sy_terms::Sort;
 
 /// Whether a rational point meets the forms among the facts, in at most `pivots` steps of the simplex method, and for a
-/// point the tableau at which the run ends. `Point` is a corner of the path. `Conflict` gives a multiplier for each form,
-/// none of them negative, that combine the forms to a negative constant. `Pivots` and `Range` come as `ended` says, and
+/// point the tableau at which the run ends. `Point` is a corner of the path. `Conflict` gives a multiplier for each
+/// form, none of them negative, that combine the forms to a negative constant. `Pivots` and `Range` come as `ended`
+/// says, and
 /// `Want` where memory runs out or there are 2^31 forms.
 pub fn corner(alloc: Global, vars: &[Sort], facts: &[Fact], pivots: u32) -> Result<Ended, Want>
     requires few { length vars.now < 2 ^ 31 }

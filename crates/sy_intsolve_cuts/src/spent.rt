@@ -15,7 +15,8 @@ pub enum IntRange {
     Simplex(Path, Run),
 }
 
-/// What is left of a search whose budget was met: the tree so far, and, but for the nodes, the open leaf at which it was.
+/// What is left of a search whose budget was met: the tree so far, and, but for the nodes, the open leaf at which it
+/// was.
 #[derive(Drop)]
 pub enum IntSpent {
     /// The tree has as many inner nodes as allowed.

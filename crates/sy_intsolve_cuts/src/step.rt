@@ -59,7 +59,10 @@ impl Step {
     /// there is never taken as shown.
     pub fn to_side(left: bool, fork: Fork, point: Seq<Frac>, other: Option<Tree>) -> Step
         ensures layer { layer_of result ≡ side_layer left fork point (side_of other) }
-        ensures stands { (order : OrderOf) (query : LinearQuery) (path : List Fact) → IsFork order query path fork point → IfSome other (λ tree. IsOtherSide order query (path ++ fork_fact (not left) fork ∷ []) (grown_tree_of tree)) → IsLayer order query path (layer_of result) (fork_fact left fork) }
+        ensures stands { (order : OrderOf) (query : LinearQuery) (path : List Fact) →
+            IsFork order query path fork point → IfSome other (λ tree.
+            IsOtherSide order query (path ++ fork_fact (not left) fork ∷ []) (grown_tree_of tree)) →
+            IsLayer order query path (layer_of result) (fork_fact left fork) }
     {
         let beside = begun_or_not(other);
         step_to(left, fork, point, beside)

@@ -30,8 +30,8 @@ fn value_of(facts: &[Fact], point: &[Frac], sort: Sort, number: u32) -> Value<i1
     }
 }
 
-/// The assignment of a whole point of a path: its numbers, and for each variable of truth values what the path gives, else
-/// false. It meets the path. `Want` comes where memory runs out, and nowhere else.
+/// The assignment of a whole point of a path: its numbers, and for each variable of truth values what the path gives,
+/// else false. It meets the path. `Want` comes where memory runs out, and nowhere else.
 pub fn values_of(
     alloc: Global,
     vars: &[Sort],

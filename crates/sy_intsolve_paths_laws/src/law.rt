@@ -15,14 +15,18 @@ ghost use Rattle.sy_intsolve_paths_laws.specs.Paths.{IsPath, TestIsOpen, Suit};
 /// The test that a query leaves open under a path is on variables of the query, its negation fits 128 bits, and the
 /// path stays one on these variables with either of the two.
 pub fn open_tests_suit()
-    ensures { (query : LinearQuery) (path : List Fact) (test : Test) → IsPath query.vars path → query_known query path ≡ Undecided test → TestIsOpen query.vars path test }
+    ensures { (query : LinearQuery) (path : List Fact) (test : Test) →
+        IsPath query.vars path → query_known query path ≡ Undecided test → TestIsOpen query.vars path test }
 {}
 
 /// The empty path is one on the variables of any query. A path stays one with a form on integer variables, and with an
 /// integer variable at most a bound or above it.
 pub fn paths_grow()
     ensures none { (vars : List Sort) → IsPath vars [] }
-    ensures form { (vars : List Sort) (path : List Fact) (form : Form) → IsPath vars path → Suit vars (AtLeast form) → IsPath vars (path ++ AtLeast form ∷ []) }
-    ensures at_most { (vars : List Sort) (path : List Fact) (variable : ℕ) (bound : ℤ) → IsPath vars path → IsOf sorts.Int vars variable → IsPath vars (path ++ AtLeast (at_or_below variable bound) ∷ []) }
-    ensures above { (vars : List Sort) (path : List Fact) (variable : ℕ) (bound : ℤ) → IsPath vars path → IsOf sorts.Int vars variable → IsPath vars (path ++ AtLeast (form_negation (at_or_below variable bound)) ∷ []) }
+    ensures form { (vars : List Sort) (path : List Fact) (form : Form) →
+        IsPath vars path → Suit vars (AtLeast form) → IsPath vars (path ++ AtLeast form ∷ []) }
+    ensures at_most { (vars : List Sort) (path : List Fact) (variable : ℕ) (bound : ℤ) → IsPath vars path →
+        IsOf sorts.Int vars variable → IsPath vars (path ++ AtLeast (at_or_below variable bound) ∷ []) }
+    ensures above { (vars : List Sort) (path : List Fact) (variable : ℕ) (bound : ℤ) → IsPath vars path →
+        IsOf sorts.Int vars variable → IsPath vars (path ++ AtLeast (form_negation (at_or_below variable bound)) ∷ []) }
 {}

@@ -9,7 +9,7 @@ ghost use Rattle.sy_linear.specs.Unsatisfied.{NoneSatisfies};
 use crate::nodes::{added, contradicts, shows};
 use crate::size::count_nodes;
 use std::alloc::Global;
-use sy_linear_known::{CheckEnd, Fact, Tree, is_numbered};
+use sy_linear_known::{CheckEnd, Fact, Tree};
 use sy_meaning_integers::IntTheory;
 use sy_query_base::Query;
 use sy_terms::Sort;
@@ -77,6 +77,7 @@ fn judge(
 
 /// Whether the tree refutes the query under the facts with what the root of the one above it, of number `node`, adds on
 /// this side.
+/// Eight parameters: each call of the recursion has its own trees and number beside what all calls share.
 #[cycle(judge)]
 fn judge_side(
     alloc: Global,
@@ -111,6 +112,7 @@ fn judge_side(
 }
 
 /// Whether both trees refute the query, each on its side of the one above.
+/// Eight parameters, as those of `judge_side`.
 #[cycle(judge)]
 fn judge_both(
     alloc: Global,
@@ -138,8 +140,23 @@ fn judge_both(
     }
 }
 
-/// Whether the tree, whose nodes numbers of 32 bits count, refutes the query.
-fn checked(alloc: Global, q: &Query<IntTheory>, t: &Tree) -> Result<bool, CheckEnd>
+/// How many nodes a tree may have, so that numbers of 32 bits count them.
+const MOST: u64 = 1 << 32;
+
+/// Whether the tree has fewer than 2^32 nodes.
+pub fn is_countable(t: &Tree) -> bool
+    ensures { result ≡ true → size (tree_shape_of t.now) < 2 ^ 32 }
+{
+    count_nodes(t, MOST) < MOST
+}
+
+/// Whether the tree refutes the query. A node comes before those below it, the left before the right, and the first one
+/// that fails decides: with false where it isn't as a refutation tree's is, as an `Unfinished` one always does, and
+/// with `Range` and its number where a number of it leaves 128 bits. At one node first the variables, the number and
+/// signs of the multipliers and the divisor are judged, then whether the numbers fit, and then the rest. So a tree that
+/// is accepted is a refutation tree of the query, and one that is rejected isn't. A query of which a tree is accepted
+/// is satisfied by no assignment of whole numbers and truth values.
+pub fn check_tree(alloc: Global, q: &Query<IntTheory>, t: &Tree) -> Result<bool, CheckEnd>
     requires nodes { nodes (linear_query_of q.now).body < 2 ^ 31 }
     requires vars { length q.now.vars < 2 ^ 31 }
     requires tree { size (tree_shape_of t.now) < 2 ^ 32 }
@@ -151,26 +168,4 @@ fn checked(alloc: Global, q: &Query<IntTheory>, t: &Tree) -> Result<bool, CheckE
     let mut facts = Vec::new(alloc);
     let mut next = 0u32;
     judge(alloc, q, &mut facts, t, &mut next)
-}
-
-/// How many nodes a tree may have, so that numbers of 32 bits count them.
-const MOST: u64 = 1 << 32;
-
-/// Whether the tree refutes the query. A node comes before those below it, the left before the right, and the first one
-/// that fails decides: with false where it isn't as a refutation tree's is, as an `Unfinished` one always does, and with
-/// `Range` and its number where a number of it leaves 128 bits. At one node first the variables, the number and signs of the
-/// multipliers and the divisor are judged, then whether the numbers fit, and then the rest. So a tree that is accepted is
-/// a refutation tree of the query, and one that is rejected isn't. A query of which a tree is accepted is satisfied by no
-/// assignment of whole numbers and truth values. A query or a tree of which numbers of 32 bits don't count the nodes is
-/// answered as want of memory.
-pub fn check_tree(alloc: Global, q: &Query<IntTheory>, t: &Tree) -> Result<bool, CheckEnd>
-    ensures judged { TellsJudgement result (judged (linear_query_of q.now) [] 0 (tree_shape_of t.now)) }
-    ensures accepted { result ≡ Ok true → TreeRefutes (linear_query_of q.now) [] (tree_shape_of t.now) }
-    ensures rejected { result ≡ Ok false → ¬ (TreeRefutes (linear_query_of q.now) [] (tree_shape_of t.now)) }
-    ensures law { result ≡ Ok true → NoneSatisfies (linear_query_of q.now) }
-{
-    if !is_numbered(q) || count_nodes(t, MOST) >= MOST {
-        return Err(CheckEnd::Want);
-    }
-    checked(alloc, q, t)
 }

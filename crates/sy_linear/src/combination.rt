@@ -55,7 +55,8 @@ pub(crate) fn are_multipliers(multipliers: &[Frac], facts: &[Fact]) -> bool
 
 /// Appends a share.
 fn push_share(list: &mut Seq<Share>, variable: u32, weight: Frac) -> Result<(), Want>
-    ensures { OnOk result ((rest : Option (List Share)) → spec.following list.old (spec.share_before variable (Some weight) rest) ≡ spec.following list.new rest) }
+    ensures { OnOk result ((rest : Option (List Share)) →
+        spec.following list.old (spec.share_before variable (Some weight) rest) ≡ spec.following list.new rest) }
 {
     list.push(Share { variable, weight })?;
     Ok(())
@@ -77,7 +78,8 @@ fn put_coefficients(
 ) -> Result<(), FormEnd>
     requires { all.old ≡ [] }
     ensures ok { OnOk result (spec.plus_coefficients factor.now coefficients.now shares.now ≡ Some all.new) }
-    ensures unfit { IsErrOf result FormEnd.OutOfRange → spec.plus_coefficients factor.now coefficients.now shares.now ≡ None }
+    ensures unfit { IsErrOf result FormEnd.OutOfRange →
+        spec.plus_coefficients factor.now coefficients.now shares.now ≡ None }
 {
     let mut cs = coefficients;
     let mut qs = shares;
@@ -122,7 +124,8 @@ fn plus_coefficients(
     shares: &[Share],
 ) -> Result<Seq<Share>, FormEnd>
     ensures ok { IfOk result (λ qs. spec.plus_coefficients factor.now coefficients.now shares.now ≡ Some qs) }
-    ensures unfit { IsErrOf result FormEnd.OutOfRange → spec.plus_coefficients factor.now coefficients.now shares.now ≡ None }
+    ensures unfit { IsErrOf result FormEnd.OutOfRange →
+        spec.plus_coefficients factor.now coefficients.now shares.now ≡ None }
 {
     let mut all = Seq::new(alloc);
     match put_coefficients(&mut all, factor, coefficients, shares) {
@@ -162,7 +165,8 @@ fn plus_form(
     form: &Form,
 ) -> Result<Combination, FormEnd>
     ensures ok { IfOk result (λ c. spec.checked_plus_form combination.now factor.now form.now ≡ Some c) }
-    ensures unfit { IsErrOf result FormEnd.OutOfRange → spec.checked_plus_form combination.now factor.now form.now ≡ None }
+    ensures unfit { IsErrOf result FormEnd.OutOfRange →
+        spec.checked_plus_form combination.now factor.now form.now ≡ None }
 {
     let number = constant_of(form);
     let Some(constant) = plus_multiple(factor, number, &combination.constant) else {
@@ -182,11 +186,10 @@ pub(crate) fn combined(
     facts: &[Fact],
 ) -> Result<Combination, FormEnd>
     ensures ok { IfOk result (λ c. spec.checked_combination multipliers.now (forms facts.now) ≡ Some c) }
-    ensures unfit { IsErrOf result FormEnd.OutOfRange → spec.checked_combination multipliers.now (forms facts.now) ≡ None }
+    ensures unfit { IsErrOf result FormEnd.OutOfRange →
+        spec.checked_combination multipliers.now (forms facts.now) ≡ None }
 {
-    let Some(mut sum) = nothing(alloc) else {
-        return Err(FormEnd::Want);
-    };
+    let mut sum = nothing(alloc);
     let mut left = multipliers;
     for fact in facts {
         let form = match fact {
@@ -206,16 +209,16 @@ pub(crate) fn combined(
 }
 
 /// The combination of no forms. It takes no memory.
-fn nothing(alloc: Global) -> Option<Combination>
-    ensures { result ≡ Some spec.empty_combination }
+fn nothing(alloc: Global) -> Combination
+    ensures { result ≡ spec.empty_combination }
 {
     let Some(constant) = Frac::new(0, 1) else {
-        return None;
+        unreachable!();
     };
-    Some(Combination {
+    Combination {
         shares: Seq::new(alloc),
         constant,
-    })
+    }
 }
 
 /// Whether the share is 0.

@@ -107,7 +107,8 @@ pub fn split(
 
 /// The fact that so many times the variable and the constant are at least 0.
 fn bounded(alloc: Global, coefficient: i128, variable: u32, constant: i128) -> Result<Fact, Want>
-    ensures { IfOk result (λ fact. fact ≡ Fact.AtLeast (record { coefs = (variable, coefficient) ∷ []; constant = constant })) }
+    ensures { IfOk result (λ fact. fact ≡
+        Fact.AtLeast (record { coefs = (variable, coefficient) ∷ []; constant = constant })) }
 {
     let mut coefs = Seq::new(alloc);
     coefs.push((variable, coefficient))?;
@@ -141,8 +142,10 @@ fn cut_form(
     divisor: i128,
 ) -> Result<Option<Form>, FormEnd>
     requires { pos 1 ≤ℤ divisor }
-    ensures ok { IfOk result (λ form. spec.rounded_outcome (spec.divided_combination divisor (checked_combination multipliers.now (forms facts.now))) ≡ spec.added_form form) }
-    ensures unfit { IsErrOf result FormEnd.OutOfRange → spec.rounded_outcome (spec.divided_combination divisor (checked_combination multipliers.now (forms facts.now))) ≡ spec.Leaves }
+    ensures ok { IfOk result (λ form. spec.rounded_outcome (spec.divided_combination divisor
+        (checked_combination multipliers.now (forms facts.now))) ≡ spec.added_form form) }
+    ensures unfit { IsErrOf result FormEnd.OutOfRange → spec.rounded_outcome
+        (spec.divided_combination divisor (checked_combination multipliers.now (forms facts.now))) ≡ spec.Leaves }
 {
     let whole = match combined(alloc, multipliers, facts) {
         Ok(whole) => whole,

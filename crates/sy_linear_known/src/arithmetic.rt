@@ -21,7 +21,8 @@ pub(crate) enum Operation {
 
 /// The form that was made; none where it doesn't fit.
 fn fitting(made: Result<Form, FormEnd>) -> Result<Option<Form>, Want>
-    ensures ok { (f : FormOf) → IfOk made (λ g. g ≡ f) → IfOk made (λ g. form_is_in_range g ≡ true) → (IsErrOf made FormEnd.OutOfRange → form_is_in_range f ≡ false) → IfOk result (λ form. form ≡ spec.built f) }
+    ensures ok { (f : FormOf) → IfOk made (λ g. g ≡ f) → IfOk made (λ g. form_is_in_range g ≡ true) →
+        (IsErrOf made FormEnd.OutOfRange → form_is_in_range f ≡ false) → IfOk result (λ form. form ≡ spec.built f) }
     ensures fits { IfOk made (λ g. form_is_in_range g ≡ true) → IfOk result (λ form. form_fits form ≡ true) }
 {
     match made {

@@ -162,7 +162,8 @@ impl Comparison {
     ) -> Result<Node, Want>
         requires left { sight_fits first.now ≡ true }
         requires right { sight_fits second.now ≡ true }
-        ensures { IfOk result (λ n. n ≡ spec.both_nodes before (spec.compared (comparison self path.now) first.now second.now)) }
+        ensures { IfOk result (λ n.
+            n ≡ spec.both_nodes before (spec.compared (comparison self path.now) first.now second.now)) }
     {
         match self.compared(alloc, path, first, second) {
             Ok(next) => Ok(before.both(next)),

@@ -12,7 +12,7 @@ use crate::form::Form;
 use crate::path::{Fact, Path, given};
 use crate::sight::{Seen, Sight};
 use crate::walk::walk;
-use std::alloc::{AllocError, Global};
+use std::alloc::Global;
 use sy_meaning_integers::IntTheory;
 use sy_query_base::Query;
 use sy_seq::Want;
@@ -101,7 +101,8 @@ pub fn known_under(alloc: Global, q: &Query<IntTheory>, facts: &[Fact]) -> Resul
     requires vars { length q.now.vars < 2 ^ 31 }
     ensures known { IfOk result (λ k. k ≡ spec.query_known (linear_query_of q.now) facts.now) }
     ensures right { IfOk result (λ k. KnownIsRight (linear_query_of q.now) facts.now k) }
-    ensures range { IsLinearQuery (linear_query_of q.now) → IfOk result (λ k. IsMisfit (linear_query_of q.now) facts.now k) }
+    ensures range { IsLinearQuery (linear_query_of q.now) →
+        IfOk result (λ k. IsMisfit (linear_query_of q.now) facts.now k) }
 {
     let vars = q.vars.as_slice();
     let mut names = variable_sights(alloc, facts, vars)?;
@@ -114,16 +115,15 @@ pub fn known_under(alloc: Global, q: &Query<IntTheory>, facts: &[Fact]) -> Resul
 /// What the path tells of the query. A sum, a difference, a product and each test of a comparison is a linear form
 /// where 128 bits hold its numbers; a test is answered where its form is constant, or where it or its negation stands
 /// in the path. Only nodes that known conditions don't leave out are looked at. A product of two terms that vary, an
-/// operator that isn't of linear arithmetic and a call count as forms that don't fit. A query of 2^31 nodes or variables
-/// is answered as want of memory.
+/// operator that isn't of linear arithmetic and a call count as forms that don't fit.
 pub fn known(alloc: Global, q: &Query<IntTheory>, path: &Path) -> Result<Known, Want>
+    requires nodes { nodes (linear_query_of q.now).body < 2 ^ 31 }
+    requires vars { length q.now.vars < 2 ^ 31 }
     ensures known { IfOk result (λ k. k ≡ spec.query_known (linear_query_of q.now) path.now.facts) }
     ensures right { IfOk result (λ k. KnownIsRight (linear_query_of q.now) path.now.facts k) }
-    ensures range { IsLinearQuery (linear_query_of q.now) → IfOk result (λ k. IsMisfit (linear_query_of q.now) path.now.facts k) }
+    ensures range { IsLinearQuery (linear_query_of q.now) →
+        IfOk result (λ k. IsMisfit (linear_query_of q.now) path.now.facts k) }
 {
-    if !is_numbered(q) {
-        return Err(AllocError);
-    }
     let answer = known_under(alloc, q, path.facts.as_slice())?;
     Ok(answer)
 }

@@ -129,7 +129,8 @@ fn noted(
     below: Found,
 ) -> Result<Seen, Want>
     requires { all_fit below.sights ≡ true }
-    ensures seen { IfOk result (λ s. s ≡ spec.node_noted at (operator_applied path.now operator.now below.sights) below) }
+    ensures seen { IfOk result (λ s.
+        s ≡ spec.node_noted at (operator_applied path.now operator.now below.sights) below) }
     ensures fits { IfOk result (λ s. sight_fits s.sight ≡ true) }
 {
     match applied(alloc, path, operator, below.sights.as_slice()) {
@@ -154,7 +155,8 @@ pub(crate) fn walk(
 ) -> Result<Seen, Want>
     requires names { all_fit names.old.items ≡ true }
     requires room { next.old + nodes (expr_of Whole term.now) < 2 ^ 32 }
-    ensures seen { IfOk result (λ s. s ≡ spec.seen vars.now path.now names.old.items next.old (expr_of Whole term.now)) }
+    ensures seen { IfOk result (λ s.
+        s ≡ spec.seen vars.now path.now names.old.items next.old (expr_of Whole term.now)) }
     ensures fits { IfOk result (λ s. sight_fits s.sight ≡ true) }
     ensures names { OnOk result (names.new.items ≡ names.old.items) }
     ensures next { OnOk result (next.new ≡ next.old + nodes (expr_of Whole term.now)) }
@@ -213,7 +215,8 @@ fn walk_if(
 ) -> Result<Seen, Want>
     requires names { all_fit names.old.items ≡ true }
     requires room { next.old + nodes (expr_of Whole term.now) < 2 ^ 32 }
-    ensures seen { IfOk result (λ s. s ≡ cond live (spec.seen vars.now path.now names.old.items next.old (expr_of Whole term.now)) (spec.seen_as Sight.Open)) }
+    ensures seen { IfOk result (λ s. s ≡ cond live
+        (spec.seen vars.now path.now names.old.items next.old (expr_of Whole term.now)) (spec.seen_as Sight.Open)) }
     ensures fits { IfOk result (λ s. sight_fits s.sight ≡ true) }
     ensures names { OnOk result (names.new.items ≡ names.old.items) }
     ensures next { OnOk result (next.new ≡ next.old + nodes (expr_of Whole term.now)) }
@@ -240,7 +243,8 @@ fn walk_all(
 ) -> Result<Found, Want>
     requires names { all_fit names.old.items ≡ true }
     requires room { next.old + nodes_of (exprs_of Whole terms.now.items.items) < 2 ^ 32 }
-    ensures found { IfOk result (λ f. f ≡ spec.all_seen vars.now path.now names.old.items choice next.old spec.nothing_found (exprs_of Whole terms.now.items.items)) }
+    ensures found { IfOk result (λ f. f ≡ spec.all_seen vars.now
+        path.now names.old.items choice next.old spec.nothing_found (exprs_of Whole terms.now.items.items)) }
     ensures fits { IfOk result (λ f. all_fit f.sights ≡ true) }
     ensures names { OnOk result (names.new.items ≡ names.old.items) }
     ensures next { OnOk result (next.new ≡ next.old + nodes_of (exprs_of Whole terms.now.items.items)) }

@@ -25,7 +25,7 @@ use Rattle.sy_bank_level.specs.declared.kept.Kept.{Kept}
 use Rattle.sy_bank_level.specs.Bank.{merged_of}
 use Rattle.sy_bank_level.specs.declared.bank.Bank.{Bank}
 use Rattle.sy_loop_truth.proofs.Items.{all_at}
-use Rattle.sy_bank_level.proofs.Kept.{at-end}
+use Rattle.sy_bank_level.proofs.KeptLaws.{at-end}
 use Rattle.sy_loop.specs.Levels.{AreHonest, BodiesSumTo, BodiesHaveRows, BodiesAreBegun, AreChoices}
 
 begin_more : (pool : List Val) (goals : List Goal) (bodies : List Expr) (goal : Goal) (term : Expr) (tree : Tree) (total size : ℕ) → BodiesSumTo pool goals bodies total → slice_get goals (length bodies) ≡ Some goal → Derives goal.grammar 0 tree term →

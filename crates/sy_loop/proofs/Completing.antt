@@ -8,7 +8,6 @@ use Rattle.sy_points.specs.Asked.{Asked}
 use Rattle.sy_bank_level.specs.Banks.{Entry, Merged, kept_at}
 use Rattle.sy_bank_level.specs.Covering.{Covers, sizes, terms}
 use Rattle.sy_loop_spec.specs.declared.reach.Reach.{Reach}
-use Rattle.sy_loop_spec.specs.declared.reach.Reach.TheVariants.{Beyond}
 use Rattle.sy_loop_spec.specs.Histories.{Counterexample, IsOpenNumber}
 use Rattle.sy_loop_spec.specs.Unsolved.{NoSolutionWithin}
 use Rattle.sy_loop_truth.specs.Known.{IsKnown}
@@ -90,9 +89,9 @@ module _ (question : Question) (limits : Limits) (history : List Counterexample)
     next_done = done.next question history asked level reach (level_refuted reach assumes are whole refuted below) trees_done below
 
 -- no bodies in bound solve the problem
-pub nothing_within : (reach : Reach) (question : Question) (limits : Limits) (history : List Counterexample) (asked : Asked) → (reach ≡ Beyond → ⊥) → IsKnown reach question limits history asked → AreDoneBelow reach question history asked (limits.size + 1) →
+pub nothing_within : (reach : Reach) (question : Question) (limits : Limits) (history : List Counterexample) (asked : Asked) → IsKnown reach question limits history asked → AreDoneBelow reach question history asked (limits.size + 1) →
     NoSolutionWithin reach question limits.size
-nothing_within reach question limits history asked strict known below = done.ends reach question limits.size limits.rounds limits.size history asked strict known.honest below
+nothing_within reach question limits history asked known below = done.ends reach question limits.size limits.rounds limits.size history asked known.honest below
 
 -- the size is open
 pub level_open : (reach : Reach) (question : Question) (limits : Limits) (history : List Counterexample) (asked : Asked) (level : ℕ) → level ≤ limits.size → AreDoneBelow reach question history asked level → IsOpenNumber reach question limits.size history level

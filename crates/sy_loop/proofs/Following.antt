@@ -5,7 +5,7 @@ use Rattle.sy_grammar_base.specs.Questions.{Question}
 use Rattle.sy_points.specs.Asked.{Asked}
 use Rattle.sy_bank_level.specs.Banks.{Merged}
 use Rattle.sy_loop_spec.specs.declared.reach.Reach.{Reach}
-use Rattle.sy_loop_spec.specs.declared.reach.Reach.TheVariants.{Sizes, Joins, Beyond}
+use Rattle.sy_loop_spec.specs.declared.reach.Reach.TheVariants.{Sizes, Joins}
 use Rattle.sy_loop_spec.specs.Histories.{Counterexample}
 use Rattle.sy_loop_spec.specs.Refuting.{AllTreesViolate}
 use Rattle.sy_loop.specs.Joining.{IsJoinable, TreesFollowFrom}
@@ -20,7 +20,6 @@ none_follow reach question history asked n banks none covering all = violate rea
     violate : (r : Reach) → TriesNoTrees r question → AllTreesViolate r question history n
     violate Sizes has_none = tt
     violate Joins has_none = λ bodies joined. absurd (has_none tt n bodies joined)
-    violate Beyond has_none = tt
 
 -- of those over the first bank
 pub first_follow : (reach : Reach) (question : Question) (history : List Counterexample) (asked : Asked) (n : ℕ) (banks : List Merged) (bank : Merged) → slice_get banks 0 ≡ Some bank → TreesFollowFrom reach question history asked n bank →

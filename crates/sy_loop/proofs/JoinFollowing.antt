@@ -13,7 +13,7 @@ use Rattle.sy_loop_spec.specs.Bounds.{IsJoinedWithin}
 use Rattle.sy_loop_spec.specs.Conditional.{IsTreeRule, yield}
 use Rattle.sy_loop_spec.specs.Pointwise.{IsPointwise}
 use Rattle.sy_loop_spec.specs.declared.reach.Reach.{Reach}
-use Rattle.sy_loop_spec.specs.declared.reach.Reach.TheVariants.{Sizes, Joins, Beyond}
+use Rattle.sy_loop_spec.specs.declared.reach.Reach.TheVariants.{Sizes, Joins}
 use Rattle.sy_loop_spec.specs.Histories.{Counterexample, IsViolatedIn}
 use Rattle.sy_loop_spec.specs.Trials.{IsRefuted}
 use Rattle.sy_loop_truth.specs.Known.{IsKnown}
@@ -30,7 +30,6 @@ use Rattle.sy_loop.specs.Joining.{AreParts, IsJoinable, TreesFollowFrom}
 trees_violate : (reach : Reach) (question : Question) (history : List Counterexample) (n : ℕ) → ((bodies : List Expr) → IsJoinedWithin question n bodies → IsViolatedIn question history bodies) → AllTreesViolate reach question history n
 trees_violate Sizes question history n all = tt
 trees_violate Joins question history n all = all
-trees_violate Beyond question history n all = tt
 
 no_items : {X : Type 0} (xs : List X) → length xs ≡ 0 → xs ≡ []
 no_items [] none = refl

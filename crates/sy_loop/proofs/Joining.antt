@@ -28,7 +28,7 @@ use Rattle.sy_loop_spec.specs.Bounds.{IsJoinedWithin}
 use Rattle.sy_loop_spec.specs.Conditional.{IsTreeRule, yield}
 use Rattle.sy_loop_spec.specs.Pointwise.{IsPointwise}
 use Rattle.sy_loop_spec.specs.declared.reach.Reach.{Reach}
-use Rattle.sy_loop_spec.specs.declared.reach.Reach.TheVariants.{Sizes, Joins, Beyond}
+use Rattle.sy_loop_spec.specs.declared.reach.Reach.TheVariants.{Sizes, Joins}
 use Rattle.sy_loop_spec.specs.Budgets.{CheckedLeaves}
 use Rattle.sy_loop_spec.specs.Histories.{Counterexample, IsCandidate, IsFewJoined, IsMet, IsOpenNumber, MayTry}
 use Rattle.sy_loop_spec.proofs.Staying.{may_try}
@@ -56,7 +56,6 @@ candidate_fits owned numeric number problem reach size history bodies fit negati
 may_join : (reach : Reach) (question : Question) (size : ℕ) (history : List Counterexample) (n : ℕ) (bodies : List Expr) → TriesTrees reach → IsFewJoined reach question size history n bodies → MayTry reach question size history n bodies
 may_join Sizes question size history n bodies tries few = absurd tries
 may_join Joins question size history n bodies tries few = inr few
-may_join Beyond question size history n bodies tries few = inr few
 
 -- the tuples of a function
 of_place : (lists : List (List (List Val))) (function : ℕ) (tuples : List (List Val)) → slice_get lists function ≡ Some tuples → slice_index_or lists function [] ≡ tuples

@@ -12,7 +12,7 @@ use Rattle.sy_query_limits.specs.declared.Limits.{Limits}
 use Rattle.sy_loop_spec.specs.Bounds.{InBound, IsJoinedWithin}
 use Rattle.sy_loop_spec.specs.Conditional.{yield}
 use Rattle.sy_loop_spec.specs.declared.reach.Reach.{Reach}
-use Rattle.sy_loop_spec.specs.declared.reach.Reach.TheVariants.{Sizes, Joins, Beyond}
+use Rattle.sy_loop_spec.specs.declared.reach.Reach.TheVariants.{Sizes, Joins}
 use Rattle.sy_loop_spec.proofs.Conditional.{tree_is_member}
 use Rattle.sy_loop_candidate.proofs.Ending.{members}
 use Rattle.sy_loop_spec.specs.Right.{IsRight}
@@ -37,7 +37,6 @@ either_members question n bodies bound = ⊎_elim
 bound_members : (reach : Reach) (question : Question) (n : ℕ) (bodies : List Expr) → InBound reach question n bodies → AreMembers question.goals bodies
 bound_members Sizes question n bodies bound = members question.pool n question.goals bodies bound
 bound_members Joins question n bodies bound = either_members question n bodies bound
-bound_members Beyond question n bodies bound = either_members question n bodies bound
 
 module _ {T P S N : Type 0} (owned : Op → Bool) (number : N → Val) (accepted : Query → P → Type 0) (budget : S → FailName) (shows : Query → Limits → FailName → S → Type 0)
     (reach : Reach) (question : Question) (limits : Limits) where

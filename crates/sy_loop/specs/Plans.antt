@@ -7,7 +7,7 @@ use Rattle.sy_loop_spec.specs.Bounds.{IsJoinedWithin}
 use Rattle.sy_loop_spec.specs.Conditional.{IsTreeRule}
 use Rattle.sy_loop_spec.specs.Pointwise.{IsPointwise}
 use Rattle.sy_loop_spec.specs.declared.reach.Reach.{Reach}
-use Rattle.sy_loop_spec.specs.declared.reach.Reach.TheVariants.{Sizes, Joins, Beyond}
+use Rattle.sy_loop_spec.specs.declared.reach.Reach.TheVariants.{Sizes, Joins}
 use Rattle.sy_loop_pointwise.specs.Posed.{ArePosed}
 use Rattle.sy_loop_goods.specs.Memos.{IsMemo}
 use Rattle.sy_loop.specs.declared.plan.Plan.{Plan}
@@ -16,7 +16,6 @@ use Rattle.sy_loop.specs.declared.plan.Plan.{Plan}
 abbrev pub TriesTrees : Reach → Type 0
 TriesTrees Sizes = ⊥
 TriesTrees Joins = Unit {0}
-TriesTrees Beyond = Unit {0}
 
 -- it tries none, or the problem has none in any bound
 abbrev pub TriesNoTrees : Reach → Question → Type 0

@@ -36,7 +36,8 @@ pub(crate) fn copied_leaf<T: Theory>(
 ) -> Result<(Bodies<T>, Values<T>), Want>
     requires leaf { leaving.leaf < length leaves.now }
     requires place { leaving.place < length stored.now.items }
-    ensures { IfOk result (λ pair. AreLeft T.denotes stored.now (chosen_of T.denotes leaves.now) leaving pair.0 pair.1) }
+    ensures { IfOk result (λ pair.
+        AreLeft T.denotes stored.now (chosen_of T.denotes leaves.now) leaving pair.0 pair.1) }
 {
     let term = leaves[leaving.leaf].term(alloc)?;
     let mut bodies = Seq::new(alloc);

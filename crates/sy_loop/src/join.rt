@@ -1,4 +1,6 @@
 // Conditional trees over kept terms of sizes up to one, at points on which all constraints rest.
+// Functions here have more than seven parameters where clauses name the problem, the limits and the reach apart, as
+// those of the crates below do: a record of them would be taken apart at each call.
 ghost use Rattle.std.specs.Prelude.{ℕ, ◌≡◌, ◌<◌, ◌≤◌, ◌^◌, ◌∷◌, [], None, length, IfOk, IsTrue, OnOk};
 ghost use Rattle.sy_terms.specs.Denoted.{expr_of};
 ghost use Rattle.sy_grammar_base.specs.Fits.{ProblemFits};
@@ -91,8 +93,8 @@ pub(crate) fn join<T: Theory, D: Decide<T>>(
     )
 }
 
-/// Tries the tree over the parts that serves all points. Where that changes nothing, a leaf that left the 128 bits ends the
-/// search.
+/// Tries the tree over the parts that serves all points. Where that changes nothing, a leaf that left the 128 bits ends
+/// the search.
 fn join_parts<'a, T: Theory, D: Decide<T>>(
     alloc: Global,
     problem: &Problem<T>,
@@ -183,8 +185,8 @@ fn parts_of<'a, T: Theory>(
     })
 }
 
-/// Tries the tree that serves all points. Where there is none, or it is refuted, all trees over parts of such sizes are,
-/// unless a leaf left the 128 bits.
+/// Tries the tree that serves all points. Where there is none, or it is refuted, all trees over parts of such sizes
+/// are, unless a leaf left the 128 bits.
 fn try_parts<'a, T: Theory, D: Decide<T>>(
     alloc: Global,
     problem: &Problem<T>,
@@ -208,7 +210,8 @@ fn try_parts<'a, T: Theory, D: Decide<T>>(
     requires few_conditions { length parts.now.rows < 2 ^ 31 }
     ensures known { OnOk result (IsKnownFor T.Theory reach problem.now limits.now known.new) }
     ensures step { IfOk result (GoesFor T.Theory D.Decide reach problem.now limits.now known.old known.new) }
-    ensures trees { IfOk result (OnNext (parts.now.goods.leaving ≡ None → TreesFollowFromFor T.Theory reach problem.now known.old _level _bank.now)) }
+    ensures trees { IfOk result (OnNext (parts.now.goods.leaving ≡ None →
+        TreesFollowFromFor T.Theory reach problem.now known.old _level _bank.now)) }
 {
     match unify(alloc, parts.points, &parts.goods.rows, &parts.rows)? {
         Joined::Uncovered(_) => Ok(Step::Next),
@@ -230,14 +233,16 @@ fn chosen_term<T: Theory>(
     leaves: &[&Kept<T>],
     conditions: &[&Kept<T>],
 ) -> Result<Term<T>, Want>
-    ensures { IfOk result (λ term. expr_of T.denotes term ≡ yield (conditional_of (chosen_of T.denotes leaves.now) (chosen_of T.denotes conditions.now) choice)) }
+    ensures { IfOk result (λ term. expr_of T.denotes term ≡
+        yield (conditional_of (chosen_of T.denotes leaves.now) (chosen_of T.denotes conditions.now) choice)) }
 {
     let term = tree_term(alloc, &choice, leaves, conditions);
     drop(choice);
     term
 }
 
-/// Tries the term as the one body. Where it is known to meet the problem at each stored assignment, it is decided at once.
+/// Tries the term as the one body. Where it is known to meet the problem at each stored assignment, it is decided at
+/// once.
 fn try_tree<T: Theory, D: Decide<T>>(
     alloc: Global,
     problem: &Problem<T>,

@@ -1,4 +1,6 @@
 // Conditional trees over what a bank keeps, at all tuples on which constraints rest.
+// Functions here have more than seven parameters where clauses name the problem, the limits and the reach apart, as
+// those of the crates below do: a record of them would be taken apart at each call.
 ghost use Rattle.std.specs.Prelude.{◌<◌, length, IfOk, OnOk};
 ghost use Rattle.sy_grammar_base.specs.Fits.{ProblemFits};
 ghost use Rattle.sy_loop_candidate.specs.Clauses.{GoesFor, IsKnownFor, IsOpenFor};
@@ -19,9 +21,9 @@ use sy_query_limits::Limits;
 use sy_terms::{Theory, Want};
 
 /// Adds each tuple on which a constraint rests at a stored assignment to the points. Where all were there, tries a
-/// conditional tree over the bank's kept terms of sizes of at most `level` that is good at each point. Where nothing new is
-/// learned, all conditional trees over parts of such sizes are refuted, if the bank covers these and all members of such
-/// sizes are refuted.
+/// conditional tree over the bank's kept terms of sizes of at most `level` that is good at each point. Where nothing
+/// new is learned, all conditional trees over parts of such sizes are refuted, if the bank covers these and all members
+/// of such sizes are refuted.
 pub fn try_trees<T: Theory, D: Decide<T>>(
     alloc: Global,
     problem: &Problem<T>,

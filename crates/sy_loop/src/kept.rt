@@ -16,7 +16,8 @@ pub(crate) fn kept_up_to<'a, T: Theory>(
     nonterminal: u32,
     level: u32,
 ) -> Result<Vec<&'a Kept<T>>, Want>
-    ensures { IfOk result (λ kept. chosen_of T.denotes kept.items ≡ kept_below (merged_of T.denotes bank.now).levels nonterminal (level + 1)) }
+    ensures { IfOk result (λ kept. chosen_of T.denotes kept.items ≡
+        kept_below (merged_of T.denotes bank.now).levels nonterminal (level + 1)) }
 {
     let mut all = Vec::new(alloc);
     for size in 0..u64::from(level) + 1 {
@@ -27,7 +28,8 @@ pub(crate) fn kept_up_to<'a, T: Theory>(
 
 /// Appends all of the kept terms.
 fn push_all<'a, T: Theory>(all: &mut Vec<&'a Kept<T>>, kept: &'a [Kept<T>]) -> Result<(), Want>
-    ensures { OnOk result (chosen_of T.denotes all.new.items ≡ chosen_of T.denotes all.old.items ++ entries_of T.denotes kept.now) }
+    ensures { OnOk result (chosen_of T.denotes all.new.items ≡
+        chosen_of T.denotes all.old.items ++ entries_of T.denotes kept.now) }
 {
     for term in kept {
         all.push(term)?;

@@ -1,4 +1,6 @@
 // All bodies of one size together.
+// Functions here have more than seven parameters where clauses name the problem, the limits and the reach apart, as
+// those of the crates below do: a record of them would be taken apart at each call.
 ghost use Rattle.std.specs.Prelude.{◌≡◌, ◌≤◌, ◌<◌, ◌+◌, ◌++◌, ◌∷◌, [], length, map, drop, All, IfOk, OnOk};
 ghost use Rattle.sy_terms.specs.Denoted.{expr_of};
 ghost use Rattle.sy_bank_level.specs.Bank.{merged_of};
@@ -31,8 +33,8 @@ struct Task<'a, T: Theory> {
     banks: &'a [Bank<T>],
 }
 
-/// Tries all bodies of kept terms of the banks whose sizes sum to `level`. `Want` comes where memory doesn't suffice for the chosen
-/// terms, or for judging and deciding a candidate.
+/// Tries all bodies of kept terms of the banks whose sizes sum to `level`. `Want` comes where memory doesn't suffice
+/// for the chosen terms, or for judging and deciding a candidate.
 pub fn try_level<T: Theory, D: Decide<T>>(
     alloc: Global,
     problem: &Problem<T>,
@@ -50,7 +52,8 @@ pub fn try_level<T: Theory, D: Decide<T>>(
     requires room { length known.old.stored.items < limits.now.rounds }
     ensures known { OnOk result (IsKnownFor T.Theory reach problem.now limits.now known.new) }
     ensures step { IfOk result (GoesFor T.Theory D.Decide reach problem.now limits.now known.old known.new) }
-    ensures refuted { IfOk result (OnNext (AllAreRefutedFor T.Theory problem.now known.old [] (map (merged_of T.denotes) banks.now) level)) }
+    ensures refuted { IfOk result
+        (OnNext (AllAreRefutedFor T.Theory problem.now known.old [] (map (merged_of T.denotes) banks.now) level)) }
 {
     let task = Task {
         alloc,
@@ -78,15 +81,20 @@ fn try_rest<'a, T: Theory, D: Decide<T>>(
 ) -> Result<Step<T, D::Proof, D::Spent>, Want>
     requires problem { ProblemFits T.Theory task.now.problem.now }
     requires banks { AreHonestFor T.Theory task.now.problem.now known.old.points task.now.banks.now }
-    requires begun { IsBegunFor T.Theory task.now.problem.now known.old.points task.now.level (chosen_of T.denotes chosen.old.items) left }
+    requires begun { IsBegunFor T.Theory task.now.problem.now known.old.points task.now.level
+        (chosen_of T.denotes chosen.old.items) left }
     requires few { length chosen.old.items ≤ length task.now.banks.now }
-    requires opened { IsOpenFor T.Theory task.now.reach task.now.problem.now task.now.limits.now known.old task.now.level }
+    requires opened { IsOpenFor T.Theory task.now.reach
+        task.now.problem.now task.now.limits.now known.old task.now.level }
     requires known { IsKnownFor T.Theory task.now.reach task.now.problem.now task.now.limits.now known.old }
     requires room { length known.old.stored.items < task.now.limits.now.rounds }
     ensures chosen { OnOk result (chosen.new.items ≡ chosen.old.items) }
-    ensures known { OnOk result (IsKnownFor T.Theory task.now.reach task.now.problem.now task.now.limits.now known.new) }
-    ensures step { IfOk result (GoesFor T.Theory D.Decide task.now.reach task.now.problem.now task.now.limits.now known.old known.new) }
-    ensures refuted { IfOk result (OnNext (AllAreRefutedFor T.Theory task.now.problem.now known.old (terms (chosen_of T.denotes chosen.old.items))
+    ensures known { OnOk result
+        (IsKnownFor T.Theory task.now.reach task.now.problem.now task.now.limits.now known.new) }
+    ensures step { IfOk result
+        (GoesFor T.Theory D.Decide task.now.reach task.now.problem.now task.now.limits.now known.old known.new) }
+    ensures refuted { IfOk result
+        (OnNext (AllAreRefutedFor T.Theory task.now.problem.now known.old (terms (chosen_of T.denotes chosen.old.items))
         (drop (length chosen.old.items) (map (merged_of T.denotes) task.now.banks.now)) left)) }
 {
     let function = chosen.len();
@@ -129,14 +137,19 @@ fn try_kept<'a, T: Theory, D: Decide<T>>(
     requires problem { ProblemFits T.Theory task.now.problem.now }
     requires banks { AreHonestFor T.Theory task.now.problem.now known.old.points task.now.banks.now }
     requires few { length chosen.old.items < length task.now.banks.now }
-    requires choices { AreChoicesFor T.Theory task.now.problem.now known.old.points task.now.level (chosen_of T.denotes chosen.old.items) (entries_of T.denotes kept.now) left }
-    requires opened { IsOpenFor T.Theory task.now.reach task.now.problem.now task.now.limits.now known.old task.now.level }
+    requires choices { AreChoicesFor T.Theory task.now.problem.now known.old.points task.now.level
+        (chosen_of T.denotes chosen.old.items) (entries_of T.denotes kept.now) left }
+    requires opened { IsOpenFor T.Theory task.now.reach
+        task.now.problem.now task.now.limits.now known.old task.now.level }
     requires known { IsKnownFor T.Theory task.now.reach task.now.problem.now task.now.limits.now known.old }
     requires room { length known.old.stored.items < task.now.limits.now.rounds }
     ensures chosen { OnOk result (chosen.new.items ≡ chosen.old.items) }
-    ensures known { OnOk result (IsKnownFor T.Theory task.now.reach task.now.problem.now task.now.limits.now known.new) }
-    ensures step { IfOk result (GoesFor T.Theory D.Decide task.now.reach task.now.problem.now task.now.limits.now known.old known.new) }
-    ensures refuted { IfOk result (OnNext (All (λ term. AllAreRefutedFor T.Theory task.now.problem.now known.old (terms (chosen_of T.denotes chosen.old.items ++ entry_of T.denotes term ∷ []))
+    ensures known { OnOk result
+        (IsKnownFor T.Theory task.now.reach task.now.problem.now task.now.limits.now known.new) }
+    ensures step { IfOk result
+        (GoesFor T.Theory D.Decide task.now.reach task.now.problem.now task.now.limits.now known.old known.new) }
+    ensures refuted { IfOk result (OnNext (All (λ term. AllAreRefutedFor T.Theory task.now.problem.now known.old
+        (terms (chosen_of T.denotes chosen.old.items ++ entry_of T.denotes term ∷ []))
         (drop (length chosen.old.items + 1) (map (merged_of T.denotes) task.now.banks.now)) left) kept.now)) }
 {
     for choice in kept {
@@ -162,14 +175,18 @@ fn try_chosen<T: Theory, D: Decide<T>>(
     known: &mut Known<T>,
 ) -> Result<Step<T, D::Proof, D::Spent>, Want>
     requires problem { ProblemFits T.Theory task.now.problem.now }
-    requires within { AreWithinFor T.Theory task.now.problem.now task.now.level (terms (chosen_of T.denotes chosen.now)) }
+    requires within { AreWithinFor T.Theory task.now.problem.now task.now.level
+        (terms (chosen_of T.denotes chosen.now)) }
     requires rows { HaveRowsFor T.Theory task.now.problem.now known.old.points (chosen_of T.denotes chosen.now) }
-    requires opened { IsOpenFor T.Theory task.now.reach task.now.problem.now task.now.limits.now known.old task.now.level }
+    requires opened { IsOpenFor T.Theory task.now.reach
+        task.now.problem.now task.now.limits.now known.old task.now.level }
     requires known { IsKnownFor T.Theory task.now.reach task.now.problem.now task.now.limits.now known.old }
     requires room { length known.old.stored.items < task.now.limits.now.rounds }
-    ensures known { OnOk result (IsKnownFor T.Theory task.now.reach task.now.problem.now task.now.limits.now known.new) }
+    ensures known { OnOk result
+        (IsKnownFor T.Theory task.now.reach task.now.problem.now task.now.limits.now known.new) }
     ensures grows { OnOk result (TuplesGrow known.old.points known.new.points) }
-    ensures step { IfOk result (StepsFor T.Theory D.Decide task.now.reach task.now.problem.now task.now.limits.now (terms (chosen_of T.denotes chosen.now)) known.old known.new) }
+    ensures step { IfOk result (StepsFor T.Theory D.Decide task.now.reach task.now.problem.now task.now.limits.now
+        (terms (chosen_of T.denotes chosen.now)) known.old known.new) }
 {
     let refuted = are_refuted(
         task.alloc,

@@ -1,6 +1,7 @@
 // The outcome of a search that a candidate ends.
+// Functions here have more than seven parameters where clauses name the problem, the limits and the reach apart, as
+// those of the crates below do: a record of them would be taken apart at each call.
 ghost use Rattle.std.specs.Prelude.{◌≡◌, IfOk};
-ghost use Rattle.sy_loop_spec.specs.declared.reach.Reach.TheVariants.{Beyond};
 ghost use Rattle.sy_loop_candidate.specs.Clauses.{IsEndFor, IsKnownFor};
 ghost use Rattle.sy_loop_candidate.specs.declared.step.End.TheVariants as ends;
 ghost use Rattle.sy_loop_spec.specs.Right.{IsRightFor};
@@ -16,7 +17,8 @@ use sy_query_base::Decide;
 use sy_query_limits::Limits;
 use sy_terms::{Bodies, Seq, Theory, Values, Want, copied_values};
 
-/// The outcome of a search that ends by a candidate. `Want` comes where memory doesn't suffice for a copy of a function's tuples.
+/// The outcome of a search that ends by a candidate. `Want` comes where memory doesn't suffice for a copy of a
+/// function's tuples.
 pub fn ended<T: Theory, D: Decide<T>>(
     alloc: Global,
     _problem: &Problem<T>,
@@ -25,7 +27,6 @@ pub fn ended<T: Theory, D: Decide<T>>(
     end: End<T, D::Proof, D::Spent>,
     known: Known<T>,
 ) -> Result<Outcome<T, D::Proof, D::Spent>, Want>
-    requires strict { _reach ≡ Beyond → ⊥ }
     requires known { IsKnownFor T.Theory _reach _problem.now _limits.now known }
     requires end { IsEndFor T.Theory D.Decide _reach _problem.now _limits.now known end }
     ensures right { IfOk result (IsRightFor T.Theory D.Decide _reach _problem.now _limits.now) }
@@ -73,7 +74,8 @@ fn points_met<T: Theory, D: Decide<T>>(
     bodies: Bodies<T>,
     assignment: Values<T>,
 ) -> Result<Outcome<T, D::Proof, D::Spent>, Want>
-    requires { IsEndFor T.Theory D.Decide _reach _problem.now _limits.now known (ends.Points function bodies assignment) }
+    requires { IsEndFor T.Theory D.Decide _reach _problem.now _limits.now known
+        (ends.Points function bodies assignment) }
     ensures right { IfOk result (IsRightFor T.Theory D.Decide _reach _problem.now _limits.now) }
     ensures least { IfOk result (FindsLeastFor T.Theory _reach _problem.now) }
 {

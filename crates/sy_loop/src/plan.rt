@@ -31,7 +31,8 @@ pub fn plan_of<T: Theory>(
     reach: Reach,
 ) -> Result<Option<Plan<T>>, Want>
     requires { ProblemFits T.Theory problem.now }
-    ensures { IfOk result (λ found. MatchOption found (HasNoTreesFor T.Theory reach problem.now) (IsPlanFor T.Theory reach problem.now)) }
+    ensures { IfOk result (λ found.
+        MatchOption found (HasNoTreesFor T.Theory reach problem.now) (IsPlanFor T.Theory reach problem.now)) }
 {
     if !tries_trees(reach) {
         return Ok(None);
@@ -62,6 +63,5 @@ fn tries_trees(reach: Reach) -> bool
     match reach {
         Reach::Sizes => false,
         Reach::Joins => true,
-        Reach::Beyond => true,
     }
 }

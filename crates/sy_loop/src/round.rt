@@ -1,9 +1,10 @@
 // One round of a search: the bodies of one size together, up to what ends the round.
+// Functions here have more than seven parameters where clauses name the problem, the limits and the reach apart, as
+// those of the crates below do: a record of them would be taken apart at each call.
 ghost use Rattle.std.specs.Prelude.{◌≡◌, ◌≤◌, ◌<◌, [], length, map, IfOk, OnOk};
 ghost use Rattle.sy_bank_level.specs.Bank.{merged_of};
 ghost use Rattle.sy_grammar_base.specs.Fits.{ProblemFits};
 ghost use Rattle.sy_loop_candidate.specs.Clauses.{IsKnownFor};
-ghost use Rattle.sy_loop_spec.specs.declared.reach.Reach.TheVariants.{Beyond};
 ghost use Rattle.sy_loop.specs.Clauses.{IsPlannedFor};
 ghost use Rattle.sy_loop_banks.specs.BankClauses.{AreBanksFor, AreCarriedFor};
 ghost use Rattle.sy_loop.specs.LevelClauses.{AllAreRefutedFor};
@@ -32,8 +33,9 @@ pub enum Round<T: Theory, P: Drop, S: Drop> {
     Ends(Outcome<T, P, S>),
 }
 
-/// Tries the bodies whose sizes sum to `level`, and conditional trees over kept terms of sizes up to it. Banks of an earlier
-/// round are carried on. `Want` comes where memory doesn't suffice for the banks, or for judging and deciding a candidate.
+/// Tries the bodies whose sizes sum to `level`, and conditional trees over kept terms of sizes up to it. Banks of an
+/// earlier round are carried on. `Want` comes where memory doesn't suffice for the banks, or for judging and deciding a
+/// candidate.
 pub(crate) fn run_round<T: Theory, D: Decide<T>>(
     alloc: Global,
     problem: &Problem<T>,
@@ -47,7 +49,6 @@ pub(crate) fn run_round<T: Theory, D: Decide<T>>(
     level: u32,
 ) -> Result<Round<T, D::Proof, D::Spent>, Want>
     requires problem { ProblemFits T.Theory problem.now }
-    requires strict { reach ≡ Beyond → ⊥ }
     requires plan { IsPlannedFor T.Theory reach problem.now plan.old }
     requires functions { functions ≡ length problem.now.wanted }
     requires known { IsKnownFor T.Theory reach problem.now limits.now known }
@@ -90,8 +91,8 @@ pub(crate) fn run_round<T: Theory, D: Decide<T>>(
     Ok(round)
 }
 
-/// What follows where all bodies whose sizes sum to `level` are refuted, and conditional trees with them: the end, where a
-/// bank dropped a term or this was the greatest size; else the next size.
+/// What follows where all bodies whose sizes sum to `level` are refuted, and conditional trees with them: the end,
+/// where a bank dropped a term or this was the greatest size; else the next size.
 fn after_level<T: Theory, D: Decide<T>>(
     alloc: Global,
     problem: &Problem<T>,
@@ -103,7 +104,6 @@ fn after_level<T: Theory, D: Decide<T>>(
     level: u32,
 ) -> Result<Round<T, D::Proof, D::Spent>, Want>
     requires problem { ProblemFits T.Theory problem.now }
-    requires strict { reach ≡ Beyond → ⊥ }
     requires functions { functions ≡ length problem.now.wanted }
     requires known { IsKnownFor T.Theory reach problem.now limits.now known }
     requires room { length known.stored.items < limits.now.rounds }

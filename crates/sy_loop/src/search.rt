@@ -1,8 +1,8 @@
 // The search.
-ghost use Rattle.std.specs.Prelude.{◌≡◌, IfOk};
+ghost use Rattle.std.specs.Prelude.{IfOk};
 ghost use Rattle.sy_grammar_base.specs.Fits.{ProblemFits};
 ghost use Rattle.sy_loop_spec.specs.Right.{IsRightFor};
-ghost use Rattle.sy_loop_spec.specs.declared.reach.Reach.TheVariants.{Sizes, Joins, Beyond};
+ghost use Rattle.sy_loop_spec.specs.declared.reach.Reach.TheVariants.{Sizes, Joins};
 ghost use Rattle.sy_loop_claims.specs.Clauses.{FindsLeastFor};
 ghost use Rattle.sy_loop.specs.Solvable.{IsCompleteFor};
 
@@ -19,10 +19,12 @@ use sy_query_limits::Limits;
 use sy_terms::{Theory, Want};
 
 /// Bodies that solve the problem, with the solver's proof; or why the search ended without them. Sizes ascend from 0 to
-/// the greatest. At each the bodies of kept terms whose sizes sum to it are tried; then, where one function is to be found,
-/// the problem is pointwise and its grammar has a rule for conditional trees, a tree over kept terms of sizes up to it.
-/// Where something new is learned, the size begins anew. The search ends after a size at which a bank dropped a term.
-/// `Want` comes also where there are more functions to be found than numbers of 32 bits.
+/// the greatest. At each the bodies of kept terms whose sizes sum to it are tried; then, where one function is to be
+/// found, the problem is pointwise and its grammar has a rule for conditional trees, a tree over kept terms of sizes up
+/// to it. Where something new is learned, the size begins anew. The search ends after a size at which a bank dropped a
+/// term.
+/// `Want` comes also where there are more functions to be found than numbers of 32 bits, where a tree would be joined
+/// of 2^31 kept terms, and where `pointwise`, `build` and the solver say so.
 pub fn synthesise<T: Theory, D: Decide<T>>(
     alloc: Global,
     problem: &Problem<T>,
@@ -38,8 +40,8 @@ pub fn synthesise<T: Theory, D: Decide<T>>(
     Ok(outcome)
 }
 
-/// The same without conditional trees: bodies that are found are members of the least sum of sizes of which any solve the
-/// problem, and the bound counts sums of sizes alone.
+/// The same without conditional trees: bodies that are found are members of the least sum of sizes of which any solve
+/// the problem, and the bound counts sums of sizes alone.
 pub fn synthesise_least<T: Theory, D: Decide<T>>(
     alloc: Global,
     problem: &Problem<T>,
@@ -64,7 +66,6 @@ fn search<T: Theory, D: Decide<T>>(
     decide: &mut D,
 ) -> Result<Outcome<T, D::Proof, D::Spent>, Want>
     requires problem { ProblemFits T.Theory problem.now }
-    requires strict { reach ≡ Beyond → ⊥ }
     ensures right { IfOk result (IsRightFor T.Theory D.Decide reach problem.now limits.now) }
     ensures least { IfOk result (FindsLeastFor T.Theory reach problem.now) }
 {

@@ -7,8 +7,8 @@ use sy_loop_goods::Goods;
 use sy_loop_pointwise::Posed;
 use sy_terms::Theory;
 
-/// Whether it is known of each leaf where it is good, and each constraint applies the function to be found, so that it rests
-/// on a point. A tree that is good at all points then meets the problem at each stored assignment.
+/// Whether it is known of each leaf where it is good, and each constraint applies the function to be found, so that it
+/// rests on a point. A tree that is good at all points then meets the problem at each stored assignment.
 pub(crate) fn is_served<T: Theory>(posed: &[Posed<T>], goods: &Goods) -> bool
     ensures { result ≡ (spec.are_known goods.now.leaving && list_all spec.has_application posed.now) }
 {

@@ -1,4 +1,6 @@
 // The bodies of one size, and then conditional trees over kept terms of sizes up to it.
+// Functions here have more than seven parameters where clauses name the problem, the limits and the reach apart, as
+// those of the crates below do: a record of them would be taken apart at each call.
 ghost use Rattle.std.specs.Prelude.{◌<◌, [], length, map, IfOk, OnOk};
 ghost use Rattle.sy_bank_level.specs.Bank.{merged_of};
 ghost use Rattle.sy_grammar_base.specs.Fits.{ProblemFits};
@@ -20,8 +22,8 @@ use sy_query_base::Decide;
 use sy_query_limits::Limits;
 use sy_terms::{Theory, Want};
 
-/// Tries all bodies of kept terms of the banks whose sizes sum to `level`. Where nothing new is learned, conditional trees
-/// over kept terms of sizes up to it are next.
+/// Tries all bodies of kept terms of the banks whose sizes sum to `level`. Where nothing new is learned, conditional
+/// trees over kept terms of sizes up to it are next.
 pub(crate) fn try_size<T: Theory, D: Decide<T>>(
     alloc: Global,
     problem: &Problem<T>,
@@ -42,7 +44,8 @@ pub(crate) fn try_size<T: Theory, D: Decide<T>>(
     ensures plan { OnOk result (IsPlannedFor T.Theory reach problem.now plan.new) }
     ensures known { OnOk result (IsKnownFor T.Theory reach problem.now limits.now known.new) }
     ensures step { IfOk result (GoesFor T.Theory D.Decide reach problem.now limits.now known.old known.new) }
-    ensures refuted { IfOk result (OnNext (AllAreRefutedFor T.Theory problem.now known.old [] (map (merged_of T.denotes) banks.now) level)) }
+    ensures refuted { IfOk result
+        (OnNext (AllAreRefutedFor T.Theory problem.now known.old [] (map (merged_of T.denotes) banks.now) level)) }
     ensures trees { IfOk result (OnNext (TreesFollowFor T.Theory reach problem.now known.old level banks.now)) }
 {
     match try_level(alloc, problem, limits, reach, decide, banks, level, known)? {

@@ -42,7 +42,7 @@ use Rattle.sy_loop_spec.specs.Right.{HasLeftRange}
 use Rattle.sy_loop_spec.specs.declared.outcome.LoopRange.{LoopRange}
 use Rattle.sy_loop_spec.specs.declared.outcome.LoopRange.TheVariants.{Member, Checked}
 use Rattle.sy_loop_banks.specs.Dropping.{IsPlaced, IsDroppedBy}
-use Rattle.sy_bank_level.proofs.Kept.{at-end}
+use Rattle.sy_bank_level.proofs.KeptLaws.{at-end}
 
 -- a function's grammar fits
 pub grammar_fits : {T N : Type 0} (owned : Op → Bool) (numeric : Sort → Bool) (number : N → Val) (problem : Problem T N) (function : ℕ) (wanted : Wanted T N) → QuestionFits owned numeric (question_of number problem) → slice_get problem.wanted function ≡ Some wanted → GrammarFits owned numeric number problem wanted

@@ -19,7 +19,7 @@ use Rattle.sy_bank.specs.declared.bank.BankEnd.{BankEnd}
 use Rattle.sy_bank.specs.declared.bank.BankEnd.TheVariants as ends
 use Rattle.sy_loop_banks.specs.declared.banks.Banks.{Banks}
 use Rattle.sy_loop_banks.specs.Banks.{IsFullBank, IsCarried, AreCarried, OnBanks}
-use Rattle.sy_bank_level.proofs.Kept.{at-end}
+use Rattle.sy_bank_level.proofs.KeptLaws.{at-end}
 
 -- the first of what is left
 drop_first : {X : Type 0} (xs : List X) (k : ℕ) (x : X) (rest : List X) → drop k xs ≡ x ∷ rest → (slice_get xs k ≡ Some x) × (drop (suc k) xs ≡ rest)

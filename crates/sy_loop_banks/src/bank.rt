@@ -27,12 +27,18 @@ pub(crate) fn new_bank<T: Theory>(
     level: u32,
 ) -> Result<Bank<T>, BankEnd<T>>
     requires definitions { DefinitionsFit T.owned T.denotes problem.now.defs }
-    requires formed { is_formed T.numeric (scope_of T.owned problem.now.defs) (syntax_from T.denotes wanted.now.grammar) ≡ true }
+    requires formed { is_formed T.numeric (scope_of T.owned problem.now.defs)
+        (syntax_from T.denotes wanted.now.grammar) ≡ true }
     requires points { ArePointsOf wanted.now.grammar.args (map (vals_of T.denotes) points.now) }
-    ensures bank { OnBank T.denotes result (IsBank (syntax_from T.denotes wanted.now.grammar) (functions (bodies T.denotes problem.now.defs)) (vals_of T.denotes problem.now.pool) (map (vals_of T.denotes) points.now) level limits.now.bank) }
-    ensures whole { IfOk result (λ bank. BankIsWhole (syntax_from T.denotes wanted.now.grammar) (functions (bodies T.denotes problem.now.defs)) (vals_of T.denotes problem.now.pool) (merged_of T.denotes bank)) }
-    ensures full { IfFull T.denotes result (BankIsFull (syntax_from T.denotes wanted.now.grammar) (functions (bodies T.denotes problem.now.defs)) (vals_of T.denotes problem.now.pool) limits.now.bank) }
-    ensures built { IfOk result (BankIsBuilt T.denotes (scope_of T.owned problem.now.defs) (syntax_from T.denotes wanted.now.grammar) (functions (bodies T.denotes problem.now.defs)) (vals_of T.denotes problem.now.pool)) }
+    ensures bank { OnBank T.denotes result
+        (IsBank (syntax_from T.denotes wanted.now.grammar) (functions (bodies T.denotes problem.now.defs))
+        (vals_of T.denotes problem.now.pool) (map (vals_of T.denotes) points.now) level limits.now.bank) }
+    ensures whole { IfOk result (λ bank. BankIsWhole (syntax_from T.denotes wanted.now.grammar) (functions
+        (bodies T.denotes problem.now.defs)) (vals_of T.denotes problem.now.pool) (merged_of T.denotes bank)) }
+    ensures full { IfFull T.denotes result (BankIsFull (syntax_from T.denotes wanted.now.grammar)
+        (functions (bodies T.denotes problem.now.defs)) (vals_of T.denotes problem.now.pool) limits.now.bank) }
+    ensures built { IfOk result (BankIsBuilt T.denotes (scope_of T.owned problem.now.defs) (syntax_from T.denotes
+        wanted.now.grammar) (functions (bodies T.denotes problem.now.defs)) (vals_of T.denotes problem.now.pool)) }
 {
     build(
         alloc,

@@ -1,4 +1,6 @@
 // The banks of all functions to be found.
+// Functions here have more than seven parameters where clauses name the problem, the limits and the reach apart, as
+// those of the crates below do: a record of them would be taken apart at each call.
 ghost use Rattle.std.specs.Prelude.{◌≡◌, ◌↔◌, IsTrue, true, Some, length, map, IfOk, IfSome};
 ghost use Rattle.sy_terms.specs.Denoted.{vals_of};
 ghost use Rattle.sy_terms.specs.Definitions.{DefinitionsFit, scope_of, bodies};
@@ -33,8 +35,8 @@ pub enum Banks<T: Theory> {
     Full(u32, Bank<T>, u32, Kept<T>),
 }
 
-/// A bank up to this size for each function to be found, over its tuples; or the first that is full. Those of the carried banks
-/// that are over them and dropped nothing go on. `Want` comes where memory doesn't suffice for a bank.
+/// A bank up to this size for each function to be found, over its tuples; or the first that is full. Those of the
+/// carried banks that are over them and dropped nothing go on. `Want` comes where memory doesn't suffice for a bank.
 pub fn take_banks<T: Theory>(
     alloc: Global,
     problem: &Problem<T>,
@@ -82,13 +84,19 @@ fn take_bank<T: Theory>(
     level: u32,
 ) -> Result<Bank<T>, BankEnd<T>>
     requires definitions { DefinitionsFit T.owned T.denotes problem.now.defs }
-    requires formed { is_formed T.numeric (scope_of T.owned problem.now.defs) (syntax_from T.denotes wanted.now.grammar) ≡ true }
+    requires formed { is_formed T.numeric (scope_of T.owned problem.now.defs)
+        (syntax_from T.denotes wanted.now.grammar) ≡ true }
     requires points { ArePointsOf wanted.now.grammar.args (map (vals_of T.denotes) points.now) }
     requires carried { IfSome carried (IsCarriedFor T.Theory problem.now wanted.now limits.now level) }
-    ensures bank { OnBank T.denotes result (IsBank (syntax_from T.denotes wanted.now.grammar) (functions (bodies T.denotes problem.now.defs)) (vals_of T.denotes problem.now.pool) (map (vals_of T.denotes) points.now) level limits.now.bank) }
-    ensures whole { IfOk result (λ bank. BankIsWhole (syntax_from T.denotes wanted.now.grammar) (functions (bodies T.denotes problem.now.defs)) (vals_of T.denotes problem.now.pool) (merged_of T.denotes bank)) }
-    ensures full { IfFull T.denotes result (BankIsFull (syntax_from T.denotes wanted.now.grammar) (functions (bodies T.denotes problem.now.defs)) (vals_of T.denotes problem.now.pool) limits.now.bank) }
-    ensures built { IfOk result (BankIsBuilt T.denotes (scope_of T.owned problem.now.defs) (syntax_from T.denotes wanted.now.grammar) (functions (bodies T.denotes problem.now.defs)) (vals_of T.denotes problem.now.pool)) }
+    ensures bank { OnBank T.denotes result
+        (IsBank (syntax_from T.denotes wanted.now.grammar) (functions (bodies T.denotes problem.now.defs))
+        (vals_of T.denotes problem.now.pool) (map (vals_of T.denotes) points.now) level limits.now.bank) }
+    ensures whole { IfOk result (λ bank. BankIsWhole (syntax_from T.denotes wanted.now.grammar) (functions
+        (bodies T.denotes problem.now.defs)) (vals_of T.denotes problem.now.pool) (merged_of T.denotes bank)) }
+    ensures full { IfFull T.denotes result (BankIsFull (syntax_from T.denotes wanted.now.grammar)
+        (functions (bodies T.denotes problem.now.defs)) (vals_of T.denotes problem.now.pool) limits.now.bank) }
+    ensures built { IfOk result (BankIsBuilt T.denotes (scope_of T.owned problem.now.defs) (syntax_from T.denotes
+        wanted.now.grammar) (functions (bodies T.denotes problem.now.defs)) (vals_of T.denotes problem.now.pool)) }
 {
     if let Some(bank) = carried {
         if bank.overflow().is_none() && are_same::<T>(bank.points(), points.as_slice()) {

@@ -1,4 +1,6 @@
 // Terms that banks dropped.
+// Functions here have more than seven parameters where clauses name the problem, the limits and the reach apart, as
+// those of the crates below do: a record of them would be taken apart at each call.
 ghost use Rattle.std.specs.Prelude.{◌≡◌, ◌<◌, length, map, IfOk, MatchOption, None};
 ghost use Rattle.sy_grammar_base.specs.Questions.{question_of};
 ghost use Rattle.sy_bank_level.specs.Bank.{merged_of};
@@ -17,8 +19,8 @@ use sy_loop_spec::{LoopRange, Reach};
 use sy_query_limits::Limits;
 use sy_terms::{Theory, Want, copied_values};
 
-/// A term that one of the banks dropped, at the tuple where it leaves the 128 bits; `None` exactly where none did. `Want` comes where
-/// memory doesn't suffice for a copy of both.
+/// A term that one of the banks dropped, at the tuple where it leaves the 128 bits; `None` exactly where none did.
+/// `Want` comes where memory doesn't suffice for a copy of both.
 pub fn dropped_term<T: Theory>(
     alloc: Global,
     problem: &Problem<T>,
@@ -32,9 +34,11 @@ pub fn dropped_term<T: Theory>(
     requires functions { functions ≡ length banks.now }
     requires banks { AreBanksFor T.Theory problem.now limits.now known.now.points level banks.now }
     requires room { length known.now.stored.items < limits.now.rounds }
-    requires opened { IsOpenNumber reach (question_of T.denotes problem.now) limits.now.size (history_of T.denotes known.now.stored) level }
+    requires opened { IsOpenNumber reach (question_of T.denotes problem.now) limits.now.size
+        (history_of T.denotes known.now.stored) level }
     requires known { IsKnownFor T.Theory reach problem.now limits.now known.now }
-    ensures { IfOk result (λ found. MatchOption found (DroppedNothing (map (merged_of T.denotes) banks.now)) (LeavesFor T.Theory reach problem.now limits.now known.now.stored)) }
+    ensures { IfOk result (λ found. MatchOption found (DroppedNothing (map (merged_of T.denotes) banks.now))
+        (LeavesFor T.Theory reach problem.now limits.now known.now.stored)) }
 {
     for function in 0..functions {
         let Some(bank) = banks.get(function as usize) else {
@@ -47,15 +51,16 @@ pub fn dropped_term<T: Theory>(
     Ok(None)
 }
 
-/// The term that the bank of the function of this number dropped, at the tuple where it leaves the 128 bits; `None` exactly
-/// where it dropped none. `Want` comes where memory doesn't suffice for a copy of both.
+/// The term that the bank of the function of this number dropped, at the tuple where it leaves the 128 bits; `None`
+/// exactly where it dropped none. `Want` comes where memory doesn't suffice for a copy of both.
 fn term_of<T: Theory>(
     alloc: Global,
     function: u32,
     bank: &Bank<T>,
 ) -> Result<Option<LoopRange<T>>, Want>
     requires { IsPlaced (merged_of T.denotes bank.now) }
-    ensures { IfOk result (λ found. MatchOption found ((merged_of T.denotes bank.now).dropped ≡ None) (IsDroppedBy T.denotes function (merged_of T.denotes bank.now))) }
+    ensures { IfOk result (λ found. MatchOption found ((merged_of T.denotes bank.now).dropped ≡
+        None) (IsDroppedBy T.denotes function (merged_of T.denotes bank.now))) }
 {
     let Some(dropped) = bank.overflow() else {
         return Ok(None);

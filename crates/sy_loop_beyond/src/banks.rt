@@ -18,9 +18,9 @@ use sy_grammar_base::{Problem, Wanted};
 use sy_loop_bodies::points_of;
 use sy_terms::{Seq, Theory, Values, Want};
 
-/// A bank of the one function to be found over these tuples, of terms up to the size `upto` and of at most `cap` terms: all
-/// of them, or as many as there was room for. `None` where a tuple isn't of the function's arguments. `Want` comes where
-/// memory runs out, and where 32 bits don't count the tuples or the arguments.
+/// A bank of the one function to be found over these tuples, of terms up to the size `upto` and of at most `cap` terms:
+/// all of them, or as many as there was room for. `None` where a tuple isn't of the function's arguments. `Want` comes
+/// where memory runs out, and where 32 bits don't count the tuples or the arguments.
 pub(crate) fn bank_over<T: Theory>(
     alloc: Global,
     problem: &Problem<T>,
@@ -30,8 +30,10 @@ pub(crate) fn bank_over<T: Theory>(
 ) -> Result<Option<Bank<T>>, Want>
     requires problem { ProblemFits T.Theory problem.now }
     requires one { length problem.now.wanted ≡ 1 }
-    ensures honest { IfOk result (λ found. IfSome found (λ bank. IsOneBank (question_of T.denotes problem.now) (merged_of T.denotes bank))) }
-    ensures over { IfOk result (λ found. IfSome found (λ bank. (merged_of T.denotes bank).points ≡ map (vals_of T.denotes) tuples.now)) }
+    ensures honest { IfOk result (λ found.
+        IfSome found (λ bank. IsOneBank (question_of T.denotes problem.now) (merged_of T.denotes bank))) }
+    ensures over { IfOk result (λ found.
+        IfSome found (λ bank. (merged_of T.denotes bank).points ≡ map (vals_of T.denotes) tuples.now)) }
 {
     let Some(wanted) = problem.wanted.get(0) else {
         return Ok(None);
@@ -53,9 +55,12 @@ fn bank_of<T: Theory>(
     cap: u32,
 ) -> Result<Bank<T>, Want>
     requires definitions { DefinitionsFit T.owned T.denotes problem.now.defs }
-    requires formed { is_formed T.numeric (scope_of T.owned problem.now.defs) (syntax_from T.denotes wanted.now.grammar) ≡ true }
+    requires formed { is_formed T.numeric (scope_of T.owned problem.now.defs)
+        (syntax_from T.denotes wanted.now.grammar) ≡ true }
     requires points { ArePointsOf wanted.now.grammar.args (map (vals_of T.denotes) points.now) }
-    ensures { IfOk result (λ bank. IsBank (syntax_from T.denotes wanted.now.grammar) (functions (bodies T.denotes problem.now.defs)) (vals_of T.denotes problem.now.pool) (map (vals_of T.denotes) points.now) upto cap (merged_of T.denotes bank)) }
+    ensures { IfOk result (λ bank.
+        IsBank (syntax_from T.denotes wanted.now.grammar) (functions (bodies T.denotes problem.now.defs))
+        (vals_of T.denotes problem.now.pool) (map (vals_of T.denotes) points.now) upto cap (merged_of T.denotes bank)) }
 {
     match build(
         alloc,

@@ -12,8 +12,9 @@ use sy_terms::{Bodies, Theory, Values, Want};
 /// Bodies that solve the problem, with the solver's proof, of sizes up to the task's: a kept term of the bank's
 /// greatest size, or what a rule of the start symbol gives of kept terms. Each is judged at the assignments, among them
 /// those that refuted others before it, and then decided. `None` where none was found to solve the problem, or too many
-/// weren't decided, which are set aside; nothing follows from it. `Want` comes where memory runs out, where 32 bits don't
-/// count the positions of a query, the points of a bank or the function's arguments, and where `decide` answers it.
+/// weren't decided, which are set aside; nothing follows from it. `Want` comes where memory runs out, where 32 bits
+/// don't count the positions of a query, the points of a bank or the function's arguments, and where `decide` answers
+/// it.
 pub fn solve_beyond<T: Theory, D: Decide<T>>(
     task: &Task<T>,
     decide: &mut D,
@@ -33,8 +34,8 @@ pub fn solve_beyond<T: Theory, D: Decide<T>>(
     solve_onwards(task, decide, bank, level, assignments, aside)
 }
 
-/// The first body that is found to solve the problem: a kept term of this size, a combination of kept terms, or one over
-/// further banks.
+/// The first body that is found to solve the problem: a kept term of this size, a combination of kept terms, or one
+/// over further banks.
 fn solve_onwards<T: Theory, D: Decide<T>>(
     task: &Task<T>,
     decide: &mut D,

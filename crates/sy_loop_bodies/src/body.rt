@@ -28,8 +28,8 @@ pub struct Effort {
     pub banks: u32,
 }
 
-/// What stays the same while bodies are tried: the problem, the limits, up to which size banks are built and their terms
-/// combined, the greatest size of any body, and the effort.
+/// What stays the same while bodies are tried: the problem, the limits, up to which size banks are built and their
+/// terms combined, the greatest size of any body, and the effort.
 #[derive(Drop)]
 pub struct Task<'a, T: Theory> {
     pub alloc: Global,
@@ -40,10 +40,10 @@ pub struct Task<'a, T: Theory> {
     pub effort: Effort,
 }
 
-/// Tries the term as the one body: at the assignments, and where it meets the problem there, by the solver. `None` where it
-/// wasn't found to solve the problem. An assignment at which the solver sees it violate the problem is one more. It is set
-/// aside where it isn't decided, since its query is too heavy or a budget of the solver ran out; where it was set aside
-/// before, it is passed over.
+/// Tries the term as the one body: at the assignments, and where it meets the problem there, by the solver. `None`
+/// where it wasn't found to solve the problem. An assignment at which the solver sees it violate the problem is one
+/// more. It is set aside where it isn't decided, since its query is too heavy or a budget of the solver ran out; where
+/// it was set aside before, it is passed over.
 pub(crate) fn try_body<T: Theory, D: Decide<T>>(
     task: &Task<T>,
     decide: &mut D,
@@ -81,7 +81,8 @@ fn proof_of<T: Theory, D: Decide<T>>(
     requires within { AreWithinFor T.Theory task.now.problem.now task.now.bound bodies.now }
     requires assigned { AreAssignedFor T.Theory task.now.problem.now assignments.old.items }
     ensures assigned { OnOk result (AreAssignedFor T.Theory task.now.problem.now assignments.new.items) }
-    ensures found { IfOk result (λ found. IfSome found (AreFoundFor T.Theory D.Decide task.now.problem.now task.now.bound bodies.now)) }
+    ensures found { IfOk result (λ found.
+        IfSome found (AreFoundFor T.Theory D.Decide task.now.problem.now task.now.bound bodies.now)) }
 {
     if !meet_all(task.alloc, task.problem, bodies, assignments.as_slice())? {
         return Ok(None);
@@ -117,7 +118,8 @@ fn verdict_on<T: Theory, D: Decide<T>>(
 ) -> Result<Option<Verdict<T, D::Proof, D::Spent>>, Want>
     requires problem { ProblemFits T.Theory task.now.problem.now }
     requires within { AreWithinFor T.Theory task.now.problem.now task.now.bound bodies.now }
-    ensures { IfOk result (λ found. IfSome found (IsVerdictFor T.Theory D.Decide task.now.problem.now task.now.bound bodies.now)) }
+    ensures { IfOk result (λ found.
+        IfSome found (IsVerdictFor T.Theory D.Decide task.now.problem.now task.now.bound bodies.now)) }
 {
     if nodes_of(task, bodies) > MOST_NODES {
         return Ok(None);

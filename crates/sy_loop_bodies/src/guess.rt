@@ -10,9 +10,9 @@ use sy_grammar::derive;
 use sy_grammar_sizes::derivation_size;
 use sy_terms::{Term, Theory, Want};
 
-/// What the start symbol's rule of this number gives of kept terms: for each nonterminal in it, from left to right, the one
-/// of this place among the bank's terms for it. `None` where there is no such rule or term, or where a derivation of what
-/// it gives is larger than the bound.
+/// What the start symbol's rule of this number gives of kept terms: for each nonterminal in it, from left to right, the
+/// one of this place among the bank's terms for it. `None` where there is no such rule or term, or where a derivation
+/// of what it gives is larger than the bound.
 pub(crate) fn guessed_term<T: Theory>(
     task: &Task<T>,
     bank: &Bank<T>,
@@ -21,7 +21,8 @@ pub(crate) fn guessed_term<T: Theory>(
 ) -> Result<Option<Term<T>>, Want>
     requires problem { ProblemFits T.Theory task.now.problem.now }
     requires one { length task.now.problem.now.wanted ≡ 1 }
-    ensures { IfOk result (λ found. IfSome found (λ term. IsSmallFor T.Theory task.now.problem.now task.now.bound (expr_of T.denotes term))) }
+    ensures { IfOk result (λ found.
+        IfSome found (λ term. IsSmallFor T.Theory task.now.problem.now task.now.bound (expr_of T.denotes term))) }
 {
     let Some(term) = filled_rule(task, bank, rule, places)? else {
         return Ok(None);
@@ -34,7 +35,8 @@ pub(crate) fn guessed_term<T: Theory>(
 pub fn is_small<T: Theory>(task: &Task<T>, term: &Term<T>) -> Result<bool, Want>
     requires problem { ProblemFits T.Theory task.now.problem.now }
     requires one { length task.now.problem.now.wanted ≡ 1 }
-    ensures { IfOk result (λ small. IsTrue small → IsSmallFor T.Theory task.now.problem.now task.now.bound (expr_of T.denotes term.now)) }
+    ensures { IfOk result (λ small. IsTrue small →
+        IsSmallFor T.Theory task.now.problem.now task.now.bound (expr_of T.denotes term.now)) }
 {
     let Some(wanted) = task.problem.wanted.get(0) else {
         return Ok(false);

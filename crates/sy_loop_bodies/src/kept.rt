@@ -10,8 +10,8 @@ use sy_bank_level::Kept;
 use sy_query_base::Decide;
 use sy_terms::{Bodies, Theory, Values, Want};
 
-/// The first of the kept terms that solves the problem as the one body; `None` where none was found to, or no more may be
-/// left undecided.
+/// The first of the kept terms that solves the problem as the one body; `None` where none was found to, or no more may
+/// be left undecided.
 pub fn solve_kept<T: Theory, D: Decide<T>>(
     task: &Task<T>,
     decide: &mut D,

@@ -1,4 +1,5 @@
-// Bodies that are tried one by one: kept terms, and what rules give of them in the order of a scan, each judged and then decided for itself.
+// Bodies that are tried one by one: kept terms, and what rules give of them in the order of a scan, each judged and
+// then decided for itself.
 #![tactic(auto)]
 
 mod aside;

@@ -7,9 +7,9 @@ ghost use Rattle.sy_grammar_base.specs.Solving.{AreValues};
 use std::alloc::Global;
 use sy_terms::{Seq, Sort, Theory, Value, Values, Want};
 
-/// Values of these sorts that look random, the same ones for a seed: of a vector each of its numbers, of whole numbers one
-/// from -50 to 50. `None` where a sort has no such number in the theory. `Want` comes where memory runs out, and nowhere
-/// else.
+/// Values of these sorts that look random, the same ones for a seed: of a vector each of its numbers, of whole numbers
+/// one from -50 to 50. `None` where a sort has no such number in the theory. `Want` comes where memory runs out, and
+/// nowhere else.
 pub fn mixed_assignment<T: Theory>(
     alloc: Global,
     vars: &[Sort],

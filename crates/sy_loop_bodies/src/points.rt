@@ -13,7 +13,8 @@ pub fn points_of<T: Theory>(
     sorts: &[Sort],
     tuples: &[Values<T>],
 ) -> Result<Option<Seq<Values<T>>>, Want>
-    ensures sorted { IfOk result (λ found. IfSome found (λ points. ArePointsOf sorts.now (map (vals_of T.denotes) points))) }
+    ensures sorted { IfOk result (λ found.
+        IfSome found (λ points. ArePointsOf sorts.now (map (vals_of T.denotes) points))) }
     ensures same { IfOk result (λ found. IfSome found (λ points. points ≡ tuples.now)) }
 {
     let mut points = Seq::new(alloc);

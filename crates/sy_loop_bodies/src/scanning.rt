@@ -25,8 +25,8 @@ const MOST_GUESSES: u32 = 4_096;
 /// Of how much that constraints want at one assignment a scan is told at most.
 const MOST_TOLD: usize = 64;
 
-/// A scan, and what it was told of: the numbers of its shapes' rules, how many of the assignments, and the tuples at which
-/// constraints want values there, each once.
+/// A scan, and what it was told of: the numbers of its shapes' rules, how many of the assignments, and the tuples at
+/// which constraints want values there, each once.
 #[derive(Drop)]
 struct Scanning<T: Theory> {
     scan: Scan,
@@ -35,8 +35,8 @@ struct Scanning<T: Theory> {
     tuples: Vec<Values<T>>,
 }
 
-/// The first combination in the scan's order that solves the problem as the one body; `None` where none was found to. The
-/// scan knows what constraints want at the assignments.
+/// The first combination in the scan's order that solves the problem as the one body; `None` where none was found to.
+/// The scan knows what constraints want at the assignments.
 pub fn solve_scanned<T: Theory, D: Decide<T>>(
     task: &Task<T>,
     decide: &mut D,

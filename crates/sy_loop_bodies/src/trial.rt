@@ -9,9 +9,10 @@ use crate::guess::is_small;
 use sy_query_base::Decide;
 use sy_terms::{Bodies, Term, Theory, Values, Want};
 
-/// Tries the term as the one body, as a kept term is tried: at the assignments, and where it meets the problem there, by
-/// the solver. `None` where it wasn't found to solve the problem, or no derivation of it lies within the task's bound. An
-/// assignment at which the solver sees it violate the problem is one more; a term that isn't decided is set aside.
+/// Tries the term as the one body, as a kept term is tried: at the assignments, and where it meets the problem there,
+/// by the solver. `None` where it wasn't found to solve the problem, or no derivation of it lies within the task's
+/// bound. An assignment at which the solver sees it violate the problem is one more; a term that isn't decided is set
+/// aside.
 pub fn try_term<T: Theory, D: Decide<T>>(
     task: &Task<T>,
     decide: &mut D,

@@ -15,11 +15,12 @@ pub struct Wish<T: Theory> {
     pub value: Value<T::Num>,
 }
 
-/// What the constraints want of the one function to be found at these values of the variables, where they name it outright.
-/// `(= (f ..) t)` wants a value, where no call is in `t` and the arguments; `(f ..)` wants to be true, and `(not (f ..))` to
-/// be false; so does a part of `and`, `or` and `=>`, where the others leave it no choice. Nothing is wanted where an assumption
-/// is false. What is wanted is a guide to a search: a solution is proved by its query. `Want` comes where memory runs out,
-/// and nowhere else.
+/// What the constraints want of the one function to be found at these values of the variables, where they name it
+/// outright.
+/// `(= (f ..) t)` wants a value, where no call is in `t` and the arguments; `(f ..)` wants to be true, and `(not (f
+/// ..))` to be false; so does a part of `and`, `or` and `=>`, where the others leave it no choice. Nothing is wanted
+/// where an assumption is false. What is wanted is a guide to a search: a solution is proved by its query. `Want` comes
+/// where memory runs out, and nowhere else.
 pub fn wishes_at<T: Theory>(
     alloc: Global,
     problem: &Problem<T>,
@@ -67,8 +68,8 @@ fn gather<T: Theory>(
     }
 }
 
-/// Adds what is wanted where the terms' conjunction (`neutral` is true) or disjunction (it is false) is to be of this truth:
-/// of all of them, or of the only one that is open.
+/// Adds what is wanted where the terms' conjunction (`neutral` is true) or disjunction (it is false) is to be of this
+/// truth: of all of them, or of the only one that is open.
 #[cycle(gather)]
 fn gather_parts<T: Theory>(
     alloc: Global,
@@ -177,7 +178,8 @@ fn add_equal<T: Theory>(
     }
 }
 
-/// Adds the wish that the term has the value, where it is a call of the function to be found at arguments without such calls.
+/// Adds the wish that the term has the value, where it is a call of the function to be found at arguments without such
+/// calls.
 fn add_call<T: Theory>(
     alloc: Global,
     problem: &Problem<T>,

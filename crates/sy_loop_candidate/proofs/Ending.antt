@@ -24,7 +24,7 @@ use Rattle.sy_points.specs.declared.stored.Stored.{Stored}
 use Rattle.sy_loop_spec.specs.Bounds.{IsJoinedWithin}
 use Rattle.sy_loop_spec.specs.Conditional.{yield}
 use Rattle.sy_loop_spec.specs.declared.reach.Reach.{Reach}
-use Rattle.sy_loop_spec.specs.declared.reach.Reach.TheVariants.{Sizes, Joins, Beyond}
+use Rattle.sy_loop_spec.specs.declared.reach.Reach.TheVariants.{Sizes, Joins}
 use Rattle.sy_loop_spec.proofs.Conditional.{tree_is_member}
 use Rattle.sy_loop_spec.specs.Histories.{Counterexample, IsCandidate, IsDue, IsFewJoined, IsNextCounterexample, IsHonestHistory, IsMet, MayTry, trace}
 use Rattle.sy_loop_spec.proofs.Staying.{candidate_stays, met_stays}
@@ -63,10 +63,6 @@ tried_members Sizes question size history n bodies may = members question.pool n
 tried_members Joins question size history n bodies may = ⊎_elim
     (λ (within : AreWithin question.pool n question.goals bodies). members question.pool n question.goals bodies within)
     (λ (few : IsFewJoined Joins question size history n bodies). joined_members question n bodies few.joined)
-    may
-tried_members Beyond question size history n bodies may = ⊎_elim
-    (λ (within : AreWithin question.pool n question.goals bodies). members question.pool n question.goals bodies within)
-    (λ (few : IsFewJoined Beyond question size history n bodies). joined_members question n bodies few.joined)
     may
 
 pub candidate_members : (reach : Reach) (question : Question) (size : ℕ) (history : List Counterexample) (bodies : List Expr) → IsCandidate reach question size history bodies → AreMembers question.goals bodies

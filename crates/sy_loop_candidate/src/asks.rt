@@ -32,8 +32,10 @@ pub(crate) fn ask_all<T: Theory>(
     requires meets { MeetAllFor T.Theory problem.now stored.now (map (expr_of T.denotes) bodies.now) }
     requires held { IsHeldFor T.Theory problem.now limits.now stored.now points.old }
     ensures held { OnOk result (IsHeldFor T.Theory problem.now limits.now stored.now points.new) }
-    ensures widens { OnOk result (WidensFor T.Theory problem.now stored.now (map (expr_of T.denotes) bodies.now) points.old points.new) }
-    ensures answer { IfOk result (Tries (question_of T.denotes problem.now) (history_of T.denotes stored.now) (map (expr_of T.denotes) bodies.now) points.old points.new) }
+    ensures widens { OnOk result
+        (WidensFor T.Theory problem.now stored.now (map (expr_of T.denotes) bodies.now) points.old points.new) }
+    ensures answer { IfOk result (Tries (question_of T.denotes problem.now)
+        (history_of T.denotes stored.now) (map (expr_of T.denotes) bodies.now) points.old points.new) }
 {
     let mut trial = Trial::Due;
     for place in 0..stored.len() {
@@ -65,8 +67,10 @@ pub(crate) fn ask_at<T: Theory>(
     requires place { place < length stored.now.items }
     requires held { IsHeldFor T.Theory problem.now limits.now stored.now points.old }
     ensures held { OnOk result (IsHeldFor T.Theory problem.now limits.now stored.now points.new) }
-    ensures widens { OnOk result (WidensFor T.Theory problem.now stored.now (map (expr_of T.denotes) bodies.now) points.old points.new) }
-    ensures answer { IfOk result (AsksAt (question_of T.denotes problem.now) (history_of T.denotes stored.now) (map (expr_of T.denotes) bodies.now) place points.old points.new) }
+    ensures widens { OnOk result
+        (WidensFor T.Theory problem.now stored.now (map (expr_of T.denotes) bodies.now) points.old points.new) }
+    ensures answer { IfOk result (AsksAt (question_of T.denotes problem.now)
+        (history_of T.denotes stored.now) (map (expr_of T.denotes) bodies.now) place points.old points.new) }
 {
     let Some((assignment, _)) = stored.get(place) else {
         unreachable!();
@@ -90,7 +94,8 @@ fn calls_at<T: Theory>(
     requires problem { ProblemFits T.Theory problem.now }
     requires bodies { FitAsBodies T.Theory problem.now bodies.now }
     requires values { AreValues problem.now.vars (vals_of T.denotes values.now) }
-    ensures { IfOk result (Calls (question_of T.denotes problem.now) (map (expr_of T.denotes) bodies.now) (vals_of T.denotes values.now)) }
+    ensures { IfOk result (Calls (question_of T.denotes problem.now)
+        (map (expr_of T.denotes) bodies.now) (vals_of T.denotes values.now)) }
 {
     let mut calls = Trace::new(alloc);
     for term in problem.constraints.as_slice() {

@@ -20,9 +20,9 @@ use sy_query_base::{Decide, Limits, Query, Verdict};
 use sy_terms::{Bodies, Theory, Want};
 
 /// Decides the query of bodies that are due, without a look at the stored assignments. An assignment that violates the
-/// problem is stored. Where there may be more of them, what the bodies ask there is added to the points. `Want` comes where
-/// memory runs out, where 32 bits don't count a position of the query, and where `decide` answers it; nothing is promised of
-/// what is known then.
+/// problem is stored. Where there may be more of them, what the bodies ask there is added to the points. `Want` comes
+/// where memory runs out, where 32 bits don't count a position of the query, and where `decide` answers it; nothing is
+/// promised of what is known then.
 pub fn decide_due<T: Theory, D: Decide<T>>(
     alloc: Global,
     problem: &Problem<T>,
@@ -39,7 +39,8 @@ pub fn decide_due<T: Theory, D: Decide<T>>(
     requires due { IsDueFor T.Theory reach problem.now limits.now known.old (map (expr_of T.denotes) bodies) }
     ensures known { OnOk result (IsKnownFor T.Theory reach problem.now limits.now known.new) }
     ensures grows { OnOk result (TuplesGrow known.old.points known.new.points) }
-    ensures step { IfOk result (DecidesFor T.Theory D.Decide reach problem.now limits.now (map (expr_of T.denotes) bodies) known.old known.new) }
+    ensures step { IfOk result (DecidesFor T.Theory D.Decide reach problem.now limits.now
+        (map (expr_of T.denotes) bodies) known.old known.new) }
 {
     let query = match build(alloc, problem, &bodies, limits.weight) {
         Ok(query) => query,
@@ -86,14 +87,16 @@ fn follow<T: Theory, D: Decide<T>>(
     known: &mut Known<T>,
 ) -> Result<Step<T, D::Proof, D::Spent>, Want>
     requires problem { ProblemFits T.Theory problem.now }
-    requires bodies { (pair : _) → slice_get known.old.stored.items place ≡ Some pair → FitAsBodies T.Theory problem.now pair.1 }
+    requires bodies { (pair : _) → slice_get known.old.stored.items place ≡ Some pair →
+        FitAsBodies T.Theory problem.now pair.1 }
     requires place { place < length known.old.stored.items }
     requires room { length known.old.stored.items < limits.now.rounds }
     requires known { IsKnownFor T.Theory reach problem.now limits.now known.old }
     ensures stored { OnOk result (known.new.stored ≡ known.old.stored) }
     ensures known { OnOk result (IsKnownFor T.Theory reach problem.now limits.now known.new) }
     ensures grows { OnOk result (TuplesGrow known.old.points known.new.points) }
-    ensures step { IfOk result (StepFollowsFor T.Theory D.Decide reach problem.now limits.now place known.old.points known.new) }
+    ensures step { IfOk result
+        (StepFollowsFor T.Theory D.Decide reach problem.now limits.now place known.old.points known.new) }
 {
     let Some((_, bodies)) = known.stored.get(place) else {
         unreachable!();

@@ -12,8 +12,8 @@ use sy_points::Points;
 use sy_terms::{Applied, Def, Fun, Term, Terms, Theory, Value, Want};
 
 /// The value of a term under definitions, and under the chosen terms as bodies. A call of a function to be found is
-/// answered by its term's row. `None` where a call is at a tuple that isn't among the points, or a value on the way leaves
-/// the 128 bits.
+/// answered by its term's row. `None` where a call is at a tuple that isn't among the points, or a value on the way
+/// leaves the 128 bits.
 #[cycle(observe)]
 pub(crate) fn observe<T: Theory>(
     alloc: Global,
@@ -27,9 +27,12 @@ pub(crate) fn observe<T: Theory>(
     requires functions { length chosen.now ≤ length points.now.tuples }
     requires rows { KeptHaveRows T.owned T.denotes defs.now points.now chosen.now }
     requires values { AreValid T.denotes values.now }
-    requires term { FitsUnder T.owned defs.now (bodies_of T.denotes chosen.now) (vals_of T.denotes values.now) (expr_of T.denotes term.now) }
-    ensures { IfOk result (λ found. MatchOption found (IsUntold T.denotes defs.now (bodies_of T.denotes chosen.now) points.now (vals_of T.denotes values.now) (expr_of T.denotes term.now))
-        (λ value. IsTold T.owned T.denotes defs.now (bodies_of T.denotes chosen.now) points.now (vals_of T.denotes values.now) (expr_of T.denotes term.now) (val_of T.denotes value))) }
+    requires term { FitsUnder T.owned defs.now (bodies_of T.denotes chosen.now)
+        (vals_of T.denotes values.now) (expr_of T.denotes term.now) }
+    ensures { IfOk result (λ found. MatchOption found (IsUntold T.denotes defs.now
+        (bodies_of T.denotes chosen.now) points.now (vals_of T.denotes values.now) (expr_of T.denotes term.now))
+        (λ value. IsTold T.owned T.denotes defs.now (bodies_of T.denotes chosen.now) points.now
+        (vals_of T.denotes values.now) (expr_of T.denotes term.now) (val_of T.denotes value))) }
 {
     match term {
         Term::Const(value) => Ok(Some(*value)),
@@ -83,9 +86,12 @@ fn observe_all<T: Theory>(
     requires functions { length chosen.now ≤ length points.now.tuples }
     requires rows { KeptHaveRows T.owned T.denotes defs.now points.now chosen.now }
     requires values { AreValid T.denotes values.now }
-    requires terms { AllFitUnder T.owned defs.now (bodies_of T.denotes chosen.now) (vals_of T.denotes values.now) (exprs_of T.denotes terms.now.items.items) }
-    ensures { IfOk result (λ found. MatchOption found (AllUntold T.denotes defs.now (bodies_of T.denotes chosen.now) points.now (vals_of T.denotes values.now) (exprs_of T.denotes terms.now.items.items))
-        (λ all. AllAreTold T.owned T.denotes defs.now (bodies_of T.denotes chosen.now) points.now (vals_of T.denotes values.now) (exprs_of T.denotes terms.now.items.items) (vals_of T.denotes all.items))) }
+    requires terms { AllFitUnder T.owned defs.now (bodies_of T.denotes chosen.now)
+        (vals_of T.denotes values.now) (exprs_of T.denotes terms.now.items.items) }
+    ensures { IfOk result (λ found. MatchOption found (AllUntold T.denotes defs.now (bodies_of T.denotes chosen.now)
+        points.now (vals_of T.denotes values.now) (exprs_of T.denotes terms.now.items.items))
+        (λ all. AllAreTold T.owned T.denotes defs.now (bodies_of T.denotes chosen.now) points.now
+        (vals_of T.denotes values.now) (exprs_of T.denotes terms.now.items.items) (vals_of T.denotes all.items))) }
 {
     let mut found = Vec::with_capacity(alloc, terms.len())?;
     for term in terms.as_slice() {

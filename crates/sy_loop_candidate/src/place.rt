@@ -18,7 +18,9 @@ pub(crate) fn value_at<T: Theory>(
 ) -> Option<Value<T::Num>>
     requires within { function < length points.now.tuples }
     requires sized { length kept.now.row ≡ length (of_function points.now function) }
-    ensures { MatchOption result (Contains (of_function points.now function) (vals_of T.denotes tuple.now) → ⊥) (λ value. HasValueAt (of_function points.now function) (vals_of T.denotes kept.now.row) (vals_of T.denotes tuple.now) (val_of T.denotes value)) }
+    ensures { MatchOption result (Contains (of_function points.now function) (vals_of T.denotes tuple.now) →
+        ⊥) (λ value. HasValueAt (of_function points.now function)
+        (vals_of T.denotes kept.now.row) (vals_of T.denotes tuple.now) (val_of T.denotes value)) }
 {
     let tuples = points.of(function);
     let place = point_of::<T>(tuples.as_slice(), tuple)?;

@@ -16,9 +16,9 @@ use sy_grammar_base::Problem;
 use sy_points::{Points, Stored};
 use sy_terms::{Theory, Want};
 
-/// Whether the rows of the chosen terms, one for each function to be found, show that these as bodies violate the problem
-/// at a stored assignment. A row shows nothing of a call at a tuple that isn't among its function's points. What refuted
-/// earlier ones is looked at first. `Want` comes where memory runs out, and nowhere else.
+/// Whether the rows of the chosen terms, one for each function to be found, show that these as bodies violate the
+/// problem at a stored assignment. A row shows nothing of a call at a tuple that isn't among its function's points.
+/// What refuted earlier ones is looked at first. `Want` comes where memory runs out, and nowhere else.
 pub fn are_refuted<T: Theory>(
     alloc: Global,
     problem: &Problem<T>,
@@ -33,8 +33,10 @@ pub fn are_refuted<T: Theory>(
     requires functions { length points.now.tuples ≡ length (question_of T.denotes problem.now).goals }
     requires taken { AreTaken (question_of T.denotes problem.now) points.now }
     requires stored { AreAssignments (question_of T.denotes problem.now) (history_of T.denotes stored.now) }
-    ensures refuted { IfOk result (λ refuted. IsTrue refuted → IsRefuted (question_of T.denotes problem.now) (history_of T.denotes stored.now) points.now (bodies_of T.denotes chosen.now)) }
-    ensures open { IfOk result (λ refuted. refuted ≡ false → IsOpenCandidate (question_of T.denotes problem.now) (history_of T.denotes stored.now) points.now (bodies_of T.denotes chosen.now)) }
+    ensures refuted { IfOk result (λ refuted. IsTrue refuted → IsRefuted (question_of T.denotes problem.now)
+        (history_of T.denotes stored.now) points.now (bodies_of T.denotes chosen.now)) }
+    ensures open { IfOk result (λ refuted. refuted ≡ false → IsOpenCandidate (question_of T.denotes problem.now)
+        (history_of T.denotes stored.now) points.now (bodies_of T.denotes chosen.now)) }
 {
     let count = stored.len();
     suspects.cover(count)?;
@@ -63,7 +65,8 @@ fn are_refuted_again<T: Theory>(
     requires problem { ProblemFits T.Theory problem.now }
     requires ready { AreReady T.owned T.denotes problem.now points.now chosen.now }
     requires stored { AreAssignments (question_of T.denotes problem.now) (history_of T.denotes stored.now) }
-    ensures { IfOk result (λ refuted. IsTrue refuted → IsRefuted (question_of T.denotes problem.now) (history_of T.denotes stored.now) points.now (bodies_of T.denotes chosen.now)) }
+    ensures { IfOk result (λ refuted. IsTrue refuted → IsRefuted (question_of T.denotes problem.now)
+        (history_of T.denotes stored.now) points.now (bodies_of T.denotes chosen.now)) }
 {
     for rank in 0..suspects.len() {
         let place = suspects.assignment(rank);
@@ -82,6 +85,7 @@ fn are_refuted_again<T: Theory>(
 
 /// Whether the violation is shown at a stored assignment from the place `from` on and before `to`. The constraint that
 /// shows it is a suspect from now on.
+/// Eight parameters: the places are handed on beside what a whole search for a violation has.
 fn are_refuted_between<T: Theory>(
     alloc: Global,
     problem: &Problem<T>,
@@ -96,8 +100,10 @@ fn are_refuted_between<T: Theory>(
     requires ready { AreReady T.owned T.denotes problem.now points.now chosen.now }
     requires stored { AreAssignments (question_of T.denotes problem.now) (history_of T.denotes stored.now) }
     requires within { to ≤ length stored.now.items }
-    ensures refuted { IfOk result (λ refuted. IsTrue refuted → IsRefuted (question_of T.denotes problem.now) (history_of T.denotes stored.now) points.now (bodies_of T.denotes chosen.now)) }
-    ensures open { IfOk result (λ refuted. refuted ≡ false → IsOpenWithin (question_of T.denotes problem.now) (history_of T.denotes stored.now) points.now (bodies_of T.denotes chosen.now) from to) }
+    ensures refuted { IfOk result (λ refuted. IsTrue refuted → IsRefuted (question_of T.denotes problem.now)
+        (history_of T.denotes stored.now) points.now (bodies_of T.denotes chosen.now)) }
+    ensures open { IfOk result (λ refuted. refuted ≡ false → IsOpenWithin (question_of T.denotes problem.now)
+        (history_of T.denotes stored.now) points.now (bodies_of T.denotes chosen.now) from to) }
 {
     for place in from..to {
         let Some((assignment, _)) = stored.get(place) else {

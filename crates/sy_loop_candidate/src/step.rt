@@ -51,10 +51,10 @@ pub enum Step<T: Theory, P: Drop, S: Drop> {
     End(End<T, P, S>),
 }
 
-/// Tries the bodies at the stored assignments. Where they meet the problem at each of them, and all that they ask there is
-/// among the points, their query is decided. `reach` says which bodies count as candidates. `Want` comes where memory runs
-/// out, where 32 bits don't count a position of the query, and where `decide` answers it; nothing is promised of what is
-/// known then.
+/// Tries the bodies at the stored assignments. Where they meet the problem at each of them, and all that they ask there
+/// is among the points, their query is decided. `reach` says which bodies count as candidates. `Want` comes where
+/// memory runs out, where 32 bits don't count a position of the query, and where `decide` answers it; nothing is
+/// promised of what is known then.
 pub fn try_candidate<T: Theory, D: Decide<T>>(
     alloc: Global,
     problem: &Problem<T>,
@@ -66,12 +66,14 @@ pub fn try_candidate<T: Theory, D: Decide<T>>(
 ) -> Result<Step<T, D::Proof, D::Spent>, Want>
     requires problem { ProblemFits T.Theory problem.now }
     requires bodies { FitAsBodies T.Theory problem.now bodies }
-    requires candidate { IsCandidateFor T.Theory reach problem.now limits.now known.old (map (expr_of T.denotes) bodies) }
+    requires candidate { IsCandidateFor T.Theory reach problem.now limits.now known.old
+        (map (expr_of T.denotes) bodies) }
     requires known { IsKnownFor T.Theory reach problem.now limits.now known.old }
     requires room { length known.old.stored.items < limits.now.rounds }
     ensures known { OnOk result (IsKnownFor T.Theory reach problem.now limits.now known.new) }
     ensures grows { OnOk result (TuplesGrow known.old.points known.new.points) }
-    ensures step { IfOk result (StepsFor T.Theory D.Decide reach problem.now limits.now (map (expr_of T.denotes) bodies) known.old known.new) }
+    ensures step { IfOk result
+        (StepsFor T.Theory D.Decide reach problem.now limits.now (map (expr_of T.denotes) bodies) known.old known.new) }
 {
     match try_bodies(
         alloc,

@@ -2,8 +2,8 @@
 use std::alloc::Global;
 use sy_terms::Want;
 
-/// Guesses of what refutes the next candidate, by what refuted those before it. Nothing is claimed of them: they say only
-/// what is looked at first.
+/// Guesses of what refutes the next candidate, by what refuted those before it. Nothing is claimed of them: they say
+/// only what is looked at first.
 #[derive(Drop)]
 pub struct Suspects {
     /// The places of stored assignments, in the order in which they are looked at.
@@ -21,8 +21,8 @@ impl Suspects {
         }
     }
 
-    /// Has guesses for so many stored assignments: the first constraint for each new one. `Want` comes where memory runs out,
-    /// and nowhere else; then there are guesses for some of them.
+    /// Has guesses for so many stored assignments: the first constraint for each new one. `Want` comes where memory
+    /// runs out, and nowhere else; then there are guesses for some of them.
     pub(crate) fn cover(&mut self, assignments: usize) -> Result<(), Want> {
         for place in self.order.len()..assignments {
             self.order.push(place)?;

@@ -26,8 +26,8 @@ pub(crate) enum Told {
     Nothing,
 }
 
-/// Whether the rows show that the chosen terms, as bodies, violate the problem at the assignment by the constraint of this
-/// place. The constraint is looked at first, and the assumptions only where it is false.
+/// Whether the rows show that the chosen terms, as bodies, violate the problem at the assignment by the constraint of
+/// this place. The constraint is looked at first, and the assumptions only where it is false.
 pub(crate) fn is_violated_by<T: Theory>(
     alloc: Global,
     problem: &Problem<T>,
@@ -39,7 +39,8 @@ pub(crate) fn is_violated_by<T: Theory>(
     requires problem { ProblemFits T.Theory problem.now }
     requires ready { AreReady T.owned T.denotes problem.now points.now chosen.now }
     requires values { AreValues problem.now.vars (vals_of T.denotes values.now) }
-    ensures { IfOk result (λ violated. IsTrue violated → IsShown (question_of T.denotes problem.now) points.now (bodies_of T.denotes chosen.now) (vals_of T.denotes values.now)) }
+    ensures { IfOk result (λ violated. IsTrue violated → IsShown (question_of T.denotes problem.now) points.now
+        (bodies_of T.denotes chosen.now) (vals_of T.denotes values.now)) }
 {
     let Some(term) = problem.constraints.get(constraint) else {
         return Ok(false);
@@ -52,8 +53,8 @@ pub(crate) fn is_violated_by<T: Theory>(
 }
 
 /// The place of a constraint by which the rows show that the chosen terms, as bodies, violate the problem at the
-/// assignment; `None` where they show no violation. Constraints are looked at from the place `first` on, and then from the
-/// first one on.
+/// assignment; `None` where they show no violation. Constraints are looked at from the place `first` on, and then from
+/// the first one on.
 pub(crate) fn violated_constraint<T: Theory>(
     alloc: Global,
     problem: &Problem<T>,
@@ -65,8 +66,10 @@ pub(crate) fn violated_constraint<T: Theory>(
     requires problem { ProblemFits T.Theory problem.now }
     requires ready { AreReady T.owned T.denotes problem.now points.now chosen.now }
     requires values { AreValues problem.now.vars (vals_of T.denotes values.now) }
-    ensures { IfOk result (λ found. MatchOption found (IsOpenAt (question_of T.denotes problem.now) points.now (bodies_of T.denotes chosen.now) (vals_of T.denotes values.now))
-        (λ place. IsShown (question_of T.denotes problem.now) points.now (bodies_of T.denotes chosen.now) (vals_of T.denotes values.now))) }
+    ensures { IfOk result (λ found. MatchOption found (IsOpenAt (question_of T.denotes problem.now) points.now
+        (bodies_of T.denotes chosen.now) (vals_of T.denotes values.now))
+        (λ place. IsShown (question_of T.denotes problem.now) points.now
+        (bodies_of T.denotes chosen.now) (vals_of T.denotes values.now))) }
 {
     if !are_assumed(alloc, problem, chosen, points, values)? {
         return Ok(None);
@@ -91,8 +94,12 @@ fn are_assumed<T: Theory>(
     requires problem { ProblemFits T.Theory problem.now }
     requires ready { AreReady T.owned T.denotes problem.now points.now chosen.now }
     requires values { AreValues problem.now.vars (vals_of T.denotes values.now) }
-    ensures assumed { IfOk result (λ assumed. assumed ≡ true → All (IsTrueUnder (question_of T.denotes problem.now) (bodies_of T.denotes chosen.now) (vals_of T.denotes values.now)) (question_of T.denotes problem.now).assumptions) }
-    ensures unassured { IfOk result (λ assumed. assumed ≡ false → IsOne (IsUnassured (question_of T.denotes problem.now) points.now (bodies_of T.denotes chosen.now) (vals_of T.denotes values.now)) (question_of T.denotes problem.now).assumptions) }
+    ensures assumed { IfOk result (λ assumed. assumed ≡ true →
+        All (IsTrueUnder (question_of T.denotes problem.now) (bodies_of T.denotes chosen.now)
+        (vals_of T.denotes values.now)) (question_of T.denotes problem.now).assumptions) }
+    ensures unassured { IfOk result (λ assumed. assumed ≡ false →
+        IsOne (IsUnassured (question_of T.denotes problem.now) points.now (bodies_of T.denotes chosen.now)
+        (vals_of T.denotes values.now)) (question_of T.denotes problem.now).assumptions) }
 {
     for term in problem.assumptions.as_slice() {
         match tell(alloc, problem, chosen, points, values, term)? {
@@ -118,8 +125,10 @@ fn false_between<T: Theory>(
     requires ready { AreReady T.owned T.denotes problem.now points.now chosen.now }
     requires values { AreValues problem.now.vars (vals_of T.denotes values.now) }
     requires within { to ≤ length problem.now.constraints }
-    ensures { IfOk result (λ found. MatchOption found (AreUnrefuted (question_of T.denotes problem.now) points.now (bodies_of T.denotes chosen.now) (vals_of T.denotes values.now) from to)
-        (λ place. IsOne (IsShownFalse (question_of T.denotes problem.now) points.now (bodies_of T.denotes chosen.now) (vals_of T.denotes values.now)) (question_of T.denotes problem.now).constraints)) }
+    ensures { IfOk result (λ found. MatchOption found (AreUnrefuted (question_of T.denotes problem.now) points.now
+        (bodies_of T.denotes chosen.now) (vals_of T.denotes values.now) from to)
+        (λ place. IsOne (IsShownFalse (question_of T.denotes problem.now) points.now (bodies_of T.denotes chosen.now)
+        (vals_of T.denotes values.now)) (question_of T.denotes problem.now).constraints)) }
 {
     let constraints = problem.constraints.as_slice();
     for place in from..to {
@@ -145,7 +154,8 @@ fn tell<T: Theory>(
     requires ready { AreReady T.owned T.denotes problem.now points.now chosen.now }
     requires values { AreValues problem.now.vars (vals_of T.denotes values.now) }
     requires term { IsTruth T.owned T.denotes problem.now term.now }
-    ensures { IfOk result (Tells (question_of T.denotes problem.now) points.now (bodies_of T.denotes chosen.now) (vals_of T.denotes values.now) (expr_of T.denotes term.now)) }
+    ensures { IfOk result (Tells (question_of T.denotes problem.now) points.now
+        (bodies_of T.denotes chosen.now) (vals_of T.denotes values.now) (expr_of T.denotes term.now)) }
 {
     let defs = problem.defs.as_slice();
     let Some(value) = observe(alloc, defs, chosen, points, values, term)? else {

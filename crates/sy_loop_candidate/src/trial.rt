@@ -24,15 +24,15 @@ pub(crate) enum Trial {
     Refuted,
     /// Something that they ask at one is new.
     Asks,
-    /// The function of this number has as many tuples as it may, and at the stored assignment of this place they ask for
-    /// one more.
+    /// The function of this number has as many tuples as it may, and at the stored assignment of this place they ask
+    /// for one more.
     Full(u32, usize),
     /// An assumption or a constraint leaves the 128 bits at the stored assignment of this place.
     Leaves(usize),
 }
 
-/// Tries the bodies at the stored assignments up to the first where they don't meet the problem: what shows this is added
-/// to the points. Where they meet it at all of them, what they ask at each is added.
+/// Tries the bodies at the stored assignments up to the first where they don't meet the problem: what shows this is
+/// added to the points. Where they meet it at all of them, what they ask at each is added.
 pub(crate) fn try_bodies<T: Theory>(
     alloc: Global,
     problem: &Problem<T>,
@@ -45,8 +45,10 @@ pub(crate) fn try_bodies<T: Theory>(
     requires bodies { FitAsBodies T.Theory problem.now bodies.now }
     requires held { IsHeldFor T.Theory problem.now limits.now stored.now points.old }
     ensures held { OnOk result (IsHeldFor T.Theory problem.now limits.now stored.now points.new) }
-    ensures widens { OnOk result (WidensFor T.Theory problem.now stored.now (map (expr_of T.denotes) bodies.now) points.old points.new) }
-    ensures answer { IfOk result (Tries (question_of T.denotes problem.now) (history_of T.denotes stored.now) (map (expr_of T.denotes) bodies.now) points.old points.new) }
+    ensures widens { OnOk result
+        (WidensFor T.Theory problem.now stored.now (map (expr_of T.denotes) bodies.now) points.old points.new) }
+    ensures answer { IfOk result (Tries (question_of T.denotes problem.now)
+        (history_of T.denotes stored.now) (map (expr_of T.denotes) bodies.now) points.old points.new) }
 {
     for place in 0..stored.len() {
         let Some((assignment, _)) = stored.get(place) else {

@@ -11,7 +11,8 @@ use sy_query_limits::Limits;
 /// The size that a search tries first: whatever it knows, below that there is nothing to be tried.
 pub fn first_size(_limits: &Limits) -> u32
     ensures within { result ≤ _limits.now.size }
-    ensures done { (reach : Reaches) (question : Question) (history : List Counterexample) (asked : Asked) → AreDoneBelow reach question history asked result }
+    ensures done { (reach : Reaches) (question : Question) (history : List Counterexample) (asked : Asked) →
+        AreDoneBelow reach question history asked result }
 {
     0
 }

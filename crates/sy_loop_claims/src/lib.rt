@@ -1,4 +1,5 @@
-// Where a search begins, and what it claims where it ends, from what shows it: a solution, that nothing is one, what left the 128 bits, or that no round is left.
+// Where a search begins, and what it claims where it ends, from what shows it: a solution, that nothing is one, what
+// left the 128 bits, or that no round is left.
 #![tactic(auto)]
 
 mod begin;

@@ -39,7 +39,8 @@ pub fn found<T: Theory, D: Decide<T>>(
     bodies: Bodies<T>,
     proof: D::Proof,
 ) -> Outcome<T, D::Proof, D::Spent>
-    requires solution { IsSolution D.accepted (question_of T.denotes _problem.now) (map (expr_of T.denotes) bodies) proof }
+    requires solution { IsSolution D.accepted (question_of T.denotes _problem.now)
+        (map (expr_of T.denotes) bodies) proof }
     requires least { AreLeast _reach (question_of T.denotes _problem.now) (map (expr_of T.denotes) bodies) }
     ensures right { IsRightFor T.Theory D.Decide _reach _problem.now _limits.now result }
     ensures least { FindsLeastFor T.Theory _reach _problem.now result }
@@ -64,8 +65,8 @@ pub fn left_range<T: Theory, D: Decide<T>>(
     Outcome::Fail(FailCause::Range(stored, left))
 }
 
-/// The outcome where nothing up to the greatest size solves the problem. `Want` comes where memory doesn't suffice to find the
-/// grammars' largest sizes.
+/// The outcome where nothing up to the greatest size solves the problem. `Want` comes where memory doesn't suffice to
+/// find the grammars' largest sizes.
 pub fn exhausted<T: Theory, D: Decide<T>>(
     alloc: Global,
     problem: &Problem<T>,

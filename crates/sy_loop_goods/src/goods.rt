@@ -1,4 +1,6 @@
 // At which points kept terms are good.
+// Functions here have more than seven parameters where clauses name the problem, what is stored, the points and the
+// constraints apart, as those of the crates below do: a record of them would be taken apart at each call.
 ghost use Rattle.std.specs.Prelude.{◌≡◌, ◌<◌, length, filter, IfOk, IfSome, OnOk, None};
 ghost use Rattle.sy_bank_level.specs.Stored.{chosen_of};
 ghost use Rattle.sy_grammar_base.specs.Fits.{ProblemFits};
@@ -43,8 +45,8 @@ struct Column {
     leaving: Option<Leaving>,
 }
 
-/// At which points the leaves are good: each constraint that rests on the point is true under the leaf. Constraints that the
-/// memo tells of aren't evaluated again, and those that are add to it.
+/// At which points the leaves are good: each constraint that rests on the point is true under the leaf. Constraints
+/// that the memo tells of aren't evaluated again, and those that are add to it.
 pub fn good_rows<T: Theory>(
     alloc: Global,
     problem: &Problem<T>,
@@ -62,8 +64,10 @@ pub fn good_rows<T: Theory>(
     requires leaves { AreLeavesFor T.Theory problem.now points.now (chosen_of T.denotes leaves.now) }
     requires memo { IsMemoFor T.Theory problem.now memo.old }
     ensures many { IfOk result (λ goods. length goods.rows ≡ length leaves.now) }
-    ensures goods { IfOk result (λ goods. goods.leaving ≡ None → AreGoodsFor T.Theory problem.now stored.now points.now (chosen_of T.denotes leaves.now) goods.rows) }
-    ensures leaving { IfOk result (λ goods. IfSome goods.leaving (IsLeavingFor T.Theory problem.now stored.now (chosen_of T.denotes leaves.now))) }
+    ensures goods { IfOk result (λ goods. goods.leaving ≡ None →
+        AreGoodsFor T.Theory problem.now stored.now points.now (chosen_of T.denotes leaves.now) goods.rows) }
+    ensures leaving { IfOk result (λ goods.
+        IfSome goods.leaving (IsLeavingFor T.Theory problem.now stored.now (chosen_of T.denotes leaves.now))) }
     ensures memo { OnOk result (IsMemoFor T.Theory problem.now memo.new) }
 {
     memo.widen(alloc, stored)?;
@@ -98,8 +102,10 @@ fn good_column<T: Theory>(
     requires leaves { AreLeavesFor T.Theory problem.now points.now (chosen_of T.denotes leaves.now) }
     requires distinct { AreDistinct (of_function points.now 0) }
     requires memo { IsMemoFor T.Theory problem.now memo.old }
-    ensures goods { IfOk result (λ column. column.leaving ≡ None → IsColumnFor T.Theory problem.now stored.now points.now (chosen_of T.denotes leaves.now) point column.goods) }
-    ensures leaving { IfOk result (λ column. IfSome column.leaving (IsLeavingFor T.Theory problem.now stored.now (chosen_of T.denotes leaves.now))) }
+    ensures goods { IfOk result (λ column. column.leaving ≡ None →
+        IsColumnFor T.Theory problem.now stored.now points.now (chosen_of T.denotes leaves.now) point column.goods) }
+    ensures leaving { IfOk result (λ column.
+        IfSome column.leaving (IsLeavingFor T.Theory problem.now stored.now (chosen_of T.denotes leaves.now))) }
     ensures memo { OnOk result (IsMemoFor T.Theory problem.now memo.new) }
 {
     let here = rests_on(alloc, rests, point)?;

@@ -1,4 +1,6 @@
 // Whether constraints are true under a leaf.
+// Functions here have more than seven parameters where clauses name the problem, what is stored, the points and the
+// constraints apart, as those of the crates below do: a record of them would be taken apart at each call.
 ghost use Rattle.std.specs.Prelude.{◌≡◌, [], ◌∷◌, All, IfOk, OnOk, map};
 ghost use Rattle.sy_terms.specs.Denoted.{expr_of, vals_of};
 ghost use Rattle.sy_bank_level.specs.Stored.{entry_of};
@@ -42,8 +44,8 @@ pub(crate) fn body_of<T: Theory>(alloc: Global, kept: &Kept<T>) -> Result<Bodies
     Ok(bodies)
 }
 
-/// Whether these constraints are true under the kept term as the one body, each at its stored assignment. What they tell
-/// is added to the memo.
+/// Whether these constraints are true under the kept term as the one body, each at its stored assignment. What they
+/// tell is added to the memo.
 pub(crate) fn judge<T: Theory>(
     alloc: Global,
     problem: &Problem<T>,
@@ -62,7 +64,8 @@ pub(crate) fn judge<T: Theory>(
     requires rests { All (IsRestFor T.Theory problem.now stored.now points.now) rests.now }
     requires row { IsRowFor T.Theory problem.now points.now (entry_of T.denotes kept.now) }
     requires memo { IsMemoFor T.Theory problem.now memo.old }
-    ensures judged { IfOk result (JudgesFor T.Theory problem.now stored.now (map (expr_of T.denotes) bodies.now) rests.now) }
+    ensures judged { IfOk result
+        (JudgesFor T.Theory problem.now stored.now (map (expr_of T.denotes) bodies.now) rests.now) }
     ensures memo { OnOk result (IsMemoFor T.Theory problem.now memo.new) }
 {
     for rest in rests {
@@ -75,8 +78,8 @@ pub(crate) fn judge<T: Theory>(
     Ok(Judged::Good)
 }
 
-/// Whether this constraint is true under the kept term as the one body, at its stored assignment. What it tells is added to
-/// the memo.
+/// Whether this constraint is true under the kept term as the one body, at its stored assignment. What it tells is
+/// added to the memo.
 fn judge_one<T: Theory>(
     alloc: Global,
     problem: &Problem<T>,
@@ -95,7 +98,8 @@ fn judge_one<T: Theory>(
     requires rest { IsRestFor T.Theory problem.now stored.now _points.now rest.now }
     requires row { IsRowFor T.Theory problem.now _points.now (entry_of T.denotes kept.now) }
     requires memo { IsMemoFor T.Theory problem.now memo.old }
-    ensures judged { IfOk result (JudgesFor T.Theory problem.now stored.now (map (expr_of T.denotes) bodies.now) (rest.now ∷ [])) }
+    ensures judged { IfOk result
+        (JudgesFor T.Theory problem.now stored.now (map (expr_of T.denotes) bodies.now) (rest.now ∷ [])) }
     ensures memo { OnOk result (IsMemoFor T.Theory problem.now memo.new) }
 {
     let Some(constraint) = problem.constraints.get(rest.constraint) else {
@@ -126,7 +130,8 @@ fn tell<T: Theory>(
     requires bodies { FitAsBodies T.Theory problem.now bodies.now }
     requires values { AreValues problem.now.vars (vals_of T.denotes values.now) }
     requires constraint { IsTruth T.owned T.denotes problem.now constraint.now }
-    ensures { IfOk result (TellsTruth (question_of T.denotes problem.now) (map (expr_of T.denotes) bodies.now) (vals_of T.denotes values.now) (expr_of T.denotes constraint.now)) }
+    ensures { IfOk result (TellsTruth (question_of T.denotes problem.now)
+        (map (expr_of T.denotes) bodies.now) (vals_of T.denotes values.now) (expr_of T.denotes constraint.now)) }
 {
     let mut calls = Trace::new(alloc);
     match evaluate_with(alloc, &problem.defs, bodies, values, constraint, &mut calls) {

@@ -1,4 +1,6 @@
 // What is known of a leaf at a point.
+// Functions here have more than seven parameters where clauses name the problem, what is stored, the points and the
+// constraints apart, as those of the crates below do: a record of them would be taken apart at each call.
 ghost use Rattle.std.specs.Prelude.{◌<◌, length, All, IfOk, IfSome, OnOk};
 ghost use Rattle.sy_bank_level.specs.Stored.{chosen_of};
 ghost use Rattle.sy_grammar_base.specs.Fits.{ProblemFits};
@@ -41,7 +43,8 @@ pub(crate) fn judge_leaf<T: Theory>(
     requires leaves { AreLeavesFor T.Theory problem.now points.now (chosen_of T.denotes leaves.now) }
     requires leaf { leaf < length leaves.now }
     requires memo { IsMemoFor T.Theory problem.now memo.old }
-    ensures judged { IfOk result (JudgesLeafFor T.Theory problem.now stored.now (chosen_of T.denotes leaves.now) leaf point here.now goods.now) }
+    ensures judged { IfOk result
+        (JudgesLeafFor T.Theory problem.now stored.now (chosen_of T.denotes leaves.now) leaf point here.now goods.now) }
     ensures memo { OnOk result (IsMemoFor T.Theory problem.now memo.new) }
 {
     if let Some(good) = copied::<T>(leaves, leaf, point, goods, firsts) {

@@ -11,8 +11,8 @@ use sy_terms::{Theory, Value, Want, copied_values};
 /// How many truths a memo may have.
 const MOST: usize = 1 << 19;
 
-/// What constraints told at stored assignments: whether they are true, by the value of the function to be found at the tuple
-/// on which each rests. It may forget, and what it says was told to it.
+/// What constraints told at stored assignments: whether they are true, by the value of the function to be found at the
+/// tuple on which each rests. It may forget, and what it says was told to it.
 #[derive(Drop)]
 pub struct Memo<T: Theory> {
     /// A page for each constraint at each assignment, one assignment after the other.
@@ -38,10 +38,11 @@ impl<T: Theory> Memo<T> {
         }
     }
 
-    /// Opens pages for the stored assignments that have none. `Want` comes where memory runs out, and nowhere else; nothing is
-    /// promised of the memo then.
+    /// Opens pages for the stored assignments that have none. `Want` comes where memory runs out, and nowhere else;
+    /// nothing is promised of the memo then.
     pub fn widen(&mut self, alloc: Global, stored: &Stored<T>) -> Result<(), Want>
-        ensures { OnOk result ((telling : Telling) → HasTelling T.denotes self.new telling → HasTelling T.denotes self.old telling) }
+        ensures { OnOk result ((telling : Telling) → HasTelling T.denotes self.new telling →
+            HasTelling T.denotes self.old telling) }
     {
         for place in self.places..stored.len() {
             let Some((assignment, _)) = stored.get(place) else {
@@ -53,8 +54,8 @@ impl<T: Theory> Memo<T> {
         Ok(())
     }
 
-    /// Whether the constraint of this number was true at the stored assignment of this place, where the function has this
-    /// value; `None` where that isn't found.
+    /// Whether the constraint of this number was true at the stored assignment of this place, where the function has
+    /// this value; `None` where that isn't found.
     pub fn truth(
         &self,
         constraint: usize,
@@ -62,15 +63,20 @@ impl<T: Theory> Memo<T> {
         assignment: &[Value<T::Num>],
         value: &Value<T::Num>,
     ) -> Option<bool>
-        ensures { IfSome result (λ truth. HasTelling T.denotes self.now (record { constraint = constraint; values = vals_of T.denotes assignment.now; value = val_of T.denotes value.now; truth = truth })) }
+        ensures { IfSome result (λ truth. HasTelling T.denotes self.now (record {
+          constraint = constraint;
+          values = vals_of T.denotes assignment.now;
+          value = val_of T.denotes value.now;
+          truth = truth;
+        })) }
     {
         let page = self.pages.get(self.page_of(constraint, place))?;
         page.truth(constraint, assignment, value)
     }
 
-    /// Adds whether the constraint of this number is true at the stored assignment of this place, where the function has
-    /// this value, unless there is no room or no page. `Want` comes where memory runs out, and nowhere else; nothing is
-    /// promised of the memo then.
+    /// Adds whether the constraint of this number is true at the stored assignment of this place, where the function
+    /// has this value, unless there is no room or no page. `Want` comes where memory runs out, and nowhere else;
+    /// nothing is promised of the memo then.
     pub fn add(
         &mut self,
         constraint: usize,
@@ -79,7 +85,13 @@ impl<T: Theory> Memo<T> {
         value: Value<T::Num>,
         truth: bool,
     ) -> Result<(), Want>
-        ensures { OnOk result ((telling : Telling) → HasTelling T.denotes self.new telling → HasTelling T.denotes self.old telling ⊎ (telling ≡ record { constraint = constraint; values = vals_of T.denotes assignment.now; value = val_of T.denotes value; truth = truth })) }
+        ensures { OnOk result ((telling : Telling) → HasTelling T.denotes self.new telling →
+            HasTelling T.denotes self.old telling ⊎ (telling ≡ record {
+              constraint = constraint;
+              values = vals_of T.denotes assignment.now;
+              value = val_of T.denotes value;
+              truth = truth;
+            })) }
     {
         let page = self.page_of(constraint, place);
         if self.room == 0 || page >= self.pages.len() {
@@ -92,7 +104,8 @@ impl<T: Theory> Memo<T> {
 
     /// Opens a page for each constraint at one assignment more.
     fn open(&mut self, alloc: Global, assignment: &[Value<T::Num>]) -> Result<(), Want>
-        ensures { OnOk result ((telling : Telling) → HasTelling T.denotes self.new telling → HasTelling T.denotes self.old telling) }
+        ensures { OnOk result ((telling : Telling) → HasTelling T.denotes self.new telling →
+            HasTelling T.denotes self.old telling) }
     {
         for constraint in 0..self.constraints {
             let assignment = copied_values::<T>(alloc, assignment)?;

@@ -37,7 +37,12 @@ impl<T: Theory> Page<T> {
         assignment: &[Value<T::Num>],
         value: &Value<T::Num>,
     ) -> Option<bool>
-        ensures { IfSome result (λ truth. Contains (tellings_of T.denotes self.now) (record { constraint = constraint; values = vals_of T.denotes assignment.now; value = val_of T.denotes value.now; truth = truth })) }
+        ensures { IfSome result (λ truth. Contains (tellings_of T.denotes self.now) (record {
+          constraint = constraint;
+          values = vals_of T.denotes assignment.now;
+          value = val_of T.denotes value.now;
+          truth = truth;
+        })) }
     {
         if !self.is_of(constraint, assignment) {
             return None;
@@ -59,7 +64,13 @@ impl<T: Theory> Page<T> {
         value: Value<T::Num>,
         truth: bool,
     ) -> Result<(), Want>
-        ensures { OnOk result (GainsTelling (tellings_of T.denotes self.old) (record { constraint = constraint; values = vals_of T.denotes assignment.now; value = val_of T.denotes value; truth = truth }) (tellings_of T.denotes self.new)) }
+        ensures { OnOk result (GainsTelling (tellings_of T.denotes self.old)
+            (record {
+              constraint = constraint;
+              values = vals_of T.denotes assignment.now;
+              value = val_of T.denotes value;
+              truth = truth;
+            }) (tellings_of T.denotes self.new)) }
     {
         if !self.is_of(constraint, assignment) {
             return Ok(());
@@ -71,7 +82,8 @@ impl<T: Theory> Page<T> {
 
     /// Whether it is the page of the constraint of this number at the assignment.
     fn is_of(&self, constraint: usize, assignment: &[Value<T::Num>]) -> bool
-        ensures { IsTrue result → (self.now.constraint ≡ constraint) × (vals_of T.denotes self.now.assignment ≡ vals_of T.denotes assignment.now) }
+        ensures { IsTrue result → (self.now.constraint ≡ constraint) ×
+            (vals_of T.denotes self.now.assignment ≡ vals_of T.denotes assignment.now) }
     {
         self.constraint == constraint && same_values::<T>(self.assignment.as_slice(), assignment)
     }

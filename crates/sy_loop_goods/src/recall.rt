@@ -14,8 +14,8 @@ use sy_loop_truth::Rest;
 use sy_points::{Points, Stored};
 use sy_terms::{Theory, Value};
 
-/// Whether all of these constraints are true under the kept term, each at its stored assignment; `None` where one comes first
-/// of which the memo says nothing.
+/// Whether all of these constraints are true under the kept term, each at its stored assignment; `None` where one comes
+/// first of which the memo says nothing.
 pub(crate) fn recall<T: Theory>(
     problem: &Problem<T>,
     stored: &Stored<T>,
@@ -27,7 +27,8 @@ pub(crate) fn recall<T: Theory>(
     requires rests { All (IsRestFor T.Theory problem.now stored.now points.now) rests.now }
     requires row { IsRowFor T.Theory problem.now points.now (entry_of T.denotes kept.now) }
     requires memo { IsMemoFor T.Theory problem.now memo.now }
-    ensures { IfSome result (λ good. JudgesFor T.Theory problem.now stored.now ((entry_of T.denotes kept.now).term ∷ []) rests.now (spec.judged_by good)) }
+    ensures { IfSome result (λ good. JudgesFor T.Theory problem.now stored.now ((entry_of T.denotes kept.now).term ∷
+        []) rests.now (spec.judged_by good)) }
 {
     for rest in rests {
         if !recall_one(problem, stored, points, rest, kept, memo)? {
@@ -37,7 +38,8 @@ pub(crate) fn recall<T: Theory>(
     Some(true)
 }
 
-/// Whether this constraint is true under the kept term, at its stored assignment; `None` where the memo says nothing of it.
+/// Whether this constraint is true under the kept term, at its stored assignment; `None` where the memo says nothing of
+/// it.
 fn recall_one<T: Theory>(
     _problem: &Problem<T>,
     stored: &Stored<T>,
@@ -49,7 +51,8 @@ fn recall_one<T: Theory>(
     requires rest { IsRestFor T.Theory _problem.now stored.now _points.now rest.now }
     requires row { IsRowFor T.Theory _problem.now _points.now (entry_of T.denotes kept.now) }
     requires memo { IsMemoFor T.Theory _problem.now memo.now }
-    ensures { IfSome result (λ truth. JudgesFor T.Theory _problem.now stored.now ((entry_of T.denotes kept.now).term ∷ []) (rest.now ∷ []) (spec.judged_by truth)) }
+    ensures { IfSome result (λ truth. JudgesFor T.Theory _problem.now stored.now ((entry_of T.denotes kept.now).term ∷
+        []) (rest.now ∷ []) (spec.judged_by truth)) }
 {
     let (assignment, _) = stored.get(rest.place)?;
     let value = value_at::<T>(kept, rest.point)?;
@@ -58,7 +61,8 @@ fn recall_one<T: Theory>(
 
 /// The kept term's value at the point.
 pub(crate) fn value_at<T: Theory>(kept: &Kept<T>, point: usize) -> Option<Value<T::Num>>
-    ensures { IfSome result (λ value. slice_get (entry_of T.denotes kept.now).row point ≡ Some (val_of T.denotes value)) }
+    ensures { IfSome result (λ value. slice_get (entry_of T.denotes kept.now).row point ≡
+        Some (val_of T.denotes value)) }
 {
     let value = kept.row.get(point)?;
     Some(*value)

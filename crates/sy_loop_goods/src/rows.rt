@@ -12,7 +12,8 @@ pub(crate) fn transposed(
     count: usize,
 ) -> Result<Seq<Seq<bool>>, Want>
     ensures many { IfOk result (λ rows. length rows ≡ count) }
-    ensures rows { IfOk result (λ rows. (place : ℕ) → place < count → slice_index_or rows place [] ≡ row_from columns.now place) }
+    ensures rows { IfOk result (λ rows. (place : ℕ) → place < count →
+        slice_index_or rows place [] ≡ row_from columns.now place) }
 {
     let mut rows = Seq::new(alloc);
     for place in 0..count {

@@ -82,8 +82,8 @@ impl Learner {
         self.literals.len()
     }
 
-    /// One point more, with the truth of each literal there. A literal whose truth is lacking isn't used any more. Beyond
-    /// 1,024 points the call does nothing.
+    /// One point more, with the truth of each literal there. A literal whose truth is lacking isn't used any more.
+    /// Beyond 1,024 points the call does nothing.
     pub fn add_point(&mut self, truths: &[bool]) {
         if self.points >= POINTS {
             return;
@@ -264,8 +264,8 @@ impl Learner {
         self.class
     }
 
-    /// Says that a formula failed, and at which points its clauses should have held: literals of those that don't become
-    /// dearer.
+    /// Says that a formula failed, and at which points its clauses should have held: literals of those that don't
+    /// become dearer.
     pub fn refuted(&mut self, formula: &[Vec<usize>], points: &[usize]) {
         for clause in formula {
             if self.fails(clause.as_slice(), points) {

@@ -1,14 +1,14 @@
 mod Asked
 mod Calls
 mod Constraints
-pub mod Distinct
 mod Kept
 mod Keys
-pub mod Lists
-pub mod Numbered
 mod Placing
-mod Rests
-pub mod RestsAsked
-pub mod Shaped
+mod RestsLaws
 mod Tables
 mod Values
+pub mod Distinct
+pub mod Lists
+pub mod Numbered
+pub mod RestsAsked
+pub mod Shaped

@@ -27,7 +27,8 @@ pub(crate) enum Asks {
 pub(crate) fn arguments_of<T: Theory>(shapes: &[Shape<T>], number: usize) -> Option<&Seq<u32>>
     requires subterms { AreSubterms (shapes_of T.denotes shapes.now) }
     ensures { MatchOption result
-        ((function : Fun) (arguments : Exprs) → term_of (subterms (shapes_of T.denotes shapes.now)) number ≡ Invoke function arguments → ⊥)
+        ((function : Fun) (arguments : Exprs) →
+        term_of (subterms (shapes_of T.denotes shapes.now)) number ≡ Invoke function arguments → ⊥)
         (λ numbers. AreArguments (shapes_of T.denotes shapes.now) number numbers.now) }
 {
     match shapes.get(number)? {
@@ -39,8 +40,10 @@ pub(crate) fn arguments_of<T: Theory>(shapes: &[Shape<T>], number: usize) -> Opt
 /// Whether the calls of these numbers have the same arguments.
 fn same_arguments<T: Theory>(shapes: &[Shape<T>], first: usize, second: usize) -> bool
     requires subterms { AreSubterms (shapes_of T.denotes shapes.now) }
-    ensures { (one other : Fun) (ones others : Exprs) → term_of (subterms (shapes_of T.denotes shapes.now)) first ≡ Invoke one ones →
-        term_of (subterms (shapes_of T.denotes shapes.now)) second ≡ Invoke other others → (IsTrue result ↔ ones ≡ others) }
+    ensures { (one other : Fun) (ones others : Exprs) →
+        term_of (subterms (shapes_of T.denotes shapes.now)) first ≡ Invoke one ones →
+        term_of (subterms (shapes_of T.denotes shapes.now)) second ≡ Invoke other others →
+        (IsTrue result ↔ ones ≡ others) }
 {
     match (arguments_of(shapes, first), arguments_of(shapes, second)) {
         (Some(ones), Some(others)) => same_numbers(ones, others),
@@ -51,8 +54,10 @@ fn same_arguments<T: Theory>(shapes: &[Shape<T>], first: usize, second: usize) -
 /// What stands within the subterms of two lists.
 fn joined<T: Theory>(shapes: &[Shape<T>], first: Asks, second: Asks) -> Asks
     requires subterms { AreSubterms (shapes_of T.denotes shapes.now) }
-    ensures { (ones others : List (ℕ × Exprs)) → AreApplications (subterms (shapes_of T.denotes shapes.now)) ones first →
-        AreApplications (subterms (shapes_of T.denotes shapes.now)) others second → AreApplications (subterms (shapes_of T.denotes shapes.now)) (ones ++ others) result }
+    ensures { (ones others : List (ℕ × Exprs)) →
+        AreApplications (subterms (shapes_of T.denotes shapes.now)) ones first →
+        AreApplications (subterms (shapes_of T.denotes shapes.now)) others second →
+        AreApplications (subterms (shapes_of T.denotes shapes.now)) (ones ++ others) result }
 {
     match (first, second) {
         (Asks::Nothing, _) => second,
@@ -73,7 +78,8 @@ fn asked_by<T: Theory>(shapes: &[Shape<T>], asks: &[Asks], numbers: &[u32]) -> A
     requires subterms { AreSubterms (shapes_of T.denotes shapes.now) }
     requires known { AreKnown (subterms (shapes_of T.denotes shapes.now)) asks.now }
     requires below { AreBelow (length asks.now) numbers.now }
-    ensures { AreApplications (subterms (shapes_of T.denotes shapes.now)) (all_applications (terms_of (subterms (shapes_of T.denotes shapes.now)) numbers.now)) result }
+    ensures { AreApplications (subterms (shapes_of T.denotes shapes.now))
+        (all_applications (terms_of (subterms (shapes_of T.denotes shapes.now)) numbers.now)) result }
 {
     let mut all = Asks::Nothing;
     for number in numbers {
@@ -87,8 +93,10 @@ fn asks_of<T: Theory>(shapes: &[Shape<T>], asks: &[Asks], shape: &Shape<T>) -> A
     requires subterms { AreSubterms (shapes_of T.denotes shapes.now) }
     requires known { AreKnown (subterms (shapes_of T.denotes shapes.now)) asks.now }
     requires below { AreBelow (length asks.now) (numbers_of (shape_of T.denotes shape.now)) }
-    requires next { term_of (subterms (shapes_of T.denotes shapes.now)) (length asks.now) ≡ shaped (subterms (shapes_of T.denotes shapes.now)) (shape_of T.denotes shape.now) }
-    ensures { AreApplications (subterms (shapes_of T.denotes shapes.now)) (applications (term_of (subterms (shapes_of T.denotes shapes.now)) (length asks.now))) result }
+    requires next { term_of (subterms (shapes_of T.denotes shapes.now)) (length asks.now) ≡
+        shaped (subterms (shapes_of T.denotes shapes.now)) (shape_of T.denotes shape.now) }
+    ensures { AreApplications (subterms (shapes_of T.denotes shapes.now))
+        (applications (term_of (subterms (shapes_of T.denotes shapes.now)) (length asks.now))) result }
 {
     match shape {
         Shape::Const(_) => Asks::Nothing,
@@ -106,8 +114,11 @@ fn asks_of<T: Theory>(shapes: &[Shape<T>], asks: &[Asks], shape: &Shape<T>) -> A
 
 /// What stands within an application of this number, where this stands within its arguments.
 fn applied<T: Theory>(shapes: &[Shape<T>], within: Asks, number: usize) -> Asks
-    ensures { (function : ℕ) (arguments : Exprs) → term_of (subterms (shapes_of T.denotes shapes.now)) number ≡ Invoke (Wanted function) arguments →
-        AreApplications (subterms (shapes_of T.denotes shapes.now)) (all_applications arguments) within → AreApplications (subterms (shapes_of T.denotes shapes.now)) (applications (Invoke (Wanted function) arguments)) result }
+    ensures { (function : ℕ) (arguments : Exprs) →
+        term_of (subterms (shapes_of T.denotes shapes.now)) number ≡ Invoke (Wanted function) arguments →
+        AreApplications (subterms (shapes_of T.denotes shapes.now)) (all_applications arguments) within →
+        AreApplications (subterms (shapes_of T.denotes shapes.now))
+        (applications (Invoke (Wanted function) arguments)) result }
 {
     match within {
         Asks::Nothing => Asks::Calls(number),

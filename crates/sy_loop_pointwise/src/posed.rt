@@ -30,7 +30,8 @@ fn pose_one<T: Theory>(
     constraint: &Term<T>,
 ) -> Result<Option<Posed<T>>, Want>
     ensures { IfOk result (λ found. MatchOption found
-        ((arguments : Exprs) → IsPosed (written_out (question_of T.denotes problem.now) (expr_of T.denotes constraint.now)) arguments → ⊥)
+        ((arguments : Exprs) →
+        IsPosed (written_out (question_of T.denotes problem.now) (expr_of T.denotes constraint.now)) arguments → ⊥)
         (PosesConstraint (question_of T.denotes problem.now) (expr_of T.denotes constraint.now))) }
 {
     let (table, number) = written(alloc, problem.vars.len(), constraint)?;
@@ -47,7 +48,8 @@ fn pose_one<T: Theory>(
 pub fn pose<T: Theory>(alloc: Global, problem: &Problem<T>) -> Result<Option<Vec<Posed<T>>>, Want>
     ensures { IfOk result (λ found. MatchOption found
         (IsPointwise (question_of T.denotes problem.now) → ⊥)
-        (λ all. IsPointwise (question_of T.denotes problem.now) × ArePosed (question_of T.denotes problem.now) all.items)) }
+        (λ all. IsPointwise (question_of T.denotes problem.now) ×
+        ArePosed (question_of T.denotes problem.now) all.items)) }
 {
     if problem.wanted.len() != 1 {
         return Ok(None);
@@ -62,7 +64,8 @@ pub fn pose<T: Theory>(alloc: Global, problem: &Problem<T>) -> Result<Option<Vec
     Ok(Some(all))
 }
 
-/// Whether the problem is pointwise.
+/// Whether the problem is pointwise. `Want` comes also where 32 bits don't count its variables and the subterms of one
+/// of its constraints.
 pub fn pointwise<T: Theory>(alloc: Global, problem: &Problem<T>) -> Result<bool, Want>
     ensures { IfOk result (λ answer. IsTrue answer ↔ IsPointwise (question_of T.denotes problem.now)) }
 {

@@ -37,7 +37,8 @@ pub fn rest_of<T: Theory>(
     requires problem { ProblemFits T.Theory problem.now }
     requires pointwise { IsPointwise (question_of T.denotes problem.now) }
     requires values { AreValues problem.now.vars (vals_of T.denotes values.now) }
-    ensures { IfOk result (λ rested. (constraint : Expr) → Contains (question_of T.denotes problem.now).constraints constraint → PosesConstraint (question_of T.denotes problem.now) constraint posed.now →
+    ensures { IfOk result (λ rested. (constraint : Expr) → Contains (question_of T.denotes problem.now).constraints
+        constraint → PosesConstraint (question_of T.denotes problem.now) constraint posed.now →
         Rests T.denotes (question_of T.denotes problem.now) (vals_of T.denotes values.now) constraint rested) }
 {
     match posed {

@@ -1,4 +1,6 @@
 // Where constraints rest at stored assignments.
+// Functions here have more than seven parameters where clauses name the problem, what is stored, the points and the
+// constraints apart, as those of the crates below do: a record of them would be taken apart at each call.
 ghost use Rattle.std.specs.Prelude.{◌+◌, ◌≡◌, ◌<◌, length, Contains, IfOk, OnOk, Some, slice_get};
 ghost use Rattle.sy_terms.specs.Denoted.{vals_of};
 ghost use Rattle.sy_grammar_base.specs.Fits.{ProblemFits};
@@ -98,7 +100,8 @@ fn rest_at<T: Theory>(
     requires held { IsHeldFor T.Theory problem.now limits.now stored.now points.old }
     ensures held { OnOk result (IsHeldFor T.Theory problem.now limits.now stored.now points.new) }
     ensures widens { OnOk result (WidensByRestsFor T.Theory problem.now stored.now points.old points.new) }
-    ensures answer { IfOk result (PlacesFor T.Theory problem.now stored.now place place 0 (place + 1) 0 points.old rests.old.items points.new rests.new.items) }
+    ensures answer { IfOk result (PlacesFor T.Theory problem.now stored.now place place 0
+        (place + 1) 0 points.old rests.old.items points.new rests.new.items) }
 {
     let mut new = false;
     for number in 0..posed.len() {
@@ -138,7 +141,8 @@ fn rest_one<T: Theory>(
     requires held { IsHeldFor T.Theory problem.now limits.now stored.now points.old }
     ensures held { OnOk result (IsHeldFor T.Theory problem.now limits.now stored.now points.new) }
     ensures widens { OnOk result (WidensByRestsFor T.Theory problem.now stored.now points.old points.new) }
-    ensures answer { IfOk result (PlacesFor T.Theory problem.now stored.now place place number place (number + 1) points.old rests.old.items points.new rests.new.items) }
+    ensures answer { IfOk result (PlacesFor T.Theory problem.now stored.now place place number place
+        (number + 1) points.old rests.old.items points.new rests.new.items) }
 {
     let Some((assignment, _)) = stored.get(place) else {
         unreachable!();

@@ -21,7 +21,8 @@ fn is_at<T: Theory>(shapes: &[Shape<T>], number: u32, shape: &Shape<T>) -> bool
 /// The number of the shape among these; `None` exactly where it is at none of them.
 fn place_of<T: Theory>(shapes: &[Shape<T>], numbers: &[u32], shape: &Shape<T>) -> Option<u32>
     ensures { MatchOption result
-        ((number : ℕ) → Contains numbers.now number → slice_get (shapes_of T.denotes shapes.now) number ≡ Some (shape_of T.denotes shape.now) → ⊥)
+        ((number : ℕ) → Contains numbers.now number →
+        slice_get (shapes_of T.denotes shapes.now) number ≡ Some (shape_of T.denotes shape.now) → ⊥)
         (λ number. slice_get (shapes_of T.denotes shapes.now) number ≡ Some (shape_of T.denotes shape.now)) }
 {
     for number in numbers {
@@ -93,8 +94,8 @@ impl<T: Theory> Table<T> {
         place_of(self.shapes.as_slice(), places, shape)
     }
 
-    /// The number of the shape, which is added where it isn't there yet. `Want` comes where memory runs out, and where 32
-    /// bits don't count it; nothing is promised of the table then.
+    /// The number of the shape, which is added where it isn't there yet. `Want` comes where memory runs out, and where
+    /// 32 bits don't count it; nothing is promised of the table then.
     pub fn number(&mut self, alloc: Global, shape: Shape<T>) -> Result<u32, Want>
         requires below { AreBelow (length self.old) (numbers_of (shape_of T.denotes shape)) }
         ensures at { IfOk result (λ number. slice_get self.new number ≡ Some (shape_of T.denotes shape)) }

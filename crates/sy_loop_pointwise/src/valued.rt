@@ -29,7 +29,8 @@ pub(crate) fn first_valued<T: Theory>(
     requires subterms { AreSubterms (shapes_of T.denotes shapes.now) }
     requires count { count ≤ length shapes.now }
     ensures many { IfOk result (λ found. length found.items ≡ count) }
-    ensures are { IfOk result (λ found. EachIsValued T.denotes (scope_of T.owned defs.now) (functions (bodies T.denotes defs.now)) (vals_of T.denotes values.now) (subterms (shapes_of T.denotes shapes.now)) found.items) }
+    ensures are { IfOk result (λ found. EachIsValued T.denotes (scope_of T.owned defs.now) (functions (bodies T.denotes
+        defs.now)) (vals_of T.denotes values.now) (subterms (shapes_of T.denotes shapes.now)) found.items) }
 {
     let mut found = Vec::with_capacity(alloc, count)?;
     for shape in &shapes[..count] {
@@ -49,9 +50,11 @@ fn shape_value<T: Theory>(
 ) -> Result<Option<Value<T::Num>>, Want>
     requires definitions { DefinitionsFit T.owned T.denotes defs.now }
     requires values { AreValid T.denotes values.now }
-    ensures { IfOk result (λ value. (terms : List Expr) → EachIsValued T.denotes (scope_of T.owned defs.now) (functions (bodies T.denotes defs.now)) (vals_of T.denotes values.now) terms found.now →
+    ensures { IfOk result (λ value. (terms : List Expr) → EachIsValued T.denotes (scope_of T.owned defs.now)
+        (functions (bodies T.denotes defs.now)) (vals_of T.denotes values.now) terms found.now →
         AreBelow (length found.now) (numbers_of (shape_of T.denotes shape.now)) →
-        IsValued T.denotes (scope_of T.owned defs.now) (functions (bodies T.denotes defs.now)) (vals_of T.denotes values.now) (shaped terms (shape_of T.denotes shape.now)) value) }
+        IsValued T.denotes (scope_of T.owned defs.now) (functions (bodies T.denotes defs.now))
+        (vals_of T.denotes values.now) (shaped terms (shape_of T.denotes shape.now)) value) }
 {
     match shape {
         Shape::Const(value) => {
@@ -81,7 +84,8 @@ fn shape_value<T: Theory>(
 /// The value of the variable at the position.
 fn variable_value<T: Theory>(values: &[Value<T::Num>], position: u32) -> Option<Value<T::Num>>
     requires { AreValid T.denotes values.now }
-    ensures { (scope : Scope) (defined : List Function) → IsValued T.denotes scope defined (vals_of T.denotes values.now) (Variable position) result }
+    ensures { (scope : Scope) (defined : List Function) →
+        IsValued T.denotes scope defined (vals_of T.denotes values.now) (Variable position) result }
 {
     let value = values.get(position as usize)?;
     Some(*value)
@@ -94,7 +98,8 @@ fn closed_value<T: Theory>(
     term: Term<T>,
 ) -> Result<Option<Value<T::Num>>, Want>
     requires definitions { DefinitionsFit T.owned T.denotes defs.now }
-    ensures { IfOk result (IsValued T.denotes (scope_of T.owned defs.now) (functions (bodies T.denotes defs.now)) [] (expr_of T.denotes term)) }
+    ensures { IfOk result (IsValued T.denotes (scope_of T.owned defs.now)
+        (functions (bodies T.denotes defs.now)) [] (expr_of T.denotes term)) }
 {
     let value = plain_value(alloc, defs, &term);
     drop(term);
@@ -108,7 +113,8 @@ fn plain_value<T: Theory>(
     term: &Term<T>,
 ) -> Result<Option<Value<T::Num>>, Want>
     requires definitions { DefinitionsFit T.owned T.denotes defs.now }
-    ensures { IfOk result (IsValued T.denotes (scope_of T.owned defs.now) (functions (bodies T.denotes defs.now)) [] (expr_of T.denotes term.now)) }
+    ensures { IfOk result (IsValued T.denotes (scope_of T.owned defs.now)
+        (functions (bodies T.denotes defs.now)) [] (expr_of T.denotes term.now)) }
 {
     let nothing = Vec::new(alloc);
     if term_sort(alloc, defs.as_slice(), &[], &[], term)?.is_none() {
@@ -123,7 +129,8 @@ fn plain_value<T: Theory>(
 
 /// The value of the subterm of this number, where each has these.
 fn value_at<T: Theory>(found: &[Option<Value<T::Num>>], number: u32) -> Option<Value<T::Num>>
-    ensures { (scope : Scope) (defined : List Function) (values : List Val) (terms : List Expr) → EachIsValued T.denotes scope defined values terms found.now → number < length found.now →
+    ensures { (scope : Scope) (defined : List Function) (values : List Val) (terms : List Expr) →
+        EachIsValued T.denotes scope defined values terms found.now → number < length found.now →
         IsValued T.denotes scope defined values (term_of terms number) result }
 {
     *found.get(number as usize)?
@@ -135,7 +142,8 @@ pub(crate) fn values_at<T: Theory>(
     found: &[Option<Value<T::Num>>],
     numbers: &[u32],
 ) -> Result<Option<Values<T>>, Want>
-    ensures { IfOk result (λ all. (scope : Scope) (defined : List Function) (values : List Val) (terms : List Expr) → EachIsValued T.denotes scope defined values terms found.now → AreBelow (length found.now) numbers.now →
+    ensures { IfOk result (λ all. (scope : Scope) (defined : List Function) (values : List Val) (terms : List Expr) →
+        EachIsValued T.denotes scope defined values terms found.now → AreBelow (length found.now) numbers.now →
         AreValued T.denotes scope defined values (terms_of terms numbers.now) all) }
 {
     let mut values = Vec::with_capacity(alloc, numbers.len())?;
@@ -150,7 +158,8 @@ pub(crate) fn values_at<T: Theory>(
 
 /// The values as terms.
 fn constants<T: Theory>(alloc: Global, values: &[Value<T::Num>]) -> Result<Terms<T>, Want>
-    ensures { IfOk result (λ terms. AreConstants (exprs_of T.denotes terms.items.items) (vals_of T.denotes values.now)) }
+    ensures { IfOk result (λ terms.
+        AreConstants (exprs_of T.denotes terms.items.items) (vals_of T.denotes values.now)) }
 {
     let mut terms = Terms::with_capacity(alloc, values.len())?;
     for value in values {

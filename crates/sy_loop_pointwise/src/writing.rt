@@ -11,8 +11,8 @@ use crate::table::Table;
 use std::alloc::{AllocError, Global};
 use sy_terms::{Seq, Term, Terms, Theory, Value, Want};
 
-/// The subterms of the term with its bindings written out, over so many variables, and the term's own number. `Want` comes
-/// where memory runs out, and where 32 bits don't count the variables and other subterms.
+/// The subterms of the term with its bindings written out, over so many variables, and the term's own number. `Want`
+/// comes where memory runs out, and where 32 bits don't count the variables and other subterms.
 pub fn written<T: Theory>(
     alloc: Global,
     variables: usize,
@@ -35,7 +35,8 @@ pub fn written<T: Theory>(
     Ok((table, number))
 }
 
-/// The number of the term with its bindings written out, where the subterms of these numbers stand for the names in force.
+/// The number of the term with its bindings written out, where the subterms of these numbers stand for the names in
+/// force.
 #[cycle(writing)]
 fn number_of<T: Theory>(
     alloc: Global,
@@ -83,7 +84,8 @@ fn numbers_of<T: Theory>(
     terms: &Terms<T>,
 ) -> Result<Seq<u32>, Want>
     requires names { AreBelow (length table.old) names.now }
-    ensures { IfOk result (λ numbers. AreNumbered table.old table.new names.now (exprs_of T.denotes terms.now.items.items) numbers) }
+    ensures { IfOk result (λ numbers.
+        AreNumbered table.old table.new names.now (exprs_of T.denotes terms.now.items.items) numbers) }
 {
     let mut numbers = Seq::new(alloc);
     for term in terms.as_slice() {

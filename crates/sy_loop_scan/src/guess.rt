@@ -34,8 +34,8 @@ pub struct Guess {
 }
 
 #[tactic(auto, unfolding(crate::specs::Guesses::total_size, crate::specs::Guesses::added, crate::specs::Guesses::size_in))]
-/// The sum of the sizes of the kept terms at these places of the operands' pools. `None` where there are more of the one
-/// list than of the other, where a place lies outside, or where the sum needs more than 32 bits.
+/// The sum of the sizes of the kept terms at these places of the operands' pools. `None` where there are more of the
+/// one list than of the other, where a place lies outside, or where the sum needs more than 32 bits.
 fn size_of(pools: &[Pool], operands: &[u32], parts: &[usize]) -> Option<u32>
     ensures { IfSome result (λ size. total_size pools.now operands.now parts.now ≡ Some size) }
 {

@@ -43,7 +43,8 @@ impl Progress {
         })
     }
 
-    /// One point more. The first part before is gone through again, since of second parts that were alike one was named.
+    /// One point more. The first part before is gone through again, since of second parts that were alike one was
+    /// named.
     pub(crate) fn add_point(&mut self, wanted: i128, columns: &[Vec<i128>]) -> Result<(), Want> {
         let point = Point::new(self.alloc, wanted, columns)?;
         insert(&mut self.points, point)?;

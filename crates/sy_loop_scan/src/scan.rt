@@ -38,9 +38,9 @@ impl Scan {
         })
     }
 
-    /// One point more: the value that is wanted there, and for each pool the values of its kept terms. A vector is the number
-    /// of its bits, a truth value 0 or 1. Where a value isn't given, no combination of the kept term is named. `Want`
-    /// comes where memory runs out, and nowhere else.
+    /// One point more: the value that is wanted there, and for each pool the values of its kept terms. A vector is the
+    /// number of its bits, a truth value 0 or 1. Where a value isn't given, no combination of the kept term is named.
+    /// `Want` comes where memory runs out, and nowhere else.
     pub fn add_point(&mut self, wanted: i128, columns: Vec<Vec<i128>>) -> Result<(), Want>
         ensures shapes { self.new.shapes ≡ self.old.shapes }
         ensures pools { self.new.pools ≡ self.old.pools }
@@ -49,13 +49,14 @@ impl Scan {
         self.progress.add_point(wanted, columns.as_slice())
     }
 
-    /// The next combination that has the wanted values; `None` where nothing is wanted, all are passed, or the stated work
-    /// is done. `Want` comes where memory runs out, and nowhere else.
+    /// The next combination that has the wanted values; `None` where nothing is wanted, all are passed, or the stated
+    /// work is done. `Want` comes where memory runs out, and nowhere else.
     pub fn next_guess(&mut self) -> Result<Option<Guess>, Want>
         ensures shapes { self.new.shapes ≡ self.old.shapes }
         ensures pools { self.new.pools ≡ self.old.pools }
         ensures bound { self.new.bound ≡ self.old.bound }
-        ensures guess { IfOk result (λ found. IfSome found (IsGuess self.old.shapes.items self.old.pools.items self.old.bound)) }
+        ensures guess { IfOk result (λ found.
+            IfSome found (IsGuess self.old.shapes.items self.old.pools.items self.old.bound)) }
     {
         let shapes = self.shapes.as_slice();
         let pools = self.pools.as_slice();

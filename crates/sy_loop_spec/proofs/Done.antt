@@ -6,7 +6,7 @@ use Rattle.sy_grammar_base.specs.Solving.{AreWithin}
 use Rattle.sy_points.specs.Asked.{Asked}
 use Rattle.sy_loop_spec.specs.Bounds.{IsJoinedWithin}
 use Rattle.sy_loop_spec.specs.declared.reach.Reach.{Reach}
-use Rattle.sy_loop_spec.specs.declared.reach.Reach.TheVariants.{Sizes, Joins, Beyond}
+use Rattle.sy_loop_spec.specs.declared.reach.Reach.TheVariants.{Sizes, Joins}
 use Rattle.sy_loop_spec.specs.Adding.{KnownGrows}
 use Rattle.sy_loop_spec.specs.Histories.{AllViolate, AreViolatedBelow, Counterexample, IsHonestHistory, IsOpenNumber}
 use Rattle.sy_loop_spec.proofs.Staying.{below_stays}
@@ -15,9 +15,7 @@ use Rattle.sy_loop_spec.specs.Refuting.{AllRefuted, AllTreesViolate, AreDoneBelo
 use Rattle.sy_loop_spec.proofs.Refuted.{violated_in, stays_refuted, all_violate, no_solution_within}
 
 none_below : (reach : Reach) (question : Question) (history : List Counterexample) → AreViolatedBelow reach question history 0
-none_below Sizes question history = λ m less. absurd (omega (arith, less))
-none_below Joins question history = λ m less. absurd (omega (arith, less))
-none_below Beyond question history = tt
+none_below reach question history = λ m less. absurd (omega (arith, less))
 
 pub begins : (reach : Reach) (question : Question) (history : List Counterexample) (asked : Asked) → AreDoneBelow reach question history asked 0
 begins reach question history asked = record { refuted = λ m less. absurd (omega (arith, less)); violated = none_below reach question history }
@@ -40,7 +38,6 @@ module _ (question : Question) (history : List Counterexample) (asked : Asked) (
       (λ (within : AreWithin question.pool n question.goals bodies). violated_in question history asked bodies (all bodies within))
       (λ (joined : IsJoinedWithin question n bodies). trees bodies joined)
       bound)
-  below_next Beyond all trees below = tt
 
   pub next : (reach : Reach) → AllRefuted question history asked n → AllTreesViolate reach question history n → AreDoneBelow reach question history asked n → AreDoneBelow reach question history asked (n + 1)
   next reach all trees done = record {
@@ -57,12 +54,7 @@ stays reach question history history' asked asked' n grows done = record {
 pub opens : (reach : Reach) (question : Question) (size n : ℕ) (history : List Counterexample) (asked : Asked) → n ≤ size → AreDoneBelow reach question history asked n → IsOpenNumber reach question size history n
 opens reach question size n history asked small done = record { within = small; below = done.violated }
 
-at_once : (reach : Reach) (question : Question) (history : List Counterexample) (n : ℕ) → (reach ≡ Beyond → ⊥) → AreViolatedBelow reach question history (n + 1) → AllViolate reach question history n
-at_once Sizes question history n strict below = below n (omega arith)
-at_once Joins question history n strict below = below n (omega arith)
-at_once Beyond question history n strict below = absurd (strict refl)
-
-pub ends : (reach : Reach) (question : Question) (size rounds n : ℕ) (history : List Counterexample) (asked : Asked) → (reach ≡ Beyond → ⊥) → IsHonestHistory reach question size rounds history →
+pub ends : (reach : Reach) (question : Question) (size rounds n : ℕ) (history : List Counterexample) (asked : Asked) → IsHonestHistory reach question size rounds history →
     AreDoneBelow reach question history asked (n + 1) → NoSolutionWithin reach question n
-ends reach question size rounds n history asked strict honest done =
-    no_solution_within reach question size rounds n history honest (at_once reach question history n strict done.violated)
+ends reach question size rounds n history asked honest done =
+    no_solution_within reach question size rounds n history honest (done.violated n (omega arith))

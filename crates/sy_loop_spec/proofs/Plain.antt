@@ -1,6 +1,6 @@
 -- Terms without bindings, and terms that apply no function to be found.
-use Rattle.std.specs.Prelude.{ℕ, zero, suc, true, List, [], ◌∷◌, ◌++◌, ◌≡◌, refl, ⊤, Contains, slice_get, Some}
-use Rattle.std.proofs.Common.{ap, sym, subst, inl, inr}
+use Rattle.std.specs.Prelude.{ℕ, zero, suc, true, ◌&&◌, List, [], ◌∷◌, ◌++◌, ◌≡◌, refl, ⊤, Contains, slice_get, Some}
+use Rattle.std.proofs.Common.{ap, sym, ◌∙◌, subst, inl, inr}
 use Rattle.std.proofs.lemmas.List.Elements.{Contains-append_left, Contains-append_right, Contains-append_cases, Contains-push, Contains-push_cases}
 use Rattle.sy_terms.specs.Values.{Val}
 use Rattle.sy_terms.specs.Operators.{op_value}
@@ -87,10 +87,33 @@ mutual
 -- it means the same whatever the functions to be found are
 module _ (defined wanted others : List Function) (values : List Val) where
   pub plain_same : (term : Expr) → applications term ≡ [] → SameUnder defined wanted others values term
-  plain_same term nothing = same_under defined wanted others values term (subst (Agree wanted others) (sym (applying_nothing_asks_nothing defined wanted values term nothing)) tt)
+  plain_same term nothing = same_under defined wanted others values term (subst (Agree wanted others) (sym (applying_nothing_asks_nothing defined wanted values term nothing)) (λ call of. absurd (in_nothing call of)))
 
   pub all_plain_same : (terms : Exprs) → all_applications terms ≡ [] → AllSameUnder defined wanted others values terms
-  all_plain_same terms nothing = all_same_under defined wanted others values terms (subst (Agree wanted others) (sym (all_applying_nothing_ask_nothing defined wanted values terms nothing)) tt)
+  all_plain_same terms nothing = all_same_under defined wanted others values terms (subst (Agree wanted others) (sym (all_applying_nothing_ask_nothing defined wanted values terms nothing)) (λ call of. absurd (in_nothing call of)))
+
+mutual
+  unfolding computable all_computable applications all_applications
+
+  -- and is computable alike
+  plain_computes : (defined wanted others : List Function) (values : List Val) (term : Expr) → applications term ≡ [] → computable defined wanted values term ≡ computable defined others values term
+  plain_computes defined wanted others values (Constant value) nothing = refl
+  plain_computes defined wanted others values (Variable position) nothing = refl
+  plain_computes defined wanted others values (Apply operator arguments) nothing =
+      λ i. all_plain_compute defined wanted others values arguments nothing i && fits operator ((all_plain_same defined wanted others values arguments nothing).values_are i)
+  plain_computes defined wanted others values (Invoke (Defined f) arguments) nothing =
+      λ i. all_plain_compute defined wanted others values arguments nothing i && can_call (slice_get defined f) ((all_plain_same defined wanted others values arguments nothing).values_are i)
+  plain_computes defined wanted others values (Invoke (Wanted f) arguments) nothing = absurd (not_pushed (all_applications arguments) (f, arguments) nothing)
+  plain_computes defined wanted others values (Bind bound inner) nothing =
+      let both = both_nothing (all_applications bound) (applications inner) nothing in
+      (λ i. all_plain_compute defined wanted others values bound both.0 i && plain_computes defined wanted others (values ++ meanings defined wanted values bound) inner both.1 i) ∙
+      ap (λ vs. all_computable defined others values bound && computable defined others (values ++ vs) inner) (all_plain_same defined wanted others values bound both.0).values_are
+
+  pub all_plain_compute : (defined wanted others : List Function) (values : List Val) (terms : Exprs) → all_applications terms ≡ [] → all_computable defined wanted values terms ≡ all_computable defined others values terms
+  all_plain_compute defined wanted others values none nothing = refl
+  all_plain_compute defined wanted others values (more first rest) nothing =
+      let both = both_nothing (applications first) (all_applications rest) nothing in
+      λ i. plain_computes defined wanted others values first both.0 i && all_plain_compute defined wanted others values rest both.1 i
 
 -- functions to be found that have the same value at each application within
 abbrev pub SameAt : List Function → List Function → List Function → List Val → List (ℕ × Exprs) → Type 0

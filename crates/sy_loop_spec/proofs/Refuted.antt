@@ -29,24 +29,26 @@ use Rattle.sy_loop_spec.specs.Trials.{IsRefuted}
 use Rattle.sy_loop_spec.specs.Agreeing.{BodiesAgree, AssumptionsFit, AssumptionsAskNothing}
 use Rattle.sy_loop_spec.specs.Merging.{AreCovering, AreChosen, AreMerged}
 use Rattle.sy_loop_spec.specs.Refuting.{AllRefuted}
-use Rattle.sy_loop_spec.proofs.Same.{SameAt, Stands, stands, same_called}
+use Rattle.sy_terms_operators.specs.Agreement.{Agree, SameUnder}
+use Rattle.sy_terms_operators.proofs.Agreement.{same_under}
+use Rattle.sy_loop_spec.proofs.Same.{same_called}
 use Rattle.sy_loop_spec.proofs.Covered.{are_merged}
 
 -- bodies that agree have functions of the same values at the tuples
 same_at : (question : Question) (asked : Asked) (bodies others : List Expr) (calls : List (ℕ × List Val)) → BodiesAgree question asked bodies others → AreAsked calls asked →
-    SameAt (map (function_from (functions question.definitions)) bodies) (map (function_from (functions question.definitions)) others) calls
+    Agree (map (function_from (functions question.definitions)) bodies) (map (function_from (functions question.definitions)) others) calls
 same_at question asked bodies others calls agree there call of =
     same_called (functions question.definitions) bodies others call.0 call.1 agree.many (λ body other first second. agree.each call.0 body other call.1 first second (there call.0 call.1 of))
 
 -- a term whose calls are among those at which bodies have the same values
 same_of : (question : Question) (bodies others : List Expr) (values : List Val) (term : Expr) (calls : List (ℕ × List Val)) →
-    SameAt (map (function_from (functions question.definitions)) bodies) (map (function_from (functions question.definitions)) others) calls →
+    Agree (map (function_from (functions question.definitions)) bodies) (map (function_from (functions question.definitions)) others) calls →
     ((call : ℕ × List Val) → Contains (asked_by question bodies values term) call → Contains calls call) →
-    Stands (functions question.definitions) (map (function_from (functions question.definitions)) bodies) (map (function_from (functions question.definitions)) others) values term
-same_of question bodies others values term calls same among = stands (functions question.definitions) _ _ values term (λ call of. same call (among call of))
+    SameUnder (functions question.definitions) (map (function_from (functions question.definitions)) bodies) (map (function_from (functions question.definitions)) others) values term
+same_of question bodies others values term calls same among = same_under (functions question.definitions) _ _ values term (λ call of. same call (among call of))
 
 false_of : (question : Question) (bodies others : List Expr) (values : List Val) (term : Expr) (calls : List (ℕ × List Val)) →
-    SameAt (map (function_from (functions question.definitions)) bodies) (map (function_from (functions question.definitions)) others) calls → IsFalseByCalls question bodies values term calls → IsFalseByCalls question others values term calls
+    Agree (map (function_from (functions question.definitions)) bodies) (map (function_from (functions question.definitions)) others) calls → IsFalseByCalls question bodies values term calls → IsFalseByCalls question others values term calls
 false_of question bodies others values term calls same is =
     let both = same_of question bodies others values term calls same is.all in
     record {

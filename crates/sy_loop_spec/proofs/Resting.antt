@@ -16,7 +16,7 @@ use Rattle.sy_loop_spec.specs.Pointwise.{IsPosed}
 use Rattle.sy_loop_spec.specs.Resting.{RestsOn}
 use Rattle.sy_loop_spec.proofs.Variables.{variables_apply_nothing, variables_are, written_out_means, written_out_computes, written_out_fits}
 use Rattle.sy_loop_spec.proofs.Applied.{call_of, in_nothing, written_asks}
-use Rattle.sy_loop_spec.proofs.Plain.{BindsNothing, AllBindNothing, SameAt, written_binds_nothing, all_plain_same, plain_same, applied_alike, applied_compute, FitsAsCall, applied_fit}
+use Rattle.sy_loop_spec.proofs.Plain.{BindsNothing, AllBindNothing, SameAt, written_binds_nothing, all_plain_same, plain_same, all_plain_compute, applied_alike, applied_compute, FitsAsCall, applied_fit}
 
 -- variables bind nothing
 variables_bind_nothing : (first : ℕ) (sorts : List Sort) → AllBindNothing (variables_from first sorts)
@@ -53,7 +53,7 @@ module _ (question : Question) (values : List Val) (many : length values ≡ len
       computable (functions question.definitions) wanted values constraint ≡ true → all_computable (functions question.definitions) [] values application.1 ≡ true
   arguments_compute wanted application of can =
       let out = written_out_computes question (functions question.definitions) wanted values many constraint can in
-      sym (all_plain_same (functions question.definitions) wanted [] values application.1 (applies_none application of)).computed ∙
+      sym (all_plain_compute (functions question.definitions) wanted [] values application.1 (applies_none application of)) ∙
       applied_compute (functions question.definitions) wanted values (written_out question constraint) (written_out_binds_nothing question constraint) out application of
 
   -- so where they aren't, the constraint isn't

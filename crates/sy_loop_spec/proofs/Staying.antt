@@ -8,33 +8,27 @@ use Rattle.sy_grammar_base.specs.Questions.{Question}
 use Rattle.sy_grammar_base.specs.Solving.{AreWithin}
 use Rattle.sy_loop_spec.specs.Bounds.{InBound}
 use Rattle.sy_loop_spec.specs.declared.reach.Reach.{Reach}
-use Rattle.sy_loop_spec.specs.declared.reach.Reach.TheVariants.{Sizes, Joins, Beyond}
+use Rattle.sy_loop_spec.specs.declared.reach.Reach.TheVariants.{Sizes, Joins}
 use Rattle.sy_loop_spec.specs.Histories.{Counterexample, IsViolatedIn, AreViolatedBelow, IsOpenNumber, IsMet, IsFewJoined, MayTry, IsCandidate, HistoryIsKept}
 
 -- bodies that are in bound by their sizes
 pub in_bound : (reach : Reach) (question : Question) (n : ℕ) (bodies : List Expr) → AreWithin question.pool n question.goals bodies → InBound reach question n bodies
 in_bound Sizes question n bodies within = within
 in_bound Joins question n bodies within = inl within
-in_bound Beyond question n bodies within = inl within
 
 pub may_try : (reach : Reach) (question : Question) (size : ℕ) (history : List Counterexample) (n : ℕ) (bodies : List Expr) → AreWithin question.pool n question.goals bodies → MayTry reach question size history n bodies
 may_try Sizes question size history n bodies within = within
 may_try Joins question size history n bodies within = inl within
-may_try Beyond question size history n bodies within = inl within
 
 -- what may be tried is in bound
 pub tried_in_bound : (reach : Reach) (question : Question) (size : ℕ) (history : List Counterexample) (n : ℕ) (bodies : List Expr) → MayTry reach question size history n bodies → InBound reach question n bodies
 tried_in_bound Sizes question size history n bodies may = may
 tried_in_bound Joins question size history n bodies may =
     ⊎_elim (λ (within : AreWithin question.pool n question.goals bodies). inl within) (λ (few : IsFewJoined Joins question size history n bodies). inr few.joined) may
-tried_in_bound Beyond question size history n bodies may =
-    ⊎_elim (λ (within : AreWithin question.pool n question.goals bodies). inl within) (λ (few : IsFewJoined Beyond question size history n bodies). inr few.joined) may
 
 -- a lesser number is open too
 below_down : (reach : Reach) (question : Question) (history : List Counterexample) (m n : ℕ) → m ≤ n → AreViolatedBelow reach question history n → AreViolatedBelow reach question history m
-below_down Sizes question history m n less below = λ k under. below k (omega (arith, less, under))
-below_down Joins question history m n less below = λ k under. below k (omega (arith, less, under))
-below_down Beyond question history m n less below = tt
+below_down reach question history m n less below = λ k under. below k (omega (arith, less, under))
 
 pub open_down : (reach : Reach) (question : Question) (size : ℕ) (history : List Counterexample) (m n : ℕ) → m ≤ n → IsOpenNumber reach question size history n → IsOpenNumber reach question size history m
 open_down reach question size history m n less is = record { within = omega (arith, less, is.within); below = below_down reach question history m n less is.below }
@@ -44,9 +38,7 @@ module _ (question : Question) (history history' : List Counterexample) (keeps :
   violated_stays bodies is = record { counterexample = is.counterexample; stored = keeps is.counterexample is.stored; violates = is.violates }
 
   pub below_stays : (reach : Reach) (n : ℕ) → AreViolatedBelow reach question history n → AreViolatedBelow reach question history' n
-  below_stays Sizes n below = λ m less bodies bound. violated_stays bodies (below m less bodies bound)
-  below_stays Joins n below = λ m less bodies bound. violated_stays bodies (below m less bodies bound)
-  below_stays Beyond n below = tt
+  below_stays reach n below = λ m less bodies bound. violated_stays bodies (below m less bodies bound)
 
   pub open_stays : (reach : Reach) (size n : ℕ) → IsOpenNumber reach question size history n → IsOpenNumber reach question size history' n
   open_stays reach size n is = record { within = is.within; below = below_stays reach n is.below }
@@ -75,8 +67,6 @@ module _ (question : Question) (history history' : List Counterexample) (keeps :
   try_stays Sizes size n bodies may = may
   try_stays Joins size n bodies may =
       ⊎_elim (λ (within : AreWithin question.pool n question.goals bodies). inl within) (λ (few : IsFewJoined Joins question size history n bodies). inr (few_stays Joins size n bodies few)) may
-  try_stays Beyond size n bodies may =
-      ⊎_elim (λ (within : AreWithin question.pool n question.goals bodies). inl within) (λ (few : IsFewJoined Beyond question size history n bodies). inr (few_stays Beyond size n bodies few)) may
 
   pub candidate_stays : (reach : Reach) (size : ℕ) (bodies : List Expr) → IsCandidate reach question size history bodies → IsCandidate reach question size history' bodies
   candidate_stays reach size bodies is = record {

@@ -13,7 +13,7 @@ use Rattle.sy_loop_spec.specs.declared.reach.Reach.{Reach}
 use Rattle.sy_loop_spec.proofs.Applied.{in_nothing}
 use Rattle.sy_loop_spec.specs.Histories.{Counterexample, IsHonestHistory, IsNextCounterexample, IsViolatedIn}
 use Rattle.sy_loop_spec.specs.Agreeing.{AssumptionsAskNothing}
-use Rattle.sy_loop_spec.proofs.Same.{stands}
+use Rattle.sy_terms_operators.proofs.Agreement.{same_under}
 use Rattle.sy_loop_spec.specs.Goods.{assignments_of}
 
 pub from_map : {A B : Type 0} (f : A → B) (xs : List A) (y : B) → Contains (map f xs) y → (x : A) × Contains xs x × (f x ≡ y)
@@ -42,7 +42,7 @@ module _ (reach : Reach) (question : Question) (size rounds : ℕ) (history : Li
   pub assumed : AssumptionsAskNothing question → (bodies : List Expr) (c : Counterexample) → Contains history c → All (IsTrueUnder question bodies c.assignment) question.assumptions
   assumed nothing bodies c of k d within =
       let defined = functions question.definitions in
-      let same = stands defined (map (function_from defined) c.bodies) (map (function_from defined) bodies) c.assignment (get_or question.assumptions k d)
+      let same = same_under defined (map (function_from defined) c.bodies) (map (function_from defined) bodies) c.assignment (get_or question.assumptions k d)
       (λ call asks. absurd (in_nothing call (subst (λ calls. Contains calls call) (nothing c.bodies c.assignment k d within) asks))) in
       sym same.value ∙ (was_next c of).violates.0 k d within
 

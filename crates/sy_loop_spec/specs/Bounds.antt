@@ -6,7 +6,7 @@ use Rattle.sy_grammar_base.specs.Solving.{AreWithin}
 use Rattle.sy_loop_spec.specs.Pointwise.{IsPointwise}
 use Rattle.sy_loop_spec.specs.Conditional.{Conditional, yield, ArePartsWithin, IsTreeRule}
 use Rattle.sy_loop_spec.specs.declared.reach.Reach.{Reach}
-use Rattle.sy_loop_spec.specs.declared.reach.Reach.TheVariants.{Sizes, Joins, Beyond}
+use Rattle.sy_loop_spec.specs.declared.reach.Reach.TheVariants.{Sizes, Joins}
 
 -- the problem is pointwise, its grammar has a rule for conditional trees, and the one body is such a tree, of parts of sizes
 -- of at most n
@@ -25,4 +25,3 @@ pub record IsJoinedWithin (question : Question) (n : ℕ) (bodies : List Expr) :
 abbrev pub InBound : Reach → Question → ℕ → List Expr → Type 0
 InBound Sizes question n bodies = AreWithin question.pool n question.goals bodies
 InBound Joins question n bodies = AreWithin question.pool n question.goals bodies ⊎ IsJoinedWithin question n bodies
-InBound Beyond question n bodies = AreWithin question.pool n question.goals bodies ⊎ IsJoinedWithin question n bodies

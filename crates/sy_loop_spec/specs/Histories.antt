@@ -10,7 +10,7 @@ use Rattle.sy_points.specs.Asked.{AreDistinct}
 use Rattle.sy_loop_spec.specs.Bounds.{InBound, IsJoinedWithin}
 use Rattle.sy_loop_spec.specs.Conditional.{leaves}
 use Rattle.sy_loop_spec.specs.declared.reach.Reach.{Reach}
-use Rattle.sy_loop_spec.specs.declared.reach.Reach.TheVariants.{Sizes, Joins, Beyond}
+use Rattle.sy_loop_spec.specs.declared.reach.Reach.TheVariants.{Sizes, Joins}
 
 -- values of the variables, and the bodies that violate the problem there
 pub record Counterexample : Type 0 where
@@ -40,11 +40,9 @@ pub record IsViolatedIn (question : Question) (history : List Counterexample) (b
 abbrev pub AllViolate : Reach → Question → List Counterexample → ℕ → Type 0
 AllViolate reach question history n = (bodies : List Expr) → InBound reach question n bodies → IsViolatedIn question history bodies
 
--- so do all bodies in a lesser bound; a search that has passed over terms doesn't say so
+-- so do all bodies in a lesser bound
 abbrev pub AreViolatedBelow : Reach → Question → List Counterexample → ℕ → Type 0
-AreViolatedBelow Sizes question history n = (m : ℕ) → m < n → AllViolate Sizes question history m
-AreViolatedBelow Joins question history n = (m : ℕ) → m < n → AllViolate Joins question history m
-AreViolatedBelow Beyond question history n = Unit {0}
+AreViolatedBelow reach question history n = (m : ℕ) → m < n → AllViolate reach question history m
 
 -- the number is open: it is at most `size`, and all bodies in a lesser bound are refuted
 pub record IsOpenNumber (reach : Reach) (question : Question) (size : ℕ) (history : List Counterexample) (n : ℕ) : Type 0 where
@@ -73,7 +71,6 @@ pub record IsFewJoined (reach : Reach) (question : Question) (size : ℕ) (histo
 abbrev pub MayTry : Reach → Question → ℕ → List Counterexample → ℕ → List Expr → Type 0
 MayTry Sizes question size history n bodies = AreWithin question.pool n question.goals bodies
 MayTry Joins question size history n bodies = AreWithin question.pool n question.goals bodies ⊎ IsFewJoined Joins question size history n bodies
-MayTry Beyond question size history n bodies = AreWithin question.pool n question.goals bodies ⊎ IsFewJoined Beyond question size history n bodies
 
 -- the bodies are a candidate: they may be tried within an open number
 pub record IsCandidate (reach : Reach) (question : Question) (size : ℕ) (history : List Counterexample) (bodies : List Expr) : Type 0 where

@@ -15,8 +15,8 @@ pub enum LoopRange<T: Theory> {
 /// Why a search ended without a solution, with what shows it. The pairs are the assignments that refuted candidates.
 #[derive(Drop)]
 pub enum FailCause<T: Theory, S: Drop> {
-    /// No bodies within the greatest size solve the problem (by the sum of their sizes, and in modes `solve` and `drill`
-    /// by the parts of bodies that choose), and the largest sizes of the grammars don't sum to at most it.
+    /// No bodies within the greatest size solve the problem (by the sum of their sizes, and in modes `solve` and
+    /// `drill` by the parts of bodies that choose), and the largest sizes of the grammars don't sum to at most it.
     Size,
     /// There are as many pairs as there may be.
     Rounds(Stored<T>),

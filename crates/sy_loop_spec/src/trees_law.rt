@@ -11,8 +11,8 @@ ghost use Rattle.sy_bank_level.specs.Covering.{Covers};
 ghost use Rattle.sy_loop_spec.specs.Conditional.{ArePartsWithin, Conditional};
 ghost use Rattle.sy_loop_spec.specs.Trees.{IsMergedTree};
 
-/// Where an honest bank covers all derivations up to a size, each conditional tree over parts of such sizes has one over
-/// kept parts, of as many leaves, which reaches a leaf of the same value at each of the bank's points.
+/// Where an honest bank covers all derivations up to a size, each conditional tree over parts of such sizes has one
+/// over kept parts, of as many leaves, which reaches a leaf of the same value at each of the bank's points.
 pub fn trees_are_merged()
     ensures { (syntax : Syntax) (defined : List Function) (pool : List Val) (bank : Merged) (condition n : ℕ) →
         n ≤ bank.upto → IsHonestBank syntax defined pool bank → Covers syntax defined pool bank →

@@ -133,8 +133,8 @@ pub(crate) fn limits_of_one_body(stage: &Stage, is_closed: bool) -> Limits {
     }
 }
 
-/// The limits for the query of each of so many bodies that were set aside: a quarter of the limits for all of them. `None`
-/// where that is less than twice what each had beyond the whole search.
+/// The limits for the query of each of so many bodies that were set aside: a quarter of the limits for all of them.
+/// `None` where that is less than twice what each had beyond the whole search.
 pub(crate) fn shared_limits(limits: &Limits, count: usize) -> Option<Limits> {
     let parts = 4 * count.max(1).min(64) as u32;
     let clauses = limits.clauses / parts;

@@ -134,8 +134,8 @@ fn found_after<T: Theory, D: Decide<T>>(
 }
 
 /// The first solution that searches up to larger sizes find, with few kept terms; with all of them only where the
-/// search ended after its greatest size, since else its bank was full before. Where it ended by another limit than these
-/// two, that ends the searches with more terms too, so only the one with the fewest is tried.
+/// search ended after its greatest size, since else its bank was full before. Where it ended by another limit than
+/// these two, that ends the searches with more terms too, so only the one with the fewest is tried.
 fn found_wider<T: Theory, D: Decide<T>>(
     alloc: Global,
     problem: &Problem<T>,

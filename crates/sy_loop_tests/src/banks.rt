@@ -13,6 +13,7 @@ use sy_grammar_base::{Grammar, Non};
 use sy_terms::{Seq, Sort, Theory, Values};
 
 /// The bank of these nonterminals up to one size, grown to another if that is greater and nothing was dropped before.
+/// Eight parameters: a test names each part of its bank.
 fn bank_of<T: Theory>(
     rt: &impl Abort,
     alloc: Global,
@@ -165,14 +166,14 @@ bank of integers|B x;A|0|2|2|9|0 2|whole
 bank of integers|B B;C A;v B||1|2|9|0 3|whole
 bank of integers|B B;C A;v B||1|2|2|0 2|full 1";
 
-/// The same over vectors of four bits: all constants and arguments, as far as the width goes; and each function of two truth
-/// values once, with a bit for each pair of them.
+/// The same over vectors of four bits: all constants and arguments, as far as the width goes; and each function of two
+/// truth values once, with a bit for each pair of them.
 pub(crate) const VECTORS: &str = "\
 bank of four bits|k v|3 5|99|99|50|0 3 0 2 4 8|whole
 bank of four bits|3 5 ~A &AA|0|13|13|99|0 2 2 1 4 4 1 0 0 0 0 2|whole";
 
-/// The same over vectors of eight bits: an argument and its square, which 2 tells apart and 0 and 1 don't, also where the bank
-/// is full at once or when it is grown.
+/// The same over vectors of eight bits: an argument and its square, which 2 tells apart and 0 and 1 don't, also where
+/// the bank is full at once or when it is grown.
 pub(crate) const BYTES: &str = "\
 bank of bytes|x *xx|0 1|3|3|10|0 1|whole|x
 bank of bytes|x *xx|0 1|3|3|1|0 1|whole

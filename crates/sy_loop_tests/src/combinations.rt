@@ -71,9 +71,9 @@ fn is_next(rt: &impl Abort, scan: &mut Scan, parts: &str) -> bool {
     }
 }
 
-/// An operator, a bound of the size, and steps: a number is wanted at one point more, and after `:` stand the parts of the
-/// first combination that has the wanted values. In the last two rows a point more rules out what was wanted before, the
-/// bound rules out all, and nothing is named where nothing is wanted.
+/// An operator, a bound of the size, and steps: a number is wanted at one point more, and after `:` stand the parts of
+/// the first combination that has the wanted values. In the last two rows a point more rules out what was wanted
+/// before, the bound rules out all, and nothing is named where nothing is wanted.
 pub(crate) const ROWS: &str = "\
 combination|a|20|22 207 255 :01
 combination|s|20|254 63 85 :10

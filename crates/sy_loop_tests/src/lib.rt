@@ -1,4 +1,5 @@
-// Tests of banks and of parts of the search, in a crate of their own, so that what they stand on is read and proved once.
+// Tests of banks and of parts of the search, in a crate of their own, so that what they stand on is read and proved
+// once.
 #![tactic(auto)]
 
 #[cfg(test)]

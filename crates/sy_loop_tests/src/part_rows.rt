@@ -63,7 +63,8 @@ fn kept<T: Theory>(
 ) -> Kept<T>
     requires definitions { DefinitionsFit T.owned T.denotes defs.now }
     requires points { ArePointsOf (sorts.Int ∷ []) (map (vals_of T.denotes) points.now) }
-    ensures { HasRow (scope_of T.owned defs.now) (functions (bodies T.denotes defs.now)) (map (vals_of T.denotes) points.now) (entry_of T.denotes result).term (entry_of T.denotes result).row }
+    ensures { HasRow (scope_of T.owned defs.now) (functions (bodies T.denotes defs.now))
+        (map (vals_of T.denotes) points.now) (entry_of T.denotes result).term (entry_of T.denotes result).row }
 {
     assert!(rt; is_integer(rt, alloc, defs, &term));
     let row = term_row(alloc, defs, points, &term).expect(rt, "a row");
@@ -87,7 +88,8 @@ fn has_row<T: Theory>(
 ) -> bool
     requires definitions { DefinitionsFit T.owned T.denotes defs.now }
     requires points { ArePointsOf (sorts.Int ∷ []) (map (vals_of T.denotes) points.now) }
-    requires rows { AreRows (scope_of T.owned defs.now) (functions (bodies T.denotes defs.now)) (map (vals_of T.denotes) points.now) (chosen_of T.denotes chosen.now) }
+    requires rows { AreRows (scope_of T.owned defs.now)
+        (functions (bodies T.denotes defs.now)) (map (vals_of T.denotes) points.now) (chosen_of T.denotes chosen.now) }
 {
     let Err(_) = part.occurrence(chosen.len()) else {
         return false;
@@ -170,7 +172,8 @@ fn is_right<T: Theory>(
 ) -> bool
     requires definitions { DefinitionsFit T.owned T.denotes defs.now }
     requires points { ArePointsOf (sorts.Int ∷ []) (map (vals_of T.denotes) points.now) }
-    requires rows { AreRows (scope_of T.owned defs.now) (functions (bodies T.denotes defs.now)) (map (vals_of T.denotes) points.now) (chosen_of T.denotes chosen.now) }
+    requires rows { AreRows (scope_of T.owned defs.now)
+        (functions (bodies T.denotes defs.now)) (map (vals_of T.denotes) points.now) (chosen_of T.denotes chosen.now) }
 {
     let (text, told) = cut(row);
     let part = part::<T>(rt, alloc, Sort::Int, text);

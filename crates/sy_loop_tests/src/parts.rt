@@ -51,8 +51,8 @@ fn operator(sign: u8) -> Option<(Op, usize)> {
 }
 
 /// The part that begins with this sign, where the stack has those after it, the next one last: `A`, `B` and `C` are the
-/// nonterminals, `x` and `y` are arguments, `D` calls the first definition, and `E` the fourth at two arguments, `M` is the
-/// greatest number of 128 bits, and a digit is itself.
+/// nonterminals, `x` and `y` are arguments, `D` calls the first definition, and `E` the fourth at two arguments, `M` is
+/// the greatest number of 128 bits, and a digit is itself.
 fn begun<T: Theory>(
     rt: &impl Abort,
     alloc: Global,
@@ -100,8 +100,8 @@ fn rules<T: Theory>(rt: &impl Abort, alloc: Global, sort: Sort, text: &str) -> S
     rules
 }
 
-/// The nonterminals of this text, of which the first has one sort and the others have another, with a semicolon between the
-/// rules of two.
+/// The nonterminals of this text, of which the first has one sort and the others have another, with a semicolon between
+/// the rules of two.
 pub fn nonterminals<T: Theory>(
     rt: &impl Abort,
     alloc: Global,

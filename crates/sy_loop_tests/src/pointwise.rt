@@ -69,8 +69,8 @@ fn is_pointwise<T: Theory>(rt: &impl Abort, alloc: Global, sort: Sort, row: &str
     is_pointwise
 }
 
-/// The sort; the functions to be found; the arguments of each, and the variables; the rules of the grammar; constraints; and
-/// whether the problem is pointwise.
+/// The sort; the functions to be found; the arguments of each, and the variables; the rules of the grammar;
+/// constraints; and whether the problem is pointwise.
 ///
 /// It is where one function is to be found and each constraint applies it to one list of arguments, in which it isn't
 /// applied. A name of a `let` counts as what it stands for. The last two are the greater of two integers, and a

@@ -80,8 +80,8 @@ fn is_violated(
     is_violated
 }
 
-/// Problems, one after the other: the assumption, the constraint, whether the assignment is stored, and whether a violation
-/// is shown, each as `t` or `n`.
+/// Problems, one after the other: the assumption, the constraint, whether the assignment is stored, and whether a
+/// violation is shown, each as `t` or `n`.
 pub(crate) const ROWS: &str = "\
 refutation|tntt tttn nntn tnnn tntt";
 

@@ -43,8 +43,8 @@ fn arguments<T: Theory>(
     terms
 }
 
-/// The node of a sign, whose arguments are the last terms: `f` calls the function to be found, at so many arguments; `B` binds
-/// one term, and the others are operators.
+/// The node of a sign, whose arguments are the last terms: `f` calls the function to be found, at so many arguments;
+/// `B` binds one term, and the others are operators.
 fn node<T: Theory>(
     rt: &impl Abort,
     alloc: Global,

@@ -9,11 +9,12 @@ use sy_grammar::tree_rule;
 use sy_grammar_base::{Grammar, Part, Rule};
 use sy_terms::Theory;
 
-/// The nonterminal of the conditions of the grammar's conditional trees: C, where the start symbol's first choice between
-/// two terms of the start symbol is by C. `None` exactly where the start symbol has no such rule.
+/// The nonterminal of the conditions of the grammar's conditional trees: C, where the start symbol's first choice
+/// between two terms of the start symbol is by C. `None` exactly where the start symbol has no such rule.
 pub fn condition_of<T: Theory>(grammar: &Grammar<T>) -> Option<u32>
     requires numbered { IsNumbered (syntax_from T.denotes grammar.now) }
-    ensures { MatchOption result (HasNoTrees (syntax_from T.denotes grammar.now)) (IsConditionOf (syntax_from T.denotes grammar.now)) }
+    ensures { MatchOption result (HasNoTrees (syntax_from T.denotes grammar.now))
+        (IsConditionOf (syntax_from T.denotes grammar.now)) }
 {
     match tree_rule(grammar) {
         Some(place) => tested_at(grammar, place),
@@ -23,7 +24,8 @@ pub fn condition_of<T: Theory>(grammar: &Grammar<T>) -> Option<u32>
 
 /// The nonterminal that stands first in this rule of the start symbol, where it is an operator.
 fn tested_at<T: Theory>(grammar: &Grammar<T>, place: u32) -> Option<u32>
-    ensures { (rule : Production) → slice_get (start_rules (syntax_from T.denotes grammar.now).nonterminals) place ≡ Some rule → result ≡ tested_by rule }
+    ensures { (rule : Production) → slice_get (start_rules (syntax_from T.denotes grammar.now).nonterminals) place ≡
+        Some rule → result ≡ tested_by rule }
 {
     let start = grammar.nons().get(0)?;
     let rule = start.rules.get(place as usize)?;

@@ -10,15 +10,16 @@ use sy_bank_level::Kept;
 use sy_terms::{Op, Term, Terms, Theory, Value, Want};
 use sy_unify::Choice;
 
-/// The term that the choice is, where its numbers stand for these leaves and conditions. A number for which there is none
-/// stands for `false`.
+/// The term that the choice is, where its numbers stand for these leaves and conditions. A number for which there is
+/// none stands for `false`.
 pub fn tree_term<T: Theory>(
     alloc: Global,
     choice: &Choice,
     leaves: &[&Kept<T>],
     conditions: &[&Kept<T>],
 ) -> Result<Term<T>, Want>
-    ensures { IfOk result (λ term. expr_of T.denotes term ≡ yield (conditional_of (chosen_of T.denotes leaves.now) (chosen_of T.denotes conditions.now) choice.now)) }
+    ensures { IfOk result (λ term. expr_of T.denotes term ≡
+        yield (conditional_of (chosen_of T.denotes leaves.now) (chosen_of T.denotes conditions.now) choice.now)) }
 {
     match choice {
         Choice::Leaf(leaf) => {

@@ -19,10 +19,11 @@ pub enum Adding {
     Full(u32),
 }
 
-/// Adds the tuples of the calls to the points of their functions. `Want` comes where memory runs out, and nowhere else; nothing
-/// is promised of the points then.
+/// Adds the tuples of the calls to the points of their functions. `Want` comes where memory runs out, and nowhere else;
+/// nothing is promised of the points then.
 pub fn add_calls<T: Theory>(points: &mut Points<T>, calls: &Trace<T>) -> Result<Adding, Want>
-    requires within { (function : ℕ) (tuple : _) → Contains calls.now (function, tuple) → function < length points.old.tuples }
+    requires within { (function : ℕ) (tuple : _) → Contains calls.now (function, tuple) →
+        function < length points.old.tuples }
     ensures gains { OnOk result (GainsTuples calls.now points.old points.new) }
     ensures answer { IfOk result (λ adding. AddsCalls calls.now points.old points.new adding) }
 {

@@ -1,4 +1,5 @@
-// Whether terms are true under bodies at assignments, and the tuples that these ask for; definitions of what a search knows.
+// Whether terms are true under bodies at assignments, and the tuples that these ask for; definitions of what a search
+// knows.
 #![tactic(auto)]
 
 mod calls;

@@ -24,8 +24,8 @@ pub enum Truth<T: Theory> {
     Leaves,
 }
 
-/// Whether the bodies meet the problem at the assignment: make an assumption false, or every constraint true. `Want` comes where
-/// memory runs out, and nowhere else.
+/// Whether the bodies meet the problem at the assignment: make an assumption false, or every constraint true. `Want`
+/// comes where memory runs out, and nowhere else.
 pub fn judge<T: Theory>(
     alloc: Global,
     problem: &Problem<T>,
@@ -35,7 +35,8 @@ pub fn judge<T: Theory>(
     requires problem { ProblemFits T.Theory problem.now }
     requires bodies { FitAsBodies T.Theory problem.now bodies.now }
     requires values { AreValues problem.now.vars (vals_of T.denotes values.now) }
-    ensures { IfOk result (JudgesBodies (question_of T.denotes problem.now) (map (expr_of T.denotes) bodies.now) (vals_of T.denotes values.now)) }
+    ensures { IfOk result (JudgesBodies (question_of T.denotes problem.now)
+        (map (expr_of T.denotes) bodies.now) (vals_of T.denotes values.now)) }
 {
     match all_true(
         alloc,
@@ -70,7 +71,8 @@ pub fn all_true<T: Theory>(
     requires bodies { FitAsBodies T.Theory problem.now bodies.now }
     requires values { AreValues problem.now.vars (vals_of T.denotes values.now) }
     requires terms { All (IsTruth T.owned T.denotes problem.now) terms.now }
-    ensures { IfOk result (SaysOfAll (question_of T.denotes problem.now) (map (expr_of T.denotes) bodies.now) (vals_of T.denotes values.now) (map (expr_of T.denotes) terms.now)) }
+    ensures { IfOk result (SaysOfAll (question_of T.denotes problem.now)
+        (map (expr_of T.denotes) bodies.now) (vals_of T.denotes values.now) (map (expr_of T.denotes) terms.now)) }
 {
     for term in terms {
         match truth_of(alloc, problem, bodies, values, term)? {
@@ -94,7 +96,8 @@ fn truth_of<T: Theory>(
     requires bodies { FitAsBodies T.Theory problem.now bodies.now }
     requires values { AreValues problem.now.vars (vals_of T.denotes values.now) }
     requires term { IsTruth T.owned T.denotes problem.now term.now }
-    ensures { IfOk result (Says (question_of T.denotes problem.now) (map (expr_of T.denotes) bodies.now) (vals_of T.denotes values.now) (expr_of T.denotes term.now)) }
+    ensures { IfOk result (Says (question_of T.denotes problem.now)
+        (map (expr_of T.denotes) bodies.now) (vals_of T.denotes values.now) (expr_of T.denotes term.now)) }
 {
     let mut calls = Trace::new(alloc);
     match evaluate_with(alloc, &problem.defs, bodies, values, term, &mut calls) {

@@ -49,8 +49,10 @@ pub fn evaluate<T: Theory>(
     requires definitions { DefinitionsFit T.owned T.denotes defs.now }
     requires values { AreValid T.denotes values.now }
     requires term { FitsWith T.owned T.denotes defs.now [] (vals_of T.denotes values.now) (expr_of T.denotes term.now) }
-    ensures ok { IfOk result (λ v. GivesValue T.owned T.denotes defs.now [] (vals_of T.denotes values.now) (expr_of T.denotes term.now) (val_of T.denotes v)) }
-    ensures range { IsErrOf result Eval.Range → can_compute T.denotes defs.now [] (vals_of T.denotes values.now) (expr_of T.denotes term.now) ≡ false }
+    ensures ok { IfOk result (λ v. GivesValue T.owned T.denotes defs.now [] (vals_of T.denotes values.now)
+        (expr_of T.denotes term.now) (val_of T.denotes v)) }
+    ensures range { IsErrOf result Eval.Range →
+        can_compute T.denotes defs.now [] (vals_of T.denotes values.now) (expr_of T.denotes term.now) ≡ false }
 {
     let bodies: Bodies<T> = Seq::new(alloc);
     let mut trace = Trace::new(alloc);
@@ -64,8 +66,9 @@ pub fn evaluate<T: Theory>(
     )
 }
 
-/// The value of a term, with bodies for the functions to be found. The trace gains what the term asks of these; each such
-/// call is at values of the sorts that its function takes.
+/// The value of a term, with bodies for the functions to be found. The trace gains what the term asks of these; each
+/// such call is at values of the sorts that its function takes. Under other bodies with the same values at what it
+/// asks, the term has the same value and asks the same.
 pub fn evaluate_with<T: Theory>(
     alloc: Global,
     defs: &Defs<T>,
@@ -76,13 +79,20 @@ pub fn evaluate_with<T: Theory>(
 ) -> Result<Value<T::Num>, Eval>
     requires definitions { DefinitionsFit T.owned T.denotes defs.now }
     requires values { AreValid T.denotes values.now }
-    requires term { FitsWith T.owned T.denotes defs.now bodies.now (vals_of T.denotes values.now) (expr_of T.denotes term.now) }
-    ensures ok { IfOk result (λ v. GivesValue T.owned T.denotes defs.now bodies.now (vals_of T.denotes values.now) (expr_of T.denotes term.now) (val_of T.denotes v)) }
-    ensures range { IsErrOf result Eval.Range → can_compute T.denotes defs.now bodies.now (vals_of T.denotes values.now) (expr_of T.denotes term.now) ≡ false }
-    ensures traced { OnOk result (GainsCalls trace.old (asks T.denotes defs.now bodies.now (vals_of T.denotes values.now) (expr_of T.denotes term.now)) trace.new) }
-    ensures begun { OnErr result (TracedSome trace.old (asks T.denotes defs.now bodies.now (vals_of T.denotes values.now) (expr_of T.denotes term.now)) trace.new) }
-    ensures agreement { OnOk result (StandsWith T.denotes defs.now bodies.now (vals_of T.denotes values.now) (expr_of T.denotes term.now) trace.new) }
-    ensures calls { OnOk result (AsksRightly T.owned T.denotes defs.now bodies.now (vals_of T.denotes values.now) (expr_of T.denotes term.now)) }
+    requires term { FitsWith T.owned T.denotes defs.now bodies.now
+        (vals_of T.denotes values.now) (expr_of T.denotes term.now) }
+    ensures ok { IfOk result (λ v. GivesValue T.owned T.denotes defs.now bodies.now
+        (vals_of T.denotes values.now) (expr_of T.denotes term.now) (val_of T.denotes v)) }
+    ensures range { IsErrOf result Eval.Range →
+        can_compute T.denotes defs.now bodies.now (vals_of T.denotes values.now) (expr_of T.denotes term.now) ≡ false }
+    ensures traced { OnOk result (GainsCalls trace.old
+        (asks T.denotes defs.now bodies.now (vals_of T.denotes values.now) (expr_of T.denotes term.now)) trace.new) }
+    ensures begun { OnErr result (TracedSome trace.old
+        (asks T.denotes defs.now bodies.now (vals_of T.denotes values.now) (expr_of T.denotes term.now)) trace.new) }
+    ensures agreement { StandsWith T.denotes defs.now bodies.now
+        (vals_of T.denotes values.now) (expr_of T.denotes term.now) }
+    ensures calls { OnOk result (AsksRightly T.owned T.denotes defs.now bodies.now
+        (vals_of T.denotes values.now) (expr_of T.denotes term.now)) }
 {
     evaluate_under(
         alloc,
@@ -106,12 +116,18 @@ fn evaluate_under<T: Theory>(
 ) -> Result<Value<T::Num>, Eval>
     requires definitions { DefinitionsFit T.owned T.denotes defs.now }
     requires values { AreValid T.denotes values.now }
-    requires term { FitsWith T.owned T.denotes defs.now bodies.now (vals_of T.denotes values.now) (expr_of T.denotes term.now) }
-    ensures ok { IfOk result (λ v. GivesValue T.owned T.denotes defs.now bodies.now (vals_of T.denotes values.now) (expr_of T.denotes term.now) (val_of T.denotes v)) }
-    ensures range { IsErrOf result Eval.Range → can_compute T.denotes defs.now bodies.now (vals_of T.denotes values.now) (expr_of T.denotes term.now) ≡ false }
-    ensures traced { OnOk result (GainsCalls trace.old (asks T.denotes defs.now bodies.now (vals_of T.denotes values.now) (expr_of T.denotes term.now)) trace.new) }
-    ensures begun { OnErr result (TracedSome trace.old (asks T.denotes defs.now bodies.now (vals_of T.denotes values.now) (expr_of T.denotes term.now)) trace.new) }
-    ensures calls { OnOk result (AsksRightly T.owned T.denotes defs.now bodies.now (vals_of T.denotes values.now) (expr_of T.denotes term.now)) }
+    requires term { FitsWith T.owned T.denotes defs.now bodies.now
+        (vals_of T.denotes values.now) (expr_of T.denotes term.now) }
+    ensures ok { IfOk result (λ v. GivesValue T.owned T.denotes defs.now bodies.now
+        (vals_of T.denotes values.now) (expr_of T.denotes term.now) (val_of T.denotes v)) }
+    ensures range { IsErrOf result Eval.Range →
+        can_compute T.denotes defs.now bodies.now (vals_of T.denotes values.now) (expr_of T.denotes term.now) ≡ false }
+    ensures traced { OnOk result (GainsCalls trace.old
+        (asks T.denotes defs.now bodies.now (vals_of T.denotes values.now) (expr_of T.denotes term.now)) trace.new) }
+    ensures begun { OnErr result (TracedSome trace.old
+        (asks T.denotes defs.now bodies.now (vals_of T.denotes values.now) (expr_of T.denotes term.now)) trace.new) }
+    ensures calls { OnOk result (AsksRightly T.owned T.denotes defs.now bodies.now
+        (vals_of T.denotes values.now) (expr_of T.denotes term.now)) }
 {
     match term {
         Term::Const(value) => Ok(*value),
@@ -165,12 +181,18 @@ fn evaluate_all<T: Theory>(
 ) -> Result<Vec<Value<T::Num>>, Eval>
     requires definitions { DefinitionsFit T.owned T.denotes defs.now }
     requires values { AreValid T.denotes values.now }
-    requires terms { AllFitWith T.owned T.denotes defs.now bodies.now (vals_of T.denotes values.now) (exprs_of T.denotes terms.now.items.items) }
-    ensures ok { IfOk result (λ vs. AllGive T.owned T.denotes defs.now bodies.now (vals_of T.denotes values.now) (exprs_of T.denotes terms.now.items.items) (vals_of T.denotes vs.items)) }
-    ensures range { IsErrOf result Eval.Range → can_compute_all T.denotes defs.now bodies.now (vals_of T.denotes values.now) (exprs_of T.denotes terms.now.items.items) ≡ false }
-    ensures traced { OnOk result (GainsCalls trace.old (all_asks T.denotes defs.now bodies.now (vals_of T.denotes values.now) (exprs_of T.denotes terms.now.items.items)) trace.new) }
-    ensures begun { OnErr result (TracedSome trace.old (all_asks T.denotes defs.now bodies.now (vals_of T.denotes values.now) (exprs_of T.denotes terms.now.items.items)) trace.new) }
-    ensures calls { OnOk result (AllAskRightly T.owned T.denotes defs.now bodies.now (vals_of T.denotes values.now) (exprs_of T.denotes terms.now.items.items)) }
+    requires terms { AllFitWith T.owned T.denotes defs.now bodies.now
+        (vals_of T.denotes values.now) (exprs_of T.denotes terms.now.items.items) }
+    ensures ok { IfOk result (λ vs. AllGive T.owned T.denotes defs.now bodies.now
+        (vals_of T.denotes values.now) (exprs_of T.denotes terms.now.items.items) (vals_of T.denotes vs.items)) }
+    ensures range { IsErrOf result Eval.Range → can_compute_all T.denotes defs.now bodies.now
+        (vals_of T.denotes values.now) (exprs_of T.denotes terms.now.items.items) ≡ false }
+    ensures traced { OnOk result (GainsCalls trace.old (all_asks T.denotes defs.now bodies.now
+        (vals_of T.denotes values.now) (exprs_of T.denotes terms.now.items.items)) trace.new) }
+    ensures begun { OnErr result (TracedSome trace.old (all_asks T.denotes defs.now bodies.now
+        (vals_of T.denotes values.now) (exprs_of T.denotes terms.now.items.items)) trace.new) }
+    ensures calls { OnOk result (AllAskRightly T.owned T.denotes defs.now bodies.now
+        (vals_of T.denotes values.now) (exprs_of T.denotes terms.now.items.items)) }
 {
     let mut found = Vec::with_capacity(alloc, terms.len())?;
     for term in terms.as_slice() {

@@ -30,7 +30,8 @@ pub fn term_sort<T: Theory>(
     sorts: &[Sort],
     term: &Term<T>,
 ) -> Result<Option<Sort>, Want>
-    ensures { IfOk result (λ sort. sort ≡ sort_in (scope_and_wanted T.owned defs.now wanted.now) sorts.now (expr_of T.denotes term.now)) }
+    ensures { IfOk result (λ sort. sort ≡
+        sort_in (scope_and_wanted T.owned defs.now wanted.now) sorts.now (expr_of T.denotes term.now)) }
 {
     match term {
         Term::Const(value) => Ok(constant_sort::<T>(value)),
@@ -71,7 +72,8 @@ fn term_sorts<T: Theory>(
     sorts: &[Sort],
     terms: &Terms<T>,
 ) -> Result<Option<Vec<Sort>>, Want>
-    ensures { IfOk result (λ found. option_map (λ all. all.items) found ≡ sorts_in (scope_and_wanted T.owned defs.now wanted.now) sorts.now (exprs_of T.denotes terms.now.items.items)) }
+    ensures { IfOk result (λ found. option_map (λ all. all.items) found ≡
+        sorts_in (scope_and_wanted T.owned defs.now wanted.now) sorts.now (exprs_of T.denotes terms.now.items.items)) }
 {
     let mut found = Vec::with_capacity(alloc, terms.len())?;
     for term in terms.as_slice() {
@@ -88,7 +90,8 @@ pub fn value_sorts<T: Theory>(
     alloc: Global,
     values: &[Value<T::Num>],
 ) -> Result<Option<Vec<Sort>>, Want>
-    ensures { IfOk result (λ found. MatchOption found (AreValid T.denotes values.now → ⊥) (λ all. (AreValid T.denotes values.now) × (all.items ≡ sorts_of T.denotes values.now))) }
+    ensures { IfOk result (λ found. MatchOption found (AreValid T.denotes values.now →
+        ⊥) (λ all. (AreValid T.denotes values.now) × (all.items ≡ sorts_of T.denotes values.now))) }
 {
     let mut found = Vec::with_capacity(alloc, values.len())?;
     for value in values {
@@ -102,7 +105,8 @@ pub fn value_sorts<T: Theory>(
 
 /// The sort of a constant; `None` exactly where its number is no value of its sort.
 fn constant_sort<T: Theory>(value: &Value<T::Num>) -> Option<Sort>
-    ensures { result ≡ (if valid (val_of T.denotes value.now) then Some (sort_of_value (val_of T.denotes value.now)) else None) }
+    ensures { result ≡
+        (if valid (val_of T.denotes value.now) then Some (sort_of_value (val_of T.denotes value.now)) else None) }
 {
     match value {
         Value::Truth(_) => Some(Sort::Bool),
@@ -145,7 +149,8 @@ fn function_sort<T: Theory>(
     function: &Fun,
     sorts: &[Sort],
 ) -> Option<Sort>
-    ensures { result ≡ called_sort (signature_of (scope_and_wanted T.owned defs.now wanted.now) function.now) (Some sorts.now) }
+    ensures { result ≡
+        called_sort (signature_of (scope_and_wanted T.owned defs.now wanted.now) function.now) (Some sorts.now) }
 {
     match function {
         Fun::Defined(number) => {

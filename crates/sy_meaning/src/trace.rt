@@ -26,7 +26,8 @@ impl<T: Theory> Model for Trace<T> {
 
 /// Whether the kept call is this one.
 fn is_call<T: Theory>(call: &(u32, Values<T>), function: u32, values: &[Value<T::Num>]) -> bool
-    ensures { result ≡ (nat_eq call.now.0 function && same_values (vals_of T.denotes call.now.1) (vals_of T.denotes values.now)) }
+    ensures { result ≡
+        (nat_eq call.now.0 function && same_values (vals_of T.denotes call.now.1) (vals_of T.denotes values.now)) }
 {
     call.0 == function && same_values::<T>(call.1.as_slice(), values)
 }
@@ -50,7 +51,8 @@ impl<T: Theory> Trace<T> {
 
     /// The function's number and the arguments of the call at `i`; `None` exactly where `i >= len`.
     pub fn get(&self, i: usize) -> Option<(u32, &Values<T>)>
-        ensures { MatchOption result (length self.now ≤ i) (λ call. slice_get self.now i ≡ Some (call.0, vals_of T.denotes call.1.now)) }
+        ensures { MatchOption result (length self.now ≤ i) (λ call.
+            slice_get self.now i ≡ Some (call.0, vals_of T.denotes call.1.now)) }
     {
         let (function, values) = self.calls.get(i)?;
         Some((*function, values))

@@ -90,9 +90,11 @@ pub(crate) fn whole(value: &Value<i128>) -> i128
     }
 }
 
-/// The operation taken from the left over the first number and the rest; `None` exactly where a partial value doesn't fit 128 bits.
+/// The operation taken from the left over the first number and the rest; `None` exactly where a partial value doesn't
+/// fit 128 bits.
 fn fold<S: Step>(first: i128, rest: &[Value<i128>]) -> Option<i128>
-    ensures { Found (partials_fit S.exact first (vals_of Whole rest.now)) (from_left (on_wholes S.exact) (Whole first ∷ vals_of Whole rest.now)) result }
+    ensures { Found (partials_fit S.exact first (vals_of Whole rest.now))
+        (from_left (on_wholes S.exact) (Whole first ∷ vals_of Whole rest.now)) result }
 {
     let mut total = first;
     for value in rest {
@@ -101,10 +103,12 @@ fn fold<S: Step>(first: i128, rest: &[Value<i128>]) -> Option<i128>
     Some(total)
 }
 
-/// The operation taken from the left over two numbers or more; `None` exactly where a partial value doesn't fit 128 bits.
+/// The operation taken from the left over two numbers or more; `None` exactly where a partial value doesn't fit 128
+/// bits.
 pub(crate) fn from_left<S: Step>(values: &[Value<i128>]) -> Option<i128>
     requires { 1 < length values.now }
-    ensures { Found (from_left_fits S.exact (vals_of Whole values.now)) (from_left (on_wholes S.exact) (vals_of Whole values.now)) result }
+    ensures { Found (from_left_fits S.exact (vals_of Whole values.now))
+        (from_left (on_wholes S.exact) (vals_of Whole values.now)) result }
 {
     match values.split_first() {
         Some((first, rest)) => fold::<S>(whole(first), rest),

@@ -11,8 +11,10 @@ use sy_terms::{Applied, Op, Sort, Sorted, Theory, Value};
 use sy_terms_operators::operator_sort;
 
 /// The theory of the logic LIA: the operators of SMT-LIB's theories Core and Ints, with `div`, `mod` and `abs`.
-/// A number is an `i128`, which stands for itself. `div` leaves no negative remainder, `x div 0` is 0 and `x mod 0` is x.
-/// `apply` takes no memory, and answers `OutOfRange` exactly where a value or a partial value lies outside `-2^127` to `2^127 - 1`.
+/// A number is an `i128`, which stands for itself. `div` leaves no negative remainder, `x div 0` is 0 and `x mod 0` is
+/// x.
+/// `apply` takes no memory, and answers `OutOfRange` exactly where a value or a partial value lies outside `-2^127` to
+/// `2^127 - 1`.
 #[derive(Clone, Copy, Debug, PartialEq, Eq, PartialOrd, Ord, Hash)]
 pub struct IntTheory;
 

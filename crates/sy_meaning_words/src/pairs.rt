@@ -23,7 +23,8 @@ pub(crate) fn apply_pairs(op: &Op, values: &mut [Value<Word>], others: &[Value<W
     requires owned { (place : ℕ) → place < length values.old → owned op.now ≡ true }
     requires same { length others.now ≡ length values.old }
     requires sorted { ArePairsSorted op.now (vals_of vector values.old) (vals_of vector others.now) }
-    ensures { ArePairsApplied op.now (vals_of vector values.old) (vals_of vector others.now) (vals_of vector values.new) }
+    ensures { ArePairsApplied op.now (vals_of vector values.old)
+        (vals_of vector others.now) (vals_of vector values.new) }
 {
     match op {
         Op::BvAnd => each_word(op, values, others, and),
@@ -59,8 +60,10 @@ fn each_word<F: Fn(Word, Word) -> Word>(
     requires same { length others.now ≡ length values.old }
     requires sorted { ArePairsSorted op.now (vals_of vector values.old) (vals_of vector others.now) }
     requires callable { (s t : Word) → s.width ≡ t.width → F.pre apply s t }
-    requires gives { (s t value : Word) → s.width ≡ t.width → F.post apply s t value → vector value ≡ op_value op.now (vector s ∷ vector t ∷ []) }
-    ensures { ArePairsApplied op.now (vals_of vector values.old) (vals_of vector others.now) (vals_of vector values.new) }
+    requires gives { (s t value : Word) → s.width ≡ t.width →
+        F.post apply s t value → vector value ≡ op_value op.now (vector s ∷ vector t ∷ []) }
+    ensures { ArePairsApplied op.now (vals_of vector values.old)
+        (vals_of vector others.now) (vals_of vector values.new) }
 {
     for place in 0..values.len() {
         let first = values[place];
@@ -75,7 +78,8 @@ fn each_value(op: &Op, values: &mut [Value<Word>], others: &[Value<Word>])
     requires owned { (place : ℕ) → place < length values.old → owned op.now ≡ true }
     requires same { length others.now ≡ length values.old }
     requires sorted { ArePairsSorted op.now (vals_of vector values.old) (vals_of vector others.now) }
-    ensures { ArePairsApplied op.now (vals_of vector values.old) (vals_of vector others.now) (vals_of vector values.new) }
+    ensures { ArePairsApplied op.now (vals_of vector values.old)
+        (vals_of vector others.now) (vals_of vector values.new) }
 {
     for place in 0..values.len() {
         values[place] = operator_value(op, &[values[place], others[place]]);

@@ -15,7 +15,8 @@ pub struct Word {
 impl Word {
     /// The vector; `None` exactly where the width isn't from 1 to 64 or the number has more bits.
     pub fn new(width: u8, bits: u64) -> Option<Word>
-        ensures { MatchOption result (valid (Bits width bits) ≡ false) (λ word. (word.width ≡ width) × (word.bits ≡ bits)) }
+        ensures { MatchOption result (valid (Bits width bits) ≡ false) (λ word. (word.width ≡ width) ×
+            (word.bits ≡ bits)) }
     {
         if 1 <= width && width <= 64 && bits <= u64::MAX >> (64 - width) {
             Some(Word { width, bits })

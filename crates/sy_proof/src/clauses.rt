@@ -9,8 +9,8 @@ use sy_io::Bytes;
 use sy_seq::{Seq, Want};
 use sy_text::write_numeral;
 
-/// The clauses in the format of DIMACS: a line `p cnf V N` with the numbers of variables and clauses, then a line for each
-/// clause, as `1 -2 0`, where the variable of number 0 is 1. The last line doesn't end with byte 10.
+/// The clauses in the format of DIMACS: a line `p cnf V N` with the numbers of variables and clauses, then a line for
+/// each clause, as `1 -2 0`, where the variable of number 0 is 1. The last line doesn't end with byte 10.
 pub fn write_clauses(alloc: Global, cnf: &Cnf) -> Result<Bytes, Want>
     ensures { IfOk result (λ text. text ≡ spec.clauses_text cnf.now) }
 {

@@ -4,14 +4,14 @@ use sy_terms::{Op, Term, Terms, Theory};
 /// How many choices a large one has, with itself and those among its parts.
 const LARGE: u64 = 8;
 
-/// Whether the term has a large choice, as it has where a body is a large conditional tree. Where variables are equal, several
-/// leaves of a tree are right, so that simple models tell fewer trees apart.
+/// Whether the term has a large choice, as it has where a body is a large conditional tree. Where variables are equal,
+/// several leaves of a tree are right, so that simple models tell fewer trees apart.
 pub(crate) fn has_large_choice<T: Theory>(term: &Term<T>) -> bool {
     size(term) >= LARGE
 }
 
-/// How many choices the largest choice of the term has. It doesn't matter how often one stands there: a query has a body as
-/// often as its function is called.
+/// How many choices the largest choice of the term has. It doesn't matter how often one stands there: a query has a
+/// body as often as its function is called.
 #[cycle(size)]
 fn size<T: Theory>(term: &Term<T>) -> u64 {
     match term {

@@ -30,9 +30,11 @@ pub(crate) struct AllPlaced<T: Theory> {
 /// A constant.
 pub(crate) fn constant<T: Theory>(value: Value<T::Num>, room: &mut Room) -> Result<Placed<T>, Built>
     requires { valid (val_of T.denotes value) ≡ true }
-    ensures ok { IfOk result (λ p. TermIsBuilt (query_scope T.owned) room.old.sorts.items (Constant (val_of T.denotes value)) room.old.left room.new.left (expr_of T.denotes p.term) p.sort) }
+    ensures ok { IfOk result (λ p. TermIsBuilt (query_scope T.owned) room.old.sorts.items
+        (Constant (val_of T.denotes value)) room.old.left room.new.left (expr_of T.denotes p.term) p.sort) }
     ensures kept { room.new.sorts ≡ room.old.sorts }
-    ensures heavy { OnErr result (room.old.left.weight < spec.weight (query_scope T.owned) room.old.sorts.items (Constant (val_of T.denotes value))) }
+    ensures heavy { OnErr result (room.old.left.weight <
+        spec.weight (query_scope T.owned) room.old.sorts.items (Constant (val_of T.denotes value))) }
 {
     let sort = T::value_sort(&value);
     room.take(sort_weight(sort))?;
@@ -49,9 +51,11 @@ pub(crate) fn variable<T: Theory>(
     room: &mut Room,
 ) -> Result<Placed<T>, Built>
     requires within { first + position < length room.now.sorts.items }
-    ensures ok { IfOk result (λ p. TermIsBuilt (query_scope T.owned) room.old.sorts.items (Variable (first + position)) room.old.left room.new.left (expr_of T.denotes p.term) p.sort) }
+    ensures ok { IfOk result (λ p. TermIsBuilt (query_scope T.owned) room.old.sorts.items
+        (Variable (first + position)) room.old.left room.new.left (expr_of T.denotes p.term) p.sort) }
     ensures kept { room.new.sorts ≡ room.old.sorts }
-    ensures heavy { OnErr result (room.old.left.weight < spec.weight (query_scope T.owned) room.old.sorts.items (Variable (first + position))) }
+    ensures heavy { OnErr result (room.old.left.weight <
+        spec.weight (query_scope T.owned) room.old.sorts.items (Variable (first + position))) }
 {
     let place = first + position as usize;
     let sort = room.sorts[place];
@@ -70,9 +74,11 @@ pub(crate) fn apply<T: Theory>(
 ) -> Result<Placed<T>, Built>
     requires arguments { length found.terms.items.items < 2 ^ 32 }
     requires sorted { OperatorHasSort operator.now found.sorts.items }
-    ensures ok { IfOk result (λ p. ApplicationIsBuilt operator.now (exprs_of T.denotes found.terms.items.items) found.sorts.items room.old.left room.new.left (expr_of T.denotes p.term) p.sort) }
+    ensures ok { IfOk result (λ p. ApplicationIsBuilt operator.now (exprs_of T.denotes found.terms.items.items)
+        found.sorts.items room.old.left room.new.left (expr_of T.denotes p.term) p.sort) }
     ensures kept { room.new.sorts ≡ room.old.sorts }
-    ensures heavy { OnErr result (room.old.left.weight < applied_weight operator.now (exprs_of T.denotes found.terms.items.items) found.sorts.items) }
+    ensures heavy { OnErr result (room.old.left.weight <
+        applied_weight operator.now (exprs_of T.denotes found.terms.items.items) found.sorts.items) }
 {
     let AllPlaced { terms, sorts } = found;
     let Sorted::Is(sort) = operator_sort(operator, sorts.as_slice()) else {

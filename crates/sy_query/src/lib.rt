@@ -1,5 +1,5 @@
-// Queries of problems and bodies, assignments tried before a query is searched, solvers of queries, and the budgets of a
-// search.
+// Queries of problems and bodies, assignments tried before a query is searched, solvers of queries, and the budgets of
+// a search.
 #![tactic(auto)]
 
 mod built;

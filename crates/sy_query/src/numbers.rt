@@ -9,8 +9,8 @@ const OWN: usize = 10;
 /// How many single bits a vector has behind the constants.
 const SINGLE_BITS: usize = 3;
 
-/// How many numbers are tried where a query has these constants: a sort's own, each constant with its neighbours, and single
-/// bits where a variable is a vector.
+/// How many numbers are tried where a query has these constants: a sort's own, each constant with its neighbours, and
+/// single bits where a variable is a vector.
 pub(crate) fn count(vars: &[Sort], constants: &[i128]) -> usize {
     let before = constants.len().saturating_mul(3).saturating_add(OWN);
     if has_vector(vars) {
@@ -62,8 +62,8 @@ pub(crate) fn with_number(
     Ok(changed)
 }
 
-/// The number of this place for a sort. The constants and their neighbours come after the sort's own numbers, and single bits
-/// of vectors after these.
+/// The number of this place for a sort. The constants and their neighbours come after the sort's own numbers, and
+/// single bits of vectors after these.
 fn number_at(sort: Sort, constants: &[i128], place: usize) -> i128 {
     if place < OWN {
         return own(sort, place);
@@ -91,8 +91,8 @@ fn single_bit(sort: Sort, place: usize) -> i128 {
     }
 }
 
-/// A number of the sort's own. Those at which most terms differ stand in front: integers that lie far apart, and vectors without
-/// a pattern. Then come small integers, and a vector's ends, its middle and single bits.
+/// A number of the sort's own. Those at which most terms differ stand in front: integers that lie far apart, and
+/// vectors without a pattern. Then come small integers, and a vector's ends, its middle and single bits.
 fn own(sort: Sort, place: usize) -> i128 {
     match sort {
         Sort::Bool => place as i128,
@@ -101,8 +101,8 @@ fn own(sort: Sort, place: usize) -> i128 {
     }
 }
 
-/// An integer. Those that lie far apart come first: sums and multiples of few of them are equal, so one model tells many
-/// terms apart.
+/// An integer. Those that lie far apart come first: sums and multiples of few of them are equal, so one model tells
+/// many terms apart.
 fn of_integers(place: usize) -> i128 {
     match place {
         0 => 7,
@@ -118,9 +118,9 @@ fn of_integers(place: usize) -> i128 {
     }
 }
 
-/// A number of vectors, modulo `end`, a power of two. The least signed number comes first, at which nested calls ask for few
-/// tuples. Two without a pattern follow, at which terms that differ mostly do: one is positive and ends in ones, the other is
-/// negative and ends in zeros, at widths of 8, 16, 32 and 64.
+/// A number of vectors, modulo `end`, a power of two. The least signed number comes first, at which nested calls ask
+/// for few tuples. Two without a pattern follow, at which terms that differ mostly do: one is positive and ends in
+/// ones, the other is negative and ends in zeros, at widths of 8, 16, 32 and 64.
 fn of_vector(end: i128, place: usize) -> i128 {
     match place {
         0 => end / 2,

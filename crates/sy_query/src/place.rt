@@ -6,7 +6,18 @@ ghost use Rattle.sy_terms.specs.Fitting.{sort_in, sorts_in};
 ghost use Rattle.sy_query_base.specs.Weights as spec;
 ghost use Rattle.sy_query_base.specs.Weights.{query_scope};
 ghost use Rattle.sy_query.specs.Sized.{IsSized};
-ghost use Rattle.sy_query.specs.Placing.{placed_with, all_placed_with, FitsOver, AllFitOver, TermIsBuilt, AreBuilt, IsBound, bound_weight, called_with, FunctionTakes};
+ghost use Rattle.sy_query.specs.Placing.{
+  placed_with,
+  all_placed_with,
+  FitsOver,
+  AllFitOver,
+  TermIsBuilt,
+  AreBuilt,
+  IsBound,
+  bound_weight,
+  called_with,
+  FunctionTakes,
+};
 
 use crate::built::Built;
 use crate::leaf::{AllPlaced, Placed, apply, constant, variable};
@@ -30,10 +41,15 @@ pub(crate) fn place<T: Theory>(
     requires sized { All IsSized room.now.sorts.items }
     requires own { first ≤ length room.now.sorts.items }
     requires small { room.now.left.weight < 2 ^ 32 }
-    requires term { FitsOver T.owned T.denotes defs.now bodies.now (drop first room.now.sorts.items) (expr_of T.denotes term.now) }
-    ensures ok { IfOk result (λ p. TermIsBuilt (query_scope T.owned) room.old.sorts.items (placed_with T.denotes defs.now bodies.now first (length room.old.sorts.items) (expr_of T.denotes term.now)) room.old.left room.new.left (expr_of T.denotes p.term) p.sort) }
+    requires term { FitsOver T.owned T.denotes defs.now bodies.now
+        (drop first room.now.sorts.items) (expr_of T.denotes term.now) }
+    ensures ok { IfOk result (λ p. TermIsBuilt (query_scope T.owned) room.old.sorts.items
+        (placed_with T.denotes defs.now bodies.now first (length room.old.sorts.items) (expr_of T.denotes term.now))
+        room.old.left room.new.left (expr_of T.denotes p.term) p.sort) }
     ensures kept { OnOk result (room.new.sorts.items ≡ room.old.sorts.items) }
-    ensures heavy { IsErrOf result Built.Heavy → room.old.left.weight < spec.weight (query_scope T.owned) room.old.sorts.items (placed_with T.denotes defs.now bodies.now first (length room.old.sorts.items) (expr_of T.denotes term.now)) }
+    ensures heavy { IsErrOf result Built.Heavy →
+        room.old.left.weight < spec.weight (query_scope T.owned) room.old.sorts.items
+        (placed_with T.denotes defs.now bodies.now first (length room.old.sorts.items) (expr_of T.denotes term.now)) }
 {
     match term {
         Term::Const(value) => constant(*value, room),
@@ -67,10 +83,15 @@ pub(crate) fn place_all<T: Theory>(
     requires sized { All IsSized room.now.sorts.items }
     requires own { first ≤ length room.now.sorts.items }
     requires small { room.now.left.weight < 2 ^ 32 }
-    requires terms { AllFitOver T.owned T.denotes defs.now bodies.now (drop first room.now.sorts.items) (exprs_of T.denotes terms.now) }
-    ensures ok { IfOk result (λ all. AreBuilt (query_scope T.owned) room.old.sorts.items (all_placed_with T.denotes defs.now bodies.now first (length room.old.sorts.items) (exprs_of T.denotes terms.now)) room.old.left room.new.left (exprs_of T.denotes all.terms.items.items) all.sorts.items) }
+    requires terms { AllFitOver T.owned T.denotes defs.now bodies.now
+        (drop first room.now.sorts.items) (exprs_of T.denotes terms.now) }
+    ensures ok { IfOk result (λ all. AreBuilt (query_scope T.owned) room.old.sorts.items (all_placed_with T.denotes
+        defs.now bodies.now first (length room.old.sorts.items) (exprs_of T.denotes terms.now))
+        room.old.left room.new.left (exprs_of T.denotes all.terms.items.items) all.sorts.items) }
     ensures kept { OnOk result (room.new.sorts.items ≡ room.old.sorts.items) }
-    ensures heavy { IsErrOf result Built.Heavy → room.old.left.weight < spec.weights (query_scope T.owned) room.old.sorts.items (all_placed_with T.denotes defs.now bodies.now first (length room.old.sorts.items) (exprs_of T.denotes terms.now)) }
+    ensures heavy { IsErrOf result Built.Heavy →
+        room.old.left.weight < spec.weights (query_scope T.owned) room.old.sorts.items (all_placed_with T.denotes
+        defs.now bodies.now first (length room.old.sorts.items) (exprs_of T.denotes terms.now)) }
 {
     let mut placed = Terms::new(alloc);
     let mut sorts = Vec::with_capacity(alloc, terms.len())?;
@@ -99,9 +120,14 @@ fn call<T: Theory>(
     requires sized { All IsSized (room.now.sorts.items ++ found.sorts.items) }
     requires small { room.now.left.weight < 2 ^ 32 }
     requires function { FunctionTakes T.owned T.denotes defs.now bodies.now function found.sorts.items }
-    ensures ok { IfOk result (λ p. IsBound (query_scope T.owned) (room.old.sorts.items ++ found.sorts.items) (exprs_of T.denotes found.terms.items.items) (called_with T.denotes defs.now bodies.now function (length room.old.sorts.items) (length (room.old.sorts.items ++ found.sorts.items))) room.old.left room.new.left (expr_of T.denotes p.term) p.sort) }
+    ensures ok { IfOk result (λ p. IsBound (query_scope T.owned) (room.old.sorts.items ++
+        found.sorts.items) (exprs_of T.denotes found.terms.items.items) (called_with T.denotes defs.now bodies.now
+        function (length room.old.sorts.items) (length (room.old.sorts.items ++ found.sorts.items))) room.old.left
+        room.new.left (expr_of T.denotes p.term) p.sort) }
     ensures kept { OnOk result (room.new.sorts.items ≡ room.old.sorts.items) }
-    ensures heavy { IsErrOf result Built.Heavy → room.old.left.weight < bound_weight (query_scope T.owned) (room.old.sorts.items ++ found.sorts.items) (called_with T.denotes defs.now bodies.now function (length room.old.sorts.items) (length (room.old.sorts.items ++ found.sorts.items))) }
+    ensures heavy { IsErrOf result Built.Heavy → room.old.left.weight <
+        bound_weight (query_scope T.owned) (room.old.sorts.items ++ found.sorts.items) (called_with T.denotes defs.now
+        bodies.now function (length room.old.sorts.items) (length (room.old.sorts.items ++ found.sorts.items))) }
 {
     let long = room.len();
     match function {
@@ -140,10 +166,16 @@ fn bind<T: Theory>(
     requires sized { All IsSized (room.now.sorts.items ++ found.sorts.items) }
     requires own { first ≤ length (room.now.sorts.items ++ found.sorts.items) }
     requires small { room.now.left.weight < 2 ^ 32 }
-    requires inner { FitsOver T.owned T.denotes defs.now bodies.now (drop first (room.now.sorts.items ++ found.sorts.items)) (expr_of T.denotes inner.now) }
-    ensures ok { IfOk result (λ p. IsBound (query_scope T.owned) (room.old.sorts.items ++ found.sorts.items) (exprs_of T.denotes found.terms.items.items) (placed_with T.denotes defs.now bodies.now first (length (room.old.sorts.items ++ found.sorts.items)) (expr_of T.denotes inner.now)) room.old.left room.new.left (expr_of T.denotes p.term) p.sort) }
+    requires inner { FitsOver T.owned T.denotes defs.now bodies.now
+        (drop first (room.now.sorts.items ++ found.sorts.items)) (expr_of T.denotes inner.now) }
+    ensures ok { IfOk result (λ p. IsBound (query_scope T.owned) (room.old.sorts.items ++
+        found.sorts.items) (exprs_of T.denotes found.terms.items.items) (placed_with T.denotes defs.now bodies.now first
+        (length (room.old.sorts.items ++ found.sorts.items)) (expr_of T.denotes inner.now)) room.old.left room.new.left
+        (expr_of T.denotes p.term) p.sort) }
     ensures kept { OnOk result (room.new.sorts.items ≡ room.old.sorts.items) }
-    ensures heavy { IsErrOf result Built.Heavy → room.old.left.weight < bound_weight (query_scope T.owned) (room.old.sorts.items ++ found.sorts.items) (placed_with T.denotes defs.now bodies.now first (length (room.old.sorts.items ++ found.sorts.items)) (expr_of T.denotes inner.now)) }
+    ensures heavy { IsErrOf result Built.Heavy → room.old.left.weight <
+        bound_weight (query_scope T.owned) (room.old.sorts.items ++ found.sorts.items) (placed_with T.denotes
+        defs.now bodies.now first (length (room.old.sorts.items ++ found.sorts.items)) (expr_of T.denotes inner.now)) }
 {
     let AllPlaced { terms, sorts } = found;
     let long = room.len();

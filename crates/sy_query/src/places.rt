@@ -2,7 +2,8 @@
 use std::alloc::Global;
 use sy_terms::Want;
 
-/// The places of so many variables among so many numbers: `start` for the first, and so many steps on for each later one.
+/// The places of so many variables among so many numbers: `start` for the first, and so many steps on for each later
+/// one.
 pub(crate) fn stepped(
     alloc: Global,
     variables: usize,

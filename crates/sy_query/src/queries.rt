@@ -18,8 +18,8 @@ use sy_terms::{Bodies, Defs, Seq, Sort, Theory, Want};
 
 /// The query of the problem and a body for each function to be found: every assumption, and not every constraint, with
 /// each call replaced by a `let` of its arguments around the called body. An assignment satisfies it exactly where it
-/// shows that the bodies don't solve the problem. `Heavy` exactly where it weighs more than `limit`; then no more is built.
-/// Where 32 bits don't count one of its positions, `Want` comes, and only if it weighs no more than `limit`.
+/// shows that the bodies don't solve the problem. `Heavy` exactly where it weighs more than `limit`; then no more is
+/// built. Where 32 bits don't count one of its positions, `Want` comes, and only if it weighs no more than `limit`.
 pub fn build<T: Theory>(
     alloc: Global,
     problem: &Problem<T>,
@@ -28,11 +28,14 @@ pub fn build<T: Theory>(
 ) -> Result<Query<T>, Built>
     requires problem { ProblemFits T.Theory problem.now }
     requires bodies { BodiesFit T.owned T.denotes problem.now.defs bodies.now (signatures problem.now) }
-    ensures query { IfOk result (λ query. query_of T.denotes query ≡ violating (question_of T.denotes problem.now) (map (expr_of T.denotes) bodies.now)) }
+    ensures query { IfOk result (λ query. query_of T.denotes query ≡
+        violating (question_of T.denotes problem.now) (map (expr_of T.denotes) bodies.now)) }
     ensures fits { IfOk result (λ query. QueryFits T.owned T.numeric (query_of T.denotes query)) }
-    ensures violations { IfOk result (λ query. IsViolation (question_of T.denotes problem.now) (map (expr_of T.denotes) bodies.now) (query_of T.denotes query)) }
+    ensures violations { IfOk result (λ query. IsViolation (question_of T.denotes problem.now)
+        (map (expr_of T.denotes) bodies.now) (query_of T.denotes query)) }
     ensures light { IfOk result (λ query. query_weight T.owned (query_of T.denotes query) ≤ limit) }
-    ensures heavy { IsErrOf result Built.Heavy → limit < query_weight T.owned (violating (question_of T.denotes problem.now) (map (expr_of T.denotes) bodies.now)) }
+    ensures heavy { IsErrOf result Built.Heavy → limit <
+        query_weight T.owned (violating (question_of T.denotes problem.now) (map (expr_of T.denotes) bodies.now)) }
 {
     let vars = problem.vars.as_slice();
     let mut room = Room::new(vars.to_vec(alloc)?, limit);

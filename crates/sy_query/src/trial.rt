@@ -24,13 +24,14 @@ const SHUFFLES: usize = 64;
 /// The least number of variables that are many: two numbers stand in few orders, and the steps have come to each.
 const MANY: usize = 3;
 
-/// An assignment that satisfies the query, if one is found at once: its variables get numbers that lie far apart or have no
-/// pattern, 0, 1, the ends of their range and the like, and the query's constants and their neighbours. Where no variable is a
-/// vector and the query has no large conditional tree, each then gets 0 or false, or the number of the variable before, if the
-/// query stays satisfied. Where none is found the query may be satisfied all the same.
+/// An assignment that satisfies the query, if one is found at once: its variables get numbers that lie far apart or
+/// have no pattern, 0, 1, the ends of their range and the like, and the query's constants and their neighbours. Where
+/// no variable is a vector and the query has no large conditional tree, each then gets 0 or false, or the number of the
+/// variable before, if the query stays satisfied. Where none is found the query may be satisfied all the same.
 pub fn corner_model<T: Theory>(alloc: Global, query: &Query<T>) -> Result<Option<Values<T>>, Want>
     requires { QueryFits T.owned T.numeric (query_of T.denotes query.now) }
-    ensures { IfOk result (λ found. IfSome found (λ values. Satisfies (query_of T.denotes query.now) (vals_of T.denotes values))) }
+    ensures { IfOk result (λ found.
+        IfSome found (λ values. Satisfies (query_of T.denotes query.now) (vals_of T.denotes values))) }
 {
     let constants = constants_of(alloc, &query.body)?;
     let vars = query.vars.as_slice();
@@ -62,8 +63,8 @@ pub fn corner_model<T: Theory>(alloc: Global, query: &Query<T>) -> Result<Option
     Ok(None)
 }
 
-/// How far apart the places of two variables are in a round. Different numbers tell more terms apart than equal ones, so
-/// these come second.
+/// How far apart the places of two variables are in a round. Different numbers tell more terms apart than equal ones,
+/// so these come second.
 fn step_of(round: usize) -> usize {
     match round {
         0 => 1,
@@ -80,7 +81,8 @@ fn model_at<T: Theory>(
     places: &[usize],
 ) -> Result<Option<Values<T>>, Want>
     requires { QueryFits T.owned T.numeric (query_of T.denotes query.now) }
-    ensures { IfOk result (λ found. IfSome found (λ values. Satisfies (query_of T.denotes query.now) (vals_of T.denotes values))) }
+    ensures { IfOk result (λ found.
+        IfSome found (λ values. Satisfies (query_of T.denotes query.now) (vals_of T.denotes values))) }
 {
     let numbers = numbers_at(alloc, query.vars.as_slice(), constants, places)?;
     let Some(values) = satisfying(alloc, query, numbers.as_slice())? else {
@@ -101,8 +103,8 @@ struct Model<T: Theory> {
     values: Values<T>,
 }
 
-/// The model with 0 or false for one variable after the other where the query stays satisfied; then with the number of the
-/// variable before. So the models of a search differ in few numbers, and candidates are asked at few points.
+/// The model with 0 or false for one variable after the other where the query stays satisfied; then with the number of
+/// the variable before. So the models of a search differ in few numbers, and candidates are asked at few points.
 fn simplified<T: Theory>(alloc: Global, query: &Query<T>, model: Model<T>) -> Result<Model<T>, Want>
     requires fits { QueryFits T.owned T.numeric (query_of T.denotes query.now) }
     requires model { Satisfies (query_of T.denotes query.now) (vals_of T.denotes model.values) }
@@ -146,7 +148,8 @@ fn satisfying<T: Theory>(
     numbers: &[i128],
 ) -> Result<Option<Values<T>>, Want>
     requires { QueryFits T.owned T.numeric (query_of T.denotes query.now) }
-    ensures { IfOk result (λ found. IfSome found (λ values. Satisfies (query_of T.denotes query.now) (vals_of T.denotes values))) }
+    ensures { IfOk result (λ found.
+        IfSome found (λ values. Satisfies (query_of T.denotes query.now) (vals_of T.denotes values))) }
 {
     let Some(values) = corner::<T>(alloc, query.vars.as_slice(), numbers)? else {
         return Ok(None);
@@ -195,7 +198,8 @@ fn value_of<T: Theory>(sort: Sort, number: i128) -> Option<Value<T::Num>>
 fn holds<T: Theory>(alloc: Global, query: &Query<T>, values: &[Value<T::Num>]) -> Result<bool, Want>
     requires fits { QueryFits T.owned T.numeric (query_of T.denotes query.now) }
     requires values { AreValues query.now.vars (vals_of T.denotes values.now) }
-    ensures { IfOk result (λ yes. IsTrue yes → Satisfies (query_of T.denotes query.now) (vals_of T.denotes values.now)) }
+    ensures { IfOk result (λ yes. IsTrue yes →
+        Satisfies (query_of T.denotes query.now) (vals_of T.denotes values.now)) }
 {
     let defs: Defs<T> = Seq::new(alloc);
     match evaluate(alloc, &defs, values, &query.body) {

@@ -47,5 +47,6 @@ pub trait Decide<T: Theory> {
         ensures own { is_solver_budget result ≡ true };
 
     /// A query for which a proof is accepted is never satisfied.
-    ghost sound: { (query : Query) (proof : Self.Proof) → QueryFits T.owned T.numeric query → accepted query proof → IsNever query };
+    ghost sound: { (query : Query) (proof : Self.Proof) →
+        QueryFits T.owned T.numeric query → accepted query proof → IsNever query };
 }

@@ -9,7 +9,7 @@ use Rattle.sy_terms.specs.Meaning.{meaning, meanings}
 use Rattle.sy_terms.specs.declared.op.Op.{Op}
 use Rattle.sy_terms.specs.declared.term.Term.{Term}
 use Rattle.sy_meaning_words.specs.Vectors.{is_folded}
-use Rattle.sy_rewrite_orders.proofs.Terms.{last-folded}
+use Rattle.sy_rewrite_orders.proofs.TermsLaws.{last-folded}
 use Rattle.sy_query_normal.proofs.Terms.{last_one}
 
 -- what the operator gives at arguments that mean the same

@@ -17,7 +17,7 @@ use Rattle.sy_terms.specs.declared.sort.Sort.TheVariants as sorts
 use Rattle.sy_terms.specs.declared.term.Term.{Term}
 use Rattle.sy_terms_operators.proofs.Traced.{same_is, same_again}
 use Rattle.sy_rewrite_orders.specs.Sums.{BeginWithSorts, IsSameOver}
-use Rattle.sy_rewrite_orders.proofs.Terms.{two-terms}
+use Rattle.sy_rewrite_orders.proofs.TermsLaws.{two-terms}
 
 same_turned : (x y : Val) → same y x ≡ same x y
 same_turned x y =

@@ -16,11 +16,12 @@ use sy_terms::{Op, Term, Terms, Want};
 /// The most arguments that are written two at a time: each makes the term one deeper.
 const MOST_ARGUMENTS: usize = 64;
 
-/// A term that means the same, in which sums, products and chains of `bvand`, `bvor` and `bvxor` have two arguments each, so
-/// that what the first ones of a chain give is a word.
+/// A term that means the same, in which sums, products and chains of `bvand`, `bvor` and `bvxor` have two arguments
+/// each, so that what the first ones of a chain give is a word.
 #[cycle(chains)]
 pub(crate) fn paired(alloc: Global, term: &Term<BvTheory>) -> Result<Term<BvTheory>, Want>
-    ensures { IfOk result (λ found. (values : List Val) → meaning [] [] values (expr_of vector found) ≡ meaning [] [] values (expr_of vector term.now)) }
+    ensures { IfOk result (λ found. (values : List Val) →
+        meaning [] [] values (expr_of vector found) ≡ meaning [] [] values (expr_of vector term.now)) }
 {
     match term {
         Term::App(operator, arguments) => {
@@ -43,7 +44,8 @@ pub(crate) fn paired(alloc: Global, term: &Term<BvTheory>) -> Result<Term<BvTheo
 /// The same of each of the terms.
 #[cycle(chains)]
 fn all_paired(alloc: Global, terms: &[Term<BvTheory>]) -> Result<Terms<BvTheory>, Want>
-    ensures { IfOk result (λ found. (values : List Val) → meanings [] [] values (exprs_of vector found.items.items) ≡ meanings [] [] values (exprs_of vector terms.now)) }
+    ensures { IfOk result (λ found. (values : List Val) →
+        meanings [] [] values (exprs_of vector found.items.items) ≡ meanings [] [] values (exprs_of vector terms.now)) }
 {
     let mut all = Terms::with_capacity(alloc, terms.len())?;
     for term in terms {
@@ -59,7 +61,8 @@ fn paired_application(
     operator: Op,
     arguments: Terms<BvTheory>,
 ) -> Result<Term<BvTheory>, Want>
-    ensures { IfOk result (λ found. (values : List Val) → meaning [] [] values (expr_of vector found) ≡ op_value operator (meanings [] [] values (exprs_of vector arguments.items.items))) }
+    ensures { IfOk result (λ found. (values : List Val) → meaning [] [] values (expr_of vector found) ≡
+        op_value operator (meanings [] [] values (exprs_of vector arguments.items.items))) }
 {
     match in_pairs(alloc, operator, arguments.as_slice())? {
         Some(found) => Ok(found),
@@ -74,7 +77,8 @@ fn in_pairs(
     operator: Op,
     terms: &[Term<BvTheory>],
 ) -> Result<Option<Term<BvTheory>>, Want>
-    ensures { IfOk result (λ found. IfSome found (λ whole. (values : List Val) → meaning [] [] values (expr_of vector whole) ≡ op_value operator (meanings [] [] values (exprs_of vector terms.now)))) }
+    ensures { IfOk result (λ found. IfSome found (λ whole. (values : List Val) → meaning [] [] values
+        (expr_of vector whole) ≡ op_value operator (meanings [] [] values (exprs_of vector terms.now)))) }
 {
     if !is_folded(operator) || terms.len() < 3 || terms.len() > MOST_ARGUMENTS {
         return Ok(None);
@@ -97,7 +101,9 @@ fn from_left(
     rest: &[Term<BvTheory>],
 ) -> Result<Term<BvTheory>, Want>
     requires { vectors.is_folded operator ≡ true }
-    ensures { IfOk result (λ whole. (values : List Val) → meaning [] [] values (expr_of vector whole) ≡ op_value operator (meaning [] [] values (expr_of vector first.now) ∷ meaning [] [] values (expr_of vector second.now) ∷ meanings [] [] values (exprs_of vector rest.now))) }
+    ensures { IfOk result (λ whole. (values : List Val) → meaning [] [] values (expr_of vector whole) ≡
+        op_value operator (meaning [] [] values (expr_of vector first.now) ∷
+        meaning [] [] values (expr_of vector second.now) ∷ meanings [] [] values (exprs_of vector rest.now))) }
 {
     let mut whole = at_two(alloc, operator, first, second)?;
     for term in rest {
@@ -123,7 +129,8 @@ fn with_next(
     whole: Term<BvTheory>,
     next: &Term<BvTheory>,
 ) -> Result<Term<BvTheory>, Want>
-    ensures { IfOk result (λ term. expr_of vector term ≡ Apply operator (more (expr_of vector whole) (more (expr_of vector next.now) none))) }
+    ensures { IfOk result (λ term. expr_of vector term ≡
+        Apply operator (more (expr_of vector whole) (more (expr_of vector next.now) none))) }
 {
     let mut arguments = Terms::with_capacity(alloc, 2)?;
     arguments.push(whole)?;

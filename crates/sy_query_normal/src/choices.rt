@@ -19,7 +19,8 @@ pub(crate) fn chosen(
     alloc: Global,
     arguments: &Terms<BvTheory>,
 ) -> Result<Option<Term<BvTheory>>, Want>
-    ensures { IfOk result (λ found. IfSome found (λ term. (sorts : List Sort) → IsSameOver sorts (expr_of vector term) (Apply ops.Ite (exprs_of vector arguments.now.items.items)))) }
+    ensures { IfOk result (λ found. IfSome found (λ term. (sorts : List Sort) →
+        IsSameOver sorts (expr_of vector term) (Apply ops.Ite (exprs_of vector arguments.now.items.items)))) }
 {
     let Some(branch) = branch_of(arguments) else {
         return Ok(None);
@@ -30,7 +31,8 @@ pub(crate) fn chosen(
 
 /// The branch, where the terms are a test, which may be a constant, and two branches, which may be the same.
 fn branch_of<'a>(arguments: &'a Terms<BvTheory>) -> Option<&'a Term<BvTheory>>
-    ensures { IfSome result (λ branch. (values : List Val) → meaning [] [] values (expr_of vector branch.now) ≡ op_value ops.Ite (meanings [] [] values (exprs_of vector arguments.now.items.items))) }
+    ensures { IfSome result (λ branch. (values : List Val) → meaning [] [] values (expr_of vector branch.now) ≡
+        op_value ops.Ite (meanings [] [] values (exprs_of vector arguments.now.items.items))) }
 {
     if arguments.len() != 3 {
         return None;
@@ -47,7 +49,8 @@ fn branch_of<'a>(arguments: &'a Terms<BvTheory>) -> Option<&'a Term<BvTheory>>
 
 /// The truth value that the term is, where it is a constant.
 fn truth_of(term: &Term<BvTheory>) -> Option<bool>
-    ensures { IfSome result (λ truth. (values : List Val) → meaning [] [] values (expr_of vector term.now) ≡ Truth truth) }
+    ensures { IfSome result (λ truth. (values : List Val) →
+        meaning [] [] values (expr_of vector term.now) ≡ Truth truth) }
 {
     match term {
         Term::Const(value) => truth_in(value),

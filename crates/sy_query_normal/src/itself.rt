@@ -14,16 +14,17 @@ use std::alloc::Global;
 use sy_meaning_words::{BvTheory, Word};
 use sy_terms::{Op, Sort, Term, Terms, Value, Want};
 
-/// The operator at the terms, where they are one vector twice: zeros for a remainder and for a shift to the right that fills
-/// with zeros; for one that fills with the top bit the shift by one place less than the vector has. `None` for other operators,
-/// and where the width isn't known.
+/// The operator at the terms, where they are one vector twice: zeros for a remainder and for a shift to the right that
+/// fills with zeros; for one that fills with the top bit the shift by one place less than the vector has. `None` for
+/// other operators, and where the width isn't known.
 pub(crate) fn by_itself(
     alloc: Global,
     sorts: &[Sort],
     operator: Op,
     arguments: &Terms<BvTheory>,
 ) -> Result<Option<Term<BvTheory>>, Want>
-    ensures { IfOk result (λ found. IfSome found (λ term. IsSameOver sorts.now (expr_of vector term) (Apply operator (exprs_of vector arguments.now.items.items)))) }
+    ensures { IfOk result (λ found. IfSome found (λ term.
+        IsSameOver sorts.now (expr_of vector term) (Apply operator (exprs_of vector arguments.now.items.items)))) }
 {
     let Some(term) = twice(arguments) else {
         return Ok(None);
@@ -46,7 +47,9 @@ pub(crate) fn by_itself(
 
 /// The term that the terms are, where they are two equal ones.
 fn twice<'a>(arguments: &'a Terms<BvTheory>) -> Option<&'a Term<BvTheory>>
-    ensures { IfSome result (λ term. (values : List Val) → meanings [] [] values (exprs_of vector arguments.now.items.items) ≡ meaning [] [] values (expr_of vector term.now) ∷ meaning [] [] values (expr_of vector term.now) ∷ []) }
+    ensures { IfSome result (λ term. (values : List Val) →
+        meanings [] [] values (exprs_of vector arguments.now.items.items) ≡
+        meaning [] [] values (expr_of vector term.now) ∷ meaning [] [] values (expr_of vector term.now) ∷ []) }
 {
     if arguments.len() != 2 {
         return None;
@@ -58,7 +61,8 @@ fn twice<'a>(arguments: &'a Terms<BvTheory>) -> Option<&'a Term<BvTheory>>
 
 /// Whether the operator gives zeros at a vector and the same vector again.
 fn leaves_nothing(operator: Op) -> bool
-    ensures { IsTrue result → (width number : ℕ) → op_value operator (Bits width number ∷ Bits width number ∷ []) ≡ Bits width 0 }
+    ensures { IsTrue result → (width number : ℕ) →
+        op_value operator (Bits width number ∷ Bits width number ∷ []) ≡ Bits width 0 }
 {
     match operator {
         Op::BvLshr => true,

@@ -47,7 +47,8 @@ fn all_normal(
     sorts: &[Sort],
     terms: &[Term<BvTheory>],
 ) -> Result<Terms<BvTheory>, Want>
-    ensures { IfOk result (λ found. AreSameOver sorts.now (exprs_of vector found.items.items) (exprs_of vector terms.now)) }
+    ensures { IfOk result (λ found.
+        AreSameOver sorts.now (exprs_of vector found.items.items) (exprs_of vector terms.now)) }
 {
     let mut all = Terms::with_capacity(alloc, terms.len())?;
     for term in terms {
@@ -64,7 +65,8 @@ fn normal_application(
     operator: Op,
     arguments: Terms<BvTheory>,
 ) -> Result<Term<BvTheory>, Want>
-    ensures { IfOk result (λ found. IsSameOver sorts.now (expr_of vector found) (Apply operator (exprs_of vector arguments.items.items))) }
+    ensures { IfOk result (λ found.
+        IsSameOver sorts.now (expr_of vector found) (Apply operator (exprs_of vector arguments.items.items))) }
 {
     match anew(alloc, sorts, operator, &arguments)? {
         Some(found) => Ok(found),
@@ -79,7 +81,8 @@ fn anew(
     operator: Op,
     arguments: &Terms<BvTheory>,
 ) -> Result<Option<Term<BvTheory>>, Want>
-    ensures { IfOk result (λ found. IfSome found (λ term. IsSameOver sorts.now (expr_of vector term) (Apply operator (exprs_of vector arguments.now.items.items)))) }
+    ensures { IfOk result (λ found. IfSome found (λ term.
+        IsSameOver sorts.now (expr_of vector term) (Apply operator (exprs_of vector arguments.now.items.items)))) }
 {
     match operator {
         Op::Ite => {

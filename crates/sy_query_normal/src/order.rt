@@ -4,9 +4,9 @@ use sy_meaning_words::{BvTheory, Word};
 use sy_terms::{Op, Term, Value};
 use sy_terms_operators::spell;
 
-/// Whether the first term stands before the second one: variables before applications, these by their operators and then by
-/// their arguments, and constants last, as people write sums and comparisons. A complement stands right behind the term whose
-/// it is, so that gates of the two see each other.
+/// Whether the first term stands before the second one: variables before applications, these by their operators and
+/// then by their arguments, and constants last, as people write sums and comparisons. A complement stands right behind
+/// the term whose it is, so that gates of the two see each other.
 pub(crate) fn is_before(first: &Term<BvTheory>, second: &Term<BvTheory>) -> bool {
     match compare(turned_back(first), turned_back(second)) {
         Ordering::Less => true,
@@ -15,8 +15,8 @@ pub(crate) fn is_before(first: &Term<BvTheory>, second: &Term<BvTheory>) -> bool
     }
 }
 
-/// The same, but for terms that have complements among the given ones: these stand before the others, so that an operator which
-/// goes from the left meets a term and its complement before anything else.
+/// The same, but for terms that have complements among the given ones: these stand before the others, so that an
+/// operator which goes from the left meets a term and its complement before anything else.
 pub(crate) fn is_before_among(
     terms: &[Term<BvTheory>],
     first: &Term<BvTheory>,

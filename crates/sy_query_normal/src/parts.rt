@@ -1,5 +1,21 @@
 // The arguments of operators that take them in any order.
-ghost use Rattle.std.specs.Prelude.{◌≡◌, ◌≤◌, ◌<◌, ◌++◌, ℕ, [], ◌∷◌, List, length, slice_get, Some, IsTrue, IfOk, IfSome, OnOk};
+ghost use Rattle.std.specs.Prelude.{
+  ◌≡◌,
+  ◌≤◌,
+  ◌<◌,
+  ◌++◌,
+  ℕ,
+  [],
+  ◌∷◌,
+  List,
+  length,
+  slice_get,
+  Some,
+  IsTrue,
+  IfOk,
+  IfSome,
+  OnOk,
+};
 ghost use Rattle.std.specs.Option.{option_map};
 ghost use Rattle.sy_terms.specs.Values.{Val};
 ghost use Rattle.sy_terms.specs.Denoted.{expr_of, exprs_of};
@@ -54,7 +70,9 @@ pub(crate) fn flattened(
     operator: Op,
     terms: &[Term<BvTheory>],
 ) -> Result<Vec<Term<BvTheory>>, Want>
-    ensures { IfOk result (λ parts. (sort : Sort) → IsUnordered sort operator → (values : List Val) (first : Val) → op_value operator (first ∷ meanings [] [] values (exprs_of vector parts.items)) ≡ op_value operator (first ∷ meanings [] [] values (exprs_of vector terms.now))) }
+    ensures { IfOk result (λ parts. (sort : Sort) → IsUnordered sort operator → (values : List Val) (first : Val) →
+        op_value operator (first ∷ meanings [] [] values (exprs_of vector parts.items)) ≡
+        op_value operator (first ∷ meanings [] [] values (exprs_of vector terms.now))) }
 {
     let mut parts = Vec::with_capacity(alloc, terms.len())?;
     for term in terms {
@@ -66,7 +84,9 @@ pub(crate) fn flattened(
 
 /// The arguments of a term that is the operator at some, and else the term.
 fn parts_of(alloc: Global, operator: Op, term: &Term<BvTheory>) -> Result<Vec<Term<BvTheory>>, Want>
-    ensures { IfOk result (λ parts. (sort : Sort) → IsUnordered sort operator → (values : List Val) (first : Val) → op_value operator (first ∷ meanings [] [] values (exprs_of vector parts.items)) ≡ op_value operator (first ∷ meaning [] [] values (expr_of vector term.now) ∷ [])) }
+    ensures { IfOk result (λ parts. (sort : Sort) → IsUnordered sort operator → (values : List Val) (first : Val) →
+        op_value operator (first ∷ meanings [] [] values (exprs_of vector parts.items)) ≡
+        op_value operator (first ∷ meaning [] [] values (expr_of vector term.now) ∷ [])) }
 {
     match arguments_under(operator, term) {
         Some(arguments) => {
@@ -84,7 +104,8 @@ fn parts_of(alloc: Global, operator: Op, term: &Term<BvTheory>) -> Result<Vec<Te
 
 /// The arguments of the term, where it is the operator at one or more.
 fn arguments_under<'a>(operator: Op, term: &'a Term<BvTheory>) -> Option<&'a Terms<BvTheory>>
-    ensures is { IfSome result (λ arguments. expr_of vector term.now ≡ Apply operator (exprs_of vector arguments.now.items.items)) }
+    ensures is { IfSome result (λ arguments. expr_of vector term.now ≡
+        Apply operator (exprs_of vector arguments.now.items.items)) }
     ensures some { IfSome result (λ arguments. 1 ≤ length arguments.now.items.items) }
 {
     let Term::App(inner, arguments) = term else {
@@ -107,7 +128,9 @@ pub(crate) fn in_order(
     sort: Sort,
     parts: &[Term<BvTheory>],
 ) -> Result<Option<Vec<Term<BvTheory>>>, Want>
-    ensures { IfOk result (λ found. IfSome found (λ ordered. IsUnordered sort operator → (values : List Val) → BeginWithSorts sorts.now values → GiveTheSame sort operator (meanings [] [] values (exprs_of vector ordered.items)) (meanings [] [] values (exprs_of vector parts.now)))) }
+    ensures { IfOk result (λ found. IfSome found (λ ordered. IsUnordered sort operator →
+        (values : List Val) → BeginWithSorts sorts.now values → GiveTheSame sort operator
+        (meanings [] [] values (exprs_of vector ordered.items)) (meanings [] [] values (exprs_of vector parts.now)))) }
 {
     let mut ordered = Vec::with_capacity(alloc, parts.len())?;
     for part in parts {
@@ -119,8 +142,8 @@ pub(crate) fn in_order(
     Ok(Some(ordered))
 }
 
-/// Puts the part in its place among parts in order, of all these. Where it is there already, the two are one part or cancel
-/// each other.
+/// Puts the part in its place among parts in order, of all these. Where it is there already, the two are one part or
+/// cancel each other.
 fn insert(
     alloc: Global,
     operator: Op,
@@ -128,7 +151,10 @@ fn insert(
     parts: &mut Vec<Term<BvTheory>>,
     part: &Term<BvTheory>,
 ) -> Result<(), Want>
-    ensures { OnOk result ((sort : Sort) → IsUnordered sort operator → (values : List Val) → sort_of_value (meaning [] [] values (expr_of vector part.now)) ≡ sort → GiveTheSame sort operator (meanings [] [] values (exprs_of vector parts.new.items)) (meaning [] [] values (expr_of vector part.now) ∷ meanings [] [] values (exprs_of vector parts.old.items))) }
+    ensures { OnOk result ((sort : Sort) → IsUnordered sort operator →
+        (values : List Val) → sort_of_value (meaning [] [] values (expr_of vector part.now)) ≡ sort →
+        GiveTheSame sort operator (meanings [] [] values (exprs_of vector parts.new.items))
+        (meaning [] [] values (expr_of vector part.now) ∷ meanings [] [] values (exprs_of vector parts.old.items))) }
 {
     let place = place_of(all, parts.as_slice(), part);
     if !is_at(parts.as_slice(), place, part) {
@@ -165,7 +191,8 @@ fn place_of(all: &[Term<BvTheory>], parts: &[Term<BvTheory>], part: &Term<BvTheo
 /// Whether the part stands at the place.
 fn is_at(parts: &[Term<BvTheory>], place: usize, part: &Term<BvTheory>) -> bool
     ensures within { IsTrue result → place < length parts.now }
-    ensures is { IsTrue result → option_map (expr_of vector) (slice_get parts.now place) ≡ Some (expr_of vector part.now) }
+    ensures is { IsTrue result →
+        option_map (expr_of vector) (slice_get parts.now place) ≡ Some (expr_of vector part.now) }
 {
     match parts.get(place) {
         Some(other) => other.equals(part),

@@ -22,7 +22,8 @@ pub(crate) fn turned(
     operator: Op,
     arguments: &Terms<BvTheory>,
 ) -> Result<Option<Term<BvTheory>>, Want>
-    ensures { IfOk result (λ found. IfSome found (λ term. IsSameOver sorts.now (expr_of vector term) (Apply operator (exprs_of vector arguments.now.items.items)))) }
+    ensures { IfOk result (λ found. IfSome found (λ term.
+        IsSameOver sorts.now (expr_of vector term) (Apply operator (exprs_of vector arguments.now.items.items)))) }
 {
     if arguments.len() != 2 {
         return Ok(None);
@@ -43,9 +44,11 @@ pub(crate) fn turned(
     Ok(Some(term))
 }
 
-/// The operator that gives at exchanged arguments what this one gives; `None` for the others and for those that say "less".
+/// The operator that gives at exchanged arguments what this one gives; `None` for the others and for those that say
+/// "less".
 fn exchanged(operator: Op) -> Option<Op>
-    ensures { IfSome result (λ other. (x y : Val) → sort_of_value x ≡ sort_of_value y → op_value other (y ∷ x ∷ []) ≡ op_value operator (x ∷ y ∷ [])) }
+    ensures { IfSome result (λ other. (x y : Val) → sort_of_value x ≡ sort_of_value y →
+        op_value other (y ∷ x ∷ []) ≡ op_value operator (x ∷ y ∷ [])) }
 {
     match operator {
         Op::Equal => Some(Op::Equal),
@@ -76,7 +79,8 @@ pub(crate) fn at_two(
     first: &Term<BvTheory>,
     second: &Term<BvTheory>,
 ) -> Result<Term<BvTheory>, Want>
-    ensures { IfOk result (λ term. expr_of vector term ≡ Apply operator (more (expr_of vector first.now) (more (expr_of vector second.now) none))) }
+    ensures { IfOk result (λ term. expr_of vector term ≡
+        Apply operator (more (expr_of vector first.now) (more (expr_of vector second.now) none))) }
 {
     let mut arguments = Terms::with_capacity(alloc, 2)?;
     let first = first.copy(alloc)?;

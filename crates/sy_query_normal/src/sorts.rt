@@ -18,7 +18,8 @@ use sy_terms_operators::operator_sort;
 /// The sort of a term over variables of these sorts; `None` where that isn't known.
 #[cycle(sorts)]
 fn sort_of(alloc: Global, sorts: &[Sort], term: &Term<BvTheory>) -> Result<Option<Sort>, Want>
-    ensures { IfOk result (λ found. IfSome found (λ sort. (values : List Val) → BeginWithSorts sorts.now values → sort_of_value (meaning [] [] values (expr_of vector term.now)) ≡ sort)) }
+    ensures { IfOk result (λ found. IfSome found (λ sort. (values : List Val) →
+        BeginWithSorts sorts.now values → sort_of_value (meaning [] [] values (expr_of vector term.now)) ≡ sort)) }
 {
     match term {
         Term::Const(value) => Ok(Some(constant_sort(value))),
@@ -40,7 +41,8 @@ pub(crate) fn application_sort(
     operator: Op,
     terms: &[Term<BvTheory>],
 ) -> Result<Option<Sort>, Want>
-    ensures { IfOk result (λ found. IfSome found (λ sort. (values : List Val) → BeginWithSorts sorts.now values → sort_of_value (op_value operator (meanings [] [] values (exprs_of vector terms.now))) ≡ sort)) }
+    ensures { IfOk result (λ found. IfSome found (λ sort. (values : List Val) → BeginWithSorts sorts.now values →
+        sort_of_value (op_value operator (meanings [] [] values (exprs_of vector terms.now))) ≡ sort)) }
 {
     if gives_truth(operator) {
         return Ok(Some(Sort::Bool));
@@ -106,7 +108,8 @@ pub(crate) fn width_of(
     sorts: &[Sort],
     term: &Term<BvTheory>,
 ) -> Result<Option<u8>, Want>
-    ensures { IfOk result (λ found. IfSome found (λ width. (values : List Val) → BeginWithSorts sorts.now values → sort_of_value (meaning [] [] values (expr_of vector term.now)) ≡ kinds.Bits width)) }
+    ensures { IfOk result (λ found. IfSome found (λ width. (values : List Val) → BeginWithSorts sorts.now values →
+        sort_of_value (meaning [] [] values (expr_of vector term.now)) ≡ kinds.Bits width)) }
 {
     let Some(sort) = sort_of(alloc, sorts, term)? else {
         return Ok(None);
@@ -124,7 +127,8 @@ pub(crate) fn has_sort(
     sort: Sort,
     term: &Term<BvTheory>,
 ) -> Result<bool, Want>
-    ensures { IfOk result (λ yes. IsTrue yes → (values : List Val) → BeginWithSorts sorts.now values → sort_of_value (meaning [] [] values (expr_of vector term.now)) ≡ sort) }
+    ensures { IfOk result (λ yes. IsTrue yes → (values : List Val) →
+        BeginWithSorts sorts.now values → sort_of_value (meaning [] [] values (expr_of vector term.now)) ≡ sort) }
 {
     let Some(found) = sort_of(alloc, sorts, term)? else {
         return Ok(false);
@@ -139,7 +143,9 @@ pub(crate) fn have_one_sort(
     first: &Term<BvTheory>,
     second: &Term<BvTheory>,
 ) -> Result<bool, Want>
-    ensures { IfOk result (λ yes. IsTrue yes → (values : List Val) → BeginWithSorts sorts.now values → sort_of_value (meaning [] [] values (expr_of vector first.now)) ≡ sort_of_value (meaning [] [] values (expr_of vector second.now))) }
+    ensures { IfOk result (λ yes. IsTrue yes → (values : List Val) →
+        BeginWithSorts sorts.now values → sort_of_value (meaning [] [] values (expr_of vector first.now)) ≡
+        sort_of_value (meaning [] [] values (expr_of vector second.now))) }
 {
     let Some(sort) = sort_of(alloc, sorts, second)? else {
         return Ok(false);

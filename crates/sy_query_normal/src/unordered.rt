@@ -18,16 +18,17 @@ use sy_terms::{Op, Sort, Term, Terms, Value, Want};
 /// The most arguments that are put in order.
 const MOST_PARTS: usize = 64;
 
-/// The operator at the terms, in which the arguments of an argument under the same operator are its own, stand in order, those
-/// beside their complements first, and are freed of doubles; `None` where the operator isn't one of these or the sorts of the
-/// terms aren't known.
+/// The operator at the terms, in which the arguments of an argument under the same operator are its own, stand in
+/// order, those beside their complements first, and are freed of doubles; `None` where the operator isn't one of these
+/// or the sorts of the terms aren't known.
 pub(crate) fn gathered(
     alloc: Global,
     sorts: &[Sort],
     operator: Op,
     arguments: &Terms<BvTheory>,
 ) -> Result<Option<Term<BvTheory>>, Want>
-    ensures { IfOk result (λ found. IfSome found (λ term. IsSameOver sorts.now (expr_of vector term) (Apply operator (exprs_of vector arguments.now.items.items)))) }
+    ensures { IfOk result (λ found. IfSome found (λ term.
+        IsSameOver sorts.now (expr_of vector term) (Apply operator (exprs_of vector arguments.now.items.items)))) }
 {
     let terms = arguments.as_slice();
     if terms.len() < 2 {
@@ -96,7 +97,9 @@ fn applied(
     sort: Sort,
     parts: &[Term<BvTheory>],
 ) -> Result<Option<Term<BvTheory>>, Want>
-    ensures { IfOk result (λ found. IfSome found (λ term. IsUnordered sort operator → (values : List Val) → GiveTheSame sort operator (meaning [] [] values (expr_of vector term) ∷ []) (meanings [] [] values (exprs_of vector parts.now)))) }
+    ensures { IfOk result (λ found.
+        IfSome found (λ term. IsUnordered sort operator → (values : List Val) → GiveTheSame sort operator
+        (meaning [] [] values (expr_of vector term) ∷ []) (meanings [] [] values (exprs_of vector parts.now)))) }
 {
     if parts.len() == 0 {
         return Ok(nothing(operator, sort));
@@ -111,7 +114,8 @@ fn applied(
 
 /// A term that changes nothing behind a value of the sort, where the operator's arguments may cancel each other.
 fn nothing(operator: Op, sort: Sort) -> Option<Term<BvTheory>>
-    ensures { IfSome result (λ term. (values : List Val) → GiveTheSame sort operator (meaning [] [] values (expr_of vector term) ∷ []) []) }
+    ensures { IfSome result (λ term. (values : List Val) →
+        GiveTheSame sort operator (meaning [] [] values (expr_of vector term) ∷ []) []) }
 {
     let Op::BvXor = operator else {
         return None;

@@ -14,7 +14,8 @@ pub fn violation<T: Theory>(
     assumptions: Terms<T>,
     constraints: Terms<T>,
 ) -> Result<Term<T>, Want>
-    ensures { IfOk result (λ term. expr_of T.denotes term ≡ violated_by (exprs_of T.denotes assumptions.items.items) (exprs_of T.denotes constraints.items.items)) }
+    ensures { IfOk result (λ term. expr_of T.denotes term ≡
+        violated_by (exprs_of T.denotes assumptions.items.items) (exprs_of T.denotes constraints.items.items)) }
 {
     let mut negated = Terms::new(alloc);
     negated.push(conjunction(constraints))?;

@@ -29,13 +29,16 @@ pub fn reply_text<T: Theory>(
     problem: &Problem<T>,
     bodies: &Bodies<T>,
 ) -> Result<Bytes, Want>
-    // At least as many titles as functions to be found, and as many argument names in each as its function has arguments.
+    // At least as many titles as functions to be found, and as many argument names in each as its function has
+    // arguments.
     requires titles { AreTitled titles.now.wanted (question_of T.denotes problem.now).goals }
     // At least as many names as definitions.
     requires names { length problem.now.defs ≤ length titles.now.defined }
     // One body for each function to be found, that fits and holds no `let`.
-    requires bodies { HaveBodies (length problem.now.defs) (question_of T.denotes problem.now).goals (map (expr_of T.denotes) bodies.now) }
-    ensures { IfOk result (λ text. text ≡ replies.reply_text titles.now (question_of T.denotes problem.now) (map (expr_of T.denotes) bodies.now)) }
+    requires bodies { HaveBodies (length problem.now.defs)
+        (question_of T.denotes problem.now).goals (map (expr_of T.denotes) bodies.now) }
+    ensures { IfOk result (λ text. text ≡
+        replies.reply_text titles.now (question_of T.denotes problem.now) (map (expr_of T.denotes) bodies.now)) }
 {
     let mut out = Bytes::new(alloc);
     out.append(b"(\n")?;
@@ -62,7 +65,8 @@ fn write_definition<T: Theory>(
     body: &Term<T>,
 ) -> Result<(), Want>
     requires { IsWritable (length title.now.args) (length definitions.now) (expr_of T.denotes body.now) }
-    ensures { OnOk result (out.new ≡ out.old ++ replies.line (replies.definition_text definitions.now title.now (goal_of T.denotes function.now) (expr_of T.denotes body.now))) }
+    ensures { OnOk result (out.new ≡ out.old ++ replies.line (replies.definition_text definitions.now title.now
+        (goal_of T.denotes function.now) (expr_of T.denotes body.now))) }
 {
     let arguments = title.args.as_slice();
     out.append(b"(define-fun ")?;

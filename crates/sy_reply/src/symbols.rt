@@ -46,7 +46,8 @@ pub fn write_operator(out: &mut Bytes, operator: &Op) -> Result<(), Want>
 
 /// Appends `(_ NAME I ..)`.
 fn write_indexed(out: &mut Bytes, name: &str, indices: &[u8]) -> Result<(), Want>
-    ensures { OnOk result (out.new ≡ out.old ++ replies.bracketed (codes "_" ∷ name.now ∷ map numeral_text indices.now)) }
+    ensures { OnOk result (out.new ≡ out.old ++
+        replies.bracketed (codes "_" ∷ name.now ∷ map numeral_text indices.now)) }
 {
     out.append(b"(_ ")?;
     out.append(name.as_bytes())?;

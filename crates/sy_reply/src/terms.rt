@@ -39,7 +39,8 @@ pub fn write_term<T: Theory>(
     term: &Term<T>,
 ) -> Result<(), Want>
     requires { IsWritable (length arguments.now) (length definitions.now) (expr_of T.denotes term.now) }
-    ensures { OnOk result (out.new ≡ out.old ++ replies.term_text arguments.now definitions.now (expr_of T.denotes term.now)) }
+    ensures { OnOk result (out.new ≡ out.old ++
+        replies.term_text arguments.now definitions.now (expr_of T.denotes term.now)) }
 {
     match term {
         Term::Const(value) => write_value::<T>(out, value),
@@ -72,7 +73,8 @@ fn write_parts<T: Theory>(
     terms: &Terms<T>,
 ) -> Result<(), Want>
     requires { AreWritable (length arguments.now) (length definitions.now) (exprs_of T.denotes terms.now.items.items) }
-    ensures { OnOk result (out.new ≡ out.old ++ replies.spaced (replies.terms_text arguments.now definitions.now (exprs_of T.denotes terms.now.items.items))) }
+    ensures { OnOk result (out.new ≡ out.old ++
+        replies.spaced (replies.terms_text arguments.now definitions.now (exprs_of T.denotes terms.now.items.items))) }
 {
     for term in terms.as_slice() {
         out.append(b" ")?;

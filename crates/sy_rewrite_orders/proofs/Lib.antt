@@ -3,4 +3,4 @@ pub mod Meanings
 pub mod Numbers
 pub mod Operations
 pub mod Replaced
-pub mod Terms
+pub mod TermsLaws

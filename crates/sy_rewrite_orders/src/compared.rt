@@ -34,7 +34,8 @@ pub(crate) fn applied<T: Theory>(
     operator: Op,
     arguments: Terms<T>,
 ) -> Result<Term<T>, Want>
-    ensures { IfOk result (λ term. IsAlike (expr_of T.denotes term) (Apply operator (exprs_of T.denotes arguments.items.items))) }
+    ensures { IfOk result (λ term.
+        IsAlike (expr_of T.denotes term) (Apply operator (exprs_of T.denotes arguments.items.items))) }
 {
     match sides_compared(alloc, operator, &arguments)? {
         Some(found) => Ok(found),
@@ -48,7 +49,8 @@ fn sides_compared<T: Theory>(
     operator: Op,
     arguments: &Terms<T>,
 ) -> Result<Option<Term<T>>, Want>
-    ensures { IfOk result (λ found. IfSome found (λ term. IsAlike (expr_of T.denotes term) (Apply operator (exprs_of T.denotes arguments.now.items.items)))) }
+    ensures { IfOk result (λ found. IfSome found (λ term.
+        IsAlike (expr_of T.denotes term) (Apply operator (exprs_of T.denotes arguments.now.items.items)))) }
 {
     if !compares(operator) || arguments.len() != 2 {
         return Ok(None);
@@ -100,7 +102,8 @@ fn compared<'a, T: Theory>(
     with: &Comparison<'a, T>,
     term: &Term<T>,
 ) -> Result<Term<T>, Want>
-    ensures { IfOk result (λ found. IsAlike (expr_of T.denotes found) (comparison with.now.operator (expr_of T.denotes with.now.known.now) with.now.is_first (expr_of T.denotes term.now))) }
+    ensures { IfOk result (λ found. IsAlike (expr_of T.denotes found) (comparison with.now.operator
+        (expr_of T.denotes with.now.known.now) with.now.is_first (expr_of T.denotes term.now))) }
 {
     let Some(parts) = parts_of(term) else {
         let found = both(alloc, with, term)?;
@@ -118,7 +121,8 @@ fn compared<'a, T: Theory>(
 
 /// The arguments of the term, where it is a choice.
 fn parts_of<'a, T: Theory>(term: &'a Term<T>) -> Option<Parts<'a, T>>
-    ensures { IfSome result (λ parts. expr_of T.denotes term.now ≡ chosen (expr_of T.denotes parts.test.now) (expr_of T.denotes parts.there.now) (expr_of T.denotes parts.here.now)) }
+    ensures { IfSome result (λ parts. expr_of T.denotes term.now ≡ chosen (expr_of T.denotes parts.test.now)
+        (expr_of T.denotes parts.there.now) (expr_of T.denotes parts.here.now)) }
 {
     match term {
         Term::App(operator, arguments) => chosen_of(*operator, arguments),
@@ -128,7 +132,8 @@ fn parts_of<'a, T: Theory>(term: &'a Term<T>) -> Option<Parts<'a, T>>
 
 /// The terms, where the operator at them is a choice.
 fn chosen_of<'a, T: Theory>(operator: Op, terms: &'a Terms<T>) -> Option<Parts<'a, T>>
-    ensures { IfSome result (λ parts. Apply operator (exprs_of T.denotes terms.now.items.items) ≡ chosen (expr_of T.denotes parts.test.now) (expr_of T.denotes parts.there.now) (expr_of T.denotes parts.here.now)) }
+    ensures { IfSome result (λ parts. Apply operator (exprs_of T.denotes terms.now.items.items) ≡ chosen
+        (expr_of T.denotes parts.test.now) (expr_of T.denotes parts.there.now) (expr_of T.denotes parts.here.now)) }
 {
     let Op::Ite = operator else {
         return None;
@@ -139,7 +144,8 @@ fn chosen_of<'a, T: Theory>(operator: Op, terms: &'a Terms<T>) -> Option<Parts<'
 
 /// The terms, where they are three.
 fn three_of<'a, T: Theory>(terms: &'a Terms<T>) -> Option<Parts<'a, T>>
-    ensures { IfSome result (λ parts. exprs_of T.denotes terms.now.items.items ≡ more (expr_of T.denotes parts.test.now) (more (expr_of T.denotes parts.there.now) (more (expr_of T.denotes parts.here.now) none))) }
+    ensures { IfSome result (λ parts. exprs_of T.denotes terms.now.items.items ≡ more (expr_of T.denotes parts.test.now)
+        (more (expr_of T.denotes parts.there.now) (more (expr_of T.denotes parts.here.now) none))) }
 {
     if terms.len() != 3 {
         return None;
@@ -156,7 +162,8 @@ fn both<'a, T: Theory>(
     with: &Comparison<'a, T>,
     term: &Term<T>,
 ) -> Result<Term<T>, Want>
-    ensures { IfOk result (λ found. expr_of T.denotes found ≡ comparison with.now.operator (expr_of T.denotes with.now.known.now) with.now.is_first (expr_of T.denotes term.now)) }
+    ensures { IfOk result (λ found. expr_of T.denotes found ≡ comparison with.now.operator
+        (expr_of T.denotes with.now.known.now) with.now.is_first (expr_of T.denotes term.now)) }
 {
     if with.is_first {
         let found = binary(alloc, with.operator, with.known, term)?;

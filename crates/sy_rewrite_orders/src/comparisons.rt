@@ -18,7 +18,8 @@ const MOST_BITS: u32 = 64;
 
 /// Whether vectors that have these sums are equal, where the difference is a number.
 fn compared(alloc: Global, left: &Sum, right: &Sum) -> Result<Option<bool>, Want>
-    ensures { IfOk result (λ found. IfSome found (λ equal. (values : List Val) (x y : Val) → HasSum values left.now x → HasSum values right.now y → IsComparedAs equal x y)) }
+    ensures { IfOk result (λ found. IfSome found (λ equal. (values : List Val) (x y : Val) →
+        HasSum values left.now x → HasSum values right.now y → IsComparedAs equal x y)) }
 {
     let width = left.width;
     if width > MOST_BITS || right.width != width {
@@ -37,7 +38,8 @@ fn compared(alloc: Global, left: &Sum, right: &Sum) -> Result<Option<bool>, Want
 
 /// What the operator says of two vectors, of which is known whether they are equal; `None` where that isn't enough.
 fn truth_by(operator: Op, equal: bool) -> Option<bool>
-    ensures { IfSome result (λ truth. (x y : Val) → IsComparedAs equal x y → op_value operator (x ∷ y ∷ []) ≡ Truth truth) }
+    ensures { IfSome result (λ truth. (x y : Val) → IsComparedAs equal x y →
+        op_value operator (x ∷ y ∷ []) ≡ Truth truth) }
 {
     match operator {
         Op::Equal => Some(equal),
@@ -48,7 +50,8 @@ fn truth_by(operator: Op, equal: bool) -> Option<bool>
 
 /// What the operator says of two vectors, where it asks for their order and they are equal.
 fn order_by(operator: Op, equal: bool) -> Option<bool>
-    ensures { IfSome result (λ truth. (x y : Val) → IsComparedAs equal x y → op_value operator (x ∷ y ∷ []) ≡ Truth truth) }
+    ensures { IfSome result (λ truth. (x y : Val) → IsComparedAs equal x y →
+        op_value operator (x ∷ y ∷ []) ≡ Truth truth) }
 {
     if !equal {
         return None;
@@ -66,7 +69,8 @@ fn order_by(operator: Op, equal: bool) -> Option<bool>
     }
 }
 
-/// What the operator says of two terms where the first values are of these sorts, if they are sums whose difference decides it.
+/// What the operator says of two terms where the first values are of these sorts, if they are sums whose difference
+/// decides it.
 pub(crate) fn truth_at(
     alloc: Global,
     sorts: &[Sort],
@@ -74,7 +78,9 @@ pub(crate) fn truth_at(
     left: &Term<BvTheory>,
     right: &Term<BvTheory>,
 ) -> Result<Option<bool>, Want>
-    ensures { IfOk result (λ found. IfSome found (λ truth. (values : List Val) → BeginWithSorts sorts.now values → op_value operator (meaning [] [] values (expr_of vector left.now) ∷ meaning [] [] values (expr_of vector right.now) ∷ []) ≡ Truth truth)) }
+    ensures { IfOk result (λ found. IfSome found (λ truth. (values : List Val) →
+        BeginWithSorts sorts.now values → op_value operator (meaning [] [] values (expr_of vector left.now) ∷
+        meaning [] [] values (expr_of vector right.now) ∷ []) ≡ Truth truth)) }
 {
     let Some(first) = sum_of(alloc, sorts, left)? else {
         return Ok(None);

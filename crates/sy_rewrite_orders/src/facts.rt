@@ -27,7 +27,8 @@ pub(crate) fn with_facts<T: Theory>(
 
 /// Appends facts of the triple's variables.
 fn add_facts<T: Theory>(alloc: Global, of: Triple, parts: &mut Terms<T>) -> Result<(), Want>
-    ensures { OnOk result (SayTheSame (exprs_of T.denotes parts.new.items.items) (exprs_of T.denotes parts.old.items.items)) }
+    ensures { OnOk result
+        (SayTheSame (exprs_of T.denotes parts.new.items.items) (exprs_of T.denotes parts.old.items.items)) }
 {
     let fact = transitive(alloc, of)?;
     parts.push(fact)?;
@@ -66,7 +67,8 @@ fn steps<T: Theory>(
     second: u32,
     third: u32,
 ) -> Result<Term<T>, Want>
-    ensures { IfOk result (λ term. expr_of T.denotes term ≡ Apply ops.And (more (related operator first second) (more (related operator second third) none))) }
+    ensures { IfOk result (λ term. expr_of T.denotes term ≡
+        Apply ops.And (more (related operator first second) (more (related operator second third) none))) }
 {
     let mut both = Terms::with_capacity(alloc, 2)?;
     let lower = order(alloc, operator, first, second)?;

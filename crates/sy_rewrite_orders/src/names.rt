@@ -9,8 +9,8 @@ ghost use Rattle.sy_rewrite_orders.specs.Replaced.{AreNext};
 use std::alloc::{AllocError, Global};
 use sy_terms::{Term, Theory, Value, Want};
 
-/// Whether the term is made of constants, operators and the first `count` variables alone, so that it means the same where
-/// further values are in force.
+/// Whether the term is made of constants, operators and the first `count` variables alone, so that it means the same
+/// where further values are in force.
 #[cycle(plain)]
 fn is_plain<T: Theory>(count: u32, term: &Term<T>) -> bool
     ensures { result ≡ spec.is_plain count (expr_of T.denotes term.now) }
@@ -57,7 +57,9 @@ pub(crate) fn named<T: Theory>(
     names: &[Term<T>],
     position: u32,
 ) -> Result<Term<T>, Want>
-    ensures { IfOk result (λ found. (defined wanted : List Function) (values : List Val) → meaning defined wanted values (expr_of T.denotes found) ≡ value_at_position (meanings defined wanted values (exprs_of T.denotes names.now)) position) }
+    ensures { IfOk result (λ found. (defined wanted : List Function) (values : List Val) →
+        meaning defined wanted values (expr_of T.denotes found) ≡
+        value_at_position (meanings defined wanted values (exprs_of T.denotes names.now)) position) }
 {
     match names.get(position as usize) {
         Some(term) => {

@@ -29,7 +29,8 @@ pub(crate) fn makes_sums(operator: Op) -> bool {
 
 /// The sum of the operator's value at vectors that have these sums; `None` where it isn't known.
 pub(crate) fn applied(alloc: Global, operator: Op, sums: &[Sum]) -> Result<Option<Sum>, Want>
-    ensures { IfOk result (λ found. IfSome found (λ sum. (values arguments : List Val) → HaveSums values sums.now arguments → HasSum values sum (op_value operator arguments))) }
+    ensures { IfOk result (λ found. IfSome found (λ sum. (values arguments : List Val) →
+        HaveSums values sums.now arguments → HasSum values sum (op_value operator arguments))) }
 {
     match sums {
         [sum] => {
@@ -50,7 +51,8 @@ pub(crate) fn applied(alloc: Global, operator: Op, sums: &[Sum]) -> Result<Optio
 
 /// The sum of the operator's value at one vector.
 fn of_one(alloc: Global, operator: Op, sum: &Sum) -> Result<Option<Sum>, Want>
-    ensures { IfOk result (λ found. IfSome found (λ r. (values : List Val) (x : Val) → HasSum values sum.now x → HasSum values r (op_value operator (x ∷ [])))) }
+    ensures { IfOk result (λ found. IfSome found (λ r. (values : List Val) (x : Val) →
+        HasSum values sum.now x → HasSum values r (op_value operator (x ∷ [])))) }
 {
     let width = sum.width;
     if width > MOST_BITS {
@@ -74,7 +76,8 @@ fn of_one(alloc: Global, operator: Op, sum: &Sum) -> Result<Option<Sum>, Want>
 
 /// The sum of the operator's value at two vectors.
 fn of_two(alloc: Global, operator: Op, left: &Sum, right: &Sum) -> Result<Option<Sum>, Want>
-    ensures { IfOk result (λ found. IfSome found (λ r. (values : List Val) (x y : Val) → HasSum values left.now x → HasSum values right.now y → HasSum values r (op_value operator (x ∷ y ∷ [])))) }
+    ensures { IfOk result (λ found. IfSome found (λ r. (values : List Val) (x y : Val) →
+        HasSum values left.now x → HasSum values right.now y → HasSum values r (op_value operator (x ∷ y ∷ [])))) }
 {
     let width = left.width;
     if width > MOST_BITS || right.width != width {
@@ -109,7 +112,8 @@ fn of_many(
     second: &Sum,
     rest: &[Sum],
 ) -> Result<Option<Sum>, Want>
-    ensures { IfOk result (λ found. IfSome found (λ r. (values arguments : List Val) → HaveSums values (first.now ∷ second.now ∷ rest.now) arguments → HasSum values r (op_value operator arguments))) }
+    ensures { IfOk result (λ found. IfSome found (λ r. (values arguments : List Val) → HaveSums values (first.now ∷
+        second.now ∷ rest.now) arguments → HasSum values r (op_value operator arguments))) }
 {
     if !is_folded(operator) {
         return Ok(None);
@@ -138,7 +142,8 @@ fn is_folded(operator: Op) -> bool
 fn multiplied(alloc: Global, left: &Sum, right: &Sum) -> Result<Option<Sum>, Want>
     requires width { left.now.width ≤ 64 }
     requires same { right.now.width ≡ left.now.width }
-    ensures { IfOk result (λ found. IfSome found (λ r. (values : List Val) (x y : Val) → HasSum values left.now x → HasSum values right.now y → HasSum values r (op_value ops.BvMul (x ∷ y ∷ [])))) }
+    ensures { IfOk result (λ found. IfSome found (λ r. (values : List Val) (x y : Val) →
+        HasSum values left.now x → HasSum values right.now y → HasSum values r (op_value ops.BvMul (x ∷ y ∷ [])))) }
 {
     let many = left.monomials.len().saturating_mul(right.monomials.len());
     let long = most_factors(left).saturating_add(most_factors(right));
@@ -153,7 +158,8 @@ fn multiplied(alloc: Global, left: &Sum, right: &Sum) -> Result<Option<Sum>, Wan
 fn shifted(alloc: Global, left: &Sum, right: &Sum) -> Result<Option<Sum>, Want>
     requires width { left.now.width ≤ 64 }
     requires same { right.now.width ≡ left.now.width }
-    ensures { IfOk result (λ found. IfSome found (λ r. (values : List Val) (x y : Val) → HasSum values left.now x → HasSum values right.now y → HasSum values r (op_value ops.BvShl (x ∷ y ∷ [])))) }
+    ensures { IfOk result (λ found. IfSome found (λ r. (values : List Val) (x y : Val) →
+        HasSum values left.now x → HasSum values right.now y → HasSum values r (op_value ops.BvShl (x ∷ y ∷ [])))) }
 {
     let width = left.width;
     let Some(by) = right.fixed() else {

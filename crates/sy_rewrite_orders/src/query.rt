@@ -14,15 +14,18 @@ use std::alloc::Global;
 use sy_query_base::{Query, copied_sorts};
 use sy_terms::{Term, Theory, Want};
 
-/// A query that the same values satisfy. What a `let` gives names to is written in their places where each term has at most
-/// `most` nodes, and no `let` left in it. Where a small term is compared with a choice, there is a choice between comparisons;
-/// and where variables are compared with each other as unsigned numbers, it says that their order is transitive.
+/// A query that the same values satisfy. What a `let` gives names to is written in their places where each term has at
+/// most
+/// `most` nodes, and no `let` left in it. Where a small term is compared with a choice, there is a choice between
+/// comparisons; and where variables are compared with each other as unsigned numbers, it says that their order is
+/// transitive.
 ///
 /// `Want` comes where memory runs out, and where a number of 32 bits doesn't count the values in force somewhere in the
 /// query: its variables, and what is bound by the `let`s around that are kept.
 pub fn ordered<T: Theory>(alloc: Global, query: &Query<T>, most: u64) -> Result<Query<T>, Want>
     ensures variables { IfOk result (λ found. found.vars ≡ query.now.vars) }
-    ensures same { IfOk result (λ found. (values : List Val) → Satisfies (query_of T.denotes found) values ↔ Satisfies (query_of T.denotes query.now) values) }
+    ensures same { IfOk result (λ found. (values : List Val) →
+        Satisfies (query_of T.denotes found) values ↔ Satisfies (query_of T.denotes query.now) values) }
 {
     let vars = copied_sorts(alloc, query.vars.as_slice())?;
     let body = ordered_body(alloc, most, vars.len(), &query.body)?;

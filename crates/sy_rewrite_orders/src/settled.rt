@@ -13,8 +13,8 @@ use std::alloc::Global;
 use sy_meaning_words::BvTheory;
 use sy_terms::{Op, Sort, Term, Terms, Value, Want};
 
-/// A term that means the same where the first values are of these sorts, in which comparisons that are decided by normal
-/// forms over these values are truth values.
+/// A term that means the same where the first values are of these sorts, in which comparisons that are decided by
+/// normal forms over these values are truth values.
 #[cycle(settled)]
 pub(crate) fn settled(
     alloc: Global,
@@ -48,7 +48,8 @@ fn all_settled(
     sorts: &[Sort],
     terms: &[Term<BvTheory>],
 ) -> Result<Terms<BvTheory>, Want>
-    ensures { IfOk result (λ found. AreSameOver sorts.now (exprs_of vector found.items.items) (exprs_of vector terms.now)) }
+    ensures { IfOk result (λ found.
+        AreSameOver sorts.now (exprs_of vector found.items.items) (exprs_of vector terms.now)) }
 {
     let mut all = Terms::with_capacity(alloc, terms.len())?;
     for term in terms {
@@ -65,7 +66,8 @@ fn settled_application(
     operator: Op,
     arguments: Terms<BvTheory>,
 ) -> Result<Term<BvTheory>, Want>
-    ensures { IfOk result (λ found. IsSameOver sorts.now (expr_of vector found) (Apply operator (exprs_of vector arguments.items.items))) }
+    ensures { IfOk result (λ found.
+        IsSameOver sorts.now (expr_of vector found) (Apply operator (exprs_of vector arguments.items.items))) }
 {
     match truth_of(alloc, sorts, operator, &arguments)? {
         Some(truth) => Ok(Term::Const(Value::Truth(truth))),
@@ -80,7 +82,8 @@ fn truth_of(
     operator: Op,
     arguments: &Terms<BvTheory>,
 ) -> Result<Option<bool>, Want>
-    ensures { IfOk result (λ found. IfSome found (λ truth. (values : List Val) → BeginWithSorts sorts.now values → op_value operator (meanings [] [] values (exprs_of vector arguments.now.items.items)) ≡ Truth truth)) }
+    ensures { IfOk result (λ found. IfSome found (λ truth. (values : List Val) → BeginWithSorts sorts.now values →
+        op_value operator (meanings [] [] values (exprs_of vector arguments.now.items.items)) ≡ Truth truth)) }
 {
     if !compares(operator) || arguments.len() != 2 {
         return Ok(None);

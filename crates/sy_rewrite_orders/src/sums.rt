@@ -20,7 +20,8 @@ pub(crate) fn sum_of(
     sorts: &[Sort],
     term: &Term<BvTheory>,
 ) -> Result<Option<Sum>, Want>
-    ensures { IfOk result (λ found. IfSome found (λ sum. (values : List Val) → BeginWithSorts sorts.now values → HasSum values sum (meaning [] [] values (expr_of vector term.now)))) }
+    ensures { IfOk result (λ found. IfSome found (λ sum. (values : List Val) →
+        BeginWithSorts sorts.now values → HasSum values sum (meaning [] [] values (expr_of vector term.now)))) }
 {
     match term {
         Term::Const(value) => {
@@ -53,7 +54,8 @@ fn sums_of(
     sorts: &[Sort],
     terms: &[Term<BvTheory>],
 ) -> Result<Option<Vec<Sum>>, Want>
-    ensures { IfOk result (λ found. IfSome found (λ sums. (values : List Val) → BeginWithSorts sorts.now values → HaveSums values sums.items (meanings [] [] values (exprs_of vector terms.now)))) }
+    ensures { IfOk result (λ found. IfSome found (λ sums. (values : List Val) → BeginWithSorts sorts.now values →
+        HaveSums values sums.items (meanings [] [] values (exprs_of vector terms.now)))) }
 {
     let mut sums = Vec::with_capacity(alloc, terms.len())?;
     for term in terms {
@@ -67,7 +69,8 @@ fn sums_of(
 
 /// The sum of a constant, where it is a vector.
 fn constant_sum(alloc: Global, value: &Value<Word>) -> Result<Option<Sum>, Want>
-    ensures { IfOk result (λ found. IfSome found (λ sum. (values : List Val) → HasSum values sum (val_of vector value.now))) }
+    ensures { IfOk result (λ found.
+        IfSome found (λ sum. (values : List Val) → HasSum values sum (val_of vector value.now))) }
 {
     match value {
         Value::Truth(_) => Ok(None),
@@ -88,7 +91,8 @@ fn word_sum(alloc: Global, word: Word) -> Result<Sum, Want>
 
 /// The sum of a variable, where it is a vector.
 fn variable_sum(alloc: Global, sorts: &[Sort], position: u32) -> Result<Option<Sum>, Want>
-    ensures { IfOk result (λ found. IfSome found (λ sum. (values : List Val) → BeginWithSorts sorts.now values → HasSum values sum (value_at_position values position))) }
+    ensures { IfOk result (λ found. IfSome found (λ sum. (values : List Val) →
+        BeginWithSorts sorts.now values → HasSum values sum (value_at_position values position))) }
 {
     let Some(width) = width_at(sorts, position) else {
         return Ok(None);

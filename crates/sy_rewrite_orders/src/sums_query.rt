@@ -10,11 +10,12 @@ use sy_meaning_words::BvTheory;
 use sy_query_base::{Query, copied_sorts};
 use sy_terms::Want;
 
-/// A query that the same values satisfy, in which comparisons of sums and products of the variables are truth values where
-/// the normal form of the difference decides them. `Want` comes where memory runs out, and nowhere else.
+/// A query that the same values satisfy, in which comparisons of sums and products of the variables are truth values
+/// where the normal form of the difference decides them. `Want` comes where memory runs out, and nowhere else.
 pub fn settled_query(alloc: Global, query: &Query<BvTheory>) -> Result<Query<BvTheory>, Want>
     ensures variables { IfOk result (λ found. found.vars ≡ query.now.vars) }
-    ensures same { IfOk result (λ found. (values : List Val) → Satisfies (query_of vector found) values ↔ Satisfies (query_of vector query.now) values) }
+    ensures same { IfOk result (λ found. (values : List Val) →
+        Satisfies (query_of vector found) values ↔ Satisfies (query_of vector query.now) values) }
 {
     let vars = copied_sorts(alloc, query.vars.as_slice())?;
     let body = settled(alloc, query.vars.as_slice(), &query.body)?;

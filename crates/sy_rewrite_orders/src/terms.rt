@@ -13,7 +13,8 @@ pub(crate) fn binary<T: Theory>(
     first: &Term<T>,
     second: &Term<T>,
 ) -> Result<Term<T>, Want>
-    ensures { IfOk result (λ term. expr_of T.denotes term ≡ Apply operator (more (expr_of T.denotes first.now) (more (expr_of T.denotes second.now) none))) }
+    ensures { IfOk result (λ term. expr_of T.denotes term ≡
+        Apply operator (more (expr_of T.denotes first.now) (more (expr_of T.denotes second.now) none))) }
 {
     let mut arguments = Terms::with_capacity(alloc, 2)?;
     let left = first.copy(alloc)?;

@@ -10,9 +10,9 @@ use std::alloc::Global;
 use sy_query_base::copied_terms;
 use sy_terms::{Term, Terms, Theory, Want};
 
-/// The term with each name replaced by what it stands for, where `count` values are in force in what is written. A `let`
-/// is written out where each of its terms has no `let` left in it and at most `most` nodes; another one is kept. During the
-/// call the names of lets stand after the given ones.
+/// The term with each name replaced by what it stands for, where `count` values are in force in what is written. A
+/// `let` is written out where each of its terms has no `let` left in it and at most `most` nodes; another one is kept.
+/// During the call the names of lets stand after the given ones.
 #[cycle(written)]
 pub(crate) fn written<T: Theory>(
     alloc: Global,
@@ -23,7 +23,8 @@ pub(crate) fn written<T: Theory>(
 ) -> Result<Term<T>, Want>
     requires { plain.are_plain count (exprs_of T.denotes names.old.items) ≡ true }
     ensures kept { OnOk result (names.new.items ≡ names.old.items) }
-    ensures replaced { IfOk result (λ found. IsReplaced count (exprs_of T.denotes names.old.items) (expr_of T.denotes found) (expr_of T.denotes term.now)) }
+    ensures replaced { IfOk result (λ found.
+        IsReplaced count (exprs_of T.denotes names.old.items) (expr_of T.denotes found) (expr_of T.denotes term.now)) }
 {
     match term {
         Term::Const(value) => Ok(Term::Const(*value)),
@@ -63,7 +64,8 @@ fn all_written<T: Theory>(
 ) -> Result<Terms<T>, Want>
     requires { plain.are_plain count (exprs_of T.denotes names.old.items) ≡ true }
     ensures kept { OnOk result (names.new.items ≡ names.old.items) }
-    ensures replaced { IfOk result (λ found. AreReplaced count (exprs_of T.denotes names.old.items) (exprs_of T.denotes found.items.items) (exprs_of T.denotes terms.now)) }
+    ensures replaced { IfOk result (λ found. AreReplaced count
+        (exprs_of T.denotes names.old.items) (exprs_of T.denotes found.items.items) (exprs_of T.denotes terms.now)) }
 {
     let mut all = Terms::with_capacity(alloc, terms.len())?;
     for term in terms {
@@ -73,8 +75,8 @@ fn all_written<T: Theory>(
     Ok(all)
 }
 
-/// Adds what the names of a `let` stand for: copies of its terms, where these may stand in the names' places, and else the
-/// variables after the first `count`. How many variables these are.
+/// Adds what the names of a `let` stand for: copies of its terms, where these may stand in the names' places, and else
+/// the variables after the first `count`. How many variables these are.
 fn name_all<T: Theory>(
     alloc: Global,
     stand: bool,
@@ -87,7 +89,8 @@ fn name_all<T: Theory>(
     ensures counted { IfOk result (λ many. count + many < 2 ^ 32) }
     ensures kept { OnOk result (take (length names.old.items) names.new.items ≡ names.old.items) }
     ensures plain { IfOk result (λ many. plain.are_plain (count + many) (exprs_of T.denotes names.new.items) ≡ true) }
-    ensures named { IfOk result (λ many. AreNamed stand count many (exprs_of T.denotes names.old.items) (exprs_of T.denotes names.new.items) (exprs_of T.denotes bound.now)) }
+    ensures named { IfOk result (λ many. AreNamed stand count many
+        (exprs_of T.denotes names.old.items) (exprs_of T.denotes names.new.items) (exprs_of T.denotes bound.now)) }
 {
     if stand {
         let mut copies = copied_terms(alloc, bound)?;
@@ -107,7 +110,8 @@ fn let_of<T: Theory>(
     bound: Terms<T>,
     inner: Term<T>,
 ) -> Result<Term<T>, Want>
-    ensures { IfOk result (λ found. expr_of T.denotes found ≡ spec.let_of stand (exprs_of T.denotes bound.items.items) (expr_of T.denotes inner)) }
+    ensures { IfOk result (λ found. expr_of T.denotes found ≡
+        spec.let_of stand (exprs_of T.denotes bound.items.items) (expr_of T.denotes inner)) }
 {
     if stand {
         return Ok(inner);

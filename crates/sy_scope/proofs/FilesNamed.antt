@@ -23,7 +23,7 @@ use Rattle.sy_scope_names.specs.Changes.{PlacedRequest, logic_named, first_logic
 use Rattle.sy_scope_steps.specs.Steps.{read_in, define, read_grammar, synthesise, constrain, assume, perform_in, perform_first, perform, step}
 use Rattle.sy_scope.specs.Titled.{AreNamed}
 use Rattle.sy_reply.specs.Writable.{IsTitled}
-use Rattle.sy_scope.proofs.Titles.{function_more, definition_more, titled_now}
+use Rattle.sy_scope.proofs.TitlesLaws.{function_more, definition_more, titled_now}
 
 -- whatever is read first
 after_any : {A : Type 0} (read : Reading A) (next : A → Reading Context) → ((x : A) → IfOk (next x) AreNamed) → IfOk (read >>= next) AreNamed

@@ -19,5 +19,5 @@ pub mod Small
 pub mod Sound
 pub mod Stages
 pub mod Synthesising
-pub mod Titles
+pub mod TitlesLaws
 pub mod Wishes

@@ -17,7 +17,7 @@ use Rattle.sy_scope_names.specs.Lists.{sorts_of_names}
 use Rattle.sy_scope_steps.specs.Grammars.{rules_under, among_nonterminals}
 use Rattle.sy_forms.specs.Fitting.{Setting}
 use Rattle.sy_forms.specs.Right.{EnvironmentIsRight, SenseIsThere}
-use Rattle.sy_forms.proofs.Names.{place_among_at}
+use Rattle.sy_forms.proofs.NamesLaws.{place_among_at}
 use Rattle.sy_scope.specs.Rightly.{argument_setting}
 
 -- a name that isn't reserved

@@ -14,7 +14,7 @@ use Rattle.sy_forms_items.specs.declared.names.Role.TheVariants as role
 use Rattle.sy_forms_items.specs.Environments as env
 use Rattle.sy_forms_items.specs.Environments.{Sense, entry_under, place_among, declared_in}
 use Rattle.sy_forms.specs.Right.{SenseIsThere, EnvironmentIsRight}
-use Rattle.sy_forms.proofs.Names.{place_among_at}
+use Rattle.sy_forms.proofs.NamesLaws.{place_among_at}
 use Rattle.sy_forms.proofs.Sorts.{entry_has}
 use Rattle.sy_forms.proofs.Bodies.{in_body, argument_or}
 use Rattle.sy_scope_names.specs.Lists.{sorts_of_names}

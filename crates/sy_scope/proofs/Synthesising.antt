@@ -16,7 +16,7 @@ use Rattle.sy_grammar_base.specs.Formed.{is_known}
 use Rattle.sy_grammar_base.specs.Trees.{Nonterminal}
 use Rattle.sy_terms.specs.Logics.{IsTheoryOf, number_sorts, operators_of}
 use Rattle.sy_grammar.specs.Defaults.{nonterminals}
-use Rattle.sy_grammar.proofs.Fitting.{default_formed}
+use Rattle.sy_grammar.proofs.FittingLaws.{default_formed}
 use Rattle.sy_forms_items.specs.declared.names.Entity.{Entity}
 use Rattle.sy_forms_items.specs.declared.names.Entity.TheVariants as entity
 use Rattle.sy_forms_items.specs.declared.names.Named.{Named}
@@ -30,7 +30,7 @@ use Rattle.sy_scope_steps.specs.Grammars.{Written, read_rulebook}
 use Rattle.sy_scope_names.proofs.Named.{IsNamed, named_read}
 use Rattle.sy_grammar_base.specs.Fits.{with_functions, GoalFits}
 use Rattle.sy_forms.specs.Right.{SenseIsThere}
-use Rattle.sy_forms.proofs.Names.{place_among_at}
+use Rattle.sy_forms.proofs.NamesLaws.{place_among_at}
 use Rattle.sy_forms.proofs.Readings.{chained, any_read, at_read, where_read}
 use Rattle.sy_forms.proofs.Sorts.{Known, sort_known, entry_has}
 use Rattle.sy_scope.specs.Rightly.{argument_setting, ReadsRightly}

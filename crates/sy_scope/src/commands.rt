@@ -30,7 +30,8 @@ fn perform<T: Theory>(
     requires serves { Serves T.numeric context.old.logic }
     requires theory { IsTheoryOf context.old.logic T.owned T.numeric }
     requires fit { GoalsFit T.owned T.numeric (context_of T.denotes context.old) }
-    ensures step { ReadingGives (λ _. context_of T.denotes context.new) result (spec.perform (context_of T.denotes context.old) (Some context.old.logic) (asked_of asked.entry)) }
+    ensures step { ReadingGives (λ _. context_of T.denotes context.new) result
+        (spec.perform (context_of T.denotes context.old) (Some context.old.logic) (asked_of asked.entry)) }
     ensures logic { OnOk result (context.new.logic ≡ context.old.logic) }
 {
     match asked.request {
@@ -70,7 +71,8 @@ pub fn step<T: Theory>(alloc: Global, context: &mut Context<T>, item: &Sexp) -> 
     requires serves { Serves T.numeric context.old.logic }
     requires theory { IsTheoryOf context.old.logic T.owned T.numeric }
     requires fit { GoalsFit T.owned T.numeric (context_of T.denotes context.old) }
-    ensures step { ReadingGives (λ _. context_of T.denotes context.new) result (spec.step (context_of T.denotes context.old) (item_of item.now)) }
+    ensures step { ReadingGives (λ _.
+        context_of T.denotes context.new) result (spec.step (context_of T.denotes context.old) (item_of item.now)) }
     ensures logic { OnOk result (context.new.logic ≡ context.old.logic) }
 {
     let asked = read_request(item)?;

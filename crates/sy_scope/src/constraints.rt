@@ -20,7 +20,8 @@ pub(crate) fn constrain<T: Theory>(
     term: &Sexp,
 ) -> Result<(), ReadEnd>
     requires { Serves T.numeric context.old.logic }
-    ensures step { ReadingGives (λ _. context_of T.denotes context.new) result (spec.constrain (context_of T.denotes context.old) context.old.logic (item_of term.now)) }
+    ensures step { ReadingGives (λ _. context_of T.denotes context.new) result
+        (spec.constrain (context_of T.denotes context.old) context.old.logic (item_of term.now)) }
     ensures logic { OnOk result (context.new.logic ≡ context.old.logic) }
 {
     let known = Known {
@@ -44,7 +45,8 @@ pub(crate) fn assume<T: Theory>(
     term: &Sexp,
 ) -> Result<(), ReadEnd>
     requires { Serves T.numeric context.old.logic }
-    ensures step { ReadingGives (λ _. context_of T.denotes context.new) result (spec.assume (context_of T.denotes context.old) context.old.logic (item_of term.now)) }
+    ensures step { ReadingGives (λ _. context_of T.denotes context.new) result
+        (spec.assume (context_of T.denotes context.old) context.old.logic (item_of term.now)) }
     ensures logic { OnOk result (context.new.logic ≡ context.old.logic) }
 {
     let known = Known {

@@ -23,7 +23,8 @@ use sy_scope_names::{Naming, Spelled, new_name, read_named};
 use sy_terms::{Logic, Sort, Theory};
 use sy_text_items::{Sexp, Sexps};
 
-/// What is declared: the logic, the names, how many fresh variables there are beside them, and the measures of definitions.
+/// What is declared: the logic, the names, how many fresh variables there are beside them, and the measures of
+/// definitions.
 #[derive(Clone, Copy)]
 pub(crate) struct Known<'a> {
     pub(crate) logic: Logic,
@@ -42,8 +43,10 @@ pub(crate) fn read_in<T: Theory>(
     item: &Sexp,
 ) -> Result<Phrase<T>, ReadEnd>
     requires { Serves T.numeric known.now.logic }
-    ensures read { ReadingGives (phrase_of T.denotes) result (spec.read_in (known_of known.now) known.now.logic role arguments.now sort (item_of item.now)) }
-    ensures small { IfOk result (λ phrase. is_within_limits (measures_of known.now.measures.now) (phrase_of T.denotes phrase) ≡ true) }
+    ensures read { ReadingGives (phrase_of T.denotes) result
+        (spec.read_in (known_of known.now) known.now.logic role arguments.now sort (item_of item.now)) }
+    ensures small { IfOk result (λ phrase.
+        is_within_limits (measures_of known.now.measures.now) (phrase_of T.denotes phrase) ≡ true) }
 {
     let env = Environment {
         logic: known.logic,
@@ -58,7 +61,8 @@ pub(crate) fn read_in<T: Theory>(
     Ok(phrase)
 }
 
-/// What a `define-fun` writes: a new name, arguments, a sort, and a body of it over the arguments and earlier definitions.
+/// What a `define-fun` writes: a new name, arguments, a sort, and a body of it over the arguments and earlier
+/// definitions.
 fn read_definition<T: Theory>(
     alloc: Global,
     known: &Known<'_>,
@@ -68,9 +72,11 @@ fn read_definition<T: Theory>(
     body: &Sexp,
 ) -> Result<Definition<T>, ReadEnd>
     requires { Serves T.numeric known.now.logic }
-    ensures read { ReadingGives (definition_of T.denotes) result (definition_read (known_of known.now) known.now.logic (spelled_of name.entry) arguments.now (item_of sort.now) (item_of body.now)) }
+    ensures read { ReadingGives (definition_of T.denotes) result (definition_read (known_of known.now) known.now.logic
+        (spelled_of name.entry) arguments.now (item_of sort.now) (item_of body.now)) }
     ensures new { IfOk result (λ definition. entry_under definition.name known.now.names.now.entities ≡ None) }
-    ensures small { IfOk result (λ definition. is_within_limits (measures_of known.now.measures.now) (phrase_of T.denotes definition.body) ≡ true) }
+    ensures small { IfOk result (λ definition.
+        is_within_limits (measures_of known.now.measures.now) (phrase_of T.denotes definition.body) ≡ true) }
 {
     let bytes = name.name.as_slice();
     new_name(known.names, known.fresh, known.logic, name.place, bytes)?;
@@ -101,7 +107,8 @@ pub(crate) fn define<T: Theory>(
     body: &Sexp,
 ) -> Result<(), ReadEnd>
     requires { Serves T.numeric context.old.logic }
-    ensures step { ReadingGives (λ _. context_of T.denotes context.new) result (spec.define (context_of T.denotes context.old) context.old.logic (spelled_of name.entry) arguments.now (item_of sort.now) (item_of body.now)) }
+    ensures step { ReadingGives (λ _. context_of T.denotes context.new) result (spec.define (context_of T.denotes
+        context.old) context.old.logic (spelled_of name.entry) arguments.now (item_of sort.now) (item_of body.now)) }
     ensures logic { OnOk result (context.new.logic ≡ context.old.logic) }
 {
     let known = Known {

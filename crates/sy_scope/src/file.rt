@@ -92,7 +92,8 @@ fn logic_named(name: &[u8]) -> Option<Logic>
 /// The logic that is set by a command before which none was.
 #[tactic(auto, unfolding(sy_scope_steps::specs::Steps::perform_first))]
 fn first_logic(asked: Asked<'_>) -> Result<Option<Logic>, ReadEnd>
-    ensures { ReadingGives opened_by result (steps.perform_first contexts.beginning asked.entry.at (request_in asked.entry.request)) }
+    ensures { ReadingGives opened_by result
+        (steps.perform_first contexts.beginning asked.entry.at (request_in asked.entry.request)) }
 {
     match asked.request {
         Request::SetLogic(name) => match logic_named(name.name.as_slice()) {
@@ -153,7 +154,8 @@ fn read_commands<T: Theory>(
     requires theory { IsTheoryOf opened.logic T.owned T.numeric }
     requires begun { context_of T.denotes context.old ≡ contexts.with_logic opened.logic contexts.beginning }
     requires logic { context.old.logic ≡ opened.logic }
-    requires opened { LeadsToOutcome bytes.now opened.at opened.command (contexts.with_logic opened.logic contexts.beginning) (spec.file_read bytes.now) }
+    requires opened { LeadsToOutcome bytes.now opened.at opened.command
+        (contexts.with_logic opened.logic contexts.beginning) (spec.file_read bytes.now) }
     ensures read { ReadsFile (λ _. context_of T.denotes context.new) result (spec.file_read bytes.now) }
     ensures logic { OnOk result (context.new.logic ≡ opened.logic) }
 {
@@ -169,8 +171,8 @@ fn read_commands<T: Theory>(
     Ok(())
 }
 
-/// What a file of a theory's logic asks, and the names of its functions, by the context in which only the logic was set. The
-/// context is of no further use.
+/// What a file of a theory's logic asks, and the names of its functions, by the context in which only the logic was
+/// set. The context is of no further use.
 fn read_by<T: Theory>(
     alloc: Global,
     bytes: &[u8],
@@ -182,7 +184,8 @@ fn read_by<T: Theory>(
     requires theory { IsTheoryOf opened.logic T.owned T.numeric }
     requires begun { context_of T.denotes context.old ≡ contexts.with_logic opened.logic contexts.beginning }
     requires logic { context.old.logic ≡ opened.logic }
-    requires opened { LeadsToOutcome bytes.now opened.at opened.command (contexts.with_logic opened.logic contexts.beginning) (spec.file_read bytes.now) }
+    requires opened { LeadsToOutcome bytes.now opened.at opened.command
+        (contexts.with_logic opened.logic contexts.beginning) (spec.file_read bytes.now) }
     ensures read { ReadsFile (wish_over T.denotes opened.logic) result (wished (spec.file_read bytes.now)) }
     ensures fit { IfOk result (λ x. ProblemsFit T.owned T.numeric T.denotes x.0) }
 {
@@ -201,7 +204,8 @@ fn read_in<T: Theory>(
     requires short { length bytes.now ≤ 4194304 }
     requires serves { Serves T.numeric opened.logic }
     requires theory { IsTheoryOf opened.logic T.owned T.numeric }
-    requires opened { LeadsToOutcome bytes.now opened.at opened.command (contexts.with_logic opened.logic contexts.beginning) (spec.file_read bytes.now) }
+    requires opened { LeadsToOutcome bytes.now opened.at opened.command
+        (contexts.with_logic opened.logic contexts.beginning) (spec.file_read bytes.now) }
     ensures read { ReadsFile (wish_over T.denotes opened.logic) result (wished (spec.file_read bytes.now)) }
     ensures fit { IfOk result (λ x. ProblemsFit T.owned T.numeric T.denotes x.0) }
 {
@@ -212,8 +216,10 @@ fn read_in<T: Theory>(
 }
 
 /// Reads a file of at most 4,194,304 bytes. `Ok` comes exactly where it is in the profile, with a problem for each
-/// `check-synth`, in order, and the names of its functions; `Idle` where no logic was set. Else the first faulty command is
-/// told, counted from 1, with its first condition that doesn't hold. All terms and grammars of the problems fit.
+/// `check-synth`, in order, and the names of its functions; `Idle` where no logic was set. Else the first faulty
+/// command is told, counted from 1, with its first condition that doesn't hold. All terms and grammars of the problems
+/// fit. Out of memory is also answered where 32 bits don't count names, arguments or variables in force, or an
+/// invariant's variables come behind 2^31 others; a file of this length has fewer, which no clause says.
 pub fn read_file(alloc: Global, bytes: &[u8]) -> Result<Job, ScopeEnd>
     requires { length bytes.now ≤ 4194304 }
     ensures read { ReadsFile wish_in result (wished (spec.file_read bytes.now)) }

@@ -33,7 +33,8 @@ fn read_grammar<T: Theory>(
     rules: Option<Rulebook<'_>>,
 ) -> Result<Ruled<T>, ReadEnd>
     requires { Serves T.numeric context.now.logic }
-    ensures { ReadingGives (ruled_of T.denotes context.now.logic arguments.now sort) result (spec.read_grammar (context_of T.denotes context.now) context.now.logic arguments.now sort (option_map rulebook_of rules.entry)) }
+    ensures { ReadingGives (ruled_of T.denotes context.now.logic arguments.now sort) result (spec.read_grammar
+        (context_of T.denotes context.now) context.now.logic arguments.now sort (option_map rulebook_of rules.entry)) }
 {
     let Some(book) = rules else {
         return Ok(Ruled {
@@ -63,7 +64,9 @@ pub(crate) fn synthesise<T: Theory>(
     rules: Option<Rulebook<'_>>,
 ) -> Result<(), ReadEnd>
     requires { Serves T.numeric context.old.logic }
-    ensures step { ReadingGives (λ _. context_of T.denotes context.new) result (spec.synthesise (context_of T.denotes context.old) context.old.logic (spelled_of name.entry) arguments.now (option_map (λ item. item_of item.now) sort.entry) (option_map rulebook_of rules.entry)) }
+    ensures step { ReadingGives (λ _. context_of T.denotes context.new) result
+        (spec.synthesise (context_of T.denotes context.old) context.old.logic (spelled_of name.entry) arguments.now
+        (option_map (λ item. item_of item.now) sort.entry) (option_map rulebook_of rules.entry)) }
     ensures logic { OnOk result (context.new.logic ≡ context.old.logic) }
 {
     context.new_sought(name)?;

@@ -31,7 +31,8 @@ const QUESTIONS_MAX: usize = 16;
 
 /// A definition with its body as a term.
 fn def_of<T: Theory>(alloc: Global, definition: &Definition<T>) -> Result<Def<T>, Want>
-    ensures signature { IfOk result (λ def. signature def ≡ contexts.definition_signature (definition_of T.denotes definition.now)) }
+    ensures signature { IfOk result (λ def. signature def ≡
+        contexts.definition_signature (definition_of T.denotes definition.now)) }
     ensures body { IfOk result (λ def. body T.denotes def ≡ contexts.body_of (definition_of T.denotes definition.now)) }
 {
     let args = sorts_of(alloc, definition.arguments.as_slice())?;
@@ -48,8 +49,10 @@ fn def_of<T: Theory>(alloc: Global, definition: &Definition<T>) -> Result<Def<T>
 
 /// Definitions with their bodies as terms, in order.
 fn defs_of<T: Theory>(alloc: Global, definitions: &[Definition<T>]) -> Result<Defs<T>, Want>
-    ensures signatures { IfOk result (λ defs. map signature defs ≡ map contexts.definition_signature (map (definition_of T.denotes) definitions.now)) }
-    ensures bodies { IfOk result (λ defs. bodies T.denotes defs ≡ map contexts.body_of (map (definition_of T.denotes) definitions.now)) }
+    ensures signatures { IfOk result (λ defs. map signature defs ≡
+        map contexts.definition_signature (map (definition_of T.denotes) definitions.now)) }
+    ensures bodies { IfOk result (λ defs. bodies T.denotes defs ≡
+        map contexts.body_of (map (definition_of T.denotes) definitions.now)) }
 {
     let mut defs = Seq::new(alloc);
     for definition in definitions {
@@ -64,7 +67,8 @@ fn terms_of<T: Theory>(
     outside: u32,
     phrases: &[Phrase<T>],
 ) -> Result<Seq<Term<T>>, Want>
-    ensures { IfOk result (λ terms. map (expr_of T.denotes) terms ≡ map (expr_at outside) (map (phrase_of T.denotes) phrases.now)) }
+    ensures { IfOk result (λ terms. map (expr_of T.denotes) terms ≡
+        map (expr_at outside) (map (phrase_of T.denotes) phrases.now)) }
 {
     let mut terms = Seq::new(alloc);
     for phrase in phrases {
@@ -79,7 +83,8 @@ fn term_of<T: Theory>(
     outside: u32,
     condition: &Condition<T>,
 ) -> Result<Term<T>, Want>
-    ensures { IfOk result (λ term. expr_of T.denotes term ≡ contexts.condition_at outside (condition_of T.denotes condition.now)) }
+    ensures { IfOk result (λ term. expr_of T.denotes term ≡
+        contexts.condition_at outside (condition_of T.denotes condition.now)) }
 {
     match condition {
         Condition::Written(phrase) => phrase.term(alloc, outside),
@@ -93,7 +98,8 @@ fn constraints_of<T: Theory>(
     outside: u32,
     conditions: &[Condition<T>],
 ) -> Result<Seq<Term<T>>, Want>
-    ensures { IfOk result (λ terms. map (expr_of T.denotes) terms ≡ map (contexts.condition_at outside) (map (condition_of T.denotes) conditions.now)) }
+    ensures { IfOk result (λ terms. map (expr_of T.denotes) terms ≡
+        map (contexts.condition_at outside) (map (condition_of T.denotes) conditions.now)) }
 {
     let mut terms = Seq::new(alloc);
     for condition in conditions {
@@ -110,8 +116,10 @@ fn grammar_in<T: Theory>(
     defs: &Defs<T>,
 ) -> Result<Grammar<T>, Want>
     requires theory { IsTheoryOf logic T.owned T.numeric }
-    requires fits { GoalFits T.owned T.numeric (map signature defs.now) (contexts.goal_sought (sought_of T.denotes logic sought.now)) }
-    ensures { IfOk result (λ grammar. syntax_from T.denotes grammar ≡ grammar_of T.denotes logic sought.now.arguments sought.now.sort sought.now.groups) }
+    requires fits { GoalFits T.owned T.numeric (map signature defs.now)
+        (contexts.goal_sought (sought_of T.denotes logic sought.now)) }
+    ensures { IfOk result (λ grammar. syntax_from T.denotes grammar ≡
+        grammar_of T.denotes logic sought.now.arguments sought.now.sort sought.now.groups) }
 {
     let args = sorts_of(alloc, sought.arguments.as_slice())?;
     let Some(groups) = &sought.groups else {
@@ -129,8 +137,10 @@ fn wanted_of<T: Theory>(
     defs: &Defs<T>,
 ) -> Result<Wanted<T>, Want>
     requires theory { IsTheoryOf logic T.owned T.numeric }
-    requires fits { GoalFits T.owned T.numeric (map signature defs.now) (contexts.goal_sought (sought_of T.denotes logic sought.now)) }
-    ensures { IfOk result (λ wanted. questions.goal_of T.denotes wanted ≡ contexts.goal_sought (sought_of T.denotes logic sought.now)) }
+    requires fits { GoalFits T.owned T.numeric (map signature defs.now)
+        (contexts.goal_sought (sought_of T.denotes logic sought.now)) }
+    ensures { IfOk result (λ wanted. questions.goal_of T.denotes wanted ≡
+        contexts.goal_sought (sought_of T.denotes logic sought.now)) }
 {
     let args = sorts_of(alloc, sought.arguments.as_slice())?;
     let grammar = grammar_in(alloc, logic, sought, defs)?;
@@ -149,8 +159,10 @@ fn all_wanted<T: Theory>(
     defs: &Defs<T>,
 ) -> Result<Seq<Wanted<T>>, Want>
     requires theory { IsTheoryOf logic T.owned T.numeric }
-    requires fit { All (GoalFits T.owned T.numeric (map signature defs.now)) (map contexts.goal_sought (map (sought_of T.denotes logic) sought.now)) }
-    ensures { IfOk result (λ wanted. map (questions.goal_of T.denotes) wanted ≡ map contexts.goal_sought (map (sought_of T.denotes logic) sought.now)) }
+    requires fit { All (GoalFits T.owned T.numeric (map signature defs.now))
+        (map contexts.goal_sought (map (sought_of T.denotes logic) sought.now)) }
+    ensures { IfOk result (λ wanted. map (questions.goal_of T.denotes) wanted ≡
+        map contexts.goal_sought (map (sought_of T.denotes logic) sought.now)) }
 {
     let mut wanted = Seq::new(alloc);
     for one in sought {
@@ -164,7 +176,8 @@ impl<T: Theory> Context<T> {
     fn problem(&self, alloc: Global) -> Result<Problem<T>, Want>
         requires theory { IsTheoryOf self.now.logic T.owned T.numeric }
         requires fit { GoalsFit T.owned T.numeric (context_of T.denotes self.now) }
-        ensures { IfOk result (λ problem. question_of T.denotes problem ≡ contexts.question_at (context_of T.denotes self.now)) }
+        ensures { IfOk result (λ problem. question_of T.denotes problem ≡
+            contexts.question_at (context_of T.denotes self.now)) }
     {
         let Ok(outside) = u32::try_from(self.variables.len()) else {
             return Err(Want {});
@@ -189,7 +202,8 @@ impl<T: Theory> Context<T> {
     pub fn check_synth(&mut self, alloc: Global, at: Place) -> Result<(), ReadEnd>
         requires theory { IsTheoryOf self.old.logic T.owned T.numeric }
         requires fit { GoalsFit T.owned T.numeric (context_of T.denotes self.old) }
-        ensures step { ReadingGives (λ _. context_of T.denotes self.new) result (spec.check_synth (context_of T.denotes self.old) at) }
+        ensures step { ReadingGives (λ _.
+            context_of T.denotes self.new) result (spec.check_synth (context_of T.denotes self.old) at) }
         ensures logic { OnOk result (self.new.logic ≡ self.old.logic) }
     {
         if self.questions.len() >= QUESTIONS_MAX {

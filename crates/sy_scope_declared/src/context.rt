@@ -19,8 +19,8 @@ pub struct Definition<T: Theory> {
     pub body: Phrase<T>,
 }
 
-/// A function to be found: its name, its arguments, its value's sort, and the nonterminals of its grammar, where one was
-/// written.
+/// A function to be found: its name, its arguments, its value's sort, and the nonterminals of its grammar, where one
+/// was written.
 #[derive(Drop)]
 pub struct Sought<T: Theory> {
     pub name: Name,

@@ -17,7 +17,8 @@ impl<T: Theory> Context<T> {
     /// Declares a variable that has a new name.
     fn add_variable(&mut self, name: &[u8], sort: Sort) -> Result<(), Want>
         requires { entry_under name.now self.old.names.entities ≡ None }
-        ensures step { OnOk result (context_of T.denotes self.new ≡ spec.with_variable (context_of T.denotes self.old) name.now sort) }
+        ensures step { OnOk result (context_of T.denotes self.new ≡
+            spec.with_variable (context_of T.denotes self.old) name.now sort) }
         ensures logic { OnOk result (self.new.logic ≡ self.old.logic) }
     {
         let Ok(position) = u32::try_from(self.variables.len()) else {
@@ -31,7 +32,8 @@ impl<T: Theory> Context<T> {
 
     /// `declare-var`: a new name and a sort.
     pub fn declare_variable(&mut self, name: Spelled<'_>, sort: &Sexp) -> Result<(), ReadEnd>
-        ensures step { ReadingGives (λ _. context_of T.denotes self.new) result (spec.declare_variable (context_of T.denotes self.old) self.old.logic (spelled_of name.entry) (item_of sort.now)) }
+        ensures step { ReadingGives (λ _. context_of T.denotes self.new) result (spec.declare_variable
+            (context_of T.denotes self.old) self.old.logic (spelled_of name.entry) (item_of sort.now)) }
         ensures logic { OnOk result (self.new.logic ≡ self.old.logic) }
     {
         let bytes = name.name.as_slice();
@@ -43,7 +45,8 @@ impl<T: Theory> Context<T> {
 
     /// `define-sort`: a new name and a sort.
     pub fn define_sort(&mut self, name: Spelled<'_>, sort: &Sexp) -> Result<(), ReadEnd>
-        ensures step { ReadingGives (λ _. context_of T.denotes self.new) result (spec.define_sort (context_of T.denotes self.old) self.old.logic (spelled_of name.entry) (item_of sort.now)) }
+        ensures step { ReadingGives (λ _. context_of T.denotes self.new) result (spec.define_sort
+            (context_of T.denotes self.old) self.old.logic (spelled_of name.entry) (item_of sort.now)) }
         ensures logic { OnOk result (self.new.logic ≡ self.old.logic) }
     {
         let bytes = name.name.as_slice();

@@ -24,7 +24,8 @@ pub fn note_literals<T: Theory>(
     pool: &mut Pool<T>,
     phrase: &Phrase<T>,
 ) -> Result<(), Want>
-    ensures { OnOk result (pool_of T.denotes pool.new ≡ pooled (pool_of T.denotes pool.old) (literals_in (phrase_of T.denotes phrase.now))) }
+    ensures { OnOk result (pool_of T.denotes pool.new ≡
+        pooled (pool_of T.denotes pool.old) (literals_in (phrase_of T.denotes phrase.now))) }
 {
     let mut values = Seq::new(alloc);
     phrase.literals(&mut values)?;
@@ -35,7 +36,8 @@ pub fn note_literals<T: Theory>(
 /// Adds the measures of a definition's body, which are small.
 fn measure<T: Theory>(measures: &mut Measures, body: &Phrase<T>) -> Result<(), Want>
     requires { is_within_limits (measures_of measures.old) (phrase_of T.denotes body.now) ≡ true }
-    ensures { OnOk result (measures_of measures.new ≡ spec.measured (measures_of measures.old) (phrase_of T.denotes body.now)) }
+    ensures { OnOk result (measures_of measures.new ≡
+        spec.measured (measures_of measures.old) (phrase_of T.denotes body.now)) }
 {
     let size = body.unfolded_size(measures.sizes.as_slice(), u64::MAX);
     let depth = body.unfolded_depth(measures.depths.as_slice(), u64::MAX);
@@ -55,10 +57,16 @@ fn declare_definition<T: Theory>(
 ) -> Result<(), Want>
     requires new { entry_under definition.now.name names.old.entities ≡ None }
     requires small { is_within_limits (measures_of measures.old) (phrase_of T.denotes definition.now.body) ≡ true }
-    ensures entities { OnOk result (names.new.entities ≡ names.old.entities ++ (definition.now.name, entity.Function (funs.Defined count) (sorts_of_names definition.now.arguments) definition.now.sort) ∷ []) }
+    ensures entities { OnOk result (names.new.entities ≡ names.old.entities ++ (
+      definition.now.name,
+      entity.Function
+          (funs.Defined count) (sorts_of_names definition.now.arguments) definition.now.sort,
+    ) ∷ []) }
     ensures sorts { names.new.sorts ≡ names.old.sorts }
-    ensures measures { OnOk result (measures_of measures.new ≡ spec.measured (measures_of measures.old) (phrase_of T.denotes definition.now.body)) }
-    ensures pool { OnOk result (pool_of T.denotes pool.new ≡ pooled (pool_of T.denotes pool.old) (literals_in (phrase_of T.denotes definition.now.body))) }
+    ensures measures { OnOk result (measures_of measures.new ≡
+        spec.measured (measures_of measures.old) (phrase_of T.denotes definition.now.body)) }
+    ensures pool { OnOk result (pool_of T.denotes pool.new ≡
+        pooled (pool_of T.denotes pool.old) (literals_in (phrase_of T.denotes definition.now.body))) }
 {
     let Ok(number) = u32::try_from(count) else {
         return Err(Want {});
@@ -72,12 +80,13 @@ fn declare_definition<T: Theory>(
 }
 
 impl<T: Theory> Context<T> {
-    /// Adds a definition that has a new name and a small body. It stands in the list before any way out, so that nothing
-    /// of it is dropped here.
+    /// Adds a definition that has a new name and a small body. It stands in the list before any way out, so that
+    /// nothing of it is dropped here.
     pub fn add_definition(&mut self, alloc: Global, definition: Definition<T>) -> Result<(), Want>
         requires new { entry_under definition.name self.old.names.entities ≡ None }
         requires small { is_within_limits (measures_of self.old.measures) (phrase_of T.denotes definition.body) ≡ true }
-        ensures step { OnOk result (context_of T.denotes self.new ≡ spec.with_definition (context_of T.denotes self.old) (definition_of T.denotes definition)) }
+        ensures step { OnOk result (context_of T.denotes self.new ≡
+            spec.with_definition (context_of T.denotes self.old) (definition_of T.denotes definition)) }
         ensures logic { OnOk result (self.new.logic ≡ self.old.logic) }
     {
         let declared = declare_definition(

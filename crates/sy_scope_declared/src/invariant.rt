@@ -26,8 +26,8 @@ pub(crate) struct Called<'a> {
     gives: Sort,
 }
 
-/// The numbers of an invariant, which is to be found, and of the definitions that say what holds before, what a step is,
-/// and what holds after.
+/// The numbers of an invariant, which is to be found, and of the definitions that say what holds before, what a step
+/// is, and what holds after.
 #[derive(Clone, Copy)]
 pub(crate) struct Parts {
     invariant: u32,
@@ -76,7 +76,8 @@ fn as_invariant(name: Spelled<'_>, f: Called<'_>) -> Result<u32, ReadEnd>
 
 /// The number of a definition of truth values over these sorts; else `InvShape` at the name.
 fn as_condition(name: Spelled<'_>, takes: &[Sort], f: Called<'_>) -> Result<u32, ReadEnd>
-    ensures { ReadingGives (λ number. number) result (spec.as_condition (spelled_of name.entry) takes.now (called_of f.entry)) }
+    ensures { ReadingGives (λ number.
+        number) result (spec.as_condition (spelled_of name.entry) takes.now (called_of f.entry)) }
 {
     let refusal = ReadEnd::Refused(name.place, Cause::InvShape);
     if !(same_sort(&f.gives, &Sort::Bool) && same_sorts(f.takes, takes)) {
@@ -132,7 +133,10 @@ fn invariant_parts(
     names: Spellings<'_>,
     functions: Functions<'_>,
 ) -> Result<Parts, ReadEnd>
-    ensures { ReadingGives parts_of result (spec.invariant_parts (spelled_of names.entry.invariant) (spelled_of names.entry.before) (spelled_of names.entry.step) (spelled_of names.entry.after) (called_of functions.entry.invariant) (called_of functions.entry.before) (called_of functions.entry.step) (called_of functions.entry.after)) }
+    ensures { ReadingGives parts_of result
+        (spec.invariant_parts (spelled_of names.entry.invariant) (spelled_of names.entry.before)
+        (spelled_of names.entry.step) (spelled_of names.entry.after) (called_of functions.entry.invariant)
+        (called_of functions.entry.before) (called_of functions.entry.step) (called_of functions.entry.after)) }
 {
     let state = functions.invariant.takes;
     let invariant = as_invariant(names.invariant, functions.invariant)?;
@@ -161,7 +165,8 @@ impl<T: Theory> Context<T> {
     /// Adds the conditions of an invariant over a state and the next, whose variables are fresh.
     fn add_conditions(&mut self, alloc: Global, state: &[Sort], parts: Parts) -> Result<(), Want>
         requires room { contexts.has_room (context_of T.denotes self.old) (2 * length state.now) ≡ true }
-        ensures step { OnOk result (context_of T.denotes self.new ≡ spec.with_invariant (context_of T.denotes self.old) state.now (parts_of parts)) }
+        ensures step { OnOk result (context_of T.denotes self.new ≡
+            spec.with_invariant (context_of T.denotes self.old) state.now (parts_of parts)) }
         ensures logic { OnOk result (self.new.logic ≡ self.old.logic) }
     {
         let (Ok(first), Ok(count)) = (
@@ -202,7 +207,9 @@ impl<T: Theory> Context<T> {
         place: Place,
         names: Spellings<'_>,
     ) -> Result<(), ReadEnd>
-        ensures step { ReadingGives (λ _. context_of T.denotes self.new) result (spec.constrain_invariant (context_of T.denotes self.old) place (spelled_of names.entry.invariant) (spelled_of names.entry.before) (spelled_of names.entry.step) (spelled_of names.entry.after)) }
+        ensures step { ReadingGives (λ _. context_of T.denotes self.new) result
+            (spec.constrain_invariant (context_of T.denotes self.old) place (spelled_of names.entry.invariant)
+            (spelled_of names.entry.before) (spelled_of names.entry.step) (spelled_of names.entry.after)) }
         ensures logic { OnOk result (self.new.logic ≡ self.old.logic) }
     {
         let functions = Functions {

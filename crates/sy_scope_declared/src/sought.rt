@@ -25,8 +25,8 @@ use sy_text_items::Sexp;
 /// How many functions to be found a file may have.
 const SOUGHT_MAX: usize = 4;
 
-/// Adds what a function to be found that has a new name declares, where there are so many before it, and the values that
-/// its grammar writes.
+/// Adds what a function to be found that has a new name declares, where there are so many before it, and the values
+/// that its grammar writes.
 fn declare_sought<T: Theory>(
     alloc: Global,
     names: &mut Names,
@@ -36,9 +36,14 @@ fn declare_sought<T: Theory>(
     values: &[Value<T::Num>],
 ) -> Result<(), Want>
     requires { entry_under sought.now.name names.old.entities ≡ None }
-    ensures entities { OnOk result (names.new.entities ≡ names.old.entities ++ (sought.now.name, entity.Function (funs.Wanted count) (sorts_of_names sought.now.arguments) sought.now.sort) ∷ []) }
+    ensures entities { OnOk result (names.new.entities ≡ names.old.entities ++ (
+      sought.now.name,
+      entity.Function
+          (funs.Wanted count) (sorts_of_names sought.now.arguments) sought.now.sort,
+    ) ∷ []) }
     ensures sorts { names.new.sorts ≡ names.old.sorts }
-    ensures pool { OnOk result (pool_of T.denotes pool.new ≡ pooled (pool_of T.denotes pool.old) (vals_of T.denotes values.now)) }
+    ensures pool { OnOk result (pool_of T.denotes pool.new ≡
+        pooled (pool_of T.denotes pool.old) (vals_of T.denotes values.now)) }
 {
     let Ok(number) = u32::try_from(count) else {
         return Err(Want {});
@@ -53,7 +58,8 @@ fn declare_sought<T: Theory>(
 impl<T: Theory> Context<T> {
     /// Tests a new name of a function to be found: `TooMany` also comes where there are four already.
     pub fn new_sought(&self, name: Spelled<'_>) -> Result<(), ReadEnd>
-        ensures name { ReadingGives (λ _. name.entry.name.now) result (contexts.new_sought (context_of T.denotes self.now) self.now.logic name.entry.place name.entry.name.now) }
+        ensures name { ReadingGives (λ _. name.entry.name.now) result
+            (contexts.new_sought (context_of T.denotes self.now) self.now.logic name.entry.place name.entry.name.now) }
         ensures free { IfOk result (λ _. entry_under name.entry.name.now self.now.names.entities ≡ None) }
     {
         let bytes = name.name.as_slice();
@@ -74,7 +80,8 @@ impl<T: Theory> Context<T> {
         values: &[Value<T::Num>],
     ) -> Result<(), Want>
         requires { entry_under sought.name self.old.names.entities ≡ None }
-        ensures step { OnOk result (context_of T.denotes self.new ≡ spec.with_sought (context_of T.denotes self.old) (sought_of T.denotes self.old.logic sought) (vals_of T.denotes values.now)) }
+        ensures step { OnOk result (context_of T.denotes self.new ≡ spec.with_sought (context_of T.denotes self.old)
+            (sought_of T.denotes self.old.logic sought) (vals_of T.denotes values.now)) }
         ensures logic { OnOk result (self.new.logic ≡ self.old.logic) }
     {
         let declared = declare_sought(
@@ -93,7 +100,8 @@ impl<T: Theory> Context<T> {
 
     /// The sort that is written, or that of an invariant.
     pub fn value_sort(&self, sort: Option<&Sexp>) -> Result<Sort, ReadEnd>
-        ensures { ReadingGives (λ found. found) result (spec.value_sort (context_of T.denotes self.now) self.now.logic (option_map (λ item. item_of item.now) sort.entry)) }
+        ensures { ReadingGives (λ found. found) result (spec.value_sort (context_of T.denotes self.now) self.now.logic
+            (option_map (λ item. item_of item.now) sort.entry)) }
     {
         let Some(item) = sort else {
             return Ok(Sort::Bool);

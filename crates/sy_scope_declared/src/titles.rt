@@ -35,7 +35,8 @@ fn title_of<T: Theory>(alloc: Global, sought: &Sought<T>) -> Result<Title, Want>
 
 /// The names of the functions to be found, in order.
 fn wanted_titles<T: Theory>(alloc: Global, sought: &[Sought<T>]) -> Result<Seq<Title>, Want>
-    ensures { (logic : Logic) → IfOk result (λ titles. titles ≡ map spec.title_of (map (sought_of T.denotes logic) sought.now)) }
+    ensures { (logic : Logic) →
+        IfOk result (λ titles. titles ≡ map spec.title_of (map (sought_of T.denotes logic) sought.now)) }
 {
     let mut titles = Seq::new(alloc);
     for one in sought {
@@ -46,7 +47,8 @@ fn wanted_titles<T: Theory>(alloc: Global, sought: &[Sought<T>]) -> Result<Seq<T
 
 /// The names of definitions, in order.
 fn defined_names<T: Theory>(alloc: Global, definitions: &[Definition<T>]) -> Result<Seq<Name>, Want>
-    ensures { IfOk result (λ names. names ≡ map (λ (d : contexts.Definition). d.name) (map (definition_of T.denotes) definitions.now)) }
+    ensures { IfOk result (λ names. names ≡
+        map (λ (d : contexts.Definition). d.name) (map (definition_of T.denotes) definitions.now)) }
 {
     let mut names = Seq::new(alloc);
     for definition in definitions {

@@ -1,4 +1,4 @@
-// Why a file gives nothing: its first faulty command, by its number, or want of memory.
+// Why a file gives nothing: its first faulty command, by its number, or that memory ran out.
 #![tactic(auto)]
 
 ghost use Rattle.std.specs.Prelude.{◌≡◌};

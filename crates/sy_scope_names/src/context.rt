@@ -59,7 +59,8 @@ pub fn new_sort_name(
     at: Place,
     name: &[u8],
 ) -> Result<(), ReadEnd>
-    ensures name { ReadingGives (λ _. name.now) result (spec.new_sort_name (declared names.now fresh) logic at name.now) }
+    ensures name { ReadingGives (λ _.
+        name.now) result (spec.new_sort_name (declared names.now fresh) logic at name.now) }
     ensures free { IfOk result (λ _. entry_under name.now names.now.sorts ≡ None) }
 {
     if is_reserved(logic, name) || is_sort_name(name) || names.sort(name).is_some() {

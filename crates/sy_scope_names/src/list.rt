@@ -39,7 +39,8 @@ fn free_name<'a>(
     at: Place,
     name: &'a Name,
 ) -> Result<&'a Name, ReadEnd>
-    ensures { ReadingGives (λ free. free.now) result (spec.free_name naming.now.logic naming.now.taken.now done.now at name.now) }
+    ensures { ReadingGives (λ free.
+        free.now) result (spec.free_name naming.now.logic naming.now.taken.now done.now at name.now) }
 {
     if is_reserved(naming.logic, name.as_slice()) {
         return Err(ReadEnd::Refused(at, Cause::NameTaken));
@@ -62,7 +63,8 @@ fn named_by(
     name: &Sexp,
     sort: &Sexp,
 ) -> Result<Named, ReadEnd>
-    ensures { ReadingGives (λ named. named) result (spec.named_by naming.now.names.now.sorts naming.now.logic naming.now.taken.now done.now place (symbol_spelled (item_of name.now)) (item_of sort.now)) }
+    ensures { ReadingGives (λ named. named) result (spec.named_by naming.now.names.now.sorts
+        naming.now.logic naming.now.taken.now done.now place (symbol_spelled (item_of name.now)) (item_of sort.now)) }
 {
     let at = place_of(name);
     let Some(name) = symbol(name) else {
@@ -82,7 +84,8 @@ fn named_pair(
     place: Place,
     parts: Rest<'_>,
 ) -> Result<Named, ReadEnd>
-    ensures { ReadingGives (λ named. named) result (spec.named_pair naming.now.names.now.sorts naming.now.logic naming.now.taken.now done.now place (items_in parts.entry)) }
+    ensures { ReadingGives (λ named. named) result (spec.named_pair naming.now.names.now.sorts
+        naming.now.logic naming.now.taken.now done.now place (items_in parts.entry)) }
 {
     let Some((name, rest)) = parts.split() else {
         return Err(ReadEnd::Refused(place, Cause::Shape));
@@ -104,7 +107,8 @@ fn named_item(
     done: &[Named],
     item: &Sexp,
 ) -> Result<Named, ReadEnd>
-    ensures { ReadingGives (λ named. named) result (spec.named_item naming.now.names.now.sorts naming.now.logic naming.now.taken.now done.now (item_of item.now)) }
+    ensures { ReadingGives (λ named. named) result
+        (spec.named_item naming.now.names.now.sorts naming.now.logic naming.now.taken.now done.now (item_of item.now)) }
 {
     match item {
         Sexp::Atom(_, place) => Err(ReadEnd::Refused(*place, Cause::Shape)),
@@ -116,7 +120,8 @@ fn named_item(
 /// `(x s)` with a symbol, `NameTaken` at a name that is reserved, taken, or stands before it, a fault of the sort, and
 /// `TooMany` at the 65th item.
 pub fn read_named(alloc: Global, naming: &Naming<'_>, items: &Sexps) -> Result<Seq<Named>, ReadEnd>
-    ensures { ReadingGives (λ named. named) result (spec.read_named naming.now.names.now.sorts naming.now.logic naming.now.taken.now [] items.now) }
+    ensures { ReadingGives (λ named.
+        named) result (spec.read_named naming.now.names.now.sorts naming.now.logic naming.now.taken.now [] items.now) }
 {
     let mut done = Seq::new(alloc);
     let mut left = Rest::all(items);

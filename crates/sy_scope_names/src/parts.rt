@@ -59,7 +59,8 @@ fn five<'a>(parts: Rest<'a>) -> Option<(&'a Sexp, &'a Sexp, &'a Sexp, &'a Sexp, 
 
 /// `set-feature`, by its parts.
 fn feature_setting<'a>(feature: &'a Sexp, on: &'a Sexp) -> Option<Request<'a>>
-    ensures { option_map request_in result ≡ spec.feature_setting (spec.keyword (item_of feature.now)) (spec.switch (item_of on.now)) }
+    ensures { option_map request_in result ≡
+        spec.feature_setting (spec.keyword (item_of feature.now)) (spec.switch (item_of on.now)) }
 {
     let feature = keyword(feature)?;
     let on = switch(on)?;
@@ -76,7 +77,8 @@ fn variable<'a>(name: &'a Sexp, sort: &'a Sexp) -> Option<Request<'a>>
 
 /// `define-sort`, by its name and its sort.
 fn abbreviation<'a>(name: &'a Sexp, sort: &'a Sexp) -> Option<Request<'a>>
-    ensures { option_map request_in result ≡ spec.abbreviation (spec.symbol_spelled (item_of name.now)) (item_of sort.now) }
+    ensures { option_map request_in result ≡
+        spec.abbreviation (spec.symbol_spelled (item_of name.now)) (item_of sort.now) }
 {
     let name = spelling(name)?;
     Some(Request::DefineSort(name, sort))
@@ -89,7 +91,8 @@ fn definition<'a>(
     sort: &'a Sexp,
     body: &'a Sexp,
 ) -> Option<Request<'a>>
-    ensures { option_map request_in result ≡ spec.definition (spec.symbol_spelled (item_of name.now)) (spec.list_in (item_of arguments.now)) (item_of sort.now) (item_of body.now) }
+    ensures { option_map request_in result ≡ spec.definition (spec.symbol_spelled (item_of name.now))
+        (spec.list_in (item_of arguments.now)) (item_of sort.now) (item_of body.now) }
 {
     let name = spelling(name)?;
     let arguments = list_in(arguments)?;
@@ -98,7 +101,8 @@ fn definition<'a>(
 
 /// `synth-fun` without a grammar, by its parts.
 fn synthesis<'a>(name: &'a Sexp, arguments: &'a Sexp, sort: &'a Sexp) -> Option<Request<'a>>
-    ensures { option_map request_in result ≡ spec.synthesis (spec.symbol_spelled (item_of name.now)) (spec.list_in (item_of arguments.now)) (item_of sort.now) }
+    ensures { option_map request_in result ≡ spec.synthesis (spec.symbol_spelled (item_of name.now))
+        (spec.list_in (item_of arguments.now)) (item_of sort.now) }
 {
     let name = spelling(name)?;
     let arguments = list_in(arguments)?;
@@ -112,7 +116,8 @@ fn ruled_synthesis<'a>(
     sort: &'a Sexp,
     rules: Option<Rulebook<'a>>,
 ) -> Option<Request<'a>>
-    ensures { option_map request_in result ≡ spec.ruled_synthesis (spec.symbol_spelled (item_of name.now)) (spec.list_in (item_of arguments.now)) (item_of sort.now) (option_map rulebook_of rules.entry) }
+    ensures { option_map request_in result ≡ spec.ruled_synthesis (spec.symbol_spelled (item_of name.now))
+        (spec.list_in (item_of arguments.now)) (item_of sort.now) (option_map rulebook_of rules.entry) }
 {
     let name = spelling(name)?;
     let arguments = list_in(arguments)?;
@@ -122,7 +127,8 @@ fn ruled_synthesis<'a>(
 
 /// `synth-inv` without a grammar, by its parts.
 fn invariant_synthesis<'a>(name: &'a Sexp, arguments: &'a Sexp) -> Option<Request<'a>>
-    ensures { option_map request_in result ≡ spec.invariant_synthesis (spec.symbol_spelled (item_of name.now)) (spec.list_in (item_of arguments.now)) }
+    ensures { option_map request_in result ≡
+        spec.invariant_synthesis (spec.symbol_spelled (item_of name.now)) (spec.list_in (item_of arguments.now)) }
 {
     let name = spelling(name)?;
     let arguments = list_in(arguments)?;
@@ -135,7 +141,8 @@ fn ruled_invariant<'a>(
     arguments: &'a Sexp,
     rules: Option<Rulebook<'a>>,
 ) -> Option<Request<'a>>
-    ensures { option_map request_in result ≡ spec.ruled_invariant (spec.symbol_spelled (item_of name.now)) (spec.list_in (item_of arguments.now)) (option_map rulebook_of rules.entry) }
+    ensures { option_map request_in result ≡ spec.ruled_invariant (spec.symbol_spelled (item_of name.now))
+        (spec.list_in (item_of arguments.now)) (option_map rulebook_of rules.entry) }
 {
     let name = spelling(name)?;
     let arguments = list_in(arguments)?;
@@ -150,7 +157,9 @@ fn invariant_conditions<'a>(
     step: &'a Sexp,
     after: &'a Sexp,
 ) -> Option<Request<'a>>
-    ensures { option_map request_in result ≡ spec.invariant_conditions (spec.symbol_spelled (item_of invariant.now)) (spec.symbol_spelled (item_of before.now)) (spec.symbol_spelled (item_of step.now)) (spec.symbol_spelled (item_of after.now)) }
+    ensures { option_map request_in result ≡ spec.invariant_conditions (spec.symbol_spelled (item_of invariant.now))
+        (spec.symbol_spelled (item_of before.now)) (spec.symbol_spelled (item_of step.now))
+        (spec.symbol_spelled (item_of after.now)) }
 {
     let invariant = spelling(invariant)?;
     let before = spelling(before)?;

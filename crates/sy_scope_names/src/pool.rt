@@ -26,7 +26,8 @@ impl<T: Theory> Pool<T> {
 
     /// Appends the value, where it is new.
     fn add_value(&mut self, value: Value<T::Num>) -> Result<(), Want>
-        ensures { OnOk result (pool_of T.denotes self.new ≡ spec.with_value (pool_of T.denotes self.old) (val_of T.denotes value)) }
+        ensures { OnOk result (pool_of T.denotes self.new ≡
+            spec.with_value (pool_of T.denotes self.old) (val_of T.denotes value)) }
     {
         self.values.insert(value)?;
         Ok(())
@@ -34,7 +35,8 @@ impl<T: Theory> Pool<T> {
 
     /// Appends the values that are new, in order.
     pub fn add(&mut self, values: &[Value<T::Num>]) -> Result<(), Want>
-        ensures { OnOk result (pool_of T.denotes self.new ≡ spec.pooled (pool_of T.denotes self.old) (vals_of T.denotes values.now)) }
+        ensures { OnOk result (pool_of T.denotes self.new ≡
+            spec.pooled (pool_of T.denotes self.old) (vals_of T.denotes values.now)) }
     {
         for value in values {
             self.add_value(*value)?;

@@ -36,7 +36,8 @@ fn first_sort(items: Rest<'_>) -> Option<&Sexp>
 
 /// The nonterminals, where the first has this sort.
 fn starts_with(sort: Sort, first: Option<&Sexp>, named: Seq<Named>) -> Result<Seq<Named>, ReadEnd>
-    ensures { ReadingGives (λ named. named) result (spec.starts_with sort (option_map (λ item. item_of item.now) first.entry) named) }
+    ensures { ReadingGives (λ named.
+        named) result (spec.starts_with sort (option_map (λ item. item_of item.now) first.entry) named) }
 {
     if let (Some(item), Some(start)) = (first, named.get(0)) {
         if !same_sort(&start.sort, &sort) {
@@ -46,8 +47,8 @@ fn starts_with(sort: Sort, first: Option<&Sexp>, named: Seq<Named>) -> Result<Se
     Ok(named)
 }
 
-/// The nonterminals that are predeclared in a list at this place. `Shape` comes there where it is empty, then the faults
-/// of the items as in `read_named`, and then `SortMismatch` at the first sort, where it isn't this one.
+/// The nonterminals that are predeclared in a list at this place. `Shape` comes there where it is empty, then the
+/// faults of the items as in `read_named`, and then `SortMismatch` at the first sort, where it isn't this one.
 pub fn read_predeclared(
     alloc: Global,
     naming: &Naming<'_>,
@@ -55,7 +56,8 @@ pub fn read_predeclared(
     items: &Sexps,
     place: Place,
 ) -> Result<Seq<Named>, ReadEnd>
-    ensures { ReadingGives (λ named. named) result (spec.read_predeclared naming.now.names.now.sorts naming.now.logic naming.now.taken.now sort (record { items = items.now; place = place })) }
+    ensures { ReadingGives (λ named. named) result (spec.read_predeclared naming.now.names.now.sorts
+        naming.now.logic naming.now.taken.now sort (record { items = items.now; place = place })) }
 {
     let first = Rest::all(items);
     if first.is_empty() {

@@ -28,7 +28,7 @@ use Rattle.sy_forms.specs.Declared.{setting_with, IsDeclared}
 use Rattle.sy_forms.specs.Fitting.{phrase_sort}
 use Rattle.sy_forms.specs.Right.{EnvironmentIsRight}
 use Rattle.sy_forms.proofs.Bodies.{in_body, argument_or}
-use Rattle.sy_forms.proofs.Names.{place_among_at}
+use Rattle.sy_forms.proofs.NamesLaws.{place_among_at}
 use Rattle.sy_forms.proofs.Readings.{at_read}
 use Rattle.sy_forms.proofs.Sorts.{entry_has}
 use Rattle.sy_forms.proofs.Terms.{whole_fits}

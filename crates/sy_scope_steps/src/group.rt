@@ -43,7 +43,8 @@ pub struct Grouped<'a> {
 
 /// Appends the values that were written in a rule.
 fn note<T: Theory>(values: &mut Values<T>, ruling: &Ruling<T>) -> Result<(), Want>
-    ensures { OnOk result (vals_of T.denotes values.new ≡ vals_of T.denotes values.old ++ spec.values_in (ruling_of T.denotes ruling.now)) }
+    ensures { OnOk result (vals_of T.denotes values.new ≡
+        vals_of T.denotes values.old ++ spec.values_in (ruling_of T.denotes ruling.now)) }
 {
     match ruling {
         Ruling::Template(phrase) => phrase.literals(values),
@@ -56,7 +57,8 @@ impl<T: Theory> Collected<T> {
     /// Appends a rule that was read.
     fn push(&mut self, ruling: Ruling<T>) -> Result<(), Want>
         requires { self.old.count < 1024 }
-        ensures { OnOk result (collected_of T.denotes self.new ≡ spec.with_rule (collected_of T.denotes self.old) (ruling_of T.denotes ruling)) }
+        ensures { OnOk result (collected_of T.denotes self.new ≡
+            spec.with_rule (collected_of T.denotes self.old) (ruling_of T.denotes ruling)) }
     {
         note(&mut self.values, &ruling)?;
         self.rules.push(ruling)?;
@@ -75,7 +77,8 @@ pub fn read_rules<T: Theory>(
     items: &Sexps,
 ) -> Result<Collected<T>, ReadEnd>
     requires { Serves T.numeric env.now.logic }
-    ensures { ReadingGives (collected_of T.denotes) result (spec.read_rules (environment_of env.now) sort (collected_of T.denotes before) items.now) }
+    ensures { ReadingGives (collected_of T.denotes) result
+        (spec.read_rules (environment_of env.now) sort (collected_of T.denotes before) items.now) }
 {
     let mut collected = before;
     let mut left = Rest::all(items);
@@ -108,7 +111,8 @@ fn nonempty(item: &Sexp) -> Option<&Sexps>
 
 /// The group of this name, sort and rules.
 fn group_with<'a>(name: &'a Sexp, sort: &'a Sexp, rules: Option<&'a Sexps>) -> Option<Grouped<'a>>
-    ensures { option_map grouped_of result ≡ spec.group_with (item_of name.now) (item_of sort.now) (option_map (λ items. items.now) rules.entry) }
+    ensures { option_map grouped_of result ≡
+        spec.group_with (item_of name.now) (item_of sort.now) (option_map (λ items. items.now) rules.entry) }
 {
     let rules = rules?;
     if symbol(name).is_some() {

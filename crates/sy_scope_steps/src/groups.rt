@@ -57,7 +57,8 @@ fn extended<T: Theory>(
     grown: Grown<T>,
 ) -> Result<Grown<T>, ReadEnd>
     requires { Serves T.numeric env.now.logic }
-    ensures { ReadingGives (grown_grammar_of T.denotes) result (spec.grammar_extended (environment_of env.now) sort items.now (grown_grammar_of T.denotes grown)) }
+    ensures { ReadingGives (grown_grammar_of T.denotes) result
+        (spec.grammar_extended (environment_of env.now) sort items.now (grown_grammar_of T.denotes grown)) }
 {
     let Grown {
         count,
@@ -92,7 +93,8 @@ fn read_group<T: Theory>(
     grown: Grown<T>,
 ) -> Result<Grown<T>, ReadEnd>
     requires { Serves T.numeric env.now.logic }
-    ensures { ReadingGives (grown_grammar_of T.denotes) result (spec.read_group (environment_of env.now) named.now (item_of item.now) (grown_grammar_of T.denotes grown)) }
+    ensures { ReadingGives (grown_grammar_of T.denotes) result
+        (spec.read_group (environment_of env.now) named.now (item_of item.now) (grown_grammar_of T.denotes grown)) }
 {
     let Some(parts) = group_parts(item) else {
         return Err(ReadEnd::Refused(place_of(item), Cause::Shape));
@@ -112,7 +114,8 @@ pub fn read_groups<T: Theory>(
     groups: &Sexps,
 ) -> Result<Grown<T>, ReadEnd>
     requires { Serves T.numeric env.now.logic }
-    ensures { ReadingGives (grown_grammar_of T.denotes) result (spec.read_groups (environment_of env.now) env.now.nonterminals.now groups.now spec.nothing_grown) }
+    ensures { ReadingGives (grown_grammar_of T.denotes) result
+        (spec.read_groups (environment_of env.now) env.now.nonterminals.now groups.now spec.nothing_grown) }
 {
     let mut grown = Grown::new(alloc);
     let mut left = Rest::all(groups);

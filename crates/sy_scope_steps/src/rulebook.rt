@@ -24,7 +24,8 @@ pub struct Written<T: Theory> {
 }
 
 /// The grammar that the groups in a list at this place are, for nonterminals that were predeclared. `Shape` comes there
-/// where it is empty, `Predeclared` where there aren't as many groups as nonterminals, and then the faults of the groups.
+/// where it is empty, `Predeclared` where there aren't as many groups as nonterminals, and then the faults of the
+/// groups.
 #[tactic(auto, unfolding(crate::specs::Grammars::read_productions))]
 fn read_productions<T: Theory>(
     alloc: Global,
@@ -34,7 +35,8 @@ fn read_productions<T: Theory>(
     place: Place,
 ) -> Result<Written<T>, ReadEnd>
     requires { Serves T.numeric env.now.logic }
-    ensures { ReadingGives (written_of T.denotes env.now.arguments.now) result (spec.read_productions (environment_of env.now) nonterminals.now (record { items = groups.now; place = place })) }
+    ensures { ReadingGives (written_of T.denotes env.now.arguments.now) result (spec.read_productions
+        (environment_of env.now) nonterminals.now (record { items = groups.now; place = place })) }
 {
     if Rest::all(groups).is_empty() {
         return Err(ReadEnd::Refused(place, Cause::Shape));
@@ -67,7 +69,9 @@ pub fn read_rulebook<T: Theory>(
     book: &Rulebook<'_>,
 ) -> Result<Written<T>, ReadEnd>
     requires { Serves T.numeric naming.now.logic }
-    ensures { ReadingGives (written_of T.denotes naming.now.taken.now) result (spec.read_rulebook naming.now.names.now.sorts naming.now.names.now.entities naming.now.logic naming.now.taken.now sort (rulebook_of book.now)) }
+    ensures { ReadingGives (written_of T.denotes naming.now.taken.now) result
+        (spec.read_rulebook naming.now.names.now.sorts
+        naming.now.names.now.entities naming.now.logic naming.now.taken.now sort (rulebook_of book.now)) }
 {
     let predeclared = book.predeclared;
     let nonterminals = read_predeclared(alloc, naming, sort, predeclared.items, predeclared.place)?;

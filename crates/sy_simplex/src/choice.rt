@@ -41,7 +41,8 @@ fn can_raise(coefficient: &Frac, free: bool) -> bool
 /// The column of the least variable that can raise a row with these coefficients.
 fn entering_column(columns: &[u32], coefs: &[Frac], vars: u32) -> Option<usize>
     requires { length columns.now ≡ length coefs.now }
-    ensures { MatchOption result (NoneRaises columns.now coefs.now vars (length columns.now)) (λ at. LeastRaising columns.now coefs.now vars (length columns.now) at) }
+    ensures { MatchOption result (NoneRaises columns.now coefs.now vars (length columns.now)) (λ at.
+        LeastRaising columns.now coefs.now vars (length columns.now) at) }
 {
     let mut best: Option<usize> = None;
     for at in 0..columns.len() {
@@ -77,7 +78,8 @@ impl Tableau {
     /// The row of the least variable that isn't clear.
     fn first_unclear(&self) -> Option<usize>
         requires { IsShaped (tableau_state_of self.now) }
-        ensures { MatchOption result (BoundsAreMet (tableau_state_of self.now)) (λ r. FirstUnclear (tableau_state_of self.now) (length (tableau_state_of self.now).basics) r) }
+        ensures { MatchOption result (BoundsAreMet (tableau_state_of self.now)) (λ r.
+            FirstUnclear (tableau_state_of self.now) (length (tableau_state_of self.now).basics) r) }
     {
         let mut best: Option<usize> = None;
         for at in 0..self.basics.len() {
@@ -98,7 +100,8 @@ impl Tableau {
     /// The next exchange by Bland's rule, or the end of the run. `None` exactly where a comparison doesn't fit.
     pub fn choose(&self) -> Option<Choice>
         requires { IsShaped (tableau_state_of self.now) }
-        ensures { MatchOption result (SomeChoiceUnfit (tableau_state_of self.now)) (λ choice. IsChoice (tableau_state_of self.now) choice) }
+        ensures { MatchOption result (SomeChoiceUnfit (tableau_state_of self.now)) (λ choice.
+            IsChoice (tableau_state_of self.now) choice) }
     {
         let Some(row) = self.first_unclear() else {
             return Some(Choice::Met);

@@ -44,7 +44,8 @@ pub fn negated(f: &Frac) -> Frac
 
 /// A fraction and the product of two, by a product and a sum; `None` exactly where one of them doesn't fit.
 pub(crate) fn plus_product(own: &Frac, factor: &Frac, other: &Frac) -> Option<Frac>
-    ensures { MatchOption result (PlusProductUnfit own.now factor.now other.now) (λ f. IsPlusProduct own.now factor.now other.now f) }
+    ensures { MatchOption result (PlusProductUnfit own.now factor.now other.now) (λ f.
+        IsPlusProduct own.now factor.now other.now f) }
 {
     let _lowest = own.num();
     let (multiplier, multiplied) = (factor.num(), other.num());
@@ -61,7 +62,8 @@ pub(crate) fn plus_product(own: &Frac, factor: &Frac, other: &Frac) -> Option<Fr
 /// over the row's coefficient; `None` exactly where the difference or the quotient doesn't fit.
 pub(crate) fn shift(bound: &Frac, value: &Frac, coefficient: &Frac) -> Option<Frac>
     requires { coefficient.now.num ≢ pos 0 }
-    ensures { MatchOption result (ShiftUnfit bound.now value.now coefficient.now) (λ f. IsShift bound.now value.now coefficient.now f) }
+    ensures { MatchOption result (ShiftUnfit bound.now value.now coefficient.now) (λ f.
+        IsShift bound.now value.now coefficient.now f) }
 {
     match bound.sub(value) {
         Some(gap) => gap.div(coefficient),

@@ -17,7 +17,8 @@ use sy_linear_known::Form;
 
 /// The fraction of a whole number; `None` exactly where the number is `-2^127`.
 fn fraction(number: &i128) -> Option<Frac>
-    ensures { MatchOption result (¬ (IsInRange number.now)) (λ f. IsInRange number.now × (f ≡ whole_fraction number.now)) }
+    ensures { MatchOption result (¬ (IsInRange number.now)) (λ f. IsInRange number.now ×
+        (f ≡ whole_fraction number.now)) }
 {
     let value = *number;
     whole(value)
@@ -78,7 +79,8 @@ fn begin(
     requires few_vars { vars < 2 ^ 31 }
     requires few_forms { length forms.now < 2 ^ 31 }
     requires none { IsBegun vars forms.now 0 basics.old.items rows.old.items bounds.old.items }
-    ensures begun { OnOk result (IsBegun vars forms.now (length forms.now) basics.new.items rows.new.items bounds.new.items) }
+    ensures begun { OnOk result
+        (IsBegun vars forms.now (length forms.now) basics.new.items rows.new.items bounds.new.items) }
     ensures unfit { IsErrOf result Fault.Unfit → SomeUnfit forms.now }
 {
     for at in 0..forms.len() {

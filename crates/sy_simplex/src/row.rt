@@ -59,7 +59,8 @@ impl Row {
         requires in_bounds { column < length solved.now }
         requires lowest { AreLowest self.old }
         requires solved_lowest { AreLowest solved.now }
-        ensures { MatchOption result (PutUnfit self.old solved.now column) (λ _. IsPutRow self.old solved.now column self.new) }
+        ensures { MatchOption result (PutUnfit self.old solved.now column) (λ _.
+            IsPutRow self.old solved.now column self.new) }
     {
         put_coefficients(&mut self.coefs, solved.coefs.as_slice(), column)
     }
@@ -104,7 +105,8 @@ fn put_coefficients(coefs: &mut Vec<Frac>, solved: &[Frac], column: usize) -> Op
     requires in_bounds { column < length solved.now }
     requires lowest { AreLowest coefs.old.items }
     requires solved_lowest { AreLowest solved.now }
-    ensures { MatchOption result (PutUnfit coefs.old.items solved.now column) (λ _. IsPutRow coefs.old.items solved.now column coefs.new.items) }
+    ensures { MatchOption result (PutUnfit coefs.old.items solved.now column) (λ _.
+        IsPutRow coefs.old.items solved.now column coefs.new.items) }
 {
     let factor = coefs[column];
     if factor.num() == 0 {

@@ -59,9 +59,9 @@ fn stuck(alloc: Global, tableau: Tableau, row: usize) -> Result<Ended, Want>
 /// Decides whether some rational point meets `e >= 0` for every form, in at most `pivots` steps.
 ///
 /// `Point` is the corner of the forms at which the run ends. `Conflict` gives multipliers that combine the forms to a
-/// negative constant. `Pivots` comes exactly where the run has taken `pivots` steps and is at neither end, `Range` exactly
-/// where an operation that follows the given steps doesn't fit: one of the next step, or, after `pivots` steps, of its choice.
-/// More than 2^31 - 1 variables or forms are answered as want of memory.
+/// negative constant. `Pivots` comes exactly where the run has taken `pivots` steps and is at neither end, `Range`
+/// exactly where an operation that follows the given steps doesn't fit: one of the next step, or, after `pivots` steps,
+/// of its choice. More than 2^31 - 1 variables or forms are answered as want of memory.
 pub fn ended(alloc: Global, vars: u32, bounds: &Seq<Form>, pivots: u32) -> Result<Ended, Want>
     requires { AreForms vars bounds.now }
     ensures sound { IfOk result (λ ended. AnswerIsSound vars bounds.now ended.answer) }

@@ -90,7 +90,8 @@ fn raise_others(
 ) -> Option<()>
     requires same_length { vec_len values.old ≡ length rows.now }
     requires column_below { (i : ℕ) → i < length rows.now → column < length (get_or rows.now i []) }
-    ensures { MatchOption result (RaisedUnfitBeside values.old.items rows.now row column shift.now) (λ _. AreRaised values.old.items rows.now row column shift.now values.new.items) }
+    ensures { MatchOption result (RaisedUnfitBeside values.old.items rows.now row column shift.now) (λ _.
+        AreRaised values.old.items rows.now row column shift.now values.new.items) }
 {
     for at in 0..rows.len() {
         if at != row {
@@ -111,7 +112,8 @@ fn put_into_others(rows: &mut Vec<Row>, solved: &Row, row: usize, column: usize)
     requires column_below { column < length solved.now }
     requires lowest { (i : ℕ) → i < length rows.old.items → AreLowest (get_or rows.old.items i []) }
     requires solved_lowest { AreLowest solved.now }
-    ensures { MatchOption result (PutUnfitBeside rows.old.items solved.now row column) (λ _. ArePut rows.old.items solved.now row column rows.new.items) }
+    ensures { MatchOption result (PutUnfitBeside rows.old.items solved.now row column) (λ _.
+        ArePut rows.old.items solved.now row column rows.new.items) }
 {
     for at in 0..rows.len() {
         if at != row && rows[at].put(solved, column).is_none() {

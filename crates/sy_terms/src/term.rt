@@ -77,7 +77,8 @@ impl<T: Theory> Terms<T> {
 
     /// The term at `i`; `None` exactly where `i >= len`.
     pub fn get(&self, i: usize) -> Option<&Term<T>>
-        ensures { MatchOption result (length self.now.items.items ≤ i) (λ term. slice_get self.now.items.items i ≡ Some term.now) }
+        ensures { MatchOption result (length self.now.items.items ≤ i) (λ term.
+            slice_get self.now.items.items i ≡ Some term.now) }
     {
         self.items.get(i)
     }
@@ -198,7 +199,8 @@ impl<T: Theory> Terms<T> {
     /// Equal terms, in memory of their own.
     #[cycle(copy)]
     fn copy(&self, alloc: Global) -> Result<Terms<T>, Want>
-        ensures { IfOk result (λ terms. exprs_of T.denotes terms.items.items ≡ exprs_of T.denotes self.now.items.items) }
+        ensures { IfOk result (λ terms. exprs_of T.denotes terms.items.items ≡
+            exprs_of T.denotes self.now.items.items) }
     {
         let mut items = Vec::with_capacity(alloc, self.items.len())?;
         for term in &self.items {

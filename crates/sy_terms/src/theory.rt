@@ -55,8 +55,8 @@ pub trait Theory {
         requires sorted { IsSorted op.now (map (val_of denotes) args.now) }
         ensures { Applies denotes op.now (map (val_of denotes) args.now) result };
 
-    /// Puts the operator's value at each value and the other of its place into that value's place, up to the first place
-    /// where it doesn't fit 128 bits, and answers that place.
+    /// Puts the operator's value at each value and the other of its place into that value's place, up to the first
+    /// place where it doesn't fit 128 bits, and answers that place.
     fn apply_each(
         op: &Op,
         values: &mut [Value<Self::Num>],
@@ -65,7 +65,9 @@ pub trait Theory {
         requires owned { (place : ℕ) → place < length values.old → owned op.now ≡ true }
         requires same { length others.now ≡ length values.old }
         requires sorted { ArePairsSorted op.now (vals_of denotes values.old) (vals_of denotes others.now) }
-        ensures { MatchOption result (ArePairsApplied op.now (vals_of denotes values.old) (vals_of denotes others.now) (vals_of denotes values.new)) (IsFirstUnfit op.now (vals_of denotes values.old) (vals_of denotes others.now)) };
+        ensures { MatchOption result (ArePairsApplied op.now
+            (vals_of denotes values.old) (vals_of denotes others.now) (vals_of denotes values.new))
+            (IsFirstUnfit op.now (vals_of denotes values.old) (vals_of denotes others.now)) };
 
     /// The value's sort.
     fn value_sort(v: &Value<Self::Num>) -> Sort

@@ -10,12 +10,9 @@ use mathlib.Core.Bool.{true≢false}
 use Rattle.sy_terms.specs.Values.{Val, Truth, Whole, Bits, same}
 use Rattle.sy_terms.specs.Denoted.{vals_of}
 use Rattle.sy_terms.specs.declared.sort.Value.{Value}
-use Rattle.sy_terms.specs.Meaning.{Function}
-use Rattle.sy_terms_operators.specs.Tracing.{same_values, has_call, traced, traced_all, TracedSome, call_of, calls_of}
-use Rattle.sy_terms_operators.specs.Agreement.{AgreeAt, Agree}
+use Rattle.sy_terms_operators.specs.Tracing.{same_values, has_call, traced_all, TracedSome, call_of, calls_of}
 use Rattle.sy_terms_operators.proofs.Equations.{both_true}
 use Rattle.sy_terms_operators.proofs.Asked.{traced_all-append}
-use Rattle.sy_terms_operators.proofs.Agreement.{agree_both}
 
 both_false : (a b : Bool) → (a || b) ≡ false → (a ≡ false) × (b ≡ false)
 both_false true b e = cc
@@ -65,39 +62,6 @@ same_values_again (x ∷ xs) = λ i. same_again x i && same_values_again xs i
 
 pub same_values_found : (xs ys : List Val) → xs ≡ ys → same_values xs ys ≡ true
 same_values_found xs ys e = ap (same_values xs) (sym e) ∙ same_values_again xs
-
--- functions that agree at what a trace has agree at the call that it has
-agree_first : (wanted others : List Function) (first call : ℕ × List Val) (later : Bool) → AgreeAt wanted others first → (later ≡ true → AgreeAt wanted others call) → (b : Bool) → (nat_eq first.0 call.0 && same_values first.1 call.1) ≡ b → (b || later) ≡ true → AgreeAt wanted others call
-agree_first wanted others first call later here there true is e =
-    let both = both_true (nat_eq first.0 call.0) (same_values first.1 call.1) is in
-    let function = eqb-true first.0 call.0 both.0 in
-    let values = same_values_is first.1 call.1 both.1 in
-    subst (λ c. AgreeAt wanted others c) (λ i. (function i, values i)) here
-agree_first wanted others first call later here there false is e = there e
-
-agree_at : (wanted others : List Function) (calls : List (ℕ × List Val)) (call : ℕ × List Val) → Agree wanted others calls → has_call calls call.0 call.1 ≡ true → AgreeAt wanted others call
-agree_at wanted others [] call h e = cc
-agree_at wanted others (first ∷ calls) call h e = agree_first wanted others first call (has_call calls call.0 call.1) h.0 (λ more. agree_at wanted others calls call h.1 more) (nat_eq first.0 call.0 && same_values first.1 call.1) refl e
-
-agree_traced : (wanted others : List Function) (calls : List (ℕ × List Val)) (call : ℕ × List Val) → Agree wanted others (traced calls call) → Agree wanted others calls × AgreeAt wanted others call
-agree_traced wanted others calls call h = at (has_call calls call.0 call.1) refl
-  where
-    at : (b : Bool) → has_call calls call.0 call.1 ≡ b → Agree wanted others calls × AgreeAt wanted others call
-    at true is =
-        let all : Agree wanted others calls = subst (λ b. Agree wanted others (cond b calls (calls ++ call ∷ []))) is h in
-        (all, agree_at wanted others calls call all is)
-    at false is =
-        let all : Agree wanted others (calls ++ call ∷ []) = subst (λ b. Agree wanted others (cond b calls (calls ++ call ∷ []))) is h in
-        let both = agree_both wanted others calls (call ∷ []) all in
-        (both.0, both.1.0)
-
--- functions that agree at what a trace has then agree at what it had before, and at what it was asked
-pub agree_all : (wanted others : List Function) (before asked : List (ℕ × List Val)) → Agree wanted others (traced_all before asked) → Agree wanted others before × Agree wanted others asked
-agree_all wanted others before [] h = (h, tt)
-agree_all wanted others before (call ∷ asked) h =
-    let rest = agree_all wanted others (traced before call) asked h in
-    let here = agree_traced wanted others before call rest.0 in
-    (here.0, (here.1, rest.1))
 
 -- the first calls of a list, as the first calls of a longer one
 first_of : (first second : List (ℕ × List Val)) (count : ℕ) → (k : ℕ) × (take k (first ++ second) ≡ take count first)

@@ -16,6 +16,6 @@ asks number defs terms values term = asked (functions (bodies number defs)) (wan
 abbrev pub all_asks : {T N : Type 0} → (N → Val) → List (Def T N) → List (Term T N) → List Val → Exprs → List (ℕ × List Val)
 all_asks number defs terms values all = all_asked (functions (bodies number defs)) (wanted_functions number defs terms) values all
 
--- whatever other functions agree with the bodies at each call of the trace, the term means the same under them
-abbrev pub StandsWith : {T N : Type 0} → (N → Val) → List (Def T N) → List (Term T N) → List Val → Expr → List (ℕ × List Val) → Type 0
-StandsWith number defs terms values term trace = (others : List Function) → Agree (wanted_functions number defs terms) others trace → SameUnder (functions (bodies number defs)) (wanted_functions number defs terms) others values term
+-- whatever other functions have the bodies' values at each call that the term asks for, it means the same under them
+abbrev pub StandsWith : {T N : Type 0} → (N → Val) → List (Def T N) → List (Term T N) → List Val → Expr → Type 0
+StandsWith number defs terms values term = (others : List Function) → Agree (wanted_functions number defs terms) others (asks number defs terms values term) → SameUnder (functions (bodies number defs)) (wanted_functions number defs terms) others values term

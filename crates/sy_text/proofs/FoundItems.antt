@@ -32,7 +32,7 @@ pub record ItemsSpelled (depth : ℕ) (bytes : List ℕ) (x : Taken) : Type 0 wh
 below_limit : (depth : ℕ) → depth ≤ 1200 → nat_eq depth 1200 ≡ false → depth < 1200
 below_limit depth le h = let differs : depth ≡ 1200 → ⊥ = eqb-false depth 1200 h in omega (arith, le, differs)
 
-item_found : (inside : Inside) (total depth start : ℕ) (bytes : List ℕ) (x : Item × List ℕ) → depth ≤ 1200
+pub item_found : (inside : Inside) (total depth start : ℕ) (bytes : List ℕ) (x : Item × List ℕ) → depth ≤ 1200
     → ((ys : List ℕ) (y : Taken) → depth < 1200 → inside ys ≡ Ok y → ItemsSpelled (depth + 1) ys y) → item_by inside total depth start bytes ≡ Ok x → ItemSpelled depth bytes x
 unfolding item_by
 item_found inside total depth start [] x le h e = no_err (Unclosed start) x e
@@ -56,12 +56,12 @@ item_found inside total depth start (b ∷ rest) x le h e =
 
 -- ---- white space and comments
 
-record Gap (inside : Bool) (bytes rest : List ℕ) : Type 0 where
+pub record Gap (inside : Bool) (bytes rest : List ℕ) : Type 0 where
   pub gap : List ℕ
   pub layout : is_layout inside gap ≡ true
   pub parts : bytes ≡ gap ++ rest
 
-gap_found : (inside : Bool) (bytes : List ℕ) (b : ℕ) (rest : List ℕ) → after_layout inside bytes ≡ b ∷ rest → Gap inside bytes (b ∷ rest)
+pub gap_found : (inside : Bool) (bytes : List ℕ) (b : ℕ) (rest : List ℕ) → after_layout inside bytes ≡ b ∷ rest → Gap inside bytes (b ∷ rest)
 unfolding after_layout is_layout
 gap_found inside [] b rest e = absurd cc
 gap_found true (c ∷ bytes) b rest e =

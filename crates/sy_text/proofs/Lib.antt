@@ -1,5 +1,7 @@
 pub mod Again
+pub mod BadAtoms
 pub mod Digits
+pub mod Faulty
 pub mod Fitting
 pub mod Found
 pub mod FoundItems

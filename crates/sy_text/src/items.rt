@@ -38,7 +38,8 @@ fn read_items(
 ) -> Result<(Sexps, &[u8]), TextEnd>
     requires within { length bytes.now ≤ total }
     requires open { depth ≤ 1200 }
-    ensures exact { TextGives (λ x. (x.0, x.1.now)) result (reading.items_at (suc (length bytes.now)) total depth start bytes.now) }
+    ensures exact { TextGives (λ x.
+        (x.0, x.1.now)) result (reading.items_at (suc (length bytes.now)) total depth start bytes.now) }
     ensures shorter { IfOk result (λ x. length x.1.now < length bytes.now) }
 {
     let mut items = Sexps::new(alloc);
@@ -67,7 +68,8 @@ fn read_item(
 ) -> Result<(Sexp, &[u8]), TextEnd>
     requires within { length bytes.now ≤ total }
     requires open { depth ≤ 1200 }
-    ensures exact { TextGives (λ x. (item_of x.0, x.1.now)) result (reading.item_by (reading.items_at (length bytes.now) total (depth + 1) (total - length bytes.now)) total depth (total - length bytes.now) bytes.now) }
+    ensures exact { TextGives (λ x. (item_of x.0, x.1.now)) result (reading.item_by (reading.items_at (length bytes.now)
+        total (depth + 1) (total - length bytes.now)) total depth (total - length bytes.now) bytes.now) }
     ensures shorter { IfOk result (λ x. length x.1.now < length bytes.now) }
 {
     let start = total - bytes.len();
@@ -98,7 +100,8 @@ pub fn next_command(
     // Which item it is, or which fault, and where.
     ensures exact { TextGives command_of result (reading.command_at (length bytes.now) (drop at bytes.now)) }
     // What is read is spelled there by the grammar.
-    ensures found { IfOk result (λ answer. IfSome answer (λ x. StandsInFront (item_of x.0) x.1 (length bytes.now) (drop at bytes.now))) }
+    ensures found { IfOk result (λ answer.
+        IfSome answer (λ x. StandsInFront (item_of x.0) x.1 (length bytes.now) (drop at bytes.now))) }
     // At least a byte is taken, and at most all.
     ensures forward { IfOk result (λ answer. IfSome answer (λ x. (at < x.1) × (x.1 ≤ length bytes.now))) }
     // The places of what is read lie within the bytes, and so does a fault.
@@ -110,7 +113,8 @@ pub fn next_command(
     ensures none { IfOk result (λ answer. IfNone answer (is_blank false (drop at bytes.now) ≡ true)) }
     ensures blank { is_blank false (drop at bytes.now) ≡ true → EndsBlank result }
     // What is spelled there by the grammar is read, apart from places, unless memory runs out.
-    ensures only { (x : Item) (gap text rest : List ℕ) → is_layout false gap ≡ true → IsItem 0 x text rest → drop at bytes.now ≡ gap ++ (text ++ rest) → Reads x (length bytes.now - length rest) result }
+    ensures only { (x : Item) (gap text rest : List ℕ) → is_layout false gap ≡ true → IsItem 0 x text rest →
+        drop at bytes.now ≡ gap ++ (text ++ rest) → Reads x (length bytes.now - length rest) result }
 {
     read_command(alloc, bytes, at)
 }

@@ -217,7 +217,8 @@ fn read_keyword(
 /// The number that the digits stand for; `None` where it is 2^127 or more.
 fn value_of(digits: &[u8], base: u128) -> Option<u128>
     requires { 1 ≤ base }
-    ensures { MatchOption result (2 ^ 127 ≤ value_in base digits.now) (λ value. (value ≡ value_in base digits.now) × (value < 2 ^ 127)) }
+    ensures { MatchOption result (2 ^ 127 ≤ value_in base digits.now) (λ value. (value ≡ value_in base digits.now) ×
+        (value < 2 ^ 127)) }
 {
     let mut value: u128 = 0;
     for digit in digits {

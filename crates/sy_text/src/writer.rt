@@ -175,7 +175,8 @@ pub fn write_sexp(alloc: Global, s: &Sexp) -> Result<Bytes, Want>
     requires { ItemFits 1200 (item_of s.now) }
     ensures text { IfOk result (λ text. text ≡ spelling.item_text (item_of s.now)) }
     // What is written is read again, apart from places, before white space, a closing bracket or the end.
-    ensures again { IfOk result (λ text. (total : ℕ) (rest : List ℕ) → parted rest ≡ true → ReadAs (item_of s.now) (total - length rest) (command_at total (text ++ rest))) }
+    ensures again { IfOk result (λ text. (total : ℕ) (rest : List ℕ) →
+        parted rest ≡ true → ReadAs (item_of s.now) (total - length rest) (command_at total (text ++ rest))) }
 {
     write_item_alone(alloc, s)
 }

@@ -61,7 +61,8 @@ impl Sexps {
 
     /// The item at `i`; `None` exactly where `i >= len`.
     pub fn get(&self, i: usize) -> Option<&Sexp>
-        ensures { MatchOption result (length (listed self.now) ≤ i) (λ x. slice_get (listed self.now) i ≡ Some (item_of x.now)) }
+        ensures { MatchOption result (length (listed self.now) ≤ i) (λ x.
+            slice_get (listed self.now) i ≡ Some (item_of x.now)) }
     {
         self.items.get(i)
     }

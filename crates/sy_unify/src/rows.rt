@@ -56,7 +56,8 @@ pub(crate) fn splitting_test(conditions: &Seq<Seq<bool>>, points: &[u32]) -> Opt
     requires some { 0 < length points.now }
     requires few { length conditions.now < 2 ^ 31 }
     ensures { MatchOption result
-        ((row : ℕ) → All (λ x. holds_at conditions.now row x ≡ holds_at conditions.now row (slice_index points.now 0)) points.now)
+        ((row : ℕ) →
+        All (λ x. holds_at conditions.now row x ≡ holds_at conditions.now row (slice_index points.now 0)) points.now)
         (λ row. ((x : ℕ) × Contains points.now x × (holds_at conditions.now row x ≡ true))
         × ((x : ℕ) × Contains points.now x × (holds_at conditions.now row x ≡ false))) }
 {

@@ -23,8 +23,8 @@ fn are_values(values: &[Value<Word>], numbers: &str) -> bool {
     are_told & numbers.next().is_none()
 }
 
-/// Whether it is answered as is told where so many clauses may be learned: the numbers of a model; or `never`, by a log that
-/// the checker accepts and a formula of so many variables at most; or `unfit` for what isn't a query.
+/// Whether it is answered as is told where so many clauses may be learned: the numbers of a model; or `never`, by a log
+/// that the checker accepts and a formula of so many variables at most; or `unfit` for what isn't a query.
 fn answers<R: Abort>(
     rt: &R,
     alloc: Global,
@@ -67,11 +67,12 @@ pub fn is_right<R: Abort>(rt: &R, alloc: Global, row: &str) -> bool {
     is_right
 }
 
-/// The variables' sorts, the body, how many clauses may be learned, how many variables the clauses may have, and the answer.
+/// The variables' sorts, the body, how many clauses may be learned, how many variables the clauses may have, and the
+/// answer.
 ///
-/// Models, where no clause may be learned and no search is made: an assignment that is tried before. Sums and products of
-/// variables that need no gate, remainders and shifts of a vector by itself, and signed shifts by constants, against copies of
-/// the sign beside the bits that are left: one variable beside the variables' bits.
+/// Models, where no clause may be learned and no search is made: an assignment that is tried before. Sums and products
+/// of variables that need no gate, remainders and shifts of a vector by itself, and signed shifts by constants, against
+/// copies of the sign beside the bits that are left: one variable beside the variables' bits.
 pub const ROWS: &str = "\
 4|A|9|0|unfit
 0|T|9|0|unfit

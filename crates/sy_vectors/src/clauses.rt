@@ -1,4 +1,5 @@
-// Sets of clauses with what the solver finds, resolution logs with what the checker says of them, and long ones of both.
+// Sets of clauses with what the solver finds, resolution logs with what the checker says of them, and long ones of
+// both.
 ghost use Rattle.std.specs.Prelude.{◌≡◌, ◌<◌, ◌^◌, IsTrue, Some, ℕ, length, slice_get};
 ghost use Rattle.sy_clauses.specs.declared.Lit.{Lit};
 ghost use Rattle.sy_clauses.specs.Clauses.{VarsFit};
@@ -103,8 +104,8 @@ fn are_values(values: &[bool], signs: &str) -> bool {
     are_told
 }
 
-/// Whether the solver that may learn so many clauses finds what is told: `refuted`, by a log that the checker accepts; the
-/// values of a model; or `spent` and how many clauses were learned, where no more are allowed.
+/// Whether the solver that may learn so many clauses finds what is told: `refuted`, by a log that the checker accepts;
+/// the values of a model; or `spent` and how many clauses were learned, where no more are allowed.
 fn finds(rt: &impl Abort, alloc: Global, cnf: &Cnf, learned: u32, told: &str) -> bool {
     assert!(rt; learned < 2_147_483_648);
     assert!(rt; fits(cnf));
@@ -146,9 +147,9 @@ fn append_link(rt: &impl Abort, alloc: Global, clauses: &mut Seq<Seq<Lit>>, from
     clauses.push(clause).expect(rt, "a clause");
 }
 
-/// A chain of implications over 400,001 variables, its even links last to first and then its odd ones, from a true variable
-/// to a contradiction: a scan over all clauses, from either end, gains about two values a pass, so it would need about
-/// 200,000 passes.
+/// A chain of implications over 400,001 variables, its even links last to first and then its odd ones, from a true
+/// variable to a contradiction: a scan over all clauses, from either end, gains about two values a pass, so it would
+/// need about 200,000 passes.
 fn scattered(rt: &impl Abort, alloc: Global) -> Cnf {
     let mut clauses = Seq::new(alloc);
     for k in 0..400_000 {
@@ -221,9 +222,9 @@ pub fn refutes_scattered(rt: &impl Abort, alloc: Global) -> bool {
     finds(rt, alloc, &scattered(rt, alloc), 1, "refuted")
 }
 
-/// A formula, its number of variables first; how many clauses may be learned, and what is found: of three pigeons in two
-/// holes, where pigeon p sits in hole h if variable 2 * p + h is true; of one of two without the first; and of a literal and
-/// its negation.
+/// A formula, its number of variables first; how many clauses may be learned, and what is found: of three pigeons in
+/// two holes, where pigeon p sits in hole h if variable 2 * p + h is true; of one of two without the first; and of a
+/// literal and its negation.
 pub const FORMULAS: &str = "\
 6|ab cd ef AC AE CE BD BF DF|1000|refuted
 6|ab cd ef AC AE CE BD BF DF|1|spent 1

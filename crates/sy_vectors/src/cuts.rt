@@ -7,7 +7,8 @@ use sy_linear::{Fact, Form};
 use sy_simplex::{Feasible, are_forms, ended};
 use sy_terms::Sort;
 
-/// The form of the cut at the corner of these forms, with semicolons between them; none where there is no cut or no corner.
+/// The form of the cut at the corner of these forms, with semicolons between them; none where there is no cut or no
+/// corner.
 fn cut_of(rt: &impl Abort, alloc: Global, text: &str) -> Option<Form> {
     let forms = forms(rt, alloc, text);
     let mut facts = Vec::new(alloc);

@@ -47,7 +47,8 @@ fn is_rule<T: Theory>(rule: &Rule<T>, text: &str) -> bool {
     }
 }
 
-/// Whether the nonterminal of this number has the sort and just the rules that are told, in their order; or that there is none.
+/// Whether the nonterminal of this number has the sort and just the rules that are told, in their order; or that there
+/// is none.
 fn is_told<T: Theory>(grammar: &Grammar<T>, number: usize, told: &str) -> bool {
     let Some(non) = grammar.nons().get(number) else {
         return told.is_empty();
@@ -108,8 +109,8 @@ pub fn byte_chooses<R: Abort>(rt: &R, alloc: Global) -> bool {
     chooses
 }
 
-/// The function's sort, a nonterminal's number, and its sort and rules, with semicolons between them. Integers have three
-/// nonterminals, and vectors have one for each width.
+/// The function's sort, a nonterminal's number, and its sort and rules, with semicolons between them. Integers have
+/// three nonterminals, and vectors have one for each width.
 pub const ROWS: &str = "\
 LIA Int|0|Int;Variable Int;Constant Int;+ 0 0;- 0 0;* 2 0;ite 1 0 0
 LIA Int|1|Bool;Variable Bool;Constant Bool;<= 0 0;= 0 0;not 1;and 1 1;or 1 1;ite 1 1 1

@@ -15,8 +15,8 @@ use sy_meaning_integers::IntTheory;
 use sy_meaning_words::BvTheory;
 use sy_terms::{Bodies, Def, Defs, Seq, Sort, Term, Theory, Value, Values, same_value};
 
-/// Terms over the vector #x00 that call a function whose body is `bvnot`, where the definition is `bvneg`, with their values
-/// and the arguments of the calls that are noted.
+/// Terms over the vector #x00 that call a function whose body is `bvnot`, where the definition is `bvneg`, with their
+/// values and the arguments of the calls that are noted.
 pub const CALLS: &str = "\
 F F/1 a|8:0|8:0 8:255
 ite =/2 a 8:0 F/1 a F/1 8:1|8:255|8:0 8:1
@@ -108,8 +108,8 @@ fn is_end<T: Theory>(rt: &impl Abort, ended: Result<Value<T::Num>, Eval>, told: 
     }
 }
 
-/// Asserts that the values are valid and that the term has a sort at them, where the function to be found takes one argument of
-/// this sort and gives one.
+/// Asserts that the values are valid and that the term has a sort at them, where the function to be found takes one
+/// argument of this sort and gives one.
 fn assert_fitting<T: Theory>(
     rt: &impl Abort,
     alloc: Global,
@@ -119,7 +119,8 @@ fn assert_fitting<T: Theory>(
     term: &Term<T>,
 )
     ensures values { AreValid T.denotes values.now }
-    ensures term { TermFits (scope_with T.owned defs.now (record { takes = sort ∷ []; gives = sort } ∷ [])) (vals_of T.denotes values.now) (expr_of T.denotes term.now) }
+    ensures term { TermFits (scope_with T.owned defs.now (record { takes = sort ∷ []; gives = sort } ∷
+        [])) (vals_of T.denotes values.now) (expr_of T.denotes term.now) }
 {
     let sorts = value_sorts::<T>(alloc, values)
         .expect(rt, "memory")
@@ -133,7 +134,8 @@ fn assert_fitting<T: Theory>(
     };
 }
 
-/// Whether the term has the row's value at these values where the function to be found has this body, and notes just its calls.
+/// Whether the term has the row's value at these values where the function to be found has this body, and notes just
+/// its calls.
 fn gives<T: Theory>(
     rt: &impl Abort,
     alloc: Global,
@@ -145,7 +147,8 @@ fn gives<T: Theory>(
 ) -> bool
     requires definitions { DefinitionsFit T.owned T.denotes defs.now }
     requires values { AreValid T.denotes values.now }
-    requires term { FitsWith T.owned T.denotes defs.now bodies.now (vals_of T.denotes values.now) (expr_of T.denotes term.now) }
+    requires term { FitsWith T.owned T.denotes defs.now bodies.now
+        (vals_of T.denotes values.now) (expr_of T.denotes term.now) }
 {
     let mut trace = Trace::new(alloc);
     let ended = evaluate_with(alloc, defs, bodies, values, term, &mut trace);

@@ -4,12 +4,12 @@ use crate::queries::{INTEGERS, query};
 use crate::rows::field;
 use std::alloc::Global;
 use std::process::Abort;
-use sy_linear::{Fact, Known, Path, Test, known};
+use sy_linear::{Fact, Known, Path, Test, is_numbered, known};
 use sy_meaning_integers::IntTheory;
 use sy_terms::{Seq, Want};
 
-/// Facts with semicolons between them: `B` where the second variable is true, `!B` where it is false, or a form that is at
-/// least 0.
+/// Facts with semicolons between them: `B` where the second variable is true, `!B` where it is false, or a form that is
+/// at least 0.
 fn path(rt: &impl Abort, alloc: Global, text: &str) -> Path {
     let mut facts = Seq::new(alloc);
     if text.is_empty() {
@@ -31,6 +31,7 @@ fn path(rt: &impl Abort, alloc: Global, text: &str) -> Path {
 pub fn told(rt: &impl Abort, alloc: Global, row: &str) -> Result<String, Want> {
     let path = path(rt, alloc, field(row, 0));
     let query = query::<IntTheory>(rt, alloc, INTEGERS, "ib", field(row, 1));
+    assert!(rt; is_numbered(&query));
     let known = known(alloc, &query, &path).expect(rt, "memory");
     drop(query);
     let told = match &known {

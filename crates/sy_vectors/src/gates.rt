@@ -56,8 +56,8 @@ fn make(rt: &impl Abort, alloc: Global, circuit: &mut Circuit, gate: &str)
     made.expect(rt, gate);
 }
 
-/// How many inputs a circuit has, its gates, and how many variables it has then. First stands each gate twice, in another
-/// order or negated; then gates that are bits, and one more that isn't.
+/// How many inputs a circuit has, its gates, and how many variables it has then. First stands each gate twice, in
+/// another order or negated; then gates that are bits, and one more that isn't.
 pub const ROWS: &str = "\
 3 &xy &yx ^xy ^Yx ?xyz ?Xzy 6
 2 &xx &xX ^xX ?yxx 2

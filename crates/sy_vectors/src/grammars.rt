@@ -23,8 +23,8 @@ fn leaf<T: Theory>(rt: &impl Abort, word: &str) -> Part<T> {
     }
 }
 
-/// The rule of this text: all constants, `k`, or those of eight bits, `k8`; all arguments, `v`; a leaf; or an operator and the
-/// leaves that it takes.
+/// The rule of this text: all constants, `k`, or those of eight bits, `k8`; all arguments, `v`; a leaf; or an operator
+/// and the leaves that it takes.
 fn rule<T: Theory>(rt: &impl Abort, alloc: Global, sort: Sort, text: &str) -> Rule<T> {
     let (word, rest) = text.split_once(' ').unwrap_or((text, ""));
     let Some(op) = operator(word) else {
@@ -150,8 +150,8 @@ fn is_told<T: Theory>(
     }
 }
 
-/// Whether the row's nonterminals are a grammar over one argument of their sort, of which what the row tells holds; or whether
-/// they fit over one truth value just where the row tells so.
+/// Whether the row's nonterminals are a grammar over one argument of their sort, of which what the row tells holds; or
+/// whether they fit over one truth value just where the row tells so.
 pub fn is_right<T: Theory>(rt: &impl Abort, alloc: Global, sort: Sort, row: &str) -> bool {
     let argument = match field(row, 2) {
         "fits" | "fails" => Sort::Bool,
@@ -185,10 +185,11 @@ pub fn is_right_of_sort(rt: &impl Abort, alloc: Global, row: &str) -> bool {
     }
 }
 
-/// The sort of all nonterminals, their rules, and what is told: whether they fit over one truth value; what chain rules reach
-/// from each; the largest size, by a pool and up to a cap; the rules by which the argument is derived, or that the sum of the
-/// argument with itself isn't; and the size, up to a cap, of the sum of the argument and a number by a pool of 7, or of a number
-/// alone by no pool. Integers have up to 127 digits, and vectors count theirs where the pool lacks one.
+/// The sort of all nonterminals, their rules, and what is told: whether they fit over one truth value; what chain rules
+/// reach from each; the largest size, by a pool and up to a cap; the rules by which the argument is derived, or that
+/// the sum of the argument with itself isn't; and the size, up to a cap, of the sum of the argument and a number by a
+/// pool of 7, or of a number alone by no pool. Integers have up to 127 digits, and vectors count theirs where the pool
+/// lacks one.
 pub const CASES: &str = "\
 Int|k|fits
 Int|k8|fails

@@ -4,7 +4,7 @@ use crate::rows::{field, number};
 use std::alloc::Global;
 use std::process::Abort;
 use sy_intsolve::{IntDecide, fits};
-use sy_linear::check_tree;
+use sy_linear::{Tree, check_tree, is_countable, is_numbered};
 use sy_lower::lower;
 use sy_meaning_integers::IntTheory;
 use sy_query::{Decide, FailName, Limits, Query, Verdict};
@@ -24,6 +24,12 @@ fn are_values(values: &[Value<i128>], told: &str) -> bool {
     (told == "some") | (are_told & numbers.next().is_none())
 }
 
+/// Whether the tree refutes the query.
+fn is_refuted(rt: &impl Abort, alloc: Global, query: &Query<IntTheory>, tree: &Tree) -> bool {
+    assert!(rt; is_numbered(query) && is_countable(tree));
+    matches!(check_tree(alloc, query, tree), Ok(true))
+}
+
 /// Whether the query is answered as the row tells within its limits.
 fn answers(rt: &impl Abort, alloc: Global, query: &Query<IntTheory>, row: &str) -> bool {
     let told = field(row, 4);
@@ -41,7 +47,7 @@ fn answers(rt: &impl Abort, alloc: Global, query: &Query<IntTheory>, row: &str) 
         Verdict::Model(values) => are_values(values.as_slice(), told),
         Verdict::Never(tree) => {
             let lowered = lower(alloc, query).expect(rt, told);
-            told == "never" && matches!(check_tree(alloc, &lowered, tree), Ok(true))
+            told == "never" && is_refuted(rt, alloc, &lowered, tree)
         }
         Verdict::Spent(spent) => told == "range" && IntDecide::name_of(spent) == FailName::Range,
     };

@@ -83,13 +83,14 @@ pub fn is_right(rt: &impl Abort, alloc: Global, row: &str) -> bool {
     is_right
 }
 
-/// How many points there are, where each leaf is good, where each condition is true, and the leaves of a tree that joins
-/// them; or 0, and a class of points that none covers.
+/// How many points there are, where each leaf is good, where each condition is true, and the leaves of a tree that
+/// joins them; or 0, and a class of points that none covers.
 ///
-/// Two points that one condition parts, and the same without it; one point; one leaf good everywhere, first, last, and beside
-/// conditions; no leaf at one point; conditions that split nothing; conditions that repeat, and that are each other's
-/// negation; leaves that repeat; each point its own leaf; a class that is whole and in order; a good condition before a bad
-/// one, where two leaves suffice; and rows that are shorter than the points, which say false past their end.
+/// Two points that one condition parts, and the same without it; one point; one leaf good everywhere, first, last, and
+/// beside conditions; no leaf at one point; conditions that split nothing; conditions that repeat, and that are each
+/// other's negation; leaves that repeat; each point its own leaf; a class that is whole and in order; a good condition
+/// before a bad one, where two leaves suffice; and rows that are shorter than the points, which say false past their
+/// end.
 pub const ROWS: &str = "\
 2|10 01|10|2
 2|10 01||0|0 1

@@ -1,5 +1,5 @@
-// Worked examples of public calls of several areas, as far as no whole run shows what they answer; `sy_vectors_scope` has those
-// of files and of the command line.
+// Worked examples of public calls of several areas, as far as no whole run shows what they answer; `sy_vectors_scope`
+// has those of files and of the command line.
 #![tactic(auto)]
 
 #[cfg(test)]

@@ -128,8 +128,8 @@ fn term<T: Theory>(rt: &impl Abort, alloc: Global, words: &str, text: &str) -> T
     stack.pop().expect(rt, text)
 }
 
-/// The sort of this sign: `b` for truth values, `i` for integers, a digit for vectors of so many bits, and `@` and `p` for
-/// those of 16 and 64.
+/// The sort of this sign: `b` for truth values, `i` for integers, a digit for vectors of so many bits, and `@` and `p`
+/// for those of 16 and 64.
 fn sort_of(sign: u8) -> Sort {
     match sign {
         b'b' => Sort::Bool,

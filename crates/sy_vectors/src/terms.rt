@@ -56,9 +56,9 @@ fn last<T: Theory>(
     terms
 }
 
-/// The node of this word, where the stack has the terms after it, the next one last: a value; a variable, `a` to `e`; a call
-/// of the definition, `D`, or of the function to be found, `F`; a binding of terms for the one after them, `let`; or an
-/// operator. How many terms it takes stands after a slash; all, where nothing does.
+/// The node of this word, where the stack has the terms after it, the next one last: a value; a variable, `a` to `e`; a
+/// call of the definition, `D`, or of the function to be found, `F`; a binding of terms for the one after them, `let`;
+/// or an operator. How many terms it takes stands after a slash; all, where nothing does.
 pub fn node<T: Theory>(
     rt: &impl Abort,
     alloc: Global,

@@ -5,7 +5,7 @@ use crate::queries::{INTEGERS, query};
 use crate::rows::field;
 use std::alloc::Global;
 use std::process::Abort;
-use sy_linear::{CheckEnd, Test, Tree, check_tree};
+use sy_linear::{CheckEnd, Test, Tree, check_tree, is_countable, is_numbered};
 use sy_meaning_integers::IntTheory;
 use sy_terms::Want;
 
@@ -69,6 +69,7 @@ fn tree(rt: &impl Abort, alloc: Global, text: &str) -> Tree {
 pub fn told(rt: &impl Abort, alloc: Global, row: &str) -> Result<String, Want> {
     let query = query::<IntTheory>(rt, alloc, INTEGERS, "ib", field(row, 0));
     let tree = tree(rt, alloc, field(row, 1));
+    assert!(rt; is_numbered(&query) && is_countable(&tree));
     let checked = check_tree(alloc, &query, &tree);
     drop(tree);
     drop(query);

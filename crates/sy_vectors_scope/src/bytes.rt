@@ -24,8 +24,8 @@ fn read_as<S: Source>(alloc: Global, source: &mut S, name: &str, limit: usize) -
     }
 }
 
-/// A name, a limit, the call that fails, and what comes of a source of the text under the name `a`. Call 1 begins; calls 2 to 4
-/// give two, two and one byte, and call 5 finds the end. No call has the number 0.
+/// A name, a limit, the call that fails, and what comes of a source of the text under the name `a`. Call 1 begins;
+/// calls 2 to 4 give two, two and one byte, and call 5 finds the end. No call has the number 0.
 pub const SOURCES: &str = "\
 a|5|0|text
 a|5|6|text
@@ -70,8 +70,8 @@ const SINKS: [(usize, u64, &[u8]); 3] = [
     (3, 0, &[10, 20, 30]),
 ];
 
-/// Whether such a sink holds this, and is written whole just where this is the text; and the same where the text is written
-/// once more.
+/// Whether such a sink holds this, and is written whole just where this is the text; and the same where the text is
+/// written once more.
 fn holds(rt: &(impl Abort + AllocGlobal), room: usize, failing: u64, held: &[u8]) -> bool {
     let mut sink = MemSink::new(rt.alloc(), room, 2, &[failing]).expect(rt, "a sink");
     let is_whole = write_whole(&mut sink, &TEXT).is_ok();

@@ -5,8 +5,8 @@ use sy_clauses::{Cnf, Line, Lit, Log, Step};
 use sy_proof::{write_clauses, write_log};
 use sy_seq::Seq;
 
-/// How many variables there are, clauses of letters with a full stop behind each, of which `a` is the first variable and `A`
-/// its negation, and the text; `§` ends a row.
+/// How many variables there are, clauses of letters with a full stop behind each, of which `a` is the first variable
+/// and `A` its negation, and the text; `§` ends a row.
 pub const CLAUSES: &str = "\
 0||p cnf 0 0§\
 3|.|p cnf 3 1

@@ -21,7 +21,8 @@ const FILE: &[u8] = b"(set-logic LIA)
 (check-synth)
 ";
 
-/// Appends the places of the item and of its parts, of which there are at most so many, in the order in which they begin.
+/// Appends the places of the item and of its parts, of which there are at most so many, in the order in which they
+/// begin.
 fn append_places(
     rt: &(impl Abort + AllocGlobal),
     item: &Sexp,

@@ -126,7 +126,8 @@ fn atom(bytes: &[u8], start: usize) -> Result<usize, TextFault> {
     }
 }
 
-/// The offset behind the next item from `from` on. The places of all its parts are appended in the order in which they begin.
+/// The offset behind the next item from `from` on. The places of all its parts are appended in the order in which they
+/// begin.
 pub fn read(
     rt: &(impl Abort + AllocGlobal),
     bytes: &[u8],

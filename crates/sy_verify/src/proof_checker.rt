@@ -38,5 +38,6 @@ pub trait ProofChecker<T: Theory> {
         ensures { IfOk result (IsChecking proves fails overflows (query_of T.denotes query.now) (item_of proof.now)) };
 
     /// A query for which an item proves it is never satisfied.
-    ghost sound: { (query : Query) (item : Item) → QueryFits T.owned T.numeric query → proves query item → IsNever query };
+    ghost sound: { (query : Query) (item : Item) → QueryFits T.owned T.numeric query →
+        proves query item → IsNever query };
 }

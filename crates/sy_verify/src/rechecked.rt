@@ -32,10 +32,10 @@ pub enum Rechecked {
     Range(u32),
 }
 
-/// Whether the item of text proves that the bodies solve the problem. `NotMember` exactly where some body is no member of
-/// its function's grammar; otherwise `Heavy` exactly where the bodies' query weighs more than `limit`; otherwise what the
-/// checker says of the item for the query. `Want` comes where memory runs out, where 32 bits don't count a function or
-/// one of the query's positions, and where the checker answers it.
+/// Whether the item of text proves that the bodies solve the problem. `NotMember` exactly where some body is no member
+/// of its function's grammar; otherwise `Heavy` exactly where the bodies' query weighs more than `limit`; otherwise
+/// what the checker says of the item for the query. `Want` comes where memory runs out, where 32 bits don't count a
+/// function or one of the query's positions, and where the checker answers it.
 pub fn recheck<T: Theory, C: ProofChecker<T>>(
     alloc: Global,
     problem: &Problem<T>,

@@ -28,9 +28,9 @@ pub enum Spelled {
     NoClauses,
 }
 
-/// The clauses of the query of the problem and the bodies, where they are members of their grammars and it weighs no more
-/// than `limit`. `Want` comes where memory runs out, where 32 bits don't count a function or one of the query's positions,
-/// and where the writer answers it.
+/// The clauses of the query of the problem and the bodies, where they are members of their grammars and it weighs no
+/// more than `limit`. `Want` comes where memory runs out, where 32 bits don't count a function or one of the query's
+/// positions, and where the writer answers it.
 pub fn spell<T: Theory, W: ClauseWriter<T>>(
     alloc: Global,
     problem: &Problem<T>,

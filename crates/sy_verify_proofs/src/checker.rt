@@ -11,9 +11,9 @@ use sy_terms::Want;
 use sy_text_items::Sexp;
 use sy_verify::{Checking, ProofChecker};
 
-/// The checker of resolution logs, for queries over bit vectors. An item proves a query where it spells a log that refutes
-/// clauses which say what the query says; the clauses are made anew. A query whose variables and clauses may be 2^31 or
-/// more is answered as want of memory.
+/// The checker of resolution logs, for queries over bit vectors. An item proves a query where it spells a log that
+/// refutes clauses which say what the query says; the clauses are made anew. A query whose variables and clauses may be
+/// 2^31 or more is answered as want of memory.
 #[derive(Clone, Copy, Debug, PartialEq, Eq)]
 pub struct LogChecker;
 

@@ -13,8 +13,8 @@ use sy_query_base::Query;
 use sy_terms::Want;
 use sy_verify::ClauseWriter;
 
-/// Writes the clauses that logs of queries over bit vectors refute, in the format of DIMACS. A query whose variables and
-/// clauses may be 2^31 or more is answered as want of memory.
+/// Writes the clauses that logs of queries over bit vectors refute, in the format of DIMACS. A query whose variables
+/// and clauses may be 2^31 or more is answered as want of memory.
 #[derive(Clone, Copy, Debug, PartialEq, Eq)]
 pub struct LogClauses;
 

@@ -8,7 +8,7 @@ ghost use Rattle.sy_verify_proofs.specs.Trees as trees;
 ghost use Rattle.sy_verify_proofs.specs.TreesSoundness.{sound};
 
 use std::alloc::Global;
-use sy_linear::{CheckEnd, Tree, check_tree};
+use sy_linear::{CheckEnd, Tree, check_tree, is_countable, is_numbered};
 use sy_lower::lower;
 use sy_meaning_integers::IntTheory;
 use sy_proof::read_tree;
@@ -18,8 +18,8 @@ use sy_text_items::Sexp;
 use sy_verify::{Checking, ProofChecker};
 
 /// The checker of refutation trees, for queries over the integers. An item proves a query where it spells a tree that
-/// refutes the query without division, remainder and absolute value. A query that 32 bits don't number is answered as want
-/// of memory.
+/// refutes the query without division, remainder and absolute value. A query of 2^31 nodes
+/// or variables is answered as want of memory, and so is a tree of 2^32 nodes.
 #[derive(Clone, Copy, Debug, PartialEq, Eq)]
 pub struct TreeChecker;
 
@@ -56,6 +56,9 @@ fn judged(alloc: Global, query: &Query<IntTheory>, tree: Tree) -> Result<Checkin
 fn judged_linear(alloc: Global, query: &Query<IntTheory>, tree: &Tree) -> Result<Checking, Want>
     ensures { IfOk result (trees.IsTreeChecking (linear_query_of query.now) (tree_shape_of tree.now)) }
 {
+    if !is_numbered(query) || !is_countable(tree) {
+        return Err(Want {});
+    }
     match check_tree(alloc, query, tree) {
         Ok(true) => Ok(Checking::Proves),
         Ok(false) => Ok(Checking::Fails),

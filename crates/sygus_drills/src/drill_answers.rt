@@ -42,7 +42,8 @@ pub(crate) fn drill<T: Theory, D: Decide<T>, O: Sink>(
 
     // 0 and 1: the line is written
     ensures answered { IfOk result (λ solved. solved.status ≤ 1 →
-        AnswersDrill (RightOutcomeFor T.Theory D.Decide (modes.Drill number) limits.now) (reply_for T.Theory D.Decide) number (question_of T.denotes problem.now)
+        AnswersDrill (RightOutcomeFor T.Theory D.Decide (modes.Drill number) limits.now)
+        (reply_for T.Theory D.Decide) number (question_of T.denotes problem.now)
         solved.answers (Appends (O.written out.old) (O.written out.new))) }
     ensures all_settled { IfOk result
         (λ solved. solved.status ≡ 0 → All IsSettled (replies_for T.Theory D.Decide solved.answers)) }
@@ -52,7 +53,8 @@ pub(crate) fn drill<T: Theory, D: Decide<T>, O: Sink>(
     // 5: the write failed
     ensures write { IfOk result (λ solved. solved.status ≡ 5 → Rose (O.faults out.old) (O.faults out.new)) }
     ensures cut_off { IfOk result (λ solved. solved.status ≡ 5 →
-        AnswersDrill (RightOutcomeFor T.Theory D.Decide (modes.Drill number) limits.now) (reply_for T.Theory D.Decide) number (question_of T.denotes problem.now)
+        AnswersDrill (RightOutcomeFor T.Theory D.Decide (modes.Drill number) limits.now)
+        (reply_for T.Theory D.Decide) number (question_of T.denotes problem.now)
         solved.answers (λ line. (count : ℕ) × Appends (O.written out.old) (O.written out.new) (take count line))) }
     ensures unwritten { OnErr result (O.written out.new ≡ O.written out.old) }
 {
@@ -85,7 +87,8 @@ fn line_of<T: Theory, D: Decide<T>>(
     requires unassumed { (question_of T.denotes problem.now).assumptions ≡ [] }
     requires count { length (question_of T.denotes problem.now).constraints ≡ 1000 }
     requires solution { HasSolution (question_of T.denotes problem.now) (reply_for T.Theory D.Decide outcome.now) }
-    ensures { IfOk result (λ line. line ≡ lines.drill_line number (drill_end (reply_for T.Theory D.Decide outcome.now))) }
+    ensures { IfOk result (λ line. line ≡
+        lines.drill_line number (drill_end (reply_for T.Theory D.Decide outcome.now))) }
 {
     let end = end_of::<T, D>(alloc, problem, outcome)?;
     drill_line(alloc, number, end)

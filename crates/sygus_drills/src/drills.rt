@@ -56,7 +56,8 @@ fn drilled<O: Sink>(alloc: Global, number: u32, limits: &Limits, out: &mut O) ->
     ensures named { IfOk result (λ ended. AreNamedFor ended.answers) }
     ensures write { IfOk result (λ ended. ended.status ≡ 5 → Rose (O.faults out.old) (O.faults out.new)) }
     ensures cut_off { IfOk result (λ ended. ended.status ≡ 5 →
-        Drilled number limits.now ended.answers (λ line. (count : ℕ) × Appends (O.written out.old) (O.written out.new) (take count line))) }
+        Drilled number limits.now ended.answers (λ line. (count : ℕ) ×
+        Appends (O.written out.old) (O.written out.new) (take count line))) }
     ensures unwritten { OnErr result (O.written out.new ≡ O.written out.old) }
 {
     let problems = read_drill(alloc, number)?;

@@ -33,11 +33,13 @@ pub fn judge_file<O: Sink, E: Sink>(
 
     // 0 and 1: every reply has its verdict
     ensures judged { result.status ≤ 1 → JudgesFile settings.now file.now result.answers
-        (WritesVerdicts result.status result.answers (O.written out.old) (O.written out.new) (E.written err.old) (E.written err.new)) }
+        (WritesVerdicts result.status result.answers (O.written out.old)
+        (O.written out.new) (E.written err.old) (E.written err.new)) }
 
     // 2 and 7: the problems or the replies are refused
     ensures front_refused { result.status ≡ 2 → RefusesFront file.now (E.written err.old) (E.written err.new) }
-    ensures reply_refused { result.status ≡ 7 → RefusesReplies settings.now file.now (E.written err.old) (E.written err.new) }
+    ensures reply_refused { result.status ≡ 7 →
+        RefusesReplies settings.now file.now (E.written err.old) (E.written err.new) }
     ensures idle { result.status ≡ 2 → result.answers ≡ Answers.Idle }
     ensures silent { result.status ≡ 2 → out.new ≡ out.old }
     ensures reply_idle { result.status ≡ 7 → result.answers ≡ Answers.Idle }

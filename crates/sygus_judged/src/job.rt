@@ -82,7 +82,8 @@ pub(crate) fn judge_job<O: Sink, E: Sink>(
 /// The replies to no problem: there is none, or the first one is refused.
 fn judge_none<E: Sink>(alloc: Global, replies: &Replies<'_>, err: &mut E) -> Ended
     requires { replies.now.at ≤ length replies.now.file.now }
-    ensures ends { (out : Option (List ℕ)) → EndsReplies replies.now.settings.now replies.now.file.now replies.now.at (wish_in Job.Idle)
+    ensures ends { (out : Option (List ℕ)) →
+        EndsReplies replies.now.settings.now replies.now.file.now replies.now.at (wish_in Job.Idle)
         result.status result.answers out out (E.written err.old) (E.written err.new) }
     ensures write { result.status ≡ 5 → Rose (E.faults err.old) (E.faults err.new) }
 {

@@ -35,7 +35,8 @@ pub fn write_both<O: Sink, E: Sink>(
     ensures begun { OnErr result ((count : ℕ) × Appends (O.written out.old) (O.written out.new) (take count text.now)) }
     ensures line_begun { OnErr result
         ((count : ℕ) × Appends (E.written err.old) (E.written err.new) (take count line.now)) }
-    ensures cause { OnErr result (Rose (O.faults out.old) (O.faults out.new) ⊎ Rose (E.faults err.old) (E.faults err.new)) }
+    ensures cause { OnErr result (Rose (O.faults out.old) (O.faults out.new) ⊎
+        Rose (E.faults err.old) (E.faults err.new)) }
     ensures later_out { O.faults out.old ≤ O.faults out.new }
     ensures later_err { E.faults err.old ≤ E.faults err.new }
 {

@@ -53,7 +53,8 @@ pub fn run<S: Source, O: Sink, E: Sink>(
 
     // mode drill: the problem of the number's file has its right answer, one line tells it, and the source isn't used
     ensures drill { (number : ℕ) (limits : Limits) → AskDrill (map string_bytes words.now) number limits →
-        EndsDrill number limits result.status result.answers (O.written out.old) (O.written out.new) (E.written err.old) (E.written err.new) }
+        EndsDrill number limits result.status result.answers
+        (O.written out.old) (O.written out.new) (E.written err.old) (E.written err.new) }
     ensures unread { (number : ℕ) (limits : Limits) → AskDrill (map string_bytes words.now) number limits → source.new ≡
         source.old }
 

@@ -31,7 +31,8 @@ pub fn answer_file<O: Sink, E: Sink>(
 
     // 0 and 1: every problem has its right answer
     ensures answered { result.status ≤ 1 → AnswersFile settings.now file.now result.answers
-        (WritesAll settings.now.proofs result.answers (O.written out.old) (O.written out.new) (E.written err.old) (E.written err.new)) }
+        (WritesAll settings.now.proofs result.answers (O.written out.old)
+        (O.written out.new) (E.written err.old) (E.written err.new)) }
     ensures all_settled { result.status ≡ 0 → All IsSettled (replies_of result.answers) }
     ensures some_fail { result.status ≡ 1 → Any IsFail (replies_of result.answers) }
 

@@ -23,7 +23,8 @@ use sy_scope::Job;
 use sygus_answers::{Answers, Ended};
 use sygus_words::Settings;
 
-/// Answers the problems of a file in order, each by the search of the settings' mode with the solver of the file's logic.
+/// Answers the problems of a file in order, each by the search of the settings' mode with the solver of the file's
+/// logic.
 pub(crate) fn answer<O: Sink, E: Sink>(
     alloc: Global,
     job: Job,

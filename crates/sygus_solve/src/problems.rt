@@ -94,6 +94,7 @@ enum Stop {
 }
 
 /// Answers one problem, and writes its text and its line.
+/// Eight parameters: the contract speaks of what each of the two outputs was given, so they stay apart.
 fn answer_next<T: Theory, D: Decide<T>, S: Prints<D::Proof>, O: Sink, E: Sink>(
     alloc: Global,
     titles: &Titles,

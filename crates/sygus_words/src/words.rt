@@ -68,8 +68,10 @@ fn drill(matches: &ArgMatches<'_>) -> Option<u32>
 /// The mode, which is `solve` where none is named.
 fn mode(matches: &ArgMatches<'_>) -> Option<Mode>
     ensures { MatchOption result
-        ((m : Mode) → ModeIs (first_value (found_of matches.now) (codes "mode")) (first_value (found_of matches.now) (codes "FILE")) m → ⊥)
-        (λ m. ModeIs (first_value (found_of matches.now) (codes "mode")) (first_value (found_of matches.now) (codes "FILE")) m) }
+        ((m : Mode) → ModeIs (first_value (found_of matches.now) (codes "mode"))
+        (first_value (found_of matches.now) (codes "FILE")) m → ⊥)
+        (λ m. ModeIs (first_value (found_of matches.now) (codes "mode"))
+        (first_value (found_of matches.now) (codes "FILE")) m) }
 {
     match matches.get_str("mode") {
         None | Some("solve") => Some(Mode::Solve),

@@ -1,6 +1,6 @@
 use Rattle.std.proofs.Common.{refl}
 use Rattle.std.proofs.lemmas.List.{take_all}
-use Rattle.sy_bank.proofs.Growing.{copies-next}
+use Rattle.sy_bank.proofs.GrowingLaws.{copies-next}
 use Rattle.sy_bank.proofs.fill.chosen_part.Goals as goal
 
 pub loop-kept-preserved : goal.loop-kept-preserved

@@ -1,7 +1,7 @@
 use Rattle.std.proofs.Common.{refl}
 use Rattle.std.proofs.lemmas.List.{take_all}
 use Rattle.sy_bank_level.specs.Shared.{term_from-Filled, tree_from-Filled}
-use Rattle.sy_bank.proofs.Growing.{terms-next, trees-next}
+use Rattle.sy_bank.proofs.GrowingLaws.{terms-next, trees-next}
 use Rattle.sy_bank.proofs.fill.grown.Goals as goal
 
 pub loop-kept-preserved : goal.loop-kept-preserved

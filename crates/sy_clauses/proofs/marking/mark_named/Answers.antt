@@ -1,4 +1,4 @@
-use Rattle.sy_clauses.proofs.Marks.{marked_step}
+use Rattle.sy_clauses.proofs.MarksLaws.{marked_step}
 use Rattle.sy_clauses.proofs.marking.mark_named.Goals as goal
 
 pub loop-step-preserved : goal.loop-step-preserved

@@ -3,7 +3,7 @@ use Rattle.std.specs.Prelude.{slice_get}
 use Rattle.std.proofs.lemmas.List.{length-replicate}
 use Rattle.std.proofs.lemmas.Option.{slice_get_read}
 use Rattle.sy_clauses.specs.Needed.{needs, AreNeededFrom}
-use Rattle.sy_clauses.proofs.Marks.{last_needed, marked_line, unmarked_line}
+use Rattle.sy_clauses.proofs.MarksLaws.{last_needed, marked_line, unmarked_line}
 use Rattle.sy_clauses.proofs.marking.mark_needed.Goals as goal
 
 pub loop-place-init : goal.loop-place-init

@@ -7,7 +7,7 @@ use Rattle.sy_grammar_base.specs.Formed.{is_formed, syntax_with}
 use Rattle.sy_grammar_base.specs.Grown.{syntax_from}
 use Rattle.sy_grammar_base.specs.declared.grammar.Non.{Non}
 use Rattle.sy_grammar.specs.Defaults.{default_syntax}
-use Rattle.sy_grammar.proofs.Fitting.{default_formed}
+use Rattle.sy_grammar.proofs.FittingLaws.{default_formed}
 use Rattle.sy_grammar_base.proofs.Numbering.{numbered}
 use Rattle.sy_grammar.proofs.grammar.default_grammar.Goals as goal
 

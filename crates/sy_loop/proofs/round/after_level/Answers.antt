@@ -59,7 +59,7 @@ exhausted-requires g c =
     let banks = map (merged_of g.T.Theory.denotes) c.args.banks.items in
     let whole : DroppedNothing banks = rw c.as_slice-all.ensures.value at (rw c.in_default.is at c.in_ok-left.ensures) in
     let size : c.args.level + 1 ≡ c.args.limits.now.size + 1 = omega (arith, c.if-level-limits.false, c.requires.level) in
-    nothing_within c.args.reach question c.args.limits.now history c.args.known.points c.requires.strict c.requires.known
+    nothing_within c.args.reach question c.args.limits.now history c.args.known.points c.requires.known
     (subst (AreDoneBelow c.args.reach question history c.args.known.points) size
     (next_done question c.args.limits.now history c.args.known.points c.args.level banks c.args.reach (assumes_nothing g.T.Theory.owned question c.requires.problem.assumptions) c.requires.banks whole c.requires.refuted c.requires.trees c.requires.done))
 

@@ -14,7 +14,7 @@ use Rattle.sy_loop_pointwise.specs.Shapes.{AreSubterms, subterms}
 use Rattle.sy_loop_pointwise.specs.Asked.{IsTheCall}
 use Rattle.sy_loop_pointwise.specs.Posed.{PosesConstraint}
 use Rattle.sy_loop_pointwise.specs.Valued.{AreValued}
-use Rattle.sy_loop_pointwise.proofs.Rests.{rests_at, leaves_at, valued_arguments}
+use Rattle.sy_loop_pointwise.proofs.RestsLaws.{rests_at, leaves_at, valued_arguments}
 use Rattle.sy_loop_pointwise.proofs.rest.rest_of.Goals as goal
 
 pub returns-in-Free : goal.returns-in-Free

@@ -2,7 +2,7 @@ use Rattle.std.proofs.Common.{◌≡◌, [], ◌∷◌, length, arith, ap, sym, 
 use Rattle.sy_terms.specs.Denoted.{expr_of}
 use Rattle.sy_terms.specs.Meaning.{meaning}
 use Rattle.sy_meaning_words.specs.Vectors.{vector}
-use Rattle.sy_rewrite_orders.proofs.Terms.{two-terms}
+use Rattle.sy_rewrite_orders.proofs.TermsLaws.{two-terms}
 use Rattle.sy_query_normal.proofs.itself.twice.Goals as goal
 
 pub returns-then-equals : goal.returns-then-equals

@@ -3,7 +3,7 @@ use Rattle.std.proofs.lemmas.List.{take_more}
 use Rattle.std.proofs.lemmas.Result.{IfOk-from_err}
 use Rattle.sy_terms.specs.Denoted.{expr_of-App, expr_of-Let}
 use Rattle.sy_meaning_words.specs.Vectors.{vector}
-use Rattle.sy_rewrite_orders.proofs.Terms.{applied-same, bound-same, next-same}
+use Rattle.sy_rewrite_orders.proofs.TermsLaws.{applied-same, bound-same, next-same}
 use Rattle.sy_query_normal.proofs.normal.+normal.Goals as goal
 
 pub normal-returns-in_ok-found-in-App : goal.normal-returns-in_ok-found-in-App

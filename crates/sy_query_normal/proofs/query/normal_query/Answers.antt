@@ -4,7 +4,7 @@ use Rattle.sy_terms.specs.Denoted.{expr_of}
 use Rattle.sy_query_base.specs.Asked.{query_of}
 use Rattle.sy_meaning_words.specs.Vectors.{vector}
 use Rattle.sy_rewrite_orders.specs.Sums.{IsSameOver}
-use Rattle.sy_rewrite_orders.proofs.Terms.{satisfied-same}
+use Rattle.sy_rewrite_orders.proofs.TermsLaws.{satisfied-same}
 use Rattle.sy_query_normal.proofs.query.normal_query.Goals as goal
 
 pub returns-clause-same : goal.returns-clause-same

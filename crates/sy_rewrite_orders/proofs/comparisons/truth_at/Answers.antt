@@ -1,6 +1,6 @@
 use Rattle.sy_terms.specs.Denoted.{expr_of}
 use Rattle.sy_meaning_words.specs.Vectors.{vector}
-use Rattle.sy_rewrite_orders.proofs.Terms.{compared-found}
+use Rattle.sy_rewrite_orders.proofs.TermsLaws.{compared-found}
 use Rattle.sy_rewrite_orders.proofs.comparisons.truth_at.Goals as goal
 
 pub returns : goal.returns

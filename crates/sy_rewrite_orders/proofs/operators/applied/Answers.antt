@@ -1,5 +1,5 @@
 use Rattle.std.proofs.Common.{arith}
-use Rattle.sy_rewrite_orders.proofs.Terms.{one-found, two-found, many-found}
+use Rattle.sy_rewrite_orders.proofs.TermsLaws.{one-found, two-found, many-found}
 use Rattle.sy_rewrite_orders.proofs.operators.applied.Goals as goal
 
 pub returns-in_ok-found-in-len1 : goal.returns-in_ok-found-in-len1

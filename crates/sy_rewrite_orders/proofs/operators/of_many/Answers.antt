@@ -4,7 +4,7 @@ use Rattle.sy_terms.specs.Values.{Val}
 use Rattle.sy_terms.specs.Operators.{op_value}
 use Rattle.sy_bits_sums.specs.declared.sum.Sum.{Sum}
 use Rattle.sy_rewrite_orders.specs.Sums.{HasSum, HaveSums}
-use Rattle.sy_rewrite_orders.proofs.Terms.{two-folded, one-more-folded}
+use Rattle.sy_rewrite_orders.proofs.TermsLaws.{two-folded, one-more-folded}
 use Rattle.sy_rewrite_orders.proofs.operators.of_many.Goals as goal
 
 pub loop-sum-init : goal.loop-sum-init

@@ -2,7 +2,7 @@ use Rattle.std.proofs.Common.{arith, take}
 use Rattle.std.proofs.lemmas.List.{take_more}
 use Rattle.sy_terms.specs.Denoted.{expr_of-App, expr_of-Let}
 use Rattle.sy_meaning_words.specs.Vectors.{vector}
-use Rattle.sy_rewrite_orders.proofs.Terms.{applied-same, bound-same, next-same}
+use Rattle.sy_rewrite_orders.proofs.TermsLaws.{applied-same, bound-same, next-same}
 use Rattle.sy_rewrite_orders.proofs.settled.+settled.Goals as goal
 
 pub settled-returns-in_ok-found-in-App : goal.settled-returns-in_ok-found-in-App

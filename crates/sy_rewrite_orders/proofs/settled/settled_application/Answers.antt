@@ -1,7 +1,7 @@
 use Rattle.std.proofs.Common.{refl}
 use Rattle.sy_terms.specs.Denoted.{exprs_of, expr_of-App, expr_of-Const}
 use Rattle.sy_meaning_words.specs.Vectors.{vector}
-use Rattle.sy_rewrite_orders.proofs.Terms.{truth-same}
+use Rattle.sy_rewrite_orders.proofs.TermsLaws.{truth-same}
 use Rattle.sy_rewrite_orders.proofs.settled.settled_application.Goals as goal
 
 pub returns-in-Some : goal.returns-in-Some

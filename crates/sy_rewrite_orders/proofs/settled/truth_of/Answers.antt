@@ -1,7 +1,7 @@
 use Rattle.std.proofs.Common.{◌≡◌, length, arith}
 use Rattle.sy_terms.specs.Denoted.{expr_of, exprs_of}
 use Rattle.sy_meaning_words.specs.Vectors.{vector}
-use Rattle.sy_rewrite_orders.proofs.Terms.{truth-found, two-terms}
+use Rattle.sy_rewrite_orders.proofs.TermsLaws.{truth-found, two-terms}
 use Rattle.sy_rewrite_orders.proofs.settled.truth_of.Goals as goal
 
 pub returns : goal.returns

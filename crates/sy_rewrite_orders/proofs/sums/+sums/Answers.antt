@@ -3,7 +3,7 @@ use Rattle.std.proofs.lemmas.List.{take_more}
 use Rattle.sy_terms.specs.Denoted.{expr_of, exprs_of, val_of, expr_of-Const, expr_of-Var}
 use Rattle.sy_terms_operators.proofs.Steps.{app-is}
 use Rattle.sy_meaning_words.specs.Vectors.{vector}
-use Rattle.sy_rewrite_orders.proofs.Terms.{constant-found, variable-found, application-found, none-have, one-more}
+use Rattle.sy_rewrite_orders.proofs.TermsLaws.{constant-found, variable-found, application-found, none-have, one-more}
 use Rattle.sy_rewrite_orders.proofs.sums.+sums.Goals as goal
 
 pub sum_of-returns-in_ok-found-in-Const : goal.sum_of-returns-in_ok-found-in-Const

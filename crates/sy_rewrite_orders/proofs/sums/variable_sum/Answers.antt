@@ -1,7 +1,7 @@
 use Rattle.std.proofs.Common.{◌∙◌, ap, sym, Some}
 use Rattle.sy_terms.specs.declared.sort.Sort.TheVariants as sorts
 use Rattle.sy_rewrite_orders.specs.Sums.{number_at}
-use Rattle.sy_rewrite_orders.proofs.Terms.{variable-has}
+use Rattle.sy_rewrite_orders.proofs.TermsLaws.{variable-has}
 use Rattle.sy_rewrite_orders.proofs.sums.variable_sum.Goals as goal
 
 pub returns : goal.returns

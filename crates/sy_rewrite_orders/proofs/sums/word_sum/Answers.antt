@@ -1,7 +1,7 @@
 use Rattle.std.proofs.Common.{◌≡◌, ◌∙◌, subst}
 use Rattle.sy_bits_sums.specs.Polynomials.{total, Agree}
 use Rattle.sy_rewrite_orders.specs.Sums.{number_at}
-use Rattle.sy_rewrite_orders.proofs.Terms.{constant-has}
+use Rattle.sy_rewrite_orders.proofs.TermsLaws.{constant-has}
 use Rattle.sy_rewrite_orders.proofs.sums.word_sum.Goals as goal
 
 pub returns : goal.returns

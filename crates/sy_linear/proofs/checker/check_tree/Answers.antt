@@ -3,7 +3,7 @@ use Rattle.sy_linear_known.specs.Stored.{linear_query_of, tree_shape_of}
 use Rattle.sy_linear.specs.Judging.{TellsJudgement, judged}
 use Rattle.sy_linear.proofs.Refuting.{accepted, none_satisfies}
 use Rattle.sy_linear.proofs.Rejecting.{rejected}
-use Rattle.sy_linear.proofs.checker.checked.Goals as goal
+use Rattle.sy_linear.proofs.checker.check_tree.Goals as goal
 
 pub returns-clause-accepted : goal.returns-clause-accepted
 returns-clause-accepted c h =
