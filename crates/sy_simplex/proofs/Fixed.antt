@@ -5,8 +5,8 @@ use Rattle.std.proofs.Math.Dec.{eqb, ltb}
 use Rattle.std.proofs.lemmas.Bool.Decides.{eqb_tells}
 use Rattle.std.proofs.lemmas.Int.{ints}
 use Rattle.std.proofs.Math.IntN.{negsuc-*ℤ-pos, neg_ℤ-neg_ℤ}
-use Rattle.sy_frac.specs.Fraction.{Fraction, IsLowest, IsQuotient}
-use Rattle.sy_frac.specs.Rational.{ℚ, 0ℚ, 1ℚ, ◌+ℚ◌, ◌*ℚ◌, neg_ℚ, over, value as number, is_negative_rational, over_negative, zero_not_negative, sum_over_is, +ℚ-neg, +ℚ_comm, *ℚ_comm, one-*ℚ}
+use Rattle.sy_frac.specs.Fraction.{Fraction, IsLowest}
+use Rattle.sy_frac.specs.Rational.{ℚ, 0ℚ, 1ℚ, ◌+ℚ◌, ◌*ℚ◌, neg_ℚ, over, value as number, is_negative_rational, over_negative, zero_not_negative, sum_over_is, +ℚ-neg, *ℚ_comm, one-*ℚ}
 use Rattle.sy_frac.proofs.Canonical.{same_quotient}
 use Rattle.sy_frac.proofs.Quotients.{mul-positive}
 use Rattle.sy_linear_known.specs.declared.form.Form.{Form}
@@ -15,7 +15,7 @@ use Rattle.sy_simplex.specs.Operations.{fraction_of_whole, fraction_opposite}
 use Rattle.sy_simplex.specs.Rows.{at}
 use Rattle.sy_simplex.specs.States.{TableauState, variable_of_column, basic, coef, row_value, rest}
 use Rattle.sy_simplex.specs.Problems.{form}
-use Rattle.sy_simplex.specs.Runs.{Ran, IsValue}
+use Rattle.sy_simplex.specs.Runs.{Ran}
 use Rattle.sy_simplex.specs.Bases.{IsBasic, HaveSameBasis, IsAtRest, HaveSameRows}
 use Rattle.sy_simplex.proofs.Values.{value_opposite}
 use Rattle.sy_simplex.proofs.Tables.{Holds, basics_agree}

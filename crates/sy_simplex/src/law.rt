@@ -14,15 +14,17 @@ pub fn answers_are_determined()
         TellsFeasible vars forms pivots a → TellsFeasible vars forms pivots b → IsSameAnswer a b }
 {}
 
-/// At each tableau of the run of some forms a variable without a row is at rest, a free one at 0 and a form's at its bound,
-/// and the rows give the values of their variables.
+/// At each tableau of the run of some forms a variable without a row is at rest, a free one at 0 and a form's at its
+/// bound, and the rows give the values of their variables.
 pub fn columns_are_at_rest()
-    ensures { (vars : ℕ) (forms : List Form) (steps : List (ℕ × ℕ)) (t : TableauState) → Ran vars forms steps t → IsAtRest vars forms t }
+    ensures { (vars : ℕ) (forms : List Form) (steps : List (ℕ × ℕ)) (t : TableauState) →
+        Ran vars forms steps t → IsAtRest vars forms t }
 {}
 
 /// The basic variables fix a tableau: where two of the run have the same ones, they have the same rows and values.
 pub fn a_basis_fixes_its_tableau()
-    ensures { (vars : ℕ) (forms : List Form) (xs ys : List (ℕ × ℕ)) (t u : TableauState) → Ran vars forms xs t → Ran vars forms ys u → HaveSameBasis t u → HaveSameRows t u }
+    ensures { (vars : ℕ) (forms : List Form) (xs ys : List (ℕ × ℕ)) (t u : TableauState) →
+        Ran vars forms xs t → Ran vars forms ys u → HaveSameBasis t u → HaveSameRows t u }
 {}
 
 /// In the run of some forms no two tableaus have the same basic variables.

@@ -20,8 +20,8 @@ pub use fault::Fault;
 pub use forms::{are_forms, is_form};
 pub use fractions::{negated, one, whole, zero};
 pub use law::{
-    a_basis_fixes_its_tableau, answers_are_determined, columns_are_at_rest, enough_pivots_are_never_spent,
-    no_basis_comes_twice,
+    a_basis_fixes_its_tableau, answers_are_determined, columns_are_at_rest,
+    enough_pivots_are_never_spent, no_basis_comes_twice,
 };
 pub use row::Row;
 pub use solve::{ended, feasible};

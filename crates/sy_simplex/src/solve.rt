@@ -140,8 +140,8 @@ pub fn ended(alloc: Global, vars: u32, bounds: &Seq<Form>, pivots: u32) -> Resul
     }
 }
 
-/// The answer of `ended`, without the tableau. It isn't `Pivots` where there are as many steps as sets of the variables,
-/// of which each form has one.
+/// The answer of `ended`, without the tableau. It isn't `Pivots` where there are as many steps as sets of the
+/// variables, of which each form has one.
 pub fn feasible(alloc: Global, vars: u32, bounds: &Seq<Form>, pivots: u32) -> Result<Feasible, Want>
     requires { AreForms vars bounds.now }
     ensures sound { IfOk result (λ answer. AnswerIsSound vars bounds.now answer) }
