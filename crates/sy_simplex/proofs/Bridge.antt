@@ -10,11 +10,9 @@ use Rattle.sy_simplex.specs.Operations.{fraction_opposite, fraction_of_whole}
 use Rattle.sy_simplex.specs.Rows.{at, beside, IsPutRow}
 use Rattle.sy_simplex.specs.States.{TableauState, variable_of_column, basic, row, coef, row_value, bound, rest, IsShaped, IsVariable, IsPivot}
 use Rattle.sy_simplex.proofs.Values.{zero_is, one_is, value_opposite, value_quotient, value_plus_product, value_shift}
-use Rattle.sy_simplex.proofs.Tables.{Table, IsExchange}
+use Rattle.sy_simplex.proofs.Tables.{IsExchange}
 use Rattle.sy_simplex.proofs.Balance.{IsShifted}
-
-abbrev pub table_of : TableauState → Table
-table_of t = record { basic = λ i. basic t i; nonbasic = λ j. variable_of_column t j; coef = λ i j. number (coef t i j) }
+use Rattle.sy_simplex.specs.Steady.{Table, table_of}
 
 one_positive : 0 < 1
 one_positive = omega arith

@@ -1,0 +1,3 @@
+pub mod Conclusions
+pub mod Joins
+pub mod Sums
