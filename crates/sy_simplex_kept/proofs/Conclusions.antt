@@ -21,7 +21,8 @@ use Rattle.sy_simplex.proofs.Refuted.{IsUnraised, weight, weights_refute, weight
 use Rattle.sy_simplex.proofs.Sound.{assignment, holds, constant, column_zero, row_met, point_is, step_steady}
 use Rattle.sy_simplex.proofs.Values.{zero_is, value_opposite, zero_numerator}
 use Rattle.sy_simplex_kept.specs.Choosing.{is_free, IsClearBy, BoundsAreMetBy, IsStuckBy, RaisesBy}
-use Rattle.sy_simplex_kept.specs.Tableaus.{KeptState, number, free_in, IsHeld, Went, stayed, stepped, AreMultipliers}
+use Rattle.sy_simplex_kept.specs.Runs.{Went, stayed, stepped}
+use Rattle.sy_simplex_kept.specs.Tableaus.{KeptState, number, free_in, IsHeld, AreMultipliers}
 use Rattle.sy_simplex_kept.proofs.Sums.{total_none, total_one}
 
 -- ---- which variables are free
@@ -179,7 +180,7 @@ module _ (k : KeptState) (all : List Form) (held : IsHeld k all) (whole : length
     unfolding form_at_point system_of
     form_is i l y = ap (λ (f : Form). combined_total k.vars (λ j. over (coefficient f.coefs j) 1) y +ℚ over f.constant 1) (sym (held.own i (in_joined i l)))
 
-    module _ (ms : List Fraction) (given : AreMultipliers k r ms) where
+    module _ (ms : List Fraction) (given : AreMultipliers t k.joined r ms) where
       number_is : (i : ℕ) → i < length k.forms → numbers ms i ≡ w (number k i)
       unfolding numbers
       number_is i l = weight_is k.vars all t held.steady r unraised (number k i) (at ms i) (in_all i l) (subst (λ v. IsMultiplier t r (v + number k i) (at ms i)) held.steady.vars_is (given.each i (in_joined i l)))

@@ -25,7 +25,7 @@ use Rattle.sy_simplex_kept.proofs.Sums.{total_beyond, joined_total, parted_total
 use Rattle.sy_simplex.specs.Steady.{Holds, initial, ArePlaced, table_of, IsSteady, linear}
 
 -- ---- a form has no coefficient of a variable that it doesn't name
-absent : (cs : List (ℕ × ℤ)) (v : ℕ) → ((k : ℕ) → k < length cs → variable_at cs k ≢ v) → coefficient cs v ≡ pos 0
+pub absent : (cs : List (ℕ × ℤ)) (v : ℕ) → ((k : ℕ) → k < length cs → variable_at cs k ≢ v) → coefficient cs v ≡ pos 0
 absent [] v none = refl
 absent (c ∷ cs) v none = by (eqb_tells (c.0) v) (absent cs v (λ k l. none (suc k) (omega (arith, l))))
   where
@@ -37,13 +37,13 @@ own_beyond : (vars : ℕ) (f : Form) (v : ℕ) → IsForm vars f → vars ≤ v 
 own_beyond vars f v h l = ap (λ n. over n 1) (absent f.coefs v (λ k m e. omega (arith, h.below k m, e, l))) ∙ zero_is
 
 -- ---- what is read of lists with one item more
-old_item : {A : Type 0} → (xs ys : List A) (x d : A) (i : ℕ) → ys ≡ xs ++ x ∷ [] → i < length xs → get_or ys i d ≡ get_or xs i d
+pub old_item : {A : Type 0} → (xs ys : List A) (x d : A) (i : ℕ) → ys ≡ xs ++ x ∷ [] → i < length xs → get_or ys i d ≡ get_or xs i d
 old_item xs ys x d i e l = ap (λ zs. get_or zs i d) e ∙ get_or-append xs (x ∷ []) d i l
 
-new_item : {A : Type 0} → (xs ys : List A) (x d : A) (n : ℕ) → ys ≡ xs ++ x ∷ [] → length xs ≡ n → get_or ys n d ≡ x
+pub new_item : {A : Type 0} → (xs ys : List A) (x d : A) (n : ℕ) → ys ≡ xs ++ x ∷ [] → length xs ≡ n → get_or ys n d ≡ x
 new_item xs ys x d n e l = ap (λ zs. get_or zs n d) e ∙ ap (λ m. get_or (xs ++ x ∷ []) m d) (sym l) ∙ get_or-append_seam xs x [] d
 
-which : (i m : ℕ) → i < m + 1 → (i < m) ⊎ (i ≡ m)
+pub which : (i m : ℕ) → i < m + 1 → (i < m) ⊎ (i ≡ m)
 which i m l = by (ltb i m) refl
   where
     by : (b : Bool) → ltb i m ≡ b → (i < m) ⊎ (i ≡ m)

@@ -1,3 +1,5 @@
 pub mod Conclusions
+pub mod Holding
 pub mod Joins
+pub mod Parts
 pub mod Sums

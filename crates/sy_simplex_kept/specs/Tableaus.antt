@@ -1,14 +1,15 @@
 -- A tableau that is kept: its forms, which of them are joined, and how it goes on.
-use Rattle.std.specs.Prelude.{◌≡◌, ℕ, ◌<◌, ◌≤◌, ◌+◌, ◌++◌, ◌∷◌, Bool, true, false, cond, nat_lt, Option, Some, None, List, [], length, get_or, set, take}
+use Rattle.std.specs.Prelude.{◌≡◌, ℕ, zero, suc, ◌<◌, ◌≤◌, ◌+◌, ◌++◌, ◌∷◌, Bool, true, false, cond, nat_lt, Option, Some, None, List, [], length, get_or, set, take}
 use Rattle.sy_linear_known.specs.declared.form.Form.{Form}
 use Rattle.sy_simplex.specs.Problems.{form, AreForms}
 use Rattle.sy_frac.specs.Fraction.{Fraction}
 use Rattle.sy_simplex.specs.Rows.{at}
 use Rattle.sy_simplex.specs.Runs.{FormFits, IsMultiplier}
 use Rattle.sy_simplex.specs.Steady.{IsSteady}
-use Rattle.sy_simplex.specs.States.{TableauState, variable_of_column, basic, IsPivot}
-use Rattle.sy_simplex_kept.specs.Choosing.{is_free, IsLeavingBy, IsEnteringBy}
+use Rattle.sy_simplex.specs.States.{TableauState}
+use Rattle.sy_simplex_kept.specs.Choosing.{is_free}
 use Rattle.sy_simplex_kept.specs.Joinings.{IsJoined}
+use Rattle.sy_simplex_kept.specs.Runs.{Went}
 
 -- the forms in the order of pushing; the numbers of the first of them, in the order of joining; of each number, whether its
 -- form was popped; and the tableau of all forms that were ever joined, the variable of number n being `vars + n`
@@ -41,10 +42,18 @@ pub record IsHeld (k : KeptState) (all : List Form) : Type 0 where
 abbrev pub IsKept : KeptState → Type 0
 IsKept k = (all : List Form) × IsHeld k all
 
--- a multiplier for each joined form, by row r
-pub record AreMultipliers (k : KeptState) (r : ℕ) (multipliers : List Fraction) : Type 0 where
-  pub len : length multipliers ≡ length k.joined
-  pub each : (i : ℕ) → i < length k.joined → IsMultiplier k.present r (k.present.vars + number k i) (at multipliers i)
+-- a multiplier for each form with one of these numbers, by row r
+pub record AreMultipliers (t : TableauState) (joined : List ℕ) (r : ℕ) (multipliers : List Fraction) : Type 0 where
+  pub len : length multipliers ≡ length joined
+  pub each : (i : ℕ) → i < length joined → IsMultiplier t r (t.vars + get_or joined i 0) (at multipliers i)
+
+-- nothing is joined, and the columns are the first `vars` variables
+abbrev pub counted : ℕ → List ℕ
+counted zero = []
+counted (suc n) = counted n ++ n ∷ []
+
+abbrev pub nothing : ℕ → KeptState
+nothing vars = record { vars = vars; forms = []; joined = []; popped = []; present = record { vars = vars; columns = counted vars; basics = []; rows = []; values = []; bounds = [] } }
 
 -- ---- how it changes
 abbrev pub with_forms : KeptState → List Form → KeptState
@@ -67,15 +76,14 @@ abbrev pub IsPopped : KeptState → Option Form → KeptState → Type 0
 IsPopped k None l = (k.forms ≡ []) × (l ≡ k)
 IsPopped k (Some form) l = (front : List Form) × (k.forms ≡ front ++ form ∷ []) × (l ≡ without_last k front)
 
+-- the next form is joined
+abbrev pub JoinsNext : KeptState → KeptState → Type 0
+JoinsNext k l = (t : TableauState) × IsJoined k.present (form k.forms (length k.joined)) t × (l ≡ with_joined k t)
+
 -- forms are joined, in order
 pub data Joins (k : KeptState) : KeptState → Type 0 where
   unjoined : Joins k k
   further : {l : KeptState} (t : TableauState) → Joins k l → length l.joined < length l.forms → IsJoined l.present (form l.forms (length l.joined)) t → Joins k (with_joined l t)
-
--- steps by Bland's rule, as pairs of the leaving and the entering variable
-pub data Went (free : ℕ → Bool) (t : TableauState) : List (ℕ × ℕ) → TableauState → Type 0 where
-  stayed : Went free t [] t
-  stepped : {steps : List (ℕ × ℕ)} {u w : TableauState} (r e : ℕ) → Went free t steps u → IsLeavingBy free u r → IsEnteringBy free u r e → IsPivot u w r e → Went free t (steps ++ (basic u r, variable_of_column u e) ∷ []) w
 
 -- all forms are joined, and then these steps are taken
 pub record GoesOn (k m : KeptState) (steps : List (ℕ × ℕ)) : Type 0 where

@@ -99,7 +99,14 @@ fn put_row(alloc: Global, coefs: &[Frac], solved: &[Frac], column: usize) -> Res
 }
 
 /// The line of a row into which the solved one is put.
-fn changed_line(alloc: Global, coefs: &[Frac], value: &Frac, solved: &[Frac], column: usize, raise: &Frac) -> Result<Line, Halt>
+fn changed_line(
+    alloc: Global,
+    coefs: &[Frac],
+    value: &Frac,
+    solved: &[Frac],
+    column: usize,
+    raise: &Frac,
+) -> Result<Line, Halt>
     requires same_length { length coefs.now ≡ length solved.now }
     requires in_bounds { column < length coefs.now }
     ensures ok { IfOk result (λ line. IsPutRow coefs.now solved.now column line.row × IsPlusProduct value.now (coefficient_at coefs.now column) raise.now line.value) }
@@ -111,7 +118,14 @@ fn changed_line(alloc: Global, coefs: &[Frac], value: &Frac, solved: &[Frac], co
 }
 
 /// The line of row `at` beside the solved one; none where it stays as it is.
-fn other_line(alloc: Global, tableau: &Tableau, at: usize, solved: &Row, column: usize, raise: &Frac) -> Result<Option<Line>, Halt>
+fn other_line(
+    alloc: Global,
+    tableau: &Tableau,
+    at: usize,
+    solved: &Row,
+    column: usize,
+    raise: &Frac,
+) -> Result<Option<Line>, Halt>
     requires shaped { IsShaped (tableau_state_of tableau.now) }
     requires at_below { at < length (tableau_state_of tableau.now).rows }
     requires column_below { column < length (tableau_state_of tableau.now).columns }
@@ -123,12 +137,26 @@ fn other_line(alloc: Global, tableau: &Tableau, at: usize, solved: &Row, column:
     if coefs[column].num() == 0 {
         return Ok(None);
     }
-    let line = changed_line(alloc, coefs, &tableau.values[at], solved.as_slice(), column, raise)?;
+    let line = changed_line(
+        alloc,
+        coefs,
+        &tableau.values[at],
+        solved.as_slice(),
+        column,
+        raise,
+    )?;
     Ok(Some(line))
 }
 
 /// The lines of the rows beside `row`.
-fn other_lines(alloc: Global, tableau: &Tableau, row: usize, solved: &Row, column: usize, raise: &Frac) -> Result<Vec<Option<Line>>, Halt>
+fn other_lines(
+    alloc: Global,
+    tableau: &Tableau,
+    row: usize,
+    solved: &Row,
+    column: usize,
+    raise: &Frac,
+) -> Result<Vec<Option<Line>>, Halt>
     requires shaped { IsShaped (tableau_state_of tableau.now) }
     requires column_below { column < length (tableau_state_of tableau.now).columns }
     requires width { length solved.now ≡ length (tableau_state_of tableau.now).columns }
@@ -148,7 +176,12 @@ fn other_lines(alloc: Global, tableau: &Tableau, row: usize, solved: &Row, colum
 }
 
 /// What the exchange of the variables of the row and the column changes, which leaves the first at its bound.
-pub(crate) fn change(alloc: Global, tableau: &Tableau, row: usize, column: usize) -> Result<Change, Halt>
+pub(crate) fn change(
+    alloc: Global,
+    tableau: &Tableau,
+    row: usize,
+    column: usize,
+) -> Result<Change, Halt>
     requires shaped { IsShaped (tableau_state_of tableau.now) }
     requires row_below { row < length (tableau_state_of tableau.now).basics }
     requires column_below { column < length (tableau_state_of tableau.now).columns }
