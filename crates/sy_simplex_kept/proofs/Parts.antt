@@ -1,19 +1,23 @@
 -- The parts of a form: what the rows have of it.
 use Rattle.std.specs.Prelude.{◌≡◌, ◌≢◌, ℕ, ◌<◌, ◌≤◌, ◌+◌, ◌==◌, ◌++◌, ◌∷◌, Bool, true, false, cond, List, [], length, get_or, ℤ, pos}
-use Rattle.std.proofs.Common.{zero, suc, refl, sym, ◌∙◌, ap, ap₂, subst, arith, inl, inr, ◌⊎◌}
+use Rattle.std.proofs.Common.{zero, suc, refl, sym, ◌∙◌, ap, ap₂, subst, arith, inl, inr, ◌⊎◌, length-append}
 use Rattle.std.proofs.Math.Dec.{eqb}
 use Rattle.std.proofs.lemmas.Bool.Decides.{eqb_tells}
 use Rattle.sy_frac.specs.Fraction.{Fraction, IsLowest}
-use Rattle.sy_frac.specs.Rational.{ℚ, 0ℚ, ◌+ℚ◌, ◌*ℚ◌, over, value as number, +ℚ_zero, +ℚ_comm, zero-+ℚ, zero-*ℚ, *ℚ_zero}
+use Rattle.sy_frac.specs.Rational.{ℚ, 0ℚ, ◌+ℚ◌, ◌*ℚ◌, over, value as number, value_sum, +ℚ_zero, +ℚ_comm, +ℚ_assoc, zero-+ℚ, zero-*ℚ, *ℚ_zero}
 use Rattle.sy_linear_known.specs.declared.form.Form.{Form}
 use Rattle.sy_linear_known.specs.Total.{total, total-same, total-times, total_zero}
-use Rattle.sy_simplex.specs.Operations.{fraction_of_whole}
+use Rattle.sy_simplex.specs.Operations.{fraction_of_whole, HasResult, sum, IsPlusProduct}
 use Rattle.sy_simplex.specs.Problems.{coefficient, variable_at, IsForm}
-use Rattle.sy_simplex.specs.States.{TableauState, basic}
-use Rattle.sy_simplex.proofs.Values.{zero_is}
+use Rattle.sy_simplex.specs.Runs.{FormFits}
+use Rattle.sy_simplex.specs.States.{TableauState, variable_of_column, basic, coef, row_value, rest}
+use Rattle.sy_simplex.proofs.Endings.{pick, pick_same, pick_other}
+use Rattle.sy_simplex.proofs.Exact.{whole_lowest}
+use Rattle.sy_simplex.proofs.Values.{zero_is, value_plus_product}
+use Rattle.sy_simplex.proofs.Zeros.{zero_lowest}
 use Rattle.sy_simplex_kept.specs.declared.joining.Part.{Part}
-use Rattle.sy_simplex_kept.specs.Joinings.{own, part, of_row, AreParts}
-use Rattle.sy_simplex_kept.proofs.Joins.{absent}
+use Rattle.sy_simplex_kept.specs.Joinings.{own, own_at, part, of_row, AreParts, RowsDiffer, IsSummed, IsJoinedAt, IsValueUpTo, IsJoinedValue}
+use Rattle.sy_simplex_kept.proofs.Joins.{absent, old_item, new_item, which}
 use Rattle.sy_simplex_kept.proofs.Sums.{total_none, total_one, total_swap}
 
 abbrev pub number_at : List (ℕ × ℤ) → ℕ → ℤ
@@ -112,3 +116,137 @@ parts_total vars t f parts h are x =
   where
     abbrev entry : ℕ → ℕ → ℚ
     entry k i = over (number_at f.coefs k) 1 *ℚ cond (variable_at f.coefs k == basic t i) (x i) 0ℚ
+
+-- ---- part by part
+total_more : (n : ℕ) (g : ℕ → ℚ) → total (n + 1) g ≡ total n g +ℚ g n
+unfolding total
+total_more n g = let e : n + 1 ≡ suc n = omega arith in ap (λ m. total m g) e
+
+of_none : (t : TableauState) (x : ℕ → ℚ) (v : ℕ) → ((i : ℕ) → i < length t.basics → basic t i ≢ v) → of_row t x v ≡ 0ℚ
+unfolding pick
+of_none t x v other = total_none (length t.basics) (λ i. cond (v == basic t i) (x i) 0ℚ) (λ i l. pick_other (basic t i) v (x i) (λ e. other i l (sym e)))
+
+of_one : (t : TableauState) (x : ℕ → ℚ) (v i : ℕ) → RowsDiffer t → i < length t.basics → basic t i ≡ v → of_row t x v ≡ x i
+unfolding pick
+of_one t x v i differ l e =
+    total_one (length t.basics) i (λ k. cond (v == basic t k) (x k) 0ℚ) l (λ k m d. pick_other (basic t k) v (x k) (λ q. d (differ k i m l (sym q ∙ sym e))))
+    ∙ ap (λ u. pick u v (x i)) e ∙ pick_same v (x i)
+
+pub parts_none : (t : TableauState) (f : Form) → AreParts t f 0 []
+unfolding total
+parts_none t f = record {
+  inside = record { rows = λ k l. absurd (omega (arith, l)); lowest = λ k l. absurd (omega (arith, l)) };
+  named = λ k l. absurd (omega (arith, l));
+  sums = λ x. refl;
+}
+
+pub part_skipped : (t : TableauState) (f : Form) (n : ℕ) (parts : List Part) → AreParts t f n parts → ((i : ℕ) → i < length t.basics → basic t i ≢ variable_at f.coefs n) → AreParts t f (n + 1) parts
+part_skipped t f n parts are other = record {
+  inside = are.inside;
+  named = are.named;
+  sums = λ x. are.sums x ∙ sym (total_more n (term x) ∙ ap (λ y. total n (term x) +ℚ y) (ap (λ z. over (number_at f.coefs n) 1 *ℚ z) (of_none t x (variable_at f.coefs n) other) ∙ *ℚ_zero (over (number_at f.coefs n) 1)) ∙ +ℚ_zero (total n (term x)));
+}
+  where
+    abbrev term : (ℕ → ℚ) → ℕ → ℚ
+    term x k = over (number_at f.coefs k) 1 *ℚ of_row t x (variable_at f.coefs k)
+
+module _ (vars : ℕ) (t : TableauState) (f : Form) (n : ℕ) (parts more : List Part) (i : ℕ) (factor : Fraction) (are : AreParts t f n parts) (is_form : IsForm vars f) (fits : FormFits f) (below : n < length f.coefs) (inside : i < length t.basics) (here : basic t i ≡ variable_at f.coefs n) (differ : RowsDiffer t) (factor_is : factor ≡ fraction_of_whole (number_at f.coefs n)) (more_is : more ≡ parts ++ record { row = i; factor = factor } ∷ []) where
+  abbrev new : Part
+  new = record { row = i; factor = factor }
+
+  old_part : (k : ℕ) → k < length parts → part more k ≡ part parts k
+  old_part k l = old_item parts more new (record { row = 0; factor = fraction_of_whole (pos 0) }) k more_is l
+
+  new_part : part more (length parts) ≡ new
+  new_part = new_item parts more new (record { row = 0; factor = fraction_of_whole (pos 0) }) (length parts) more_is refl
+
+  count : length more ≡ length parts + 1
+  count = ap length more_is ∙ length-append parts (new ∷ [])
+
+  each : (P : Part → Type 0) → ((k : ℕ) → k < length parts → P (part parts k)) → P new → (k : ℕ) → k < length more → P (part more k)
+  each P old last k l = by (which k (length parts) (omega (arith, count, l)))
+    where
+      by : (k < length parts) ⊎ (k ≡ length parts) → P (part more k)
+      by (inl h) = subst P (sym (old_part k h)) (old k h)
+      by (inr e) = subst P (sym (ap (part more) e ∙ new_part)) last
+
+  named_here : coefficient f.coefs (basic t i) ≡ number_at f.coefs n
+  named_here = ap (coefficient f.coefs) here ∙ found f.coefs n (variable_at f.coefs n) below refl (λ k l e. omega (arith, less vars f is_form k n l below, e))
+
+  lowest_here : IsLowest factor
+  lowest_here = subst IsLowest (sym factor_is) (whole_lowest (number_at f.coefs n) (fits.coefs n below))
+
+  sums_more : (x : ℕ → ℚ) → total (length more) (λ k. number (part more k).factor *ℚ x (part more k).row) ≡ total (n + 1) (λ k. over (number_at f.coefs k) 1 *ℚ of_row t x (variable_at f.coefs k))
+  sums_more x =
+      ap (λ m. total m (λ k. number (part more k).factor *ℚ x (part more k).row)) count
+      ∙ total_more (length parts) (λ k. number (part more k).factor *ℚ x (part more k).row)
+      ∙ ap₂ (λ y z. y +ℚ z)
+      (total-same (length parts) (λ k. number (part more k).factor *ℚ x (part more k).row) (λ k. number (part parts k).factor *ℚ x (part parts k).row) (λ k l. ap (λ (p : Part). number p.factor *ℚ x p.row) (old_part k l)) ∙ are.sums x)
+      (ap (λ (p : Part). number p.factor *ℚ x p.row) new_part ∙ ap₂ (λ y z. y *ℚ z) (ap number factor_is) (sym (of_one t x (variable_at f.coefs n) i differ inside here)))
+      ∙ sym (total_more n (λ k. over (number_at f.coefs k) 1 *ℚ of_row t x (variable_at f.coefs k)))
+
+  pub part_added : AreParts t f (n + 1) more
+  part_added = record {
+    inside = record {
+      rows = each (λ p. p.row < length t.basics) are.inside.rows inside;
+      lowest = each (λ p. IsLowest p.factor) are.inside.lowest lowest_here;
+    };
+    named = each (λ p. p.factor ≡ fraction_of_whole (coefficient f.coefs (basic t p.row))) are.named (factor_is ∙ ap fraction_of_whole (sym named_here));
+    sums = sums_more;
+  }
+
+-- ---- sums of parts
+pub summed_none : (parts : List Part) (entry : ℕ → Fraction) → IsSummed parts entry 0 (fraction_of_whole (pos 0))
+unfolding total
+summed_none parts entry = record { lowest = zero_lowest; sums = zero_is }
+
+pub summed_more : (parts : List Part) (entry : ℕ → Fraction) (n : ℕ) (s r : Fraction) → IsSummed parts entry n s → IsLowest (part parts n).factor → IsLowest (entry (part parts n).row) → IsPlusProduct s (part parts n).factor (entry (part parts n).row) r → IsSummed parts entry (n + 1) r
+summed_more parts entry n s r before factor_low entry_low h = record {
+  lowest = h.sum_is.exact.lowest;
+  sums = value_plus_product s (part parts n).factor (entry (part parts n).row) r before.lowest.positive factor_low.positive entry_low.positive h
+      ∙ ap (λ x. x +ℚ number (part parts n).factor *ℚ number (entry (part parts n).row)) before.sums
+      ∙ sym (total_more n (λ k. number (part parts k).factor *ℚ number (entry (part parts k).row)));
+}
+
+-- the coefficient of a column, from the sum of all parts
+pub joined_without : (vars : ℕ) (t : TableauState) (f : Form) (parts : List Part) (j : ℕ) (s : Fraction) → IsForm vars f → AreParts t f (length f.coefs) parts → IsSummed parts (λ i. coef t i j) (length parts) s → coefficient f.coefs (variable_of_column t j) ≡ pos 0 → IsJoinedAt t f j s
+joined_without vars t f parts j s is_form are summed zero = record {
+  lowest = summed.lowest;
+  sums = summed.sums ∙ parts_total vars t f parts is_form are (λ i. number (coef t i j))
+      ∙ sym (zero-+ℚ (total (length t.basics) (λ i. own f (basic t i) *ℚ number (coef t i j))))
+      ∙ ap (λ z. z +ℚ total (length t.basics) (λ i. own f (basic t i) *ℚ number (coef t i j))) (sym (ap (λ n. over n 1) zero ∙ zero_is));
+}
+
+pub joined_with : (vars : ℕ) (t : TableauState) (f : Form) (parts : List Part) (j : ℕ) (s q : Fraction) → IsForm vars f → AreParts t f (length f.coefs) parts → IsSummed parts (λ i. coef t i j) (length parts) s → HasResult sum s (own_at t f j) q → IsJoinedAt t f j q
+joined_with vars t f parts j s q is_form are summed h = record {
+  lowest = h.exact.lowest;
+  sums = value_sum s (own_at t f j) q summed.lowest.positive (omega arith) h.exact
+      ∙ +ℚ_comm (number s) (own f (variable_of_column t j))
+      ∙ ap (λ z. own f (variable_of_column t j) +ℚ z) (summed.sums ∙ parts_total vars t f parts is_form are (λ i. number (coef t i j)));
+}
+
+-- ---- the value
+pub value_begun : (vars : ℕ) (t : TableauState) (f : Form) (parts : List Part) (s : Fraction) → IsForm vars f → AreParts t f (length f.coefs) parts → IsSummed parts (row_value t) (length parts) s → IsValueUpTo t f 0 s
+unfolding total
+value_begun vars t f parts s is_form are summed = record {
+  lowest = summed.lowest;
+  sums = summed.sums ∙ parts_total vars t f parts is_form are (λ i. number (row_value t i)) ∙ sym (zero-+ℚ (total (length t.basics) (λ i. own f (basic t i) *ℚ number (row_value t i))));
+}
+
+swapped : (x y z : ℚ) → (x +ℚ y) +ℚ z ≡ (x +ℚ z) +ℚ y
+swapped x y z = +ℚ_assoc x y z ∙ ap (λ w. x +ℚ w) (+ℚ_comm y z) ∙ sym (+ℚ_assoc x z y)
+
+pub value_more : (t : TableauState) (f : Form) (n : ℕ) (s r : Fraction) → IsValueUpTo t f n s → 0 < (rest t (variable_of_column t n)).den → IsPlusProduct s (own_at t f n) (rest t (variable_of_column t n)) r → IsValueUpTo t f (n + 1) r
+value_more t f n s r before positive h = record {
+  lowest = h.sum_is.exact.lowest;
+  sums = value_plus_product s (own_at t f n) (rest t (variable_of_column t n)) r before.lowest.positive (omega arith) positive h
+      ∙ ap (λ x. x +ℚ own f (variable_of_column t n) *ℚ number (rest t (variable_of_column t n))) before.sums
+      ∙ swapped (total n (λ j. own f (variable_of_column t j) *ℚ number (rest t (variable_of_column t j)))) (total (length t.basics) (λ i. own f (basic t i) *ℚ number (row_value t i))) (own f (variable_of_column t n) *ℚ number (rest t (variable_of_column t n)))
+      ∙ ap (λ x. x +ℚ total (length t.basics) (λ i. own f (basic t i) *ℚ number (row_value t i))) (sym (total_more n (λ j. own f (variable_of_column t j) *ℚ number (rest t (variable_of_column t j)))));
+}
+
+pub value_done : (t : TableauState) (f : Form) (n : ℕ) (s : Fraction) → n ≡ length t.columns → IsValueUpTo t f n s → IsJoinedValue t f s
+value_done t f n s e h = record {
+  lowest = h.lowest;
+  sums = h.sums ∙ ap (λ m. total m (λ j. own f (variable_of_column t j) *ℚ number (rest t (variable_of_column t j))) +ℚ total (length t.basics) (λ i. own f (basic t i) *ℚ number (row_value t i))) e;
+}

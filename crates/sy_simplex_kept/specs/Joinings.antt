@@ -33,6 +33,10 @@ pub record IsJoinedValue (t : TableauState) (f : Form) (z : Fraction) : Type 0 w
 abbrev pub part : List Part → ℕ → Part
 part parts k = get_or parts k (record { row = 0; factor = fraction_of_whole (pos 0) })
 
+-- each variable has one row at most
+abbrev pub RowsDiffer : TableauState → Type 0
+RowsDiffer t = (i k : ℕ) → i < length t.basics → k < length t.basics → basic t i ≡ basic t k → i ≡ k
+
 -- each part has a row, and a factor in lowest terms
 pub record ArePartsIn (t : TableauState) (parts : List Part) : Type 0 where
   pub rows : (k : ℕ) → k < length parts → (part parts k).row < length t.basics

@@ -6,7 +6,7 @@ ghost use Rattle.sy_simplex.specs.Problems.{coefficient, IsForm};
 ghost use Rattle.sy_simplex.specs.Runs.{FormFits};
 ghost use Rattle.sy_simplex.specs.States.{IsShaped, coef, row_value};
 ghost use Rattle.sy_simplex.specs.Stated.{tableau_state_of};
-ghost use Rattle.sy_simplex_kept.specs.Joinings.{AreParts, ArePartsIn, IsSummed, SummedMisfit, IsJoinedAt, JoinedAtMisfit, IsJoinedRow, IsJoinedValue, JoiningMisfit};
+ghost use Rattle.sy_simplex_kept.specs.Joinings.{RowsDiffer, AreParts, ArePartsIn, IsSummed, SummedMisfit, IsJoinedAt, JoinedAtMisfit, IsJoinedRow, IsJoinedValue, JoiningMisfit};
 ghost use Rattle.sy_simplex_kept.specs.Misfits.{IfUnfit};
 
 use crate::misfit::{Halt, Misfit, add, plus_product};
@@ -61,7 +61,7 @@ fn coefficient_of(form: &Form, variable: u32) -> i128
 
 /// The parts of the form whose variables are basic, in its order.
 fn parts_of(alloc: Global, tableau: &Tableau, form: &Form) -> Result<Vec<Part>, Want>
-    requires shaped { IsShaped (tableau_state_of tableau.now) }
+    requires differ { RowsDiffer (tableau_state_of tableau.now) }
     requires form { IsForm tableau.now.vars form.now }
     requires fits { FormFits form.now }
     ensures { IfOk result (λ parts. AreParts (tableau_state_of tableau.now) form.now (length form.now.coefs) parts.items) }
@@ -173,6 +173,7 @@ pub(crate) struct Joined {
 /// The row and the value of the form.
 pub(crate) fn joined(alloc: Global, tableau: &Tableau, form: &Form) -> Result<Joined, Halt>
     requires shaped { IsShaped (tableau_state_of tableau.now) }
+    requires differ { RowsDiffer (tableau_state_of tableau.now) }
     requires form { IsForm tableau.now.vars form.now }
     requires fits { FormFits form.now }
     ensures ok { IfOk result (λ new. IsJoinedRow (tableau_state_of tableau.now) form.now new.row × IsJoinedValue (tableau_state_of tableau.now) form.now new.entry) }
