@@ -4,5 +4,7 @@ pub mod Halts
 pub mod Holding
 pub mod Joins
 pub mod Parts
+pub mod Putting
 pub mod Sums
+pub mod Told
 pub mod Unclear
