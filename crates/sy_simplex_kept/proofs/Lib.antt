@@ -1,3 +1,4 @@
+pub mod Again
 pub mod Conclusions
 pub mod Free
 pub mod Halts

@@ -78,3 +78,7 @@ IsToldEnd t joined (Stuck row) (Conflict ms) = AreMultipliers t joined row ms
 IsToldEnd t joined (ends.Steps run) (Steps answered) = answered ≡ run
 IsToldEnd t joined (ends.Unfit m) (Unfit op a b) = m ≡ record { operation = op; left = a; right = b }
 IsToldEnd t joined _ _ = ⊥
+
+abbrev pub IsSamePoint : List Fraction → Decided → Type 0
+IsSamePoint p (Point q) = q ≡ p
+IsSamePoint p _ = ⊥

@@ -5,6 +5,7 @@ mod answer;
 mod held;
 mod joining;
 mod kept;
+mod law;
 mod misfit;
 mod rule;
 mod run;
@@ -12,4 +13,5 @@ mod step;
 
 pub use answer::Decided;
 pub use kept::KeptTableau;
+pub use law::a_point_stays;
 pub use misfit::FracOp;
