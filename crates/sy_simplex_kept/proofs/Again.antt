@@ -1,7 +1,7 @@
 -- A decision where nothing is to be done.
 use Rattle.std.specs.Prelude.{◌≡◌, ◌≢◌, ℕ, ◌<◌, ◌≤◌, ◌+◌, ◌++◌, ◌∷◌, Bool, List, [], length, pos}
 use Rattle.std.proofs.Common.{refl, sym, ◌∙◌, ap, subst, arith, inl, inr, ◌⊎◌, length-append}
-use Rattle.std.proofs.Math.Seq.{ext_get_or}
+use Rattle.std.proofs.lemmas.List.{ext_get_or}
 use Rattle.sy_frac.specs.Fraction.{Fraction}
 use Rattle.sy_linear_known.specs.declared.form.Form.{Form}
 use Rattle.sy_simplex.specs.Operations.{fraction_of_whole}

@@ -201,8 +201,8 @@ fn multipliers(
     ensures { IfOk result (λ all. AreMultipliers (tableau_state_of tableau.now) joined.now row all) }
 {
     let mut all = Seq::new(alloc);
-    for number in joined {
-        all.push(multiplier(tableau, row, tableau.vars + *number))?;
+    for place in 0..joined.len() {
+        all.push(multiplier(tableau, row, tableau.vars + joined[place]))?;
     }
     Ok(all)
 }

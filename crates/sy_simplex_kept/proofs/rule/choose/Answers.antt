@@ -65,8 +65,7 @@ returns-in-Some-entering_column-clause-ok c =
     let t = tableau_state_of c.args.tableau.now in
     let free = is_free c.args.tableau.now.vars c.args.popped.now in
     let first = c.in-Some.ensures in
-    let bounded : t.vars ≤ basic t c.in-Some.row = free_below t.vars c.args.popped.now (basic t c.in-Some.row) (unclear_bounded free t c.in-Some.row first.unclear) in
-    (
+    let bounded : t.vars ≤ basic t c.in-Some.row = free_below t.vars c.args.popped.now (basic t c.in-Some.row) (unclear_bounded free t c.in-Some.row first.unclear) in (
       is_leaving free t c.in-Some.row c.index-value.result.now c.index-bound.result.now c.compare.result c.is_none.result _ first
           (value_read t c.in-Some.row c.index-value.result.now c.requires.shaped first.row_below c.index-value.ensures)
           (bound_read t c.in-Some.row c.index.result.now c.index-bound.result.now c.requires.shaped first.row_below bounded c.index.ensures c.index-bound.ensures)
