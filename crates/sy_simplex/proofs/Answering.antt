@@ -16,7 +16,8 @@ use Rattle.sy_simplex.specs.Answers.{AnswerIsSound, TellsFeasible, IsPointAnswer
 use Rattle.sy_simplex.specs.Problems.{system_of, numbers}
 use Rattle.sy_simplex.specs.Runs.{Ran, stepped, IsPoint, IsMultiplier, AreRowMultipliers}
 use Rattle.sy_simplex.proofs.Sound.{ran_steady, point_meets, point_is_corner}
-use Rattle.sy_simplex.proofs.Refuted.{given_refute, stuck_unraised}
+use Rattle.sy_simplex.proofs.Refuted.{given_refute}
+use Rattle.sy_simplex.proofs.Unraised.{stuck_unraised}
 use Rattle.sy_simplex.specs.Steady.{IsSteady}
 
 pub ran_shaped : (vars : ℕ) (forms : List Form) (steps : List (ℕ × ℕ)) (t : TableauState) → Ran vars forms steps t → IsShaped t

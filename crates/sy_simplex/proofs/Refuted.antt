@@ -9,10 +9,11 @@ use Rattle.sy_frac.specs.Rational.{ℚ, 0ℚ, 1ℚ, ◌+ℚ◌, ◌*ℚ◌, neg_
 use Rattle.sy_linear_known.specs.declared.form.Form.{Form}
 use Rattle.sy_linear_known.specs.Total.{total, total-same, total_zero, total_split, zero_at, without_same, without_other}
 use Rattle.sy_linear_known.specs.Systems.{form_at_point, IsRefutation}
-use Rattle.sy_simplex.specs.Rows.{at, Raises, NoneRaises}
-use Rattle.sy_simplex.specs.States.{TableauState, variable_of_column, basic, row, coef, row_value, bound, IsStuck, IsLess}
+use Rattle.sy_simplex.specs.Rows.{at, Raises}
+use Rattle.sy_simplex.specs.States.{TableauState, variable_of_column, basic, row, coef, row_value, bound}
 use Rattle.sy_simplex.specs.Problems.{system_of, numbers}
 use Rattle.sy_simplex.specs.Runs.{IsMultiplier, AreRowMultipliers}
+use Rattle.sy_simplex.proofs.Unraised.{IsUnraised}
 use Rattle.sy_simplex.proofs.Values.{zero_is, one_is, value_opposite, less_negative, opposite_not_negative, zero_numerator}
 use Rattle.sy_simplex.proofs.Bridge.{coef_positive, value_positive, bound_positive, column_variable, basic_variable, neg_neg}
 use Rattle.sy_simplex.proofs.Endings.{IsStuck as IsStuckTable, multiplier, spread, pick, pick_same, pick_other, pick_zero, neg_zero, stuck_refutes}
@@ -35,16 +36,6 @@ one n e f l h = total_split n e f l ∙ ap (λ x. f e +ℚ x) (none n (zero_at e
     by : (j : ℕ) → j < n → ((eqb j e ≡ true) × (j ≡ e)) ⊎ ((eqb j e ≡ false) × (j ≢ e)) → zero_at e f j ≡ 0ℚ
     by j k (inl s) = ap (zero_at e f) s.1 ∙ without_same e f
     by j k (inr s) = without_other e j f s.1 ∙ h j k s.1
-
--- the variable of row r is below its bound, and no column can raise it
-pub record IsUnraised (t : TableauState) (r : ℕ) : Type 0 where
-  pub row_below : r < length t.basics
-  pub bounded : t.vars ≤ basic t r
-  pub below : IsLess (row_value t r) (bound t (basic t r))
-  pub none : NoneRaises t.columns (row t r) t.vars (length t.columns)
-
-pub stuck_unraised : (t : TableauState) (r : ℕ) → IsStuck t r → IsUnraised t r
-stuck_unraised t r stuck = record { row_below = stuck.leaving.first.row_below; bounded = stuck.leaving.bounded; below = stuck.leaving.below; none = stuck.none }
 
 module _ (vars : ℕ) (forms : List Form) (t : TableauState) (steady : IsSteady vars forms t) (r : ℕ) (stuck : IsUnraised t r) where
   row_below : r < length forms

@@ -17,7 +17,8 @@ use Rattle.sy_simplex.specs.Steady.{IsSteady, Holds, initial}
 use Rattle.sy_simplex.proofs.Answering.{multiplier_lowest}
 use Rattle.sy_simplex.proofs.Bridge.{coef_positive}
 use Rattle.sy_simplex.proofs.Endings.{among, among_found, among_holds, neg_zero, pick, pick_same, pick_other, spread, total_spread}
-use Rattle.sy_simplex.proofs.Refuted.{IsUnraised, weight, weights_refute, weight_is, zero_between}
+use Rattle.sy_simplex.proofs.Refuted.{weight, weights_refute, weight_is, zero_between}
+use Rattle.sy_simplex.proofs.Unraised.{IsUnraised}
 use Rattle.sy_simplex.proofs.Sound.{assignment, holds, constant, column_zero, row_met, point_is, step_steady}
 use Rattle.sy_simplex.proofs.Values.{zero_is, value_opposite, zero_numerator}
 use Rattle.sy_simplex_kept.specs.Choosing.{is_free, IsClearBy, BoundsAreMetBy, IsStuckBy, RaisesBy}

@@ -70,32 +70,30 @@ less vars f h k l p q =
     let e : k + suc (l - suc k) ≡ l = omega (arith, p) in
     subst (λ m. variable_at f.coefs k < variable_at f.coefs m) e (ascends vars f h (l - suc k) k (omega (arith, e, q)))
 
+abbrev term : Form → ℕ → ℚ → ℕ → ℚ
+term f v y k = over (number_at f.coefs k) 1 *ℚ cond (variable_at f.coefs k == v) y 0ℚ
+
 -- what the form's coefficients have of one variable
 pub named_total : (vars : ℕ) (f : Form) (v : ℕ) (y : ℚ) → IsForm vars f → total (length f.coefs) (λ k. over (number_at f.coefs k) 1 *ℚ cond (variable_at f.coefs k == v) y 0ℚ) ≡ own f v *ℚ y
 named_total vars f v y h = by (place f.coefs v (length f.coefs))
   where
-    term : ℕ → ℚ
-    term k = over (number_at f.coefs k) 1 *ℚ cond (variable_at f.coefs k == v) y 0ℚ
-
-    other : (k : ℕ) → variable_at f.coefs k ≢ v → term k ≡ 0ℚ
-    unfolding term
+    other : (k : ℕ) → variable_at f.coefs k ≢ v → term f v y k ≡ 0ℚ
     other k d = case (eqb_tells (variable_at f.coefs k) v)
       where
         case : ((eqb (variable_at f.coefs k) v ≡ true) × (variable_at f.coefs k ≡ v)) ⊎ ((eqb (variable_at f.coefs k) v ≡ false) × (variable_at f.coefs k ≢ v)) → over (number_at f.coefs k) 1 *ℚ cond (variable_at f.coefs k == v) y 0ℚ ≡ 0ℚ
         case (inl e) = absurd (d e.1)
         case (inr e) = ap (λ b. over (number_at f.coefs k) 1 *ℚ cond b y 0ℚ) e.0 ∙ *ℚ_zero (over (number_at f.coefs k) 1)
 
-    here : (k : ℕ) → variable_at f.coefs k ≡ v → term k ≡ over (number_at f.coefs k) 1 *ℚ y
-    unfolding term
+    here : (k : ℕ) → variable_at f.coefs k ≡ v → term f v y k ≡ over (number_at f.coefs k) 1 *ℚ y
     here k d = case (eqb_tells (variable_at f.coefs k) v)
       where
         case : ((eqb (variable_at f.coefs k) v ≡ true) × (variable_at f.coefs k ≡ v)) ⊎ ((eqb (variable_at f.coefs k) v ≡ false) × (variable_at f.coefs k ≢ v)) → over (number_at f.coefs k) 1 *ℚ cond (variable_at f.coefs k == v) y 0ℚ ≡ over (number_at f.coefs k) 1 *ℚ y
         case (inl e) = ap (λ b. over (number_at f.coefs k) 1 *ℚ cond b y 0ℚ) e.0
         case (inr e) = absurd (e.1 d)
 
-    by : Place f.coefs v (length f.coefs) → total (length f.coefs) term ≡ own f v *ℚ y
+    by : Place f.coefs v (length f.coefs) → total (length f.coefs) (term f v y) ≡ own f v *ℚ y
     by (inl p) =
-        total_one (length f.coefs) p.0 term p.1 (λ k l d. other k (λ e. d (same k p.0 l p.1 (e ∙ sym p.2))))
+        total_one (length f.coefs) p.0 (term f v y) p.1 (λ k l d. other k (λ e. d (same k p.0 l p.1 (e ∙ sym p.2))))
         ∙ here p.0 p.2
         ∙ ap (λ n. over n 1 *ℚ y) (sym (found f.coefs p.0 v p.1 p.2 (λ k l e. omega (arith, less vars f h k p.0 l p.1, e ∙ sym p.2))))
       where
@@ -104,18 +102,18 @@ named_total vars f v y h = by (place f.coefs v (length f.coefs))
             let up : ¬ (k < l) = λ q. omega (arith, less vars f h k l q n, e) in
             let down : ¬ (l < k) = λ q. omega (arith, less vars f h l k q m, e) in
             omega (arith, up, down)
-    by (inr none) = total_none (length f.coefs) term (λ k l. other k (none k l)) ∙ sym (zero-*ℚ y) ∙ ap (λ c. c *ℚ y) (sym (ap (λ n. over n 1) (absent f.coefs v none) ∙ zero_is))
+    by (inr none) = total_none (length f.coefs) (term f v y) (λ k l. other k (none k l)) ∙ sym (zero-*ℚ y) ∙ ap (λ c. c *ℚ y) (sym (ap (λ n. over n 1) (absent f.coefs v none) ∙ zero_is))
+
+abbrev entry : TableauState → Form → (ℕ → ℚ) → ℕ → ℕ → ℚ
+entry t f x k i = over (number_at f.coefs k) 1 *ℚ cond (variable_at f.coefs k == basic t i) (x i) 0ℚ
 
 -- all parts: what the form has of the rows' variables
 pub parts_total : (vars : ℕ) (t : TableauState) (f : Form) (parts : List Part) → IsForm vars f → AreParts t f (length f.coefs) parts → (x : ℕ → ℚ) → total (length parts) (λ k. number (part parts k).factor *ℚ x (part parts k).row) ≡ total (length t.basics) (λ i. own f (basic t i) *ℚ x i)
 parts_total vars t f parts h are x =
     are.sums x
-    ∙ total-same (length f.coefs) (λ k. over (number_at f.coefs k) 1 *ℚ of_row t x (variable_at f.coefs k)) (λ k. total (length t.basics) (λ i. entry k i)) (λ k l. sym (total-times (length t.basics) (over (number_at f.coefs k) 1) (λ i. cond (variable_at f.coefs k == basic t i) (x i) 0ℚ)))
-    ∙ total_swap (length f.coefs) (length t.basics) entry
-    ∙ total-same (length t.basics) (λ i. total (length f.coefs) (λ k. entry k i)) (λ i. own f (basic t i) *ℚ x i) (λ i l. named_total vars f (basic t i) (x i) h)
-  where
-    abbrev entry : ℕ → ℕ → ℚ
-    entry k i = over (number_at f.coefs k) 1 *ℚ cond (variable_at f.coefs k == basic t i) (x i) 0ℚ
+    ∙ total-same (length f.coefs) (λ k. over (number_at f.coefs k) 1 *ℚ of_row t x (variable_at f.coefs k)) (λ k. total (length t.basics) (λ i. entry t f x k i)) (λ k l. sym (total-times (length t.basics) (over (number_at f.coefs k) 1) (λ i. cond (variable_at f.coefs k == basic t i) (x i) 0ℚ)))
+    ∙ total_swap (length f.coefs) (length t.basics) (entry t f x)
+    ∙ total-same (length t.basics) (λ i. total (length f.coefs) (λ k. entry t f x k i)) (λ i. own f (basic t i) *ℚ x i) (λ i l. named_total vars f (basic t i) (x i) h)
 
 -- ---- part by part
 total_more : (n : ℕ) (g : ℕ → ℚ) → total (n + 1) g ≡ total n g +ℚ g n
@@ -140,15 +138,15 @@ parts_none t f = record {
   sums = λ x. refl;
 }
 
+abbrev had : TableauState → Form → (ℕ → ℚ) → ℕ → ℚ
+had t f x k = over (number_at f.coefs k) 1 *ℚ of_row t x (variable_at f.coefs k)
+
 pub part_skipped : (t : TableauState) (f : Form) (n : ℕ) (parts : List Part) → AreParts t f n parts → ((i : ℕ) → i < length t.basics → basic t i ≢ variable_at f.coefs n) → AreParts t f (n + 1) parts
 part_skipped t f n parts are other = record {
   inside = are.inside;
   named = are.named;
-  sums = λ x. are.sums x ∙ sym (total_more n (term x) ∙ ap (λ y. total n (term x) +ℚ y) (ap (λ z. over (number_at f.coefs n) 1 *ℚ z) (of_none t x (variable_at f.coefs n) other) ∙ *ℚ_zero (over (number_at f.coefs n) 1)) ∙ +ℚ_zero (total n (term x)));
+  sums = λ x. are.sums x ∙ sym (total_more n (had t f x) ∙ ap (λ y. total n (had t f x) +ℚ y) (ap (λ z. over (number_at f.coefs n) 1 *ℚ z) (of_none t x (variable_at f.coefs n) other) ∙ *ℚ_zero (over (number_at f.coefs n) 1)) ∙ +ℚ_zero (total n (had t f x)));
 }
-  where
-    abbrev term : (ℕ → ℚ) → ℕ → ℚ
-    term x k = over (number_at f.coefs k) 1 *ℚ of_row t x (variable_at f.coefs k)
 
 module _ (vars : ℕ) (t : TableauState) (f : Form) (n : ℕ) (parts more : List Part) (i : ℕ) (factor : Fraction) (are : AreParts t f n parts) (is_form : IsForm vars f) (fits : FormFits f) (below : n < length f.coefs) (inside : i < length t.basics) (here : basic t i ≡ variable_at f.coefs n) (differ : RowsDiffer t) (factor_is : factor ≡ fraction_of_whole (number_at f.coefs n)) (more_is : more ≡ parts ++ record { row = i; factor = factor } ∷ []) where
   abbrev new : Part
