@@ -2,7 +2,8 @@
 # Read by ./sygus, which sets `top`, the repository's folder. `preview [OPTIONS] FILE ..` runs the program by `rt try`, which
 # proves nothing and keeps nothing: each call builds anew, and a call with several files builds once. Of one file
 # tools/explain says what is wrong with it, or what to try.
-# The status is the program's own, or with several files 0 where it ended on each; 70 where it didn't end.
+# The status is the program's own, or with several files 0 where it ended on each; 4 where a file can't be read; 70 where it
+# didn't end.
 
 # Runs `rt try` with these arguments, shows what it says, and gives the program's status.
 try() (
@@ -42,11 +43,29 @@ try_each() (
     try --cases "$cases" -- $options - </dev/null
 )
 
+# Says which of these files can't be read, before a build is begun for it.
+unread() {
+    case "$options " in
+    *' --mode drill '* | *' --mode=drill '*) return 1 ;;
+    esac
+    for name in "$@"; do
+        if [ -d "$name" ]; then
+            echo "sygus: $name is a folder; its files are named by $name/*.sl" >&2
+        elif [ "$name" != - ] && [ ! -r "$name" ]; then
+            echo "sygus: $name: there is no such file, or it can't be read" >&2
+        else
+            continue
+        fi
+        return 0
+    done
+    return 1
+}
+
 preview() {
     options='' file=''
     while :; do
         case ${1-} in
-        --*=*) options="$options $1" ;;
+        --*=* | --proofs) options="$options $1" ;;
         --?*)
             options="$options $1 ${2-}"
             [ $# -eq 1 ] || shift
@@ -60,6 +79,9 @@ preview() {
         echo "usage: ./sygus --preview [OPTIONS] FILE .." >&2
         return 3
     fi
+    if unread "$@"; then
+        return 4
+    fi
     if ! command -v rt >/dev/null 2>&1; then
         echo "sygus: Rattle's toolchain is needed to build the program: there is no rt on the path" >&2
         return 70
@@ -67,8 +89,9 @@ preview() {
     echo "sygus: an unproved preview, in some three minutes or more; ./sygus FILE proves the program and its answer" >&2
     if [ $# -gt 1 ]; then
         try_each "$@"
-    elif [ -f "$1" ]; then
-        file=$1
+    elif [ "$1" != - ] && [ -e "$1" ]; then
+        # what isn't there to be read again isn't explained
+        [ ! -f "$1" ] || file=$1
         # shellcheck disable=SC2086
         try -- $options - <"$1"
     else

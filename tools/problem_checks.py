@@ -388,7 +388,7 @@ def nonterminals_in(term, names):
 
 
 def endless(problem):
-    """Nonterminals that derive no term, and arguments that no rule has."""
+    """Nonterminals that derive no term."""
     found = []
     for function in problem.functions.values():
         names = {group[0] for group in function.groups}
@@ -404,7 +404,6 @@ def endless(problem):
                     f"{function.name} of line {function.line}: {name} derives no term, since each of its rules needs a"
                     f" term of {name} or of another such nonterminal. It lacks a leaf: an argument, or a constant."
                 )
-        found += unused(function)
     return found
 
 
@@ -428,13 +427,18 @@ def unused(function):
 # Checks by questions
 
 
+def can_hold(problem, ask, assumptions):
+    """Whether some values of the variables meet these assumptions; None where that isn't known."""
+    if not assumptions:
+        return True
+    never = negated(conjunction([term for term, _ in assumptions]))
+    fails = ask.always(problem, list(problem.variables.items()), never)
+    return None if fails is None else not fails
+
+
 def vacuous(problem, ask):
-    """Assumptions that can't hold together."""
-    variables = list(problem.variables.items())
-    fails = lambda parts: ask.always(problem, variables, negated(conjunction([term for term, _ in parts])))
-    if not problem.assumptions or not fails(problem.assumptions):
-        return []
-    parts = least_part(problem.assumptions, fails)
+    """Which of the assumptions can't hold together, where they can't."""
+    parts = least_part(problem.assumptions, lambda rest: can_hold(problem, ask, rest) is False)
     return [
         f"{lines_of(parts, 'assumption')} can't hold: no values of the variables are left, so every function is a"
         " solution."
@@ -669,13 +673,29 @@ def findings(text, ask, count=1):
     """What is wrong with a problem, as lines: the one of check-synth number `count` of a text that sygus takes."""
     try:
         problem = Problem(text, count)
-        rows = different_rows(problem)
-        odd = endless(problem) + vacuous(problem, ask)
-        unsolvable = rows if rows or odd else impossible(problem, ask) or lacking(problem, ask)
-        unsolvable += bad_runs(problem, ask)
-        return odd + unsolvable + [UNSOLVABLE] * bool(unsolvable)
+        found = endless(problem)
+        unsolvable = contradictions(problem, ask, not found)
     except (TooLarge, RecursionError, Broken):
         return []
+    for function in problem.functions.values():
+        found += unused(function)
+    return found + unsolvable
+
+
+def contradictions(problem, ask, has_terms):
+    """Why there is no solution, as lines, the last of which says so; or why every function is one. Where it isn't known
+    whether the assumptions can hold, rows with different values are told, and nothing is said to follow from them.
+    """
+    holds = can_hold(problem, ask, problem.assumptions)
+    if holds is False:
+        return vacuous(problem, ask)
+    rows = different_rows(problem)
+    shown = rows if holds else []
+    if not shown and has_terms:
+        shown = impossible(problem, ask) or lacking(problem, ask)
+    if holds:
+        shown = shown + bad_runs(problem, ask)
+    return [*shown, UNSOLVABLE] if shown else rows
 
 
 def main():

@@ -460,11 +460,8 @@ def whole(text):
     return int(text)
 
 
-def gnu_parallel(words, source, folder, time=None, errors=None):
-    """Runs GNU parallel in a folder on the lines of a text, and gives its status, or None where the time was up.
-
-    Nothing that it began goes on behind it.
-    """
+def need_parallel():
+    """Says how to install GNU parallel where it isn't there. Asked before a program is built or a folder is made."""
     try:
         said = subprocess.run(
             ["parallel", "--version"], stdin=subprocess.DEVNULL, capture_output=True, text=True
@@ -473,6 +470,14 @@ def gnu_parallel(words, source, folder, time=None, errors=None):
         said = ""
     if not said.startswith("GNU parallel"):
         raise Missing("GNU parallel is needed: apt-get install parallel")
+
+
+def gnu_parallel(words, source, folder, time=None, errors=None):
+    """Runs GNU parallel in a folder on the lines of a text, and gives its status, or None where the time was up.
+
+    Nothing that it began goes on behind it.
+    """
+    need_parallel()
     with tempfile.TemporaryFile() as lines:
         lines.write(source.encode())
         lines.seek(0)

@@ -380,6 +380,7 @@ def without_parallel(room):
     for name, *words in [("many", "--results", "p", "problems/a.sl"), ("portfolio", "problems/a.sl")]:
         status, out, err = room.run(name, *words)
         yield f"{name}: without parallel", (status, out) == (70, "") and "apt-get install parallel" in err
+    yield "many: without parallel no folder is left", not (room.folder / "p").exists()
     room.words["PATH"] = before
 
 

@@ -81,6 +81,10 @@ SEEN = {
         "(set-logic LIA)\n(synth-fun f ((x Int) (y Int)) Int ((S Int)) ((S Int (x (+ S S)))))\n",
         ["f of line 2: its argument y is in no rule, "],
     ),
+    "rows, and whether the assumption holds isn't known": (
+        INTEGERS + "(assume (< x y))\n(constraint (= (f 1) 3))\n(constraint (= (f 1) 4))\n",
+        ["Lines 6 and 7: (f 1) is to be 3 and 4. "],
+    ),
     "a second question": (INTEGERS + "(check-synth)\n(constraint (= (f 1) 3))\n(constraint (= (f 1) 4))\n", []),
 }
 # What is found by questions to the program.
@@ -100,6 +104,27 @@ ASKED = {
     "assumptions": (
         BYTES + "(assume (bvult x #x10))\n(assume (= x x))\n(assume (bvugt x #x20))\n(constraint (= (f x) x))\n",
         ["The assumptions of lines 5 and 7 together can't hold: "],
+    ),
+    "rows under an assumption": (
+        INTEGERS + "(assume (< x y))\n(constraint (= (f 1) 3))\n(constraint (= (f 1) 4))\n",
+        ["Lines 6 and 7: (f 1) is to be 3 and 4. ", UNSOLVABLE],
+    ),
+    "rows under an assumption that can't hold": (
+        INTEGERS + "(assume (< x x))\n(constraint (= (f 1) 3))\n(constraint (= (f 1) 4))\n",
+        ["The assumption of line 5 can't hold: "],
+    ),
+    "a loop under an assumption that can't hold": (
+        LOOP % 7 + "(declare-var y Int)\n(assume (distinct y y))\n",
+        ["The assumption of line 8 can't hold: "],
+    ),
+    "no value, and an argument in no rule": (
+        "(set-logic LIA)\n(synth-fun f ((x Int) (y Int)) Int ((S Int)) ((S Int (x (+ S S)))))\n(declare-var x Int)\n"
+        "(constraint (> (f x x) (f x x)))\n",
+        [
+            "f of line 2: its argument y is in no rule, ",
+            "The constraint of line 4 can't be met at x = ",
+            UNSOLVABLE,
+        ],
     ),
     "a loop": (
         LOOP % 7,
@@ -131,6 +156,8 @@ UNREAD = (
     "(set-logic LIA)\n(synth-inv inv ((i Int)))\n(define-fun pre ((i Int)) Bool (= i 0))\n(define-fun trans ((i Int)"
     " (i' Int)) Bool (= i' i))\n(define-fun post ((i Int)) Bool (= i 0))\n(inv-constraint inv pre trans post)\n(check-synth)\n"
 )
+# A file as for another solver.
+FOREIGN = "(set-logic QF_LIA)\n(synth-fun f ((x Int)) Int)\n(assert (= (f 0) 1))\n(check-synth)\n"
 # Tables, the words, and the lines of the problem or the reason of the refusal.
 TABLES = {
     "names": (
@@ -228,6 +255,10 @@ def asked(program):
     env = {**os.environ, "SYGUS": str(program)}
     said = subprocess.run([EXPLAIN, "-"], input=UNREAD, env=env, capture_output=True, text=True).stdout
     yield "explain: nothing follows from what can't be read", "BadByte" in said and "Further on" not in said
+    said = subprocess.run([EXPLAIN, "-"], input=FOREIGN, env=env, capture_output=True, text=True).stdout
+    places = [line for line in said.splitlines() if line.startswith(("-:", "Further"))]
+    wanted = ["-:1:12: Logic", "Further on:", "-:3:2: CommandNotInProfile"]
+    yield "explain: mistakes behind another solver's logic", places == wanted
 
 
 def further():

@@ -92,6 +92,8 @@ class Room:
 
 
 def builds(room):
+    status, out, err = room.answer("none.sl")
+    yield "./sygus: doesn't build for a file that isn't there", (status, out, err) == (4, "", "sygus: none.sl: there is no such file\n") and not room.notes.exists()
     status, out, err, built = room.run()
     yield "./sygus: builds each crate after those below it", built == list(CRATES)
     yield "./sygus: ends as the program", (status, out) == (7, "- a word\n")
@@ -163,7 +165,10 @@ def previews(room):
     counted = "cases=2 ended=2 fault=0 proved=no"
     status, out, err = room.answer("--preview", "--", file, file, STATUS="0", RAN=counted)
     yield "./sygus --preview: takes several files", status == 0 and out.splitlines()[1:] == ["01-a file.sl", "02-a file.sl"] and counted in err
-    yield "./sygus --preview: misses a file", room.answer("--preview", file, room.folder / "none.sl")[0] == 70
+    for words, why in [([file, room.folder / "none.sl"], "there is no such file"), ([room.folder], "is a folder"), ([file, "--size", "9"], "--size: there is no such file")]:
+        status, out, err = room.answer("--preview", *words)
+        yield f"./sygus --preview: {why}", (status, out, err.count("\n")) == (4, "", 1) and why in err
+    yield "./sygus --preview: takes a flag", room.answer("--preview", "--proofs", "-", given="()\n")[1] == "sygus: try -- --proofs -\n()\n"
     status, _, err = room.answer("--preview", file, STATUS="2", RAN="run=none proved=no")
     yield "./sygus --preview: isn't built", status == 70 and "rt try ended with status 2\n" in err
     yield "./sygus --preview: takes no file", room.answer("--preview", "--size", "9")[::2] == (3, "usage: ./sygus --preview [OPTIONS] FILE ..\n")

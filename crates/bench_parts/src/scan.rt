@@ -7,6 +7,9 @@ use std::alloc::Global;
 use sy_loop_scan::{Pool, Scan, Shape};
 use sy_terms::{Op, Sort, Want};
 
+/// How many combinations are judged at most.
+const WORK: u64 = 20_000_000;
+
 /// The operator of this name; a sum where it is none of them.
 fn operator_of(name: &str) -> Op {
     match name {
@@ -60,7 +63,7 @@ fn pools(alloc: Global, count: u32) -> Result<Vec<Pool>, Want> {
 fn scan_of(alloc: Global, operator: Op, count: u32) -> Result<Scan, Want> {
     let shapes = shapes(alloc, operator)?;
     let pools = pools(alloc, count)?;
-    Scan::new(alloc, shapes, pools, 3)
+    Scan::new(alloc, shapes, pools, 3, WORK)
 }
 
 /// Wants 0 at a point, at which the terms have random odd numbers.

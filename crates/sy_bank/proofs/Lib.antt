@@ -9,5 +9,5 @@ pub mod Items
 pub mod Least
 pub mod Offered
 pub mod Passed
-pub mod Places
+pub mod PlacesLaws
 pub mod Steps

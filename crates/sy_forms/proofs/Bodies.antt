@@ -11,7 +11,7 @@ use Rattle.sy_forms_items.specs.declared.names.Named.{Named}
 use Rattle.sy_forms_items.specs.declared.names.Role.TheVariants as role
 use Rattle.sy_forms_items.specs.Environments as env
 use Rattle.sy_forms_items.specs.Environments.{Sense, or_else, sense_as, declared_in}
-use Rattle.sy_forms.specs.Declared.{setting_with, IsDeclared}
+use Rattle.sy_forms.specs.Standing.{setting_with, IsDeclared}
 use Rattle.sy_forms.specs.Right.{SenseIsThere}
 use Rattle.sy_forms.proofs.NamesLaws.{sorts_of}
 

@@ -1,4 +1,3 @@
-pub mod Declared
 pub mod Fitting
 pub mod Gathered
 pub mod Heads
@@ -6,4 +5,5 @@ pub mod Laws
 pub mod Parts
 pub mod Right
 pub mod Rules
+pub mod Standing
 pub mod Terms

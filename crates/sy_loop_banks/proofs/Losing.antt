@@ -9,7 +9,7 @@ use Rattle.sy_terms.specs.declared.term.Term.{Term}
 use Rattle.sy_bank_level.specs.Banks.{Lost}
 use Rattle.sy_bank_level.specs.Stored.{lost_of}
 use Rattle.sy_bank_level.specs.declared.kept.Dropped.{Dropped}
-use Rattle.sy_bank.proofs.Places.{place}
+use Rattle.sy_bank.proofs.PlacesLaws.{place}
 use Rattle.sy_bank_level.specs.Bank.{merged_of}
 use Rattle.sy_bank_level.specs.declared.bank.Bank.{Bank}
 use Rattle.sy_loop_spec.specs.declared.outcome.LoopRange.{LoopRange}

@@ -6,6 +6,7 @@ ghost use Rattle.sy_loop_bodies.specs.Clauses.{AreAssignedFor, IsBankFor, IsFoun
 use crate::again::solve_again;
 use sy_bank::Bank;
 use sy_loop_bodies::{Aside, Task, solve_kept, solve_scanned};
+use sy_loop_chosen::are_at_odds;
 use sy_query_base::Decide;
 use sy_terms::{Bodies, Theory, Values, Want};
 
@@ -28,7 +29,7 @@ pub fn solve_beyond<T: Theory, D: Decide<T>>(
     ensures { IfOk result (IsFoundFor T.Theory D.Decide task.now.problem.now task.now.bound) }
 {
     let level = bank.upto();
-    if level > task.size.min(task.bound) {
+    if level > task.size.min(task.bound) || are_at_odds(task, assignments.as_slice())? {
         return Ok(None);
     }
     solve_onwards(task, decide, bank, level, assignments, aside)
@@ -74,5 +75,8 @@ pub fn solve_anew<T: Theory, D: Decide<T>>(
     requires assigned { AreAssignedFor T.Theory task.now.problem.now assignments.old.items }
     ensures { IfOk result (IsFoundFor T.Theory D.Decide task.now.problem.now task.now.bound) }
 {
+    if are_at_odds(task, assignments.as_slice())? {
+        return Ok(None);
+    }
     solve_again(task, decide, assignments, aside)
 }

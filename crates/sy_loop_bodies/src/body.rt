@@ -26,6 +26,8 @@ pub struct Effort {
     pub undecided: u32,
     /// How many further banks are built at most.
     pub banks: u32,
+    /// How many combinations of one bank a scan judges at most.
+    pub judged: u32,
 }
 
 /// What stays the same while bodies are tried: the problem, the limits, up to which size banks are built and their

@@ -67,7 +67,8 @@ fn scanning_of<T: Theory>(
     let shapes = shapes_of(task.alloc, grammar)?;
     let rules = rules_of(task.alloc, shapes.as_slice())?;
     let pools = pools_of(task.alloc, grammar, bank)?;
-    let scan = Scan::new(task.alloc, shapes, pools, task.size)?;
+    let work = u64::from(task.effort.judged);
+    let scan = Scan::new(task.alloc, shapes, pools, task.size, work)?;
     Ok(Scanning {
         scan,
         rules,

@@ -9,8 +9,6 @@ pub enum Class {
     Singles,
     /// Clauses of two literals as well.
     Pairs,
-    /// The same once more, with literals that are added at this moment: bounds of forms.
-    Bounds,
     /// Clauses of three literals as well.
     Triples,
 }
@@ -23,6 +21,6 @@ impl Class {
 
     /// Whether clauses are made that don't stand in the problem.
     pub(crate) fn has_pairs(self) -> bool {
-        matches!(self, Class::Pairs | Class::Bounds | Class::Triples)
+        matches!(self, Class::Pairs | Class::Triples)
     }
 }

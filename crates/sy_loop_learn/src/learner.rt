@@ -238,8 +238,7 @@ impl Learner {
         match self.class {
             Class::Narrow => Some(Class::Pairs),
             Class::Singles if self.joins => Some(Class::Pairs),
-            Class::Pairs if !self.shrinking => Some(Class::Bounds),
-            Class::Bounds if self.joins => Some(Class::Triples),
+            Class::Pairs if self.joins && !self.shrinking => Some(Class::Triples),
             _ => None,
         }
     }
@@ -291,10 +290,7 @@ impl Learner {
             literal.bump = 0;
         }
         self.kept = Vec::new(self.alloc);
-        self.class = match self.class {
-            Class::Narrow | Class::Singles | Class::Pairs => Class::Pairs,
-            Class::Bounds | Class::Triples => Class::Bounds,
-        };
+        self.class = Class::Pairs;
     }
 
     /// Whether formulas are to be short: costs are sizes then, and the classes begin with single literals.

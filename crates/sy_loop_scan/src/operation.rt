@@ -3,8 +3,6 @@ use crate::guess::{Pool, Shape};
 use std::alloc::Global;
 use sy_terms::{Op, Sort, Want};
 
-/// All that a scan may do: one unit for each combination that is judged.
-pub(crate) const WORK: u64 = 20_000_000;
 /// The units of a combination by a division.
 pub(crate) const DIVISION: u64 = 10;
 /// The units of a look-up.

@@ -3,7 +3,7 @@ ghost use Rattle.std.specs.Prelude.{IfOk, IfSome};
 ghost use Rattle.sy_loop_scan.specs.Guesses.{IsGuess};
 
 use crate::guess::{Guess, Pool, Shape, is_within};
-use crate::operation::{Operation, WORK, Way, scanned};
+use crate::operation::{Operation, Way, scanned};
 use crate::point::{Point, insert};
 use crate::seconds::{Seconds, is_wanted, may_lead};
 use std::alloc::Global;
@@ -29,8 +29,8 @@ pub(crate) struct Progress {
 }
 
 impl Progress {
-    /// The beginning.
-    pub(crate) fn new(alloc: Global, shapes: &[Shape]) -> Result<Progress, Want> {
+    /// The beginning, with so much work to do.
+    pub(crate) fn new(alloc: Global, shapes: &[Shape], work: u64) -> Result<Progress, Want> {
         Ok(Progress {
             alloc,
             order: scanned(alloc, shapes)?,
@@ -39,7 +39,7 @@ impl Progress {
             seconds: Seconds::none(alloc),
             found: Vec::new(alloc),
             points: Vec::new(alloc),
-            work: WORK,
+            work,
         })
     }
 
@@ -62,7 +62,7 @@ impl Progress {
     ) -> Result<Option<Guess>, Want>
         ensures { IfOk result (λ found. IfSome found (IsGuess shapes.now pools.now bound)) }
     {
-        for _ in 0..WORK {
+        for _ in 0..self.work {
             let Some(place) = self.place() else {
                 return Ok(None);
             };

@@ -17,19 +17,20 @@ pub struct Scan {
 }
 
 impl Scan {
-    /// A scan of combinations of up to the size. Nothing is wanted yet. `Want` comes where memory runs out, and nowhere
-    /// else.
+    /// A scan of combinations of up to the size, which does so much work at most: a unit for each combination that is judged,
+    /// ten where that takes a division. Nothing is wanted yet. `Want` comes where memory runs out, and nowhere else.
     pub fn new(
         alloc: Global,
         shapes: Vec<Shape>,
         pools: Vec<Pool>,
         bound: u32,
+        work: u64,
     ) -> Result<Scan, Want>
         ensures shapes { IfOk result (λ scan. scan.shapes ≡ shapes) }
         ensures pools { IfOk result (λ scan. scan.pools ≡ pools) }
         ensures bound { IfOk result (λ scan. scan.bound ≡ bound) }
     {
-        let progress = Progress::new(alloc, shapes.as_slice())?;
+        let progress = Progress::new(alloc, shapes.as_slice(), work)?;
         Ok(Scan {
             shapes,
             pools,

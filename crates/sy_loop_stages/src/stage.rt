@@ -35,15 +35,26 @@ pub(crate) const WHOLE: Effort = Effort {
     refuted: 256,
     undecided: 8,
     banks: 2,
+    judged: 20_000_000,
 };
 
-/// The limits of a search, those of the query of one body beyond it, and the effort there.
+/// How much is tried of learned formulas, and the limits for the query of each.
+#[derive(Clone, Copy)]
+pub(crate) struct Learning {
+    pub(crate) queries: u32,
+    pub(crate) undecided: u32,
+    pub(crate) clauses: u32,
+    pub(crate) nodes: u32,
+}
+
+/// The limits of a search, those of the query of one body beyond it, the effort there, and that of learned formulas.
 #[derive(Clone, Copy)]
 pub(crate) struct Stage {
     pub(crate) limits: Limits,
     pub(crate) clauses: u32,
     pub(crate) nodes: u32,
     pub(crate) effort: Effort,
+    pub(crate) learning: Learning,
     /// Whether bodies that were set aside before are tried once more beyond it.
     pub(crate) again: bool,
 }
@@ -60,6 +71,13 @@ pub(crate) fn early_stage(limits: &Limits) -> Stage
             refuted: 64,
             undecided: 4,
             banks: 1,
+            judged: 2_000_000,
+        },
+        learning: Learning {
+            queries: 256,
+            undecided: 2,
+            clauses: limits.clauses.min(16_000),
+            nodes: limits.nodes.min(2_000),
         },
         again: false,
     }
@@ -74,6 +92,12 @@ pub(crate) fn whole_stage(limits: &Limits) -> Stage
         clauses: eighth(limits.clauses, MOST_CLAUSES),
         nodes: eighth(limits.nodes, MOST_NODES),
         effort: WHOLE,
+        learning: Learning {
+            queries: 64,
+            undecided: 2,
+            clauses: limits.clauses.min(64_000),
+            nodes: limits.nodes.min(4_000),
+        },
         again: true,
     }
 }
@@ -96,6 +120,13 @@ pub(crate) fn wide_stage(limits: &Limits, bank: u32) -> Stage
             refuted: 256,
             undecided: 4,
             banks: 1,
+            judged: 2_000_000,
+        },
+        learning: Learning {
+            queries: 0,
+            undecided: 0,
+            clauses: 1,
+            nodes: 1,
         },
         again: false,
     }
@@ -148,4 +179,13 @@ pub(crate) fn shared_limits(limits: &Limits, count: usize) -> Option<Limits> {
         nodes: nodes.max(1),
         ..*limits
     })
+}
+
+/// The limits for the query of one learned formula.
+pub(crate) fn limits_of_formula(stage: &Stage) -> Limits {
+    Limits {
+        clauses: stage.learning.clauses,
+        nodes: stage.learning.nodes,
+        ..stage.limits
+    }
 }

@@ -134,8 +134,8 @@ fn found_after<T: Theory, D: Decide<T>>(
 }
 
 /// The first solution that searches up to larger sizes find, with few kept terms; with all of them only where the
-/// search ended after its greatest size, since else its bank was full before. Where it ended by another limit than
-/// these two, that ends the searches with more terms too, so only the one with the fewest is tried.
+/// search ended after its greatest size, since else its bank was full before. Where it ended by a full bank, the one with
+/// the fewest terms would repeat the early search, so it is left out; after other limits none is made.
 fn found_wider<T: Theory, D: Decide<T>>(
     alloc: Global,
     problem: &Problem<T>,
@@ -153,9 +153,9 @@ fn found_wider<T: Theory, D: Decide<T>>(
     if by_size && limits.size >= WIDE_SIZE {
         return Ok(None);
     }
-    let is_full = by_size || is_bank::<T, D>(cause);
+    let is_full = is_bank::<T, D>(cause);
     for bank in WIDE_BANKS {
-        if bank < limits.bank && (is_full || bank == EARLY_BANK) {
+        if bank < limits.bank && (by_size || is_full && bank > EARLY_BANK) {
             if let Some(found) = found_wide(alloc, problem, limits, bank, decide, aside)? {
                 return Ok(Some(found));
             }

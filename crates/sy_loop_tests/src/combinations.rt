@@ -17,8 +17,8 @@ fn operand_sort(operator: Op) -> Sort {
     }
 }
 
-/// A scan of the sign's operator at kept terms, which are the four, of size 2.
-fn scan(rt: &impl Abort, alloc: Global, sign: u8, bound: u32) -> Scan {
+/// A scan of the sign's operator at kept terms, which are the four, of size 2, with so much work to do.
+fn scan(rt: &impl Abort, alloc: Global, sign: u8, bound: u32, work: u32) -> Scan {
     let (operator, count) = operator(sign).expect(rt, "an operator");
     let mut operands = Vec::new(alloc);
     for _ in 0..count {
@@ -38,7 +38,7 @@ fn scan(rt: &impl Abort, alloc: Global, sign: u8, bound: u32) -> Scan {
         sizes: Vec::from_slice(alloc, &[2, 2, 2, 2]).expect(rt, "memory"),
     };
     pools.push(pool).expect(rt, "memory");
-    Scan::new(alloc, shapes, pools, bound).expect(rt, "memory")
+    Scan::new(alloc, shapes, pools, bound, u64::from(work)).expect(rt, "memory")
 }
 
 /// One point more.
@@ -71,32 +71,35 @@ fn is_next(rt: &impl Abort, scan: &mut Scan, parts: &str) -> bool {
     }
 }
 
-/// An operator, a bound of the size, and steps: a number is wanted at one point more, and after `:` stand the parts of
-/// the first combination that has the wanted values. In the last two rows a point more rules out what was wanted
-/// before, the bound rules out all, and nothing is named where nothing is wanted.
+/// An operator, a bound of the size, the work that may be done, and steps: a number is wanted at one point more, and
+/// after `:` stand the parts of the first combination that has the wanted values. In the last four rows a point more
+/// rules out what was wanted before, the bound rules out all, nothing is named where nothing is wanted, and the work of
+/// one look-up is just too little and enough.
 pub(crate) const ROWS: &str = "\
-combination|a|20|22 207 255 :01
-combination|s|20|254 63 85 :10
-combination|^|20|14 207 255 :23
-combination|o|20|14 207 255 :01
-combination|*|20|120 120 114 :01
-combination|/|20|1 28 0 :01
-combination|r|20|0 1 0 :01
-combination|&|20|12 200 0 :
-combination|~|20|243 55 170 :0
-combination|d|20|1 28 0 :01
-combination|m|20|2 4 85 :01
-combination|m|20|4 200 85 :02
-combination|a|5|: 20 :02 14 :11
-combination|a|4|20 :";
+combination|a|20|1000|22 207 255 :01
+combination|s|20|1000|254 63 85 :10
+combination|^|20|1000|14 207 255 :23
+combination|o|20|1000|14 207 255 :01
+combination|*|20|1000|120 120 114 :01
+combination|/|20|1000|1 28 0 :01
+combination|r|20|1000|0 1 0 :01
+combination|&|20|1000|12 200 0 :
+combination|~|20|1000|243 55 170 :0
+combination|d|20|1000|1 28 0 :01
+combination|m|20|1000|2 4 85 :01
+combination|m|20|1000|4 200 85 :02
+combination|a|5|1000|: 20 :02 14 :11
+combination|a|4|1000|20 :
+combination|a|20|24|22 207 255 :
+combination|a|20|25|22 207 255 :01";
 
 /// Whether the row is right.
 pub(crate) fn is_right(rt: &impl Abort, alloc: Global, row: &str) -> bool {
     let sign = field(row, 1).as_bytes().first().expect(rt, "an operator");
-    let mut scan = scan(rt, alloc, *sign, number(row, 2));
+    let mut scan = scan(rt, alloc, *sign, number(row, 2), number(row, 3));
     let mut points = 0usize;
     let mut is_right = true;
-    for step in field(row, 3).split(' ') {
+    for step in field(row, 4).split(' ') {
         match step.strip_prefix(':') {
             Some(found) => is_right &= is_next(rt, &mut scan, found),
             None => {

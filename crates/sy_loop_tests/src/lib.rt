@@ -7,6 +7,8 @@ mod banks;
 #[cfg(test)]
 mod combinations;
 #[cfg(test)]
+mod formulas;
+#[cfg(test)]
 mod part_rows;
 #[cfg(test)]
 mod parts;

@@ -1,6 +1,6 @@
 // The rows of all tables.
 use crate::rows::field;
-use crate::{banks, combinations, part_rows, pointwise, refutations, shared_terms};
+use crate::{banks, combinations, formulas, part_rows, pointwise, refutations, shared_terms};
 use std::alloc::Global;
 use std::process::Abort;
 use sy_meaning_integers::IntTheory;
@@ -8,11 +8,12 @@ use sy_meaning_words::BvTheory;
 use sy_terms::Sort;
 
 /// All tables. The first field of a row says what it is about.
-const TABLES: [&str; 6] = [
+const TABLES: [&str; 7] = [
     banks::INTEGERS,
     banks::VECTORS,
     banks::BYTES,
     combinations::ROWS,
+    formulas::ROWS,
     pointwise::ROWS,
     refutations::ROWS,
 ];
@@ -24,6 +25,7 @@ fn is_right(rt: &impl Abort, alloc: Global, row: &str) -> bool {
         "bank of four bits" => banks::is_right::<BvTheory>(rt, alloc, Sort::Bits(4), "", row),
         "bank of bytes" => banks::is_right::<BvTheory>(rt, alloc, Sort::Bits(8), "", row),
         "combination" => combinations::is_right(rt, alloc, row),
+        "formula" => formulas::is_right(rt, alloc, row),
         "pointwise" => pointwise::is_right(rt, alloc, row),
         "refutation" => refutations::is_right(rt, alloc, row),
         _ => false,

@@ -12,7 +12,7 @@ use Rattle.sy_forms_items.specs.Phrases.{Phrase}
 use Rattle.sy_forms_items.specs.declared.names.Entity.{Entity}
 use Rattle.sy_terms.specs.Logics.{number_sorts, operators_of}
 use Rattle.sy_forms.specs.Fitting.{phrase_sort}
-pub use Rattle.sy_forms.specs.Declared.{setting_with, IsDeclared}
+pub use Rattle.sy_forms.specs.Standing.{setting_with, IsDeclared}
 use Rattle.sy_grammar_base.specs.Fits.{with_functions, GoalFits, QuestionFits}
 use Rattle.sy_forms.specs.Right.{Extends}
 use Rattle.sy_scope_names.specs.Lists.{sorts_of_names}

@@ -24,7 +24,7 @@ use Rattle.sy_forms_items.specs.Readings.{Reading, ReadingFails}
 use Rattle.sy_forms_items.specs.declared.fault.ReadEnd.{ReadEnd}
 use Rattle.sy_forms_items.specs.declared.fault.ReadEnd.TheVariants as read_ends
 use Rattle.sy_forms_items.proofs.Readings.{bound}
-use Rattle.sy_forms.specs.Declared.{setting_with, IsDeclared}
+use Rattle.sy_forms.specs.Standing.{setting_with, IsDeclared}
 use Rattle.sy_forms.specs.Fitting.{phrase_sort}
 use Rattle.sy_forms.specs.Right.{EnvironmentIsRight}
 use Rattle.sy_forms.proofs.Bodies.{in_body, argument_or}

@@ -1,6 +1,8 @@
 pub mod Again
 pub mod BadAtoms
 pub mod Digits
+pub mod Failing
+pub mod FailingAtoms
 pub mod Faulty
 pub mod Fitting
 pub mod Found

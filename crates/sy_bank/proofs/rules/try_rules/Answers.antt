@@ -6,7 +6,7 @@ use Rattle.sy_grammar_base.proofs.Numbering.{numbered}
 use Rattle.sy_bank_level.specs.Task.{world, level_state_of}
 use Rattle.sy_bank_level.proofs.Keeping.{grows-on}
 use Rattle.sy_bank_level.proofs.TriedLemmas.{rules-tried-more, all-rules}
-use Rattle.sy_bank.proofs.Places.{place, rule-place, few-rules}
+use Rattle.sy_bank.proofs.PlacesLaws.{place, rule-place, few-rules}
 use Rattle.sy_bank.proofs.rules.try_rules.Goals as goal
 
 pub overflow_cast-number : goal.overflow_cast-number

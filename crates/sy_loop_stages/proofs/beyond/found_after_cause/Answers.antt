@@ -11,7 +11,7 @@ pub solve_beyond-requires-clause-bank : goal.solve_beyond-requires-clause-bank
 solve_beyond-requires-clause-bank g c =
     let number = g.T.Theory.denotes in
     let problem = c.args.task.now.problem.now in
-    let limits = c.args.limits.now in
+    let limits = c.args.stage.now.limits in
     let holds = rw c.in-Bank.is at c.requires.holds in
     one_bank (question_of number problem) limits.size limits.rounds limits.bank (history_of number c.in-Bank.field-0)
     c.in-Bank.field-1 (merged_of number c.in-Bank.bank) c.in-Bank.field-3 (entry_of number c.in-Bank.field-4)
