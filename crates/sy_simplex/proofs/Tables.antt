@@ -1,6 +1,6 @@
 -- Tableaus over the rational numbers: what one says of an assignment, and that an exchange of a basic and a nonbasic variable keeps it.
 -- An assignment gives a number to every variable. Below `vars` stand the free variables, and `vars + i` is the variable of form i.
-use Rattle.std.specs.Prelude.{◌≡◌, ◌≢◌, ℕ, ◌<◌, ◌+◌, true, false}
+use Rattle.std.specs.Prelude.{◌≡◌, ◌≢◌, ℕ, ◌<◌, true, false}
 use Rattle.std.proofs.Common.{sym, ◌∙◌, ap, subst, inl, inr, ◌⊎◌}
 use Rattle.std.proofs.Math.Dec.{eqb}
 use Rattle.std.proofs.lemmas.Bool.Decides.{eqb_tells}

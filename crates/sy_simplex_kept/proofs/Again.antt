@@ -1,6 +1,6 @@
 -- A decision where nothing is to be done.
-use Rattle.std.specs.Prelude.{◌≡◌, ◌≢◌, ℕ, ◌<◌, ◌≤◌, ◌+◌, ◌++◌, ◌∷◌, Bool, List, [], length, pos}
-use Rattle.std.proofs.Common.{refl, sym, ◌∙◌, ap, subst, arith, inl, inr, ◌⊎◌, length-append}
+use Rattle.std.specs.Prelude.{◌≡◌, ℕ, ◌<◌, ◌≤◌, ◌∷◌, Bool, List, [], length, pos}
+use Rattle.std.proofs.Common.{refl, sym, ◌∙◌, ap, subst, arith, inl, inr, length-append}
 use Rattle.std.proofs.lemmas.List.{ext_get_or}
 use Rattle.sy_frac.specs.Fraction.{Fraction}
 use Rattle.sy_linear_known.specs.declared.form.Form.{Form}
@@ -11,10 +11,10 @@ use Rattle.sy_simplex.specs.States.{TableauState, row_value}
 use Rattle.sy_simplex.specs.Steady.{IsSteady}
 use Rattle.sy_simplex_kept.specs.declared.answer.Decided.{Decided}
 use Rattle.sy_simplex_kept.specs.declared.answer.Decided.TheVariants.{Point, Conflict, Steps, Unfit, Wide}
-use Rattle.sy_simplex_kept.specs.Choosing.{BoundsAreMetBy, FirstUnclearBy, IsLeavingBy}
-use Rattle.sy_simplex_kept.specs.Runs.{Went, stayed, stepped, RunMisfit, choice_misfit, step_misfit}
+use Rattle.sy_simplex_kept.specs.Choosing.{BoundsAreMetBy, FirstUnclearBy}
+use Rattle.sy_simplex_kept.specs.Runs.{Went, stayed, stepped, choice_misfit, step_misfit}
 use Rattle.sy_simplex_kept.specs.Tableaus.{KeptState, free_in, IsKept, Joins, unjoined, further, GoesOn, at_tableau}
-use Rattle.sy_simplex_kept.specs.Telling.{Tells, TellsPoint, TellsUnfit, of_joining, of_run, IsSamePoint}
+use Rattle.sy_simplex_kept.specs.Telling.{Tells, of_joining, of_run, IsSamePoint}
 
 -- where all forms are joined, none is joined more
 joins_none : (k m : KeptState) → length k.joined ≡ length k.forms → Joins k m → m ≡ k

@@ -1,10 +1,8 @@
 -- What the ends of a run of a kept tableau show of its forms.
-use Rattle.std.specs.Prelude.{◌≡◌, ◌≢◌, ◌||◌, ℕ, ◌<◌, ◌≤◌, ◌+◌, ◌-◌, ◌<ℤ◌, IsTrue, Bool, true, false, nat_lt, List, length, get_or, pos}
-use Rattle.std.proofs.Common.{refl, sym, ◌∙◌, ap, ap₂, subst, arith, inl, inr, ◌⊎◌, ltb-true, ltb-false}
-use Rattle.std.proofs.Math.Dec.{eqb}
-use Rattle.std.proofs.lemmas.Bool.Decides.{eqb_tells}
+use Rattle.std.specs.Prelude.{◌≡◌, ◌≢◌, ℕ, ◌<◌, ◌≤◌, ◌+◌, ◌-◌, Bool, true, false, List, length, pos}
+use Rattle.std.proofs.Common.{refl, sym, ◌∙◌, ap, ap₂, subst, arith, inl, inr, ◌⊎◌}
 use Rattle.sy_frac.specs.Fraction.{Fraction}
-use Rattle.sy_frac.specs.Rational.{ℚ, 0ℚ, ◌+ℚ◌, ◌*ℚ◌, neg_ℚ, over, value, is_negative_rational, zero_not_negative}
+use Rattle.sy_frac.specs.Rational.{ℚ, 0ℚ, ◌+ℚ◌, ◌*ℚ◌, neg_ℚ, over, is_negative_rational, zero_not_negative}
 use Rattle.sy_linear_known.specs.declared.form.Form.{Form}
 use Rattle.sy_linear_known.specs.Total.{total, total-same, combined_total}
 use Rattle.sy_linear_known.specs.Systems.{form_at_point, MeetsSystem, IsRefutation}

@@ -1,7 +1,7 @@
 -- Why a call is halted, handed on.
 use Rattle.std.specs.Prelude.{◌≡◌, Result, Ok, Err}
 use Rattle.std.specs.Result.{IsErrAnd}
-use Rattle.std.proofs.Common.{refl, sym, ap, subst}
+use Rattle.std.proofs.Common.{subst}
 use Rattle.sy_simplex_kept.specs.declared.misfit.Misfit.{Misfit}
 use Rattle.sy_simplex_kept.specs.declared.misfit.Halt.{Halt}
 use Rattle.sy_simplex_kept.specs.declared.misfit.Halt.TheVariants.{Unfit, Want}

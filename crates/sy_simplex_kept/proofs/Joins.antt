@@ -1,6 +1,6 @@
 -- A form that is joined keeps what holds of each tableau.
-use Rattle.std.specs.Prelude.{◌≡◌, ◌≢◌, ℕ, ◌<◌, ◌≤◌, ◌+◌, ◌-◌, ◌^◌, ◌==◌, ◌++◌, ◌∷◌, Bool, true, false, cond, nat_lt, List, [], length, get_or, ℤ, pos, neg_ℤ, unsigned_abs}
-use Rattle.std.proofs.Common.{zero, suc, refl, sym, ◌∙◌, ap, ap₂, subst, arith, inl, inr, ◌⊎◌, ltb-true, ltb-false, length-append, below_more}
+use Rattle.std.specs.Prelude.{◌≡◌, ◌≢◌, ℕ, ◌<◌, ◌≤◌, ◌+◌, ◌-◌, ◌^◌, ◌==◌, ◌++◌, ◌∷◌, Bool, true, false, cond, nat_lt, List, [], length, get_or, ℤ, pos, neg_ℤ}
+use Rattle.std.proofs.Common.{suc, refl, sym, ◌∙◌, ap, ap₂, subst, arith, inl, inr, ◌⊎◌, ltb-true, ltb-false, length-append, below_more}
 use Rattle.std.proofs.Math.Dec.{eqb, ltb}
 use Rattle.std.proofs.Math.ListN.{get_or-append}
 use Rattle.std.proofs.Math.Seq.{get_or-append_seam}
@@ -12,7 +12,7 @@ use Rattle.sy_linear_known.specs.Forms.{constant_form}
 use Rattle.sy_linear_known.specs.Total.{total, total-same, combined_total}
 use Rattle.sy_simplex.specs.Operations.{fraction_of_whole}
 use Rattle.sy_simplex.specs.Rows.{at, AreLowest}
-use Rattle.sy_simplex.specs.States.{TableauState, variable_of_column, basic, row, coef, row_value, bound, rest, IsShaped, IsVariable}
+use Rattle.sy_simplex.specs.States.{TableauState, variable_of_column, basic, row, coef, row_value, rest, IsShaped, IsVariable}
 use Rattle.sy_simplex.specs.Problems.{coefficient, form, variable_at, IsForm}
 use Rattle.sy_simplex.specs.Runs.{FormFits}
 use Rattle.sy_simplex.proofs.Begun.{length_pushed}
@@ -20,7 +20,7 @@ use Rattle.sy_simplex.proofs.Exact.{whole_lowest, abs_neg}
 use Rattle.sy_simplex.proofs.Values.{zero_is}
 use Rattle.sy_simplex.proofs.Bridge.{basic_variable, column_variable}
 use Rattle.sy_simplex.proofs.Sound.{of_tableau}
-use Rattle.sy_simplex_kept.specs.Joinings.{own, IsJoinedRow, IsJoinedValue, IsAppended, IsJoined}
+use Rattle.sy_simplex_kept.specs.Joinings.{own, IsAppended, IsJoined}
 use Rattle.sy_simplex_kept.proofs.Sums.{total_beyond, joined_total, parted_total}
 use Rattle.sy_simplex.specs.Steady.{Holds, initial, ArePlaced, table_of, IsSteady, linear}
 

@@ -1,12 +1,12 @@
 -- The parts of a form: what the rows have of it.
-use Rattle.std.specs.Prelude.{◌≡◌, ◌≢◌, ℕ, ◌<◌, ◌≤◌, ◌+◌, ◌==◌, ◌++◌, ◌∷◌, Bool, true, false, cond, List, [], length, get_or, ℤ, pos}
+use Rattle.std.specs.Prelude.{◌≡◌, ◌≢◌, ℕ, ◌<◌, ◌+◌, ◌==◌, ◌++◌, ◌∷◌, true, false, cond, List, [], length, get_or, ℤ, pos}
 use Rattle.std.proofs.Common.{zero, suc, refl, sym, ◌∙◌, ap, ap₂, subst, arith, inl, inr, ◌⊎◌, length-append}
 use Rattle.std.proofs.Math.Dec.{eqb}
 use Rattle.std.proofs.lemmas.Bool.Decides.{eqb_tells}
 use Rattle.sy_frac.specs.Fraction.{Fraction, IsLowest}
 use Rattle.sy_frac.specs.Rational.{ℚ, 0ℚ, ◌+ℚ◌, ◌*ℚ◌, over, value as number, value_sum, +ℚ_zero, +ℚ_comm, +ℚ_assoc, zero-+ℚ, zero-*ℚ, *ℚ_zero}
 use Rattle.sy_linear_known.specs.declared.form.Form.{Form}
-use Rattle.sy_linear_known.specs.Total.{total, total-same, total-times, total_zero}
+use Rattle.sy_linear_known.specs.Total.{total, total-same, total-times}
 use Rattle.sy_simplex.specs.Operations.{fraction_of_whole, HasResult, sum, IsPlusProduct}
 use Rattle.sy_simplex.specs.Problems.{coefficient, variable_at, IsForm}
 use Rattle.sy_simplex.specs.Runs.{FormFits}

@@ -1,6 +1,6 @@
 -- What the end of a run tells of a kept tableau's forms.
 use Rattle.std.specs.Prelude.{◌≡◌, ℕ, ◌<◌, ◌≤◌, ◌++◌, ◌∷◌, List, [], length}
-use Rattle.std.proofs.Common.{refl, sym, ◌∙◌, ap, ap₂, subst, arith}
+use Rattle.std.proofs.Common.{refl, sym, ◌∙◌, ap, subst}
 use Rattle.sy_frac.specs.Fraction.{Fraction}
 use Rattle.sy_linear_known.specs.declared.form.Form.{Form}
 use Rattle.sy_linear_known.specs.Systems.{MeetsSystem, IsRefutation}
@@ -13,7 +13,7 @@ use Rattle.sy_simplex_kept.specs.declared.run.End.{End}
 use Rattle.sy_simplex_kept.specs.declared.run.End.TheVariants as ends
 use Rattle.sy_simplex_kept.specs.Choosing.{BoundsAreMetBy, IsStuckBy}
 use Rattle.sy_simplex_kept.specs.Runs.{Went, IsEnd}
-use Rattle.sy_simplex_kept.specs.Tableaus.{KeptState, free_in, IsHeld, IsKept, Joins, unjoined, further, GoesOn, at_tableau, with_joined, AreMultipliers}
+use Rattle.sy_simplex_kept.specs.Tableaus.{KeptState, free_in, IsHeld, IsKept, Joins, unjoined, further, GoesOn, at_tableau, AreMultipliers}
 use Rattle.sy_simplex_kept.specs.Telling.{Tells, TellsUnfit, of_run, IsToldEnd}
 use Rattle.sy_simplex_kept.proofs.Conclusions.{point_meets_forms, given_refute_forms, given_lowest, went_steady}
 use Rattle.sy_simplex_kept.proofs.Holding.{joined_held, stepped_held}

@@ -1,5 +1,5 @@
 -- What contracts see of the program's tableau.
-use Rattle.std.specs.Prelude.{ℕ, List, [], Option, Some, None}
+use Rattle.std.specs.Prelude.{ℕ, List, Option, Some, None}
 use Rattle.sy_linear_known.specs.declared.form.Form.{Form}
 use Rattle.sy_simplex.specs.Stated.{tableau_state_of}
 use Rattle.sy_simplex_kept.specs.declared.held.Held.{Held}

@@ -1,8 +1,8 @@
-use Rattle.std.proofs.Common.{◌≡◌, ◌≤◌, ◌<◌, ◌+◌, length, sym, ap, subst, ◌∙◌, refl, false}
+use Rattle.std.proofs.Common.{◌≤◌, length, sym, ap, subst, ◌∙◌, refl, false}
 use Rattle.sy_simplex.specs.Stated.{tableau_state_of}
 use Rattle.sy_simplex.specs.States.{basic}
 use Rattle.sy_simplex.proofs.Exchanging.{in_values, in_rows, leaves_bounded, bound_there, bound_read, value_read, row_read, within}
-use Rattle.sy_simplex_kept.specs.Choosing.{is_free, IsLeavingBy, NoneRaisesBy, LeastRaisingBy}
+use Rattle.sy_simplex_kept.specs.Choosing.{is_free, NoneRaisesBy, LeastRaisingBy}
 use Rattle.sy_simplex_kept.proofs.Free.{free_below}
 use Rattle.sy_simplex_kept.proofs.Unclear.{unclear_bounded, choice_misfit, is_leaving}
 use Rattle.sy_simplex_kept.proofs.rule.choose.Goals as goal
