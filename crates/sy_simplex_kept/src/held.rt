@@ -14,7 +14,7 @@ ghost use Rattle.sy_simplex_kept.specs.Telling.{Tells, GotTo, FirstWide, IsRowEn
 ghost use Rattle.sy_simplex_kept.specs.Views.{state_of};
 
 use crate::answer::Decided;
-use crate::joining::joined;
+use crate::joining::join;
 use crate::misfit::{Halt, Misfit};
 use crate::run::{End, run};
 use std::alloc::{AllocError, Global};
@@ -152,7 +152,7 @@ fn join_next(alloc: Global, forms: &[Form], held: &mut Held) -> Result<(), Halt>
         return Err(Halt::Want);
     }
     let form = &forms[held.joined.len()];
-    let new = joined(alloc, &held.tableau, form)?;
+    let new = join(alloc, &held.tableau, form)?;
     append(&mut held.tableau, new.row, new.entry, bound_of(form))?;
     if count_in(&mut held.joined, &mut held.popped).is_err() {
         take_last(&mut held.tableau);

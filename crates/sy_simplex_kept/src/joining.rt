@@ -171,7 +171,7 @@ pub(crate) struct Joined {
 }
 
 /// The row and the value of the form.
-pub(crate) fn joined(alloc: Global, tableau: &Tableau, form: &Form) -> Result<Joined, Halt>
+pub(crate) fn join(alloc: Global, tableau: &Tableau, form: &Form) -> Result<Joined, Halt>
     requires shaped { IsShaped (tableau_state_of tableau.now) }
     requires differ { RowsDiffer (tableau_state_of tableau.now) }
     requires form { IsForm tableau.now.vars form.now }

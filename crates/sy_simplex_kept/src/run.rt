@@ -9,7 +9,7 @@ ghost use Rattle.sy_simplex_kept.specs.Runs.{IsEnd, HasGone};
 
 use crate::misfit::{Halt, Misfit};
 use crate::rule::choose;
-use crate::step::{change, put};
+use crate::step::{changes_of, put};
 use std::alloc::{AllocError, Global};
 use sy_seq::{Seq, Want};
 use sy_simplex::{Choice, Run, Tableau};
@@ -38,7 +38,7 @@ fn take(alloc: Global, tableau: &mut Tableau, row: usize, column: usize) -> Resu
     ensures stays { OnErr result (tableau_state_of tableau.new ≡ tableau_state_of tableau.old) }
     ensures misfit { IfUnfit result (λ m. StepMisfit (tableau_state_of tableau.old) row column m) }
 {
-    let change = change(alloc, tableau, row, column)?;
+    let change = changes_of(alloc, tableau, row, column)?;
     put(tableau, change);
     Ok(())
 }

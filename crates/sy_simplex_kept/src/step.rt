@@ -176,7 +176,7 @@ fn other_lines(
 }
 
 /// What the exchange of the variables of the row and the column changes, which leaves the first at its bound.
-pub(crate) fn change(
+pub(crate) fn changes_of(
     alloc: Global,
     tableau: &Tableau,
     row: usize,
